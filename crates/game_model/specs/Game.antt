@@ -1,0 +1,52 @@
+-- What contracts see of a choice and of a game, and the facts that each of them keeps.
+use Rattle.std.specs.Prelude.{◌≡◌, ℕ, ◌<◌, ◌≤◌, List, [], length, map, sum_by, All, slice_index, slice_index_or}
+use Rattle.game_model.specs.declared.game.Edge.{Edge}
+use Rattle.game_model.specs.Limits.{most_states, most_choices, total_bound}
+
+-- a choice: its total, and its edges by rising destination
+pub record Distribution : Type 0 where
+  pub total : ℕ
+  pub edges : List Edge
+
+abbrev pub destinations : List Edge → List ℕ
+destinations edges = map (λ e. e.to) edges
+
+abbrev pub IsRising : List Edge → Type 0
+IsRising edges = (i j : ℕ) → i < j → j < length edges → slice_index (destinations edges) i < slice_index (destinations edges) j
+
+-- what every choice keeps
+pub record IsDistribution (distribution : Distribution) : Type 0 where
+  pub some : 0 < length distribution.edges
+  pub rising : IsRising distribution.edges
+  pub weighty : All (λ e. 1 ≤ e.weight) distribution.edges
+  pub sums : sum_by (λ e. e.weight) distribution.edges ≡ distribution.total
+  pub small : distribution.total < total_bound
+
+-- the choices of a state
+abbrev pub choices_of : List (List Distribution) → ℕ → List Distribution
+choices_of game s = slice_index_or game s []
+
+-- a choice without edges, which no game has
+abbrev pub no_distribution : Distribution
+no_distribution = record { total = 0; edges = [] }
+
+-- a choice of a state
+abbrev pub choice_of : List (List Distribution) → ℕ → ℕ → Distribution
+choice_of game s c = slice_index_or (choices_of game s) c no_distribution
+
+-- an edge of no weight, which no choice has
+abbrev pub no_edge : Edge
+no_edge = record { to = 0; weight = 0 }
+
+-- an edge of a choice
+abbrev pub edge_of : List (List Distribution) → ℕ → ℕ → ℕ → Edge
+edge_of game s c p = slice_index_or (choice_of game s c).edges p no_edge
+
+-- what every game keeps
+pub record IsGame (game : List (List Distribution)) : Type 0 where
+  pub some : 0 < length game
+  pub few : length game ≤ most_states
+  pub chosen : (s : ℕ) → s < length game → 0 < length (choices_of game s)
+  pub bounded : (s : ℕ) → s < length game → length (choices_of game s) ≤ most_choices
+  pub distribution : (s c : ℕ) → s < length game → c < length (choices_of game s) → IsDistribution (choice_of game s c)
+  pub inside : (s c : ℕ) → s < length game → c < length (choices_of game s) → All (λ e. e.to < length game) (choice_of game s c).edges

@@ -1,0 +1,10 @@
+pub mod Limits
+pub mod Game
+pub mod Made
+pub mod Query
+pub mod Values
+pub mod Rounded
+pub mod Bounds
+pub mod Dual
+pub mod Plans
+pub mod Ranks

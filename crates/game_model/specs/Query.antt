@@ -1,0 +1,32 @@
+-- What contracts see of a question: a reachability query on a turn-based stochastic game.
+use Rattle.std.specs.Prelude.{◌≡◌, ℕ, Bool, true, false, List, length, slice_index_or}
+use Rattle.game_model.specs.declared.game.Side.{Side}
+use Rattle.game_model.specs.declared.game.Side.TheVariants.{Max}
+use Rattle.game_model.specs.Game.{Distribution, IsGame}
+
+-- a question: the choices of each state, its side, and the marks goal and dead
+pub record Query : Type 0 where
+  pub game : List (List Distribution)
+  pub sides : List Side
+  pub goals : List Bool
+  pub deads : List Bool
+
+abbrev pub states : Query → ℕ
+states q = length q.game
+
+abbrev pub is_goal : Query → ℕ → Bool
+is_goal q s = slice_index_or q.goals s false
+
+abbrev pub is_dead : Query → ℕ → Bool
+is_dead q s = slice_index_or q.deads s false
+
+abbrev pub side_at : Query → ℕ → Side
+side_at q s = slice_index_or q.sides s Max
+
+-- what every question keeps
+pub record IsQuery (q : Query) : Type 0 where
+  pub game : IsGame q.game
+  pub sides : length q.sides ≡ length q.game
+  pub goals : length q.goals ≡ length q.game
+  pub deads : length q.deads ≡ length q.game
+  pub apart : (s : ℕ) → is_goal q s ≡ true → is_dead q s ≡ false

@@ -1,0 +1,45 @@
+-- The Bellman operator over tables of units, rounded down and up.
+use Rattle.std.specs.Prelude.{◌≡◌, ◌≢◌, ℕ, zero, suc, ◌+◌, ◌-◌, ◌/◌, ◌<◌, true, false, List, length, slice_index_or, if◌then◌else◌}
+use Rattle.game_model.specs.declared.game.Side.TheVariants.{Max, Min}
+use Rattle.game_model.specs.Game.{Distribution, choices_of, no_distribution}
+use Rattle.game_model.specs.Query.{Query, is_goal, is_dead, side_at}
+use Rattle.game_model.specs.Limits.{unit}
+use Rattle.game_model.specs.Values.{weighted_sum, bellman}
+
+-- the value of a choice over a table, rounded down
+abbrev pub down_value : (ℕ → ℕ) → Distribution → ℕ
+down_value table distribution = weighted_sum table distribution.edges / distribution.total
+
+-- the value of a choice over a table, rounded up
+abbrev pub up_value : (ℕ → ℕ) → Distribution → ℕ
+up_value table distribution = (weighted_sum table distribution.edges + (distribution.total - 1)) / distribution.total
+
+-- the down step of a table
+abbrev pub down_step : Query → (ℕ → ℕ) → ℕ → ℕ
+down_step q table s = bellman q (choices_of q.game) unit (down_value table) s
+
+-- the up step of a table
+abbrev pub up_step : Query → (ℕ → ℕ) → ℕ → ℕ
+up_step q table s = bellman q (choices_of q.game) unit (up_value table) s
+
+-- this choice has this value, and is the first that has it
+pub record IsFirstWith (value : Distribution → ℕ) (choices : List Distribution) (best first : ℕ) : Type 0 where
+  pub inside : first < length choices
+  pub gives : value (slice_index_or choices first no_distribution) ≡ best
+  pub before : (c : ℕ) → c < first → value (slice_index_or choices c no_distribution) ≢ best
+
+-- the choice that a down step names: at a Max state that is neither goal nor dead the first with the value, else 0
+pub record DownChoice (q : Query) (table : ℕ → ℕ) (s value choice : ℕ) : Type 0 where
+  pub chosen : is_goal q s ≡ false → is_dead q s ≡ false → side_at q s ≡ Max → IsFirstWith (down_value table) (choices_of q.game s) value choice
+  pub goal : is_goal q s ≡ true → choice ≡ 0
+  pub dead : is_dead q s ≡ true → choice ≡ 0
+  pub least : side_at q s ≡ Min → choice ≡ 0
+
+-- the table that iteration opens with
+abbrev pub opening : Query → ℕ → ℕ
+opening q s = if is_goal q s then unit else 0
+
+-- the r-fold down step of the opening table
+unfoldable pub down_steps : Query → ℕ → ℕ → ℕ
+down_steps q zero s = opening q s
+down_steps q (suc r) s = down_step q (down_steps q r) s

@@ -1,0 +1,130 @@
+//! Questions about games, and marks of states.
+
+ghost use Rattle.std.specs.Prelude.{◌≡◌, ℕ, ◌+◌, ◌^◌, ◌<◌, ◌≤◌, ◌↔◌, List, length, slice_index_or, slice_get, Some, Bool, true, false, count_by};
+ghost use Rattle.game_model.specs.Limits.{most_states};
+
+use crate::game::{Game, Side};
+use std::marker::Model;
+
+/// A game, the side that chooses at each state, and which states are goals and which are dead.
+#[derive(Drop)]
+pub struct Question<'g> {
+    game: &'g Game,
+    sides: Vec<Side>,
+    goals: Vec<bool>,
+    deads: Vec<bool>,
+}
+
+impl<'g> Model for Question<'g> {
+    ghost use Rattle.game_model.specs.Query.{Query, IsQuery};
+
+    ghost Value = { Query };
+
+    ghost view = { λ q. record { game = q.game.now; sides = q.sides.items; goals = q.goals.items; deads = q.deads.items } };
+
+    ghost invariant = { λ q. IsQuery (record { game = q.game.now; sides = q.sides.items; goals = q.goals.items; deads = q.deads.items }) };
+}
+
+impl<'g> Question<'g> {
+    ghost use Rattle.game_model.specs.Query.{Query, IsQuery, states, is_goal, is_dead, side_at};
+
+    /// The question that these lists pose.
+    pub fn build(game: &'g Game, sides: Vec<Side>, goal: Vec<bool>, dead: Vec<bool>) -> Question<'g>
+        requires sides { length sides.items ≡ length game.now }
+        requires goal { length goal.items ≡ length game.now }
+        requires dead { length dead.items ≡ length game.now }
+        requires apart { (s : ℕ) → slice_index_or goal.items s false ≡ true → slice_index_or dead.items s false ≡ false }
+        ensures game { result.game ≡ game.now }
+        ensures sides { result.sides ≡ sides.items }
+        ensures goals { result.goals ≡ goal.items }
+        ensures deads { result.deads ≡ dead.items }
+    {
+        game.known();
+        Question {
+            game,
+            sides,
+            goals: goal,
+            deads: dead,
+        }
+    }
+
+    /// What every question keeps.
+    pub fn known(&self)
+        ensures { IsQuery self.now }
+    {
+        let _ = &self.game;
+    }
+
+    /// The game.
+    pub fn game(&self) -> &'g Game
+        ensures { result.now ≡ self.now.game }
+    {
+        self.game
+    }
+
+    /// Who chooses at a state.
+    pub fn side(&self, state: u32) -> Side
+        requires { state < states self.now }
+        ensures { result ≡ side_at self.now state }
+    {
+        self.sides[state as usize]
+    }
+
+    /// Whether a state is a goal.
+    pub fn is_goal(&self, state: u32) -> bool
+        requires { state < states self.now }
+        ensures { result ≡ is_goal self.now state }
+    {
+        self.goals[state as usize]
+    }
+
+    /// Whether a state is dead.
+    pub fn is_dead(&self, state: u32) -> bool
+        requires { state < states self.now }
+        ensures { result ≡ is_dead self.now state }
+    {
+        self.deads[state as usize]
+    }
+}
+
+/// One truth value for each state.
+#[derive(Drop)]
+pub struct Marks {
+    marks: Vec<bool>,
+}
+
+impl Model for Marks {
+    ghost use Rattle.std.specs.Prelude.{◌≤◌, List, Bool, length};
+    ghost use Rattle.game_model.specs.Limits.{most_states};
+
+    ghost Value = { List Bool };
+
+    ghost view = { λ m. m.marks.items };
+
+    ghost invariant = { λ m. length m.marks.items ≤ most_states };
+}
+
+impl Marks {
+    /// The marks of this list.
+    pub fn of_list(marks: Vec<bool>) -> Marks
+        requires { length marks.items ≤ most_states }
+        ensures { result ≡ marks.items }
+    {
+        Marks { marks }
+    }
+
+    /// Whether a state is marked.
+    pub fn has(&self, state: u32) -> bool
+        requires { state < length self.now }
+        ensures { result ≡ slice_index_or self.now state false }
+    {
+        self.marks[state as usize]
+    }
+
+    /// How many states are marked.
+    pub fn count(&self) -> u32
+        ensures { result ≡ count_by (λ b. b) self.now }
+    {
+        self.marks.iter().filter(|mark| **mark).count() as u32
+    }
+}

@@ -1,0 +1,95 @@
+// A place with named texts, which are read from front to end.
+ghost use Rattle.std.specs.Prelude.{◌≡◌, ◌↔◌, ◌<◌, ◌≤◌, ℕ, Bool, true, List, length, IfOk, OnOk, OnErr, IsOk, IsErrOf, Option, min, ◌+◌, ◌^◌, MatchResult, ◌⊎◌};
+ghost use Rattle.std.specs.Io.{ReadsAtMost};
+ghost use Rattle.std.specs.Io.KnownBytes.{ReadConsumes};
+ghost use Rattle.game_outside.specs.Outside.{Holding, Rose, HasCause, IsHeldAs, IsHeldLonger, Holds, Begins, IsEmptyRest, taken_after};
+
+use crate::Failed;
+use std::alloc::{AllocError, Global};
+
+pub trait Shelf {
+    /// The bytes under each name, where they are told.
+    ghost held: { Self → Option Holding };
+
+    /// The bytes still to come of the text that was begun, where they are told.
+    ghost rest: { Self → Option (List ℕ) };
+
+    /// How many bytes `next` has given since the last `begin`, up to the greatest `u64`.
+    ghost taken: { Self → ℕ };
+
+    /// A count that never falls.
+    ghost faults: { Self → ℕ };
+
+    /// Its calls for what is held never fail.
+    ghost steady: { Self → Bool };
+
+    fn begin(&mut self, name: &str) -> Result<(), Failed>
+        ensures text { OnOk result (Begins (held self.old) name.now (rest self.new)) }
+        ensures taken { taken self.new ≡ 0 }
+        ensures failed { OnErr result (IsEmptyRest (rest self.new)) }
+        ensures cause { HasCause (faults self.old) (faults self.new) result }
+        ensures held { held self.new ≡ held self.old }
+        ensures steady { steady self.new ≡ steady self.old }
+        ensures steadily { steady self.old ≡ true → Holds (held self.old) name.now → IsOk result × (faults self.new ≡ faults self.old) };
+
+    fn next(&mut self, piece: &mut [u8]) -> Result<usize, Failed>
+        requires { 0 < length piece.old }
+        ensures bound { ReadsAtMost result piece.new }
+        ensures bytes { ReadConsumes (rest self.old) (rest self.new) result piece.new }
+        ensures taken { taken self.new ≡ taken_after (taken self.old) result }
+        ensures cause { HasCause (faults self.old) (faults self.new) result }
+        ensures held { held self.new ≡ held self.old }
+        ensures steady { steady self.new ≡ steady self.old }
+        ensures steadily { steady self.old ≡ true → IsOk result × (faults self.new ≡ faults self.old) };
+}
+
+#[derive(Clone, Copy, Debug, PartialEq, Eq, Drop)]
+pub enum ReadEnd {
+    OutOfMemory,
+    ReadFault,
+    TooLong,
+}
+
+const PIECE: usize = 4096;
+
+#[tactic(auto, using(crate::proofs::Streams::longer))]
+/// All bytes that are held under the name, at most `limit` of them.
+pub fn read_all<H: Shelf>(
+    alloc: Global,
+    shelf: &mut H,
+    name: &str,
+    limit: u64,
+) -> Result<Vec<u8>, ReadEnd>
+    ensures bytes { IfOk result (λ v. IsHeldAs (H.held shelf.old) name.now v.items) }
+    ensures within { IfOk result (λ v. length v.items ≤ limit) }
+    ensures read_fault { IsErrOf result ReadEnd.ReadFault → Rose (H.faults shelf.old) (H.faults shelf.new) }
+    ensures steadily { IsErrOf result ReadEnd.ReadFault → H.steady shelf.old ≡ true → Holds (H.held shelf.old) name.now → ⊥ }
+    ensures too_long { IsErrOf result ReadEnd.TooLong → limit < H.taken shelf.new }
+    ensures too_long_held { IsErrOf result ReadEnd.TooLong → IsHeldLonger (H.held shelf.old) name.now limit }
+    ensures only_too_long { limit < H.taken shelf.new → IsErrOf result ReadEnd.TooLong ⊎ IsErrOf result ReadEnd.OutOfMemory }
+    ensures later { H.faults shelf.old ≤ H.faults shelf.new }
+    ensures held { H.held shelf.new ≡ H.held shelf.old }
+    ensures steady { H.steady shelf.new ≡ H.steady shelf.old }
+    ensures quiet { H.steady shelf.old ≡ true → Holds (H.held shelf.old) name.now → H.faults shelf.new ≡ H.faults shelf.old }
+{
+    if shelf.begin(name).is_err() {
+        return Err(ReadEnd::ReadFault);
+    }
+    let mut bytes = Vec::new(alloc);
+    let mut piece = [0u8; PIECE];
+    loop {
+        match shelf.next(&mut piece) {
+            Err(_) => return Err(ReadEnd::ReadFault),
+            Ok(0) => return Ok(bytes),
+            Ok(count) => {
+                if (bytes.len() + count) as u64 > limit {
+                    return Err(ReadEnd::TooLong);
+                }
+                match bytes.extend_from_slice(&piece[..count]) {
+                    Err(_) => return Err(ReadEnd::OutOfMemory),
+                    Ok(()) => {}
+                }
+            }
+        }
+    }
+}

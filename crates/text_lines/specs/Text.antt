@@ -1,0 +1,120 @@
+-- Texts as lines, lines as fields, and fields as whole numbers.
+use Rattle.std.specs.Prelude.{length, take, drop, ℕ, ◌+◌, ◌-◌, ◌*◌, ◌^◌, ◌==◌, ◌&&◌, ◌||◌, nat_le, min, Bool, true, false, List, [], ◌∷◌, ◌++◌, Option, Some, None, if◌then◌else◌}
+
+-- bytes, and then the first of these lines
+abbrev pub prepend : List ℕ → List (List ℕ) → List (List ℕ)
+prepend bytes [] = bytes ∷ []
+prepend bytes (line ∷ lines) = (bytes ++ line) ∷ lines
+
+-- a line feed stands at the front
+abbrev pub begins_lf : List ℕ → Bool
+begins_lf [] = false
+begins_lf (b ∷ bytes) = b == 10
+
+-- a line ending stands at the front: LF or CRLF
+abbrev pub begins_ending : List ℕ → Bool
+begins_ending [] = false
+begins_ending (b ∷ bytes) = b == 10 || (b == 13 && begins_lf bytes)
+
+-- The lines of a text. Each ends in LF or CRLF, or at the end of the text, and behind the last ending no line begins.
+abbrev pub lines_of : List ℕ → List (List ℕ)
+lines_of [] = []
+lines_of (b ∷ bytes) = if b == 10 then [] ∷ lines_of bytes else (if b == 13 && begins_lf bytes then lines_of bytes else prepend (b ∷ []) (lines_of bytes))
+
+abbrev pub is_blank : ℕ → Bool
+is_blank b = b == 32 || b == 9
+
+-- at the end, or before a blank
+abbrev pub ends_field : List ℕ → Bool
+ends_field [] = true
+ends_field (b ∷ bytes) = is_blank b
+
+-- The fields of a line: what stands between spaces and tabs.
+abbrev pub fields_of : List ℕ → List (List ℕ)
+fields_of [] = []
+fields_of (b ∷ bytes) = if is_blank b then fields_of bytes else (if ends_field bytes then (b ∷ []) ∷ fields_of bytes else prepend (b ∷ []) (fields_of bytes))
+
+abbrev pub is_digit : ℕ → Bool
+is_digit b = nat_le 48 b && nat_le b 57
+
+abbrev pub all_digits : List ℕ → Bool
+all_digits [] = true
+all_digits (b ∷ bytes) = is_digit b && all_digits bytes
+
+abbrev pub is_nil : {X : Type 0} → List X → Bool
+is_nil [] = true
+is_nil (x ∷ xs) = false
+
+-- a line, and lines behind it that aren't all blank
+abbrev pub keep_line : List ℕ → List (List ℕ) → List (List ℕ)
+keep_line line [] = if is_nil (fields_of line) then [] else line ∷ []
+keep_line line (next ∷ lines) = line ∷ next ∷ lines
+
+-- the lines up to the last that is not blank
+abbrev pub significant : List (List ℕ) → List (List ℕ)
+significant [] = []
+significant (line ∷ lines) = keep_line line (significant lines)
+
+-- the number whose digits are those of n and then these
+abbrev pub value_onto : ℕ → List ℕ → ℕ
+value_onto n [] = n
+value_onto n (b ∷ bytes) = value_onto (10 * n + (b - 48)) bytes
+
+-- The whole number that a field spells: one or more digits, of any number.
+abbrev pub number_of : List ℕ → Option ℕ
+number_of [] = None
+number_of (b ∷ bytes) = if all_digits (b ∷ bytes) then Some (value_onto 0 (b ∷ bytes)) else None
+
+-- how far the first line goes
+abbrev pub line_len : List ℕ → ℕ
+line_len [] = 0
+line_len (b ∷ bytes) = if begins_ending (b ∷ bytes) then 0 else line_len bytes + 1
+
+-- what stands behind a line ending
+abbrev pub after_ending : List ℕ → List ℕ
+after_ending [] = []
+after_ending (b ∷ bytes) = if b == 10 then bytes else after_cr bytes
+  where
+    after_cr : List ℕ → List ℕ
+    after_cr [] = []
+    after_cr (c ∷ rest) = rest
+
+-- how far the field at the front goes
+abbrev pub field_len : List ℕ → ℕ
+field_len [] = 0
+field_len (b ∷ bytes) = if is_blank b then 0 else field_len bytes + 1
+
+-- behind the blanks at the front
+abbrev pub skip_blanks : List ℕ → List ℕ
+skip_blanks [] = []
+skip_blanks (b ∷ bytes) = if is_blank b then skip_blanks bytes else b ∷ bytes
+
+-- a number, as far as 64 bits go
+abbrev pub saturated : ℕ → ℕ
+saturated n = min n (2 ^ 64 - 1)
+
+-- a point stands at the front, or nothing
+abbrev pub ends_digits : List ℕ → Bool
+ends_digits [] = true
+ends_digits (b ∷ bytes) = b == 46
+
+abbrev pub point_len : List ℕ → ℕ
+point_len [] = 0
+point_len (b ∷ bytes) = if b == 46 then 0 else point_len bytes + 1
+
+-- what stands behind the point
+abbrev pub behind_point : List ℕ → List ℕ
+behind_point [] = []
+behind_point (b ∷ bytes) = bytes
+
+-- front and back of a decimal: its digits as a whole number, and how many of them stand behind the point
+abbrev pub decimal_parts : List ℕ → List ℕ → Option (ℕ × ℕ)
+decimal_parts [] back = None
+decimal_parts (b ∷ front) back = if all_digits (b ∷ front) && all_digits back then Some (value_onto (value_onto 0 (b ∷ front)) back, length back) else None
+
+-- A decimal: digits, and then nothing, or a point and zero or more digits.
+abbrev pub decimal_of : List ℕ → Option (ℕ × ℕ)
+decimal_of text = decimal_parts (take (point_len text) text) (behind_point (drop (point_len text) text))
+
+abbrev pub saturated_parts : ℕ × ℕ → ℕ × ℕ
+saturated_parts d = (saturated d.0, d.1)
