@@ -1,0 +1,41 @@
+-- The lines of a report.
+use Rattle.std.specs.Prelude.{ℕ, List, [], ◌∷◌, ◌++◌, ◌≤◌, All, codes, decimal}
+use Rattle.game_model.specs.Limits.{unit}
+use Rattle.plan_text.specs.Fixed.{fixed}
+use Rattle.verdicts.specs.declared.report.Verdict.{Verdict}
+use Rattle.verdicts.specs.declared.report.Verdict.TheVariants.{Yes, No, Undecided, Bracket}
+use Rattle.verdicts.specs.declared.report.How.{How}
+use Rattle.verdicts.specs.declared.report.How.TheVariants.{Rounds, Audited}
+use Rattle.verdicts.specs.declared.report.ReportLine.{ReportLine}
+
+-- both bounds are values: at most the unit
+abbrev pub HasValues : ReportLine → Type 0
+HasValues line = (line.lower ≤ unit) × (line.upper ≤ unit)
+
+abbrev pub verdict_text : Verdict → List ℕ
+verdict_text Yes = codes "True"
+verdict_text No = codes "False"
+verdict_text Undecided = codes "Undecided"
+verdict_text Bracket = codes "Bracket"
+
+abbrev pub how_text : How → List ℕ
+how_text (Rounds rounds) = codes " rounds " ++ decimal rounds
+how_text Audited = codes " audited"
+
+-- a label and a value
+abbrev pub labelled : List ℕ → ℕ → List ℕ
+labelled label units = label ++ fixed units
+
+-- a verdict, and the end of its line
+abbrev pub ending : Verdict → List ℕ
+ending verdict = 32 ∷ (verdict_text verdict ++ codes "\n")
+
+-- the line of a state, as `state 0 lower 0.500000000000 upper 1.000000000000 rounds 40 Bracket`
+abbrev pub line_text : ReportLine → List ℕ
+line_text line = (codes "state " ++ decimal line.state) ++ (labelled (codes " lower ") line.lower
+    ++ (labelled (codes " upper ") line.upper ++ (how_text line.how ++ ending line.verdict)))
+
+-- one line after another
+abbrev pub report : List ReportLine → List ℕ
+report [] = []
+report (line ∷ lines) = line_text line ++ report lines

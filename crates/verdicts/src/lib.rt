@@ -1,0 +1,6 @@
+//! What a run reports: verdicts, and the lines that say them.
+#![tactic(auto)]
+
+mod report;
+
+pub use report::{How, ReportLine, Verdict, report_text};

@@ -1,0 +1,140 @@
+//! The report: one line for each initial state.
+
+ghost use Rattle.std.specs.Prelude.{◌≡◌, ◌++◌, ◌≤◌, ℕ, List, All, IfOk, OnOk, codes, decimal};
+ghost use Rattle.game_model.specs.Limits.{unit};
+ghost use Rattle.verdicts.specs.Report.{HasValues, labelled, report};
+
+use game_outside::OutOfMemory;
+use itoa::Buffer;
+use plan_text::fixed_text;
+use std::alloc::Global;
+
+/// What the bounds say of a formula at a state.
+#[derive(Clone, Copy, Debug, PartialEq, Eq)]
+pub enum Verdict {
+    /// The bound on the probability holds; printed `True`.
+    Yes,
+    /// It fails; printed `False`.
+    No,
+    /// The bracket does not settle it.
+    Undecided,
+    /// The formula asks for a value, and the bracket is the answer.
+    Bracket,
+}
+
+/// Where the bounds of a line come from.
+#[derive(Clone, Copy, Debug, PartialEq, Eq)]
+pub enum How {
+    /// So many rounds of value iteration were completed.
+    Rounds(u32),
+    /// A certificate was checked.
+    Audited,
+}
+
+/// The bounds, in units, and the verdict at a state.
+#[derive(Clone, Copy, Debug, PartialEq, Eq)]
+pub struct ReportLine {
+    pub state: u32,
+    pub lower: u64,
+    pub upper: u64,
+    pub how: How,
+    pub verdict: Verdict,
+}
+
+impl ReportLine {
+    ghost use Rattle.verdicts.specs.Report.{line_text};
+
+    /// Appends the line to a text.
+    fn append_to(&self, alloc: Global, text: &mut Vec<u8>) -> Result<(), OutOfMemory>
+        requires { HasValues self.now }
+        ensures { OnOk result (text.new.items ≡ text.old.items ++ line_text self.now) }
+    {
+        append(text, b"state ")?;
+        append_number(text, self.state)?;
+        append_value(alloc, text, b" lower ", self.lower)?;
+        append_value(alloc, text, b" upper ", self.upper)?;
+        self.how.append_to(text)?;
+        self.verdict.end_line(text)
+    }
+}
+
+impl How {
+    ghost use Rattle.verdicts.specs.Report.{how_text};
+
+    fn append_to(self, text: &mut Vec<u8>) -> Result<(), OutOfMemory>
+        ensures { OnOk result (text.new.items ≡ text.old.items ++ how_text self) }
+    {
+        match self {
+            How::Rounds(rounds) => {
+                append(text, b" rounds ")?;
+                append_number(text, rounds)
+            }
+            How::Audited => append(text, b" audited"),
+        }
+    }
+}
+
+impl Verdict {
+    ghost use Rattle.verdicts.specs.Report.{verdict_text, ending};
+
+    /// The printed word.
+    fn name(self) -> &'static [u8]
+        ensures { result.now ≡ verdict_text self }
+    {
+        match self {
+            Verdict::Yes => b"True",
+            Verdict::No => b"False",
+            Verdict::Undecided => b"Undecided",
+            Verdict::Bracket => b"Bracket",
+        }
+    }
+
+    fn end_line(self, text: &mut Vec<u8>) -> Result<(), OutOfMemory>
+        ensures { OnOk result (text.new.items ≡ text.old.items ++ ending self) }
+    {
+        append(text, b" ")?;
+        append(text, self.name())?;
+        append(text, b"\n")
+    }
+}
+
+fn append(text: &mut Vec<u8>, bytes: &[u8]) -> Result<(), OutOfMemory>
+    ensures { OnOk result (text.new.items ≡ text.old.items ++ bytes.now) }
+{
+    match text.extend_from_slice(bytes) {
+        Ok(()) => Ok(()),
+        Err(_) => Err(OutOfMemory {}),
+    }
+}
+
+fn append_number(text: &mut Vec<u8>, number: u32) -> Result<(), OutOfMemory>
+    ensures { OnOk result (text.new.items ≡ text.old.items ++ decimal number) }
+{
+    let mut buffer = Buffer::new();
+    append(text, buffer.format(number).as_bytes())
+}
+
+fn append_value(
+    alloc: Global,
+    text: &mut Vec<u8>,
+    label: &[u8],
+    units: u64,
+) -> Result<(), OutOfMemory>
+    requires { units ≤ unit }
+    ensures { OnOk result (text.new.items ≡ text.old.items ++ labelled label.now units) }
+{
+    append(text, label)?;
+    append(text, &fixed_text(alloc, units)?)
+}
+
+/// The report of these lines, in their order. Each bound is at most the unit.
+pub fn report_text(alloc: Global, lines: &[ReportLine]) -> Result<Vec<u8>, OutOfMemory>
+    requires { All HasValues lines.now }
+    ensures { IfOk result (λ text. text.items ≡ report lines.now) }
+{
+    let mut text = Vec::new(alloc);
+    for line in lines {
+        line.append_to(alloc, &mut text)?;
+    }
+    Ok(text)
+}
