@@ -1,4 +1,4 @@
--- Laws of the best of a list and of weighted_sum sums.
+-- Laws of optima and of weighted sums.
 use Rattle.std.proofs.Common.{◌≡◌, ℕ, zero, suc, ◌+◌, ◌*◌, ◌<◌, ◌≤◌, List, [], ◌∷◌, length, fold, sum_by, arith, refl, ap, subst, inl, inr, ◌⊎◌, max, min, take, get_or, add-one}
 use Rattle.std.specs.List.{AllByRecursion}
 use Rattle.std.proofs.lemmas.List.Sums.{sum_by-cons, fold_more}
@@ -33,7 +33,7 @@ fold-better-le : {X : Type 0} (side : Side) (f g : X → ℕ) (a b x x' : ℕ) (
 fold-better-le side f g a b x x' [] h k = h
 fold-better-le side f g a b x x' (y ∷ ys) h k = fold-better-le side f g a b (better side x (f y)) (better side x' (g y)) ys (better-le side a b x (f y) x' (g y) h k.0) k.1
 
--- the best of values whose multiples are in order
+-- the optimum of values whose multiples are in order
 pub optimum-le : {X : Type 0} (side : Side) (f g : X → ℕ) (a b : ℕ) (xs : List X) → AllByRecursion (λ y. a * f y ≤ b * g y) xs → a * optimum side f xs ≤ b * optimum side g xs
 optimum-le side f g a b [] k = omega arith
 optimum-le side f g a b (x ∷ xs) k = fold-better-le side f g a b (f x) (g x) xs k.0 k.1
@@ -53,7 +53,7 @@ fold-better-most : {X : Type 0} (side : Side) (f : X → ℕ) (m x : ℕ) (xs : 
 fold-better-most side f m x [] h k = h
 fold-better-most side f m x (y ∷ ys) h k = fold-better-most side f m (better side x (f y)) ys (better-most side x (f y) m h k.0) k.1
 
--- the best of values that are at most a number
+-- the optimum of values that are at most a number
 pub optimum-most : {X : Type 0} (side : Side) (f : X → ℕ) (m : ℕ) (xs : List X) → AllByRecursion (λ y. f y ≤ m) xs → optimum side f xs ≤ m
 optimum-most side f m [] k = omega arith
 optimum-most side f m (x ∷ xs) k = fold-better-most side f m (f x) xs k.0 k.1
@@ -72,7 +72,7 @@ weighted_sum-both v w m (e ∷ es) h =
     rw (sum_by-cons (λ (d : Edge). d.weight * v d.to) e es, sum_by-cons (λ (d : Edge). d.weight * w d.to) e es, sum_by-cons (λ (d : Edge). d.weight) e es)
     (omega (arith, weighted_sum-both v w m es h.1, ap (λ n. e.weight * n) h.0))
 
--- the best of one more
+-- the optimum of one more
 pub optimum-take-more : {X : Type 0} (side : Side) (f : X → ℕ) (xs : List X) (i : ℕ) (d : X) → 0 < i → i < length xs → optimum side f (take (i + 1) xs) ≡ better side (optimum side f (take i xs)) (f (get_or xs i d))
 optimum-take-more side f [] i d h l = absurd (omega arith)
 optimum-take-more side f (x ∷ xs) zero d h l = absurd (omega arith)
@@ -90,7 +90,7 @@ fold-better-plus : {X : Type 0} (side : Side) (f : X → ℕ) (c x : ℕ) (xs : 
 fold-better-plus side f c x [] = refl
 fold-better-plus side f c x (y ∷ ys) = rw better-plus (fold-better-plus side f c (better side x (f y)) ys)
 
--- the best of values that are all raised by a number
+-- the optimum of values that are all raised by a number
 pub optimum-plus : {X : Type 0} (side : Side) (f : X → ℕ) (c : ℕ) (xs : List X) → optimum side (λ x. f x + c) xs ≤ optimum side f xs + c
 optimum-plus side f c [] = omega arith
 optimum-plus side f c (x ∷ xs) = rw (fold-better-plus side f c (f x) xs) (omega arith)

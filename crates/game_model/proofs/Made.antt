@@ -6,6 +6,7 @@ use Rattle.std.proofs.lemmas.List.{get_or-map, length-map}
 use Rattle.std.proofs.lemmas.List.Elements.{AllWithin-more, at_read}
 use Rattle.std.specs.Global.{Vec}
 use Rattle.game_model.specs.declared.game.Choice.{Choice}
+use Rattle.game_model.specs.Limits.{most_states, most_choices}
 use Rattle.game_model.specs.Game.{Distribution, IsDistribution, IsGame, choices_of, choice_of, no_distribution}
 
 abbrev pub made : List (Vec Choice) → List (List Distribution)
@@ -16,8 +17,8 @@ choices_of-made : (choices : List (Vec Choice)) (s : ℕ) (d : Vec Choice) → s
 choices_of-made choices s d l = get_or-map (λ (c : Vec Choice). c.items) choices s d [] l
 
 -- with an element to stand for one past the end
-IsGame-with : (choices : List (Vec Choice)) → Vec Choice → 0 < length choices → length choices ≤ 1000000
-    → All (λ c. 0 < length c.items) choices → All (λ c. length c.items ≤ 16777216) choices → All (λ c. All IsDistribution c.items) choices
+IsGame-with : (choices : List (Vec Choice)) → Vec Choice → 0 < length choices → length choices ≤ most_states
+    → All (λ c. 0 < length c.items) choices → All (λ c. length c.items ≤ most_choices) choices → All (λ c. All IsDistribution c.items) choices
     → All (λ c. All (λ m. All (λ e. e.to < length choices) m.edges) c.items) choices → IsGame (made choices)
 IsGame-with choices d some few chosen bounded distribution inside =
     let count : length (made choices) ≡ length choices = length-map choices (λ (c : Vec Choice). c.items) in
@@ -34,8 +35,8 @@ IsGame-with choices d some few chosen bounded distribution inside =
           (inside s d (at s l) c no_distribution (subst (λ (ms : List Distribution). c < length ms) (choices_of-made choices s d (at s l)) k)));
     }
 
-pub IsGame-made : (choices : List (Vec Choice)) → 0 < length choices → length choices ≤ 1000000
-    → All (λ c. 0 < length c.items) choices → All (λ c. length c.items ≤ 16777216) choices → All (λ c. All IsDistribution c.items) choices
+pub IsGame-made : (choices : List (Vec Choice)) → 0 < length choices → length choices ≤ most_states
+    → All (λ c. 0 < length c.items) choices → All (λ c. length c.items ≤ most_choices) choices → All (λ c. All IsDistribution c.items) choices
     → All (λ c. All (λ m. All (λ e. e.to < length choices) m.edges) c.items) choices → IsGame (made choices)
 IsGame-made [] some few chosen bounded distribution inside = absurd (omega arith)
 IsGame-made (x ∷ xs) some few chosen bounded distribution inside = IsGame-with (x ∷ xs) x some few chosen bounded distribution inside

@@ -7,7 +7,8 @@ use Rattle.game_model.specs.Game.{Distribution, choices_of}
 use Rattle.game_model.specs.Query.{Query, is_goal, is_dead, side_at}
 use Rattle.game_model.specs.Values.{weighted_sum, denominator, numerator_of, numerator}
 use Rattle.game_model.specs.Dual.{open_numerator}
-use Rattle.game_model.proofs.Shares.{AreShares, AllByRecursion-always}
+use Rattle.game_model.proofs.Each.{AllByRecursion-always}
+use Rattle.game_model.proofs.Choices.{AreChoicesOf}
 use Rattle.game_model.proofs.Best.{optimum-le, weighted_sum-le}
 use Rattle.game_model.proofs.Rises.{scaled-le, numerator_of-most}
 
@@ -33,17 +34,17 @@ last-open : (lost : Bool) (p z x : ℕ) → z ≡ 1 → x ≤ p → (lost ≡ tr
 last-open true p z x one most none = let no : x ≡ 0 = none refl in let at : z * x ≤ p * 0 = rw no (omega arith) in at
 last-open false p z x one most none = let at : z * x ≤ p * 1 = rw one (omega (arith, most)) in at
 
-pub numerator-open : (q : Query) (lost : List Bool) → AreShares q.game (choices_of q.game) → ((s : ℕ) → slice_index_or lost s false ≡ true → (k : ℕ) → numerator q k s ≡ 0)
+pub numerator-open : (q : Query) (lost : List Bool) → AreChoicesOf q.game (choices_of q.game) → ((s : ℕ) → slice_index_or lost s false ≡ true → (k : ℕ) → numerator q k s ≡ 0)
     → (k j s : ℕ) → denominator q.game ^ j * numerator q k s ≤ denominator q.game ^ k * open_numerator q lost j s
 unfolding open_numerator numerator_of
-numerator-open q lost shares none zero zero s = opening-open (is_goal q s) (slice_index_or lost s false) (denominator q.game) (λ h. none s h zero)
-numerator-open q lost shares none zero (suc j) s = first-open (is_goal q s) (denominator q.game ^ suc j) (denominator q.game ^ 0) _ (pow-zero (denominator q.game))
-numerator-open q lost shares none (suc k) zero s = last-open (slice_index_or lost s false) (denominator q.game ^ suc k) (denominator q.game ^ 0) (numerator q (suc k) s) (pow-zero (denominator q.game)) (numerator_of-most q (choices_of q.game) shares (suc k) s) (λ h. none s h (suc k))
-numerator-open q lost shares none (suc k) (suc j) s =
+numerator-open q lost chosen none zero zero s = opening-open (is_goal q s) (slice_index_or lost s false) (denominator q.game) (λ h. none s h zero)
+numerator-open q lost chosen none zero (suc j) s = first-open (is_goal q s) (denominator q.game ^ suc j) (denominator q.game ^ 0) _ (pow-zero (denominator q.game))
+numerator-open q lost chosen none (suc k) zero s = last-open (slice_index_or lost s false) (denominator q.game ^ suc k) (denominator q.game ^ 0) (numerator q (suc k) s) (pow-zero (denominator q.game)) (numerator_of-most q (choices_of q.game) chosen (suc k) s) (λ h. none s h (suc k))
+numerator-open q lost chosen none (suc k) (suc j) s =
     let D : ℕ = denominator q.game in
     let below : (m : Distribution) → D ^ suc j * (D / m.total * weighted_sum (numerator q k) m.edges) ≤ D ^ suc k * (D / m.total * weighted_sum (open_numerator q lost j) m.edges) =
     λ m. scaled-le (D ^ suc j) (D ^ suc k) (D / m.total) (weighted_sum (numerator q k) m.edges) (weighted_sum (open_numerator q lost j) m.edges)
-    (rw (pow-suc D j, pow-suc D k) (omega (arith, mul-le-mul_right D (weighted_sum-le (numerator q k) (open_numerator q lost j) (D ^ j) (D ^ k) m.edges (AllByRecursion-always _ (λ e. numerator-open q lost shares none k j e.to) m.edges))))) in
+    (rw (pow-suc D j, pow-suc D k) (omega (arith, mul-le-mul_right D (weighted_sum-le (numerator q k) (open_numerator q lost j) (D ^ j) (D ^ k) m.edges (AllByRecursion-always _ (λ e. numerator-open q lost chosen none k j e.to) m.edges))))) in
     marked-open (is_goal q s) (is_dead q s) (slice_index_or lost s false) (D ^ suc j) (D ^ suc k) (D ^ suc k) (D ^ suc j) _ _ (omega arith)
     (optimum-le (side_at q s) (λ m. D / m.total * weighted_sum (numerator q k) m.edges) (λ m. D / m.total * weighted_sum (open_numerator q lost j) m.edges) (D ^ suc j) (D ^ suc k) (choices_of q.game s) (AllByRecursion-always _ below (choices_of q.game s)))
     (λ h. none s h (suc k))

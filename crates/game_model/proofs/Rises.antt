@@ -6,7 +6,8 @@ use Rattle.std.proofs.Math.Nat.{mul-le-mul_left, mul-le-mul_right, pow-suc, one-
 use Rattle.game_model.specs.Game.{Distribution}
 use Rattle.game_model.specs.Query.{Query, is_goal, is_dead, side_at}
 use Rattle.game_model.specs.Values.{optimum, weighted_sum, bellman, denominator, numerator_of}
-use Rattle.game_model.proofs.Shares.{IsShare, AreShares, AllByRecursion-always, AllByRecursion-weaker}
+use Rattle.game_model.proofs.Each.{AllByRecursion-always, AllByRecursion-weaker}
+use Rattle.game_model.proofs.Choices.{IsChoiceOf, AreChoicesOf}
 use Rattle.game_model.proofs.Best.{optimum-le, optimum-most, weighted_sum-le, weighted_sum-most}
 
 -- one step from values whose multiples are in order
@@ -58,19 +59,19 @@ opens-most : (goal : Bool) (d : ℕ) → (if goal then 1 else 0) ≤ d ^ 0
 opens-most true d = let at : 1 ≤ d ^ 0 = omega (arith, pow-zero d) in at
 opens-most false d = let at : 0 ≤ d ^ 0 = omega arith in at
 
--- the share of a choice is within the whole
-share-most : (d w x p : ℕ) → x ≤ w * p → d / w * x ≤ p * d
-share-most d w x p h = omega (arith, mul-le-mul_left (d / w) h, mul-le-mul_right p (div-mul-le_self d w))
+-- the scaled sum of a choice is within the whole
+scaled-most : (d w x p : ℕ) → x ≤ w * p → d / w * x ≤ p * d
+scaled-most d w x p h = omega (arith, mul-le-mul_left (d / w) h, mul-le-mul_right p (div-mul-le_self d w))
 
 -- k-step values are at most 1
-pub numerator_of-most : (q : Query) (choices : ℕ → List Distribution) → AreShares q.game choices → (k s : ℕ) → numerator_of q choices k s ≤ denominator q.game ^ k
+pub numerator_of-most : (q : Query) (choices : ℕ → List Distribution) → AreChoicesOf q.game choices → (k s : ℕ) → numerator_of q choices k s ≤ denominator q.game ^ k
 unfolding numerator_of
-numerator_of-most q choices shares zero s = opens-most (is_goal q s) (denominator q.game)
-numerator_of-most q choices shares (suc k) s =
+numerator_of-most q choices chosen zero s = opens-most (is_goal q s) (denominator q.game)
+numerator_of-most q choices chosen (suc k) s =
     bellman-most q choices (denominator q.game ^ suc k) (denominator q.game ^ suc k) _ s (omega arith)
-    (AllByRecursion-weaker (IsShare q.game) _ (λ m share. rw pow-suc (share-most (denominator q.game) m.total (weighted_sum (numerator_of q choices k) m.edges) (denominator q.game ^ k)
-    (subst (λ w. weighted_sum (numerator_of q choices k) m.edges ≤ w * denominator q.game ^ k) share.sums
-    (weighted_sum-most (numerator_of q choices k) (denominator q.game ^ k) m.edges (AllByRecursion-always _ (λ e. numerator_of-most q choices shares k e.to) m.edges))))) (choices s) (shares.each s))
+    (AllByRecursion-weaker (IsChoiceOf q.game) _ (λ m fits. rw pow-suc (scaled-most (denominator q.game) m.total (weighted_sum (numerator_of q choices k) m.edges) (denominator q.game ^ k)
+    (subst (λ w. weighted_sum (numerator_of q choices k) m.edges ≤ w * denominator q.game ^ k) fits.sums
+    (weighted_sum-most (numerator_of q choices k) (denominator q.game ^ k) m.edges (AllByRecursion-always _ (λ e. numerator_of-most q choices chosen k e.to) m.edges))))) (choices s) (chosen.each s))
 
 marked-goal : (goal : Bool) (top x : ℕ) → goal ≡ true → (if goal then top else x) ≡ top
 marked-goal goal top x h = rw h refl

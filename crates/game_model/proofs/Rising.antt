@@ -34,7 +34,7 @@ length-edges_of-le game s c h ls lc = length-edges-le (choice_of game s c) (leng
 -- a choice has a positive total
 pub total-pos : (distribution : Distribution) → IsDistribution distribution → 0 < distribution.total
 total-pos distribution h =
-    let one : 1 ≤ (get_or distribution.edges 0 no_edge).weight = h.weighty 0 no_edge h.some in
+    let one : 1 ≤ (get_or distribution.edges 0 no_edge).weight = h.weights 0 no_edge h.some in
     let part : (get_or distribution.edges 0 no_edge).weight ≤ sum_by (λ e. e.weight) distribution.edges = get_or-le-sum_by (λ (e : Edge). e.weight) distribution.edges 0 no_edge h.some in
     let same : sum_by (λ e. e.weight) distribution.edges ≡ distribution.total = h.sums in
     omega arith

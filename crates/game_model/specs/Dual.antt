@@ -21,13 +21,13 @@ unfoldable pub open_numerator : Query → List Bool → ℕ → ℕ → ℕ
 open_numerator q lost zero s = if slice_index_or lost s false then 0 else 1
 open_numerator q lost (suc k) s =
     bellman (with_deads q lost) (choices_of q.game) (denominator q.game ^ suc k)
-    (λ distribution. denominator q.game / distribution.total * weighted_sum (open_numerator q lost k) distribution.edges) s
+    (λ choice. denominator q.game / choice.total * weighted_sum (open_numerator q lost k) choice.edges) s
 
--- the other side
+-- the opponent
 abbrev pub other_side : Side → Side
 other_side Max = Min
 other_side Min = Max
 
--- the question of the other side: not to be lost turns into being lost
+-- the question of the other side: its goals are the lost states, and its dead states the goals
 abbrev pub swapped : Query → List Bool → Query
 swapped q lost = record { game = q.game; sides = map other_side q.sides; goals = lost; deads = q.goals }

@@ -3,7 +3,7 @@ use Rattle.std.specs.Prelude.{◌≡◌, ℕ, ◌<◌, ◌≤◌, List, [], leng
 use Rattle.game_model.specs.declared.game.Edge.{Edge}
 use Rattle.game_model.specs.Limits.{most_states, most_choices, total_bound}
 
--- a choice: its total, and its edges by rising destination
+-- a choice: its total, and its edges by rising successor
 pub record Distribution : Type 0 where
   pub total : ℕ
   pub edges : List Edge
@@ -18,7 +18,7 @@ IsRising edges = (i j : ℕ) → i < j → j < length edges → slice_index (des
 pub record IsDistribution (distribution : Distribution) : Type 0 where
   pub some : 0 < length distribution.edges
   pub rising : IsRising distribution.edges
-  pub weighty : All (λ e. 1 ≤ e.weight) distribution.edges
+  pub weights : All (λ e. 1 ≤ e.weight) distribution.edges
   pub sums : sum_by (λ e. e.weight) distribution.edges ≡ distribution.total
   pub small : distribution.total < total_bound
 

@@ -8,12 +8,12 @@ use Rattle.game_model.specs.Limits.{unit}
 use Rattle.game_model.specs.Plans.{numerator_under}
 
 -- a choice of s gives its value, and leads to a greater one, or to an equal one of smaller rank
-pub record IsRankedChoice (value rank : ℕ → ℕ) (s : ℕ) (distribution : Distribution) : Type 0 where
-  pub enough : value s * distribution.total ≤ weighted_sum value distribution.edges
+pub record IsRankedChoice (value rank : ℕ → ℕ) (s : ℕ) (choice : Distribution) : Type 0 where
+  pub enough : value s * choice.total ≤ weighted_sum value choice.edges
   pub place : ℕ
-  pub inside : place < length distribution.edges
-  pub onward : (value s < value (slice_index_or distribution.edges place no_edge).to)
-      ⊎ ((value (slice_index_or distribution.edges place no_edge).to ≡ value s) × (rank (slice_index_or distribution.edges place no_edge).to < rank s))
+  pub inside : place < length choice.edges
+  pub onward : (value s < value (slice_index_or choice.edges place no_edge).to)
+      ⊎ ((value (slice_index_or choice.edges place no_edge).to ≡ value s) × (rank (slice_index_or choice.edges place no_edge).to < rank s))
 
 -- the state has a choice in range, and it is ranked
 pub record HasRankedChoice (q : Query) (value rank : ℕ → ℕ) (choices : List (Option ℕ)) (s : ℕ) : Type 0 where

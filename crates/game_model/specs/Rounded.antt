@@ -1,5 +1,5 @@
 -- The Bellman operator over tables of units, rounded down and up.
-use Rattle.std.specs.Prelude.{◌≡◌, ◌≢◌, ℕ, zero, suc, ◌+◌, ◌-◌, ◌/◌, ◌<◌, true, false, List, length, slice_index_or, if◌then◌else◌}
+use Rattle.std.specs.Prelude.{◌≡◌, ◌≢◌, ℕ, zero, suc, ◌+◌, ◌-◌, ◌/◌, ◌<◌, ◌≤◌, true, false, List, length, slice_index_or, if◌then◌else◌}
 use Rattle.game_model.specs.declared.game.Side.TheVariants.{Max, Min}
 use Rattle.game_model.specs.Game.{Distribution, choices_of, no_distribution}
 use Rattle.game_model.specs.Query.{Query, is_goal, is_dead, side_at}
@@ -8,11 +8,11 @@ use Rattle.game_model.specs.Values.{weighted_sum, bellman}
 
 -- the value of a choice over a table, rounded down
 abbrev pub down_value : (ℕ → ℕ) → Distribution → ℕ
-down_value table distribution = weighted_sum table distribution.edges / distribution.total
+down_value table choice = weighted_sum table choice.edges / choice.total
 
 -- the value of a choice over a table, rounded up
 abbrev pub up_value : (ℕ → ℕ) → Distribution → ℕ
-up_value table distribution = (weighted_sum table distribution.edges + (distribution.total - 1)) / distribution.total
+up_value table choice = (weighted_sum table choice.edges + (choice.total - 1)) / choice.total
 
 -- the down step of a table
 abbrev pub down_step : Query → (ℕ → ℕ) → ℕ → ℕ
@@ -34,6 +34,18 @@ pub record DownChoice (q : Query) (table : ℕ → ℕ) (s value choice : ℕ) :
   pub goal : is_goal q s ≡ true → choice ≡ 0
   pub dead : is_dead q s ≡ true → choice ≡ 0
   pub least : side_at q s ≡ Min → choice ≡ 0
+
+-- nowhere above another table
+abbrev pub IsBelow : Query → (ℕ → ℕ) → (ℕ → ℕ) → Type 0
+IsBelow q table other = (s : ℕ) → s < length q.game → table s ≤ other s
+
+-- settled: no state's down value is above its entry
+abbrev pub IsSettled : Query → (ℕ → ℕ) → Type 0
+IsSettled q table = IsBelow q (down_step q table) table
+
+-- inductive: no state's up value is above its entry
+abbrev pub IsInductive : Query → (ℕ → ℕ) → Type 0
+IsInductive q table = IsBelow q (up_step q table) table
 
 -- the table that iteration opens with
 abbrev pub opening : Query → ℕ → ℕ

@@ -11,23 +11,23 @@ abbrev pub better : Side → ℕ → ℕ → ℕ
 better Max a b = max a b
 better Min a b = min a b
 
--- the greatest or the least value of the elements, by the side; 0 where there is none
+-- the greatest or the least value of the elements, by the side; 0 where there are none
 abbrev pub optimum : {X : Type 0} → Side → (X → ℕ) → List X → ℕ
 optimum side value [] = 0
 optimum side value (x ∷ xs) = fold (λ best y. better side best (value y)) (value x) xs
 
--- the sum of weight times value of the destination
+-- the sum of weight times value of the successor
 abbrev pub weighted_sum : (ℕ → ℕ) → List Edge → ℕ
 weighted_sum table edges = sum_by (λ e. e.weight * table e.to) edges
 
--- goals have the top value and dead states 0; elsewhere the side takes the best of its choices
+-- goals have the top value and dead states 0; elsewhere the side takes the optimum of its choices
 abbrev pub bellman : Query → (ℕ → List Distribution) → ℕ → (Distribution → ℕ) → ℕ → ℕ
 bellman q choices top value s = if is_goal q s then top else (if is_dead q s then 0 else optimum (side_at q s) value (choices s))
 
 -- the product of the totals of the choices of a state
 abbrev pub total_product : List Distribution → ℕ
 total_product [] = 1
-total_product (distribution ∷ others) = distribution.total * total_product others
+total_product (choice ∷ others) = choice.total * total_product others
 
 -- the common denominator: the product of all totals
 abbrev pub denominator : List (List Distribution) → ℕ
@@ -39,7 +39,7 @@ unfoldable pub numerator_of : Query → (ℕ → List Distribution) → ℕ → 
 numerator_of q choices zero s = if is_goal q s then 1 else 0
 numerator_of q choices (suc k) s =
     bellman q choices (denominator q.game ^ suc k)
-    (λ distribution. denominator q.game / distribution.total * weighted_sum (numerator_of q choices k) distribution.edges) s
+    (λ choice. denominator q.game / choice.total * weighted_sum (numerator_of q choices k) choice.edges) s
 
 -- k-step numerators: the value of reaching a goal within k steps is this number over the k-th power of the denominator
 abbrev pub numerator : Query → ℕ → ℕ → ℕ

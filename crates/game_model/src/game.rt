@@ -1,21 +1,26 @@
-//! Games: for each state a list of choices, and for each choice a list of edges.
+//! Finite turn-based stochastic games: for each state a list of choices, and for each choice a
+//! distribution over the states. With one side alone they are Markov decision processes (Baier and
+//! Katoen, Principles of Model Checking, 2008, chapter 10).
 
 ghost use Rattle.std.specs.Prelude.{◌≡◌, ℕ, ◌+◌, ◌^◌, ◌<◌, ◌≤◌, List, length, sum_by, All, slice_index, slice_index_or, slice_get, map, Some};
 ghost use Rattle.game_model.specs.Limits.{most_states, most_choices, total_bound};
 
 use std::marker::Model;
 
-/// Who chooses at a state.
+/// Who chooses at a state: the maximiser or the minimiser of the probability (Condon, The complexity
+/// of stochastic games, 1992).
 #[derive(Clone, Copy, Debug, PartialEq, Eq)]
 pub enum Side {
+    /// The maximiser.
     Max,
+    /// The minimiser.
     Min,
 }
 
 impl Side {
     ghost use Rattle.game_model.specs.Dual.{other_side};
 
-    /// The other side.
+    /// The opponent.
     pub fn other(self) -> Side
         ensures { result ≡ other_side self }
     {
@@ -26,14 +31,17 @@ impl Side {
     }
 }
 
-/// A destination and its weight.
+/// A successor of a choice, and its weight.
 #[derive(Clone, Copy, Debug, PartialEq, Eq)]
 pub struct Edge {
+    /// The successor.
     pub to: u32,
+    /// The weight, at least 1. The probability is the weight over the total of the choice.
     pub weight: u128,
 }
 
-/// A choice of a state: its edges by rising destination, and the sum of their weights.
+/// A choice of a state: a distribution over the states, as edges by rising successor and the total of
+/// their weights, which is below 2^80.
 #[derive(Debug, Drop)]
 pub struct Choice {
     total: u128,
@@ -53,11 +61,11 @@ impl Model for Choice {
 impl Choice {
     ghost use Rattle.game_model.specs.Game.{Distribution, IsDistribution, IsRising};
 
-    /// The choice with these edges. Its total is the sum of their weights.
+    /// The choice with these edges, whose total is the sum of their weights.
     pub fn of_edges(edges: Vec<Edge>) -> Choice
         requires some { 0 < length edges.items }
         requires rising { IsRising edges.items }
-        requires weighty { All (λ e. 1 ≤ e.weight) edges.items }
+        requires weights { All (λ e. 1 ≤ e.weight) edges.items }
         requires small { sum_by (λ e. e.weight) edges.items < total_bound }
         ensures total { result.total ≡ sum_by (λ e. e.weight) edges.items }
         ensures edges { result.edges ≡ edges.items }
@@ -66,14 +74,14 @@ impl Choice {
         Choice { total, edges }
     }
 
-    /// What every choice keeps.
+    /// Tells a proof what every choice keeps. It does nothing.
     pub fn known(&self)
         ensures { IsDistribution self.now }
     {
         let _ = &self.total;
     }
 
-    /// What each of these choices keeps.
+    /// Tells a proof what each of these choices keeps. It does nothing.
     pub fn known_of_all(choices: &[Choice])
         ensures { All IsDistribution choices.now }
     {
@@ -82,12 +90,14 @@ impl Choice {
         }
     }
 
+    /// The sum of the weights.
     pub fn total(&self) -> u128
         ensures { result ≡ self.now.total }
     {
         self.total
     }
 
+    /// The edge at this place.
     pub fn edge(&self, place: u32) -> Edge
         requires { place < length self.now.edges }
         ensures { slice_get self.now.edges place ≡ Some result }
@@ -96,7 +106,8 @@ impl Choice {
     }
 }
 
-/// For each state a list of at least one choice.
+/// A game: for each state a list of at least one choice. The states are numbered from 0, and so are the
+/// choices of a state and the edges of a choice.
 #[derive(Debug, Drop)]
 pub struct Game {
     choices: Vec<Vec<Choice>>,
@@ -132,19 +143,21 @@ impl Game {
         Game { choices }
     }
 
-    /// What every game keeps.
+    /// Tells a proof what every game keeps. It does nothing.
     pub fn known(&self)
         ensures { IsGame self.now }
     {
         let _ = &self.choices;
     }
 
+    /// How many states there are.
     pub fn states(&self) -> u32
         ensures { result ≡ length self.now }
     {
         self.choices.len() as u32
     }
 
+    /// How many choices a state has, at least 1.
     pub fn choices_of(&self, state: u32) -> u32
         requires { state < length self.now }
         ensures { result ≡ length (choices_of self.now state) }
@@ -152,6 +165,7 @@ impl Game {
         self.choices[state as usize].len() as u32
     }
 
+    /// A choice of a state.
     fn choice(&self, state: u32, choice: u32) -> &Choice
         requires state { state < length self.now }
         requires choice { choice < length (choices_of self.now state) }
@@ -160,6 +174,7 @@ impl Game {
         &self.choices[state as usize][choice as usize]
     }
 
+    /// The total of a choice: the sum of its weights.
     pub fn total(&self, state: u32, choice: u32) -> u128
         requires state { state < length self.now }
         requires choice { choice < length (choices_of self.now state) }
@@ -170,6 +185,7 @@ impl Game {
         self.choice(state, choice).total
     }
 
+    /// How many edges a choice has, at least 1.
     pub fn edge_count(&self, state: u32, choice: u32) -> u32
         requires state { state < length self.now }
         requires choice { choice < length (choices_of self.now state) }
@@ -179,6 +195,7 @@ impl Game {
         self.choice(state, choice).edges.len() as u32
     }
 
+    /// An edge of a choice. The successors rise with the place.
     pub fn edge(&self, state: u32, choice: u32, place: u32) -> Edge
         requires state { state < length self.now }
         requires choice { choice < length (choices_of self.now state) }

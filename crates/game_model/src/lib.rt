@@ -1,4 +1,11 @@
-//! Games, questions and the values that they have.
+//! Games, reachability questions about them, and the values that they have.
+//!
+//! A game is made of choices: [`Choice::of_edges`] and [`Game::from_choices`]. [`Question::build`] asks
+//! of it with which probability a goal is reached. The definition of that value is in `specs/Values.antt`:
+//! whole numerators over one common denominator, by backward recursion over the number of steps. No
+//! program forms them. Programs compute with whole numbers of units, of which [`UNIT`] are probability 1,
+//! and `specs/Rounded.antt` has the Bellman operator over them. `specs/Bounds.antt` says what a sound
+//! lower and a sound upper table are, and [`laws`] has the laws of the values.
 #![tactic(auto)]
 
 mod game;
@@ -9,3 +16,14 @@ mod question;
 pub use game::{Choice, Edge, Game, Side};
 pub use limits::{MOST_CHOICES, MOST_STATES, UNIT};
 pub use question::{Marks, Question};
+
+/// Choices, games, questions and marks may be shared among threads.
+fn shares_all(choice: &Choice, question: &Question, marks: &Marks) {
+    shares(choice);
+    shares(question.game());
+    shares(question);
+    shares(marks);
+}
+
+/// What threads may share.
+fn shares<T: Sync>(_value: &T) {}

@@ -1,6 +1,6 @@
 //! The unit and the limits, each in one place.
 
-/// Probability 1, in units. A value is a whole number of units from 0 to this one.
+/// Probability 1, in units. A value is a whole number of units from 0 to this number.
 pub const UNIT: u64 = 1_000_000_000_000;
 
 /// The most states that a game has.

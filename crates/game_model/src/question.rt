@@ -1,4 +1,7 @@
-//! Questions about games, and marks of states.
+//! Questions about games, and marks of states. A question is a reachability query: with which
+//! probability is a goal reached, where the maximiser and the minimiser play as well as they can (Condon
+//! 1992; with coalitions of players Chen, Forejt, Kwiatkowska, Parker and Simaitis, Automatic
+//! verification of competitive stochastic systems, TACAS 2012)?
 
 ghost use Rattle.std.specs.Prelude.{◌≡◌, ℕ, ◌+◌, ◌^◌, ◌<◌, ◌≤◌, ◌↔◌, List, length, slice_index_or, slice_get, Some, Bool, true, false, count_by};
 ghost use Rattle.game_model.specs.Limits.{most_states};
@@ -6,7 +9,8 @@ ghost use Rattle.game_model.specs.Limits.{most_states};
 use crate::game::{Game, Side};
 use std::marker::Model;
 
-/// A game, the side that chooses at each state, and which states are goals and which are dead.
+/// A question: a game, the side that chooses at each state, and which states are goals and which are
+/// dead. A run that comes to a dead state no longer reaches a goal.
 #[derive(Drop)]
 pub struct Question<'g> {
     game: &'g Game,
@@ -28,7 +32,7 @@ impl<'g> Model for Question<'g> {
 impl<'g> Question<'g> {
     ghost use Rattle.game_model.specs.Query.{Query, IsQuery, states, is_goal, is_dead, side_at};
 
-    /// The question that these lists pose.
+    /// The question that these lists pose. No state is both goal and dead.
     pub fn build(game: &'g Game, sides: Vec<Side>, goal: Vec<bool>, dead: Vec<bool>) -> Question<'g>
         requires sides { length sides.items ≡ length game.now }
         requires goal { length goal.items ≡ length game.now }
@@ -48,7 +52,7 @@ impl<'g> Question<'g> {
         }
     }
 
-    /// What every question keeps.
+    /// Tells a proof what every question keeps. It does nothing.
     pub fn known(&self)
         ensures { IsQuery self.now }
     {

@@ -1,0 +1,80 @@
+-- Rounded steps keep the order of tables, and rise.
+use Rattle.std.proofs.Common.{ℕ, zero, suc, ◌*◌, ◌/◌, ◌<◌, ◌≤◌, Bool, true, false, List, [], ◌∷◌, length, fold, get_or, arith}
+use Rattle.std.specs.Bool.{if◌then◌else◌}
+use Rattle.std.proofs.Math.Nat.{le-div_iff_mul-le, le-max_left, le-max_right, min-le_left, min-le_right}
+use Rattle.game_model.specs.declared.game.Edge.{Edge}
+use Rattle.game_model.specs.declared.game.Side.TheVariants.{Max, Min}
+use Rattle.game_model.specs.Game.{Distribution, choices_of}
+use Rattle.game_model.specs.Query.{Query, is_goal}
+use Rattle.game_model.specs.Values.{better, optimum, weighted_sum}
+use Rattle.game_model.specs.Limits.{unit}
+use Rattle.game_model.specs.Rounded.{down_value, down_step, down_steps, opening, IsBelow, IsSettled}
+use Rattle.game_model.proofs.Each.{AllByRecursion-weaker}
+use Rattle.game_model.proofs.Choices.{IsChoiceOf, AreChoicesOf}
+use Rattle.game_model.proofs.Best.{weighted_sum-le}
+use Rattle.game_model.proofs.Rises.{bellman-le}
+
+-- a quotient rises with what is divided
+div-le-div : (x y w : ℕ) → 0 < w → x ≤ y → x / w ≤ y / w
+div-le-div x y w positive h =
+    let below : x / w * w ≤ x = (le-div_iff_mul-le positive).0 (let same : x / w ≤ x / w = omega arith in same) in
+    (le-div_iff_mul-le positive).1 (omega (arith, below, h))
+
+pub down_value-le : (game : List (List Distribution)) (v w : ℕ → ℕ) (m : Distribution) → IsChoiceOf game m → ((t : ℕ) → t < length game → v t ≤ w t) → down_value v m ≤ down_value w m
+down_value-le game v w m fits h =
+    let sums : 1 * weighted_sum v m.edges ≤ 1 * weighted_sum w m.edges = weighted_sum-le v w 1 1 m.edges (AllByRecursion-weaker (λ (e : Edge). e.to < length game) _ (λ e inside. omega (arith, h e.to inside)) m.edges fits.inside) in
+    div-le-div (weighted_sum v m.edges) (weighted_sum w m.edges) m.total fits.positive (omega (arith, sums))
+
+-- a greater table has a greater down step
+pub down_step-le : (q : Query) (v w : ℕ → ℕ) → AreChoicesOf q.game (choices_of q.game) → ((t : ℕ) → t < length q.game → v t ≤ w t) → (s : ℕ) → down_step q v s ≤ down_step q w s
+down_step-le q v w chosen h s =
+    let step : 1 * down_step q v s ≤ 1 * down_step q w s = bellman-le q (choices_of q.game) 1 1 unit unit (down_value v) (down_value w) s (omega arith)
+    (AllByRecursion-weaker (IsChoiceOf q.game) _ (λ m fits. omega (arith, down_value-le q.game v w m fits h)) (choices_of q.game s) (chosen.each s)) in
+    omega (arith, step)
+
+opening-le : (goal : Bool) (top x : ℕ) → (if goal then top else 0) ≤ (if goal then top else x)
+opening-le true top x = let at : top ≤ top = omega arith in at
+opening-le false top x = let at : 0 ≤ x = omega arith in at
+
+-- r-fold down steps rise with r
+pub down_steps-rises : (q : Query) → AreChoicesOf q.game (choices_of q.game) → (r s : ℕ) → down_steps q r s ≤ down_steps q (suc r) s
+unfolding down_steps
+down_steps-rises q chosen zero s = opening-le (is_goal q s) unit _
+down_steps-rises q chosen (suc r) s = down_step-le q (down_steps q r) (down_steps q (suc r)) chosen (λ t inside. down_steps-rises q chosen r t) s
+
+-- a settled table that is nowhere below the opening table is nowhere below an r-fold down step
+pub down_steps-settled : (q : Query) (table : ℕ → ℕ) → AreChoicesOf q.game (choices_of q.game) → IsBelow q (opening q) table → IsSettled q table → (r : ℕ) → IsBelow q (down_steps q r) table
+unfolding down_steps
+down_steps-settled q table chosen opens settled zero = opens
+down_steps-settled q table chosen opens settled (suc r) = λ s inside.
+    omega (arith, down_step-le q (down_steps q r) table chosen (down_steps-settled q table chosen opens settled r) s, settled s inside)
+
+fold-start : {X : Type 0} (f : X → ℕ) (x : ℕ) (xs : List X) → x ≤ fold (λ best y. better Max best (f y)) x xs
+fold-start f x [] = omega arith
+fold-start f x (y ∷ ys) = omega (arith, fold-start f (better Max x (f y)) ys, le-max_left x (f y))
+
+fold-each : {X : Type 0} (f : X → ℕ) (x : ℕ) (xs : List X) (i : ℕ) (d : X) → i < length xs → f (get_or xs i d) ≤ fold (λ best y. better Max best (f y)) x xs
+fold-each f x [] i d l = absurd (omega arith)
+fold-each f x (y ∷ ys) zero d l = omega (arith, fold-start f (better Max x (f y)) ys, le-max_right x (f y))
+fold-each f x (y ∷ ys) (suc i) d l = fold-each f (better Max x (f y)) ys i d (omega arith)
+
+-- each value is at most the greatest
+pub optimum-each : {X : Type 0} (f : X → ℕ) (xs : List X) (i : ℕ) (d : X) → i < length xs → f (get_or xs i d) ≤ optimum Max f xs
+optimum-each f [] i d l = absurd (omega arith)
+optimum-each f (x ∷ xs) zero d l = fold-start f (f x) xs
+optimum-each f (x ∷ xs) (suc i) d l = fold-each f (f x) xs i d (omega arith)
+
+fold-below-start : {X : Type 0} (f : X → ℕ) (x : ℕ) (xs : List X) → fold (λ best y. better Min best (f y)) x xs ≤ x
+fold-below-start f x [] = omega arith
+fold-below-start f x (y ∷ ys) = omega (arith, fold-below-start f (better Min x (f y)) ys, min-le_left x (f y))
+
+fold-below-each : {X : Type 0} (f : X → ℕ) (x : ℕ) (xs : List X) (i : ℕ) (d : X) → i < length xs → fold (λ best y. better Min best (f y)) x xs ≤ f (get_or xs i d)
+fold-below-each f x [] i d l = absurd (omega arith)
+fold-below-each f x (y ∷ ys) zero d l = omega (arith, fold-below-start f (better Min x (f y)) ys, min-le_right x (f y))
+fold-below-each f x (y ∷ ys) (suc i) d l = fold-below-each f (better Min x (f y)) ys i d (omega arith)
+
+-- the least is at most each value
+pub optimum-below : {X : Type 0} (f : X → ℕ) (xs : List X) (i : ℕ) (d : X) → i < length xs → optimum Min f xs ≤ f (get_or xs i d)
+optimum-below f [] i d l = absurd (omega arith)
+optimum-below f (x ∷ xs) zero d l = fold-below-start f (f x) xs
+optimum-below f (x ∷ xs) (suc i) d l = fold-below-each f (f x) xs i d (omega arith)
