@@ -1,0 +1,87 @@
+-- The distribution that the parts of a choice add up to.
+use Rattle.std.specs.Prelude.{◌≡◌, ◌≤◌, ℕ, zero, suc, ◌+◌, ◌-◌, ◌*◌, ◌/◌, ◌==◌, ◌⊎◌, nat_lt, max, List, [], ◌∷◌, map, sum_by, All, Result, Ok, Err, if◌then◌else◌}
+use Prim.Native.Nat.{◌∣◌}
+use Rattle.game_model.specs.declared.game.Edge.{Edge}
+use Rattle.game_model.specs.Game.{Distribution, IsRising}
+use Rattle.distributions.specs.declared.choice.Part.{Part}
+use Rattle.distributions.specs.declared.choice.ChoiceFault.{ChoiceFault}
+use Rattle.distributions.specs.declared.choice.ChoiceFault.TheVariants.{OutOfMemory, TooFine, BadSum}
+use Rattle.distributions.specs.Limits.{finest, tolerance}
+use Rattle.distributions.specs.Divisors.{lcm}
+
+-- for each part its destination, and its share of the common denominator as a whole weight
+abbrev pub weighted : ℕ → List Part → List Edge
+weighted common parts = map (λ part. record { to = part.to; weight = part.share.num * common / part.share.den }) parts
+
+-- the weight of a destination: the sum over the edges that lead to it
+abbrev pub weight_to : List Edge → ℕ → ℕ
+weight_to edges to = sum_by (λ e. if e.to == to then e.weight else 0) edges
+
+-- the sum of all weights
+abbrev pub total_of : List Edge → ℕ
+total_of edges = sum_by (λ e. e.weight) edges
+
+-- how far two numbers are apart
+abbrev pub distance : ℕ → ℕ → ℕ
+distance a b = (a - b) + (b - a)
+
+-- 1. The distribution, as a relation in which the order of the parts plays no part.
+
+-- the least common multiple of the denominators
+pub record IsCommonDenominator (common : ℕ) (parts : List Part) : Type 0 where
+  pub positive : 1 ≤ common
+  pub multiple : All (λ part. part.share.den ∣ common) parts
+  pub least : (m : ℕ) → All (λ part. part.share.den ∣ m) parts → common ∣ m
+
+pub record Denotes (parts : List Part) (distribution : Distribution) : Type 0 where
+  pub common : ℕ
+  pub denominator : IsCommonDenominator common parts
+  pub fine : common ≤ finest
+  pub rising : IsRising distribution.edges
+  pub weighty : All (λ e. 1 ≤ e.weight) distribution.edges
+  pub weights : (to : ℕ) → weight_to distribution.edges to ≡ weight_to (weighted common parts) to
+  pub total : distribution.total ≡ total_of distribution.edges
+  pub near_one : distance distribution.total common * tolerance ≤ common
+
+-- 2. The distribution or the first fault, by cases on the parts.
+
+-- the least common multiple of a number and the denominators, or the first that is too fine
+abbrev pub denominator_said : ℕ → List Part → Result ℕ ChoiceFault
+denominator_said common [] = Ok common
+denominator_said common (part ∷ parts) =
+    if nat_lt finest (lcm common part.share.den) then Err (TooFine common part.share.den) else denominator_said (lcm common part.share.den) parts
+
+-- an edge, unless its weight is 0
+abbrev pub keep_edge : ℕ → ℕ → List Edge → List Edge
+keep_edge to weight edges = if weight == 0 then edges else record { to = to; weight = weight } ∷ edges
+
+-- the edges of these weights to so many destinations, from the first on
+unfoldable pub edges_from : (ℕ → ℕ) → ℕ → ℕ → List Edge
+edges_from weight first zero = []
+edges_from weight first (suc more) = keep_edge first (weight first) (edges_from weight (first + 1) more)
+
+-- a number above each destination
+unfoldable pub span : List Edge → ℕ
+span [] = 0
+span (e ∷ edges) = max (e.to + 1) (span edges)
+
+-- the edges by rising destination, those to one destination added up
+unfoldable pub gathered : List Edge → List Edge
+gathered edges = edges_from (weight_to edges) 0 (span edges)
+
+abbrev pub sum_said : ℕ → List Edge → Result Distribution ChoiceFault
+sum_said common edges =
+    if nat_lt common (distance (total_of edges) common * tolerance) then Err (BadSum (total_of edges) common) else Ok (record { total = total_of edges; edges = gathered edges })
+
+abbrev pub choice_over : Result ℕ ChoiceFault → List Part → Result Distribution ChoiceFault
+choice_over (Ok common) parts = sum_said common (weighted common parts)
+choice_over (Err fault) parts = Err fault
+
+-- the distribution of a choice with these parts, or the first fault
+abbrev pub choice_said : List Part → Result Distribution ChoiceFault
+choice_said parts = choice_over (denominator_said 1 parts) parts
+
+-- 3. What a call answers: what the parts say, or that memory ran out.
+abbrev pub Gives : {X Y : Type 0} → (X → Y) → Result X ChoiceFault → Result Y ChoiceFault → Type 0
+Gives view (Ok x) said = said ≡ Ok (view x)
+Gives view (Err fault) said = (fault ≡ OutOfMemory) ⊎ (said ≡ Err fault)

@@ -1,0 +1,22 @@
+//! The limits, each in one place.
+
+/// The greatest denominator of a fraction, and of a choice.
+pub const FINEST: u128 = 1_000_000_000_000_000_000_000_000;
+
+/// The greatest value of a fraction.
+pub const MOST_VALUE: u128 = 2;
+
+/// The most digits of a decimal without its exponent, and of each side of a fraction.
+pub const MOST_DIGITS: usize = 30;
+
+/// The most digits of an exponent.
+pub const MOST_EXPONENT_DIGITS: usize = 3;
+
+/// How far an exponent is from 0 at most.
+pub const MOST_EXPONENT: u32 = 99;
+
+/// The most parts of a choice.
+pub const MOST_PARTS: usize = 8_000_000;
+
+/// The weights of a choice miss the common denominator by at most one part in this many.
+pub const TOLERANCE: u128 = 100_000;
