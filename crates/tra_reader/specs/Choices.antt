@@ -1,0 +1,103 @@
+-- The choices that transitions make, in whatever order they stand.
+use Rattle.std.specs.Prelude.{◌≡◌, ◌<◌, ◌≤◌, ℕ, zero, suc, ◌+◌, ◌==◌, max, List, [], ◌∷◌, ◌++◌, length, map, slice_index_or, Option, Some, None, option_map, Result, Ok, Err, if◌then◌else◌}
+use Rattle.std.specs.List.{filter}
+use Rattle.std.specs.Option.{option_or}
+use Rattle.text_lines.specs.Text.{is_nil}
+use Rattle.game_model.specs.Game.{Distribution, no_distribution}
+use Rattle.distributions.specs.declared.choice.Part.{Part}
+use Rattle.distributions.specs.declared.choice.ChoiceFault.{ChoiceFault}
+use Rattle.distributions.specs.Parts.{Denotes as DenotesChoice, choice_said}
+use Rattle.tra_reader.specs.declared.line.Transition.{Transition}
+use Rattle.tra_reader.specs.declared.fault.TraCause.TheVariants.{ChoiceGap, ChoiceCount, Choice}
+use Rattle.tra_reader.specs.declared.fault.TraFault.{TraFault}
+use Rattle.tra_reader.specs.Faults.{fault_of_all}
+use Rattle.tra_reader.specs.Lines.{is_of}
+
+-- 1. As relations.
+
+-- the transitions of a choice, in the order of their lines
+abbrev pub transitions_of : List Transition → ℕ → ℕ → List Transition
+transitions_of transitions s k = filter (is_of s k) transitions
+
+abbrev pub part_of : Transition → Part
+part_of transition = record { to = transition.destination; share = transition.share }
+
+abbrev pub parts_of : List Transition → ℕ → ℕ → List Part
+parts_of transitions s k = map part_of (transitions_of transitions s k)
+
+-- the choices of the state that have a transition are the first `count`
+pub record HasChoices (transitions : List Transition) (s count : ℕ) : Type 0 where
+  pub there : (k : ℕ) → k < count → 0 < length (transitions_of transitions s k)
+  pub no_more : (k : ℕ) → count ≤ k → transitions_of transitions s k ≡ []
+
+-- a move of weight 1 to the state itself
+abbrev pub self_loop : ℕ → Distribution
+self_loop s = record { total = 1; edges = record { to = s; weight = 1 } ∷ [] }
+
+-- the choices of a state of which the first `count` have a transition: those, or where there is none a move to itself
+pub record IsState (transitions : List Transition) (s count : ℕ) (choices : List Distribution) : Type 0 where
+  pub has : HasChoices transitions s count
+  pub alone : count ≡ 0 → choices ≡ self_loop s ∷ []
+  pub as_many : 0 < count → length choices ≡ count
+  pub made : (k : ℕ) → k < count → DenotesChoice (parts_of transitions s k) (slice_index_or choices k no_distribution)
+
+-- the sum of the first n numbers
+abbrev pub sum_of_first : (ℕ → ℕ) → ℕ → ℕ
+sum_of_first f zero = 0
+sum_of_first f (suc n) = sum_of_first f n + f n
+
+-- 2. By cases, with the first fault.
+
+-- one more than the greatest choice of the state that has a transition, 0 where none has
+abbrev pub choice_end : List Transition → ℕ → ℕ
+choice_end [] s = 0
+choice_end (transition ∷ transitions) s = if transition.source == s then max (transition.choice + 1) (choice_end transitions s) else choice_end transitions s
+
+-- the least of the first `count` choices of a state that has no transition
+abbrev pub least_missing : List Transition → ℕ → ℕ → Option ℕ
+least_missing transitions s zero = None
+least_missing transitions s (suc k) = option_or (least_missing transitions s k) (if is_nil (transitions_of transitions s k) then Some k else None)
+
+abbrev pub of_state : ℕ → ℕ → ℕ × ℕ
+of_state s k = (s, k)
+
+-- the first state with a gap before its greatest choice, and the least missing choice there
+abbrev pub first_gap : List Transition → ℕ → Option (ℕ × ℕ)
+first_gap transitions zero = None
+first_gap transitions (suc s) = option_or (first_gap transitions s) (option_map (of_state s) (least_missing transitions s (choice_end transitions s)))
+
+abbrev pub then_push : {X : Type 0} → Result (List X) TraFault → Result X TraFault → Result (List X) TraFault
+then_push (Ok xs) (Ok x) = Ok (xs ++ x ∷ [])
+then_push (Ok xs) (Err fault) = Err fault
+then_push (Err fault) x = Err fault
+
+abbrev pub choice_at : ℕ → ℕ → Result Distribution ChoiceFault → Result Distribution TraFault
+choice_at s k (Ok distribution) = Ok distribution
+choice_at s k (Err fault) = Err (fault_of_all (Choice s k fault))
+
+-- the first `count` choices of a state
+abbrev pub choices_said : List Transition → ℕ → ℕ → Result (List Distribution) TraFault
+choices_said transitions s zero = Ok []
+choices_said transitions s (suc k) = then_push (choices_said transitions s k) (choice_at s k (choice_said (parts_of transitions s k)))
+
+abbrev pub state_said : List Transition → ℕ → Result (List Distribution) TraFault
+state_said transitions s = if choice_end transitions s == 0 then Ok (self_loop s ∷ []) else choices_said transitions s (choice_end transitions s)
+
+-- the choices of the first n states
+abbrev pub states_said : List Transition → ℕ → Result (List (List Distribution)) TraFault
+states_said transitions zero = Ok []
+states_said transitions (suc s) = then_push (states_said transitions s) (state_said transitions s)
+
+abbrev pub unless_gap : Option (ℕ × ℕ) → Result (List (List Distribution)) TraFault → Result (List (List Distribution)) TraFault
+unless_gap (Some (s, k)) game = Err (fault_of_all (ChoiceGap s k))
+unless_gap None game = game
+
+-- in an MDP the choices are as many as stated
+abbrev pub if_as_stated : Option ℕ → ℕ → Result (List (List Distribution)) TraFault → Result (List (List Distribution)) TraFault
+if_as_stated None read game = game
+if_as_stated (Some stated) read game = if read == stated then game else Err (fault_of_all (ChoiceCount read stated))
+
+-- the game of n states with these transitions, or the first fault of the whole
+abbrev pub transitions_game : List Transition → ℕ → Option ℕ → Result (List (List Distribution)) TraFault
+transitions_game transitions n stated =
+    unless_gap (first_gap transitions n) (if_as_stated stated (sum_of_first (choice_end transitions) n) (states_said transitions n))

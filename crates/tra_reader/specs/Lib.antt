@@ -1,0 +1,6 @@
+pub mod Limits
+pub mod Faults
+pub mod Lines
+pub mod Choices
+pub mod Text
+pub mod Answers

@@ -1,0 +1,69 @@
+//! Why a text denotes no game.
+
+use distributions::{ChoiceFault, NumberFault};
+
+/// What is wrong.
+#[derive(Clone, Copy, Debug, PartialEq, Eq)]
+pub enum TraCause {
+    /// Memory ran out.
+    OutOfMemory,
+    /// The first line is not two or three whole numbers.
+    NoHeader,
+    /// A field that must be a whole number is none.
+    BadField,
+    /// A line has another number of fields than its kind allows.
+    FieldCount,
+    /// A number of the header, or the number of a choice, is above its limit.
+    OverLimit,
+    /// The header states no state.
+    NoStates,
+    /// A state is not below the number of states.
+    StateOutOfRange,
+    /// The probability of a line is refused.
+    Number(NumberFault),
+    /// The action of a line differs from that of the first line of its choice.
+    ActionClash {
+        state: u32,
+        choice: u32,
+    },
+    /// The transition lines are not as many as stated.
+    LineCount {
+        read: u32,
+        stated: u32,
+    },
+    /// The least choice of a state that is missing before a choice that is there.
+    ChoiceGap {
+        state: u32,
+        choice: u32,
+    },
+    /// The choices of all states are not as many as stated.
+    ChoiceCount {
+        read: u32,
+        stated: u32,
+    },
+    /// A choice is no distribution.
+    Choice {
+        state: u32,
+        choice: u32,
+        fault: ChoiceFault,
+    },
+}
+
+/// A cause and its line, counted from 1. Line 0 is the whole text.
+#[derive(Clone, Copy, Debug, PartialEq, Eq)]
+pub struct TraFault {
+    pub line: u32,
+    pub cause: TraCause,
+}
+
+impl TraFault {
+    ghost use Rattle.std.specs.Prelude.{◌≡◌};
+    ghost use Rattle.tra_reader.specs.Faults.{fault_of_all};
+
+    /// A fault of the whole text.
+    pub fn of_all(cause: TraCause) -> TraFault
+        ensures { result ≡ fault_of_all cause }
+    {
+        TraFault { line: 0, cause }
+    }
+}

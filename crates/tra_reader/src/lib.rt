@@ -1,0 +1,14 @@
+//! Transition files: the explicit `.tra` form of an MDP or a DTMC.
+//!
+//! `read_tra` gives the game that a text denotes, or the text's first fault with its line.
+#![tactic(auto)]
+
+mod fault;
+mod header;
+mod limits;
+mod line;
+mod reader;
+
+pub use fault::{TraCause, TraFault};
+pub use limits::{MOST_BYTES, MOST_CHOICES, MOST_LINES};
+pub use reader::read_tra;

@@ -1,0 +1,158 @@
+//! Transition lines.
+
+ghost use Rattle.std.specs.Prelude.{◌≡◌, ◌≤◌, ◌<◌, ◌∷◌, [], List, ℕ, Option, Some, Result, Ok, Err, MatchResult, option_map};
+ghost use Rattle.text_lines.specs.Text.{fields_of, number_of, saturated};
+ghost use Rattle.distributions.specs.Number.{number_said};
+ghost use Rattle.tra_reader.specs.Lines.{mdp_parts, dtmc_parts, parts_said, row_said, transition_said, transition_within};
+ghost use Rattle.tra_reader.specs.Answers.{SaysRow, IsLastField};
+
+use crate::fault::TraCause;
+use crate::header::Header;
+use crate::limits::MOST_CHOICES;
+use distributions::{Frac, read_number};
+use text_lines::{first_field, whole};
+
+/// A line: from the source, by its choice, to the destination.
+#[derive(Clone, Copy, Debug, PartialEq, Eq)]
+pub struct Transition {
+    pub source: u32,
+    pub choice: u32,
+    pub destination: u32,
+    pub share: Frac,
+}
+
+/// Reads the transition and the action of a line.
+pub fn read_line<'a>(header: &Header, line: &'a [u8]) -> Result<(Transition, &'a [u8]), TraCause>
+    ensures { SaysRow result (row_said header.now (fields_of line.entry.now)) }
+{
+    let states = header.states;
+    match header.choices {
+        Some(_) => read_mdp_line(states, line),
+        None => read_dtmc_line(states, line),
+    }
+}
+
+// `i k j x` or `i k j x a`.
+fn read_mdp_line(states: u32, line: &[u8]) -> Result<(Transition, &[u8]), TraCause>
+    ensures { SaysRow result (parts_said states (mdp_parts (fields_of line.entry.now))) }
+{
+    let Some((source, rest)) = first_field(line) else {
+        return Err(TraCause::FieldCount);
+    };
+    let Some((choice, rest)) = first_field(rest) else {
+        return Err(TraCause::FieldCount);
+    };
+    let Some((destination, rest)) = first_field(rest) else {
+        return Err(TraCause::FieldCount);
+    };
+    let Some((probability, rest)) = first_field(rest) else {
+        return Err(TraCause::FieldCount);
+    };
+    let Some(action) = last_field(rest) else {
+        return Err(TraCause::FieldCount);
+    };
+    match transition_of(
+        states,
+        whole(source),
+        whole(choice),
+        whole(destination),
+        probability,
+    ) {
+        Err(cause) => Err(cause),
+        Ok(found) => Ok((found, action)),
+    }
+}
+
+// `i j x` or `i j x a`.
+fn read_dtmc_line(states: u32, line: &[u8]) -> Result<(Transition, &[u8]), TraCause>
+    ensures { SaysRow result (parts_said states (dtmc_parts (fields_of line.entry.now))) }
+{
+    let Some((source, rest)) = first_field(line) else {
+        return Err(TraCause::FieldCount);
+    };
+    let Some((destination, rest)) = first_field(rest) else {
+        return Err(TraCause::FieldCount);
+    };
+    let Some((probability, rest)) = first_field(rest) else {
+        return Err(TraCause::FieldCount);
+    };
+    if last_field(rest).is_none() {
+        return Err(TraCause::FieldCount);
+    }
+    match transition_of(
+        states,
+        whole(source),
+        Some(0),
+        whole(destination),
+        probability,
+    ) {
+        Err(cause) => Err(cause),
+        Ok(found) => Ok((found, &[])),
+    }
+}
+
+// The one field that is left, or no byte where none is; none where more are.
+fn last_field(line: &[u8]) -> Option<&[u8]>
+    ensures { IsLastField result (fields_of line.entry.now) }
+{
+    match first_field(line) {
+        None => Some(&[]),
+        Some((field, rest)) => {
+            if first_field(rest).is_some() {
+                return None;
+            }
+            Some(field)
+        }
+    }
+}
+
+// The transition with these numbers and this probability.
+fn transition_of(
+    states: u32,
+    source: Option<u64>,
+    choice: Option<u64>,
+    destination: Option<u64>,
+    probability: &[u8],
+) -> Result<Transition, TraCause>
+    ensures { (i k j : Option ℕ) → source ≡ option_map saturated i → choice ≡ option_map saturated k → destination ≡ option_map saturated j → result ≡ transition_said states i k j (number_said probability.now) }
+{
+    let Some(i) = source else {
+        return Err(TraCause::BadField);
+    };
+    let Some(k) = choice else {
+        return Err(TraCause::BadField);
+    };
+    let Some(j) = destination else {
+        return Err(TraCause::BadField);
+    };
+    within(states, i, k, j, probability)
+}
+
+fn within(
+    states: u32,
+    source: u64,
+    choice: u64,
+    destination: u64,
+    probability: &[u8],
+) -> Result<Transition, TraCause>
+    ensures { (i k j : ℕ) → source ≡ saturated i → choice ≡ saturated k → destination ≡ saturated j → result ≡ transition_within states i k j (number_said probability.now) }
+{
+    if source >= u64::from(states) {
+        return Err(TraCause::StateOutOfRange);
+    }
+    if choice >= u64::from(MOST_CHOICES) {
+        return Err(TraCause::OverLimit);
+    }
+    if destination >= u64::from(states) {
+        return Err(TraCause::StateOutOfRange);
+    }
+    match read_number(probability) {
+        Err(fault) => Err(TraCause::Number(fault)),
+        Ok(share) => Ok(Transition {
+            source: source as u32,
+            choice: choice as u32,
+            destination: destination as u32,
+            share,
+        }),
+    }
+}
