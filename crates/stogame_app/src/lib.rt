@@ -2,6 +2,7 @@
 #![tactic(auto)]
 
 mod adapters;
+mod causes;
 mod load;
 mod refusal;
 mod status;

@@ -1,0 +1,70 @@
+-- The line that says why a run is refused.
+use Rattle.std.specs.Prelude.{ℕ, List, ◌∷◌, ◌++◌, codes, decimal}
+use Rattle.distributions.specs.declared.number.NumberFault.{NumberFault}
+use Rattle.distributions.specs.declared.number.NumberFault.TheVariants as number
+use Rattle.distributions.specs.declared.choice.ChoiceFault.{ChoiceFault}
+use Rattle.distributions.specs.declared.choice.ChoiceFault.TheVariants as choice
+use Rattle.tra_reader.specs.declared.fault.TraCause.{TraCause}
+use Rattle.tra_reader.specs.declared.fault.TraCause.TheVariants as tra
+use Rattle.tra_reader.specs.declared.fault.TraFault.{TraFault}
+use Rattle.stogame_app.specs.declared.refusal.Text.{Text}
+use Rattle.stogame_app.specs.declared.refusal.Text.TheVariants.{Tra, Lab, Own}
+use Rattle.stogame_app.specs.declared.refusal.Refusal.{Refusal}
+use Rattle.stogame_app.specs.declared.refusal.Refusal.TheVariants.{OfTra, TooLong}
+
+-- a name and a number behind it
+abbrev pub numbered : List ℕ → ℕ → List ℕ
+numbered name n = name ++ decimal n
+
+-- where a choice stands
+abbrev pub choice_place : ℕ → ℕ → List ℕ
+choice_place state k = numbered (codes " state ") state ++ numbered (codes " choice ") k
+
+abbrev pub counts_text : ℕ → ℕ → List ℕ
+counts_text read stated = numbered (codes " read ") read ++ numbered (codes " stated ") stated
+
+abbrev pub number_text : NumberFault → List ℕ
+number_text number.NotANumber = codes "NotANumber"
+number_text number.TooManyDigits = codes "TooManyDigits"
+number_text number.ZeroDenominator = codes "ZeroDenominator"
+number_text number.TooFine = codes "TooFine"
+number_text number.TooLarge = codes "TooLarge"
+
+-- why a choice is no distribution, and where it stands
+abbrev pub choice_text : ℕ → ℕ → ChoiceFault → List ℕ
+choice_text state k choice.OutOfMemory = codes "OutOfMemory" ++ choice_place state k
+choice_text state k (choice.TooFine first second) =
+    codes "TooFine" ++ (choice_place state k ++ (codes " first " ++ (decimal first ++ numbered (codes " second ") second)))
+choice_text state k (choice.BadSum sum denominator) =
+    codes "BadSum" ++ (choice_place state k ++ (codes " sum " ++ (decimal sum ++ numbered (codes " denominator ") denominator)))
+
+abbrev pub tra_text : TraCause → List ℕ
+tra_text tra.OutOfMemory = codes "OutOfMemory"
+tra_text tra.NoHeader = codes "NoHeader"
+tra_text tra.BadField = codes "BadField"
+tra_text tra.FieldCount = codes "FieldCount"
+tra_text tra.OverLimit = codes "OverLimit"
+tra_text tra.NoStates = codes "NoStates"
+tra_text tra.StateOutOfRange = codes "StateOutOfRange"
+tra_text (tra.Number fault) = codes "Number " ++ number_text fault
+tra_text (tra.ActionClash state k) = codes "ActionClash" ++ choice_place state k
+tra_text (tra.LineCount read stated) = codes "LineCount" ++ counts_text read stated
+tra_text (tra.ChoiceGap state k) = codes "ChoiceGap" ++ choice_place state k
+tra_text (tra.ChoiceCount read stated) = codes "ChoiceCount" ++ counts_text read stated
+tra_text (tra.Choice state k fault) = choice_text state k fault
+
+abbrev pub name_of_text : Text → List ℕ
+name_of_text Tra = codes "tra"
+name_of_text Lab = codes "lab"
+name_of_text Own = codes "own"
+
+-- a fault of a file, with its line
+abbrev pub refused_line : Text → ℕ → List ℕ → List ℕ
+refused_line text line cause = codes "refused " ++ (name_of_text text ++ (numbered (codes " line ") line ++ (32 ∷ (cause ++ codes "\n"))))
+
+abbrev pub refusal_text : Refusal → List ℕ
+refusal_text (OfTra fault) = refused_line Tra fault.line (tra_text fault.cause)
+refusal_text (TooLong text) = refused_line text 0 (codes "TooLong")
+
+abbrev pub usage_text : List ℕ
+usage_text = codes "usage: stogame check TRA LAB FORMULA [--own FILE] [--rounds R] [--workers W] [--plan] | audit TRA LAB FORMULA CERT [--own FILE] | make SEED STATES [--rounds R] [--workers W]\n"

@@ -1,0 +1,85 @@
+//! The printed names of the causes, with what they carry.
+
+ghost use Rattle.std.specs.Prelude.{◌≡◌, IfOk};
+ghost use Rattle.std.specs.String.{string_bytes};
+ghost use Rattle.stogame_app.specs.Refusals.{number_text, choice_text, choice_place as choice_place_text, tra_text};
+
+use distributions::{ChoiceFault, NumberFault};
+use std::alloc::{AllocError, Global};
+use tra_reader::TraCause;
+
+/// Why a text spells no probability.
+pub fn number_cause(fault: NumberFault) -> &'static str
+    ensures { result.now ≡ number_text fault }
+{
+    match fault {
+        NumberFault::NotANumber => "NotANumber",
+        NumberFault::TooManyDigits => "TooManyDigits",
+        NumberFault::ZeroDenominator => "ZeroDenominator",
+        NumberFault::TooFine => "TooFine",
+        NumberFault::TooLarge => "TooLarge",
+    }
+}
+
+fn choice_cause(
+    alloc: Global,
+    state: u32,
+    choice: u32,
+    fault: ChoiceFault,
+) -> Result<String, AllocError>
+    ensures { IfOk result (λ said. string_bytes said ≡ choice_text state choice fault) }
+{
+    let place = choice_place(alloc, state, choice)?;
+    match fault {
+        ChoiceFault::OutOfMemory => format!(in alloc; "OutOfMemory{place}"),
+        ChoiceFault::TooFine { first, second } => {
+            format!(in alloc; "TooFine{place} first {first} second {second}")
+        }
+        ChoiceFault::BadSum { sum, denominator } => {
+            format!(in alloc; "BadSum{place} sum {sum} denominator {denominator}")
+        }
+    }
+}
+
+// Where a choice stands.
+fn choice_place(alloc: Global, state: u32, choice: u32) -> Result<String, AllocError>
+    ensures { IfOk result (λ said. string_bytes said ≡ choice_place_text state choice) }
+{
+    format!(in alloc; " state {state} choice {choice}")
+}
+
+/// Why a text denotes no game.
+pub fn tra_cause(alloc: Global, cause: TraCause) -> Result<String, AllocError>
+    ensures { IfOk result (λ said. string_bytes said ≡ tra_text cause) }
+{
+    match cause {
+        TraCause::OutOfMemory => String::from_str(alloc, "OutOfMemory"),
+        TraCause::NoHeader => String::from_str(alloc, "NoHeader"),
+        TraCause::BadField => String::from_str(alloc, "BadField"),
+        TraCause::FieldCount => String::from_str(alloc, "FieldCount"),
+        TraCause::OverLimit => String::from_str(alloc, "OverLimit"),
+        TraCause::NoStates => String::from_str(alloc, "NoStates"),
+        TraCause::StateOutOfRange => String::from_str(alloc, "StateOutOfRange"),
+        TraCause::Number(fault) => {
+            let name = number_cause(fault);
+            format!(in alloc; "Number {name}")
+        }
+        TraCause::ActionClash { state, choice } => {
+            format!(in alloc; "ActionClash state {state} choice {choice}")
+        }
+        TraCause::LineCount { read, stated } => {
+            format!(in alloc; "LineCount read {read} stated {stated}")
+        }
+        TraCause::ChoiceGap { state, choice } => {
+            format!(in alloc; "ChoiceGap state {state} choice {choice}")
+        }
+        TraCause::ChoiceCount { read, stated } => {
+            format!(in alloc; "ChoiceCount read {read} stated {stated}")
+        }
+        TraCause::Choice {
+            state,
+            choice,
+            fault,
+        } => choice_cause(alloc, state, choice, fault),
+    }
+}
