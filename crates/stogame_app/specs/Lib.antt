@@ -2,3 +2,4 @@ pub mod Words
 pub mod Status
 pub mod Refusals
 pub mod Said
+pub mod Reports

@@ -4,9 +4,12 @@ use Rattle.game_outside.specs.Outside.{Holding}
 use Rattle.stogame_app.specs.declared.load.End.{End}
 use Rattle.stogame_app.specs.declared.load.End.TheVariants.{OutOfMemory, ReadFault, Refused}
 use Rattle.stogame_app.specs.declared.load.TheConstants.{LIMIT}
+use Rattle.game_model.specs.Game.{Distribution}
+use Rattle.tra_reader.specs.Text.{game_of}
 use Rattle.stogame_app.specs.declared.refusal.Text.{Text}
+use Rattle.stogame_app.specs.declared.refusal.Text.TheVariants.{Tra, Lab, Own}
 use Rattle.stogame_app.specs.declared.refusal.Refusal.{Refusal}
-use Rattle.stogame_app.specs.declared.refusal.Refusal.TheVariants.{TooLong}
+use Rattle.stogame_app.specs.declared.refusal.Refusal.TheVariants.{OfTra, TooLong}
 
 -- the most bytes of a text
 abbrev pub limit : ℕ
@@ -35,6 +38,15 @@ bytes_said text (Some bytes) = if nat_lt limit (length bytes) then Refuses (TooL
 -- the bytes under a name
 abbrev pub text_said : Holding → Text → List ℕ → Said (List ℕ)
 text_said held text name = bytes_said text (held name)
+
+-- what a reader says of a text, where its faults are refusals of this kind
+abbrev pub read_said : {X F : Type 0} → (F → Refusal) → Result X F → Said X
+read_said refusal (Ok x) = Says x
+read_said refusal (Err fault) = Refuses (refusal fault)
+
+-- the game of the transition file under this name
+abbrev pub game_said : Holding → List ℕ → Said (List (List Distribution))
+game_said held name = and_then (text_said held Tra name) (λ bytes. read_said OfTra (game_of bytes))
 
 -- what loading answers: what the texts say, unless memory or the reading fails
 abbrev pub Loads : {X Y : Type 0} → (X → Y) → Result X End → Said Y → Type 0

@@ -3,13 +3,17 @@
 
 mod adapters;
 mod causes;
+mod ends;
 mod load;
 mod refusal;
+mod reports;
 mod status;
 mod words;
 
 pub use adapters::{FileShelf, OutSink};
-pub use load::{End, load_text};
+pub use ends::{end_with_refusal, end_with_usage};
+pub use load::{End, load_game, load_text};
 pub use refusal::{Refusal, Text};
+pub use reports::report;
 pub use status::Status;
 pub use words::{CheckWords, read_words};
