@@ -1,5 +1,5 @@
 -- Texts as lines, lines as fields, and fields as whole numbers.
-use Rattle.std.specs.Prelude.{length, take, drop, ℕ, ◌+◌, ◌-◌, ◌*◌, ◌^◌, ◌==◌, ◌&&◌, ◌||◌, nat_le, min, Bool, true, false, List, [], ◌∷◌, ◌++◌, Option, Some, None, if◌then◌else◌}
+use Rattle.std.specs.Prelude.{ℕ, ◌+◌, ◌-◌, ◌*◌, ◌^◌, ◌==◌, ◌&&◌, ◌||◌, nat_le, min, Bool, true, false, List, [], ◌∷◌, ◌++◌, Option, Some, None, if◌then◌else◌}
 
 -- bytes, and then the first of these lines
 abbrev pub prepend : List ℕ → List (List ℕ) → List (List ℕ)
@@ -92,29 +92,3 @@ skip_blanks (b ∷ bytes) = if is_blank b then skip_blanks bytes else b ∷ byte
 -- a number, as far as 64 bits go
 abbrev pub saturated : ℕ → ℕ
 saturated n = min n (2 ^ 64 - 1)
-
--- a point stands at the front, or nothing
-abbrev pub ends_digits : List ℕ → Bool
-ends_digits [] = true
-ends_digits (b ∷ bytes) = b == 46
-
-abbrev pub point_len : List ℕ → ℕ
-point_len [] = 0
-point_len (b ∷ bytes) = if b == 46 then 0 else point_len bytes + 1
-
--- what stands behind the point
-abbrev pub behind_point : List ℕ → List ℕ
-behind_point [] = []
-behind_point (b ∷ bytes) = bytes
-
--- front and back of a decimal: its digits as a whole number, and how many of them stand behind the point
-abbrev pub decimal_parts : List ℕ → List ℕ → Option (ℕ × ℕ)
-decimal_parts [] back = None
-decimal_parts (b ∷ front) back = if all_digits (b ∷ front) && all_digits back then Some (value_onto (value_onto 0 (b ∷ front)) back, length back) else None
-
--- A decimal: digits, and then nothing, or a point and zero or more digits.
-abbrev pub decimal_of : List ℕ → Option (ℕ × ℕ)
-decimal_of text = decimal_parts (take (point_len text) text) (behind_point (drop (point_len text) text))
-
-abbrev pub saturated_parts : ℕ × ℕ → ℕ × ℕ
-saturated_parts d = (saturated d.0, d.1)

@@ -4,7 +4,7 @@ ghost use Rattle.text_lines.specs.Text.{lines_of, line_len, begins_ending, after
 
 use crate::fields::first_field;
 
-/// The first line, and what stands behind its ending.
+/// The first line without its ending, and what stands behind the ending. None at the end of the text.
 #[tactic(auto, using(crate::proofs::Texts::lines_split))]
 pub fn first_line(text: &[u8]) -> Option<(&[u8], &[u8])>
     ensures lines { MatchOption result (text.now ≡ []) (λ r. lines_of text.now ≡ r.0.now ∷ lines_of r.1.now) }
@@ -57,7 +57,7 @@ fn behind_ending(text: &[u8]) -> &[u8]
     }
 }
 
-/// No line of the text has a field.
+/// Whether no line of the text has a field. It ends at the first line that has one.
 pub fn only_blank(text: &[u8]) -> bool
     ensures { result ≡ is_nil (significant (lines_of text.now)) }
 {

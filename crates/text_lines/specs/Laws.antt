@@ -1,0 +1,19 @@
+-- Words of the laws of lines and fields.
+use Rattle.std.specs.Prelude.{◌≡◌, ◌≢◌, ℕ, List, [], ◌∷◌, false}
+use Rattle.text_lines.specs.Text.{is_blank}
+
+-- this byte stands nowhere in the bytes
+abbrev pub HasNo : ℕ → List ℕ → Type 0
+HasNo x [] = Unit {0}
+HasNo x (b ∷ bytes) = (b ≢ x) × HasNo x bytes
+
+-- the last byte is no CR
+abbrev pub EndsInNoCr : List ℕ → Type 0
+EndsInNoCr [] = Unit {0}
+EndsInNoCr (b ∷ []) = b ≢ 13
+EndsInNoCr (b ∷ c ∷ bytes) = EndsInNoCr (c ∷ bytes)
+
+-- neither a space nor a tab stands in the bytes
+abbrev pub HasNoBlank : List ℕ → Type 0
+HasNoBlank [] = Unit {0}
+HasNoBlank (b ∷ bytes) = (is_blank b ≡ false) × HasNoBlank bytes
