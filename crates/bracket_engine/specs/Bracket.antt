@@ -22,22 +22,18 @@ pub record IsBracket (q : Query) (zero : List Bool) (asked : ℕ) (lower upper :
   pub upper_length : length upper ≡ states q
   pub lower_units : All (λ v. v ≤ unit) lower
   pub upper_units : All (λ v. v ≤ unit) upper
-
   -- the bounds are sound
   pub low : Low q (slice_index lower)
   pub high : High q (slice_index upper)
-
   -- the upper table is 0 on the zero set and 1 elsewhere
   pub upper_zero : (s : ℕ) → s < states q → slice_index_or zero s false ≡ true → slice_index upper s ≡ 0
   pub upper_unit : (s : ℕ) → s < states q → slice_index_or zero s false ≡ false → slice_index upper s ≡ unit
-
   -- the lower table is as far as the completed rounds take it, and as far as all asked rounds would
   pub few : rounds ≤ asked
   pub swept : IsBelow q (down_steps q rounds) (slice_index lower)
   pub swept_asked : IsBelow q (down_steps q asked) (slice_index lower)
   pub near : IsNear q rounds (slice_index lower)
   pub near_asked : IsNear q asked (slice_index lower)
-
   -- the run ends early only where the lower table is settled, and then it is the least settled one
   pub settled : (stable ≡ true) ↔ IsSettled q (slice_index lower)
   pub early : rounds < asked → stable ≡ true

@@ -1,9 +1,13 @@
 -- What a sweep does to a table of lower values.
-use Rattle.std.specs.Prelude.{◌≡◌, ℕ, ◌+◌, ◌<◌, ◌≤◌, Bool, true, false, List, length, All, slice_index}
-use Rattle.game_model.specs.Query.{Query, states}
+use Rattle.std.specs.Prelude.{◌≡◌, ℕ, ◌+◌, ◌<◌, ◌≤◌, Bool, true, false, List, All, slice_index, slice_set, max}
+use Rattle.game_model.specs.Query.{Query}
 use Rattle.game_model.specs.Limits.{unit}
 use Rattle.game_model.specs.Rounded.{down_step, down_steps, IsBelow, IsSettled}
 use Rattle.game_model.specs.Bounds.{Low}
+
+-- a table with one entry raised to its down value, where that is greater
+abbrev pub raised_table : Query → List ℕ → ℕ → List ℕ
+raised_table q table state = slice_set table state (max (slice_index table state) (down_step q (slice_index table) state))
 
 -- the states below a count have been swept: their entries are at least their down values over the old table
 pub record Sweeps (q : Query) (count : ℕ) (old new : List ℕ) (raised : Bool) : Type 0 where

@@ -1,7 +1,10 @@
 //! The run of rounds.
 
-ghost use Rattle.std.specs.Prelude.{◌≡◌, ◌≤◌, IfOk};
+ghost use Rattle.std.specs.Prelude.{◌≡◌, ◌≤◌, ◌↔◌, true, length, All, slice_index, IfOk};
+ghost use Rattle.game_model.specs.Query.{states};
 ghost use Rattle.game_model.specs.Dual.{IsZeroSet};
+ghost use Rattle.game_model.specs.Limits.{unit};
+ghost use Rattle.game_model.specs.Rounded.{IsSettled};
 ghost use Rattle.bracket_engine.specs.Bracket.{IsBracket};
 
 use crate::bounds::Bracket;
@@ -27,6 +30,7 @@ pub fn bracket(
     requires rounds { rounds ≤ MOST_ROUNDS }
     ensures { IfOk result (λ b. IsBracket question.now zero.now rounds b.lower.items b.upper.items b.rounds b.stable) }
 {
+    question.known();
     let Ok(mut lower) = opening_table(alloc, question) else {
         return Err(OutOfMemory {});
     };
@@ -34,11 +38,21 @@ pub fn bracket(
         return Err(OutOfMemory {});
     };
     let (completed, quiet) = sweep_rounds(question, &mut lower, rounds);
-    let stable = quiet || settled(question, &lower);
+    let stable = is_settled(question, &lower, quiet);
     Ok(Bracket {
         lower,
         upper,
         rounds: completed,
         stable,
     })
+}
+
+/// Whether a table is settled, as it is after a quiet round.
+fn is_settled(question: &Question, table: &[u64], quiet: bool) -> bool
+    requires length { length table.now ≡ states question.now }
+    requires units { All (λ v. v ≤ unit) table.now }
+    requires quiet { quiet ≡ true → IsSettled question.now (slice_index table.now) }
+    ensures { (result ≡ true) ↔ IsSettled question.now (slice_index table.now) }
+{
+    quiet || settled(question, table)
 }
