@@ -1,1 +1,4 @@
--- Lemmas.
+pub mod Euclid
+pub mod Powers
+pub mod Wide
+pub mod Spelled
