@@ -132,6 +132,13 @@ lowest-pos f h =
     dvd-pos (f.den / gcd f.num f.den) f.den h
     (let Q : ℕ → Type 0 = λ n. f.den / gcd f.num f.den ∣ n in subst Q (mul-div_cancel' (gcd f.num f.den) is.1) (dvd-mul_left (f.den / gcd f.num f.den) (gcd f.num f.den)))
 
+-- fractions that have the value of a third have one value
+pub crossed : (a b c d p q : ℕ) → 1 ≤ b → c * b ≡ a * d → p * b ≡ a * q → c * q ≡ p * d
+crossed a b c d p q hb first second =
+    let left : c * q * b ≡ a * d * q = mul_right_comm c q b ∙ ap (λ n. n * q) first in
+    let right : p * d * b ≡ a * q * d = mul_right_comm p d b ∙ ap (λ n. n * d) second in
+    sym (mul-div_cancel (c * q) hb) ∙ ap (λ n. n / b) (left ∙ mul_right_comm a d q ∙ sym right) ∙ mul-div_cancel (p * d) hb
+
 -- a fraction of the same value in lowest terms is the reduced one
 pub lowest-is : (f g : Fraction) → 1 ≤ f.den → 1 ≤ g.den → IsGcd g.num g.den 1 → g.num * f.den ≡ f.num * g.den → lowest f ≡ g
 lowest-is f g hf hg is same =
@@ -140,12 +147,12 @@ lowest-is f g hf hg is same =
           (crossed f.num f.den low.num low.den g.num g.den hf (lowest-value f hf) same) in
     let fraction : ℕ → ℕ → Fraction = λ n d. record { num = n; den = d } in
     ap (λ n. fraction n low.den) nums.0 ∙ ap (λ d. fraction g.num d) nums.1
-  where
-    crossed : (a b c d p q : ℕ) → 1 ≤ b → c * b ≡ a * d → p * b ≡ a * q → c * q ≡ p * d
-    crossed a b c d p q hb first second =
-        let left : c * q * b ≡ a * d * q = mul_right_comm c q b ∙ ap (λ n. n * q) first in
-        let right : p * d * b ≡ a * q * d = mul_right_comm p d b ∙ ap (λ n. n * d) second in
-        sym (mul-div_cancel (c * q) hb) ∙ ap (λ n. n / b) (left ∙ mul_right_comm a d q ∙ sym right) ∙ mul-div_cancel (p * d) hb
+
+-- fractions of one value are one in lowest terms
+pub lowest-like : (f g : Fraction) → 1 ≤ f.den → 1 ≤ g.den → f.num * g.den ≡ g.num * f.den → lowest f ≡ lowest g
+lowest-like f g hf hg same =
+    lowest-is f (lowest g) hf (lowest-pos g hg) (coprime-div g.num g.den hg)
+    (crossed g.num g.den (lowest g).num (lowest g).den f.num f.den hg (lowest-value g hg) same)
 
 -- the least common multiple
 pub lcm-left : (a b : ℕ) → 1 ≤ b → a ∣ lcm a b

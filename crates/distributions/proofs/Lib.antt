@@ -2,3 +2,4 @@ pub mod Euclid
 pub mod Powers
 pub mod Wide
 pub mod Spelled
+pub mod Terms
