@@ -1,1 +1,5 @@
--- Lemmas.
+pub mod Euclid
+pub mod Powers
+pub mod Wide
+pub mod Spelled
+pub mod Terms

@@ -8,6 +8,7 @@ mod divisors;
 mod fraction;
 pub mod laws;
 mod limits;
+mod lowest;
 mod number;
 
 pub use choice::{ChoiceFault, Part, make_choice};

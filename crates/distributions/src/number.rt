@@ -1,10 +1,16 @@
 //! Numbers as texts spell them.
 
-ghost use Rattle.std.specs.Prelude.{◌≡◌, Ok, IfOk};
+ghost use Rattle.std.specs.Prelude.{◌≡◌, ◌≤◌, ◌<◌, ◌+◌, ◌^◌, ◌++◌, ◌&&◌, not, Ok, IfOk, length, option_map};
+ghost use Rattle.text_lines.specs.Text.{is_nil, all_digits, value_onto};
+ghost use Rattle.distributions.specs.Limits.{most_digits};
 ghost use Rattle.distributions.specs.Fraction.{Fraction};
-ghost use Rattle.distributions.specs.Number.{number_said, Denotes};
+ghost use Rattle.distributions.specs.Number.{number_said, Denotes, leading_digits, behind_digits, digits_len, exponent_digits, exponent_of, decimal_of, behind_front, spelling_of, is_long, quotient_of};
+ghost use Rattle.distributions.specs.Written.{exponent_in, spelling_in};
 
 use crate::fraction::Frac;
+use crate::limits::{MOST_DIGITS, MOST_EXPONENT, MOST_EXPONENT_DIGITS};
+use crate::lowest::{decimal, quotient};
+use text_lines::whole;
 
 /// Why a text spells no fraction: the first reason in this order.
 #[derive(Clone, Copy, Debug, PartialEq, Eq)]
@@ -19,6 +25,136 @@ pub enum NumberFault {
     TooFine,
     /// It is above 2.
     TooLarge,
+}
+
+// An exponent as it is written; where none is, it has no digits.
+#[derive(Clone, Copy)]
+struct Power<'a> {
+    below: bool,
+    digits: &'a [u8],
+}
+
+// A number as it is written.
+#[derive(Clone, Copy)]
+enum Written<'a> {
+    Point {
+        front: &'a [u8],
+        back: &'a [u8],
+        power: Power<'a>,
+    },
+    Line {
+        above: &'a [u8],
+        below: &'a [u8],
+    },
+}
+
+// How many digits stand at the front.
+fn digits_length(text: &[u8]) -> usize
+    ensures value { result ≡ digits_len text.now }
+    ensures within { result ≤ length text.now }
+{
+    let mut rest = text;
+    let mut count = 0;
+    while let [b, after @ ..] = rest {
+        if !b.is_ascii_digit() {
+            return count;
+        }
+        rest = after;
+        count += 1;
+    }
+    count
+}
+
+// The digits at the front, and what stands behind them.
+fn split_digits(text: &[u8]) -> (&[u8], &[u8])
+    ensures leading { result.0.now ≡ leading_digits text.now }
+    ensures behind { result.1.now ≡ behind_digits text.now }
+{
+    text.split_at(digits_length(text))
+}
+
+#[tactic(auto, using(crate::proofs::Spelled::digits_whole))]
+// One or more digits, and nothing else.
+fn only_digits(text: &[u8]) -> bool
+    ensures { result ≡ (not (is_nil text.now) && all_digits text.now) }
+{
+    !text.is_empty() && digits_length(text) == text.len()
+}
+
+fn power_of_digits(below: bool, digits: &[u8]) -> Option<Power<'_>>
+    ensures { option_map exponent_in result ≡ exponent_digits below digits.now }
+{
+    if only_digits(digits) {
+        Some(Power { below, digits })
+    } else {
+        None
+    }
+}
+
+// The exponent behind an `e`.
+fn read_power(text: &[u8]) -> Option<Power<'_>>
+    ensures { option_map exponent_in result ≡ exponent_of text.now }
+{
+    match text {
+        [b'-', digits @ ..] => power_of_digits(true, digits),
+        [b'+', digits @ ..] => power_of_digits(false, digits),
+        _ => power_of_digits(false, text),
+    }
+}
+
+// The decimal with these digits, and with what stands behind them.
+fn read_decimal<'a>(front: &'a [u8], back: &'a [u8], text: &'a [u8]) -> Option<Written<'a>>
+    ensures { option_map spelling_in result ≡ decimal_of front.now back.now text.now }
+{
+    match text {
+        [] => Some(Written::Point {
+            front,
+            back,
+            power: Power {
+                below: false,
+                digits: &[],
+            },
+        }),
+        [b'e' | b'E', rest @ ..] => {
+            let power = read_power(rest)?;
+            Some(Written::Point { front, back, power })
+        }
+        _ => None,
+    }
+}
+
+// The fraction with these digits above the line, and with what stands behind it.
+fn read_quotient<'a>(above: &'a [u8], below: &'a [u8]) -> Option<Written<'a>>
+    ensures { option_map spelling_in result ≡ quotient_of above.now below.now }
+{
+    if only_digits(below) {
+        Some(Written::Line { above, below })
+    } else {
+        None
+    }
+}
+
+fn read_behind<'a>(front: &'a [u8], text: &'a [u8]) -> Option<Written<'a>>
+    ensures { option_map spelling_in result ≡ behind_front front.now text.now }
+{
+    match text {
+        [b'.', rest @ ..] => {
+            let (back, rest) = split_digits(rest);
+            read_decimal(front, back, rest)
+        }
+        [b'/', rest @ ..] => read_quotient(front, rest),
+        _ => read_decimal(front, &[], text),
+    }
+}
+
+fn read_spelling(text: &[u8]) -> Option<Written<'_>>
+    ensures { option_map spelling_in result ≡ spelling_of text.now }
+{
+    let (front, rest) = split_digits(text);
+    if front.is_empty() {
+        return None;
+    }
+    read_behind(front, rest)
 }
 
 /// The fraction that a text spells.
