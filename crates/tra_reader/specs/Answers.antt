@@ -1,15 +1,21 @@
 -- What the parts of the reader answer.
-use Rattle.std.specs.Prelude.{◌≡◌, ◌≤◌, ◌<◌, ◌⊎◌, ℕ, ◌+◌, Bool, List, [], ◌∷◌, ◌++◌, length, map, slice_index, Option, Some, None, Result, Ok, Err, Vec, option_map, nat_eq}
+use Rattle.std.specs.Prelude.{◌≡◌, ◌≤◌, ◌<◌, ◌⊎◌, ℕ, ◌+◌, Bool, List, [], ◌∷◌, ◌++◌, length, map, slice_get, slice_index, Option, Some, None, Result, Ok, Err, Vec, option_map, nat_eq, nat_lt, true, false}
 use Rattle.std.specs.Borrow.{Bor}
+use Rattle.std.specs.List.{filter, All}
 use Rattle.std.specs.declared.alloc.Global.{Global}
 use Rattle.game_model.specs.Game.{Distribution}
+use Rattle.game_model.specs.declared.game.Choice.{Choice}
+use Rattle.text_lines.specs.Text.{fields_of}
+use Rattle.tra_reader.specs.declared.header.Header.{Header}
 use Rattle.tra_reader.specs.declared.line.Transition.{Transition}
 use Rattle.tra_reader.specs.declared.fault.TraCause.{TraCause}
-use Rattle.tra_reader.specs.declared.fault.TraCause.TheVariants.{OutOfMemory}
+use Rattle.tra_reader.specs.declared.fault.TraCause.TheVariants.{OutOfMemory, LineCount}
 use Rattle.tra_reader.specs.declared.fault.TraFault.{TraFault}
-use Rattle.tra_reader.specs.Faults.{fault_of_all}
-use Rattle.tra_reader.specs.Lines.{Row}
+use Rattle.tra_reader.specs.Faults.{fault_at, fault_of_all}
+use Rattle.tra_reader.specs.Lines.{Row, line_said}
 use Rattle.tra_reader.specs.Choices.{choice_end, least_missing, first_gap, unless_gap}
+use Rattle.tra_reader.specs.Text.{transitions}
+use Rattle.tra_reader.specs.Order.{place_of, transition_place, has, IsWithin, IsLeft}
 
 -- the answer is the row that is said, or its fault
 abbrev pub SaysRow : Result (Transition × Bor (List ℕ)) TraCause → Result Row TraCause → Type 0
@@ -24,3 +30,47 @@ IsLastField (Some field) (a ∷ b ∷ fields) = ⊥
 IsLastField None [] = ⊥
 IsLastField None (a ∷ []) = ⊥
 IsLastField None (a ∷ b ∷ fields) = Unit {0}
+
+abbrev pub row_place : Row → ℕ
+row_place row = transition_place row.transition
+
+-- the action of the first row at a place
+abbrev pub action_at : List Row → ℕ → Option (List ℕ)
+action_at rows place = option_map (λ row. row.action) (slice_get (filter (has row_place place) rows) 0)
+
+-- what is noted of the rows before: the first action at each place
+abbrev pub Notes : (ℕ → Option (Bor (List ℕ))) → List Row → Type 0
+Notes noted before = (place : ℕ) → option_map (λ action. action.now) (noted place) ≡ action_at before place
+
+-- what is known behind these rows
+pub record Behind (n read : ℕ) (noted : ℕ → Option (Bor (List ℕ))) (before : List Row) : Type 0 where
+  pub notes : Notes noted before
+  pub within : All (λ row. IsWithin n row.transition) before
+  pub count : length before ≡ read
+
+-- the line says a row with this transition
+pub record SaysNext (header : Header) (line : List ℕ) (before : List Row) (noted : ℕ → Option (Bor (List ℕ))) (transition : Transition) : Type 0 where
+  pub row : Row
+  pub said : line_said header before (fields_of line) ≡ Ok row
+  pub is : row.transition ≡ transition
+  pub within : IsWithin header.states transition
+  pub further : Behind header.states (length before + 1) noted (before ++ row ∷ [])
+
+-- the line has this fault
+pub record HasFault (header : Header) (line : List ℕ) (before : List Row) (number : ℕ) (fault : TraFault) : Type 0 where
+  pub cause : TraCause
+  pub said : line_said header before (fields_of line) ≡ Err cause
+  pub is : fault ≡ fault_at number cause
+
+abbrev pub NextAnswer : Header → List ℕ → ℕ → ℕ → (ℕ → Option (Bor (List ℕ))) → (ℕ → Option (Bor (List ℕ))) → Result Transition TraFault → Type 0
+NextAnswer header line number read old new (Ok transition) = (before : List Row) → Behind header.states read old before → SaysNext header line before new transition
+NextAnswer header line number read old new (Err fault) = (before : List Row) → Behind header.states read old before → (fault ≡ fault_of_all OutOfMemory) ⊎ HasFault header line before number fault
+
+abbrev pub transitions_read : Result (List Row) TraFault → Result (List Transition) TraFault
+transitions_read (Ok rows) = Ok (transitions rows)
+transitions_read (Err fault) = Err fault
+
+-- what the end of the text gives behind these transitions
+abbrev pub Ends : List Transition → Header → Result (Vec Transition Global) TraFault → Type 0
+Ends read header (Ok v) = (v.items ≡ read) × (nat_lt (length read) header.lines ≡ false)
+Ends read header (Err fault) = (fault ≡ fault_of_all (LineCount (length read) header.lines)) × (nat_lt (length read) header.lines ≡ true)

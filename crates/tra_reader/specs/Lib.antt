@@ -3,4 +3,5 @@ pub mod Faults
 pub mod Lines
 pub mod Choices
 pub mod Text
+pub mod Order
 pub mod Answers

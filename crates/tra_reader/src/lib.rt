@@ -3,6 +3,8 @@
 //! `read_tra` gives the game that a text denotes, or the text's first fault with its line.
 #![tactic(auto)]
 
+mod actions;
+mod body;
 mod fault;
 mod header;
 mod limits;

@@ -1,9 +1,10 @@
 //! Transition lines.
 
-ghost use Rattle.std.specs.Prelude.{◌≡◌, ◌≤◌, ◌<◌, ◌∷◌, [], List, ℕ, Option, Some, Result, Ok, Err, MatchResult, option_map};
+ghost use Rattle.std.specs.Prelude.{◌≡◌, ◌≤◌, ◌<◌, ◌∷◌, [], List, ℕ, Option, Some, Result, Ok, Err, IfOk, option_map};
 ghost use Rattle.text_lines.specs.Text.{fields_of, number_of, saturated};
 ghost use Rattle.distributions.specs.Number.{number_said};
 ghost use Rattle.tra_reader.specs.Lines.{mdp_parts, dtmc_parts, parts_said, row_said, transition_said, transition_within};
+ghost use Rattle.tra_reader.specs.Order.{IsWithin};
 ghost use Rattle.tra_reader.specs.Answers.{SaysRow, IsLastField};
 
 use crate::fault::TraCause;
@@ -21,9 +22,23 @@ pub struct Transition {
     pub share: Frac,
 }
 
+impl Transition {
+    ghost use Rattle.tra_reader.specs.Order.{transition_place};
+
+    /// The place of the line's choice in the order of all choices.
+    pub fn place(&self) -> u64
+        ensures { result ≡ transition_place self.now }
+    {
+        let source = self.source;
+        let choice = self.choice;
+        u64::from(MOST_CHOICES) * u64::from(source) + u64::from(choice)
+    }
+}
+
 /// Reads the transition and the action of a line.
 pub fn read_line<'a>(header: &Header, line: &'a [u8]) -> Result<(Transition, &'a [u8]), TraCause>
-    ensures { SaysRow result (row_said header.now (fields_of line.entry.now)) }
+    ensures said { SaysRow result (row_said header.now (fields_of line.entry.now)) }
+    ensures within { IfOk result (λ r. IsWithin header.now.states r.0) }
 {
     let states = header.states;
     match header.choices {
@@ -34,7 +49,8 @@ pub fn read_line<'a>(header: &Header, line: &'a [u8]) -> Result<(Transition, &'a
 
 // `i k j x` or `i k j x a`.
 fn read_mdp_line(states: u32, line: &[u8]) -> Result<(Transition, &[u8]), TraCause>
-    ensures { SaysRow result (parts_said states (mdp_parts (fields_of line.entry.now))) }
+    ensures said { SaysRow result (parts_said states (mdp_parts (fields_of line.entry.now))) }
+    ensures within { IfOk result (λ r. IsWithin states r.0) }
 {
     let Some((source, rest)) = first_field(line) else {
         return Err(TraCause::FieldCount);
@@ -65,7 +81,8 @@ fn read_mdp_line(states: u32, line: &[u8]) -> Result<(Transition, &[u8]), TraCau
 
 // `i j x` or `i j x a`.
 fn read_dtmc_line(states: u32, line: &[u8]) -> Result<(Transition, &[u8]), TraCause>
-    ensures { SaysRow result (parts_said states (dtmc_parts (fields_of line.entry.now))) }
+    ensures said { SaysRow result (parts_said states (dtmc_parts (fields_of line.entry.now))) }
+    ensures within { IfOk result (λ r. IsWithin states r.0) }
 {
     let Some((source, rest)) = first_field(line) else {
         return Err(TraCause::FieldCount);
@@ -114,7 +131,8 @@ fn transition_of(
     destination: Option<u64>,
     probability: &[u8],
 ) -> Result<Transition, TraCause>
-    ensures { (i k j : Option ℕ) → source ≡ option_map saturated i → choice ≡ option_map saturated k → destination ≡ option_map saturated j → result ≡ transition_said states i k j (number_said probability.now) }
+    ensures said { (i k j : Option ℕ) → source ≡ option_map saturated i → choice ≡ option_map saturated k → destination ≡ option_map saturated j → result ≡ transition_said states i k j (number_said probability.now) }
+    ensures within { IfOk result (IsWithin states) }
 {
     let Some(i) = source else {
         return Err(TraCause::BadField);
@@ -135,7 +153,8 @@ fn within(
     destination: u64,
     probability: &[u8],
 ) -> Result<Transition, TraCause>
-    ensures { (i k j : ℕ) → source ≡ saturated i → choice ≡ saturated k → destination ≡ saturated j → result ≡ transition_within states i k j (number_said probability.now) }
+    ensures said { (i k j : ℕ) → source ≡ saturated i → choice ≡ saturated k → destination ≡ saturated j → result ≡ transition_within states i k j (number_said probability.now) }
+    ensures within { IfOk result (IsWithin states) }
 {
     if source >= u64::from(states) {
         return Err(TraCause::StateOutOfRange);

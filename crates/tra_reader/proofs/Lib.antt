@@ -1,0 +1,4 @@
+pub mod Tests
+pub mod Noting
+pub mod Rows
+pub mod Steps

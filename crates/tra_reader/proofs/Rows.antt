@@ -1,0 +1,49 @@
+-- Rows behind one another.
+use Rattle.std.proofs.Common.{◌≡◌, ◌∙◌, ◌<◌, ◌≤◌, ℕ, suc, zero, ◌+◌, ◌*◌, ◌==◌, ◌&&◌, not, Bool, true, false, cond, List, [], ◌∷◌, ◌++◌, length, get_or, Option, Some, None, option_map, slice_get, Result, Ok, Err, refl, sym, ap, ap₂, subst, arith, nat_lt, Bor}
+use Rattle.std.proofs.lemmas.Bool.Decides.{nat_tests}
+use Rattle.std.proofs.lemmas.List.{length_push}
+use Rattle.std.specs.List.{filter, All}
+use Rattle.std.specs.Option.{option_map_or}
+use Rattle.std.specs.Str.{bytes_eq}
+use Rattle.text_lines.specs.Text.{fields_of, is_nil}
+use Rattle.tra_reader.specs.Limits.{most_choices}
+use Rattle.tra_reader.specs.declared.header.Header.{Header}
+use Rattle.tra_reader.specs.declared.line.Transition.{Transition}
+use Rattle.tra_reader.specs.declared.fault.TraCause.{TraCause}
+use Rattle.tra_reader.specs.declared.fault.TraCause.TheVariants.{FieldCount, LineCount, ActionClash}
+use Rattle.tra_reader.specs.Lines.{Row, is_of, first_action, clashes, row_said, action_checked, line_said}
+use Rattle.tra_reader.specs.Order.{IsWithin, has, place_of, transition_place}
+use Rattle.tra_reader.specs.Answers.{row_place, action_at}
+use Rattle.tra_reader.proofs.Tests.{bool_cases, lt_test}
+
+All-nil-push : {X : Type 0} (P : X → Type 0) (x : X) → P x → All P (x ∷ [])
+All-nil-push P x here zero d h = here
+All-nil-push P x here (suc k) d h = absurd (omega arith)
+
+All-cons : {X : Type 0} (P : X → Type 0) (y : X) (xs : List X) → P y → All P xs → All P (y ∷ xs)
+All-cons P y xs here more zero d h = here
+All-cons P y xs here more (suc k) d h = more k d (omega arith)
+
+pub All-push : {X : Type 0} (P : X → Type 0) (xs : List X) (x : X) → All P xs → P x → All P (xs ++ x ∷ [])
+All-push P [] x all here = All-nil-push P x here
+All-push P (y ∷ xs) x all here = All-cons P y (xs ++ x ∷ []) (all zero y (omega arith)) (All-push P xs x (λ j e g. all (suc j) e (omega arith)) here)
+
+pub same_place : (s c i k : ℕ) → c < 4000000 → k < 4000000 → ((s == i) && (c == k)) ≡ ((4000000 * s + c) == (4000000 * i + k))
+same_place s c i k h g = grind (arith, nat_tests)
+
+-- the rows of a choice are those at its place
+filter_rows : (n : ℕ) (rows : List Row) (i k : ℕ) → All (λ (row : Row). IsWithin n row.transition) rows → k < most_choices → filter (λ (row : Row). is_of i k row.transition) rows ≡ filter (has row_place (place_of i k)) rows
+filter_rows n [] i k all h = refl
+filter_rows n (row ∷ rows) i k all h = ap₂ (λ b rs. cond b (row ∷ rs) rs) (same_place row.transition.source row.transition.choice i k ((all zero row (omega arith)).choice_in) h) (filter_rows n rows i k (λ j d g. all (suc j) d (omega arith)) h)
+
+pub first_at : (n : ℕ) (rows : List Row) (i k : ℕ) → All (λ (row : Row). IsWithin n row.transition) rows → k < most_choices → first_action rows i k ≡ action_at rows (place_of i k)
+first_at n rows i k all h = ap (λ rs. option_map (λ (row : Row). row.action) (slice_get rs 0)) (filter_rows n rows i k all h)
+
+-- what a line says where its fields say a row
+pub said_with : (header : Header) (before : List Row) (fields : List (List ℕ)) (row : Row) (b : Bool) → is_nil fields ≡ false → length before < header.lines → row_said header fields ≡ Ok row → clashes before row ≡ b
+    → line_said header before fields ≡ cond b (Err (ActionClash row.transition.source row.transition.choice)) (Ok row)
+said_with header before fields row b some room is e =
+    ap (λ t. cond t (Err FieldCount) (cond (nat_lt (length before) header.lines) (action_checked before (row_said header fields)) (Err (LineCount (header.lines + 1) header.lines)))) some
+    ∙ ap (λ t. cond t (action_checked before (row_said header fields)) (Err (LineCount (header.lines + 1) header.lines))) (lt_test (length before) header.lines room)
+    ∙ ap (λ r. action_checked before r) is
+    ∙ ap (λ t. cond t (Err (ActionClash row.transition.source row.transition.choice)) (Ok row)) e
