@@ -48,6 +48,30 @@ read_said refusal (Err fault) = Refuses (refusal fault)
 abbrev pub game_said : Holding → List ℕ → Said (List (List Distribution))
 game_said held name = and_then (text_said held Tra name) (λ bytes. read_said OfTra (game_of bytes))
 
+-- the labels of the label file under this name, for so many states
+abbrev pub labels_said : Holding → List ℕ → ℕ → Said Labelling
+labels_said held name states = and_then (text_said held Lab name) (λ bytes. read_said OfLab (labels_of bytes states))
+
+-- the owners of the owner file under this name; without one, one player owns all
+abbrev pub owners_said : Holding → Option (List ℕ) → ℕ → Said Ownership
+owners_said held None states = Says (single_owner states)
+owners_said held (Some name) states = and_then (text_said held Own name) (λ bytes. read_said OfOwn (owners_of bytes states))
+
+-- a formula that asks for a value; a threshold has no verdict yet
+abbrev pub asking : Tree → Said Tree
+asking tree = if asks_for_value tree.bound then Says tree else Refuses (OfFormula (fault_at 0 NotYet))
+
+abbrev pub formula_read : List ℕ → Said Tree
+formula_read text = and_then (read_said OfFormula (formula_said text)) asking
+
+-- the question that the texts of a command pose, or their first refusal
+abbrev pub question_said : Holding → Check → Said Posing
+question_said held check =
+    and_then (game_said held check.tra) (λ game.
+    and_then (labels_said held check.lab (length game)) (λ labels.
+    and_then (owners_said held check.own (length game)) (λ owners.
+    and_then (formula_read check.formula) (λ formula. read_said OfQuestion (posing_said game labels owners formula)))))
+
 -- what loading answers: what the texts say, unless memory or the reading fails
 abbrev pub Loads : {X Y : Type 0} → (X → Y) → Result X End → Said Y → Type 0
 Loads view (Ok x) said = said ≡ Says (view x)

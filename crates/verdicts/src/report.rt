@@ -138,3 +138,36 @@ pub fn report_text(alloc: Global, lines: &[ReportLine]) -> Result<Vec<u8>, OutOf
     }
     Ok(text)
 }
+
+#[cfg(test)]
+mod tests {
+    use super::*;
+    use std::test::Fail;
+
+    #[test]
+    fn a_report_has_a_line_for_each_state(rt: HostRuntime) -> Result<(), Fail> {
+        let lines = [
+            ReportLine {
+                state: 0,
+                lower: 499_999_999_999,
+                upper: 1_000_000_000_000,
+                how: How::Rounds(40),
+                verdict: Verdict::Bracket,
+            },
+            ReportLine {
+                state: 12,
+                lower: 0,
+                upper: 0,
+                how: How::Audited,
+                verdict: Verdict::No,
+            },
+        ];
+        let Ok(text) = report_text(rt.alloc(), &lines) else {
+            return Err(Fail::new("no memory"));
+        };
+        let expected =
+            b"state 0 lower 0.499999999999 upper 1.000000000000 rounds 40 Bracket\nstate 12 lower 0.000000000000 upper 0.000000000000 audited False\n";
+        assert_eq!(rt; text.as_slice(), expected.as_slice());
+        Ok(())
+    }
+}
