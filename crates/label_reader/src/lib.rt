@@ -1,0 +1,36 @@
+//! Label files and owner files of explicit models.
+//!
+//! `read_labels` gives the labels of a model's states and `read_owners` the players that own them, each from the bytes
+//! of its file and the number of states; or the first fault of the text with its line. Both formats are one: a header of
+//! items `index="name"`, and lines `state: index index ..` in any order. Of a text that denotes labels or owners nothing
+//! but these is answered, unless memory is wanting.
+//!
+//! ```text
+//! let labels = read_labels(alloc, &bytes, game.states())?;
+//! let initial = labels.states_of(alloc, b"init")?;
+//! let owners = Owners::single(alloc, game.states())?;
+//! ```
+//!
+//! `Labels::holds`, `Labels::knows`, `Owners::knows` and `Owners::owner` take no memory and constant time. Contracts see
+//! `Labels` as a `Labelling`, a list of names with a mark for each state, and `Owners` as an `Ownership`.
+//!
+//! Nothing is said of what PRISM reads or refuses beyond these rules.
+#![tactic(auto)]
+
+mod faults;
+mod header;
+mod item;
+mod kind;
+mod label_text;
+mod labels;
+mod owner_text;
+mod owners;
+mod state_line;
+mod state_set;
+
+pub use faults::{LabCause, LabFault};
+pub use kind::{GREATEST_INDEX, LONGEST_NAME, MOST_LABELS, MOST_PLAYERS};
+pub use label_text::read_labels;
+pub use labels::Labels;
+pub use owner_text::read_owners;
+pub use owners::Owners;

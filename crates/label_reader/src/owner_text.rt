@@ -1,0 +1,24 @@
+// The reader of owner files.
+ghost use Rattle.std.specs.Prelude.{◌≡◌, ◌≤◌, Ok, length, IfOk};
+ghost use Rattle.label_reader.specs.Owners.{Ownership};
+ghost use Rattle.label_reader.specs.Texts.{owners_of, Gives};
+ghost use Rattle.label_reader.specs.Denotes.{DenotesOwners};
+
+use crate::faults::{LabCause, LabFault};
+use crate::owners::Owners;
+use std::alloc::Global;
+use text_lines::MOST_BYTES;
+
+/// The owners of so many states that a text denotes, or its first fault.
+pub fn read_owners(alloc: Global, bytes: &[u8], states: u32) -> Result<Owners, LabFault>
+    requires { length bytes.now ≤ MOST_BYTES }
+    // What is read is what the text denotes, or its first fault.
+    ensures found { IfOk result (λ owners. DenotesOwners bytes.now states owners) }
+    ensures only { (o : Ownership) → DenotesOwners bytes.now states o → Gives result (Ok o) }
+    ensures exact { Gives result (owners_of bytes.now states) }
+{
+    Err(LabFault {
+        line: 0,
+        cause: LabCause::OutOfMemory,
+    })
+}

@@ -1,0 +1,50 @@
+// A set of states, as a mark for each of them.
+ghost use Rattle.std.specs.Prelude.{◌≡◌, ◌<◌, ◌≤◌, ◌^◌, Bool, true, false, List, length, replicate, slice_index_or, slice_set, IfOk};
+
+use std::alloc::{AllocError, Global};
+use std::marker::Model;
+
+/// A set of states, which contracts see as the list of their marks. A mark takes a byte.
+#[derive(Drop)]
+pub struct StateSet {
+    marks: Vec<bool>,
+}
+
+impl Model for StateSet {
+    ghost Value = { List Bool };
+
+    ghost view = { λ s. s.marks.items };
+}
+
+impl StateSet {
+    /// The empty set of so many states.
+    pub fn empty(alloc: Global, states: u32) -> Result<StateSet, AllocError>
+        ensures { IfOk result (λ set. set ≡ replicate states false) }
+    {
+        let marks = vec![in alloc; false; states as usize]?;
+        Ok(StateSet { marks })
+    }
+
+    /// Whether a state is in the set.
+    pub fn has(&self, state: u32) -> bool
+        requires { state < length self.now }
+        ensures { result ≡ slice_index_or self.now state false }
+    {
+        self.marks[state as usize]
+    }
+
+    /// Adds a state.
+    pub fn add(&mut self, state: u32)
+        requires { state < length self.old }
+        ensures { self.new ≡ slice_set self.old state true }
+    {
+        self.marks[state as usize] = true;
+    }
+
+    /// The marks.
+    pub fn marks(&self) -> &[bool]
+        ensures { result.now ≡ self.now }
+    {
+        &self.marks
+    }
+}
