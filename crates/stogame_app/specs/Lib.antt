@@ -2,4 +2,5 @@ pub mod Words
 pub mod Status
 pub mod Refusals
 pub mod Said
+pub mod Texts
 pub mod Reports

@@ -2,9 +2,10 @@
 
 ghost use Rattle.std.specs.Prelude.{◌≡◌, IfOk};
 ghost use Rattle.std.specs.String.{string_bytes};
-ghost use Rattle.stogame_app.specs.Refusals.{number_text, choice_text, choice_place as choice_place_text, tra_text};
+ghost use Rattle.stogame_app.specs.Refusals.{number_text, choice_text, choice_place as choice_place_text, tra_text, lab_text};
 
 use distributions::{ChoiceFault, NumberFault};
+use label_reader::LabCause;
 use std::alloc::{AllocError, Global};
 use tra_reader::TraCause;
 
@@ -81,5 +82,23 @@ pub fn tra_cause(alloc: Global, cause: TraCause) -> Result<String, AllocError>
             choice,
             fault,
         } => choice_cause(alloc, state, choice, fault),
+    }
+}
+
+/// Why a text denotes no labels, or no owners.
+pub fn lab_cause(alloc: Global, cause: LabCause) -> Result<String, AllocError>
+    ensures { IfOk result (λ said. string_bytes said ≡ lab_text cause) }
+{
+    match cause {
+        LabCause::OutOfMemory => String::from_str(alloc, "OutOfMemory"),
+        LabCause::NoHeader => String::from_str(alloc, "NoHeader"),
+        LabCause::BadHeader => String::from_str(alloc, "BadHeader"),
+        LabCause::DoubleName => String::from_str(alloc, "DoubleName"),
+        LabCause::DoubleIndex => String::from_str(alloc, "DoubleIndex"),
+        LabCause::BadField => String::from_str(alloc, "BadField"),
+        LabCause::StateOutOfRange => String::from_str(alloc, "StateOutOfRange"),
+        LabCause::UnknownIndex => String::from_str(alloc, "UnknownIndex"),
+        LabCause::OverLimit => String::from_str(alloc, "OverLimit"),
+        LabCause::TwoOwners { state } => format!(in alloc; "TwoOwners state {state}"),
     }
 }

@@ -12,7 +12,7 @@ mod words;
 
 pub use adapters::{FileShelf, OutSink};
 pub use ends::{end_with_refusal, end_with_usage};
-pub use load::{End, load_game, load_text};
+pub use load::{End, load_game, load_labels, load_owner_file, load_text, no_owner_file};
 pub use refusal::{Refusal, Text};
 pub use reports::report;
 pub use status::Status;

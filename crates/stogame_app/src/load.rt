@@ -1,14 +1,18 @@
 //! The texts of a run, read and judged one after another.
 
-ghost use Rattle.std.specs.Prelude.{◌≡◌, ◌<◌, ◌≤◌, ◌⊎◌, IsErrOf, OnOk, IfOk, true, length};
+ghost use Rattle.std.specs.Prelude.{◌≡◌, ◌<◌, ◌≤◌, ◌⊎◌, IsErrOf, IsOk, OnOk, IfOk, Some, true, length};
 ghost use Rattle.tra_reader.specs.Text.{game_of};
 ghost use Rattle.game_outside.specs.Outside.{Rose};
-ghost use Rattle.stogame_app.specs.Said.{WhereTold, Loads, IsTooLong, KeepsShelf, NotHeld, read_said, text_said, game_said, limit};
+ghost use Rattle.label_reader.specs.Texts.{labels_of, owners_of};
+ghost use Rattle.stogame_app.specs.Said.{WhereTold, Loads, IsTooLong, KeepsShelf, NotHeld, read_said};
+ghost use Rattle.stogame_app.specs.Texts.{text_said, game_said, labels_said, owners_said, single_owner};
 
 use crate::refusal::{Refusal, Text};
 use game_model::Game;
 use game_outside::{ReadEnd, Shelf, read_all};
+use label_reader::{LabCause, Labels, Owners, read_labels, read_owners};
 use std::alloc::Global;
+use text_lines::MOST_BYTES;
 use tra_reader::{TraCause, read_tra};
 
 /// How loading ends that gives nothing.
@@ -19,9 +23,6 @@ pub enum End {
     Refused(Refusal),
 }
 
-/// The most bytes of a text.
-pub const LIMIT: u64 = 268_435_456;
-
 /// The bytes of a text.
 pub fn load_text<H: Shelf>(
     alloc: Global,
@@ -30,14 +31,14 @@ pub fn load_text<H: Shelf>(
     name: &str,
 ) -> Result<Vec<u8>, End>
     ensures says { WhereTold (H.held shelf.old) (λ held. Loads (λ v. v.items) result (text_said held text name.now)) }
-    ensures within { IfOk result (λ v. length v.items ≤ limit) }
+    ensures within { IfOk result (λ v. length v.items ≤ MOST_BYTES) }
     ensures read_fault { IsErrOf result End.ReadFault → Rose (H.faults shelf.old) (H.faults shelf.new) }
     ensures steadily { IsErrOf result End.ReadFault → H.steady shelf.old ≡ true → WhereTold (H.held shelf.old) (λ held. text_said held text name.now ≡ NotHeld) }
-    ensures too_long { IsTooLong result → limit < H.taken shelf.new }
-    ensures only_too_long { limit < H.taken shelf.new → IsTooLong result ⊎ IsErrOf result End.OutOfMemory }
+    ensures too_long { IsTooLong result → MOST_BYTES < H.taken shelf.new }
+    ensures only_too_long { MOST_BYTES < H.taken shelf.new → IsTooLong result ⊎ IsErrOf result End.OutOfMemory }
     ensures kept { KeepsShelf (H.held shelf.old) (H.held shelf.new) (H.steady shelf.old) (H.steady shelf.new) (H.faults shelf.old) (H.faults shelf.new) }
 {
-    match read_all(alloc, shelf, name, LIMIT) {
+    match read_all(alloc, shelf, name, MOST_BYTES as u64) {
         Ok(bytes) => Ok(bytes),
         Err(ReadEnd::OutOfMemory) => Err(End::OutOfMemory),
         Err(ReadEnd::ReadFault) => Err(End::ReadFault),
@@ -47,11 +48,11 @@ pub fn load_text<H: Shelf>(
 
 /// The game of the transition file.
 pub fn load_game<H: Shelf>(alloc: Global, shelf: &mut H, name: &str) -> Result<Game, End>
-    ensures says { WhereTold (H.held shelf.old) (λ held. Loads (λ g. g) result (game_said held name.now)) }
+    ensures says { WhereTold (H.held shelf.old) (λ held. Loads (λ x. x) result (game_said held name.now)) }
     ensures read_fault { IsErrOf result End.ReadFault → Rose (H.faults shelf.old) (H.faults shelf.new) }
     ensures steadily { IsErrOf result End.ReadFault → H.steady shelf.old ≡ true → WhereTold (H.held shelf.old) (λ held. game_said held name.now ≡ NotHeld) }
-    ensures too_long { IsTooLong result → limit < H.taken shelf.new }
-    ensures only_too_long { limit < H.taken shelf.new → IsTooLong result ⊎ IsErrOf result End.OutOfMemory }
+    ensures too_long { IsTooLong result → MOST_BYTES < H.taken shelf.new }
+    ensures only_too_long { MOST_BYTES < H.taken shelf.new → IsTooLong result ⊎ IsErrOf result End.OutOfMemory }
     ensures kept { KeepsShelf (H.held shelf.old) (H.held shelf.new) (H.steady shelf.old) (H.steady shelf.new) (H.faults shelf.old) (H.faults shelf.new) }
 {
     let bytes = load_text(alloc, shelf, Text::Tra, name)?;
@@ -59,8 +60,8 @@ pub fn load_game<H: Shelf>(alloc: Global, shelf: &mut H, name: &str) -> Result<G
 }
 
 fn game_in(alloc: Global, bytes: &[u8]) -> Result<Game, End>
-    requires { length bytes.now ≤ limit }
-    ensures says { Loads (λ g. g) result (read_said Refusal.OfTra (game_of bytes.now)) }
+    requires { length bytes.now ≤ MOST_BYTES }
+    ensures says { Loads (λ x. x) result (read_said Refusal.OfTra (game_of bytes.now)) }
     ensures read { IsErrOf result End.ReadFault → ⊥ }
     ensures short { IsTooLong result → ⊥ }
 {
@@ -70,5 +71,82 @@ fn game_in(alloc: Global, bytes: &[u8]) -> Result<Game, End>
             TraCause::OutOfMemory => Err(End::OutOfMemory),
             _ => Err(End::Refused(Refusal::OfTra(fault))),
         },
+    }
+}
+
+/// The labels of the label file.
+pub fn load_labels<H: Shelf>(
+    alloc: Global,
+    shelf: &mut H,
+    name: &str,
+    states: u32,
+) -> Result<Labels, End>
+    ensures says { WhereTold (H.held shelf.old) (λ held. Loads (λ x. x) result (labels_said held name.now states)) }
+    ensures read_fault { IsErrOf result End.ReadFault → Rose (H.faults shelf.old) (H.faults shelf.new) }
+    ensures steadily { IsErrOf result End.ReadFault → H.steady shelf.old ≡ true → WhereTold (H.held shelf.old) (λ held. labels_said held name.now states ≡ NotHeld) }
+    ensures too_long { IsTooLong result → MOST_BYTES < H.taken shelf.new }
+    ensures only_too_long { MOST_BYTES < H.taken shelf.new → IsTooLong result ⊎ IsErrOf result End.OutOfMemory }
+    ensures kept { KeepsShelf (H.held shelf.old) (H.held shelf.new) (H.steady shelf.old) (H.steady shelf.new) (H.faults shelf.old) (H.faults shelf.new) }
+{
+    let bytes = load_text(alloc, shelf, Text::Lab, name)?;
+    labels_in(alloc, &bytes, states)
+}
+
+fn labels_in(alloc: Global, bytes: &[u8], states: u32) -> Result<Labels, End>
+    requires { length bytes.now ≤ MOST_BYTES }
+    ensures says { Loads (λ x. x) result (read_said Refusal.OfLab (labels_of bytes.now states)) }
+    ensures read { IsErrOf result End.ReadFault → ⊥ }
+    ensures short { IsTooLong result → ⊥ }
+{
+    match read_labels(alloc, bytes, states) {
+        Ok(labels) => Ok(labels),
+        Err(fault) => match fault.cause {
+            LabCause::OutOfMemory => Err(End::OutOfMemory),
+            _ => Err(End::Refused(Refusal::OfLab(fault))),
+        },
+    }
+}
+
+/// The owners of the owner file.
+pub fn load_owner_file<H: Shelf>(
+    alloc: Global,
+    shelf: &mut H,
+    name: &str,
+    states: u32,
+) -> Result<Owners, End>
+    ensures says { WhereTold (H.held shelf.old) (λ held. Loads (λ x. x) result (owners_said held (Some name.now) states)) }
+    ensures read_fault { IsErrOf result End.ReadFault → Rose (H.faults shelf.old) (H.faults shelf.new) }
+    ensures steadily { IsErrOf result End.ReadFault → H.steady shelf.old ≡ true → WhereTold (H.held shelf.old) (λ held. owners_said held (Some name.now) states ≡ NotHeld) }
+    ensures too_long { IsTooLong result → MOST_BYTES < H.taken shelf.new }
+    ensures only_too_long { MOST_BYTES < H.taken shelf.new → IsTooLong result ⊎ IsErrOf result End.OutOfMemory }
+    ensures kept { KeepsShelf (H.held shelf.old) (H.held shelf.new) (H.steady shelf.old) (H.steady shelf.new) (H.faults shelf.old) (H.faults shelf.new) }
+{
+    let bytes = load_text(alloc, shelf, Text::Own, name)?;
+    owners_in(alloc, &bytes, states)
+}
+
+fn owners_in(alloc: Global, bytes: &[u8], states: u32) -> Result<Owners, End>
+    requires { length bytes.now ≤ MOST_BYTES }
+    ensures says { Loads (λ x. x) result (read_said Refusal.OfOwn (owners_of bytes.now states)) }
+    ensures read { IsErrOf result End.ReadFault → ⊥ }
+    ensures short { IsTooLong result → ⊥ }
+{
+    match read_owners(alloc, bytes, states) {
+        Ok(owners) => Ok(owners),
+        Err(fault) => match fault.cause {
+            LabCause::OutOfMemory => Err(End::OutOfMemory),
+            _ => Err(End::Refused(Refusal::OfOwn(fault))),
+        },
+    }
+}
+
+/// One player owns all states.
+pub fn no_owner_file(alloc: Global, states: u32) -> Result<Owners, End>
+    ensures says { IfOk result (λ owners. owners ≡ single_owner states) }
+    ensures only { IsErrOf result End.OutOfMemory ⊎ IsOk result }
+{
+    match Owners::single(alloc, states) {
+        Ok(owners) => Ok(owners),
+        Err(_) => Err(End::OutOfMemory),
     }
 }

@@ -4,7 +4,8 @@ ghost use Rattle.std.specs.Prelude.{◌≡◌, IfOk};
 ghost use Rattle.std.specs.String.{string_bytes};
 ghost use Rattle.stogame_app.specs.Refusals.{refusal_text, refused_line, usage_text};
 
-use crate::causes::tra_cause;
+use crate::causes::{lab_cause, tra_cause};
+use label_reader::LabFault;
 use std::alloc::{AllocError, Global};
 use tra_reader::TraFault;
 
@@ -36,6 +37,10 @@ impl Text {
 pub enum Refusal {
     /// A fault of the transition file.
     OfTra(TraFault),
+    /// A fault of the label file.
+    OfLab(LabFault),
+    /// A fault of the owner file.
+    OfOwn(LabFault),
     /// A file has more bytes than are read.
     TooLong(Text),
 }
@@ -48,6 +53,14 @@ pub fn refusal_line(alloc: Global, refusal: &Refusal) -> Result<String, AllocErr
         Refusal::OfTra(fault) => {
             let cause = tra_cause(alloc, fault.cause)?;
             refused(alloc, Text::Tra, fault.line, cause.as_str())
+        }
+        Refusal::OfLab(fault) => {
+            let cause = lab_cause(alloc, fault.cause)?;
+            refused(alloc, Text::Lab, fault.line, cause.as_str())
+        }
+        Refusal::OfOwn(fault) => {
+            let cause = lab_cause(alloc, fault.cause)?;
+            refused(alloc, Text::Own, fault.line, cause.as_str())
         }
         Refusal::TooLong(text) => refused(alloc, *text, 0, "TooLong"),
     }
