@@ -1,0 +1,12 @@
+use Rattle.std.proofs.Common.{rules, ◌≡◌, ◌∷◌, sym, subst}
+use Rattle.rpatl_syntax.specs.Tokens.{Tokens}
+use Rattle.rpatl_syntax.specs.Cursor.{Leads}
+use Rattle.rpatl_syntax.proofs.Passing.{led_by}
+use Rattle.rpatl_syntax.proofs.tokens.next_lead.Goals as goal
+
+pub returns-in-Spelling : goal.returns-in-Spelling
+returns-in-Spelling c =
+    let whole : c.loop-first.rest.now ≡ c.in-Some.first.now ∷ c.in-Some.others.now = search rules in
+    let P : Tokens → Type 0 = λ ts. Leads ts c.cut.result in
+    subst P c.loop-first.invariant.tokens
+    (led_by _ _ _ _ _ _ whole (sym c.in-Spelling.ensures.value) c.in-Spelling.ensures.within.0 c.in-Spelling.ensures.within.1 c.cut.ensures)

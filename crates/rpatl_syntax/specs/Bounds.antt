@@ -1,0 +1,12 @@
+-- The bound of a comparison with a threshold.
+use Rattle.distributions.specs.Fraction.{Fraction}
+use Rattle.rpatl_syntax.specs.declared.formula.Comparison.{Comparison}
+use Rattle.rpatl_syntax.specs.declared.formula.Comparison.TheVariants.{AtLeast as at_least, Above as above, AtMost as at_most, Below as below}
+use Rattle.rpatl_syntax.specs.declared.formula.Bound.{Bound}
+use Rattle.rpatl_syntax.specs.declared.formula.Bound.TheVariants.{AtLeast, Above, AtMost, Below}
+
+abbrev pub bound_with : Comparison → Fraction → Bound
+bound_with at_least p = AtLeast p
+bound_with above p = Above p
+bound_with at_most p = AtMost p
+bound_with below p = Below p

@@ -1,0 +1,227 @@
+-- The grammar of formulas, read from the left: the tree that tokens spell and the tokens behind it, or the first fault.
+use Rattle.std.specs.Prelude.{◌≡◌, ℕ, zero, suc, ◌+◌, ◌*◌, ◌==◌, ◌||◌, nat_lt, Bool, true, false, List, [], ◌∷◌, length, drop, take, ◌-◌, Option, Some, None, Result, Ok, Err, if◌then◌else◌, bytes_eq, codes}
+use Rattle.distributions.specs.Fraction.{Fraction}
+use Rattle.distributions.specs.declared.number.NumberFault.{NumberFault}
+use Rattle.distributions.specs.declared.number.NumberFault.TheVariants.{TooLarge}
+use Rattle.distributions.specs.Number.{number_said}
+use Rattle.rpatl_syntax.specs.declared.fault.FormulaFault.{FormulaFault}
+use Rattle.rpatl_syntax.specs.declared.fault.FormulaCause.{FormulaCause}
+use Rattle.rpatl_syntax.specs.declared.fault.FormulaCause.TheVariants.{End, Unexpected, TooDeep, BadNumber, ThresholdOutOfRange, TooLong, NotYet}
+use Rattle.rpatl_syntax.specs.declared.formula.Bound.{Bound}
+use Rattle.rpatl_syntax.specs.declared.formula.Bound.TheVariants.{AtLeast, Above, AtMost, Below, AskMax, AskMin}
+use Rattle.rpatl_syntax.specs.Fault.{fault_at, ◌>>=◌}
+use Rattle.rpatl_syntax.specs.Formula.{State, True, False, Label, Not, And, Or, Implies, Tree}
+use Rattle.rpatl_syntax.specs.Tokens.{Tokens, Finish, Broken, Then, Token, tokens_of, count_of, longest, begins_word, is_digit}
+
+-- what is read from the left: a value, and the tokens behind it, or the first fault
+abbrev pub Reading : Type 0 → Type 0
+Reading X = Tokens → Result (X × Tokens) FormulaFault
+
+-- the next token, which has to be there
+abbrev pub next : Tokens → Result Token FormulaFault
+next (Finish place) = Err (fault_at place End)
+next (Broken fault) = Err fault
+next (Then place spelling rest) = Ok (record { place = place; spelling = spelling; after = rest })
+
+abbrev pub fails : {X : Type 0} → Token → FormulaCause → Result X FormulaFault
+fails token cause = Err (fault_at token.place cause)
+
+abbrev pub is : Token → List ℕ → Bool
+is token spelling = bytes_eq token.spelling spelling
+
+-- this token, which has to stand next
+abbrev pub behind : List ℕ → Tokens → Result Tokens FormulaFault
+behind spelling ts = next ts >>= λ token. if is token spelling then Ok token.after else fails token Unexpected
+
+abbrev pub begins_with : (ℕ → Bool) → List ℕ → Bool
+begins_with test [] = false
+begins_with test (b ∷ bytes) = test b
+
+abbrev pub is_word : List ℕ → Bool
+is_word spelling = begins_with begins_word spelling
+
+abbrev pub is_number : List ℕ → Bool
+is_number spelling = begins_with is_digit spelling
+
+abbrev pub is_quoted : List ℕ → Bool
+is_quoted spelling = begins_with (λ b. b == 34) spelling
+
+-- the name between the two `"`
+abbrev pub unquoted : List ℕ → List ℕ
+unquoted spelling = take (length spelling - 2) (drop 1 spelling)
+
+-- unary = "!" unary | "(" state ")" | "true" | "false" | quoted name
+
+-- what stands where a state formula may begin once formulas nest
+abbrev pub begins_formula : Token → Bool
+begins_formula token = is token (codes "P") || is token (codes "Pmax") || is token (codes "Pmin") || is token (codes "<<")
+
+abbrev pub plain : Token → Result (State × Tokens) FormulaFault
+plain token =
+    if is token (codes "true") then Ok (True, token.after)
+    else if is token (codes "false") then Ok (False, token.after)
+    else if is_quoted token.spelling then Ok (Label (unquoted token.spelling), token.after)
+    else if begins_formula token then fails token NotYet
+    else fails token Unexpected
+
+abbrev pub opens : Token → Bool
+opens token = is token (codes "!") || is token (codes "(")
+
+-- where inside reads what a `!` or a `(` begins
+abbrev pub unary : (Token → Result (State × Tokens) FormulaFault) → Reading State
+unary inside ts = next ts >>= λ token. if opens token then inside token else plain token
+
+-- the next token is this sign
+abbrev pub follows : List ℕ → Tokens → Option Tokens
+follows sign (Finish place) = None
+follows sign (Broken fault) = None
+follows sign (Then place spelling rest) = if bytes_eq spelling sign then Some rest else None
+
+-- what a sign that stands next leads to, and what there is without it
+abbrev pub where_next : {X : Type 0} → Option Tokens → X → (Tokens → X) → X
+where_next None without with_sign = without
+where_next (Some after) without with_sign = with_sign after
+
+-- Further operands, each behind a sign, which groups to the left. Their number is below the number of tokens that are left.
+abbrev pub further : List ℕ → (State → State → State) → Reading State → ℕ → State → Reading State
+further sign join operand zero left ts = Ok (left, ts)
+further sign join operand (suc most) left ts =
+    where_next (follows sign ts) (Ok (left, ts)) (λ after. operand after >>= λ right. further sign join operand most (join left right.0) right.1)
+
+-- operand { sign operand }
+abbrev pub joined : List ℕ → (State → State → State) → Reading State → Reading State
+joined sign join operand ts = operand ts >>= λ left. further sign join operand (count_of left.1) left.0 left.1
+
+-- both = unary { "&" unary }
+abbrev pub both : Reading State → Reading State
+both operand = joined (codes "&") And operand
+
+-- either = both { "|" both }
+abbrev pub either : Reading State → Reading State
+either operand = joined (codes "|") Or (both operand)
+
+-- state = either { "=>" either }
+abbrev pub implied : Reading State → Reading State
+implied operand = joined (codes "=>") Implies (either operand)
+
+abbrev pub negated : Result (State × Tokens) FormulaFault → Result (State × Tokens) FormulaFault
+negated read = read >>= λ x. Ok (Not x.0, x.1)
+
+-- behind a state formula, the `)` that closes it
+abbrev pub closed : Result (State × Tokens) FormulaFault → Result (State × Tokens) FormulaFault
+closed read = read >>= λ x. behind (codes ")") x.1 >>= λ after. Ok (x.0, after)
+
+-- what a `!` or a `(` begins, where inside reads what stands in it
+abbrev pub inside_of : (Token → Result (State × Tokens) FormulaFault) → Token → Result (State × Tokens) FormulaFault
+inside_of inside token = if is token (codes "!") then negated (unary inside token.after) else closed (implied (unary inside) token.after)
+
+-- The same where so many more `!` and `(` may be open at once.
+abbrev pub nested : ℕ → Token → Result (State × Tokens) FormulaFault
+nested zero token = fails token TooDeep
+nested (suc room) token = inside_of (nested room) token
+
+abbrev pub most_nested : ℕ
+most_nested = 64
+
+abbrev pub state : Reading State
+state = implied (unary (nested most_nested))
+
+-- coalition = "<<" [ word { "," word } ] ">>"
+
+abbrev pub with_name : List ℕ → Result (List (List ℕ) × Tokens) FormulaFault → Result (List (List ℕ) × Tokens) FormulaFault
+with_name name read = read >>= λ names. Ok (name ∷ names.0, names.1)
+
+abbrev mutual
+  -- a name, and what stands behind it
+  pub names : Reading (List (List ℕ))
+  names (Finish place) = Err (fault_at place End)
+  names (Broken fault) = Err fault
+  names (Then place word rest) = if is_word word then with_name word (further_names rest) else Err (fault_at place Unexpected)
+
+  -- `,` and a further name, or `>>`
+  pub further_names : Reading (List (List ℕ))
+  further_names (Finish place) = Err (fault_at place End)
+  further_names (Broken fault) = Err fault
+  further_names (Then place sign rest) =
+      if bytes_eq sign (codes ">>") then Ok ([], rest)
+      else if bytes_eq sign (codes ",") then names rest
+      else Err (fault_at place Unexpected)
+
+abbrev pub some_names : Result (List (List ℕ) × Tokens) FormulaFault → Result (Option (List (List ℕ)) × Tokens) FormulaFault
+some_names read = read >>= λ names. Ok (Some names.0, names.1)
+
+abbrev pub coalition : Reading (Option (List (List ℕ)))
+coalition ts =
+    where_next (follows (codes "<<") ts) (Ok (None, ts))
+    (λ inside. where_next (follows (codes ">>") inside) (some_names (names inside)) (λ after. Ok (Some [], after)))
+
+-- bound = "P" ( ">=" | ">" | "<=" | "<" ) number | "Pmax" "=?" | "Pmin" "=?"
+
+-- a number, which is at most 1
+abbrev pub threshold_of : Token → Result Fraction NumberFault → Result Fraction FormulaFault
+threshold_of token (Ok value) = if nat_lt value.den value.num then fails token ThresholdOutOfRange else Ok value
+threshold_of token (Err TooLarge) = fails token ThresholdOutOfRange
+threshold_of token (Err fault) = fails token (BadNumber fault)
+
+abbrev pub threshold : Token → Result Fraction FormulaFault
+threshold token = if is_number token.spelling then threshold_of token (number_said token.spelling) else fails token Unexpected
+
+abbrev pub compared : (Fraction → Bound) → Reading Bound
+compared bound ts = next ts >>= λ token. threshold token >>= λ value. Ok (bound value, token.after)
+
+abbrev pub comparison : Reading Bound
+comparison ts = next ts >>= λ sign.
+    if is sign (codes ">=") then compared (λ p. AtLeast p) sign.after
+    else if is sign (codes ">") then compared (λ p. Above p) sign.after
+    else if is sign (codes "<=") then compared (λ p. AtMost p) sign.after
+    else if is sign (codes "<") then compared (λ p. Below p) sign.after
+    else fails sign Unexpected
+
+abbrev pub asked : Bound → Reading Bound
+asked bound ts = behind (codes "=?") ts >>= λ after. Ok (bound, after)
+
+abbrev pub bound : Reading Bound
+bound ts = next ts >>= λ token.
+    if is token (codes "P") then comparison token.after
+    else if is token (codes "Pmax") then asked AskMax token.after
+    else if is token (codes "Pmin") then asked AskMin token.after
+    else fails token Unexpected
+
+-- path = "F" state | state "U" state
+
+-- a state formula behind `F` or `U`
+abbrev pub reached : Reading State
+reached ts = next ts >>= λ token. if is token (codes "<=") then fails token NotYet else state ts
+
+abbrev pub until : State → Reading (State × State)
+until left ts = reached ts >>= λ right. Ok ((left, right.0), right.1)
+
+abbrev pub path : Reading (State × State)
+path ts = next ts >>= λ token.
+    if is token (codes "F") then until True token.after
+    else if is token (codes "X") || is token (codes "G") then fails token NotYet
+    else state ts >>= λ left. behind (codes "U") left.1 >>= λ after. until left.0 after
+
+-- formula = [ coalition ] bound "[" path "]", and nothing behind it
+
+abbrev pub finished : Tree → Tokens → Result Tree FormulaFault
+finished tree (Finish place) = Ok tree
+finished tree (Broken fault) = Err fault
+finished tree (Then place spelling rest) = Err (fault_at place Unexpected)
+
+abbrev pub behind_bound : Option (List (List ℕ)) → Bound → Tokens → Result Tree FormulaFault
+behind_bound team asks ts = do
+  opened ← behind (codes "[") ts
+  sides ← path opened
+  closing ← behind (codes "]") sides.1
+  finished (record { coalition = team; bound = asks; left = sides.0.0; right = sides.0.1 }) closing
+
+abbrev pub formula : Tokens → Result Tree FormulaFault
+formula ts = do
+  team ← coalition ts
+  asks ← bound team.1
+  behind_bound team.0 asks.0 asks.1
+
+-- The formula that a text spells, or its first fault.
+abbrev pub formula_said : List ℕ → Result Tree FormulaFault
+formula_said text = if nat_lt longest (length text) then Err (fault_at longest TooLong) else formula (tokens_of text)

@@ -1,0 +1,67 @@
+// Formulas as values.
+ghost use Rattle.std.specs.Prelude.{◌≡◌};
+
+use distributions::Frac;
+use game_outside::Name;
+
+/// A property of states: labels and their combinations.
+#[derive(Drop)]
+pub enum StateFormula {
+    All,
+    Nothing,
+    Named(Name),
+    Negated(Box<StateFormula>),
+    Both(Box<StateFormula>, Box<StateFormula>),
+    Either(Box<StateFormula>, Box<StateFormula>),
+    Implied(Box<StateFormula>, Box<StateFormula>),
+}
+
+/// What is asked of the probability: that it keeps a threshold, or its greatest or least value.
+#[derive(Clone, Copy, Debug, PartialEq, Eq)]
+pub enum Bound {
+    AtLeast(Frac),
+    Above(Frac),
+    AtMost(Frac),
+    Below(Frac),
+    AskMax,
+    AskMin,
+}
+
+/// How a probability is compared with a threshold.
+#[derive(Clone, Copy, Debug, PartialEq, Eq)]
+pub enum Comparison {
+    AtLeast,
+    Above,
+    AtMost,
+    Below,
+}
+
+impl Comparison {
+    ghost use Rattle.rpatl_syntax.specs.Bounds.{bound_with};
+
+    pub fn bound(self, threshold: Frac) -> Bound
+        ensures { result ≡ bound_with self threshold }
+    {
+        match self {
+            Comparison::AtLeast => Bound::AtLeast(threshold),
+            Comparison::Above => Bound::Above(threshold),
+            Comparison::AtMost => Bound::AtMost(threshold),
+            Comparison::Below => Bound::Below(threshold),
+        }
+    }
+}
+
+/// The names of the players in a coalition.
+#[derive(Drop)]
+pub struct Names {
+    pub list: Vec<Name>,
+}
+
+/// `left U right`, under a bound, for a coalition of players where one is named. `F right` has `All` on the left.
+#[derive(Drop)]
+pub struct Formula {
+    pub coalition: Option<Names>,
+    pub bound: Bound,
+    pub left: StateFormula,
+    pub right: StateFormula,
+}

@@ -1,0 +1,63 @@
+// The operators of state formulas, from the one that binds weakest.
+ghost use Rattle.std.specs.Prelude.{◌≡◌, MatchResult};
+ghost use Rattle.rpatl_syntax.specs.Fault.{IsOutOfMemory};
+ghost use Rattle.rpatl_syntax.specs.Formula.{state_of, Not};
+ghost use Rattle.rpatl_syntax.specs.Levels.{sign_of, join_of};
+
+use crate::fault::{FormulaCause, FormulaFault};
+use crate::formula::StateFormula;
+use std::alloc::Global;
+
+/// What an operator makes of two state formulas.
+#[derive(Clone, Copy, Debug, PartialEq, Eq)]
+pub enum Level {
+    Implication,
+    Disjunction,
+    Conjunction,
+}
+
+impl Level {
+    pub fn sign(self) -> &'static str
+        ensures { result.now ≡ sign_of self }
+    {
+        match self {
+            Level::Implication => "=>",
+            Level::Disjunction => "|",
+            Level::Conjunction => "&",
+        }
+    }
+
+    pub fn join(
+        self,
+        alloc: Global,
+        left: StateFormula,
+        right: StateFormula,
+    ) -> Result<StateFormula, FormulaFault>
+        ensures { MatchResult result (λ whole. state_of whole ≡ join_of self (state_of left) (state_of right)) IsOutOfMemory }
+    {
+        let left = boxed(alloc, left)?;
+        let right = boxed(alloc, right)?;
+        match self {
+            Level::Implication => Ok(StateFormula::Implied(left, right)),
+            Level::Disjunction => Ok(StateFormula::Either(left, right)),
+            Level::Conjunction => Ok(StateFormula::Both(left, right)),
+        }
+    }
+}
+
+/// What `!` makes of a state formula.
+pub fn negation(alloc: Global, state: StateFormula) -> Result<StateFormula, FormulaFault>
+    ensures { MatchResult result (λ whole. state_of whole ≡ Not (state_of state)) IsOutOfMemory }
+{
+    let state = boxed(alloc, state)?;
+    Ok(StateFormula::Negated(state))
+}
+
+fn boxed(alloc: Global, state: StateFormula) -> Result<Box<StateFormula>, FormulaFault>
+    ensures { MatchResult result (λ place. place.value ≡ state) IsOutOfMemory }
+{
+    match Box::new(alloc, state) {
+        Ok(place) => Ok(place),
+        Err(_) => Err(FormulaFault::new(0, FormulaCause::OutOfMemory)),
+    }
+}

@@ -1,0 +1,169 @@
+// The one spelling of a formula.
+ghost use Rattle.std.specs.Prelude.{◌≡◌, ◌++◌, option_map, OnOk, IfOk, decimal};
+ghost use Rattle.rpatl_syntax.specs.Formula.{state_of, tree_of, names_of};
+ghost use Rattle.rpatl_syntax.specs.Spelling.{strength_of, in_place, state_spelling, path_spelling, names_spelling, coalition_spelling, fraction_spelling, bound_spelling, spelling};
+
+use crate::formula::{Bound, Formula, Names, StateFormula};
+use distributions::Frac;
+use game_outside::{Name, OutOfMemory};
+use itoa::Buffer;
+use std::alloc::Global;
+
+/// The spelling of a formula. What was read from a text and has a spelling of at most 4,096 bytes is read from it again.
+pub fn print_formula(alloc: Global, formula: &Formula) -> Result<Vec<u8>, OutOfMemory>
+    ensures { IfOk result (λ text. text.items ≡ spelling (tree_of formula.now)) }
+{
+    let mut out = Vec::new(alloc);
+    put_coalition(&mut out, &formula.coalition)?;
+    put_bound(&mut out, &formula.bound)?;
+    put(&mut out, " [ ")?;
+    put_path(&mut out, &formula.left, &formula.right)?;
+    put(&mut out, " ]")?;
+    Ok(out)
+}
+
+fn put_coalition(out: &mut Vec<u8>, coalition: &Option<Names>) -> Result<(), OutOfMemory>
+    ensures { OnOk result (out.new.items ≡ out.old.items ++ coalition_spelling (option_map names_of coalition.now)) }
+{
+    match coalition {
+        None => Ok(()),
+        Some(names) => {
+            put(out, "<<")?;
+            put_names(out, &names.list)?;
+            put(out, ">> ")
+        }
+    }
+}
+
+fn put_names(out: &mut Vec<u8>, names: &[Name]) -> Result<(), OutOfMemory>
+    ensures { OnOk result (out.new.items ≡ out.old.items ++ names_spelling names.now) }
+{
+    let mut rest = names;
+    while let Some((name, others)) = rest.split_first() {
+        put_bytes(out, name.as_bytes())?;
+        if !others.is_empty() {
+            put(out, ",")?;
+        }
+        rest = others;
+    }
+    Ok(())
+}
+
+fn put_bound(out: &mut Vec<u8>, bound: &Bound) -> Result<(), OutOfMemory>
+    ensures { OnOk result (out.new.items ≡ out.old.items ++ bound_spelling bound.now) }
+{
+    match bound {
+        Bound::AtLeast(threshold) => put_threshold(out, "P>=", threshold),
+        Bound::Above(threshold) => put_threshold(out, "P>", threshold),
+        Bound::AtMost(threshold) => put_threshold(out, "P<=", threshold),
+        Bound::Below(threshold) => put_threshold(out, "P<", threshold),
+        Bound::AskMax => put(out, "Pmax=?"),
+        Bound::AskMin => put(out, "Pmin=?"),
+    }
+}
+
+fn put_threshold(out: &mut Vec<u8>, sign: &str, threshold: &Frac) -> Result<(), OutOfMemory>
+    ensures { OnOk result (out.new.items ≡ out.old.items ++ (sign.now ++ fraction_spelling threshold.now)) }
+{
+    put(out, sign)?;
+    put_number(out, threshold.num())?;
+    if threshold.den() == 1 {
+        return Ok(());
+    }
+    put(out, "/")?;
+    put_number(out, threshold.den())
+}
+
+fn put_number(out: &mut Vec<u8>, number: u128) -> Result<(), OutOfMemory>
+    ensures { OnOk result (out.new.items ≡ out.old.items ++ decimal number) }
+{
+    let mut digits = Buffer::new();
+    put(out, digits.format(number))
+}
+
+fn put_path(out: &mut Vec<u8>, left: &StateFormula, right: &StateFormula) -> Result<(), OutOfMemory>
+    ensures { OnOk result (out.new.items ≡ out.old.items ++ path_spelling (state_of left.now) (state_spelling (state_of right.now))) }
+{
+    match left {
+        StateFormula::All => put(out, "F ")?,
+        _ => {
+            put_state(out, left)?;
+            put(out, " U ")?;
+        }
+    }
+    put_state(out, right)
+}
+
+#[cycle(printed)]
+fn put_state(out: &mut Vec<u8>, state: &StateFormula) -> Result<(), OutOfMemory>
+    ensures { OnOk result (out.new.items ≡ out.old.items ++ state_spelling (state_of state.now)) }
+{
+    match state {
+        StateFormula::All => put(out, "true"),
+        StateFormula::Nothing => put(out, "false"),
+        StateFormula::Named(name) => {
+            put(out, "\"")?;
+            put_bytes(out, name.as_bytes())?;
+            put(out, "\"")
+        }
+        StateFormula::Negated(x) => {
+            put(out, "!")?;
+            put_operand(out, 3, x)
+        }
+        StateFormula::Both(x, y) => {
+            put_operand(out, 2, x)?;
+            put(out, " & ")?;
+            put_operand(out, 3, y)
+        }
+        StateFormula::Either(x, y) => {
+            put_operand(out, 1, x)?;
+            put(out, " | ")?;
+            put_operand(out, 2, y)
+        }
+        StateFormula::Implied(x, y) => {
+            put_operand(out, 0, x)?;
+            put(out, " => ")?;
+            put_operand(out, 1, y)
+        }
+    }
+}
+
+// A state formula in a place for formulas that bind at least so tightly.
+#[cycle(printed)]
+fn put_operand(out: &mut Vec<u8>, least: u8, state: &StateFormula) -> Result<(), OutOfMemory>
+    ensures { OnOk result (out.new.items ≡ out.old.items ++ in_place least (state_of state.now) (state_spelling (state_of state.now))) }
+{
+    if strength(state) < least {
+        put(out, "(")?;
+        put_state(out, state)?;
+        put(out, ")")
+    } else {
+        put_state(out, state)
+    }
+}
+
+fn strength(state: &StateFormula) -> u8
+    ensures { result ≡ strength_of (state_of state.now) }
+{
+    match state {
+        StateFormula::Implied(_, _) => 0,
+        StateFormula::Either(_, _) => 1,
+        StateFormula::Both(_, _) => 2,
+        _ => 3,
+    }
+}
+
+fn put(out: &mut Vec<u8>, text: &str) -> Result<(), OutOfMemory>
+    ensures { OnOk result (out.new.items ≡ out.old.items ++ text.now) }
+{
+    put_bytes(out, text.as_bytes())
+}
+
+fn put_bytes(out: &mut Vec<u8>, bytes: &[u8]) -> Result<(), OutOfMemory>
+    ensures { OnOk result (out.new.items ≡ out.old.items ++ bytes.now) }
+{
+    match out.extend_from_slice(bytes) {
+        Ok(()) => Ok(()),
+        Err(_) => Err(OutOfMemory {}),
+    }
+}
