@@ -5,7 +5,7 @@ ghost use Rattle.game_model.specs.Query.{states};
 ghost use Rattle.game_model.specs.Limits.{unit};
 ghost use Rattle.bracket_engine.specs.Sweep.{Sweeps, Runs, raised_table};
 
-use fixed_bellman::down_state;
+use fixed_bellman::raised_state;
 use game_model::Question;
 
 /// Sweeps until a round raises nothing, at most this many times. The number of rounds, and whether the
@@ -49,11 +49,11 @@ fn raise(question: &Question, table: &mut [u64], state: u32) -> bool
     ensures raised { table.new ≡ raised_table question.now table.old state }
     ensures quiet { result ≡ false → table.new ≡ table.old }
 {
-    let (value, _) = down_state(question, state, table);
-    if value > table[state as usize] {
-        table[state as usize] = value;
-        true
-    } else {
-        false
+    match raised_state(question, state, table) {
+        Some((value, _)) => {
+            table[state as usize] = value;
+            true
+        }
+        None => false,
     }
 }

@@ -1,12 +1,11 @@
 -- Rounded steps keep the order of tables, and rise.
-use Rattle.std.proofs.Common.{ℕ, zero, suc, ◌*◌, ◌/◌, ◌<◌, ◌≤◌, Bool, true, false, List, [], ◌∷◌, length, fold, get_or, arith}
+use Rattle.std.proofs.Common.{ℕ, zero, suc, ◌*◌, ◌/◌, ◌<◌, ◌≤◌, Bool, true, false, List, length, arith}
 use Rattle.std.specs.Bool.{if◌then◌else◌}
-use Rattle.std.proofs.Math.Nat.{le-div_iff_mul-le, le-max_left, le-max_right, min-le_left, min-le_right}
+use Rattle.std.proofs.Math.Nat.{le-div_iff_mul-le}
 use Rattle.game_model.specs.declared.game.Edge.{Edge}
-use Rattle.game_model.specs.declared.game.Side.TheVariants.{Max, Min}
 use Rattle.game_model.specs.Game.{Distribution, choices_of}
 use Rattle.game_model.specs.Query.{Query, is_goal}
-use Rattle.game_model.specs.Values.{better, optimum, weighted_sum}
+use Rattle.game_model.specs.Values.{weighted_sum}
 use Rattle.game_model.specs.Limits.{unit}
 use Rattle.game_model.specs.Rounded.{down_value, down_step, down_steps, opening, IsBelow, IsSettled}
 use Rattle.game_model.proofs.Each.{AllByRecursion-weaker}
@@ -48,33 +47,3 @@ unfolding down_steps
 down_steps-settled q table chosen opens settled zero = opens
 down_steps-settled q table chosen opens settled (suc r) = λ s inside.
     omega (arith, down_step-le q (down_steps q r) table chosen (down_steps-settled q table chosen opens settled r) s, settled s inside)
-
-fold-start : {X : Type 0} (f : X → ℕ) (x : ℕ) (xs : List X) → x ≤ fold (λ best y. better Max best (f y)) x xs
-fold-start f x [] = omega arith
-fold-start f x (y ∷ ys) = omega (arith, fold-start f (better Max x (f y)) ys, le-max_left x (f y))
-
-fold-each : {X : Type 0} (f : X → ℕ) (x : ℕ) (xs : List X) (i : ℕ) (d : X) → i < length xs → f (get_or xs i d) ≤ fold (λ best y. better Max best (f y)) x xs
-fold-each f x [] i d l = absurd (omega arith)
-fold-each f x (y ∷ ys) zero d l = omega (arith, fold-start f (better Max x (f y)) ys, le-max_right x (f y))
-fold-each f x (y ∷ ys) (suc i) d l = fold-each f (better Max x (f y)) ys i d (omega arith)
-
--- each value is at most the greatest
-pub optimum-each : {X : Type 0} (f : X → ℕ) (xs : List X) (i : ℕ) (d : X) → i < length xs → f (get_or xs i d) ≤ optimum Max f xs
-optimum-each f [] i d l = absurd (omega arith)
-optimum-each f (x ∷ xs) zero d l = fold-start f (f x) xs
-optimum-each f (x ∷ xs) (suc i) d l = fold-each f (f x) xs i d (omega arith)
-
-fold-below-start : {X : Type 0} (f : X → ℕ) (x : ℕ) (xs : List X) → fold (λ best y. better Min best (f y)) x xs ≤ x
-fold-below-start f x [] = omega arith
-fold-below-start f x (y ∷ ys) = omega (arith, fold-below-start f (better Min x (f y)) ys, min-le_left x (f y))
-
-fold-below-each : {X : Type 0} (f : X → ℕ) (x : ℕ) (xs : List X) (i : ℕ) (d : X) → i < length xs → fold (λ best y. better Min best (f y)) x xs ≤ f (get_or xs i d)
-fold-below-each f x [] i d l = absurd (omega arith)
-fold-below-each f x (y ∷ ys) zero d l = omega (arith, fold-below-start f (better Min x (f y)) ys, min-le_right x (f y))
-fold-below-each f x (y ∷ ys) (suc i) d l = fold-below-each f (better Min x (f y)) ys i d (omega arith)
-
--- the least is at most each value
-pub optimum-below : {X : Type 0} (f : X → ℕ) (xs : List X) (i : ℕ) (d : X) → i < length xs → optimum Min f xs ≤ f (get_or xs i d)
-optimum-below f [] i d l = absurd (omega arith)
-optimum-below f (x ∷ xs) zero d l = fold-below-start f (f x) xs
-optimum-below f (x ∷ xs) (suc i) d l = fold-below-each f (f x) xs i d (omega arith)

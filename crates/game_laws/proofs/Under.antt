@@ -11,7 +11,7 @@ use Rattle.game_model.specs.Plans.{numerator_under, planned, planned_place, same
 use Rattle.game_model.proofs.Each.{AllByRecursion-always, AllByRecursion-one}
 use Rattle.game_model.proofs.Best.{weighted_sum-le, optimum-most}
 use Rattle.game_model.proofs.Rises.{bellman-le, scaled-le}
-use Rattle.game_laws.proofs.Steps.{optimum-each}
+use Rattle.game_model.proofs.Best.{optimum-each}
 
 -- one choice alone has at most the greatest value
 one-most : (f : Distribution → ℕ) (xs : List Distribution) (i : ℕ) → optimum Max f (take 1 (drop i xs)) ≤ optimum Max f xs

@@ -15,7 +15,7 @@ use Rattle.game_model.proofs.Choices.{IsChoiceOf, AreChoicesOf, AreChoicesOf-cho
 use Rattle.game_laws.proofs.Positive.{optimum-positive, marked-at-least, scaled-pos}
 use Rattle.std.proofs.Math.Nat.{one-le-pow}
 use Rattle.game_model.proofs.Best.{optimum-most, weighted_sum-most}
-use Rattle.game_laws.proofs.Steps.{optimum-below, optimum-each}
+use Rattle.game_model.proofs.Best.{optimum-below, optimum-each}
 
 -- all edges of a choice lead to marked states
 abbrev pub LeadsInside : List Bool → Distribution → Type 0

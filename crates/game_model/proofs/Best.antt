@@ -109,3 +109,33 @@ weighted_sum-affine u x y a b d c [] h = omega arith
 weighted_sum-affine u x y a b d c (e ∷ es) h =
     rw (sum_by-cons (λ (f : Edge). f.weight * u f.to) e es, sum_by-cons (λ (f : Edge). f.weight * x f.to) e es, sum_by-cons (λ (f : Edge). f.weight * y f.to) e es, sum_by-cons (λ (f : Edge). f.weight) e es)
     (omega (arith, weighted_sum-affine u x y a b d c es h.1, mul-le-mul_left e.weight h.0))
+
+fold-start : {X : Type 0} (f : X → ℕ) (x : ℕ) (xs : List X) → x ≤ fold (λ best y. better Max best (f y)) x xs
+fold-start f x [] = omega arith
+fold-start f x (y ∷ ys) = omega (arith, fold-start f (better Max x (f y)) ys, le-max_left x (f y))
+
+fold-each : {X : Type 0} (f : X → ℕ) (x : ℕ) (xs : List X) (i : ℕ) (d : X) → i < length xs → f (get_or xs i d) ≤ fold (λ best y. better Max best (f y)) x xs
+fold-each f x [] i d l = absurd (omega arith)
+fold-each f x (y ∷ ys) zero d l = omega (arith, fold-start f (better Max x (f y)) ys, le-max_right x (f y))
+fold-each f x (y ∷ ys) (suc i) d l = fold-each f (better Max x (f y)) ys i d (omega arith)
+
+-- each value is at most the greatest
+pub optimum-each : {X : Type 0} (f : X → ℕ) (xs : List X) (i : ℕ) (d : X) → i < length xs → f (get_or xs i d) ≤ optimum Max f xs
+optimum-each f [] i d l = absurd (omega arith)
+optimum-each f (x ∷ xs) zero d l = fold-start f (f x) xs
+optimum-each f (x ∷ xs) (suc i) d l = fold-each f (f x) xs i d (omega arith)
+
+fold-below-start : {X : Type 0} (f : X → ℕ) (x : ℕ) (xs : List X) → fold (λ best y. better Min best (f y)) x xs ≤ x
+fold-below-start f x [] = omega arith
+fold-below-start f x (y ∷ ys) = omega (arith, fold-below-start f (better Min x (f y)) ys, min-le_left x (f y))
+
+fold-below-each : {X : Type 0} (f : X → ℕ) (x : ℕ) (xs : List X) (i : ℕ) (d : X) → i < length xs → fold (λ best y. better Min best (f y)) x xs ≤ f (get_or xs i d)
+fold-below-each f x [] i d l = absurd (omega arith)
+fold-below-each f x (y ∷ ys) zero d l = omega (arith, fold-below-start f (better Min x (f y)) ys, min-le_right x (f y))
+fold-below-each f x (y ∷ ys) (suc i) d l = fold-below-each f (better Min x (f y)) ys i d (omega arith)
+
+-- the least is at most each value
+pub optimum-below : {X : Type 0} (f : X → ℕ) (xs : List X) (i : ℕ) (d : X) → i < length xs → optimum Min f xs ≤ f (get_or xs i d)
+optimum-below f [] i d l = absurd (omega arith)
+optimum-below f (x ∷ xs) zero d l = fold-below-start f (f x) xs
+optimum-below f (x ∷ xs) (suc i) d l = fold-below-each f (f x) xs i d (omega arith)

@@ -195,6 +195,15 @@ impl Game {
         self.choice(state, choice).edges.len() as u32
     }
 
+    /// The edges of a choice, by rising successor.
+    pub fn edges(&self, state: u32, choice: u32) -> &[Edge]
+        requires state { state < length self.now }
+        requires choice { choice < length (choices_of self.now state) }
+        ensures { result.now ≡ (choice_of self.now state choice).edges }
+    {
+        &self.choice(state, choice).edges
+    }
+
     /// An edge of a choice. The successors rise with the place.
     pub fn edge(&self, state: u32, choice: u32, place: u32) -> Edge
         requires state { state < length self.now }
