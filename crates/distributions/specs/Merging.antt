@@ -1,0 +1,13 @@
+-- Neighbouring edges to one destination added up.
+use Rattle.std.specs.Prelude.{ℕ, ◌+◌, ◌==◌, List, [], ◌∷◌, if◌then◌else◌}
+use Rattle.game_model.specs.declared.game.Edge.{Edge}
+use Rattle.distributions.specs.Parts.{keep_edge}
+
+-- an edge with more weight
+abbrev pub heavier : Edge → ℕ → Edge
+heavier sum weight = record { to = sum.to; weight = sum.weight + weight }
+
+-- the sum of the edges to one destination so far, and the edges that follow
+abbrev pub merged_from : Edge → List Edge → List Edge
+merged_from sum [] = keep_edge sum.to sum.weight []
+merged_from sum (e ∷ edges) = if e.to == sum.to then merged_from (heavier sum e.weight) edges else keep_edge sum.to sum.weight (merged_from e edges)
