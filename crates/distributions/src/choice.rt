@@ -40,6 +40,7 @@ fn known_of_all(parts: &[Part])
     }
 }
 
+#[tactic(auto, using(crate::proofs::Multiples::lcm_some))]
 // The least common multiple of the denominators.
 fn common_denominator(parts: &[Part]) -> Result<u128, ChoiceFault>
     ensures value { result ≡ denominator_said 1 parts.now }
@@ -62,6 +63,7 @@ fn common_denominator(parts: &[Part]) -> Result<u128, ChoiceFault>
     Ok(common)
 }
 
+#[tactic(auto, using(crate::proofs::Multiples::share_weight, crate::proofs::Multiples::share_small))]
 // The destination of a part, and its weight.
 fn edge_of(common: u128, part: &Part) -> Edge
     requires divided { part.now.share.den ∣ common }
@@ -110,6 +112,7 @@ fn choice_of_edges(common: u128, edges: Vec<Edge>) -> Result<Choice, ChoiceFault
 
 fn choice_of_parts(alloc: Global, parts: &[Part]) -> Result<Choice, ChoiceFault>
     requires few { length parts.now ≤ most_parts }
+    requires known { All (λ part. IsFraction part.share) parts.now }
     ensures { Gives (λ c. c) result (choice_said parts.now) }
 {
     let common = match common_denominator(parts) {

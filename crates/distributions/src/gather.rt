@@ -1,19 +1,17 @@
 //! Edges by rising destination, those to one destination added up.
 
 ghost use Rattle.std.specs.Prelude.{◌≡◌, ◌<◌, ◌≤◌, ◌+◌, ◌^◌, ◌++◌, ◌∷◌, [], ℕ, List, All, OnOk, IfOk, IsTrue};
-ghost use Rattle.std.specs.List.Sorted.{IsNonDecreasingBy};
 ghost use Rattle.game_model.specs.declared.game.Edge.{Edge};
 ghost use Rattle.game_model.specs.Game.{IsRising, no_edge};
 ghost use Rattle.distributions.specs.Parts.{gathered, keep_edge, total_of, weight_to};
-ghost use Rattle.distributions.specs.Merging.{merged_from};
+ghost use Rattle.distributions.specs.Merging.{merged_from, StandFrom, RiseFrom};
 
 use game_model::Edge;
 use std::alloc::{AllocError, Global};
 
 // The edges stand by rising destination, and none has weight 0.
 fn is_gathered(edges: &[Edge]) -> bool
-    ensures rising { IsTrue result → IsRising edges.now }
-    ensures weighty { IsTrue result → All (λ e. 1 ≤ e.weight) edges.now }
+    ensures { IsTrue result → RiseFrom 0 edges.now }
 {
     let mut least = 0;
     for edge in edges {
@@ -27,7 +25,7 @@ fn is_gathered(edges: &[Edge]) -> bool
 
 // The edges stand by destination.
 fn is_ordered(edges: &[Edge]) -> bool
-    ensures { IsTrue result → IsNonDecreasingBy (λ e. e.to) edges.now }
+    ensures { IsTrue result → StandFrom 0 edges.now }
 {
     let mut least = 0;
     for edge in edges {
@@ -40,14 +38,15 @@ fn is_ordered(edges: &[Edge]) -> bool
 }
 
 fn ordered(edges: Vec<Edge>) -> Result<Vec<Edge>, AllocError>
-    ensures rising { IfOk result (λ new. IsNonDecreasingBy (λ e. e.to) new.items) }
+    ensures standing { IfOk result (λ new. StandFrom 0 new.items) }
     ensures weights { IfOk result (λ new. (to : ℕ) → weight_to new.items to ≡ weight_to edges.items to) }
     ensures total { IfOk result (λ new. total_of new.items ≡ total_of edges.items) }
 {
-    let mut edges = edges;
-    if !is_ordered(&edges) {
-        edges.sort_by_key(|edge| edge.to)?;
+    if is_ordered(&edges) {
+        return Ok(edges);
     }
+    let mut edges = edges;
+    edges.sort_by_key(|edge| edge.to)?;
     Ok(edges)
 }
 
@@ -102,6 +101,7 @@ pub fn gather(alloc: Global, edges: Vec<Edge>) -> Result<Vec<Edge>, AllocError>
     if is_gathered(&edges) {
         return Ok(edges);
     }
-    let edges = ordered(edges)?;
-    merge(alloc, &edges)
+    let standing = ordered(edges)?;
+    let merged = merge(alloc, &standing)?;
+    Ok(merged)
 }
