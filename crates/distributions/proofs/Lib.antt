@@ -5,3 +5,6 @@ pub mod Spelled
 pub mod Terms
 pub mod Grammar
 pub mod Said
+pub mod Gathering
+pub mod Multiples
+pub mod Chosen

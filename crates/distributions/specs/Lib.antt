@@ -4,3 +4,4 @@ pub mod Fraction
 pub mod Number
 pub mod Written
 pub mod Parts
+pub mod Merging

@@ -6,6 +6,7 @@
 mod choice;
 mod divisors;
 mod fraction;
+mod gather;
 pub mod laws;
 mod limits;
 mod lowest;
