@@ -13,7 +13,8 @@ use Rattle.tra_reader.specs.declared.fault.TraCause.TheVariants.{OutOfMemory, Li
 use Rattle.tra_reader.specs.declared.fault.TraFault.{TraFault}
 use Rattle.tra_reader.specs.Faults.{fault_at, fault_of_all}
 use Rattle.tra_reader.specs.Lines.{Row, line_said}
-use Rattle.tra_reader.specs.Choices.{choice_end, least_missing, first_gap, unless_gap}
+use Rattle.tra_reader.specs.Choices.{choice_end, least_missing, first_gap, unless_gap, sum_of_first}
+use Rattle.tra_reader.specs.declared.groups.Counts.{Counts}
 use Rattle.tra_reader.specs.Text.{transitions}
 use Rattle.tra_reader.specs.Order.{place_of, transition_place, has, IsWithin, IsLeft}
 
@@ -74,3 +75,29 @@ transitions_read (Err fault) = Err fault
 abbrev pub Ends : List Transition → Header → Result (Vec Transition Global) TraFault → Type 0
 Ends read header (Ok v) = (v.items ≡ read) × (nat_lt (length read) header.lines ≡ false)
 Ends read header (Err fault) = (fault ≡ fault_of_all (LineCount (length read) header.lines)) × (nat_lt (length read) header.lines ≡ true)
+
+-- the state has this many choices without a gap, and this is left behind them
+pub record HasCount (transitions : List Transition) (s count : ℕ) (rest : List Transition) : Type 0 where
+  pub ends : choice_end transitions s ≡ count
+  pub full : least_missing transitions s (choice_end transitions s) ≡ None
+  pub left : IsLeft (place_of (s + 1) 0) transitions rest
+  pub room : count + length rest ≤ length transitions
+
+abbrev pub CountAnswer : List Transition → ℕ → Result (ℕ × Bor (List Transition)) ℕ → Type 0
+CountAnswer transitions s (Ok (count, rest)) = HasCount transitions s count rest.now
+CountAnswer transitions s (Err choice) = least_missing transitions s (choice_end transitions s) ≡ Some choice
+
+-- these are the numbers of choices of the states from the first on
+abbrev pub AreCounts : List Transition → List ℕ → Type 0
+AreCounts transitions counts = (s : ℕ) → s < length counts → slice_index counts s ≡ choice_end transitions s
+
+-- no state has a gap, and these are the numbers of choices
+pub record HasCounts (transitions : List Transition) (n : ℕ) (found : Counts) : Type 0 where
+  pub full : first_gap transitions n ≡ None
+  pub states : length found.of_state.items ≡ n
+  pub counts : AreCounts transitions found.of_state.items
+  pub total : found.total ≡ sum_of_first (choice_end transitions) n
+
+abbrev pub CountsAnswer : List Transition → ℕ → Result Counts TraCause → Type 0
+CountsAnswer transitions n (Ok counts) = HasCounts transitions n counts
+CountsAnswer transitions n (Err cause) = (cause ≡ OutOfMemory) ⊎ ((game : Result (List (List Distribution)) TraFault) → unless_gap (first_gap transitions n) game ≡ Err (fault_of_all cause))

@@ -6,9 +6,11 @@
 mod actions;
 mod body;
 mod fault;
+mod groups;
 mod header;
 mod limits;
 mod line;
+mod order;
 mod reader;
 
 pub use fault::{TraCause, TraFault};
