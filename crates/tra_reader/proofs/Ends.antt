@@ -78,7 +78,7 @@ end_last (t ∷ ts) s k e = elim (bool_cases (t.source == s)) [
       ]
 ]
 
-empty_not_some : (ts : List Transition) → ts ≡ [] → 0 < length ts → ⊥
+pub empty_not_some : (ts : List Transition) → ts ≡ [] → 0 < length ts → ⊥
 empty_not_some ts e h = omega (arith, ap (λ (us : List Transition). length us) e, h)
 
 -- the end, from the transitions of each choice

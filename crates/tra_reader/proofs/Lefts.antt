@@ -89,7 +89,7 @@ head_is (y ∷ others) x e = (others, cc)
 higher_choice : (s c i k : ℕ) → s ≡ i → 4000000 * i + k ≤ 4000000 * s + c → ((4000000 * s + c) == (4000000 * i + k)) ≡ false → k < c
 higher_choice s c i k same le other = grind (arith, nat_tests)
 
-cons_some : (t : Transition) (ts : List Transition) → 0 < length (t ∷ ts)
+pub cons_some : (t : Transition) (ts : List Transition) → 0 < length (t ∷ ts)
 cons_some t ts = omega arith
 
 -- a missing choice before one that is there

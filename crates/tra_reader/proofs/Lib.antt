@@ -7,3 +7,6 @@ pub mod Sorting
 pub mod Ends
 pub mod Lefts
 pub mod Counts
+pub mod Inside
+pub mod Makes
+pub mod Alike

@@ -12,8 +12,9 @@ use Rattle.tra_reader.specs.declared.fault.TraCause.{TraCause}
 use Rattle.tra_reader.specs.declared.fault.TraCause.TheVariants.{OutOfMemory, LineCount}
 use Rattle.tra_reader.specs.declared.fault.TraFault.{TraFault}
 use Rattle.tra_reader.specs.Faults.{fault_at, fault_of_all}
+use Rattle.tra_reader.specs.Limits.{most_choices}
 use Rattle.tra_reader.specs.Lines.{Row, line_said}
-use Rattle.tra_reader.specs.Choices.{choice_end, least_missing, first_gap, unless_gap, sum_of_first}
+use Rattle.tra_reader.specs.Choices.{choice_end, least_missing, first_gap, unless_gap, sum_of_first, choices_said, state_said}
 use Rattle.tra_reader.specs.declared.groups.Counts.{Counts}
 use Rattle.tra_reader.specs.Text.{transitions}
 use Rattle.tra_reader.specs.Order.{place_of, transition_place, has, IsWithin, IsLeft}
@@ -101,3 +102,37 @@ pub record HasCounts (transitions : List Transition) (n : ℕ) (found : Counts) 
 abbrev pub CountsAnswer : List Transition → ℕ → Result Counts TraCause → Type 0
 CountsAnswer transitions n (Ok counts) = HasCounts transitions n counts
 CountsAnswer transitions n (Err cause) = (cause ≡ OutOfMemory) ⊎ ((game : Result (List (List Distribution)) TraFault) → unless_gap (first_gap transitions n) game ≡ Err (fault_of_all cause))
+
+-- each edge leads to one of n states
+abbrev pub LeadsInside : ℕ → Distribution → Type 0
+LeadsInside n distribution = All (λ e. e.to < n) distribution.edges
+
+-- the first choices of a state, and what is left behind them
+pub record AreFirst (transitions : List Transition) (s count : ℕ) (choices : List Distribution) (rest : List Transition) : Type 0 where
+  pub said : choices_said transitions s count ≡ Ok choices
+  pub left : IsLeft (place_of s count) transitions rest
+  pub inside : (n : ℕ) → All (IsWithin n) transitions → All (LeadsInside n) choices
+  pub as_many : length choices ≡ count
+
+abbrev pub ChoicesAnswer : List Transition → ℕ → ℕ → Result (Vec Choice Global × Bor (List Transition)) TraFault → Type 0
+ChoicesAnswer transitions s count (Ok (choices, rest)) = AreFirst transitions s count choices.items rest.now
+ChoicesAnswer transitions s count (Err fault) = (fault ≡ fault_of_all OutOfMemory) ⊎ (choices_said transitions s count ≡ Err fault)
+
+-- the choices of a state, and what is left behind them
+pub record AreOfState (transitions : List Transition) (s : ℕ) (choices : List Distribution) (rest : List Transition) : Type 0 where
+  pub said : state_said transitions s ≡ Ok choices
+  pub left : IsLeft (place_of (s + 1) 0) transitions rest
+  pub inside : (n : ℕ) → s < n → All (IsWithin n) transitions → All (LeadsInside n) choices
+  pub some : 0 < length choices
+  pub few : length choices ≤ most_choices
+
+abbrev pub StateAnswer : List Transition → ℕ → Result (Vec Choice Global × Bor (List Transition)) TraFault → Type 0
+StateAnswer transitions s (Ok (choices, rest)) = AreOfState transitions s choices.items rest.now
+StateAnswer transitions s (Err fault) = (fault ≡ fault_of_all OutOfMemory) ⊎ (state_said transitions s ≡ Err fault)
+
+-- the choices of the first states, as a game wants them
+pub record AreOfStates (transitions : List Transition) (count : ℕ) (all : List (Vec Choice Global)) : Type 0 where
+  pub as_many : length all ≡ count
+  pub some : All (λ choices. 0 < length choices.items) all
+  pub few : All (λ choices. length choices.items ≤ most_choices) all
+  pub inside : (n : ℕ) → count ≤ n → All (IsWithin n) transitions → All (λ choices. All (LeadsInside n) choices.items) all

@@ -5,6 +5,7 @@
 
 mod actions;
 mod body;
+mod choices;
 mod fault;
 mod groups;
 mod header;
