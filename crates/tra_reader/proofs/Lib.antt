@@ -10,3 +10,4 @@ pub mod Counts
 pub mod Inside
 pub mod Makes
 pub mod Alike
+pub mod Sorted

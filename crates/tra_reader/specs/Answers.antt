@@ -9,15 +9,22 @@ use Rattle.text_lines.specs.Text.{fields_of}
 use Rattle.tra_reader.specs.declared.header.Header.{Header}
 use Rattle.tra_reader.specs.declared.line.Transition.{Transition}
 use Rattle.tra_reader.specs.declared.fault.TraCause.{TraCause}
-use Rattle.tra_reader.specs.declared.fault.TraCause.TheVariants.{OutOfMemory, LineCount}
+use Rattle.tra_reader.specs.declared.fault.TraCause.TheVariants.{OutOfMemory, LineCount, ChoiceCount}
 use Rattle.tra_reader.specs.declared.fault.TraFault.{TraFault}
 use Rattle.tra_reader.specs.Faults.{fault_at, fault_of_all}
-use Rattle.tra_reader.specs.Limits.{most_choices}
+use Rattle.game_model.specs.Limits.{most_states}
+use Rattle.tra_reader.specs.Limits.{most_choices, most_lines}
 use Rattle.tra_reader.specs.Lines.{Row, line_said}
-use Rattle.tra_reader.specs.Choices.{choice_end, least_missing, first_gap, unless_gap, sum_of_first, choices_said, state_said}
+use Rattle.tra_reader.specs.Choices.{choice_end, least_missing, first_gap, unless_gap, sum_of_first, choices_said, state_said, if_as_stated}
 use Rattle.tra_reader.specs.declared.groups.Counts.{Counts}
 use Rattle.tra_reader.specs.Text.{transitions}
 use Rattle.tra_reader.specs.Order.{place_of, transition_place, has, IsWithin, IsLeft}
+
+-- what every header keeps that is read
+pub record IsAccepted (header : Header) : Type 0 where
+  pub some : 0 < header.states
+  pub few : header.states ≤ most_states
+  pub short : header.lines ≤ most_lines
 
 -- the answer is the row that is said, or its fault
 abbrev pub SaysRow : Result (Transition × Bor (List ℕ)) TraCause → Result Row TraCause → Type 0
@@ -136,3 +143,8 @@ pub record AreOfStates (transitions : List Transition) (count : ℕ) (all : List
   pub some : All (λ choices. 0 < length choices.items) all
   pub few : All (λ choices. length choices.items ≤ most_choices) all
   pub inside : (n : ℕ) → count ≤ n → All (IsWithin n) transitions → All (λ choices. All (LeadsInside n) choices.items) all
+
+-- whether the choices are as many as stated: the number stated where they are not
+abbrev pub CountStated : Option ℕ → ℕ → Option ℕ → Type 0
+CountStated stated read None = (game : Result (List (List Distribution)) TraFault) → if_as_stated stated read game ≡ game
+CountStated stated read (Some other) = (game : Result (List (List Distribution)) TraFault) → if_as_stated stated read game ≡ Err (fault_of_all (ChoiceCount read other))
