@@ -2,3 +2,12 @@ pub mod Tests
 pub mod Noting
 pub mod Rows
 pub mod Steps
+pub mod Runs
+pub mod Sorting
+pub mod Ends
+pub mod Lefts
+pub mod Counts
+pub mod Inside
+pub mod Makes
+pub mod Alike
+pub mod Sorted

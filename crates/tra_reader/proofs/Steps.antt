@@ -4,8 +4,8 @@ use Rattle.text_lines.specs.Text.{lines_of, fields_of, is_nil, significant, keep
 use Rattle.tra_reader.specs.declared.header.Header.{Header}
 use Rattle.tra_reader.specs.declared.line.Transition.{Transition}
 use Rattle.tra_reader.specs.declared.fault.TraCause.{TraCause}
-use Rattle.tra_reader.specs.Lines.{Row, line_said, behind, rows_said}
-use Rattle.tra_reader.specs.Text.{transitions}
+use Rattle.tra_reader.specs.Lines.{Row, header_said, line_said, behind, rows_said}
+use Rattle.tra_reader.specs.Text.{transitions, lines_game, behind_header}
 
 keep_some : (line : List ℕ) (lines : List (List ℕ)) → is_nil (fields_of line) ≡ false → keep_line line lines ≡ line ∷ lines
 keep_some line [] some = ap (λ b. cond b [] (line ∷ [])) some
@@ -29,3 +29,12 @@ step header number before row text line after e said =
 pub transitions_push : (before : List Row) (row : Row) → transitions (before ++ row ∷ []) ≡ transitions before ++ row.transition ∷ []
 transitions_push [] row = refl
 transitions_push (b ∷ before) row = ap (λ ts. b.transition ∷ ts) (transitions_push before row)
+
+-- the text behind its first line
+pub behind_first : (text line rest : List ℕ) → lines_of text ≡ line ∷ lines_of rest → lines_game (significant (lines_of text)) ≡ behind_header (header_said (fields_of line)) (significant (lines_of rest))
+behind_first text line rest e = ap (λ lines. lines_game (significant lines)) e ∙ by_rest (significant (lines_of rest)) (fields_of line) refl
+  where
+    by_rest : (lines fields : List (List ℕ)) → fields_of line ≡ fields → lines_game (keep_line line lines) ≡ behind_header (header_said (fields_of line)) lines
+    by_rest (next ∷ lines) fields f = refl
+    by_rest [] [] f = ap (λ fs. lines_game (cond (is_nil fs) [] (line ∷ []))) f ∙ sym (ap (λ fs. behind_header (header_said fs) []) f)
+    by_rest [] (field ∷ fields) f = ap (λ fs. lines_game (cond (is_nil fs) [] (line ∷ []))) f

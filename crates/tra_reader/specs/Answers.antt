@@ -9,13 +9,22 @@ use Rattle.text_lines.specs.Text.{fields_of}
 use Rattle.tra_reader.specs.declared.header.Header.{Header}
 use Rattle.tra_reader.specs.declared.line.Transition.{Transition}
 use Rattle.tra_reader.specs.declared.fault.TraCause.{TraCause}
-use Rattle.tra_reader.specs.declared.fault.TraCause.TheVariants.{OutOfMemory, LineCount}
+use Rattle.tra_reader.specs.declared.fault.TraCause.TheVariants.{OutOfMemory, LineCount, ChoiceCount}
 use Rattle.tra_reader.specs.declared.fault.TraFault.{TraFault}
 use Rattle.tra_reader.specs.Faults.{fault_at, fault_of_all}
+use Rattle.game_model.specs.Limits.{most_states}
+use Rattle.tra_reader.specs.Limits.{most_choices, most_lines}
 use Rattle.tra_reader.specs.Lines.{Row, line_said}
-use Rattle.tra_reader.specs.Choices.{choice_end, least_missing, first_gap, unless_gap}
+use Rattle.tra_reader.specs.Choices.{choice_end, least_missing, first_gap, unless_gap, sum_of_first, choices_said, state_said, if_as_stated}
+use Rattle.tra_reader.specs.declared.groups.Counts.{Counts}
 use Rattle.tra_reader.specs.Text.{transitions}
 use Rattle.tra_reader.specs.Order.{place_of, transition_place, has, IsWithin, IsLeft}
+
+-- what every header keeps that is read
+pub record IsAccepted (header : Header) : Type 0 where
+  pub some : 0 < header.states
+  pub few : header.states ≤ most_states
+  pub short : header.lines ≤ most_lines
 
 -- the answer is the row that is said, or its fault
 abbrev pub SaysRow : Result (Transition × Bor (List ℕ)) TraCause → Result Row TraCause → Type 0
@@ -74,3 +83,68 @@ transitions_read (Err fault) = Err fault
 abbrev pub Ends : List Transition → Header → Result (Vec Transition Global) TraFault → Type 0
 Ends read header (Ok v) = (v.items ≡ read) × (nat_lt (length read) header.lines ≡ false)
 Ends read header (Err fault) = (fault ≡ fault_of_all (LineCount (length read) header.lines)) × (nat_lt (length read) header.lines ≡ true)
+
+-- the state has this many choices without a gap, and this is left behind them
+pub record HasCount (transitions : List Transition) (s count : ℕ) (rest : List Transition) : Type 0 where
+  pub ends : choice_end transitions s ≡ count
+  pub full : least_missing transitions s (choice_end transitions s) ≡ None
+  pub left : IsLeft (place_of (s + 1) 0) transitions rest
+  pub room : count + length rest ≤ length transitions
+
+abbrev pub CountAnswer : List Transition → ℕ → Result (ℕ × Bor (List Transition)) ℕ → Type 0
+CountAnswer transitions s (Ok (count, rest)) = HasCount transitions s count rest.now
+CountAnswer transitions s (Err choice) = least_missing transitions s (choice_end transitions s) ≡ Some choice
+
+-- these are the numbers of choices of the states from the first on
+abbrev pub AreCounts : List Transition → List ℕ → Type 0
+AreCounts transitions counts = (s : ℕ) → s < length counts → slice_index counts s ≡ choice_end transitions s
+
+-- no state has a gap, and these are the numbers of choices
+pub record HasCounts (transitions : List Transition) (n : ℕ) (found : Counts) : Type 0 where
+  pub full : first_gap transitions n ≡ None
+  pub states : length found.of_state.items ≡ n
+  pub counts : AreCounts transitions found.of_state.items
+  pub total : found.total ≡ sum_of_first (choice_end transitions) n
+
+abbrev pub CountsAnswer : List Transition → ℕ → Result Counts TraCause → Type 0
+CountsAnswer transitions n (Ok counts) = HasCounts transitions n counts
+CountsAnswer transitions n (Err cause) = (cause ≡ OutOfMemory) ⊎ ((game : Result (List (List Distribution)) TraFault) → unless_gap (first_gap transitions n) game ≡ Err (fault_of_all cause))
+
+-- each edge leads to one of n states
+abbrev pub LeadsInside : ℕ → Distribution → Type 0
+LeadsInside n distribution = All (λ e. e.to < n) distribution.edges
+
+-- the first choices of a state, and what is left behind them
+pub record AreFirst (transitions : List Transition) (s count : ℕ) (choices : List Distribution) (rest : List Transition) : Type 0 where
+  pub said : choices_said transitions s count ≡ Ok choices
+  pub left : IsLeft (place_of s count) transitions rest
+  pub inside : (n : ℕ) → All (IsWithin n) transitions → All (LeadsInside n) choices
+  pub as_many : length choices ≡ count
+
+abbrev pub ChoicesAnswer : List Transition → ℕ → ℕ → Result (Vec Choice Global × Bor (List Transition)) TraFault → Type 0
+ChoicesAnswer transitions s count (Ok (choices, rest)) = AreFirst transitions s count choices.items rest.now
+ChoicesAnswer transitions s count (Err fault) = (fault ≡ fault_of_all OutOfMemory) ⊎ (choices_said transitions s count ≡ Err fault)
+
+-- the choices of a state, and what is left behind them
+pub record AreOfState (transitions : List Transition) (s : ℕ) (choices : List Distribution) (rest : List Transition) : Type 0 where
+  pub said : state_said transitions s ≡ Ok choices
+  pub left : IsLeft (place_of (s + 1) 0) transitions rest
+  pub inside : (n : ℕ) → s < n → All (IsWithin n) transitions → All (LeadsInside n) choices
+  pub some : 0 < length choices
+  pub few : length choices ≤ most_choices
+
+abbrev pub StateAnswer : List Transition → ℕ → Result (Vec Choice Global × Bor (List Transition)) TraFault → Type 0
+StateAnswer transitions s (Ok (choices, rest)) = AreOfState transitions s choices.items rest.now
+StateAnswer transitions s (Err fault) = (fault ≡ fault_of_all OutOfMemory) ⊎ (state_said transitions s ≡ Err fault)
+
+-- the choices of the first states, as a game wants them
+pub record AreOfStates (transitions : List Transition) (count : ℕ) (all : List (Vec Choice Global)) : Type 0 where
+  pub as_many : length all ≡ count
+  pub some : All (λ choices. 0 < length choices.items) all
+  pub few : All (λ choices. length choices.items ≤ most_choices) all
+  pub inside : (n : ℕ) → count ≤ n → All (IsWithin n) transitions → All (λ choices. All (LeadsInside n) choices.items) all
+
+-- whether the choices are as many as stated: the number stated where they are not
+abbrev pub CountStated : Option ℕ → ℕ → Option ℕ → Type 0
+CountStated stated read None = (game : Result (List (List Distribution)) TraFault) → if_as_stated stated read game ≡ game
+CountStated stated read (Some other) = (game : Result (List (List Distribution)) TraFault) → if_as_stated stated read game ≡ Err (fault_of_all (ChoiceCount read other))

@@ -58,12 +58,26 @@ pub struct TraFault {
 
 impl TraFault {
     ghost use Rattle.std.specs.Prelude.{◌≡◌};
-    ghost use Rattle.tra_reader.specs.Faults.{fault_of_all};
+    ghost use Rattle.tra_reader.specs.Faults.{fault_of_all, fault_of_choice};
 
     /// A fault of the whole text.
     pub fn of_all(cause: TraCause) -> TraFault
         ensures { result ≡ fault_of_all cause }
     {
         TraFault { line: 0, cause }
+    }
+
+    /// The fault of a choice, which is of the whole text too.
+    pub fn of_choice(state: u32, choice: u32, fault: ChoiceFault) -> TraFault
+        ensures { result ≡ fault_of_choice state choice fault }
+    {
+        match fault {
+            ChoiceFault::OutOfMemory => TraFault::of_all(TraCause::OutOfMemory),
+            _ => TraFault::of_all(TraCause::Choice {
+                state,
+                choice,
+                fault,
+            }),
+        }
     }
 }

@@ -1,8 +1,9 @@
 //! The first line of a text.
 
-ghost use Rattle.std.specs.Prelude.{◌≡◌, ◌≤◌, ◌<◌, ℕ, Option, Result, Ok, Err, option_map};
+ghost use Rattle.std.specs.Prelude.{◌≡◌, ◌≤◌, ◌<◌, ℕ, Option, Result, Ok, Err, option_map, IfOk};
 ghost use Rattle.text_lines.specs.Text.{fields_of, number_of, saturated};
 ghost use Rattle.tra_reader.specs.Lines.{header_said, header_checked, mdp_header, dtmc_header};
+ghost use Rattle.tra_reader.specs.Answers.{IsAccepted};
 
 use crate::fault::TraCause;
 use crate::limits::{MOST_CHOICES, MOST_LINES};
@@ -19,7 +20,8 @@ pub struct Header {
 
 /// Reads the header.
 pub fn read_header(line: &[u8]) -> Result<Header, TraCause>
-    ensures { result ≡ header_said (fields_of line.now) }
+    ensures said { result ≡ header_said (fields_of line.now) }
+    ensures accepted { IfOk result IsAccepted }
 {
     let Some((first, rest)) = first_field(line) else {
         return Err(TraCause::NoHeader);
@@ -37,7 +39,8 @@ pub fn read_header(line: &[u8]) -> Result<Header, TraCause>
 }
 
 fn dtmc(states: &[u8], lines: &[u8]) -> Result<Header, TraCause>
-    ensures { result ≡ dtmc_header (number_of states.now) (number_of lines.now) }
+    ensures said { result ≡ dtmc_header (number_of states.now) (number_of lines.now) }
+    ensures accepted { IfOk result IsAccepted }
 {
     let Some(n) = whole(states) else {
         return Err(TraCause::NoHeader);
@@ -49,7 +52,8 @@ fn dtmc(states: &[u8], lines: &[u8]) -> Result<Header, TraCause>
 }
 
 fn mdp(states: &[u8], choices: &[u8], lines: &[u8]) -> Result<Header, TraCause>
-    ensures { result ≡ mdp_header (number_of states.now) (number_of choices.now) (number_of lines.now) }
+    ensures said { result ≡ mdp_header (number_of states.now) (number_of choices.now) (number_of lines.now) }
+    ensures accepted { IfOk result IsAccepted }
 {
     let Some(n) = whole(states) else {
         return Err(TraCause::NoHeader);
@@ -65,7 +69,8 @@ fn mdp(states: &[u8], choices: &[u8], lines: &[u8]) -> Result<Header, TraCause>
 
 // The header with these numbers.
 fn checked(states: u64, choices: Option<u64>, lines: u64) -> Result<Header, TraCause>
-    ensures { (n m : ℕ) (c : Option ℕ) → states ≡ saturated n → choices ≡ option_map saturated c → lines ≡ saturated m → result ≡ header_checked n c m }
+    ensures said { (n m : ℕ) (c : Option ℕ) → states ≡ saturated n → choices ≡ option_map saturated c → lines ≡ saturated m → result ≡ header_checked n c m }
+    ensures accepted { IfOk result IsAccepted }
 {
     if states > u64::from(MOST_STATES) || lines > u64::from(MOST_LINES) {
         return Err(TraCause::OverLimit);

@@ -5,10 +5,13 @@
 
 mod actions;
 mod body;
+mod choices;
 mod fault;
+mod groups;
 mod header;
 mod limits;
 mod line;
+mod order;
 mod reader;
 
 pub use fault::{TraCause, TraFault};
