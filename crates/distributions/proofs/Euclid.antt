@@ -62,10 +62,13 @@ dvd-coprime a b (suc c) h d =
 
 -- a number that has no divisor in common with two others has none with their product
 pub coprime-mul : (n a b : ℕ) → IsGcd n a 1 → IsGcd n b 1 → IsGcd n (a * b) 1
-coprime-mul n a b ha hb =
-    (one-dvd n, one-dvd (a * b), λ d p q.
-        let apart : IsGcd d a 1 = (one-dvd d, one-dvd a, λ e r s. ha.2 e (dvd_trans e r p) s) in
-        hb.2 d p (dvd-coprime d a b apart q))
+coprime-mul n a b ha hb = (
+  one-dvd n,
+  one-dvd (a * b),
+  λ d p q.
+      let apart : IsGcd d a 1 = (one-dvd d, one-dvd a, λ e r s. ha.2 e (dvd_trans e r p) s) in
+      hb.2 d p (dvd-coprime d a b apart q),
+)
 
 pub coprime-one : (n : ℕ) → IsGcd n 1 1
 coprime-one n = (one-dvd n, one-dvd 1, λ d p q. q)
@@ -144,7 +147,7 @@ pub lowest-is : (f g : Fraction) → 1 ≤ f.den → 1 ≤ g.den → IsGcd g.num
 lowest-is f g hf hg is same =
     let low = lowest f in
     let nums = lowest-same low.num low.den g.num g.den (lowest-pos f hf) hg (coprime-div f.num f.den hf) is
-          (crossed f.num f.den low.num low.den g.num g.den hf (lowest-value f hf) same) in
+    (crossed f.num f.den low.num low.den g.num g.den hf (lowest-value f hf) same) in
     let fraction : ℕ → ℕ → Fraction = λ n d. record { num = n; den = d } in
     ap (λ n. fraction n low.den) nums.0 ∙ ap (λ d. fraction g.num d) nums.1
 

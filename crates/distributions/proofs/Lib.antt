@@ -3,3 +3,5 @@ pub mod Powers
 pub mod Wide
 pub mod Spelled
 pub mod Terms
+pub mod Grammar
+pub mod Said

@@ -78,7 +78,7 @@ pub TakenOut-lowest : (digits odd num tens twos fives : ℕ) → TakenOut digits
 TakenOut-lowest digits odd_ num tens twos fives h =
     let whole : digits ≡ num * 5 ^ (tens - fives) * 2 ^ (tens - twos) = h.first ∙ ap (λ n. n * 2 ^ (tens - twos)) h.second in
     let ten : 10 ^ tens ≡ (2 ^ (tens - twos) * 2 ^ twos) * (5 ^ (tens - fives) * 5 ^ fives) =
-          ten_pow tens ∙ ap (λ n. n * 5 ^ tens) (split 2 tens twos h.first_left) ∙ ap (λ n. (2 ^ (tens - twos) * 2 ^ twos) * n) (split 5 tens fives h.second_left) in
+    ten_pow tens ∙ ap (λ n. n * 5 ^ tens) (split 2 tens twos h.first_left) ∙ ap (λ n. (2 ^ (tens - twos) * 2 ^ twos) * n) (split 5 tens fives h.second_left) in
     lowest-is (record { num = digits; den = 10 ^ tens }) (record { num = num; den = 2 ^ twos * 5 ^ fives })
     (pow-pos 10 tens (omega arith)) (powers-some twos fives) (TakenOut-coprime digits odd_ num tens twos fives h)
     (ap (λ n. num * n) ten ∙ product num (2 ^ (tens - twos)) (2 ^ twos) (5 ^ (tens - fives)) (5 ^ fives) ∙ ap (λ n. n * (2 ^ twos * 5 ^ fives)) (sym whole))

@@ -71,9 +71,7 @@ pub fn compare(a: &Frac, b: &Frac) -> Ordering
 {
     let left = wide_product(a.num(), b.den());
     let right = wide_product(b.num(), a.den());
-    left.high
-        .cmp(&right.high)
-        .then(left.low.cmp(&right.low))
+    left.high.cmp(&right.high).then(left.low.cmp(&right.low))
 }
 
 // How often 2^64 goes into a number, and what is left.

@@ -1,10 +1,10 @@
 //! Numbers as texts spell them.
 
-ghost use Rattle.std.specs.Prelude.{◌≡◌, ◌≤◌, ◌<◌, ◌+◌, ◌^◌, ◌++◌, ◌&&◌, not, Ok, IfOk, length, option_map};
+ghost use Rattle.std.specs.Prelude.{◌≡◌, ◌≤◌, ◌<◌, ◌+◌, ◌*◌, ◌^◌, ◌++◌, ◌&&◌, not, true, Some, Ok, IfOk, length, option_map};
 ghost use Rattle.text_lines.specs.Text.{is_nil, all_digits, value_onto};
 ghost use Rattle.distributions.specs.Limits.{most_digits};
 ghost use Rattle.distributions.specs.Fraction.{Fraction};
-ghost use Rattle.distributions.specs.Number.{number_said, Denotes, leading_digits, behind_digits, digits_len, exponent_digits, exponent_of, decimal_of, behind_front, spelling_of, is_long, quotient_of};
+ghost use Rattle.distributions.specs.Number.{number_said, Denotes, leading_digits, behind_digits, digits_len, exponent_digits, exponent_of, decimal_of, behind_front, spelling_of, is_long, quotient_of, spelling_said, Decimal, Quotient};
 ghost use Rattle.distributions.specs.Written.{exponent_in, spelling_in};
 
 use crate::fraction::Frac;
@@ -157,6 +157,74 @@ fn read_spelling(text: &[u8]) -> Option<Written<'_>>
     read_behind(front, rest)
 }
 
+// The number whose digits are those of a number and then these.
+fn digits_onto(before: u128, digits: &[u8]) -> u128
+    requires digits { all_digits digits.now ≡ true }
+    requires small { (before + 1) * 10 ^ length digits.now ≤ 10 ^ most_digits }
+    ensures value { result ≡ value_onto before digits.now }
+    ensures small { result + 1 ≤ (before + 1) * 10 ^ length digits.now }
+{
+    let mut value = before;
+    for b in digits {
+        value = 10 * value + u128::from(b - b'0');
+    }
+    value
+}
+
+#[tactic(auto, using(crate::proofs::Spelled::digits_room, crate::proofs::Spelled::digits_room_behind, crate::proofs::Spelled::power_room, crate::proofs::Spelled::value_append))]
+// The fraction of a decimal.
+fn point_fraction(front: &[u8], back: &[u8], power: Power<'_>) -> Result<Frac, NumberFault>
+    requires front { all_digits front.now ≡ true }
+    requires back { all_digits back.now ≡ true }
+    requires power { all_digits power.digits.now ≡ true }
+    ensures { result ≡ spelling_said (Some (Decimal front.now back.now (exponent_in power.entry))) }
+{
+    if front.len() + back.len() > MOST_DIGITS {
+        return Err(NumberFault::TooManyDigits);
+    }
+    if power.digits.len() > MOST_EXPONENT_DIGITS {
+        return Err(NumberFault::TooManyDigits);
+    }
+    let size = digits_onto(0, power.digits);
+    if size > u128::from(MOST_EXPONENT) {
+        return Err(NumberFault::TooManyDigits);
+    }
+    let digits = digits_onto(digits_onto(0, front), back);
+    let places = back.len() as u32;
+    let size = size as u32;
+    if power.below {
+        decimal(digits, 0, places + size)
+    } else {
+        decimal(digits, size, places)
+    }
+}
+
+#[tactic(auto, using(crate::proofs::Spelled::digits_room))]
+// The fraction of two numbers.
+fn line_fraction(above: &[u8], below: &[u8]) -> Result<Frac, NumberFault>
+    requires above { all_digits above.now ≡ true }
+    requires below { all_digits below.now ≡ true }
+    ensures { result ≡ spelling_said (Some (Quotient above.now below.now)) }
+{
+    if above.len() > MOST_DIGITS {
+        return Err(NumberFault::TooManyDigits);
+    }
+    if below.len() > MOST_DIGITS {
+        return Err(NumberFault::TooManyDigits);
+    }
+    quotient(digits_onto(0, above), digits_onto(0, below))
+}
+
+fn number_in(text: &[u8]) -> Result<Frac, NumberFault>
+    ensures { result ≡ number_said text.now }
+{
+    match read_spelling(text) {
+        None => Err(NumberFault::NotANumber),
+        Some(Written::Point { front, back, power }) => point_fraction(front, back, power),
+        Some(Written::Line { above, below }) => line_fraction(above, below),
+    }
+}
+
 /// The fraction that a text spells.
 pub fn read_number(text: &[u8]) -> Result<Frac, NumberFault>
     // What is read is what the text denotes, or its first fault.
@@ -164,5 +232,5 @@ pub fn read_number(text: &[u8]) -> Result<Frac, NumberFault>
     ensures only { (f : Fraction) → Denotes text.now f → result ≡ Ok f }
     ensures exact { result ≡ number_said text.now }
 {
-    Err(NumberFault::NotANumber)
+    number_in(text)
 }
