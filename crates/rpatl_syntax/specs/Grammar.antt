@@ -11,7 +11,8 @@ use Rattle.rpatl_syntax.specs.declared.formula.Bound.{Bound}
 use Rattle.rpatl_syntax.specs.declared.formula.Bound.TheVariants.{AtLeast, Above, AtMost, Below, AskMax, AskMin}
 use Rattle.rpatl_syntax.specs.Fault.{fault_at, ◌>>=◌}
 use Rattle.rpatl_syntax.specs.Formula.{State, True, False, Label, Not, And, Or, Implies, Tree}
-use Rattle.rpatl_syntax.specs.Tokens.{Tokens, Finish, Broken, Then, Token, tokens_of, count_of, longest, begins_word, is_digit}
+use Rattle.rpatl_syntax.specs.Limits.{longest, most_nested}
+use Rattle.rpatl_syntax.specs.Tokens.{Tokens, Finish, Broken, Then, Token, tokens_of, count_of, begins_word, is_digit}
 
 -- what is read from the left: a value, and the tokens behind it, or the first fault
 abbrev pub Reading : Type 0 → Type 0
@@ -119,9 +120,6 @@ inside_of inside token = if is token (codes "!") then negated (unary inside toke
 abbrev pub nested : ℕ → Token → Result (State × Tokens) FormulaFault
 nested zero token = fails token TooDeep
 nested (suc room) token = inside_of (nested room) token
-
-abbrev pub most_nested : ℕ
-most_nested = 64
 
 abbrev pub state : Reading State
 state = implied (unary (nested most_nested))

@@ -4,5 +4,6 @@ pub mod Fault
 pub mod Formula
 pub mod Grammar
 pub mod Levels
+pub mod Limits
 pub mod Spelling
 pub mod Tokens

@@ -5,10 +5,7 @@ use Rattle.rpatl_syntax.specs.declared.fault.FormulaCause.TheVariants.{End, Unex
 use Rattle.rpatl_syntax.specs.declared.front.Front.{Front}
 use Rattle.rpatl_syntax.specs.declared.front.Front.TheVariants.{Blank, Spelling, Unclosed, Strange}
 use Rattle.rpatl_syntax.specs.Fault.{fault_at}
-
--- the most bytes of a text
-abbrev pub longest : ℕ
-longest = 4096
+use Rattle.rpatl_syntax.specs.Limits.{longest_name}
 
 -- Bytes.
 
@@ -58,7 +55,7 @@ abbrev pub name_from : ℕ → List ℕ → Front
 name_from read [] = Unclosed
 name_from read (b ∷ bytes) =
     if b == 34 then (if read == 0 then Strange else Spelling (read + 2))
-    else (if in_name b && nat_lt read 255 then name_from (read + 1) bytes else Strange)
+    else (if in_name b && nat_lt read longest_name then name_from (read + 1) bytes else Strange)
 
 abbrev pub short_sign : ℕ → Front
 short_sign b = if is_short_sign b then Spelling 1 else Strange

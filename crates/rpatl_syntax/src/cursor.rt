@@ -1,11 +1,8 @@
 // A place in a text.
 ghost use Rattle.std.specs.Prelude.{◌≤◌, ◌+◌, length};
-ghost use Rattle.rpatl_syntax.specs.Tokens.{longest};
+ghost use Rattle.rpatl_syntax.specs.Limits.{longest};
 
-/// The most bytes of a text.
-pub const LONGEST: usize = 4096;
-
-/// What is left of a text, from a place on.
+/// What is left of a text from a place on.
 #[derive(Clone, Copy)]
 pub struct Cursor<'a> {
     pub place: u32,

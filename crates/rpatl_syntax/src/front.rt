@@ -1,7 +1,10 @@
 // What stands at the front of a text.
 ghost use Rattle.std.specs.Prelude.{◌≡◌, ◌≤◌, ◌<◌, ◌+◌, ◌∷◌, length};
 ghost use Rattle.rpatl_syntax.specs.Cursor.{Fits};
+ghost use Rattle.rpatl_syntax.specs.Limits.{longest, longest_name};
 ghost use Rattle.rpatl_syntax.specs.Tokens.{begins_word, in_word, in_number, in_name, is_digit, is_long_sign, is_short_sign, short_sign, word_length, number_length, name_from, sign_from, is_blank, front_from};
+
+use crate::limits::LONGEST_NAME;
 
 /// What stands at the front of a text: a blank byte, a token of so many bytes, a quoted name that doesn't end, or bytes that begin no token.
 #[derive(Clone, Copy, Debug, PartialEq, Eq)]
@@ -14,7 +17,7 @@ pub enum Front {
 
 /// What stands at the front of a text that begins with this byte.
 pub fn front_of(first: u8, rest: &[u8]) -> Front
-    requires { length rest.now ≤ 4096 }
+    requires { length rest.now ≤ longest }
     ensures value { result ≡ front_from first rest.now }
     ensures within { Fits result (length rest.now + 1) }
 {
@@ -99,7 +102,7 @@ fn quoted_name(rest: &[u8]) -> Front
                 Front::Spelling(read + 2)
             };
         }
-        if !(b.is_ascii_graphic() && read < 255) {
+        if !(b.is_ascii_graphic() && read < LONGEST_NAME) {
             return Front::Strange;
         }
         left = after;

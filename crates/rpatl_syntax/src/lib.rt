@@ -6,6 +6,7 @@ mod fault;
 mod formula;
 mod front;
 mod levels;
+mod limits;
 mod print;
 mod read;
 mod states;
@@ -13,5 +14,6 @@ mod tokens;
 
 pub use fault::{FormulaCause, FormulaFault};
 pub use formula::{Bound, Formula, Names, StateFormula};
+pub use limits::{LONGEST, LONGEST_NAME, MOST_NESTED};
 pub use print::print_formula;
 pub use read::read_formula;

@@ -8,9 +8,10 @@ ghost use Rattle.rpatl_syntax.specs.Grammar.{names, coalition, threshold_of, thr
 ghost use Rattle.rpatl_syntax.specs.Tokens.{count_of};
 ghost use Rattle.rpatl_syntax.specs.Cursor.{tokens_at, token_of, state_at, names_at, team_at, bound_at, sides_at};
 
-use crate::cursor::{Cursor, LONGEST};
+use crate::cursor::Cursor;
 use crate::fault::{FormulaCause, FormulaFault};
 use crate::formula::{Bound, Comparison, Formula, Names, StateFormula};
+use crate::limits::LONGEST;
 use crate::states::read_state;
 use crate::tokens::{Lead, Token, behind, behind_if, next_lead, next_token};
 use distributions::{Frac, NumberFault, read_number};

@@ -1,7 +1,7 @@
 // State formulas.
 ghost use Rattle.std.specs.Prelude.{◌≡◌, ◌<◌, ◌≤◌, ◌+◌, MatchResult};
 ghost use Rattle.rpatl_syntax.specs.Fault.{Gives, IsOutOfMemory};
-ghost use Rattle.rpatl_syntax.specs.Grammar.{plain, unary, nested, state, most_nested, is_quoted, unquoted, begins_formula, opens};
+ghost use Rattle.rpatl_syntax.specs.Grammar.{plain, unary, nested, state, is_quoted, unquoted, begins_formula, opens};
 ghost use Rattle.rpatl_syntax.specs.Levels.{level_of, operand_of};
 ghost use Rattle.rpatl_syntax.specs.Tokens.{count_of};
 ghost use Rattle.rpatl_syntax.specs.Cursor.{tokens_at, token_of, state_at, Shortens};
@@ -10,12 +10,10 @@ use crate::cursor::Cursor;
 use crate::fault::{FormulaCause, FormulaFault};
 use crate::formula::StateFormula;
 use crate::levels::{Level, negation};
+use crate::limits::MOST_NESTED;
 use crate::tokens::{Token, behind, behind_if, next_token};
 use game_outside::Name;
 use std::alloc::Global;
-
-/// The most `(` and `!` that may be open at once.
-pub const MOST_NESTED: u32 = 64;
 
 /// A state formula, and what is left behind it.
 pub type Read<'a> = Result<(StateFormula, Cursor<'a>), FormulaFault>;

@@ -1,4 +1,5 @@
 use Rattle.std.proofs.Common.{◌≡◌, ◌≤◌, ◌+◌, length}
+use Rattle.rpatl_syntax.specs.Limits.{longest_name}
 use Rattle.rpatl_syntax.specs.Tokens.{name_from}
 use Rattle.rpatl_syntax.proofs.front.quoted_name.Given as goal
 
@@ -6,7 +7,7 @@ abbrev pub invariant-loop-left : goal.invariant-loop-left
 invariant-loop-left l = record {
   value : name_from l.read l.left ≡ name_from 0 l.rest;
   within : l.read + length l.left ≡ length l.rest;
-  short : l.read ≤ 255;
+  short : l.read ≤ longest_name;
 }
 
 abbrev pub decreases-loop-left : goal.decreases-loop-left

@@ -1,5 +1,6 @@
 use Rattle.std.proofs.Common.{◌≡◌, ◌≤◌, ◌+◌, length}
-use Rattle.rpatl_syntax.specs.Tokens.{tokens_from, longest}
+use Rattle.rpatl_syntax.specs.Limits.{longest}
+use Rattle.rpatl_syntax.specs.Tokens.{tokens_from}
 use Rattle.rpatl_syntax.proofs.tokens.next_lead.Given as goal
 
 abbrev pub invariant-loop-first : goal.invariant-loop-first
