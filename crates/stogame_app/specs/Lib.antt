@@ -3,4 +3,5 @@ pub mod Status
 pub mod Refusals
 pub mod Said
 pub mod Texts
+pub mod Posed
 pub mod Reports

@@ -9,10 +9,15 @@ use Rattle.tra_reader.specs.declared.fault.TraCause.TheVariants as tra
 use Rattle.tra_reader.specs.declared.fault.TraFault.{TraFault}
 use Rattle.label_reader.specs.declared.faults.LabCause.{LabCause}
 use Rattle.label_reader.specs.declared.faults.LabCause.TheVariants as lab
+use Rattle.rpatl_syntax.specs.declared.fault.FormulaCause.{FormulaCause}
+use Rattle.rpatl_syntax.specs.declared.fault.FormulaCause.TheVariants as formula
+use Rattle.rpatl_syntax.specs.declared.fault.FormulaFault.{FormulaFault}
+use Rattle.formula_sets.specs.declared.fault.PoseFault.{PoseFault}
+use Rattle.formula_sets.specs.declared.fault.PoseFault.TheVariants as question
 use Rattle.stogame_app.specs.declared.refusal.Text.{Text}
 use Rattle.stogame_app.specs.declared.refusal.Text.TheVariants.{Tra, Lab, Own}
 use Rattle.stogame_app.specs.declared.refusal.Refusal.{Refusal}
-use Rattle.stogame_app.specs.declared.refusal.Refusal.TheVariants.{OfTra, OfLab, OfOwn, TooLong}
+use Rattle.stogame_app.specs.declared.refusal.Refusal.TheVariants.{OfTra, OfLab, OfOwn, OfFormula, OfQuestion, TooLong}
 
 -- a name and a number behind it
 abbrev pub numbered : List ℕ → ℕ → List ℕ
@@ -67,6 +72,22 @@ lab_text lab.UnknownIndex = codes "UnknownIndex"
 lab_text lab.OverLimit = codes "OverLimit"
 lab_text (lab.TwoOwners state) = numbered (codes "TwoOwners state ") state
 
+abbrev pub formula_text : FormulaCause → List ℕ
+formula_text formula.OutOfMemory = codes "OutOfMemory"
+formula_text formula.Unexpected = codes "Unexpected"
+formula_text formula.End = codes "End"
+formula_text formula.TooDeep = codes "TooDeep"
+formula_text (formula.BadNumber fault) = codes "BadNumber " ++ number_text fault
+formula_text formula.ThresholdOutOfRange = codes "ThresholdOutOfRange"
+formula_text formula.TooLong = codes "TooLong"
+formula_text formula.NotYet = codes "NotYet"
+
+abbrev pub question_text : PoseFault → List ℕ
+question_text question.OutOfMemory = codes "OutOfMemory"
+question_text (question.UnknownLabel name) = codes "UnknownLabel " ++ name
+question_text (question.UnknownPlayer name) = codes "UnknownPlayer " ++ name
+question_text question.NoInit = codes "NoInit"
+
 abbrev pub name_of_text : Text → List ℕ
 name_of_text Tra = codes "tra"
 name_of_text Lab = codes "lab"
@@ -76,10 +97,20 @@ name_of_text Own = codes "own"
 abbrev pub refused_line : Text → ℕ → List ℕ → List ℕ
 refused_line text line cause = codes "refused " ++ (name_of_text text ++ (numbered (codes " line ") line ++ (32 ∷ (cause ++ codes "\n"))))
 
+-- a fault of the formula, with its place
+abbrev pub formula_refused : FormulaFault → List ℕ
+formula_refused fault = codes "refused formula place " ++ (decimal fault.place ++ (32 ∷ (formula_text fault.cause ++ codes "\n")))
+
+-- a fault of the question; a name is printed as its bytes
+abbrev pub question_refused : PoseFault → List ℕ
+question_refused fault = codes "refused question line 0 " ++ (question_text fault ++ codes "\n")
+
 abbrev pub refusal_text : Refusal → List ℕ
 refusal_text (OfTra fault) = refused_line Tra fault.line (tra_text fault.cause)
 refusal_text (OfLab fault) = refused_line Lab fault.line (lab_text fault.cause)
 refusal_text (OfOwn fault) = refused_line Own fault.line (lab_text fault.cause)
+refusal_text (OfFormula fault) = formula_refused fault
+refusal_text (OfQuestion fault) = question_refused fault
 refusal_text (TooLong text) = refused_line text 0 (codes "TooLong")
 
 abbrev pub usage_text : List ℕ

@@ -2,10 +2,11 @@
 
 ghost use Rattle.std.specs.Prelude.{◌≡◌, IfOk};
 ghost use Rattle.std.specs.String.{string_bytes};
-ghost use Rattle.stogame_app.specs.Refusals.{number_text, choice_text, choice_place as choice_place_text, tra_text, lab_text};
+ghost use Rattle.stogame_app.specs.Refusals.{number_text, choice_text, choice_place as choice_place_text, tra_text, lab_text, formula_text};
 
 use distributions::{ChoiceFault, NumberFault};
 use label_reader::LabCause;
+use rpatl_syntax::FormulaCause;
 use std::alloc::{AllocError, Global};
 use tra_reader::TraCause;
 
@@ -100,5 +101,24 @@ pub fn lab_cause(alloc: Global, cause: LabCause) -> Result<String, AllocError>
         LabCause::UnknownIndex => String::from_str(alloc, "UnknownIndex"),
         LabCause::OverLimit => String::from_str(alloc, "OverLimit"),
         LabCause::TwoOwners { state } => format!(in alloc; "TwoOwners state {state}"),
+    }
+}
+
+/// Why a text is no formula.
+pub fn formula_cause(alloc: Global, cause: FormulaCause) -> Result<String, AllocError>
+    ensures { IfOk result (λ said. string_bytes said ≡ formula_text cause) }
+{
+    match cause {
+        FormulaCause::OutOfMemory => String::from_str(alloc, "OutOfMemory"),
+        FormulaCause::Unexpected => String::from_str(alloc, "Unexpected"),
+        FormulaCause::End => String::from_str(alloc, "End"),
+        FormulaCause::TooDeep => String::from_str(alloc, "TooDeep"),
+        FormulaCause::BadNumber(fault) => {
+            let name = number_cause(fault);
+            format!(in alloc; "BadNumber {name}")
+        }
+        FormulaCause::ThresholdOutOfRange => String::from_str(alloc, "ThresholdOutOfRange"),
+        FormulaCause::TooLong => String::from_str(alloc, "TooLong"),
+        FormulaCause::NotYet => String::from_str(alloc, "NotYet"),
     }
 }

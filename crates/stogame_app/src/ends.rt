@@ -43,7 +43,7 @@ pub fn end_with_refusal<K: Sink>(alloc: Global, out: &mut K, refusal: &Refusal) 
     ensures memory { result ≡ Status.OutOfMemory → K.written out.new ≡ K.written out.old }
 {
     match refusal_line(alloc, refusal) {
-        Ok(line) => say(out, line.as_bytes(), Status::ModelRefused),
+        Ok(line) => say(out, &line, Status::ModelRefused),
         Err(_) => Status::OutOfMemory,
     }
 }

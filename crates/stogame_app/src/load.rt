@@ -16,7 +16,7 @@ use text_lines::MOST_BYTES;
 use tra_reader::{TraCause, read_tra};
 
 /// How loading ends that gives nothing.
-#[derive(Debug, Drop)]
+#[derive(Drop)]
 pub enum End {
     OutOfMemory,
     ReadFault,

@@ -1,11 +1,13 @@
 //! Why a run is refused, and the line that says so.
 
-ghost use Rattle.std.specs.Prelude.{◌≡◌, IfOk};
+ghost use Rattle.std.specs.Prelude.{◌≡◌, ◌++◌, IfOk, codes};
 ghost use Rattle.std.specs.String.{string_bytes};
-ghost use Rattle.stogame_app.specs.Refusals.{refusal_text, refused_line, usage_text};
+ghost use Rattle.stogame_app.specs.Refusals.{refusal_text, refused_line, formula_refused, question_refused, usage_text};
 
-use crate::causes::{lab_cause, tra_cause};
+use crate::causes::{formula_cause, lab_cause, tra_cause};
+use formula_sets::PoseFault;
 use label_reader::LabFault;
+use rpatl_syntax::FormulaFault;
 use std::alloc::{AllocError, Global};
 use tra_reader::TraFault;
 
@@ -33,7 +35,7 @@ impl Text {
 }
 
 /// The first fault of what a run was given.
-#[derive(Debug, Drop)]
+#[derive(Drop)]
 pub enum Refusal {
     /// A fault of the transition file.
     OfTra(TraFault),
@@ -41,13 +43,17 @@ pub enum Refusal {
     OfLab(LabFault),
     /// A fault of the owner file.
     OfOwn(LabFault),
+    /// A fault of the formula.
+    OfFormula(FormulaFault),
+    /// The formula poses no question.
+    OfQuestion(PoseFault),
     /// A file has more bytes than are read.
     TooLong(Text),
 }
 
 /// The line that says why a run is refused.
-pub fn refusal_line(alloc: Global, refusal: &Refusal) -> Result<String, AllocError>
-    ensures { IfOk result (λ line. string_bytes line ≡ refusal_text refusal.now) }
+pub fn refusal_line(alloc: Global, refusal: &Refusal) -> Result<Vec<u8>, AllocError>
+    ensures { IfOk result (λ line. line.items ≡ refusal_text refusal.now) }
 {
     match refusal {
         Refusal::OfTra(fault) => {
@@ -62,15 +68,51 @@ pub fn refusal_line(alloc: Global, refusal: &Refusal) -> Result<String, AllocErr
             let cause = lab_cause(alloc, fault.cause)?;
             refused(alloc, Text::Own, fault.line, cause.as_str())
         }
+        Refusal::OfFormula(fault) => formula_line(alloc, fault),
+        Refusal::OfQuestion(fault) => question_line(alloc, fault),
         Refusal::TooLong(text) => refused(alloc, *text, 0, "TooLong"),
     }
 }
 
-fn refused(alloc: Global, text: Text, line: u32, cause: &str) -> Result<String, AllocError>
-    ensures { IfOk result (λ said. string_bytes said ≡ refused_line text line cause.now) }
+// The line of a fault of the formula.
+fn formula_line(alloc: Global, fault: &FormulaFault) -> Result<Vec<u8>, AllocError>
+    ensures { IfOk result (λ line. line.items ≡ formula_refused fault.now) }
+{
+    let place = fault.place;
+    let cause = formula_cause(alloc, fault.cause)?;
+    let line = format!(in alloc; "refused formula place {place} {cause}\n")?;
+    Ok(line.into_bytes())
+}
+
+// The line of a fault of the question. A name is printed as its bytes.
+fn question_line(alloc: Global, fault: &PoseFault) -> Result<Vec<u8>, AllocError>
+    ensures { IfOk result (λ line. line.items ≡ question_refused fault.now) }
+{
+    match fault {
+        PoseFault::OutOfMemory => question_cause(alloc, b"OutOfMemory", b""),
+        PoseFault::UnknownLabel(name) => question_cause(alloc, b"UnknownLabel ", name.as_bytes()),
+        PoseFault::UnknownPlayer(name) => question_cause(alloc, b"UnknownPlayer ", name.as_bytes()),
+        PoseFault::NoInit => question_cause(alloc, b"NoInit", b""),
+    }
+}
+
+fn question_cause(alloc: Global, cause: &[u8], name: &[u8]) -> Result<Vec<u8>, AllocError>
+    ensures { IfOk result (λ line. line.items ≡ codes "refused question line 0 " ++ ((cause.now ++ name.now) ++ codes "\n")) }
+{
+    let mut line = Vec::from_slice(alloc, b"refused question line 0 ")?;
+    line.extend_from_slice(cause)?;
+    line.extend_from_slice(name)?;
+    line.extend_from_slice(b"\n")?;
+    Ok(line)
+}
+
+// The line of a fault of a file.
+fn refused(alloc: Global, text: Text, line: u32, cause: &str) -> Result<Vec<u8>, AllocError>
+    ensures { IfOk result (λ said. said.items ≡ refused_line text line cause.now) }
 {
     let name = text.name();
-    format!(in alloc; "refused {name} line {line} {cause}\n")
+    let said = format!(in alloc; "refused {name} line {line} {cause}\n")?;
+    Ok(said.into_bytes())
 }
 
 /// The line that says what words are taken.

@@ -1,0 +1,66 @@
+-- The question that the words and the held texts pose, or their first refusal.
+use Rattle.std.specs.Prelude.{ℕ, Bool, true, false, List, length, if◌then◌else◌}
+use Rattle.game_outside.specs.Outside.{Holding}
+use Rattle.game_model.specs.Game.{Distribution}
+use Rattle.label_reader.specs.Labels.{Labelling}
+use Rattle.label_reader.specs.Owners.{Ownership}
+use Rattle.rpatl_syntax.specs.declared.formula.Bound.{Bound}
+use Rattle.rpatl_syntax.specs.declared.formula.Bound.TheVariants.{AskMax, AskMin}
+use Rattle.rpatl_syntax.specs.declared.fault.FormulaCause.TheVariants.{NotYet}
+use Rattle.rpatl_syntax.specs.Fault.{fault_at}
+use Rattle.rpatl_syntax.specs.Formula.{Tree, tree_of}
+use Rattle.rpatl_syntax.specs.Grammar.{formula_said}
+use Rattle.formula_sets.specs.Posing.{Posing, posing_said}
+use Rattle.stogame_app.specs.declared.refusal.Refusal.TheVariants.{OfFormula, OfQuestion}
+use Rattle.stogame_app.specs.declared.model.Loaded.{Loaded}
+use Rattle.stogame_app.specs.Words.{Check}
+use Rattle.stogame_app.specs.Said.{Said, Refuses, Says, and_then, read_said}
+use Rattle.stogame_app.specs.Texts.{game_said, labels_said, owners_said}
+
+-- the bound asks for a value, and sets no threshold
+abbrev pub asks_for_value : Bound → Bool
+asks_for_value AskMax = true
+asks_for_value AskMin = true
+asks_for_value bound = false
+
+-- a formula that asks for a value; a threshold has no verdict yet
+abbrev pub asking : Tree → Said Tree
+asking tree = if asks_for_value tree.bound then Says tree else Refuses (OfFormula (fault_at 0 NotYet))
+
+abbrev pub formula_read : List ℕ → Said Tree
+formula_read text = and_then (read_said OfFormula (formula_said text)) asking
+
+-- what a command names, read: a game, its labels, its owners, a formula
+pub record Reading : Type 0 where
+  pub game : List (List Distribution)
+  pub labels : Labelling
+  pub owners : Ownership
+  pub formula : Tree
+
+-- what contracts see of what was loaded
+abbrev pub reading_of : Loaded → Reading
+reading_of loaded = record { game = loaded.game; labels = loaded.labels; owners = loaded.owners; formula = tree_of loaded.formula }
+
+abbrev pub reading_with : List (List Distribution) → Labelling → Ownership → Tree → Reading
+reading_with game labels owners formula = record { game = game; labels = labels; owners = owners; formula = formula }
+
+-- the reading behind the owners, behind the labels, behind the game, and the whole
+abbrev pub behind_owners : Check → List (List Distribution) → Labelling → Ownership → Said Reading
+behind_owners check game labels owners = and_then (formula_read check.formula) (λ formula. Says (reading_with game labels owners formula))
+
+abbrev pub behind_labels : Holding → Check → List (List Distribution) → Labelling → Said Reading
+behind_labels held check game labels = and_then (owners_said held check.own (length game)) (λ owners. behind_owners check game labels owners)
+
+abbrev pub behind_game : Holding → Check → List (List Distribution) → Said Reading
+behind_game held check game = and_then (labels_said held check.lab (length game)) (λ labels. behind_labels held check game labels)
+
+abbrev pub reading_said : Holding → Check → Said Reading
+reading_said held check = and_then (game_said held check.tra) (λ game. behind_game held check game)
+
+-- the question that a reading poses
+abbrev pub posed : Reading → Said Posing
+posed reading = read_said OfQuestion (posing_said reading.game reading.labels reading.owners reading.formula)
+
+-- the question that the texts of a command pose, or their first refusal
+abbrev pub question_said : Holding → Check → Said Posing
+question_said held check = and_then (reading_said held check) (λ reading. posed reading)
