@@ -5,3 +5,4 @@ pub mod Said
 pub mod Texts
 pub mod Posed
 pub mod Reports
+pub mod Run

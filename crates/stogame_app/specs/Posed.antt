@@ -1,5 +1,5 @@
 -- The question that the words and the held texts pose, or their first refusal.
-use Rattle.std.specs.Prelude.{ℕ, Bool, true, false, List, length, if◌then◌else◌}
+use Rattle.std.specs.Prelude.{◌≡◌, ℕ, Bool, true, false, List, length, if◌then◌else◌}
 use Rattle.game_outside.specs.Outside.{Holding}
 use Rattle.game_model.specs.Game.{Distribution}
 use Rattle.label_reader.specs.Labels.{Labelling}
@@ -36,6 +36,11 @@ pub record Reading : Type 0 where
   pub labels : Labelling
   pub owners : Ownership
   pub formula : Tree
+
+-- labels and owners are those of the game's states
+pub record HasSizes (game : List (List Distribution)) (labels : Labelling) (owners : Ownership) : Type 0 where
+  pub labels_of : labels.states ≡ length game
+  pub owners_of : length owners.owners ≡ length game
 
 -- what contracts see of what was loaded
 abbrev pub reading_of : Loaded → Reading

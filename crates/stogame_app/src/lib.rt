@@ -1,8 +1,13 @@
 //! The run of `stogame`, from the words and the bytes read to the bytes written.
+//!
+//! `run` is the one call that the program makes, over a shelf of named texts and a sink of bytes; `FileShelf` and
+//! `OutSink` are the real files and the real output. Its contract has one clause for each status, and one that says
+//! that it does not give up by itself.
 #![tactic(auto)]
 
 mod adapters;
 mod causes;
+mod command;
 mod ends;
 mod load;
 mod model;
@@ -12,10 +17,5 @@ mod status;
 mod words;
 
 pub use adapters::{FileShelf, OutSink};
-pub use ends::{end_with_refusal, end_with_usage};
-pub use load::{End, load_game, load_labels, load_owner_file, load_text, no_owner_file};
-pub use model::Loaded;
-pub use refusal::{Refusal, Text};
-pub use reports::report;
+pub use command::run;
 pub use status::Status;
-pub use words::{CheckWords, read_words};

@@ -1,6 +1,6 @@
 //! The texts of a run, read and judged one after another.
 
-ghost use Rattle.std.specs.Prelude.{◌≡◌, ◌<◌, ◌≤◌, ◌⊎◌, IsErrOf, IsOk, OnOk, IfOk, Some, true, length};
+ghost use Rattle.std.specs.Prelude.{◌≡◌, ◌<◌, ◌≤◌, ◌⊎◌, IsErrOf, IsOk, OnOk, IfOk, Some, option_map, true, length};
 ghost use Rattle.tra_reader.specs.Text.{game_of};
 ghost use Rattle.game_outside.specs.Outside.{Rose};
 ghost use Rattle.label_reader.specs.Texts.{labels_of, owners_of};
@@ -36,6 +36,7 @@ pub fn load_text<H: Shelf>(
     ensures steadily { IsErrOf result End.ReadFault → H.steady shelf.old ≡ true → WhereTold (H.held shelf.old) (λ held. text_said held text name.now ≡ NotHeld) }
     ensures too_long { IsTooLong result → MOST_BYTES < H.taken shelf.new }
     ensures only_too_long { MOST_BYTES < H.taken shelf.new → IsTooLong result ⊎ IsErrOf result End.OutOfMemory }
+    ensures small { OnOk result (H.taken shelf.new ≤ MOST_BYTES) }
     ensures kept { KeepsShelf (H.held shelf.old) (H.held shelf.new) (H.steady shelf.old) (H.steady shelf.new) (H.faults shelf.old) (H.faults shelf.new) }
 {
     match read_all(alloc, shelf, name, MOST_BYTES as u64) {
@@ -53,6 +54,7 @@ pub fn load_game<H: Shelf>(alloc: Global, shelf: &mut H, name: &str) -> Result<G
     ensures steadily { IsErrOf result End.ReadFault → H.steady shelf.old ≡ true → WhereTold (H.held shelf.old) (λ held. game_said held name.now ≡ NotHeld) }
     ensures too_long { IsTooLong result → MOST_BYTES < H.taken shelf.new }
     ensures only_too_long { MOST_BYTES < H.taken shelf.new → IsTooLong result ⊎ IsErrOf result End.OutOfMemory }
+    ensures small { OnOk result (H.taken shelf.new ≤ MOST_BYTES) }
     ensures kept { KeepsShelf (H.held shelf.old) (H.held shelf.new) (H.steady shelf.old) (H.steady shelf.new) (H.faults shelf.old) (H.faults shelf.new) }
 {
     let bytes = load_text(alloc, shelf, Text::Tra, name)?;
@@ -86,6 +88,8 @@ pub fn load_labels<H: Shelf>(
     ensures steadily { IsErrOf result End.ReadFault → H.steady shelf.old ≡ true → WhereTold (H.held shelf.old) (λ held. labels_said held name.now states ≡ NotHeld) }
     ensures too_long { IsTooLong result → MOST_BYTES < H.taken shelf.new }
     ensures only_too_long { MOST_BYTES < H.taken shelf.new → IsTooLong result ⊎ IsErrOf result End.OutOfMemory }
+    ensures small { OnOk result (H.taken shelf.new ≤ MOST_BYTES) }
+    ensures sizes { IfOk result (λ labels. labels.states ≡ states) }
     ensures kept { KeepsShelf (H.held shelf.old) (H.held shelf.new) (H.steady shelf.old) (H.steady shelf.new) (H.faults shelf.old) (H.faults shelf.new) }
 {
     let bytes = load_text(alloc, shelf, Text::Lab, name)?;
@@ -95,6 +99,7 @@ pub fn load_labels<H: Shelf>(
 fn labels_in(alloc: Global, bytes: &[u8], states: u32) -> Result<Labels, End>
     requires { length bytes.now ≤ MOST_BYTES }
     ensures says { Loads (λ x. x) result (read_said Refusal.OfLab (labels_of bytes.now states)) }
+    ensures sizes { IfOk result (λ labels. labels.states ≡ states) }
     ensures read { IsErrOf result End.ReadFault → ⊥ }
     ensures short { IsTooLong result → ⊥ }
 {
@@ -119,6 +124,8 @@ pub fn load_owner_file<H: Shelf>(
     ensures steadily { IsErrOf result End.ReadFault → H.steady shelf.old ≡ true → WhereTold (H.held shelf.old) (λ held. owners_said held (Some name.now) states ≡ NotHeld) }
     ensures too_long { IsTooLong result → MOST_BYTES < H.taken shelf.new }
     ensures only_too_long { MOST_BYTES < H.taken shelf.new → IsTooLong result ⊎ IsErrOf result End.OutOfMemory }
+    ensures small { OnOk result (H.taken shelf.new ≤ MOST_BYTES) }
+    ensures sizes { IfOk result (λ owners. length owners.owners ≡ states) }
     ensures kept { KeepsShelf (H.held shelf.old) (H.held shelf.new) (H.steady shelf.old) (H.steady shelf.new) (H.faults shelf.old) (H.faults shelf.new) }
 {
     let bytes = load_text(alloc, shelf, Text::Own, name)?;
@@ -128,6 +135,7 @@ pub fn load_owner_file<H: Shelf>(
 fn owners_in(alloc: Global, bytes: &[u8], states: u32) -> Result<Owners, End>
     requires { length bytes.now ≤ MOST_BYTES }
     ensures says { Loads (λ x. x) result (read_said Refusal.OfOwn (owners_of bytes.now states)) }
+    ensures sizes { IfOk result (λ owners. length owners.owners ≡ states) }
     ensures read { IsErrOf result End.ReadFault → ⊥ }
     ensures short { IsTooLong result → ⊥ }
 {
@@ -143,10 +151,34 @@ fn owners_in(alloc: Global, bytes: &[u8], states: u32) -> Result<Owners, End>
 /// One player owns all states.
 pub fn no_owner_file(alloc: Global, states: u32) -> Result<Owners, End>
     ensures says { IfOk result (λ owners. owners ≡ single_owner states) }
+    ensures sizes { IfOk result (λ owners. length owners.owners ≡ states) }
     ensures only { IsErrOf result End.OutOfMemory ⊎ IsOk result }
 {
     match Owners::single(alloc, states) {
         Ok(owners) => Ok(owners),
         Err(_) => Err(End::OutOfMemory),
+    }
+}
+
+/// The owners of the owner file, where one is named; else one player owns all states.
+pub fn load_owners<H: Shelf>(
+    alloc: Global,
+    shelf: &mut H,
+    own: Option<&str>,
+    states: u32,
+) -> Result<Owners, End>
+    requires { H.taken shelf.old ≤ MOST_BYTES }
+    ensures says { WhereTold (H.held shelf.old) (λ held. Loads (λ x. x) result (owners_said held (option_map (λ file. file.now) own.entry) states)) }
+    ensures read_fault { IsErrOf result End.ReadFault → Rose (H.faults shelf.old) (H.faults shelf.new) }
+    ensures steadily { IsErrOf result End.ReadFault → H.steady shelf.old ≡ true → WhereTold (H.held shelf.old) (λ held. owners_said held (option_map (λ file. file.now) own.entry) states ≡ NotHeld) }
+    ensures too_long { IsTooLong result → MOST_BYTES < H.taken shelf.new }
+    ensures only_too_long { MOST_BYTES < H.taken shelf.new → IsTooLong result ⊎ IsErrOf result End.OutOfMemory }
+    ensures small { OnOk result (H.taken shelf.new ≤ MOST_BYTES) }
+    ensures sizes { IfOk result (λ owners. length owners.owners ≡ states) }
+    ensures kept { KeepsShelf (H.held shelf.old) (H.held shelf.new) (H.steady shelf.old) (H.steady shelf.new) (H.faults shelf.old) (H.faults shelf.new) }
+{
+    match own {
+        None => no_owner_file(alloc, states),
+        Some(name) => load_owner_file(alloc, shelf, name, states),
     }
 }

@@ -1,15 +1,13 @@
 //! What a command names, loaded: a game, its labels, its owners and a formula.
 
-ghost use Rattle.std.specs.Prelude.{◌≡◌, ◌<◌, ◌⊎◌, IsErrOf, IfOk, true, length, option_map};
-ghost use Rattle.text_lines.specs.declared.TheConstants.{MOST_BYTES};
+ghost use Rattle.std.specs.Prelude.{◌≡◌, ◌<◌, ◌≤◌, ◌⊎◌, IsErrOf, IfOk, true, length};
 ghost use Rattle.game_outside.specs.Outside.{Rose};
 ghost use Rattle.rpatl_syntax.specs.Formula.{tree_of};
 ghost use Rattle.stogame_app.specs.Words.{check_of};
 ghost use Rattle.stogame_app.specs.Said.{WhereTold, Loads, IsTooLong, KeepsShelf, NotHeld};
-ghost use Rattle.stogame_app.specs.Texts.{owners_said};
-ghost use Rattle.stogame_app.specs.Posed.{formula_read, reading_of, behind_owners, behind_labels, behind_game, reading_said, asks_for_value};
+ghost use Rattle.stogame_app.specs.Posed.{formula_read, reading_of, behind_owners, behind_labels, behind_game, reading_said, asks_for_value, HasSizes};
 
-use crate::load::{End, load_game, load_labels, load_owner_file, no_owner_file};
+use crate::load::{End, load_game, load_labels, load_owners};
 use crate::refusal::Refusal;
 use crate::words::CheckWords;
 use game_model::Game;
@@ -17,6 +15,7 @@ use game_outside::Shelf;
 use label_reader::{Labels, Owners};
 use rpatl_syntax::{Bound, Formula, FormulaCause, FormulaFault, read_formula};
 use std::alloc::Global;
+use text_lines::MOST_BYTES;
 
 /// A game, its labels, its owners, and a formula that asks for a value.
 #[derive(Drop)]
@@ -53,4 +52,81 @@ fn asks(bound: &Bound) -> bool
     ensures { result ≡ asks_for_value bound.now }
 {
     matches!(bound, Bound::AskMax | Bound::AskMin)
+}
+
+/// What a command names, loaded.
+pub fn load_model<H: Shelf>(
+    alloc: Global,
+    shelf: &mut H,
+    check: &CheckWords<'_>,
+) -> Result<Loaded, End>
+    ensures says { WhereTold (H.held shelf.old) (λ held. Loads reading_of result (reading_said held (check_of check.now))) }
+    ensures read_fault { IsErrOf result End.ReadFault → Rose (H.faults shelf.old) (H.faults shelf.new) }
+    ensures steadily { IsErrOf result End.ReadFault → H.steady shelf.old ≡ true → WhereTold (H.held shelf.old) (λ held. reading_said held (check_of check.now) ≡ NotHeld) }
+    ensures too_long { IsTooLong result → MOST_BYTES < H.taken shelf.new }
+    ensures only_too_long { MOST_BYTES < H.taken shelf.new → IsTooLong result ⊎ IsErrOf result End.OutOfMemory }
+    ensures sizes { IfOk result (λ loaded. HasSizes loaded.game loaded.labels loaded.owners) }
+{
+    let game = load_game(alloc, shelf, check.tra)?;
+    load_behind_game(alloc, shelf, check, game)
+}
+
+fn load_behind_game<H: Shelf>(
+    alloc: Global,
+    shelf: &mut H,
+    check: &CheckWords<'_>,
+    game: Game,
+) -> Result<Loaded, End>
+    ensures says { WhereTold (H.held shelf.old) (λ held. Loads reading_of result (behind_game held (check_of check.now) game)) }
+    ensures read_fault { IsErrOf result End.ReadFault → Rose (H.faults shelf.old) (H.faults shelf.new) }
+    ensures steadily { IsErrOf result End.ReadFault → H.steady shelf.old ≡ true → WhereTold (H.held shelf.old) (λ held. behind_game held (check_of check.now) game ≡ NotHeld) }
+    ensures too_long { IsTooLong result → MOST_BYTES < H.taken shelf.new }
+    ensures only_too_long { MOST_BYTES < H.taken shelf.new → IsTooLong result ⊎ IsErrOf result End.OutOfMemory }
+    ensures sizes { IfOk result (λ loaded. HasSizes loaded.game loaded.labels loaded.owners) }
+{
+    let labels = load_labels(alloc, shelf, check.lab, game.states())?;
+    load_behind_labels(alloc, shelf, check, game, labels)
+}
+
+fn load_behind_labels<H: Shelf>(
+    alloc: Global,
+    shelf: &mut H,
+    check: &CheckWords<'_>,
+    game: Game,
+    labels: Labels,
+) -> Result<Loaded, End>
+    requires labels { labels.states ≡ length game }
+    requires small { H.taken shelf.old ≤ MOST_BYTES }
+    ensures says { WhereTold (H.held shelf.old) (λ held. Loads reading_of result (behind_labels held (check_of check.now) game labels)) }
+    ensures read_fault { IsErrOf result End.ReadFault → Rose (H.faults shelf.old) (H.faults shelf.new) }
+    ensures steadily { IsErrOf result End.ReadFault → H.steady shelf.old ≡ true → WhereTold (H.held shelf.old) (λ held. behind_labels held (check_of check.now) game labels ≡ NotHeld) }
+    ensures too_long { IsTooLong result → MOST_BYTES < H.taken shelf.new }
+    ensures only_too_long { MOST_BYTES < H.taken shelf.new → IsTooLong result ⊎ IsErrOf result End.OutOfMemory }
+    ensures sizes { IfOk result (λ loaded. HasSizes loaded.game loaded.labels loaded.owners) }
+{
+    let owners = load_owners(alloc, shelf, check.own, game.states())?;
+    load_behind_owners(alloc, check, game, labels, owners)
+}
+
+fn load_behind_owners(
+    alloc: Global,
+    check: &CheckWords<'_>,
+    game: Game,
+    labels: Labels,
+    owners: Owners,
+) -> Result<Loaded, End>
+    requires labels { labels.states ≡ length game }
+    requires owners { length owners.owners ≡ length game }
+    ensures says { Loads reading_of result (behind_owners (check_of check.now) game labels owners) }
+    ensures read { IsErrOf result End.ReadFault → ⊥ }
+    ensures short { IsTooLong result → ⊥ }
+    ensures sizes { IfOk result (λ loaded. HasSizes loaded.game loaded.labels loaded.owners) }
+{
+    let formula = load_formula(alloc, check.formula)?;
+    Ok(Loaded {
+        game,
+        labels,
+        owners,
+        formula,
+    })
 }

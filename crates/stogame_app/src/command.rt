@@ -1,0 +1,134 @@
+//! The top call: from the words and the bytes read to the bytes written.
+
+ghost use Rattle.std.specs.Prelude.{◌≡◌, ◌<◌, ◌⊎◌, ℕ, List, Some, true, All, map};
+ghost use Rattle.std.specs.String.{string_bytes};
+ghost use Rattle.game_outside.specs.Outside.{Holding, Rose, GrowsBy, GrowsByPrefix};
+ghost use Rattle.formula_sets.specs.Posing.{Posing};
+ghost use Rattle.stogame_app.specs.Words.{Check, AreCheck, AreNoCommand, check_of};
+ghost use Rattle.stogame_app.specs.Said.{Refuses, Says, NotHeld, WhereTold};
+ghost use Rattle.stogame_app.specs.Posed.{reading_of, posed, question_said, HasSizes};
+ghost use Rattle.stogame_app.specs.Refusals.{usage_text};
+ghost use Rattle.game_model.specs.Query.{states};
+ghost use Rattle.stogame_app.specs.Reports.{IsReport};
+ghost use Rattle.stogame_app.specs.Run.{asked_rounds, IsReportOf, IsRefusalOf, IsLong, PosesIt, RefusesIt, IsReportOfWords, IsRefusalOfWords, IsUsageOfWords, IsOutput};
+
+use crate::ends::{end_with_refusal, end_with_usage, say};
+use crate::load::End;
+use crate::model::{Loaded, load_model};
+use crate::refusal::Refusal;
+use crate::reports::report;
+use crate::status::Status;
+use crate::words::{CheckWords, read_words};
+use formula_sets::{PoseFault, Posed, pose};
+use game_outside::{Gate, Shelf, Sink};
+use std::alloc::Global;
+use std::thread::Threads;
+
+/// How many rounds are made at most.
+const ASKED_ROUNDS: u32 = 10_000;
+
+/// Reads the words and the texts that they name, and writes the report of the question that they pose: one line for
+/// each initial state, rising. Each printed lower bound is at most some k-step value, and each upper bound at least
+/// every one. What is not accepted is refused by one line that names the cause and its place. The whole output is made in
+/// memory first and written once.
+pub fn run<R: Threads + Sync, H: Shelf, K: Sink, G: Gate + Sync>(
+    rt: &R,
+    alloc: Global,
+    words: &[String],
+    shelf: &mut H,
+    out: &mut K,
+    gate: &G,
+) -> Status
+    ensures fine { result ≡ Status.Fine → (text : List ℕ) × IsReportOfWords (map string_bytes words.now) (H.held shelf.old) text
+        × GrowsBy (K.written out.old) (K.written out.new) text }
+    ensures refused { result ≡ Status.ModelRefused → (text : List ℕ) × IsRefusalOfWords (map string_bytes words.now) (H.held shelf.old) (H.taken shelf.new) text
+        × GrowsBy (K.written out.old) (K.written out.new) text }
+    ensures usage { result ≡ Status.Usage → AreNoCommand (map string_bytes words.now) × GrowsBy (K.written out.old) (K.written out.new) usage_text }
+
+    // A fault of the outside is answered only where its count rose.
+    ensures read_fault { result ≡ Status.ReadFault → Rose (H.faults shelf.old) (H.faults shelf.new) × (K.written out.new ≡ K.written out.old) }
+    ensures write_fault { result ≡ Status.WriteFault → Rose (K.faults out.old) (K.faults out.new)
+        × ((text : List ℕ) × IsOutput (map string_bytes words.now) (H.held shelf.old) (H.taken shelf.new) text × GrowsByPrefix (K.written out.old) (K.written out.new) text) }
+    ensures memory { result ≡ Status.OutOfMemory → K.written out.new ≡ K.written out.old }
+
+    // It does not give up by itself.
+    ensures complete { (check : Check) (held : Holding) (posing : Posing) → AreCheck (map string_bytes words.now) check → H.held shelf.old ≡ Some held
+        → question_said held check ≡ Says posing → (H.steady shelf.old ≡ true) ⊎ (Rose (H.faults shelf.old) (H.faults shelf.new) → ⊥)
+        → (Rose (K.faults out.old) (K.faults out.new) → ⊥) → (result ≡ Status.Fine) ⊎ (result ≡ Status.OutOfMemory) }
+{
+    let _ = rt;
+    let _ = gate;
+    match read_words(words) {
+        Some(check) => run_check(alloc, &check, shelf, out),
+        None => end_with_usage(alloc, out),
+    }
+}
+
+// The run of `check`.
+fn run_check<H: Shelf, K: Sink>(
+    alloc: Global,
+    check: &CheckWords<'_>,
+    shelf: &mut H,
+    out: &mut K,
+) -> Status
+    ensures no_usage { result ≡ Status.Usage → ⊥ }
+    ensures fine { result ≡ Status.Fine → (text : List ℕ) × IsReportOf (PosesIt (H.held shelf.old) (check_of check.now)) text
+        × GrowsBy (K.written out.old) (K.written out.new) text }
+    ensures refused { result ≡ Status.ModelRefused → (text : List ℕ) × IsRefusalOf (RefusesIt (H.held shelf.old) (check_of check.now)) (H.taken shelf.new) text
+        × GrowsBy (K.written out.old) (K.written out.new) text }
+    ensures read_fault { result ≡ Status.ReadFault → Rose (H.faults shelf.old) (H.faults shelf.new) × (K.written out.new ≡ K.written out.old) }
+    ensures steadily { result ≡ Status.ReadFault → H.steady shelf.old ≡ true → WhereTold (H.held shelf.old) (λ held. question_said held (check_of check.now) ≡ NotHeld) }
+    ensures write_fault { result ≡ Status.WriteFault → Rose (K.faults out.old) (K.faults out.new)
+        × ((text : List ℕ) × (IsReportOf (PosesIt (H.held shelf.old) (check_of check.now)) text ⊎ IsRefusalOf (RefusesIt (H.held shelf.old) (check_of check.now)) (H.taken shelf.new) text)
+        × GrowsByPrefix (K.written out.old) (K.written out.new) text) }
+    ensures memory { result ≡ Status.OutOfMemory → K.written out.new ≡ K.written out.old }
+{
+    match load_model(alloc, shelf, check) {
+        Ok(loaded) => answer(alloc, &loaded, out),
+        Err(End::OutOfMemory) => Status::OutOfMemory,
+        Err(End::ReadFault) => Status::ReadFault,
+        Err(End::Refused(refusal)) => end_with_refusal(alloc, out, &refusal),
+    }
+}
+
+// The answer to the question that was loaded.
+fn answer<K: Sink>(alloc: Global, loaded: &Loaded, out: &mut K) -> Status
+    requires { HasSizes loaded.now.game loaded.now.labels loaded.now.owners }
+    ensures only { (result ≡ Status.Usage) ⊎ (result ≡ Status.ReadFault) → ⊥ }
+    ensures fine { result ≡ Status.Fine → (text : List ℕ) × IsReportOf (λ posing. posed (reading_of loaded.now) ≡ Says posing) text
+        × GrowsBy (K.written out.old) (K.written out.new) text }
+    ensures refused { result ≡ Status.ModelRefused → (text : List ℕ) × IsRefusalOf (λ refusal. posed (reading_of loaded.now) ≡ Refuses refusal) 0 text
+        × GrowsBy (K.written out.old) (K.written out.new) text }
+    ensures write_fault { result ≡ Status.WriteFault → Rose (K.faults out.old) (K.faults out.new)
+        × ((text : List ℕ) × (IsReportOf (λ posing. posed (reading_of loaded.now) ≡ Says posing) text ⊎ IsRefusalOf (λ refusal. posed (reading_of loaded.now) ≡ Refuses refusal) 0 text)
+        × GrowsByPrefix (K.written out.old) (K.written out.new) text) }
+    ensures memory { result ≡ Status.OutOfMemory → K.written out.new ≡ K.written out.old }
+{
+    match pose(
+        alloc,
+        &loaded.game,
+        &loaded.labels,
+        &loaded.owners,
+        &loaded.formula,
+    ) {
+        Ok(posed) => answer_question(alloc, &posed, out),
+        Err(PoseFault::OutOfMemory) => Status::OutOfMemory,
+        Err(fault) => end_with_refusal(alloc, out, &Refusal::OfQuestion(fault)),
+    }
+}
+
+// The report of a posed question.
+fn answer_question<K: Sink>(alloc: Global, posed: &Posed<'_>, out: &mut K) -> Status
+    requires { All (λ s. s < states posed.now.question) posed.now.initial.items }
+    ensures only { (result ≡ Status.Fine) ⊎ ((result ≡ Status.WriteFault) ⊎ (result ≡ Status.OutOfMemory)) }
+    ensures fine { result ≡ Status.Fine → (text : List ℕ) × IsReport posed.now.question posed.now.initial.items asked_rounds text
+        × GrowsBy (K.written out.old) (K.written out.new) text }
+    ensures write_fault { result ≡ Status.WriteFault → Rose (K.faults out.old) (K.faults out.new)
+        × ((text : List ℕ) × IsReport posed.now.question posed.now.initial.items asked_rounds text × GrowsByPrefix (K.written out.old) (K.written out.new) text) }
+    ensures memory { result ≡ Status.OutOfMemory → K.written out.new ≡ K.written out.old }
+{
+    match report(alloc, &posed.question, &posed.initial, ASKED_ROUNDS) {
+        Ok(text) => say(out, &text, Status::Fine),
+        Err(_) => Status::OutOfMemory,
+    }
+}
