@@ -13,6 +13,7 @@ ghost use Rattle.game_model.specs.Dual.{IsZeroSet};
 
 mod attractor;
 mod membership;
+mod notes;
 mod predecessors;
 mod state_set;
 

@@ -48,6 +48,9 @@ impl StateSet {
     pub fn complement(&self, alloc: Global) -> Result<Vec<bool>, AllocError>
         ensures { IfOk result (λ others. others.items ≡ map not self.now) }
     {
-        self.members.iter().map(|member| !*member).collect::<Vec<bool>>(alloc)
+        self.members
+            .iter()
+            .map(|member| !*member)
+            .collect::<Vec<bool>>(alloc)
     }
 }
