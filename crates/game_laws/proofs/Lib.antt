@@ -5,4 +5,3 @@ pub mod High
 pub mod Near
 pub mod Under
 pub mod Truth
-pub mod Zero
