@@ -1,0 +1,4 @@
+pub mod NamedMarks
+pub mod Indexed
+pub mod HeaderSteps
+pub mod KnownLines
