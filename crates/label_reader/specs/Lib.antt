@@ -1,3 +1,6 @@
+pub mod Marked
+pub mod Owned
+pub mod Read
 pub mod Placed
 pub mod Named
 pub mod Labels

@@ -29,7 +29,20 @@ impl Model for Labels {
 }
 
 impl Labels {
+    ghost use Rattle.label_reader.specs.Named.{labels_named, AreNamed};
     ghost use Rattle.label_reader.specs.Labels.{is_known, marks_of, holds_at, states_with, IsLabelling};
+
+    /// The labels with these names, and the states of each.
+    pub fn new(states: u32, names: IndexMap<Vec<u8>, u64>, sets: Vec<StateSet>) -> Labels
+        requires { AreNamed states names.entries sets.items }
+        ensures { result ≡ record { states = states; labels = labels_named names.entries sets.items } }
+    {
+        Labels {
+            states,
+            names,
+            sets,
+        }
+    }
 
     /// What every labelling keeps: each label has a mark for each state.
     pub fn known(&self)
