@@ -5,3 +5,6 @@ pub mod KnownLines
 pub mod Bodies
 pub mod Marking
 pub mod Owning
+pub mod Filled
+pub mod Heads
+pub mod Splits

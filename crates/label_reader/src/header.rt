@@ -1,5 +1,5 @@
 // The header: which index stands for which name.
-ghost use Rattle.std.specs.Prelude.{◌≡◌, ◌<◌, ◌≤◌, ◌+◌, ◌++◌, ◌∷◌, [], ℕ, Bool, false, List, Some, None, IfSome, MatchResult, IfOk, length};
+ghost use Rattle.std.specs.Prelude.{◌≡◌, ◌<◌, ◌≤◌, ◌+◌, ◌++◌, ◌∷◌, [], ℕ, Bool, false, List, Some, None, IfSome, MatchResult, length};
 ghost use Rattle.std.specs.List.{list_all};
 ghost use Rattle.text_lines.specs.Text.{fields_of};
 ghost use Rattle.label_reader.specs.Header.{place_in, place_of, has_place, has_index, has_name, passes_limit, with_item, item_of, header_of};
@@ -154,8 +154,7 @@ impl Header {
 
 /// The items of a header line.
 pub fn read_header(alloc: Global, kind: FileKind, line: &[u8]) -> Result<Header, LabCause>
-    ensures items { GivesCause result (header_of kind (fields_of line.now)) }
-    ensures some { IfOk result (λ header. 0 < length header) }
+    ensures { GivesCause result (header_of kind (fields_of line.now)) }
 {
     if first_field(line).is_none() {
         return Err(LabCause::NoHeader);
