@@ -1,7 +1,7 @@
 -- The header of a label file or an owner file: its items, or its first fault.
-use Rattle.std.specs.Prelude.{◌==◌, ◌&&◌, ◌||◌, ◌+◌, ◌-◌, ℕ, nat_le, nat_lt, not, Bool, true, false, List, [], ◌∷◌, ◌++◌, length, take, drop, slice_index, position, Option, Some, None, option_map, is_some, if◌then◌else◌, bytes_eq, Result, Ok, Err}
+use Rattle.std.specs.Prelude.{◌==◌, ◌&&◌, ◌||◌, ◌+◌, ◌-◌, ℕ, nat_le, nat_lt, not, Bool, true, false, List, [], ◌∷◌, ◌++◌, length, take, drop, slice_index, position, Option, Some, None, option_map, option_and_then, is_some, if◌then◌else◌, bytes_eq, Result, Ok, Err}
 use Rattle.std.specs.List.{list_any, list_all}
-use Rattle.text_lines.specs.Text.{number_of, is_digit}
+use Rattle.text_lines.specs.Text.{number_of, is_digit, saturated}
 use Rattle.label_reader.specs.declared.kind.FileKind.{FileKind}
 use Rattle.label_reader.specs.declared.kind.FileKind.TheVariants.{LabelFile, OwnerFile}
 use Rattle.label_reader.specs.declared.kind.TheConstants.{MOST_LABELS, MOST_PLAYERS, GREATEST_INDEX, LONGEST_NAME}
@@ -12,6 +12,10 @@ use Rattle.label_reader.specs.declared.faults.LabCause.TheVariants.{NoHeader, Ba
 pub record Item : Type 0 where
   pub index : ℕ
   pub name : List ℕ
+
+-- an item as far as 64 bits go
+abbrev pub saturated_item : Item → Item
+saturated_item item = record { index = saturated item.index; name = item.name }
 
 -- what stands before the byte at a place, and behind it
 abbrev pub parted_at : List ℕ → ℕ → List ℕ × List ℕ
@@ -62,17 +66,28 @@ abbrev pub place_of : List Item → ℕ → Option ℕ
 place_of [] index = None
 place_of (item ∷ items) index = if item.index == index then Some 0 else option_map (λ k. k + 1) (place_of items index)
 
+-- the place of the item whose index a field spells
+abbrev pub place_in : List Item → List ℕ → Option ℕ
+place_in items field = option_and_then (place_of items) (number_of field)
+
+abbrev pub has_place : List Item → List ℕ → Bool
+has_place items field = is_some (place_in items field)
+
 abbrev pub has_index : List Item → ℕ → Bool
 has_index items index = is_some (place_of items index)
 
 abbrev pub has_name : List Item → List ℕ → Bool
 has_name items name = list_any (λ item. bytes_eq name item.name) items
 
+-- one item more would be too many, or its index is too great
+abbrev pub passes_limit : FileKind → List Item → ℕ → Bool
+passes_limit kind before index = nat_le (most_items kind) (length before) || nat_lt GREATEST_INDEX index
+
 -- an item behind those before it, or its first fault
 abbrev pub with_item : FileKind → List Item → Option Item → Result (List Item) LabCause
 with_item kind before None = Err BadHeader
 with_item kind before (Some item) =
-    if nat_le (most_items kind) (length before) || nat_lt GREATEST_INDEX item.index then Err OverLimit else (
+    if passes_limit kind before item.index then Err OverLimit else (
     if has_index before item.index then Err DoubleIndex else (
     if has_name before item.name then Err DoubleName else Ok (before ++ item ∷ [])))
 

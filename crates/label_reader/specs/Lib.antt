@@ -1,3 +1,7 @@
+pub mod Marked
+pub mod Owned
+pub mod Read
+pub mod Placed
 pub mod Named
 pub mod Labels
 pub mod Owners

@@ -1,5 +1,5 @@
 -- Names in a map, beside what stands at their places.
-use Rattle.std.specs.Prelude.{◌≡◌, ◌<◌, ℕ, Bool, List, [], ◌∷◌, length, map, Option, unwrap_or, Vec, All}
+use Rattle.std.specs.Prelude.{◌≡◌, ◌<◌, ◌^◌, ℕ, Bool, List, [], ◌∷◌, length, map, Option, unwrap_or, Vec, All}
 use Rattle.std.specs.declared.alloc.Global.{Global}
 use Rattle.label_reader.specs.Labels.{Label}
 
@@ -14,6 +14,7 @@ labels_named entries sets = []
 
 -- there are as many sets as names, each with a mark for each state
 pub record AreNamed (states : ℕ) (entries : List (Vec ℕ Global × ℕ)) (sets : List (List Bool)) : Type 0 where
+  pub small : states < 2 ^ 32
   pub count : length sets ≡ length entries
   pub lengths : All (λ marks. length marks ≡ states) sets
 

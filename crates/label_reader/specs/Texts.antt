@@ -1,5 +1,5 @@
 -- What a whole text says, or its first fault.
-use Rattle.std.specs.Prelude.{◌≡◌, ◌==◌, ◌+◌, ◌⊎◌, ℕ, Bool, List, [], ◌∷◌, map, unwrap_or, Result, Ok, Err}
+use Rattle.std.specs.Prelude.{◌≡◌, ◌≢◌, ◌==◌, ◌+◌, ◌⊎◌, ℕ, Bool, List, [], ◌∷◌, map, unwrap_or, Result, Ok, Err}
 use Rattle.std.specs.List.{list_any, range_with_len}
 use Rattle.text_lines.specs.Text.{lines_of, fields_of, significant}
 use Rattle.label_reader.specs.declared.kind.FileKind.{FileKind}
@@ -77,3 +77,7 @@ Gives (Err fault) said = IsOutOfMemory fault ⊎ (said ≡ Err fault)
 abbrev pub GivesCause : {X : Type 0} → Result X LabCause → Result X LabCause → Type 0
 GivesCause (Ok x) said = said ≡ Ok x
 GivesCause (Err cause) said = (cause ≡ OutOfMemory) ⊎ (said ≡ Err cause)
+
+-- the fault of a header with this cause: want of memory has line 0
+abbrev pub GivesFault : LabCause → LabFault → Type 0
+GivesFault cause fault = IsOutOfMemory fault × (cause ≡ OutOfMemory) ⊎ (fault ≡ fault_at 1 cause) × (cause ≢ OutOfMemory)

@@ -36,3 +36,28 @@ pub struct LabFault {
     /// What is wrong there.
     pub cause: LabCause,
 }
+
+impl LabFault {
+    ghost use Rattle.std.specs.Prelude.{◌≡◌};
+    ghost use Rattle.label_reader.specs.Texts.{fault_at, GivesFault};
+
+    /// The fault that memory was wanting.
+    pub fn out_of_memory() -> LabFault
+        ensures { result ≡ fault_at 0 LabCause.OutOfMemory }
+    {
+        LabFault {
+            line: 0,
+            cause: LabCause::OutOfMemory,
+        }
+    }
+
+    /// The fault of a header with this cause.
+    pub fn of_header(cause: LabCause) -> LabFault
+        ensures { GivesFault cause result }
+    {
+        match cause {
+            LabCause::OutOfMemory => LabFault::out_of_memory(),
+            _ => LabFault { line: 1, cause },
+        }
+    }
+}

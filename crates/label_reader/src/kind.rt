@@ -1,4 +1,5 @@
 // The two kinds of files that have one format.
+ghost use Rattle.std.specs.Prelude.{◌≡◌, ◌<◌};
 
 /// The most labels of a header.
 pub const MOST_LABELS: usize = 1_000;
@@ -19,4 +20,18 @@ pub enum FileKind {
     LabelFile,
     /// Players, of which a state has one.
     OwnerFile,
+}
+
+impl FileKind {
+    ghost use Rattle.label_reader.specs.Header.{most_items};
+
+    /// The most items of a header.
+    pub fn most_items(self) -> usize
+        ensures { result ≡ most_items self }
+    {
+        match self {
+            FileKind::LabelFile => MOST_LABELS,
+            FileKind::OwnerFile => MOST_PLAYERS,
+        }
+    }
 }

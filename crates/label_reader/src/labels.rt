@@ -29,7 +29,20 @@ impl Model for Labels {
 }
 
 impl Labels {
-    ghost use Rattle.label_reader.specs.Labels.{is_known, holds_at, states_with, IsLabelling};
+    ghost use Rattle.label_reader.specs.Named.{labels_named, AreNamed};
+    ghost use Rattle.label_reader.specs.Labels.{is_known, marks_of, holds_at, states_with, IsLabelling};
+
+    /// The labels with these names, and the states of each.
+    pub fn new(states: u32, names: IndexMap<Vec<u8>, u64>, sets: Vec<StateSet>) -> Labels
+        requires { AreNamed states names.entries sets.items }
+        ensures { result ≡ record { states = states; labels = labels_named names.entries sets.items } }
+    {
+        Labels {
+            states,
+            names,
+            sets,
+        }
+    }
 
     /// What every labelling keeps: each label has a mark for each state.
     pub fn known(&self)
@@ -38,15 +51,26 @@ impl Labels {
         let _ = &self.sets;
     }
 
+    // The marks of the label with this name; none where there is no such label.
+    fn marks_named(&self, name: &[u8]) -> &[bool]
+        ensures marks { result.now ≡ marks_of self.now.labels name.now }
+        ensures short { length result.now < 2 ^ 32 }
+    {
+        match self.names.get_index_of(name) {
+            Some(place) => self.sets[place].marks(),
+            None => &[],
+        }
+    }
+
     /// Whether the label with this name holds at a state; false where there is no such label.
     pub fn holds(&self, name: &[u8], state: u32) -> bool
         requires { state < self.now.states }
         ensures { result ≡ holds_at self.now name.now state }
     {
-        match self.names.get_index_of(name) {
-            Some(place) => self.sets[place].has(state),
-            None => false,
-        }
+        self.marks_named(name)
+            .get(state as usize)
+            .copied()
+            .unwrap_or(false)
     }
 
     /// Whether there is a label with this name.
@@ -60,14 +84,11 @@ impl Labels {
     pub fn states_of(&self, alloc: Global, name: &[u8]) -> Result<Vec<u32>, OutOfMemory>
         ensures { IfOk result (λ v. v.items ≡ states_with self.now name.now) }
     {
-        match self.names.get_index_of(name) {
-            Some(place) => marked(alloc, self.sets[place].marks()),
-            None => Ok(Vec::new(alloc)),
-        }
+        marked(alloc, self.marks_named(name))
     }
 }
 
-/// The states that are marked, rising.
+// The states that are marked, rising.
 fn marked(alloc: Global, marks: &[bool]) -> Result<Vec<u32>, OutOfMemory>
     requires { length marks.now < 2 ^ 32 }
     ensures { IfOk result (λ v. v.items ≡ marked_from 0 marks.now) }

@@ -1,5 +1,5 @@
 // Owners: which player chooses at each state.
-ghost use Rattle.std.specs.Prelude.{◌≡◌, ◌<◌, ◌≤◌, ◌∷◌, [], length, replicate, codes, IfOk};
+ghost use Rattle.std.specs.Prelude.{◌≡◌, ◌<◌, ◌≤◌, ◌∷◌, [], None, length, replicate, codes, IfOk};
 
 use game_outside::OutOfMemory;
 use indexmap::IndexMap;
@@ -26,7 +26,16 @@ impl Model for Owners {
 }
 
 impl Owners {
+    ghost use Rattle.label_reader.specs.Named.{names_of, places_of, AreOwned};
     ghost use Rattle.label_reader.specs.Owners.{is_player, owner_of, IsOwnership};
+
+    /// The players with these names, and the place of each state's owner, the first where none is named.
+    pub fn new(names: IndexMap<Vec<u8>, u64>, owners: Vec<Option<u32>>) -> Owners
+        requires { AreOwned names.entries owners.items }
+        ensures { result ≡ record { players = names_of names.entries; owners = places_of owners.items } }
+    {
+        Owners { names, owners }
+    }
 
     /// What every ownership keeps: each owner is one of the players.
     pub fn known(&self)
@@ -66,12 +75,20 @@ impl Owners {
     }
 }
 
+/// No owner for each of so many states.
+pub fn nobody(alloc: Global, states: u32) -> Result<Vec<Option<u32>>, AllocError>
+    ensures { IfOk result (λ owners. owners.items ≡ replicate states None) }
+{
+    let owners = vec![in alloc; None; states as usize]?;
+    Ok(owners)
+}
+
 fn first_owns_all(alloc: Global, states: u32) -> Result<Owners, AllocError>
     ensures players { IfOk result (λ o. o.players ≡ codes "p0" ∷ []) }
     ensures owners { IfOk result (λ o. o.owners ≡ replicate states 0) }
 {
     let mut names = IndexMap::new(alloc);
     names.insert(Vec::from_slice(alloc, b"p0")?, 0)?;
-    let owners = vec![in alloc; None; states as usize]?;
+    let owners = nobody(alloc, states)?;
     Ok(Owners { names, owners })
 }

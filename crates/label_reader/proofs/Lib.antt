@@ -1,0 +1,10 @@
+pub mod NamedMarks
+pub mod Indexed
+pub mod HeaderSteps
+pub mod KnownLines
+pub mod Bodies
+pub mod Marking
+pub mod Owning
+pub mod Filled
+pub mod Heads
+pub mod Splits

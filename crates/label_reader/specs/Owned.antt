@@ -1,0 +1,36 @@
+-- Owners of states as they are read.
+use Rattle.std.specs.Prelude.{◌≡◌, ◌==◌, ◌<◌, ℕ, Bool, true, false, List, [], ◌∷◌, length, Option, Some, None, slice_index_or}
+use Rattle.std.specs.List.{list_all}
+use Rattle.label_reader.specs.Header.{Item, place_of, place_in, has_index}
+use Rattle.label_reader.specs.Lines.{StateLine, said_of, all_same}
+
+-- the place of the first index that is said
+abbrev pub first_of : List Item → List ℕ → Option ℕ
+first_of items [] = None
+first_of items (number ∷ numbers) = place_of items number
+
+-- the place of the index that the first field spells
+abbrev pub first_in : List Item → List (List ℕ) → Option ℕ
+first_in items [] = None
+first_in items (field ∷ fields) = place_in items field
+
+-- the owner who is named already, or else the first of these
+abbrev pub owner_then : Option ℕ → Option ℕ → Option ℕ
+owner_then None next = next
+owner_then (Some place) next = Some place
+
+abbrev pub is_at : ℕ → Option ℕ → Bool
+is_at place None = false
+is_at place (Some other) = other == place
+
+-- each field spells the index at this place
+abbrev pub all_at : List Item → Option ℕ → List (List ℕ) → Bool
+all_at items None fields = true
+all_at items (Some place) fields = list_all (λ field. is_at place (place_in items field)) fields
+
+-- each state has the owner who is said first, all that is said of it is one known index
+pub record AreRead (n : ℕ) (items : List Item) (lines : List StateLine) (owners : List (Option ℕ)) : Type 0 where
+  pub count : length owners ≡ n
+  pub first : (s : ℕ) → s < n → slice_index_or owners s None ≡ first_of items (said_of lines s)
+  pub one : (s : ℕ) → all_same (said_of lines s) ≡ true
+  pub known : (s : ℕ) → list_all (has_index items) (said_of lines s) ≡ true

@@ -1,0 +1,29 @@
+-- The items of a header as the code keeps them: names in a map with their indices, and the places by index.
+use Rattle.std.specs.Prelude.{◌≡◌, ◌<◌, ◌≤◌, ℕ, List, length, map, Some, nat_eq, slice_index, Vec, All}
+use Rattle.std.specs.HashMap.{get, HashMap}
+use Rattle.std.specs.declared.hash.FoldHasher.{FoldHasher}
+use Rattle.std.specs.declared.hash.BuildHasherDefault.{BuildHasherDefault}
+use Rattle.std.specs.declared.alloc.Global.{Global}
+use Rattle.label_reader.specs.declared.kind.TheConstants.{GREATEST_INDEX}
+use Rattle.label_reader.specs.Header.{Item, place_of}
+
+abbrev pub item_at : Vec ℕ Global × ℕ → Item
+item_at entry = record { index = entry.1; name = entry.0.items }
+
+abbrev pub items_of : List (Vec ℕ Global × ℕ) → List Item
+items_of entries = map item_at entries
+
+abbrev pub indices_of : List Item → List ℕ
+indices_of items = map (λ item. item.index) items
+
+abbrev pub Places : Type 0
+Places = HashMap ℕ ℕ (BuildHasherDefault FoldHasher)
+
+-- each index stands once, and is within the limit
+pub record AreSingle (items : List Item) : Type 0 where
+  pub small : All (λ item. item.index ≤ GREATEST_INDEX) items
+  pub once : (k : ℕ) → k < length items → place_of items (slice_index (indices_of items) k) ≡ Some k
+
+pub record ArePlaced (items : List Item) (places : Places) : Type 0 where
+  pub at : (index : ℕ) → get nat_eq places index ≡ place_of items index
+  pub single : AreSingle items
