@@ -1,3 +1,5 @@
+pub mod Derived
 pub mod Joining
 pub mod Naming
 pub mod Passing
+pub mod Spans
