@@ -11,15 +11,15 @@ use Rattle.rpatl_syntax.specs.Grammar.{Reading, next, behind, is, is_quoted, unq
 use Rattle.rpatl_syntax.specs.Rules.{between, IsState, IsEither, IsBoth, IsUnary, plain_state, implies, plain_either, or, plain_both, and, negation, brackets, everywhere, nowhere, label}
 use Rattle.rpatl_syntax.proofs.Spans.{Spans, Found, spans_append, chosen, Both_ok, bind_ok, next_ok, behind_ok, follows_ok, same_bytes}
 
-abbrev read : {X : Type 0} → X → Tokens → Result (X × Tokens) FormulaFault
+abbrev pub read : {X : Type 0} → X → Tokens → Result (X × Tokens) FormulaFault
 read x rest = Ok (x, rest)
 
-abbrev Of : {X : Type 0} → (List (List ℕ) → X → Type 0) → Tokens → Result (X × Tokens) FormulaFault → Type 0
+abbrev pub Of : {X : Type 0} → (List (List ℕ) → X → Type 0) → Tokens → Result (X × Tokens) FormulaFault → Type 0
 Of Spells ts (Ok r) = Found Spells ts r.0 r.1
 Of Spells ts (Err fault) = ⊥
 
 -- one value and what stands behind it, as they are read
-same_read : {X : Type 0} (Spells : List (List ℕ) → X → Type 0) (ts : Tokens) (x y : X) (us rest : Tokens) → Found Spells ts x us → read x us ≡ read y rest → Found Spells ts y rest
+pub same_read : {X : Type 0} (Spells : List (List ℕ) → X → Type 0) (ts : Tokens) (x y : X) (us rest : Tokens) → Found Spells ts x us → read x us ≡ read y rest → Found Spells ts y rest
 same_read {X} Spells ts x y us rest found e =
     let P : Result (X × Tokens) FormulaFault → Type 0 = λ r. Of Spells ts r in
     subst P e found

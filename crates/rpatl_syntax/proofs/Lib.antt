@@ -1,3 +1,4 @@
+pub mod Denoted
 pub mod Derived
 pub mod Joining
 pub mod Naming
