@@ -54,18 +54,18 @@ first_name place word after ns rest more e =
           let b = bind_ok (further_names after) (λ x. Ok (word ∷ x.0, x.1)) (ns, rest) t.1 in
           let inner = more b.value.0 b.value.1 b.first in
           same_read Listed (Then place word after) (word ∷ b.value.0) ns b.value.1 rest
-            (record {
-              tokens = word ∷ inner.tokens;
-              spans = (place, after, refl, inner.spans);
-              spells = record {
-                name = word;
-                others = b.value.0;
-                some = refl;
-                spelled = ap (λ ts. word ∷ ts) inner.spells.spelled ∙ ap (λ ts. ts ++ codes ">>" ∷ []) (sym (with_commas_from word b.value.0));
-                words = (t.0, inner.spells.words);
-              };
-            })
-            b.then_
+          (record {
+            tokens = word ∷ inner.tokens;
+            spans = (place, after, refl, inner.spans);
+            spells = record {
+              name = word;
+              others = b.value.0;
+              some = refl;
+              spelled = ap (λ ts. word ∷ ts) inner.spells.spelled ∙ ap (λ ts. ts ++ codes ">>" ∷ []) (sym (with_commas_from word b.value.0));
+              words = (t.0, inner.spells.words);
+            };
+          })
+          b.then_
     ]
 
 comma : (ts : List (List ℕ)) (ns : List (List ℕ)) → Listed ts ns → Continued (codes "," ∷ ts) ns
@@ -117,7 +117,7 @@ coalition_found ts team rest e = by_sign (follows (codes "<<") ts) refl e
         let b = bind_ok (names inside) (λ x. Ok (Some x.0, x.1)) (team, rest) e in
         let inner = names_found inside b.value.0 b.value.1 b.first in
         same_read IsCoalition ts (Some b.value.0) team b.value.1 rest
-          (record { tokens = codes "<<" ∷ inner.tokens; spans = (place, inside, at, inner.spans); spells = (ap (λ us. codes "<<" ∷ us) inner.spells.spelled, inner.spells.words) }) b.then_
+        (record { tokens = codes "<<" ∷ inner.tokens; spans = (place, inside, at, inner.spans); spells = (ap (λ us. codes "<<" ∷ us) inner.spells.spelled, inner.spells.words) }) b.then_
 
     by_sign : (o : Option Tokens) → follows (codes "<<") ts ≡ o → where_next o (Ok (None, ts)) (λ inside. where_next (follows (codes ">>") inside) (some_names (names inside)) (λ after. Ok (Some [], after))) ≡ Ok (team, rest) → Found IsCoalition ts team rest
     by_sign None none e = same_read IsCoalition ts None team ts rest (record { tokens = []; spans = refl; spells = refl }) e
@@ -159,12 +159,12 @@ compared_found bound sign spells first ts second b rest f at n s e =
     let d = bind_ok (threshold c.value) (λ value. Ok (bound value, c.value.after)) (b, rest) c.then_ in
     let here : first.after ≡ Then second.place sign second.after = sym at ∙ next_ok ts second n ∙ ap (λ t. Then second.place t second.after) (same_bytes _ _ s) in
     same_read IsBound (Then first.place first.spelling first.after) (bound d.value) b c.value.after rest
-      (record {
-        tokens = codes "P" ∷ sign ∷ c.value.spelling ∷ [];
-        spans = (first.place, first.after, ap (λ t. Then first.place t first.after) (same_bytes _ _ f), (second.place, second.after, here, (c.value.place, c.value.after, next_ok second.after c.value c.first, refl)));
-        spells = spells _ d.value (c.value.spelling, refl, threshold_found c.value d.value d.first);
-      })
-      d.then_
+    (record {
+      tokens = codes "P" ∷ sign ∷ c.value.spelling ∷ [];
+      spans = (first.place, first.after, ap (λ t. Then first.place t first.after) (same_bytes _ _ f), (second.place, second.after, here, (c.value.place, c.value.after, next_ok second.after c.value c.first, refl)));
+      spells = spells _ d.value (c.value.spelling, refl, threshold_found c.value d.value d.first);
+    })
+    d.then_
 
 asked_found : (bound : Bound) (word : List ℕ) → IsBound (word ∷ codes "=?" ∷ []) bound → (first : Token) (b : Bound) (rest : Tokens) → bytes_eq first.spelling word ≡ true
     → asked bound first.after ≡ Ok (b, rest) → Found IsBound (Then first.place first.spelling first.after) b rest
@@ -172,12 +172,12 @@ asked_found bound word spells first b rest w e =
     let c = bind_ok (behind (codes "=?") first.after) (λ after. Ok (bound, after)) (b, rest) e in
     let at = behind_ok (codes "=?") first.after c.value c.first in
     same_read IsBound (Then first.place first.spelling first.after) bound b c.value rest
-      (record {
-        tokens = word ∷ codes "=?" ∷ [];
-        spans = (first.place, first.after, ap (λ t. Then first.place t first.after) (same_bytes _ _ w), (at.0, c.value, at.1, refl));
-        spells = spells;
-      })
-      c.then_
+    (record {
+      tokens = word ∷ codes "=?" ∷ [];
+      spans = (first.place, first.after, ap (λ t. Then first.place t first.after) (same_bytes _ _ w), (at.0, c.value, at.1, refl));
+      spells = spells;
+    })
+    c.then_
 
 comparison_found : (first : Token) (b : Bound) (rest : Tokens) → bytes_eq first.spelling (codes "P") ≡ true → comparison first.after ≡ Ok (b, rest) → Found IsBound (Then first.place first.spelling first.after) b rest
 comparison_found first b rest f e =
@@ -229,12 +229,12 @@ path_found ts sides rest e =
           let c = bind_ok (reached b.value.after) (λ right. Ok ((True, right.0), right.1)) (sides, rest) t.1 in
           let right = reached_found b.value.after c.value.0 c.value.1 c.first in
           same_read IsSides ts (True, c.value.0) sides c.value.1 rest
-            (record {
-              tokens = codes "F" ∷ right.tokens;
-              spans = (b.value.place, b.value.after, next_ok ts b.value b.first ∙ ap (λ s. Then b.value.place s b.value.after) (same_bytes _ _ t.0), right.spans);
-              spells = reach right.tokens c.value.0 right.spells;
-            })
-            c.then_
+          (record {
+            tokens = codes "F" ∷ right.tokens;
+            spans = (b.value.place, b.value.after, next_ok ts b.value b.first ∙ ap (λ s. Then b.value.place s b.value.after) (same_bytes _ _ t.0), right.spans);
+            spells = reach right.tokens c.value.0 right.spells;
+          })
+          c.then_
       | inr t ↦ elim (chosen (is b.value (codes "X") || is b.value (codes "G")) (fails b.value NotYet) _ (Ok (sides, rest)) t.1) [
         | inl t ↦ cc t.1
         | inr t ↦
@@ -246,12 +246,12 @@ path_found ts sides rest e =
             let right = reached_found d.value r.value.0 r.value.1 r.first in
             let behind_left : Spans c.value.1 (codes "U" ∷ right.tokens) r.value.1 = (at.0, d.value, at.1, right.spans) in
             same_read IsSides ts (c.value.0, r.value.0) sides r.value.1 rest
-              (record {
-                tokens = between left.tokens (codes "U") right.tokens;
-                spans = spans_append left.tokens (codes "U" ∷ right.tokens) ts c.value.1 r.value.1 left.spans behind_left;
-                spells = until_path left.tokens right.tokens c.value.0 r.value.0 left.spells right.spells;
-              })
-              r.then_
+            (record {
+              tokens = between left.tokens (codes "U") right.tokens;
+              spans = spans_append left.tokens (codes "U" ∷ right.tokens) ts c.value.1 r.value.1 left.spans behind_left;
+              spells = until_path left.tokens right.tokens c.value.0 r.value.0 left.spells right.spells;
+            })
+            r.then_
       ]
     ]
 
@@ -298,6 +298,7 @@ formula_found ts f e =
 
 -- What is said to be a formula is denoted.
 pub formula_denoted : (text : List ℕ) (f : Tree) → formula_said text ≡ Ok f → Denotes text f
+unfolding formula_said
 formula_denoted text f e =
     elim (chosen (nat_lt longest (length text)) (Err (fault_at longest TooLong)) (formula (tokens_of text)) (Ok f) e) [
       | inl t ↦ cc t.1

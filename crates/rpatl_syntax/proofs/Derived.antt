@@ -106,12 +106,12 @@ negated_found room token x rest part sign e =
     let b = bind_ok (unary (nested room) token.after) (λ y. Ok (Not y.0, y.1)) (x, rest) e in
     let inner = part token.after b.value.0 b.value.1 b.first in
     same_read (IsUnary (suc room)) (Then token.place token.spelling token.after) (Not b.value.0) x b.value.1 rest
-      (record {
-        tokens = codes "!" ∷ inner.tokens;
-        spans = (token.place, token.after, ap (λ s. Then token.place s token.after) (same_bytes _ _ sign), inner.spans);
-        spells = negation room inner.tokens b.value.0 inner.spells;
-      })
-      b.then_
+    (record {
+      tokens = codes "!" ∷ inner.tokens;
+      spans = (token.place, token.after, ap (λ s. Then token.place s token.after) (same_bytes _ _ sign), inner.spans);
+      spells = negation room inner.tokens b.value.0 inner.spells;
+    })
+    b.then_
 
 closed_found : (room : ℕ) (token : Token) (x : State) (rest : Tokens) → ((ts : Tokens) (y : State) (after : Tokens) → unary (nested room) ts ≡ Ok (y, after) → Found (IsUnary room) ts y after)
     → is token (codes "(") ≡ true → closed (implied (unary (nested room)) token.after) ≡ Ok (x, rest) → Found (IsUnary (suc room)) (Then token.place token.spelling token.after) x rest
@@ -122,12 +122,12 @@ closed_found room token x rest part sign e =
     let inner = implied_found room (unary (nested room)) part token.after b.value.0 b.value.1 b.first in
     let close : Spans b.value.1 (codes ")" ∷ []) c.value = (at.0, c.value, at.1, refl) in
     same_read (IsUnary (suc room)) (Then token.place token.spelling token.after) b.value.0 x c.value rest
-      (record {
-        tokens = codes "(" ∷ (inner.tokens ++ codes ")" ∷ []);
-        spans = (token.place, token.after, ap (λ s. Then token.place s token.after) (same_bytes _ _ sign), spans_append inner.tokens (codes ")" ∷ []) token.after b.value.1 c.value inner.spans close);
-        spells = brackets room inner.tokens b.value.0 inner.spells;
-      })
-      c.then_
+    (record {
+      tokens = codes "(" ∷ (inner.tokens ++ codes ")" ∷ []);
+      spans = (token.place, token.after, ap (λ s. Then token.place s token.after) (same_bytes _ _ sign), spans_append inner.tokens (codes ")" ∷ []) token.after b.value.1 c.value inner.spans close);
+      spells = brackets room inner.tokens b.value.0 inner.spells;
+    })
+    c.then_
 
 -- what isn't `!` is `(`
 other_sign : (a b : Bool) → (a || b) ≡ true → a ≡ false → b ≡ true
@@ -135,6 +135,7 @@ other_sign true b e f = cc
 other_sign false b e f = e
 
 nested_found : (room : ℕ) (token : Token) (x : State) (rest : Tokens) → opens token ≡ true → nested room token ≡ Ok (x, rest) → Found (IsUnary room) (Then token.place token.spelling token.after) x rest
+unfolding nested
 nested_found zero token x rest o e = cc e
 nested_found (suc room) token x rest o e =
     elim (chosen (is token (codes "!")) (negated (unary (nested room) token.after)) (closed (implied (unary (nested room)) token.after)) (Ok (x, rest)) e) [

@@ -1,3 +1,4 @@
+pub mod Again
 pub mod Denoted
 pub mod Derived
 pub mod Joining
