@@ -4,7 +4,8 @@ use Rattle.std.specs.Prelude.{bytes_eq}
 use Rattle.rpatl_syntax.specs.declared.fault.FormulaFault.{FormulaFault}
 use Rattle.rpatl_syntax.specs.declared.levels.Level.{Level}
 use Rattle.rpatl_syntax.specs.declared.levels.Level.TheVariants.{Implication, Disjunction, Conjunction}
-use Rattle.rpatl_syntax.specs.Fault.{◌>>=◌}
+use Rattle.rpatl_syntax.specs.declared.fault.FormulaCause.TheVariants.{TooDeep}
+use Rattle.rpatl_syntax.specs.Fault.{fault_at, ◌>>=◌}
 use Rattle.rpatl_syntax.specs.Formula.{State}
 use Rattle.rpatl_syntax.specs.Tokens.{Tokens, Finish, Broken, Then, Token, count_of}
 use Rattle.rpatl_syntax.specs.Grammar.{Reading, follows, further, joined, where_next, nested, inside_of}
@@ -41,7 +42,7 @@ begun sign join operand left ts rest e = record {
 
 -- one operand more
 pub went_on : (sign : List ℕ) (join : State → State → State) (operand : Reading State) (left right : State) (ts after rest : Tokens) (said : Result (State × Tokens) FormulaFault)
-    → Stands sign join operand left ts said → follows sign ts ≡ Some after → operand after ≡ Ok (right, rest) → count_of rest < count_of after
+    → Stands sign join operand left ts said → follows sign ts ≡ Some after → operand after ≡ Ok (right, rest) → count_of rest ≤ count_of after
     → Stands sign join operand (join left right) rest said
 went_on sign join operand left right ts after rest said at e r less = by_most at.most at.enough at.is
   where
@@ -73,5 +74,12 @@ ended sign join operand left ts said at e = by_most at.most at.is
 
 -- where there is room
 pub nested_within : (room : ℕ) (token : Token) → 0 < room → nested room token ≡ inside_of (nested (room - 1)) token
+unfolding nested
 nested_within zero token h = absurd (omega (arith, h))
 nested_within (suc room) token h = let e : suc room - 1 ≡ room = omega arith in ap (λ n. inside_of (nested n) token) (sym e)
+
+-- where there is none
+pub nested_without : (room : ℕ) (token : Token) → room ≡ 0 → nested room token ≡ Err (fault_at token.place TooDeep)
+unfolding nested
+nested_without zero token h = refl
+nested_without (suc room) token h = absurd (omega (arith, h))

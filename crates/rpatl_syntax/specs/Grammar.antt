@@ -117,7 +117,7 @@ abbrev pub inside_of : (Token → Result (State × Tokens) FormulaFault) → Tok
 inside_of inside token = if is token (codes "!") then negated (unary inside token.after) else closed (implied (unary inside) token.after)
 
 -- The same where so many more `!` and `(` may be open at once.
-abbrev pub nested : ℕ → Token → Result (State × Tokens) FormulaFault
+unfoldable pub nested : ℕ → Token → Result (State × Tokens) FormulaFault
 nested zero token = fails token TooDeep
 nested (suc room) token = inside_of (nested room) token
 
@@ -221,5 +221,5 @@ formula ts = do
   behind_bound team.0 asks.0 asks.1
 
 -- The formula that a text spells, or its first fault.
-abbrev pub formula_said : List ℕ → Result Tree FormulaFault
+unfoldable pub formula_said : List ℕ → Result Tree FormulaFault
 formula_said text = if nat_lt longest (length text) then Err (fault_at longest TooLong) else formula (tokens_of text)

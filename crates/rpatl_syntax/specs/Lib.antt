@@ -5,5 +5,6 @@ pub mod Formula
 pub mod Grammar
 pub mod Levels
 pub mod Limits
+pub mod Rules
 pub mod Spelling
 pub mod Tokens

@@ -10,6 +10,8 @@ mod limits;
 mod print;
 mod read;
 mod states;
+#[cfg(test)]
+mod tests;
 mod tokens;
 
 pub use fault::{FormulaCause, FormulaFault};

@@ -1,10 +1,11 @@
 // Formulas.
-ghost use Rattle.std.specs.Prelude.{◌≡◌, ◌<◌, ◌≤◌, ◌+◌, ◌-◌, ◌++◌, ◌∷◌, [], option_map, length, OnOk, IfErr};
+ghost use Rattle.std.specs.Prelude.{◌≡◌, ◌<◌, ◌≤◌, ◌+◌, ◌-◌, ◌++◌, ◌∷◌, [], option_map, length, Ok, IfOk, OnOk, IfErr};
 ghost use Rattle.distributions.specs.Number.{number_said};
 ghost use Rattle.rpatl_syntax.specs.Fault.{Gives, Says, fault_at, IsOutOfMemory};
 ghost use Rattle.rpatl_syntax.specs.Formula.{Tree, tree_of, names_of};
 ghost use Rattle.rpatl_syntax.specs.Bounds.{bound_with};
 ghost use Rattle.rpatl_syntax.specs.Grammar.{names, coalition, threshold_of, threshold, comparison, asked, bound, reached, path, finished, compared, behind_bound, formula, formula_said, is_word, is_number};
+ghost use Rattle.rpatl_syntax.specs.Rules.{Denotes};
 ghost use Rattle.rpatl_syntax.specs.Tokens.{count_of};
 ghost use Rattle.rpatl_syntax.specs.Cursor.{tokens_at, token_of, state_at, names_at, team_at, bound_at, sides_at};
 
@@ -19,18 +20,28 @@ use game_outside::Name;
 use std::alloc::Global;
 
 /// The formula that a text spells, or the first fault of the text.
+#[tactic(auto, using(crate::proofs::Denoted::formula_denoted, crate::proofs::Again::formula_said_again))]
 pub fn read_formula(alloc: Global, text: &str) -> Result<Formula, FormulaFault>
+    // What is read is what the text spells, and nothing but the first fault refuses a text.
+    ensures found { IfOk result (λ formula. Denotes text.now (tree_of formula)) }
+    ensures only { (tree : Tree) → Denotes text.now tree → Gives tree_of result (Ok tree) }
     ensures exact { Gives tree_of result (formula_said text.now) }
 {
-    let bytes = text.as_bytes();
-    if bytes.len() > LONGEST {
+    read_exact(alloc, text.as_bytes())
+}
+
+#[tactic(auto, unfolding(crate::specs::Grammar::formula_said))]
+fn read_exact(alloc: Global, text: &[u8]) -> Result<Formula, FormulaFault>
+    ensures { Gives tree_of result (formula_said text.now) }
+{
+    if text.len() > LONGEST {
         return Err(FormulaFault::new(LONGEST as u32, FormulaCause::TooLong));
     }
     whole(
         alloc,
         Cursor {
             place: 0,
-            rest: bytes,
+            rest: text,
         },
     )
 }

@@ -101,7 +101,7 @@ fn unary_state<'a>(alloc: Global, room: u32, cursor: Cursor<'a>) -> Read<'a>
 }
 
 // What a `!` or a `(` begins, where so many more may be open.
-#[tactic(auto, using(crate::proofs::Joining::nested_within))]
+#[tactic(auto, using(crate::proofs::Joining::nested_within, crate::proofs::Joining::nested_without))]
 #[cycle(state)]
 fn nested_state<'a>(alloc: Global, room: u32, token: Token<'a>) -> Read<'a>
     ensures value { Gives state_at result (nested room (token_of token.entry)) }

@@ -13,7 +13,7 @@ level_state-loop-after-preserved t c =
     let next : follows (sign_of c.args.level) (tokens_at c.loop-after.rest) ≡ Some (tokens_at c.in-Some.after) = ap (λ s. follows s (tokens_at c.loop-after.rest)) (sym c.sign.ensures) ∙ c.in-Some.ensures in
     let P : State → Type 0 = λ x. Stands (sign_of c.args.level) (join_of c.args.level) (operand_of c.args.level (unary (nested c.args.room))) x (tokens_at c.in_ok-right.behind_right) (level_of c.args.level (unary (nested c.args.room)) (tokens_at c.args.cursor)) in
     record {
-      stands = subst P (sym c.in_ok-left-2.ensures) (went_on _ _ _ _ _ _ _ _ _ c.loop-after.invariant.stands next c.in_ok-right.ensures.value c.in_ok-right.ensures.shorter);
+      stands = subst P (sym c.in_ok-left-2.ensures) (went_on _ _ _ _ _ _ _ _ _ c.loop-after.invariant.stands next c.in_ok-right.ensures.value (omega (arith, c.in_ok-right.ensures.shorter)));
       shorter = omega (arith, c.in_ok-right.ensures.shorter, one_less (sign_of c.args.level) (tokens_at c.loop-after.rest) (tokens_at c.in-Some.after) next, c.loop-after.invariant.shorter);
     }
 

@@ -1,0 +1,103 @@
+-- The grammar of formulas as rules: which lists of tokens spell which tree.
+use Rattle.std.specs.Prelude.{◌≡◌, ◌≤◌, ◌⊎◌, ℕ, zero, suc, true, List, [], ◌∷◌, ◌++◌, length, Option, Some, None, option_map, Result, Ok, codes}
+use Rattle.std.specs.List.{AllByRecursion}
+use Rattle.distributions.specs.Fraction.{Fraction}
+use Rattle.distributions.specs.Number.{Denotes as DenotesNumber}
+use Rattle.rpatl_syntax.specs.declared.formula.Bound.{Bound}
+use Rattle.rpatl_syntax.specs.declared.formula.Bound.TheVariants.{AtLeast, Above, AtMost, Below, AskMax, AskMin}
+use Rattle.rpatl_syntax.specs.Formula.{State, True, False, Label, Not, And, Or, Implies, Tree}
+use Rattle.rpatl_syntax.specs.Limits.{longest, most_nested}
+use Rattle.rpatl_syntax.specs.Tokens.{Tokens, Finish, Broken, Then, tokens_of}
+use Rattle.rpatl_syntax.specs.Grammar.{is_word, is_number, is_quoted, unquoted}
+
+-- a token between two others
+abbrev pub between : List (List ℕ) → List ℕ → List (List ℕ) → List (List ℕ)
+between ts token us = ts ++ token ∷ us
+
+-- The state formulas that tokens spell, where at most so many `(` and `!` are open at once.
+mutual
+  -- state = either | state "=>" either
+  pub data IsState : ℕ → List (List ℕ) → State → Type 0 where
+    plain_state : (room : ℕ) (ts : List (List ℕ)) (x : State) → IsEither room ts x → IsState room ts x
+    implies : (room : ℕ) (ts us : List (List ℕ)) (x y : State) → IsState room ts x → IsEither room us y → IsState room (between ts (codes "=>") us) (Implies x y)
+
+  -- either = both | either "|" both
+  pub data IsEither : ℕ → List (List ℕ) → State → Type 0 where
+    plain_either : (room : ℕ) (ts : List (List ℕ)) (x : State) → IsBoth room ts x → IsEither room ts x
+    or : (room : ℕ) (ts us : List (List ℕ)) (x y : State) → IsEither room ts x → IsBoth room us y → IsEither room (between ts (codes "|") us) (Or x y)
+
+  -- both = unary | both "&" unary
+  pub data IsBoth : ℕ → List (List ℕ) → State → Type 0 where
+    plain_both : (room : ℕ) (ts : List (List ℕ)) (x : State) → IsUnary room ts x → IsBoth room ts x
+    and : (room : ℕ) (ts us : List (List ℕ)) (x y : State) → IsBoth room ts x → IsUnary room us y → IsBoth room (between ts (codes "&") us) (And x y)
+
+  -- unary = "!" unary | "(" state ")" | "true" | "false" | quoted name
+  pub data IsUnary : ℕ → List (List ℕ) → State → Type 0 where
+    negation : (room : ℕ) (ts : List (List ℕ)) (x : State) → IsUnary room ts x → IsUnary (suc room) (codes "!" ∷ ts) (Not x)
+    brackets : (room : ℕ) (ts : List (List ℕ)) (x : State) → IsState room ts x → IsUnary (suc room) (codes "(" ∷ (ts ++ codes ")" ∷ [])) x
+    everywhere : (room : ℕ) → IsUnary room (codes "true" ∷ []) True
+    nowhere : (room : ℕ) → IsUnary room (codes "false" ∷ []) False
+    label : (room : ℕ) (token : List ℕ) → is_quoted token ≡ true → IsUnary room (token ∷ []) (Label (unquoted token))
+
+-- names with a comma between each two
+abbrev pub with_commas : List (List ℕ) → List (List ℕ)
+with_commas [] = []
+with_commas (name ∷ []) = name ∷ []
+with_commas (name ∷ other ∷ names) = name ∷ codes "," ∷ with_commas (other ∷ names)
+
+abbrev pub IsWord : List ℕ → Type 0
+IsWord token = is_word token ≡ true
+
+-- coalition = "<<" [ word { "," word } ] ">>", or none
+abbrev pub IsCoalition : List (List ℕ) → Option (List (List ℕ)) → Type 0
+IsCoalition ts None = ts ≡ []
+IsCoalition ts (Some names) = (ts ≡ codes "<<" ∷ (with_commas names ++ codes ">>" ∷ [])) × AllByRecursion IsWord names
+
+-- a number of this value, which is at most 1
+pub record IsThreshold (token : List ℕ) (p : Fraction) : Type 0 where
+  pub number : is_number token ≡ true
+  pub value : DenotesNumber token p
+  pub small : p.num ≤ p.den
+
+-- "P", a sign and a number
+abbrev pub IsComparison : List ℕ → List (List ℕ) → Fraction → Type 0
+IsComparison sign ts p = (token : List ℕ) × (ts ≡ codes "P" ∷ sign ∷ token ∷ []) × IsThreshold token p
+
+-- bound = "P" ( ">=" | ">" | "<=" | "<" ) number | "Pmax" "=?" | "Pmin" "=?"
+abbrev pub IsBound : List (List ℕ) → Bound → Type 0
+IsBound ts (AtLeast p) = IsComparison (codes ">=") ts p
+IsBound ts (Above p) = IsComparison (codes ">") ts p
+IsBound ts (AtMost p) = IsComparison (codes "<=") ts p
+IsBound ts (Below p) = IsComparison (codes "<") ts p
+IsBound ts AskMax = ts ≡ codes "Pmax" ∷ codes "=?" ∷ []
+IsBound ts AskMin = ts ≡ codes "Pmin" ∷ codes "=?" ∷ []
+
+-- path = "F" state | state "U" state
+pub data IsPath : List (List ℕ) → State → State → Type 0 where
+  reach : (ts : List (List ℕ)) (y : State) → IsState most_nested ts y → IsPath (codes "F" ∷ ts) True y
+  until : (ts us : List (List ℕ)) (x y : State) → IsState most_nested ts x → IsState most_nested us y → IsPath (between ts (codes "U") us) x y
+
+-- formula = [ coalition ] bound "[" path "]"
+pub record IsFormula (ts : List (List ℕ)) (f : Tree) : Type 0 where
+  pub team : List (List ℕ)
+  pub asks : List (List ℕ)
+  pub sides : List (List ℕ)
+  pub whole : ts ≡ team ++ (asks ++ codes "[" ∷ (sides ++ codes "]" ∷ []))
+  pub coalition : IsCoalition team f.coalition
+  pub bound : IsBound asks f.bound
+  pub path : IsPath sides f.left f.right
+
+-- these are all the tokens up to the end of the text
+abbrev pub AreTokens : Tokens → List (List ℕ) → Type 0
+AreTokens (Finish place) [] = Unit {0}
+AreTokens (Finish place) (t ∷ ts) = ⊥
+AreTokens (Broken fault) ts = ⊥
+AreTokens (Then place spelling rest) [] = ⊥
+AreTokens (Then place spelling rest) (t ∷ ts) = (spelling ≡ t) × AreTokens rest ts
+
+-- The text spells this formula.
+pub record Denotes (text : List ℕ) (f : Tree) : Type 0 where
+  pub short : length text ≤ longest
+  pub tokens : List (List ℕ)
+  pub read : AreTokens (tokens_of text) tokens
+  pub formula : IsFormula tokens f

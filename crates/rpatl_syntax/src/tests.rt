@@ -1,0 +1,342 @@
+// Formulas as texts: what is read, how it is printed, and each fault with its place.
+use crate::fault::{FormulaCause, FormulaFault};
+use crate::print::print_formula;
+use crate::read::read_formula;
+use distributions::NumberFault;
+use std::alloc::Global;
+use std::test::Fail;
+
+// Formulas, each with its spelling.
+const SPELLED: [(&str, &str); 66] = [
+    ("Pmax=? [ F \"goal\" ]", "Pmax=? [ F \"goal\" ]"),
+    ("Pmin=?[F\"goal\"]", "Pmin=? [ F \"goal\" ]"),
+    ("P>=0.5 [ F true ]", "P>=1/2 [ F true ]"),
+    ("P>0.25 [ F false ]", "P>1/4 [ F false ]"),
+    ("P<=1 [ F \"a\" ]", "P<=1 [ F \"a\" ]"),
+    ("P<0 [ F \"a\" ]", "P<0 [ F \"a\" ]"),
+    ("P>=2/6[F\"a\"]", "P>=1/3 [ F \"a\" ]"),
+    ("P>=1e-2[F\"a\"]", "P>=1/100 [ F \"a\" ]"),
+    ("P>=1E+0[F\"a\"]", "P>=1 [ F \"a\" ]"),
+    ("P>=1.[F\"a\"]", "P>=1 [ F \"a\" ]"),
+    (
+        "<<p1>> P>=3/5 [ F \"goal\" ]",
+        "<<p1>> P>=3/5 [ F \"goal\" ]",
+    ),
+    ("<<p1,p2>>Pmax=?[F\"a\"]", "<<p1,p2>> Pmax=? [ F \"a\" ]"),
+    (
+        "<< a , b , a >> Pmin =? [ F \"a\" ]",
+        "<<a,b,a>> Pmin=? [ F \"a\" ]",
+    ),
+    ("<<>> Pmax=? [ F \"a\" ]", "<<>> Pmax=? [ F \"a\" ]"),
+    (
+        "<<P,F,U,true,_x9>> Pmax=? [ F \"a\" ]",
+        "<<P,F,U,true,_x9>> Pmax=? [ F \"a\" ]",
+    ),
+    ("Pmax=? [ \"a\" U \"b\" ]", "Pmax=? [ \"a\" U \"b\" ]"),
+    ("Pmax=? [ true U \"b\" ]", "Pmax=? [ F \"b\" ]"),
+    ("Pmax=? [ (true) U \"b\" ]", "Pmax=? [ F \"b\" ]"),
+    ("Pmax=? [ !false U \"b\" ]", "Pmax=? [ !false U \"b\" ]"),
+    ("Pmax=? [ false U true ]", "Pmax=? [ false U true ]"),
+    ("Pmax=? [ F !\"a\" ]", "Pmax=? [ F !\"a\" ]"),
+    ("Pmax=? [ F !!\"a\" ]", "Pmax=? [ F !!\"a\" ]"),
+    ("Pmax=? [ F ! ( ! \"a\" ) ]", "Pmax=? [ F !!\"a\" ]"),
+    ("Pmax=? [ F \"a\"&\"b\" ]", "Pmax=? [ F \"a\" & \"b\" ]"),
+    ("Pmax=? [ F \"a\"|\"b\" ]", "Pmax=? [ F \"a\" | \"b\" ]"),
+    ("Pmax=? [ F \"a\"=>\"b\" ]", "Pmax=? [ F \"a\" => \"b\" ]"),
+    (
+        "Pmax=? [ F \"a\" & \"b\" & \"c\" ]",
+        "Pmax=? [ F \"a\" & \"b\" & \"c\" ]",
+    ),
+    (
+        "Pmax=? [ F (\"a\" & \"b\") & \"c\" ]",
+        "Pmax=? [ F \"a\" & \"b\" & \"c\" ]",
+    ),
+    (
+        "Pmax=? [ F \"a\" & (\"b\" & \"c\") ]",
+        "Pmax=? [ F \"a\" & (\"b\" & \"c\") ]",
+    ),
+    (
+        "Pmax=? [ F \"a\" | \"b\" | \"c\" ]",
+        "Pmax=? [ F \"a\" | \"b\" | \"c\" ]",
+    ),
+    (
+        "Pmax=? [ F (\"a\" | \"b\") | \"c\" ]",
+        "Pmax=? [ F \"a\" | \"b\" | \"c\" ]",
+    ),
+    (
+        "Pmax=? [ F \"a\" | (\"b\" | \"c\") ]",
+        "Pmax=? [ F \"a\" | (\"b\" | \"c\") ]",
+    ),
+    (
+        "Pmax=? [ F \"a\" => \"b\" => \"c\" ]",
+        "Pmax=? [ F \"a\" => \"b\" => \"c\" ]",
+    ),
+    (
+        "Pmax=? [ F (\"a\" => \"b\") => \"c\" ]",
+        "Pmax=? [ F \"a\" => \"b\" => \"c\" ]",
+    ),
+    (
+        "Pmax=? [ F \"a\" => (\"b\" => \"c\") ]",
+        "Pmax=? [ F \"a\" => (\"b\" => \"c\") ]",
+    ),
+    (
+        "Pmax=? [ F \"a\" & \"b\" | \"c\" ]",
+        "Pmax=? [ F \"a\" & \"b\" | \"c\" ]",
+    ),
+    (
+        "Pmax=? [ F (\"a\" & \"b\") | \"c\" ]",
+        "Pmax=? [ F \"a\" & \"b\" | \"c\" ]",
+    ),
+    (
+        "Pmax=? [ F \"a\" & (\"b\" | \"c\") ]",
+        "Pmax=? [ F \"a\" & (\"b\" | \"c\") ]",
+    ),
+    (
+        "Pmax=? [ F \"a\" | \"b\" & \"c\" ]",
+        "Pmax=? [ F \"a\" | \"b\" & \"c\" ]",
+    ),
+    (
+        "Pmax=? [ F \"a\" | (\"b\" & \"c\") ]",
+        "Pmax=? [ F \"a\" | \"b\" & \"c\" ]",
+    ),
+    (
+        "Pmax=? [ F (\"a\" | \"b\") & \"c\" ]",
+        "Pmax=? [ F (\"a\" | \"b\") & \"c\" ]",
+    ),
+    (
+        "Pmax=? [ F \"a\" | \"b\" => \"c\" ]",
+        "Pmax=? [ F \"a\" | \"b\" => \"c\" ]",
+    ),
+    (
+        "Pmax=? [ F (\"a\" | \"b\") => \"c\" ]",
+        "Pmax=? [ F \"a\" | \"b\" => \"c\" ]",
+    ),
+    (
+        "Pmax=? [ F \"a\" | (\"b\" => \"c\") ]",
+        "Pmax=? [ F \"a\" | (\"b\" => \"c\") ]",
+    ),
+    (
+        "Pmax=? [ F \"a\" => \"b\" | \"c\" ]",
+        "Pmax=? [ F \"a\" => \"b\" | \"c\" ]",
+    ),
+    (
+        "Pmax=? [ F \"a\" => (\"b\" | \"c\") ]",
+        "Pmax=? [ F \"a\" => \"b\" | \"c\" ]",
+    ),
+    (
+        "Pmax=? [ F (\"a\" => \"b\") | \"c\" ]",
+        "Pmax=? [ F (\"a\" => \"b\") | \"c\" ]",
+    ),
+    (
+        "Pmax=? [ F \"a\" & \"b\" => \"c\" & \"d\" ]",
+        "Pmax=? [ F \"a\" & \"b\" => \"c\" & \"d\" ]",
+    ),
+    (
+        "Pmax=? [ F \"a\" & (\"b\" => \"c\") ]",
+        "Pmax=? [ F \"a\" & (\"b\" => \"c\") ]",
+    ),
+    (
+        "Pmax=? [ F (\"a\" => \"b\") & \"c\" ]",
+        "Pmax=? [ F (\"a\" => \"b\") & \"c\" ]",
+    ),
+    ("Pmax=? [ F !\"a\" & \"b\" ]", "Pmax=? [ F !\"a\" & \"b\" ]"),
+    (
+        "Pmax=? [ F !(\"a\" & \"b\") ]",
+        "Pmax=? [ F !(\"a\" & \"b\") ]",
+    ),
+    (
+        "Pmax=? [ F !(\"a\" | \"b\") ]",
+        "Pmax=? [ F !(\"a\" | \"b\") ]",
+    ),
+    (
+        "Pmax=? [ F !(\"a\" => \"b\") ]",
+        "Pmax=? [ F !(\"a\" => \"b\") ]",
+    ),
+    (
+        "Pmax=? [ F (!\"a\") & (!\"b\") ]",
+        "Pmax=? [ F !\"a\" & !\"b\" ]",
+    ),
+    ("Pmax=? [ F ((\"a\")) ]", "Pmax=? [ F \"a\" ]"),
+    (
+        "Pmax=? [ F (((\"a\" | (\"b\")))) ]",
+        "Pmax=? [ F \"a\" | \"b\" ]",
+    ),
+    (
+        "Pmax=? [ F \"a\" | \"b\" & \"c\" => !\"d\" ]",
+        "Pmax=? [ F \"a\" | \"b\" & \"c\" => !\"d\" ]",
+    ),
+    (
+        "Pmax=? [ \"a\" | \"b\" U \"c\" => \"d\" ]",
+        "Pmax=? [ \"a\" | \"b\" U \"c\" => \"d\" ]",
+    ),
+    (
+        "Pmax=? [ (\"a\" & \"b\") U (\"c\" | \"d\") ]",
+        "Pmax=? [ \"a\" & \"b\" U \"c\" | \"d\" ]",
+    ),
+    (
+        " \t\r\nPmax\n=?\t[\r\n F \"a\" ] \n\n",
+        "Pmax=? [ F \"a\" ]",
+    ),
+    (
+        "Pmax=? [ F \"!#$%&'()*+,-./[]~\" ]",
+        "Pmax=? [ F \"!#$%&'()*+,-./[]~\" ]",
+    ),
+    (
+        "Pmax=? [ F \"P\" & \"true\" ]",
+        "Pmax=? [ F \"P\" & \"true\" ]",
+    ),
+    (
+        "Pmax=? [ F true & false | true => false ]",
+        "Pmax=? [ F true & false | true => false ]",
+    ),
+    (
+        "<<x>>P<0.999999999999999999[true&true U!false]",
+        "<<x>> P<999999999999999999/1000000000000000000 [ true & true U !false ]",
+    ),
+    ("P>=0e5 [ F \"a\" ]", "P>=0 [ F \"a\" ]"),
+];
+
+// Texts that are no formula, each with its fault.
+const REFUSED: [(&str, u32, FormulaCause); 44] = [
+    ("Pmax=? [ F goal ]", 11, FormulaCause::Unexpected),
+    ("P>=1.5 [ F true ]", 3, FormulaCause::ThresholdOutOfRange),
+    ("P>=0.5 [ F \"goal\"", 17, FormulaCause::End),
+    ("P>=0.5 [ X \"goal\" ]", 9, FormulaCause::NotYet),
+    ("", 0, FormulaCause::End),
+    (" ", 1, FormulaCause::End),
+    ("P", 1, FormulaCause::End),
+    ("P=?", 1, FormulaCause::Unexpected),
+    ("Pmax=", 4, FormulaCause::Unexpected),
+    ("Pmax=? [ F \"a\" =", 15, FormulaCause::Unexpected),
+    ("Pmax=? [ F \"a\" ] x", 17, FormulaCause::Unexpected),
+    ("Pmax=? [ F \"a\" ] \"", 18, FormulaCause::End),
+    ("\"a", 2, FormulaCause::End),
+    ("Pmax=? [ F \"\" ]", 11, FormulaCause::Unexpected),
+    ("Pmax=? [ F \"a b\" ]", 11, FormulaCause::Unexpected),
+    ("Pmax=? [ F \"a", 13, FormulaCause::End),
+    ("Pmax=?\r[ F \"a\" ]", 6, FormulaCause::Unexpected),
+    ("Pmax=? { F \"a\" }", 7, FormulaCause::Unexpected),
+    ("Pmax=? [ F \u{e9} ]", 11, FormulaCause::Unexpected),
+    ("Pmaxx=? [ F \"a\" ]", 0, FormulaCause::Unexpected),
+    ("<<p1 P>=1 [ F \"a\" ]", 5, FormulaCause::Unexpected),
+    ("<<p1,>> P>=1 [ F \"a\" ]", 5, FormulaCause::Unexpected),
+    ("<<1>> P>=1 [ F \"a\" ]", 2, FormulaCause::Unexpected),
+    ("P>=x [ F \"a\" ]", 3, FormulaCause::Unexpected),
+    ("P>=2/1 [ F \"a\" ]", 3, FormulaCause::ThresholdOutOfRange),
+    ("P>=2.1 [ F \"a\" ]", 3, FormulaCause::ThresholdOutOfRange),
+    (
+        "P>=1/0 [ F \"a\" ]",
+        3,
+        FormulaCause::BadNumber(NumberFault::ZeroDenominator),
+    ),
+    (
+        "P>=0.5x [ F \"a\" ]",
+        3,
+        FormulaCause::BadNumber(NumberFault::NotANumber),
+    ),
+    (
+        "P>=1e-25 [ F \"a\" ]",
+        3,
+        FormulaCause::BadNumber(NumberFault::TooFine),
+    ),
+    (
+        "P>=1e-100 [ F \"a\" ]",
+        3,
+        FormulaCause::BadNumber(NumberFault::TooManyDigits),
+    ),
+    ("Pmax=? [ G \"a\" ]", 9, FormulaCause::NotYet),
+    ("Pmax=? [ F<=5 \"a\" ]", 10, FormulaCause::NotYet),
+    ("Pmax=? [ \"a\" U<=5 \"b\" ]", 14, FormulaCause::NotYet),
+    ("Pmax=? [ F P>=1 [ F \"a\" ] ]", 11, FormulaCause::NotYet),
+    ("Pmax=? [ F Pmax=? [ F \"a\" ] ]", 11, FormulaCause::NotYet),
+    (
+        "Pmax=? [ Pmin=? [ F \"a\" ] U \"b\" ]",
+        9,
+        FormulaCause::NotYet,
+    ),
+    (
+        "Pmax=? [ F !<<x>>P>=1 [ F \"a\" ] ]",
+        12,
+        FormulaCause::NotYet,
+    ),
+    ("Pmax=? [ F X \"a\" ]", 11, FormulaCause::Unexpected),
+    ("Pmax=? [ \"a\" ]", 13, FormulaCause::Unexpected),
+    ("Pmax=? [ \"a\" \"b\" ]", 13, FormulaCause::Unexpected),
+    ("Pmax=? [ F (\"a\" ]", 16, FormulaCause::Unexpected),
+    ("Pmax=? [ F \"a\" & ]", 17, FormulaCause::Unexpected),
+    ("Pmax=? [ F \"a\" && \"b\" ]", 16, FormulaCause::Unexpected),
+    ("Pmax=? [ F \"a\" <= \"b\" ]", 15, FormulaCause::Unexpected),
+];
+
+// What a text is printed as, or nothing where it is refused.
+fn printed(alloc: Global, text: &str) -> Result<Option<Vec<u8>>, FormulaFault> {
+    match read_formula(alloc, text) {
+        Ok(formula) => match print_formula(alloc, &formula) {
+            Ok(spelling) => Ok(Some(spelling)),
+            Err(_) => Ok(None),
+        },
+        Err(fault) => Err(fault),
+    }
+}
+
+#[test]
+fn formulas_are_read_printed_and_read_again(rt: HostRuntime) -> Result<(), Fail> {
+    let alloc = rt.alloc();
+    for (text, spelling) in SPELLED {
+        let first = printed(alloc, text);
+        assert!(rt;
+            matches!(first, Ok(Some(ref v)) if v.as_slice() == spelling.as_bytes()),
+            "{text}"
+        );
+        let again = printed(alloc, spelling);
+        assert!(rt;
+            matches!(again, Ok(Some(ref v)) if v.as_slice() == spelling.as_bytes()),
+            "{spelling}"
+        );
+    }
+    Ok(())
+}
+
+#[test]
+fn each_fault_has_its_place(rt: HostRuntime) {
+    let alloc = rt.alloc();
+    for (text, place, cause) in REFUSED {
+        let fault = FormulaFault { place, cause };
+        assert!(rt;
+            matches!(printed(alloc, text), Err(found) if found == fault),
+            "{text}"
+        );
+    }
+}
+
+// A text of a front, and then a piece so many times.
+fn repeated(alloc: Global, front: &str, piece: &str, count: usize) -> Result<String, Fail> {
+    let mut text = String::from_str(alloc, front)?;
+    for _ in 0..count {
+        text.push_str(piece)?;
+    }
+    Ok(text)
+}
+
+#[test]
+fn limits_are_kept(rt: HostRuntime) -> Result<(), Fail> {
+    let alloc = rt.alloc();
+    for (front, piece, count, place, cause) in [
+        ("Pmax=? [ F ", "(", 65, 75, FormulaCause::TooDeep),
+        ("Pmax=? [ F ", "(", 64, 75, FormulaCause::End),
+        ("Pmax=? [ F ", "!", 65, 75, FormulaCause::TooDeep),
+        ("Pmax=? [ F ", "!(", 33, 75, FormulaCause::TooDeep),
+        ("", " ", 4097, 4096, FormulaCause::TooLong),
+        ("", " ", 4096, 4096, FormulaCause::End),
+        ("Pmax=? [ F \"", "a", 256, 11, FormulaCause::Unexpected),
+        ("Pmax=? [ F \"", "a", 255, 267, FormulaCause::End),
+    ] {
+        let text = repeated(alloc, front, piece, count)?;
+        let fault = FormulaFault { place, cause };
+        assert!(rt;
+            matches!(printed(alloc, text.as_str()), Err(found) if found == fault),
+            "{piece} {count}"
+        );
+    }
+    Ok(())
+}
