@@ -12,7 +12,7 @@ use Rattle.game_model.specs.Values.{weighted_sum}
 use Rattle.game_model.specs.Limits.{unit}
 use Rattle.game_model.specs.Rounded.{down_value}
 use Rattle.game_model.proofs.Best.{weighted_sum-most}
-use Rattle.game_model.proofs.Shares.{AllByRecursion-always}
+use Rattle.game_model.proofs.Each.{AllByRecursion-always}
 
 -- a table of units, past its end too
 pub slice_index-units : (table : List ℕ) → All (λ v. v ≤ unit) table → (t : ℕ) → slice_index table t ≤ unit

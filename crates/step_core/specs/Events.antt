@@ -63,20 +63,27 @@ is_too_high q table s value choice = nat_lt (on_side_value (side_at q s) (down_v
     on_side_value Max greatest least = greatest
     on_side_value Min greatest least = least
 
--- the reasons against an event, in their order
-abbrev pub reasons : Configuration → Event → List (Bool × Refused)
-reasons w (Load view state) = (is_none (view_of w view), NoView) ∷ (nat_le (states w.question) state, NoState) ∷ []
-reasons w (Won view state from to) =
-    (is_none (view_of w view), NoView)
-    ∷ (nat_le (states w.question) state, NoState)
-    ∷ (is_goal w.question state || is_dead w.question state, FixedState)
+-- before other reasons: there is no such live view, or no such state
+abbrev pub unless_there : Configuration → ℕ → ℕ → List (Bool × Refused) → List (Bool × Refused)
+unless_there w view state others = (is_none (view_of w view), NoView) ∷ (nat_le (states w.question) state, NoState) ∷ others
+
+-- before other reasons: the word of the state may not be exchanged so
+abbrev pub unless_raised : Configuration → ℕ → ℕ → ℕ → List (Bool × Refused) → List (Bool × Refused)
+unless_raised w state from to others =
+    (is_goal w.question state || is_dead w.question state, FixedState)
     ∷ (is_bad_choice w.question state (choice_in to), BadChoice)
     ∷ (not (slice_index w.words state == from), NotFrom)
     ∷ (nat_le (value_in to) (value_in from), NotRaised)
-    ∷ (is_too_high w.question (value_at (seen_by w view)) state (value_in to) (choice_in to), TooHigh)
-    ∷ []
-reasons w (Lost view state) =
-    (is_none (view_of w view), NoView) ∷ (nat_le (states w.question) state, NoState) ∷ (slice_index w.words state == slice_index (seen_by w view) state, SameWord) ∷ []
+    ∷ others
+
+-- the reasons against an event, in their order
+abbrev pub reasons : Configuration → Event → List (Bool × Refused)
+reasons w (Load view state) = unless_there w view state []
+reasons w (Won view state from to) =
+    unless_there w view state
+    (unless_raised w state from to
+    ((is_too_high w.question (value_at (seen_by w view)) state (value_in to) (choice_in to), TooHigh) ∷ []))
+reasons w (Lost view state) = unless_there w view state ((slice_index w.words state == slice_index (seen_by w view) state, SameWord) ∷ [])
 reasons w (Split view) = (is_none (view_of w view), NoView) ∷ []
 reasons w (Join view other) = (is_none (view_of w view) || is_none (view_of w other), NoView) ∷ (view == other, SameView) ∷ []
 

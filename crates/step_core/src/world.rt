@@ -1,5 +1,5 @@
 // Worlds, and what each event does to one.
-ghost use Rattle.std.specs.Prelude.{◌≡◌, ◌≢◌, ℕ, ◌+◌, ◌<◌, ◌≤◌, ◌⊎◌, List, [], ◌∷◌, ◌++◌, length, Some, None, IsSome, IsNone, is_some, slice_index, slice_set, option_map, IfOk, IfErr, OnOk, OnErr};
+ghost use Rattle.std.specs.Prelude.{◌≡◌, ◌≢◌, ℕ, ◌+◌, ◌<◌, ◌≤◌, ◌⊎◌, List, Bool, false, length, Some, None, IsSome, IsNone, is_some, slice_index, slice_set, option_map, IfOk, IfErr, OnOk, OnErr};
 ghost use Rattle.game_model.specs.Query.{Query, IsQuery, states};
 ghost use Rattle.step_core.specs.Word.{value_in, choice_in, value_at, opening_words};
 
@@ -35,7 +35,7 @@ impl<'q> Model for World<'q> {
 
 impl<'q> World<'q> {
     ghost use Rattle.step_core.specs.Configuration.{Configuration, IsWorld, view_of, seen_by, opening_configuration};
-    ghost use Rattle.step_core.specs.Events.{IsLive, Raises, Lawful, with_view, looked, after, reasons, first_of, Answers, HasRoom};
+    ghost use Rattle.step_core.specs.Events.{IsLive, Raises, Lawful, looked, after, unless_there, unless_raised, is_bad_choice, is_too_high, reasons, first_of, Answers, HasRoom};
 
     /// The opening world: the words have the unit at goals and 0 elsewhere, and view 0 has seen them.
     pub fn start(alloc: Global, question: &'q Question<'q>) -> Result<World<'q>, OutOfMemory>
@@ -109,8 +109,10 @@ impl<'q> World<'q> {
         }
     }
 
-    // The first reason against an event of a view at a state, from whether they are there.
+    // Whether the view is live and there is such a state.
     fn named(&self, view: u32, state: u32) -> Result<(), Refused>
+        ensures ok { OnOk result (IsLive self.now view × (state < states self.now.question)) }
+        ensures err { IfErr result (λ refused. (others : List (Bool × Refused)) → first_of (unless_there self.now view state others) ≡ Some refused) }
     {
         if !self.is_live(view) {
             return Err(Refused::NoView);
@@ -118,6 +120,160 @@ impl<'q> World<'q> {
         if state as usize >= self.words.len() {
             return Err(Refused::NoState);
         }
+        Ok(())
+    }
+
+    // The view sees the word of the state.
+    fn look(&mut self, view: u32, state: u32)
+        requires live { IsLive self.old view }
+        requires state { state < states self.old.question }
+        ensures { self.new ≡ looked self.old view state }
+    {
+        let word = self.words[state as usize];
+        self.views[view as usize].see(state as usize, word);
+    }
+
+    fn load(&mut self, view: u32, state: u32) -> Result<(), Refused>
+        ensures answer { Answers result (first_of (reasons self.old (Event.Load view state))) }
+        ensures taken { OnOk result (self.new ≡ after self.old (Event.Load view state)) }
+        ensures refused { OnErr result (self.new ≡ self.old) }
+    {
+        self.named(view, state)?;
+        self.look(view, state);
+        Ok(())
+    }
+
+    fn lose(&mut self, view: u32, state: u32) -> Result<(), Refused>
+        ensures answer { Answers result (first_of (reasons self.old (Event.Lost view state))) }
+        ensures taken { OnOk result (self.new ≡ after self.old (Event.Lost view state)) }
+        ensures refused { OnErr result (self.new ≡ self.old) }
+    {
+        self.named(view, state)?;
+        let seen = self.views[view as usize].words()[state as usize];
+        if self.words[state as usize] == seen {
+            return Err(Refused::SameWord);
+        }
+        self.look(view, state);
+        Ok(())
+    }
+
+    // Whether the choice of a word is out of range at a state.
+    fn is_bad_choice(&self, state: u32, choice: u32) -> bool
+        requires { state < states self.now.question }
+        ensures { result ≡ is_bad_choice self.now.question state choice }
+    {
+        match self.question.side(state) {
+            Side::Max => choice >= self.question.game().choices_of(state),
+            Side::Min => choice != 0,
+        }
+    }
+
+    // Whether the word of a state may be exchanged so, whoever does it.
+    fn raises(&self, state: u32, from: u64, to: u64) -> Result<(), Refused>
+        requires { state < states self.now.question }
+        ensures ok { OnOk result ((others : List (Bool × Refused)) → first_of (unless_raised self.now state from to others) ≡ first_of others) }
+        ensures err { IfErr result (λ refused. (others : List (Bool × Refused)) → first_of (unless_raised self.now state from to others) ≡ Some refused) }
+    {
+        if self.question.is_goal(state) || self.question.is_dead(state) {
+            return Err(Refused::FixedState);
+        }
+        if self.is_bad_choice(state, choice_of(to)) {
+            return Err(Refused::BadChoice);
+        }
+        if self.words[state as usize] != from {
+            return Err(Refused::NotFrom);
+        }
+        if value_of(to) <= value_of(from) {
+            return Err(Refused::NotRaised);
+        }
+        Ok(())
+    }
+
+    // Whether a value is above what its choice gives over what a view has seen.
+    fn is_too_high(&self, view: u32, state: u32, to: u64) -> Result<bool, OutOfMemory>
+        requires live { IsLive self.now view }
+        requires state { state < states self.now.question }
+        requires choice { is_bad_choice self.now.question state (choice_in to) ≡ false }
+        ensures { IfOk result (λ high. high ≡ is_too_high self.now.question (value_at (seen_by self.now view)) state (value_in to) (choice_in to)) }
+    {
+        let seen = self.views[view as usize].values(self.alloc)?;
+        let given = match self.question.side(state) {
+            Side::Max => down_choice(self.question, state, choice_of(to), seen.as_slice()),
+            Side::Min => down_state(self.question, state, seen.as_slice()).0,
+        };
+        Ok(given < value_of(to))
+    }
+
+    // The view has exchanged the word of the state.
+    fn raise(&mut self, view: u32, state: u32, to: u64)
+        requires { Raises self.old view state (slice_index self.old.words state) to }
+        ensures { self.new ≡ looked (record self.old { words = slice_set self.old.words state to }) view state }
+    {
+        self.words[state as usize] = to;
+        self.views[view as usize].see(state as usize, to);
+    }
+
+    fn win(&mut self, view: u32, state: u32, from: u64, to: u64) -> Result<(), Refused>
+        ensures answer { Answers result (first_of (reasons self.old (Event.Won view state from to))) }
+        ensures taken { OnOk result (self.new ≡ after self.old (Event.Won view state from to)) }
+        ensures refused { OnErr result (self.new ≡ self.old) }
+    {
+        self.named(view, state)?;
+        self.raises(state, from, to)?;
+        match self.is_too_high(view, state, to) {
+            Err(_) => Err(Refused::OutOfMemory),
+            Ok(true) => Err(Refused::TooHigh),
+            Ok(false) => {
+                self.raise(view, state, to);
+                Ok(())
+            }
+        }
+    }
+
+    fn split(&mut self, view: u32) -> Result<(), Refused>
+        ensures answer { Answers result (first_of (reasons self.old (Event.Split view))) }
+        ensures taken { OnOk result (self.new ≡ after self.old (Event.Split view)) }
+        ensures refused { OnErr result (self.new ≡ self.old) }
+    {
+        if !self.is_live(view) {
+            return Err(Refused::NoView);
+        }
+        let seen = self.views[view as usize].words();
+        let Ok(copy) = View::of_words(self.alloc, seen) else {
+            return Err(Refused::OutOfMemory);
+        };
+        if self.views.push(copy).is_err() {
+            return Err(Refused::OutOfMemory);
+        }
+        Ok(())
+    }
+
+    // The view takes in the other, which is spent.
+    fn meet(&mut self, view: u32, other: u32)
+        requires live { IsLive self.old view }
+        requires other { IsLive self.old other }
+        requires apart { view ≢ other }
+        ensures { self.new ≡ after self.old (Event.Join view other) }
+    {
+        let taken = mem::replace(
+            &mut self.views[other as usize],
+            View::spent(self.alloc),
+        );
+        self.views[view as usize].take_in(&taken);
+    }
+
+    fn join(&mut self, view: u32, other: u32) -> Result<(), Refused>
+        ensures answer { Answers result (first_of (reasons self.old (Event.Join view other))) }
+        ensures taken { OnOk result (self.new ≡ after self.old (Event.Join view other)) }
+        ensures refused { OnErr result (self.new ≡ self.old) }
+    {
+        if !self.is_live(view) || !self.is_live(other) {
+            return Err(Refused::NoView);
+        }
+        if view == other {
+            return Err(Refused::SameView);
+        }
+        self.meet(view, other);
         Ok(())
     }
 }

@@ -1,0 +1,44 @@
+-- What a run of rounds gives: a sound lower and a sound upper table, and how near they are.
+use Rattle.std.specs.Prelude.{◌≡◌, ℕ, ◌+◌, ◌*◌, ◌^◌, ◌<◌, ◌≤◌, ◌↔◌, Bool, true, false, List, length, All, slice_index, slice_index_or}
+use Rattle.game_model.specs.Query.{Query, states}
+use Rattle.game_model.specs.Values.{denominator, numerator}
+use Rattle.game_model.specs.Limits.{unit}
+use Rattle.game_model.specs.Rounded.{down_steps, opening, IsBelow, IsSettled}
+use Rattle.game_model.specs.Bounds.{Low, High}
+
+-- at most r units below the r-step values
+abbrev pub IsNear : Query → ℕ → (ℕ → ℕ) → Type 0
+IsNear q r table = (s : ℕ) → s < states q → unit * numerator q r s ≤ (table s + r) * denominator q.game ^ r
+
+-- the least table that is nowhere below the opening table and has no down value above its entry
+pub record IsLeastSettled (q : Query) (table : ℕ → ℕ) : Type 0 where
+  pub opens : IsBelow q (opening q) table
+  pub settled : IsSettled q table
+  pub least : (other : ℕ → ℕ) → IsBelow q (opening q) other → IsSettled q other → IsBelow q table other
+
+-- a bracket of a question with this zero set, after this many completed rounds of those that were asked for
+pub record IsBracket (q : Query) (zero : List Bool) (asked : ℕ) (lower upper : List ℕ) (rounds : ℕ) (stable : Bool) : Type 0 where
+  pub lower_length : length lower ≡ states q
+  pub upper_length : length upper ≡ states q
+  pub lower_units : All (λ v. v ≤ unit) lower
+  pub upper_units : All (λ v. v ≤ unit) upper
+
+  -- the bounds are sound
+  pub low : Low q (slice_index lower)
+  pub high : High q (slice_index upper)
+
+  -- the upper table is 0 on the zero set and 1 elsewhere
+  pub upper_zero : (s : ℕ) → s < states q → slice_index_or zero s false ≡ true → slice_index upper s ≡ 0
+  pub upper_unit : (s : ℕ) → s < states q → slice_index_or zero s false ≡ false → slice_index upper s ≡ unit
+
+  -- the lower table is as far as the completed rounds take it, and as far as all asked rounds would
+  pub few : rounds ≤ asked
+  pub swept : IsBelow q (down_steps q rounds) (slice_index lower)
+  pub swept_asked : IsBelow q (down_steps q asked) (slice_index lower)
+  pub near : IsNear q rounds (slice_index lower)
+  pub near_asked : IsNear q asked (slice_index lower)
+
+  -- the run ends early only where the lower table is settled, and then it is the least settled one
+  pub settled : (stable ≡ true) ↔ IsSettled q (slice_index lower)
+  pub early : rounds < asked → stable ≡ true
+  pub least : stable ≡ true → IsLeastSettled q (slice_index lower)

@@ -1,0 +1,3 @@
+pub mod Bracket
+pub mod Opening
+pub mod Sweep
