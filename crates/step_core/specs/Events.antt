@@ -19,9 +19,9 @@ IsLive w view = IsSome (view_of w view)
 -- an exchange raises the word, to a value that its choice gives over what the view has seen
 pub record Raises (w : Configuration) (view state from to : ℕ) : Type 0 where
   pub live : IsLive w view
-  pub state : state < states w.question
+  pub inside : state < states w.question
   pub free : IsFree w.question state
-  pub from : slice_index w.words state ≡ from
+  pub is_from : slice_index w.words state ≡ from
   pub raised : value_in from < value_in to
   pub given : Gives w.question (value_at (seen_by w view)) state (value_in to) (choice_in to)
 

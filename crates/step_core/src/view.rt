@@ -1,5 +1,5 @@
 // What one view has seen.
-ghost use Rattle.std.specs.Prelude.{◌≡◌, ℕ, ◌+◌, ◌<◌, ◌≤◌, ◌↔◌, List, length, Some, None, IsSome, IsTrue, is_some, slice_index, slice_set, option_map, unwrap_or, IfOk, map};
+ghost use Rattle.std.specs.Prelude.{◌≡◌, ℕ, ◌+◌, ◌<◌, ◌≤◌, List, [], length, Some, None, IsSome, IsTrue, is_some, slice_index, slice_set, option_map, unwrap_or, IfOk, map};
 ghost use Rattle.step_core.specs.Word.{value_in, values_of, greater_words};
 
 use crate::word::value_of;
@@ -15,7 +15,7 @@ pub struct View {
 }
 
 impl Model for View {
-    ghost use Rattle.std.specs.Prelude.{Option, List, Some, None, if◌then◌else◌};
+    ghost use Rattle.std.specs.Prelude.{ℕ, Option, List, Some, None, if◌then◌else◌};
 
     ghost Value = { Option (List ℕ) };
 
