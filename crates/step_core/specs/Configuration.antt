@@ -1,5 +1,5 @@
 -- What contracts see of a world: a configuration of the transition system of the shared words.
-use Rattle.std.specs.Prelude.{◌≡◌, ℕ, List, [], ◌∷◌, slice_index_or, Option, Some, None, IsSome, unwrap_or}
+use Rattle.std.specs.Prelude.{◌≡◌, ℕ, List, [], ◌∷◌, slice_index_or, Option, Some, None, unwrap_or}
 use Rattle.game_model.specs.Query.{Query, IsQuery}
 use Rattle.step_core.specs.Word.{opening_words}
 use Rattle.step_core.specs.Sound.{Sound, Sees}

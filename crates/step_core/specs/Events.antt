@@ -1,5 +1,5 @@
 -- Which events are lawful, what they do, and why others are refused.
-use Rattle.std.specs.Prelude.{◌≡◌, ◌≢◌, ℕ, ◌+◌, ◌<◌, ◌≤◌, Bool, true, false, not, ◌||◌, ◌==◌, List, [], ◌∷◌, ◌++◌, length, slice_index, slice_set, Option, Some, None, IsSome, is_none, Result, Ok, Err, ◌⊎◌, if◌then◌else◌, nat_lt, nat_le}
+use Rattle.std.specs.Prelude.{◌≡◌, ◌≢◌, ℕ, ◌<◌, Bool, not, ◌||◌, ◌==◌, List, [], ◌∷◌, ◌++◌, length, slice_index, slice_set, Option, Some, None, IsSome, is_none, Result, Ok, Err, ◌⊎◌, if◌then◌else◌, nat_lt, nat_le}
 use Rattle.game_model.specs.declared.game.Side.{Side}
 use Rattle.game_model.specs.declared.game.Side.TheVariants.{Max, Min}
 use Rattle.game_model.specs.Game.{choices_of, choice_of}
@@ -48,20 +48,17 @@ after w (Lost view state) = looked w view state
 after w (Split view) = record w { views = w.views ++ Some (seen_by w view) ∷ [] }
 after w (Join view other) = with_view (record w { views = slice_set w.views other None }) view (greater_words (seen_by w view) (seen_by w other))
 
-abbrev on_side : Side → Bool → Bool → Bool
+-- one for the maximiser, another for the minimiser
+abbrev pub on_side : {X : Type 0} → Side → X → X → X
 on_side Max greatest least = greatest
 on_side Min greatest least = least
 
 abbrev pub is_bad_choice : Query → ℕ → ℕ → Bool
 is_bad_choice q s choice = on_side (side_at q s) (nat_le (length (choices_of q.game s)) choice) (not (choice == 0))
 
--- the value is above what the choice gives, or some choice of the minimiser
-abbrev pub is_too_high : Query → (ℕ → ℕ) → ℕ → ℕ → ℕ → Bool
-is_too_high q table s value choice = nat_lt (on_side_value (side_at q s) (down_value table (choice_of q.game s choice)) (down_step q table s)) value
-  where
-    on_side_value : Side → ℕ → ℕ → ℕ
-    on_side_value Max greatest least = greatest
-    on_side_value Min greatest least = least
+-- what the choice gives over a table, or the least that a choice of the minimiser gives
+abbrev pub given_by : Query → (ℕ → ℕ) → ℕ → ℕ → ℕ
+given_by q table s choice = on_side (side_at q s) (down_value table (choice_of q.game s choice)) (down_step q table s)
 
 -- before other reasons: there is no such live view, or no such state
 abbrev pub unless_there : Configuration → ℕ → ℕ → List (Bool × Refused) → List (Bool × Refused)
@@ -82,7 +79,7 @@ reasons w (Load view state) = unless_there w view state []
 reasons w (Won view state from to) =
     unless_there w view state
     (unless_raised w state from to
-    ((is_too_high w.question (value_at (seen_by w view)) state (value_in to) (choice_in to), TooHigh) ∷ []))
+    ((nat_lt (given_by w.question (value_at (seen_by w view)) state (choice_in to)) (value_in to), TooHigh) ∷ []))
 reasons w (Lost view state) = unless_there w view state ((slice_index w.words state == slice_index (seen_by w view) state, SameWord) ∷ [])
 reasons w (Split view) = (is_none (view_of w view), NoView) ∷ []
 reasons w (Join view other) = (is_none (view_of w view) || is_none (view_of w other), NoView) ∷ (view == other, SameView) ∷ []

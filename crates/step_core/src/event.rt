@@ -4,7 +4,10 @@
 #[derive(Clone, Copy, Debug, PartialEq, Eq)]
 pub enum Event {
     /// The view sees the word of the state.
-    Load { view: u32, state: u32 },
+    Load {
+        view: u32,
+        state: u32,
+    },
     /// The view exchanges the word `from` of the state for `to`.
     Won {
         view: u32,
@@ -13,11 +16,19 @@ pub enum Event {
         to: u64,
     },
     /// An exchange of the view is lost: it sees another word than before.
-    Lost { view: u32, state: u32 },
+    Lost {
+        view: u32,
+        state: u32,
+    },
     /// A new view has seen what the view has.
-    Split { view: u32 },
+    Split {
+        view: u32,
+    },
     /// The view takes in what the other has seen, and the other is spent.
-    Join { view: u32, other: u32 },
+    Join {
+        view: u32,
+        other: u32,
+    },
 }
 
 /// Why an event is refused: the first reason, in this order.

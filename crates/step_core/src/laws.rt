@@ -18,5 +18,5 @@ pub fn all_worlds_meet_the_invariant()
 
 /// An event is lawful exactly where there is no reason against it.
 pub fn lawful_where_no_reason()
-    ensures { (w : Configuration) (event : Event) → Lawful w event ↔ (first_of (reasons w event) ≡ None) }
+    ensures { (w : Configuration) (event : Event) → IsWorld w → Lawful w event ↔ (first_of (reasons w event) ≡ None) }
 {}

@@ -72,12 +72,7 @@ impl View {
         requires { IsSome self.now }
         ensures { IfOk result (λ v. v.items ≡ values_of (unwrap_or self.now [])) }
     {
-        match self
-            .words
-            .iter()
-            .map(|word| value_of(*word))
-            .collect(alloc)
-        {
+        match self.words.iter().map(|word| value_of(*word)).collect(alloc) {
             Ok(values) => Ok(values),
             Err(_) => Err(OutOfMemory {}),
         }
@@ -90,11 +85,18 @@ impl View {
         requires as_many { length (unwrap_or other.now []) ≡ length (unwrap_or self.old []) }
         ensures { self.new ≡ Some (greater_words (unwrap_or self.old []) (unwrap_or other.now [])) }
     {
-        for state in 0..self.words.len() {
-            let word = other.words[state];
-            if value_of(self.words[state]) < value_of(word) {
-                self.words[state] = word;
-            }
+        take_greater(self.words.as_mut_slice(), other.words.as_slice());
+    }
+}
+
+// Takes state by state the word of greater value.
+fn take_greater(words: &mut [u64], others: &[u64])
+    requires { length others.now ≡ length words.old }
+    ensures { words.new ≡ greater_words words.old others.now }
+{
+    for state in 0..words.len() {
+        if value_of(words[state]) < value_of(others[state]) {
+            words[state] = others[state];
         }
     }
 }

@@ -1,7 +1,7 @@
 // Worlds, and what each event does to one.
 ghost use Rattle.std.specs.Prelude.{◌≡◌, ◌≢◌, ℕ, ◌+◌, ◌<◌, ◌≤◌, ◌⊎◌, List, Bool, false, length, Some, None, IsSome, IsNone, is_some, slice_index, slice_set, option_map, IfOk, IfErr, OnOk, OnErr};
 ghost use Rattle.game_model.specs.Query.{Query, IsQuery, states};
-ghost use Rattle.step_core.specs.Word.{value_in, choice_in, value_at, opening_words};
+ghost use Rattle.step_core.specs.Word.{value_in, choice_in, value_at, opening_words, opening_word};
 
 use crate::event::{Event, Refused};
 use crate::view::View;
@@ -35,7 +35,7 @@ impl<'q> Model for World<'q> {
 
 impl<'q> World<'q> {
     ghost use Rattle.step_core.specs.Configuration.{Configuration, IsWorld, view_of, seen_by, opening_configuration};
-    ghost use Rattle.step_core.specs.Events.{IsLive, Raises, Lawful, looked, after, unless_there, unless_raised, is_bad_choice, is_too_high, reasons, first_of, Answers, HasRoom};
+    ghost use Rattle.step_core.specs.Events.{IsLive, Raises, Lawful, looked, after, unless_there, unless_raised, is_bad_choice, given_by, reasons, first_of, Answers, HasRoom};
 
     /// The opening world: the words have the unit at goals and 0 elsewhere, and view 0 has seen them.
     pub fn start(alloc: Global, question: &'q Question<'q>) -> Result<World<'q>, OutOfMemory>
@@ -45,9 +45,9 @@ impl<'q> World<'q> {
         let words = opening(alloc, question)?;
         let view = View::of_words(alloc, words.as_slice())?;
         let mut views = Vec::new(alloc);
-        if views.push(view).is_err() {
+        let Ok(()) = views.push(view) else {
             return Err(OutOfMemory {});
-        }
+        };
         Ok(World {
             alloc,
             question,
@@ -66,6 +66,7 @@ impl<'q> World<'q> {
         ensures unlawful { IfErr result (λ refused. (refused ≡ Refused.OutOfMemory) ⊎ (Lawful self.old event → ⊥)) }
         ensures refused { OnErr result (self.new ≡ self.old) }
     {
+        self.known();
         match event {
             Event::Load { view, state } => self.load(view, state),
             Event::Won {
@@ -97,6 +98,13 @@ impl<'q> World<'q> {
             return None;
         }
         Some(self.views[view as usize].words()[state as usize])
+    }
+
+    // Tells a proof what every world keeps. It does nothing.
+    fn known(&self)
+        ensures { IsWorld self.now }
+    {
+        let _ = &self.words;
     }
 
     // Whether a view is live.
@@ -171,6 +179,7 @@ impl<'q> World<'q> {
     // Whether the word of a state may be exchanged so, whoever does it.
     fn raises(&self, state: u32, from: u64, to: u64) -> Result<(), Refused>
         requires { state < states self.now.question }
+        ensures choice { OnOk result (is_bad_choice self.now.question state (choice_in to) ≡ false) }
         ensures ok { OnOk result ((others : List (Bool × Refused)) → first_of (unless_raised self.now state from to others) ≡ first_of others) }
         ensures err { IfErr result (λ refused. (others : List (Bool × Refused)) → first_of (unless_raised self.now state from to others) ≡ Some refused) }
     {
@@ -189,19 +198,18 @@ impl<'q> World<'q> {
         Ok(())
     }
 
-    // Whether a value is above what its choice gives over what a view has seen.
-    fn is_too_high(&self, view: u32, state: u32, to: u64) -> Result<bool, OutOfMemory>
+    // What a choice gives over what a view has seen, or the least that a choice of the minimiser gives.
+    fn given(&self, view: u32, state: u32, choice: u32) -> Result<u64, OutOfMemory>
         requires live { IsLive self.now view }
         requires state { state < states self.now.question }
-        requires choice { is_bad_choice self.now.question state (choice_in to) ≡ false }
-        ensures { IfOk result (λ high. high ≡ is_too_high self.now.question (value_at (seen_by self.now view)) state (value_in to) (choice_in to)) }
+        requires choice { is_bad_choice self.now.question state choice ≡ false }
+        ensures { IfOk result (λ value. value ≡ given_by self.now.question (value_at (seen_by self.now view)) state choice) }
     {
         let seen = self.views[view as usize].values(self.alloc)?;
-        let given = match self.question.side(state) {
-            Side::Max => down_choice(self.question, state, choice_of(to), seen.as_slice()),
-            Side::Min => down_state(self.question, state, seen.as_slice()).0,
-        };
-        Ok(given < value_of(to))
+        match self.question.side(state) {
+            Side::Max => Ok(down_choice(self.question, state, choice, seen.as_slice())),
+            Side::Min => Ok(down_state(self.question, state, seen.as_slice()).0),
+        }
     }
 
     // The view has exchanged the word of the state.
@@ -220,14 +228,14 @@ impl<'q> World<'q> {
     {
         self.named(view, state)?;
         self.raises(state, from, to)?;
-        match self.is_too_high(view, state, to) {
-            Err(_) => Err(Refused::OutOfMemory),
-            Ok(true) => Err(Refused::TooHigh),
-            Ok(false) => {
-                self.raise(view, state, to);
-                Ok(())
-            }
+        let Ok(given) = self.given(view, state, choice_of(to)) else {
+            return Err(Refused::OutOfMemory);
+        };
+        if given < value_of(to) {
+            return Err(Refused::TooHigh);
         }
+        self.raise(view, state, to);
+        Ok(())
     }
 
     fn split(&mut self, view: u32) -> Result<(), Refused>
@@ -242,9 +250,9 @@ impl<'q> World<'q> {
         let Ok(copy) = View::of_words(self.alloc, seen) else {
             return Err(Refused::OutOfMemory);
         };
-        if self.views.push(copy).is_err() {
+        let Ok(()) = self.views.push(copy) else {
             return Err(Refused::OutOfMemory);
-        }
+        };
         Ok(())
     }
 
@@ -255,10 +263,7 @@ impl<'q> World<'q> {
         requires apart { view ≢ other }
         ensures { self.new ≡ after self.old (Event.Join view other) }
     {
-        let taken = mem::replace(
-            &mut self.views[other as usize],
-            View::spent(self.alloc),
-        );
+        let taken = mem::replace(&mut self.views[other as usize], View::spent(self.alloc));
         self.views[view as usize].take_in(&taken);
     }
 
@@ -285,10 +290,21 @@ fn opening(alloc: Global, question: &Question<'_>) -> Result<Vec<u64>, OutOfMemo
     question.known();
     let mut words = Vec::new(alloc);
     for state in 0..question.game().states() {
-        let value = if question.is_goal(state) { UNIT } else { 0 };
-        if words.push(pack(value, 0)).is_err() {
+        let Ok(()) = words.push(opening_word(question, state)) else {
             return Err(OutOfMemory {});
-        }
+        };
     }
     Ok(words)
+}
+
+// The word of a state in the opening table.
+fn opening_word(question: &Question<'_>, state: u32) -> u64
+    requires { state < states question.now }
+    ensures { result ≡ opening_word question.now state }
+{
+    if question.is_goal(state) {
+        pack(UNIT, 0)
+    } else {
+        0
+    }
 }
