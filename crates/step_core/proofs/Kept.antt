@@ -11,7 +11,7 @@ use Rattle.step_core.specs.Sound.{Sound, Sees}
 use Rattle.step_core.specs.Configuration.{Configuration, view_of, seen_by, opening_configuration, IsWorld}
 use Rattle.step_core.specs.Events.{IsLive, Raises, Lawful, looked, after, Leads}
 use Rattle.step_core.proofs.Sights.{Sees-raised, Sees-looked, Sees-both}
-use Rattle.step_core.proofs.Opening.{Sound-goals, Sound-won, Sound-opening, Sees-itself}
+use Rattle.step_core.proofs.Words.{Sound-goals, Sound-won, Sound-opening, Sees-itself}
 
 abbrev Views : Type 0
 Views = List (Option (List ℕ))

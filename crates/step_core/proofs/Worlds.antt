@@ -9,7 +9,7 @@ use Rattle.step_core.specs.Word.{value_in, value_at, values_of, greater_words, o
 use Rattle.step_core.specs.Configuration.{Configuration, seen_by, IsWorld}
 use Rattle.step_core.specs.Events.{IsLive, Raises}
 use Rattle.step_core.proofs.Sights.{Sees-below}
-use Rattle.step_core.proofs.Opening.{values_of-at, values_of-is, Sound-units}
+use Rattle.step_core.proofs.Words.{values_of-at, values_of-is, Sound-units}
 use Rattle.step_core.proofs.Kept.{Sees-seen_by, opening-keeps, looked-keeps, raised-keeps, split-keeps, join-keeps}
 
 abbrev Views : Type 0

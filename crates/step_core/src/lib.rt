@@ -10,10 +10,12 @@
 
 mod event;
 pub mod laws;
+mod opening;
 mod view;
 mod word;
 mod world;
 
 pub use event::{Event, Refused};
+pub use opening::opening_words;
 pub use word::{CHOICE_SPACE, choice_of, pack, value_of};
 pub use world::World;

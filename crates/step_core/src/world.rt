@@ -1,13 +1,14 @@
 // Worlds, and what each event does to one.
 ghost use Rattle.std.specs.Prelude.{◌≡◌, ◌≢◌, ℕ, ◌+◌, ◌<◌, ◌≤◌, ◌⊎◌, List, Bool, false, length, Some, None, IsSome, IsNone, is_some, slice_index, slice_set, option_map, IfOk, IfErr, OnOk, OnErr};
 ghost use Rattle.game_model.specs.Query.{Query, IsQuery, states};
-ghost use Rattle.step_core.specs.Word.{value_in, choice_in, value_at, opening_words, opening_word};
+ghost use Rattle.step_core.specs.Word.{value_in, choice_in, value_at};
 
 use crate::event::{Event, Refused};
+use crate::opening::opening_words;
 use crate::view::View;
-use crate::word::{choice_of, pack, value_of};
+use crate::word::{choice_of, value_of};
 use fixed_bellman::{down_choice, down_state};
-use game_model::{Question, Side, UNIT};
+use game_model::{Question, Side};
 use game_outside::OutOfMemory;
 use std::alloc::Global;
 use std::marker::Model;
@@ -42,7 +43,7 @@ impl<'q> World<'q> {
         ensures { IfOk result (λ w. w ≡ opening_configuration question.now) }
     {
         question.known();
-        let words = opening(alloc, question)?;
+        let words = opening_words(alloc, question)?;
         let view = View::of_words(alloc, words.as_slice())?;
         let mut views = Vec::new(alloc);
         let Ok(()) = views.push(view) else {
@@ -280,31 +281,5 @@ impl<'q> World<'q> {
         }
         self.meet(view, other);
         Ok(())
-    }
-}
-
-// The words of the opening table.
-fn opening(alloc: Global, question: &Question<'_>) -> Result<Vec<u64>, OutOfMemory>
-    ensures { IfOk result (λ words. words.items ≡ opening_words question.now) }
-{
-    question.known();
-    let mut words = Vec::new(alloc);
-    for state in 0..question.game().states() {
-        let Ok(()) = words.push(opening_word(question, state)) else {
-            return Err(OutOfMemory {});
-        };
-    }
-    Ok(words)
-}
-
-// The word of a state in the opening table.
-fn opening_word(question: &Question<'_>, state: u32) -> u64
-    requires { state < states question.now }
-    ensures { result ≡ opening_word question.now state }
-{
-    if question.is_goal(state) {
-        pack(UNIT, 0)
-    } else {
-        0
     }
 }

@@ -1,6 +1,6 @@
 use Rattle.std.proofs.Common.{◌<◌, length, ap, ◌∙◌, arith}
-use Rattle.step_core.proofs.Opening.{opening_words-more}
-use Rattle.step_core.proofs.world.opening.Goals as goal
+use Rattle.step_core.proofs.Words.{opening_words-more}
+use Rattle.step_core.proofs.opening.opening_words.Goals as goal
 
 pub loop-state-preserved : goal.loop-state-preserved
 loop-state-preserved c =
