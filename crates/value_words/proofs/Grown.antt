@@ -1,5 +1,5 @@
 -- Passes that grew twice, and steps over what was seen before.
-use Rattle.std.proofs.Common.{◌≡◌, ℕ, ◌<◌, ◌≤◌, Bool, true, false, refl, sym, ◌∙◌, ap, subst, le_trans, arith}
+use Rattle.std.proofs.Common.{◌≡◌, ℕ, ◌≤◌, true, false, ◌∙◌, ap, le_trans, arith}
 use Rattle.std.specs.Bool.{if◌then◌else◌}
 use Rattle.game_model.specs.Game.{choices_of}
 use Rattle.game_model.specs.Query.{Query, IsQuery, is_goal, is_dead, side_at}

@@ -1,6 +1,6 @@
 -- Each step of a pass is an event of the core, and keeps the rule.
-use Rattle.std.proofs.Common.{◌≡◌, ◌≢◌, ◌⊎◌, inl, inr, ℕ, zero, suc, ◌+◌, ◌<◌, ◌≤◌, Bool, true, false, List, [], ◌∷◌, ◌++◌, length, get_or, set, eqb, refl, sym, ap, ◌∙◌, subst, le_refl, le_trans, arith, length-set}
-use Rattle.std.proofs.lemmas.Bool.{true≢false}
+use Rattle.std.proofs.Common.{◌≡◌, ◌≢◌, ◌⊎◌, inl, inr, ℕ, zero, suc, ◌+◌, ◌<◌, ◌≤◌, true, List, [], ◌∷◌, length, get_or, set, eqb, refl, sym, ap, ◌∙◌, subst, le_refl, arith, length-set}
+use Rattle.std.proofs.lemmas.Bool.{true≢false, cases_eq}
 use Rattle.std.proofs.lemmas.List.{set-get_or}
 use mathlib.Core.Option.{some, none, some-injective, some-ne-none}
 use lib.ListN.{get_elem?}
@@ -11,7 +11,7 @@ use Rattle.game_model.specs.Query.{Query, IsQuery, states}
 use Rattle.game_model.specs.Limits.{unit}
 use Rattle.step_core.specs.Word.{value_in, choice_in, value_at, opening_words, greater_words}
 use Rattle.step_core.specs.Sound.{Sound, Sees, IsFree, Gives}
-use Rattle.step_core.proofs.Sights.{value_at-rises, Sees-raised, Sees-looked, Sees-won, Sees-both}
+use Rattle.step_core.proofs.Sights.{value_at-here, value_at-else, value_at-rises, Sees-raised, Sees-looked, Sees-won, Sees-both, greater_words-at}
 use Rattle.step_core.proofs.Words.{Sound-goals, Sound-units, Sound-won, Sound-opening, Sees-itself}
 use Rattle.value_words.specs.declared.rule.Sight.{Sight}
 use Rattle.value_words.specs.Rule.{opening_sight, copied, joined, spent, Kept, saw, Loaded, WonOrLost}
@@ -63,9 +63,9 @@ load-allowed q slots id me i live inside s k many at small =
     ((saw me i (get_or s.words i 0) me.0.won).0, keeps, tt, load-keeps q s k id me at live i inside me.0.won, (refl, (k.views id me.0 at live).each i, Sound-units q s.words k.words i inside))
 
 -- and an exchange for a greater value that the choice gives
-pub exchange-allowed : (q : Query) (slots id : ℕ) (me : Seated) (i from to : ℕ) → me.0.live ≡ true → i < states q → IsQuery q → IsFree q i → from ≡ get_or me.0.seen i 0 → value_in from < value_in to → Gives q (value_at me.0.seen) i (value_in to) (choice_in to)
+pub exchange-allowed : (q : Query) (slots id : ℕ) (me : Seated) (i from to : ℕ) → me.0.live ≡ true → i < states q → IsQuery q → IsFree q i → from ≡ get_or me.0.seen i 0 → value_in from < value_in to → Gives q (value_at me.0.seen) i (value_in to) (choice_in to) → value_in to ≤ unit
     → Allows (Kept q) slots id me i (λ n. either (eqb n from) to n) (WonOrLost (step slots i from to none) me)
-exchange-allowed q slots id me i from to live inside h free was up given s k many at small =
+exchange-allowed q slots id me i from to live inside h free was up given units s k many at small =
     let found = get_or s.words i 0 in
     let each = (k.views id me.0 at live).each i in
     exchanged found from to
@@ -78,7 +78,7 @@ exchange-allowed q slots id me i from to live inside h free was up given s k man
       (
         (λ _. refl),
         (λ miss. absurd (miss hit)),
-        (to, me.0.won + 1, refl, subst (λ n. value_in n ≤ value_in to) was (omega (arith, up))),
+        (to, me.0.won + 1, refl, subst (λ n. value_in n ≤ value_in to) was (omega (arith, up)), units),
       ),
     ))
     (λ (miss : found ≢ from). (
@@ -89,7 +89,7 @@ exchange-allowed q slots id me i from to live inside h free was up given s k man
       (
         (λ hit. absurd (miss hit)),
         (λ _. (refl, elim each [ inl same ↦ absurd (miss (same ∙ sym was)) | inr less ↦ less ])),
-        (found, me.0.won, refl, found-rises me.0.seen i found each),
+        (found, me.0.won, refl, found-rises me.0.seen i found each, Sound-units q s.words k.words i inside),
       ),
     ))
 
@@ -126,6 +126,13 @@ pub closed-kept : (q : Query) (id : ℕ) (v : Sight) (words : List ℕ) (xs : Li
 closed-kept q id v words xs live final =
     let k = final.1.0 in subst (λ (l : List ℕ). Sound q l × Sees q l v.seen) final.2 (k.words, k.views id v final.1.1 live)
 
+-- the greater of two values of units
+pub joined-units : (xs ys : List ℕ) (s : ℕ) → length xs ≡ length ys → value_at xs s ≤ unit → value_at ys s ≤ unit → value_at (greater_words xs ys) s ≤ unit
+joined-units xs ys s same h k = elim (greater_words-at xs ys s same).one [
+  | inl is ↦ subst (λ n. value_in n ≤ unit) (sym is) h
+  | inr is ↦ subst (λ n. value_in n ≤ unit) (sym is) k
+]
+
 -- the pass after a step that shows it a word of no smaller value
 module _ (q : Query) (m n : Seated) (i word won : ℕ) (is : n ≡ saw m i word won) (inside : i < length m.0.seen) (up : value_in (get_or m.0.seen i 0) ≤ value_in word) where
   pub saw-empty : m.1 ≡ [] → n.1 ≡ []
@@ -139,3 +146,9 @@ module _ (q : Query) (m n : Seated) (i word won : ℕ) (is : n ≡ saw m i word 
 
   pub saw-rises : (s : ℕ) → value_at m.0.seen s ≤ value_at n.0.seen s
   saw-rises s = subst (λ (x : Seated). value_at m.0.seen s ≤ value_at x.0.seen s) (sym is) (value_at-rises m.0.seen i word inside up s)
+
+  pub saw-units : value_in word ≤ unit → ((s : ℕ) → s < states q → value_at m.0.seen s ≤ unit) → (s : ℕ) → s < states q → value_at n.0.seen s ≤ unit
+  saw-units units before s l = subst (λ (x : Seated). value_at x.0.seen s ≤ unit) (sym is) (elim (cases_eq s i) [
+    | inl same ↦ subst (λ k. value_at (set m.0.seen i word) k ≤ unit) (sym same) (omega (arith, value_at-here m.0.seen i word inside, units))
+    | inr other ↦ omega (arith, value_at-else m.0.seen i word s other, before s l)
+  ])

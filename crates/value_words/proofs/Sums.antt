@@ -1,6 +1,6 @@
 -- The weighted sum of a choice over words that are loaded one after another, and the value that it gives.
-use Rattle.std.proofs.Common.{◌≡◌, ◌≢◌, ℕ, ◌+◌, ◌-◌, ◌*◌, ◌/◌, ◌^◌, ◌<◌, ◌≤◌, List, length, take, get_or, sum_by, refl, sym, ap, ◌∙◌, subst, arith, inl, inr}
-use Rattle.std.proofs.lemmas.Bool.{cases_eq}
+use Rattle.std.proofs.Common.{◌≡◌, ℕ, ◌+◌, ◌*◌, ◌/◌, ◌^◌, ◌<◌, ◌≤◌, List, length, take, get_or, sum_by, sym, ap, ◌∙◌, subst, arith}
+use borrow.Author.Count.{below_more}
 use Rattle.std.proofs.lemmas.List.{take_all}
 use Rattle.std.proofs.lemmas.List.Sums.{sum_by_more, sum_by-take-le}
 use Rattle.std.proofs.Math.Nat.{mul-le-mul_left, mul-le-mul_right, le-div_iff_mul-le, div-lt_iff_lt-mul, div-le_of_le-mul}
@@ -13,10 +13,10 @@ use Rattle.game_model.specs.Limits.{unit}
 use Rattle.game_model.specs.Rounded.{down_value, down_step}
 use Rattle.game_model.proofs.Best.{weighted_sum-le, optimum-most}
 use Rattle.game_model.proofs.Each.{AllByRecursion-always}
-use Rattle.game_laws.proofs.Steps.{optimum-below}
+use Rattle.game_laws.proofs.Steps.{down_value-le, optimum-below}
 use Rattle.std.proofs.lemmas.List.Elements.{recursion_from_All, All-from_get_or}
 use Rattle.step_core.specs.Sound.{IsFree}
-use Rattle.step_core.proofs.Tables.{free_step}
+use Rattle.step_core.proofs.Tables.{free_step, choice_fits, weighted_sum-rises}
 
 abbrev Table : Type 0
 Table = ℕ → ℕ
@@ -107,3 +107,25 @@ greatest-step q v s x free is each =
 pub least-step : (q : Query) (v : ℕ → ℕ) (s c x : ℕ) → IsFree q s → Min ≡ side_at q s → c < length (choices_of q.game s) → down_value v (choice_of q.game s c) ≤ x → down_step q v s ≤ x
 least-step q v s c x free is chosen low =
     omega (arith, optimum-below (down_value v) (choices_of q.game s) c no_distribution chosen, low, free_step q v s free, ap (λ side. optimum side (down_value v) (choices_of q.game s)) is)
+
+-- a sum over words that were seen later, and what it says of tables before and after
+module _ (q : Query) (s i sum total : ℕ) (old mid new : ℕ → ℕ) (h : IsQuery q) (inside : s < states q) (chosen : i < length (choices_of q.game s)) (positive : 0 < total) (is : total ≡ (choice_of q.game s i).total)
+    (low : weighted_sum mid (choice_of q.game s i).edges ≤ sum) (high : sum ≤ weighted_sum new (choice_of q.game s i).edges) (earlier : (t : ℕ) → old t ≤ mid t) (later : (t : ℕ) → mid t ≤ new t) where
+  pub value-old : down_value old (choice_of q.game s i) ≤ sum / total
+  value-old = value-low (choice_of q.game s i) old sum total positive is (omega (arith, low, weighted_sum-rises q.game old mid (choice_of q.game s i) (choice_fits q s i h inside chosen) (λ t _. earlier t)))
+
+  pub value-new : sum / total ≤ down_value new (choice_of q.game s i)
+  value-new = value-high (choice_of q.game s i) new sum total positive is high
+
+  pub low-gains : (best next : ℕ) → ((c : ℕ) → c < i → down_value old (choice_of q.game s c) ≤ best) → best ≤ next → sum / total ≤ next → (c : ℕ) → c < i + 1 → down_value old (choice_of q.game s c) ≤ next
+  low-gains best next below more here = below_more (λ c. down_value old (choice_of q.game s c) ≤ next) i (λ c l. omega (arith, below c l)) (omega (arith, value-old))
+
+  pub high-gains : (best next : ℕ) → ((c : ℕ) → c < i → best ≤ down_value mid (choice_of q.game s c)) → next ≤ best → next ≤ sum / total → (c : ℕ) → c < i + 1 → next ≤ down_value new (choice_of q.game s c)
+  high-gains best next above less here =
+      below_more (λ c. next ≤ down_value new (choice_of q.game s c)) i
+      (λ c l. omega (arith, above c l, down_value-le q.game mid new (choice_of q.game s c) (choice_fits q s c h inside (omega arith)) (λ t _. later t)))
+      (omega (arith, value-new))
+
+-- what the first choice gave, it gives later
+pub given-later : (q : Query) (s c x : ℕ) (v w : ℕ → ℕ) → IsQuery q → s < states q → ((t : ℕ) → v t ≤ w t) → (c < length (choices_of q.game s)) × (x ≤ down_value v (choice_of q.game s c)) → (c < length (choices_of q.game s)) × (x ≤ down_value w (choice_of q.game s c))
+given-later q s c x v w h inside up given = (given.0, omega (arith, given.1, down_value-le q.game v w (choice_of q.game s c) (choice_fits q s c h inside given.0) (λ t _. up t)))

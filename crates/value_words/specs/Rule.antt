@@ -1,5 +1,5 @@
 -- The rule of the words, and what each step tells: the events of `step_core`.
-use Rattle.std.specs.Prelude.{◌≡◌, ◌≢◌, ◌⊎◌, ℕ, ◌+◌, ◌<◌, ◌≤◌, true, false, List, [], slice_index, slice_set}
+use Rattle.std.specs.Prelude.{◌≡◌, ◌≢◌, ◌⊎◌, ℕ, ◌+◌, ◌<◌, ◌≤◌, true, false, [], slice_index, slice_set}
 use mathlib.Core.Option.{some}
 use lib.ListN.{get_elem?}
 use Rattle.atomic_table.specs.Table.{State, Me, Step}
@@ -52,4 +52,4 @@ abbrev pub WonOrLost : Step (Unit {0}) → Seated → ℕ → Seated → Type 0
 WonOrLost step m found n =
     (found ≡ step.first → n ≡ saw m step.word step.second (m.0.won + 1))
     × (found ≢ step.first → (n ≡ saw m step.word found m.0.won) × (value_in (slice_index m.0.seen step.word) < value_in found))
-    × ((word : ℕ) × (won : ℕ) × (n ≡ saw m step.word word won) × (value_in (slice_index m.0.seen step.word) ≤ value_in word))
+    × ((word : ℕ) × (won : ℕ) × (n ≡ saw m step.word word won) × (value_in (slice_index m.0.seen step.word) ≤ value_in word) × (value_in word ≤ unit))

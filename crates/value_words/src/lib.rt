@@ -15,3 +15,15 @@ mod table;
 pub use pass::Pass;
 pub use rule::{Posing, Sight};
 pub use table::{ValueTable, Words};
+
+/// A table may be shared among threads, and a pass may be handed on to one.
+fn crosses_threads<P: Posing>(table: &ValueTable<'_, P>, pass: &Pass<P>) {
+    shares(table);
+    hands_on(pass);
+}
+
+/// What threads may share.
+fn shares<T: Sync>(_value: &T) {}
+
+/// What a thread may be handed.
+fn hands_on<T: Send>(_value: &T) {}

@@ -16,5 +16,6 @@ pub struct Pass<P: Posing> {
     ghost empty: { seat.me.1 ≡ [] },
     ghost live: { seat.me.0.live ≡ true },
     ghost as_many: { length seat.me.0.seen ≡ states P.posed },
+    ghost units: { (s : ℕ) → s < states P.posed → value_at seat.me.0.seen s ≤ unit },
     ghost goals: { (s : ℕ) → s < states P.posed → is_goal P.posed s ≡ true → unit ≤ value_at seat.me.0.seen s },
 }

@@ -1,5 +1,5 @@
 // The table, and its steps.
-ghost use Rattle.std.specs.Prelude.{◌≡◌, ◌≢◌, ℕ, ◌+◌, ◌*◌, ◌<◌, ◌≤◌, length, slice_index, slice_set, IfOk, MatchBool};
+ghost use Rattle.std.specs.Prelude.{◌≡◌, ◌≢◌, ℕ, ◌+◌, ◌*◌, ◌<◌, ◌≤◌, length, slice_index, slice_set, All, IfOk, MatchBool};
 ghost use Rattle.game_model.specs.declared.game.Side.TheVariants.{Max, Min};
 ghost use Rattle.game_model.specs.Game.{choices_of, choice_of};
 ghost use Rattle.game_model.specs.Query.{Query, IsQuery, states, side_at};
@@ -115,6 +115,7 @@ impl<'q, P: Posing> ValueTable<'q, P> {
         requires room { length table.old ≡ states P.posed }
         ensures grew { Grew pass.old pass.new }
         ensures won { won_by pass.new ≡ won_by pass.old }
+        ensures units { All (λ v. v ≤ unit) table.new }
         ensures read { (s : ℕ) → s < states P.posed → slice_index table.new s ≡ seen_by pass.new s }
     {
         for state in 0..table.len() {
@@ -255,7 +256,8 @@ impl<'q, P: Posing> ValueTable<'q, P> {
                 return least;
             }
             if sum < u128::from(best) * total {
-                best = (sum / total) as u64;
+                let value = sum / total;
+                best = value as u64;
             }
         }
         best

@@ -1,14 +1,15 @@
-use Rattle.std.proofs.Common.{◌≡◌, ℕ, ◌<◌, ◌≤◌, length, get_or, sym, subst, ap, ◌∙◌, le_trans}
+use Rattle.std.proofs.Common.{◌<◌, length, get_or, sym, subst, ap, ◌∙◌, le_trans}
 use Rattle.std.proofs.lemmas.List.{get_or-set_same}
-use Rattle.step_core.specs.Word.{value_in, value_at}
+use Rattle.step_core.specs.Word.{value_in, choice_in, value_at}
+use Rattle.step_core.proofs.Tables.{Gives-units}
 use Rattle.step_core.proofs.Sights.{value_at-here}
-use Rattle.value_words.proofs.Moves.{exchange-allowed, saw-empty, saw-live, saw-as_many, saw-rises}
+use Rattle.value_words.proofs.Moves.{exchange-allowed, saw-empty, saw-live, saw-as_many, saw-rises, saw-units}
 use Rattle.value_words.proofs.table.ValueTable+P.exchange.Goals as goal
 
 pub compare_exchange-requires : goal.compare_exchange-requires
 compare_exchange-requires g c =
     let r = c.requires in
-    (r.pass, subst (λ n. c.args.state < n) (sym c.args.self.now.as_many) r.state, exchange-allowed g.P.Posing.posed _ _ _ _ _ _ c.args.pass.now.live r.state c.args.self.now.posed r.free r.from r.raised r.given)
+    (r.pass, subst (λ n. c.args.state < n) (sym c.args.self.now.as_many) r.state, exchange-allowed g.P.Posing.posed _ _ _ _ _ _ c.args.pass.now.live r.state c.args.self.now.posed r.free r.from r.raised r.given (Gives-units g.P.Posing.posed (value_at c.args.pass.now.seat.me.0.seen) c.args.state (value_in c.args.to) (choice_in c.args.to) c.args.self.now.posed r.state c.args.pass.now.units r.given))
 
 pub invariant_of-pass : goal.invariant_of-pass
 invariant_of-pass g c =
@@ -21,6 +22,7 @@ invariant_of-pass g c =
       empty = saw-empty q m n c.args.state r.0 r.1 r.2 inside r.3 p.empty;
       live = saw-live q m n c.args.state r.0 r.1 r.2 inside r.3 p.live;
       as_many = saw-as_many q m n c.args.state r.0 r.1 r.2 inside r.3 p.as_many;
+      units = saw-units q m n c.args.state r.0 r.1 r.2 inside r.3 r.4 p.units;
       goals = λ s in_range top. le_trans (p.goals s in_range top) (saw-rises q m n c.args.state r.0 r.1 r.2 inside r.3 s);
     }
 

@@ -2,7 +2,7 @@ use Rattle.std.proofs.Common.{◌≡◌, ◌<◌, ◌≤◌, ℕ, List, length, 
 use Rattle.game_model.specs.Limits.{unit}
 use Rattle.step_core.specs.Word.{value_at}
 use Rattle.step_core.proofs.Sights.{length-greater_words, greater_words-at}
-use Rattle.value_words.proofs.Moves.{join-allowed}
+use Rattle.value_words.proofs.Moves.{join-allowed, joined-units}
 use Rattle.value_words.proofs.table.ValueTable+P.meet.Goals as goal
 
 pub join_seat-requires : goal.join_seat-requires
@@ -18,6 +18,7 @@ invariant_of-pass g c =
       empty = ap (λ m. m.1) me ∙ p.empty;
       live = ap (λ m. m.0.live) me ∙ p.live;
       as_many = ap (λ m. length m.0.seen) me ∙ length-greater_words xs ys even ∙ p.as_many;
+      units = λ s in_range. subst (λ m. value_at m.0.seen s ≤ unit) (sym me) (joined-units xs ys s even (p.units s in_range) (c.args.other.units s in_range));
       goals = λ s in_range top. subst (λ m. unit ≤ value_at m.0.seen s) (sym me) (le_trans (p.goals s in_range top) (greater_words-at xs ys s even).first);
     }
 

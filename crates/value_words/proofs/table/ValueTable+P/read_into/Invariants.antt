@@ -1,4 +1,5 @@
-use Rattle.std.proofs.Common.{◌≡◌, ℕ, ◌<◌, slice_index}
+use Rattle.std.proofs.Common.{◌≡◌, ℕ, ◌<◌, ◌≤◌, slice_index}
+use Rattle.game_model.specs.Limits.{unit}
 use Rattle.value_words.specs.Passes.{Grew, seen_by, won_by}
 use Rattle.value_words.proofs.table.ValueTable+P.read_into.Given as goal
 
@@ -7,4 +8,5 @@ invariant-loop-state g l = record {
   grew : Grew l.fn.pass l.pass;
   won : won_by l.pass ≡ won_by l.fn.pass;
   read : (s : ℕ) → s < l.state → slice_index l.table s ≡ seen_by l.pass s;
+  units : (s : ℕ) → s < l.state → slice_index l.table s ≤ unit;
 }

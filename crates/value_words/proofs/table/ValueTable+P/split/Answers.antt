@@ -1,4 +1,4 @@
-use Rattle.std.proofs.Common.{◌≡◌, ◌<◌, sym, subst}
+use Rattle.std.proofs.Common.{◌<◌, sym, subst}
 use Rattle.value_words.proofs.Moves.{split-allowed}
 use Rattle.value_words.proofs.table.ValueTable+P.split.Goals as goal
 
