@@ -1,0 +1,121 @@
+-- Each lawful event keeps the invariant.
+use Rattle.std.proofs.Common.{◌≡◌, ◌≢◌, ℕ, zero, suc, ◌<◌, List, [], ◌∷◌, ◌++◌, length, get_or, set, arith, refl, sym, ap, subst, inl, inr, ◌⊎◌}
+use Rattle.std.specs.Prelude.{slice_index, slice_set, Option, Some, None, IsSome, unwrap_or}
+use Rattle.std.proofs.lemmas.Option.{none-some}
+use Rattle.std.proofs.lemmas.Bool.{true≢false}
+use Rattle.game_model.specs.Query.{Query, IsQuery, states}
+use Rattle.step_core.specs.declared.event.Event.{Event}
+use Rattle.step_core.specs.declared.event.Event.TheVariants.{Load, Won, Lost, Split, Join}
+use Rattle.step_core.specs.Word.{value_in, value_at, greater_words}
+use Rattle.step_core.specs.Sound.{Sound, Sees}
+use Rattle.step_core.specs.Configuration.{Configuration, view_of, seen_by, opening_configuration, IsWorld}
+use Rattle.step_core.specs.Events.{IsLive, Raises, Lawful, looked, after, Leads}
+use Rattle.step_core.proofs.Sights.{Sees-raised, Sees-looked, Sees-both}
+use Rattle.step_core.proofs.Words.{Sound-goals, Sound-won, Sound-opening, Sees-itself}
+
+abbrev Views : Type 0
+Views = List (Option (List ℕ))
+
+some-same : (xs ys : List ℕ) → Some xs ≡ Some ys → xs ≡ ys
+some-same xs ys same = cc
+
+-- a view after one is written
+at_set : (views : Views) (i j : ℕ) (view : Option (List ℕ)) (seen : List ℕ) → get_or (set views i view) j None ≡ Some seen → ((j ≡ i) × (view ≡ Some seen)) ⊎ ((j ≢ i) × (get_or views j None ≡ Some seen))
+at_set [] i j view seen is = absurd (none-some seen is)
+at_set (v ∷ vs) zero zero view seen is = inl (refl, is)
+at_set (v ∷ vs) zero (suc j) view seen is = inr ((λ same. omega arith), is)
+at_set (v ∷ vs) (suc i) zero view seen is = inr ((λ same. omega arith), is)
+at_set (v ∷ vs) (suc i) (suc j) view seen is = elim (at_set vs i j view seen is) [
+  | inl here ↦ inl (ap suc here.0, here.1)
+  | inr there ↦ let apart = there.0 in inr ((λ same. apart (omega arith)), there.1)
+]
+
+-- a view after one is added
+at_end : (views : Views) (j : ℕ) (view : Option (List ℕ)) (seen : List ℕ) → get_or (views ++ view ∷ []) j None ≡ Some seen → (view ≡ Some seen) ⊎ (get_or views j None ≡ Some seen)
+at_end [] zero view seen is = inl is
+at_end [] (suc j) view seen is = absurd (none-some seen is)
+at_end (v ∷ vs) zero view seen is = inr is
+at_end (v ∷ vs) (suc j) view seen is = at_end vs j view seen is
+
+live-some : (view : Option (List ℕ)) → IsSome view → view ≡ Some (unwrap_or view [])
+live-some None live = absurd (true≢false (sym live))
+live-some (Some seen) live = refl
+
+-- what a live view has seen
+pub seen_by-some : (w : Configuration) (view : ℕ) → IsLive w view → view_of w view ≡ Some (seen_by w view)
+seen_by-some w view live = live-some (view_of w view) live
+
+pub Sees-seen_by : (w : Configuration) (view : ℕ) → IsWorld w → IsLive w view → Sees w.question w.words (seen_by w view)
+Sees-seen_by w view k live = k.views view (seen_by w view) (seen_by-some w view live)
+
+-- one view sees something else
+views_with : (q : Query) (words : List ℕ) (views : Views) (view : ℕ) (new : Option (List ℕ)) → ((j : ℕ) (seen : List ℕ) → get_or views j None ≡ Some seen → Sees q words seen) → ((seen : List ℕ) → new ≡ Some seen → Sees q words seen)
+    → (j : ℕ) (seen : List ℕ) → get_or (set views view new) j None ≡ Some seen → Sees q words seen
+views_with q words views view new others mine j seen is = elim (at_set views view j new seen is) [
+  | inl here ↦ mine seen here.1
+  | inr there ↦ others j seen there.1
+]
+
+only : (q : Query) (words new : List ℕ) → Sees q words new → (seen : List ℕ) → Some new ≡ Some seen → Sees q words seen
+only q words new sees seen same = subst (Sees q words) (some-same new seen same) sees
+
+pub looked-keeps : (w : Configuration) (view state : ℕ) → IsWorld w → IsLive w view → state < states w.question → IsWorld (looked w view state)
+looked-keeps w view state k live inside = record {
+  question = k.question;
+  words = k.words;
+  views = views_with w.question w.words w.views view (Some (slice_set (seen_by w view) state (slice_index w.words state))) k.views
+      (only w.question w.words _ (Sees-looked w.question w.words (seen_by w view) state inside (Sound-goals w.question w.words k.words) (Sees-seen_by w view k live)));
+}
+
+pub raised-keeps : (w : Configuration) (view state from to : ℕ) → IsWorld w → Raises w view state from to → IsWorld (looked (record w { words = slice_set w.words state to }) view state)
+raised-keeps w view state from to k r =
+    let q = w.question in
+    let mine : Sees q w.words (seen_by w view) = Sees-seen_by w view k r.live in
+    let there : state < length w.words = subst (λ n. state < n) (sym k.words.as_many) r.inside in
+    let up : value_at w.words state < value_in to = subst (λ n. value_in n < value_in to) (sym r.is_from) r.raised in
+    let sound : Sound q (set w.words state to) = Sound-won q k.question w.words (seen_by w view) state to r.inside r.free k.words mine up r.given in record {
+      question = k.question;
+      words = sound;
+      views = views_with q (set w.words state to) w.views view (Some (set (seen_by w view) state (slice_index (set w.words state to) state)))
+          (λ j seen is. Sees-raised q w.words seen state to there up (k.views j seen is))
+          (only q (set w.words state to) _ (Sees-looked q (set w.words state to) (seen_by w view) state r.inside (Sound-goals q (set w.words state to) sound) (Sees-raised q w.words (seen_by w view) state to there up mine)));
+    }
+
+pub split-keeps : (w : Configuration) (view : ℕ) → IsWorld w → IsLive w view → IsWorld (after w (Split view))
+split-keeps w view k live = record {
+  question = k.question;
+  words = k.words;
+  views = λ j seen is. elim (at_end w.views j (Some (seen_by w view)) seen is) [
+    | inl new ↦ only w.question w.words (seen_by w view) (Sees-seen_by w view k live) seen new
+    | inr old ↦ k.views j seen old
+  ];
+}
+
+pub join-keeps : (w : Configuration) (view other : ℕ) → IsWorld w → IsLive w view → IsLive w other → IsWorld (after w (Join view other))
+join-keeps w view other k live there = record {
+  question = k.question;
+  words = k.words;
+  views = views_with w.question w.words (set w.views other None) view (Some (greater_words (seen_by w view) (seen_by w other)))
+      (views_with w.question w.words w.views other None k.views (λ seen none. absurd (none-some seen none)))
+      (only w.question w.words _ (Sees-both w.question w.words (seen_by w view) (seen_by w other) (Sees-seen_by w view k live) (Sees-seen_by w other k there)));
+}
+
+-- a lawful event keeps the invariant
+pub after-keeps : (w : Configuration) (event : Event) → IsWorld w → Lawful w event → IsWorld (after w event)
+after-keeps w (Load view state) k lawful = looked-keeps w view state k lawful.0 lawful.1
+after-keeps w (Won view state from to) k lawful = raised-keeps w view state from to k lawful
+after-keeps w (Lost view state) k lawful = looked-keeps w view state k lawful.0 lawful.1
+after-keeps w (Split view) k lawful = split-keeps w view k lawful
+after-keeps w (Join view other) k lawful = join-keeps w view other k lawful.0 lawful.1
+
+pub opening-keeps : (q : Query) → IsQuery q → IsWorld (opening_configuration q)
+opening-keeps q h = record { question = h; words = Sound-opening q h; views = one }
+  where
+    one : (j : ℕ) (seen : List ℕ) → view_of (opening_configuration q) j ≡ Some seen → Sees q (opening_configuration q).words seen
+    one zero seen is = only q _ _ (Sees-itself q _ (Sound-opening q h)) seen is
+    one (suc j) seen is = absurd (none-some seen is)
+
+-- and so does every list of them
+pub Leads-keeps : (w later : Configuration) (events : List Event) → IsWorld w → Leads w events later → IsWorld later
+Leads-keeps w later [] k same = subst IsWorld same k
+Leads-keeps w later (event ∷ events) k leads = Leads-keeps (after w event) later events (after-keeps w event k leads.0) leads.1

@@ -1,0 +1,28 @@
+-- What contracts see of a world: a configuration of the transition system of the shared words.
+use Rattle.std.specs.Prelude.{◌≡◌, ℕ, List, [], ◌∷◌, slice_index_or, Option, Some, None, unwrap_or}
+use Rattle.game_model.specs.Query.{Query, IsQuery}
+use Rattle.step_core.specs.Word.{opening_words}
+use Rattle.step_core.specs.Sound.{Sound, Sees}
+
+-- a question, its words, and the words that each view has seen; none where the view is spent
+pub record Configuration : Type 0 where
+  pub question : Query
+  pub words : List ℕ
+  pub views : List (Option (List ℕ))
+
+abbrev pub view_of : Configuration → ℕ → Option (List ℕ)
+view_of w view = slice_index_or w.views view None
+
+-- what a live view has seen
+abbrev pub seen_by : Configuration → ℕ → List ℕ
+seen_by w view = unwrap_or (view_of w view) []
+
+-- the opening table, and one view that has seen it
+abbrev pub opening_configuration : Query → Configuration
+opening_configuration q = record { question = q; words = opening_words q; views = Some (opening_words q) ∷ [] }
+
+-- the invariant
+pub record IsWorld (w : Configuration) : Type 0 where
+  pub question : IsQuery w.question
+  pub words : Sound w.question w.words
+  pub views : (view : ℕ) (seen : List ℕ) → view_of w view ≡ Some seen → Sees w.question w.words seen

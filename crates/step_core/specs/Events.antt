@@ -1,0 +1,108 @@
+-- Which events are lawful, what they do, and why others are refused.
+use Rattle.std.specs.Prelude.{◌≡◌, ◌≢◌, ℕ, ◌<◌, Bool, not, ◌||◌, ◌==◌, List, [], ◌∷◌, ◌++◌, length, slice_index, slice_set, Option, Some, None, IsSome, is_none, Result, Ok, Err, ◌⊎◌, if◌then◌else◌, nat_lt, nat_le}
+use Rattle.game_model.specs.declared.game.Side.{Side}
+use Rattle.game_model.specs.declared.game.Side.TheVariants.{Max, Min}
+use Rattle.game_model.specs.Game.{choices_of, choice_of}
+use Rattle.game_model.specs.Query.{Query, states, is_goal, is_dead, side_at}
+use Rattle.game_model.specs.Rounded.{down_value, down_step}
+use Rattle.step_core.specs.declared.event.Event.{Event}
+use Rattle.step_core.specs.declared.event.Event.TheVariants.{Load, Won, Lost, Split, Join}
+use Rattle.step_core.specs.declared.event.Refused.{Refused}
+use Rattle.step_core.specs.declared.event.Refused.TheVariants.{OutOfMemory, NoView, SameView, NoState, FixedState, BadChoice, NotFrom, NotRaised, TooHigh, SameWord}
+use Rattle.step_core.specs.Word.{value_in, choice_in, value_at, greater_words}
+use Rattle.step_core.specs.Sound.{IsFree, Gives}
+use Rattle.step_core.specs.Configuration.{Configuration, view_of, seen_by}
+
+abbrev pub IsLive : Configuration → ℕ → Type 0
+IsLive w view = IsSome (view_of w view)
+
+-- an exchange raises the word, to a value that its choice gives over what the view has seen
+pub record Raises (w : Configuration) (view state from to : ℕ) : Type 0 where
+  pub live : IsLive w view
+  pub inside : state < states w.question
+  pub free : IsFree w.question state
+  pub is_from : slice_index w.words state ≡ from
+  pub raised : value_in from < value_in to
+  pub given : Gives w.question (value_at (seen_by w view)) state (value_in to) (choice_in to)
+
+abbrev pub Lawful : Configuration → Event → Type 0
+Lawful w (Load view state) = IsLive w view × (state < states w.question)
+Lawful w (Won view state from to) = Raises w view state from to
+Lawful w (Lost view state) = IsLive w view × (state < states w.question) × (slice_index w.words state ≢ slice_index (seen_by w view) state)
+Lawful w (Split view) = IsLive w view
+Lawful w (Join view other) = IsLive w view × IsLive w other × (view ≢ other)
+
+-- the view has seen these words
+abbrev pub with_view : Configuration → ℕ → List ℕ → Configuration
+with_view w view seen = record w { views = slice_set w.views view (Some seen) }
+
+-- the view sees the word of the state
+abbrev pub looked : Configuration → ℕ → ℕ → Configuration
+looked w view state = with_view w view (slice_set (seen_by w view) state (slice_index w.words state))
+
+-- the effect of a lawful event
+abbrev pub after : Configuration → Event → Configuration
+after w (Load view state) = looked w view state
+after w (Won view state from to) = looked (record w { words = slice_set w.words state to }) view state
+after w (Lost view state) = looked w view state
+after w (Split view) = record w { views = w.views ++ Some (seen_by w view) ∷ [] }
+after w (Join view other) = with_view (record w { views = slice_set w.views other None }) view (greater_words (seen_by w view) (seen_by w other))
+
+-- one for the maximiser, another for the minimiser
+abbrev pub on_side : {X : Type 0} → Side → X → X → X
+on_side Max greatest least = greatest
+on_side Min greatest least = least
+
+abbrev pub is_bad_choice : Query → ℕ → ℕ → Bool
+is_bad_choice q s choice = on_side (side_at q s) (nat_le (length (choices_of q.game s)) choice) (not (choice == 0))
+
+-- what the choice gives over a table, or the least that a choice of the minimiser gives
+abbrev pub given_by : Query → (ℕ → ℕ) → ℕ → ℕ → ℕ
+given_by q table s choice = on_side (side_at q s) (down_value table (choice_of q.game s choice)) (down_step q table s)
+
+-- before other reasons: there is no such live view, or no such state
+abbrev pub unless_there : Configuration → ℕ → ℕ → List (Bool × Refused) → List (Bool × Refused)
+unless_there w view state others = (is_none (view_of w view), NoView) ∷ (nat_le (states w.question) state, NoState) ∷ others
+
+-- before other reasons: the word of the state may not be exchanged so
+abbrev pub unless_raised : Configuration → ℕ → ℕ → ℕ → List (Bool × Refused) → List (Bool × Refused)
+unless_raised w state from to others =
+    (is_goal w.question state || is_dead w.question state, FixedState)
+    ∷ (is_bad_choice w.question state (choice_in to), BadChoice)
+    ∷ (not (slice_index w.words state == from), NotFrom)
+    ∷ (nat_le (value_in to) (value_in from), NotRaised)
+    ∷ others
+
+-- the reasons against an event, in their order
+abbrev pub reasons : Configuration → Event → List (Bool × Refused)
+reasons w (Load view state) = unless_there w view state []
+reasons w (Won view state from to) =
+    unless_there w view state
+    (unless_raised w state from to
+    ((nat_lt (given_by w.question (value_at (seen_by w view)) state (choice_in to)) (value_in to), TooHigh) ∷ []))
+reasons w (Lost view state) = unless_there w view state ((slice_index w.words state == slice_index (seen_by w view) state, SameWord) ∷ [])
+reasons w (Split view) = (is_none (view_of w view), NoView) ∷ []
+reasons w (Join view other) = (is_none (view_of w view) || is_none (view_of w other), NoView) ∷ (view == other, SameView) ∷ []
+
+-- the first reason that holds
+abbrev pub first_of : List (Bool × Refused) → Option Refused
+first_of [] = None
+first_of (reason ∷ others) = if reason.0 then Some reason.1 else first_of others
+
+-- the answer is this refusal, or none where there is none; or memory was wanting
+abbrev pub Answers : Result (Unit {0}) Refused → Option Refused → Type 0
+Answers (Ok _) said = said ≡ None
+Answers (Err refused) said = (refused ≡ OutOfMemory) ⊎ (said ≡ Some refused)
+
+-- there is room for the number of one more view
+abbrev pub HasRoom : Configuration → Event → Type 0
+HasRoom w (Split view) = length w.views < 4294967295
+HasRoom w (Load view state) = Unit {0}
+HasRoom w (Won view state from to) = Unit {0}
+HasRoom w (Lost view state) = Unit {0}
+HasRoom w (Join view other) = Unit {0}
+
+-- a list of lawful events leads from one configuration to another
+abbrev pub Leads : Configuration → List Event → Configuration → Type 0
+Leads w [] later = w ≡ later
+Leads w (event ∷ events) later = Lawful w event × Leads (after w event) events later

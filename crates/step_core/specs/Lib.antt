@@ -1,0 +1,4 @@
+pub mod Word
+pub mod Sound
+pub mod Configuration
+pub mod Events

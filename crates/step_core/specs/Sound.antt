@@ -1,0 +1,33 @@
+-- What holds of the words between any two steps, and of what a view has seen of them.
+use Rattle.std.specs.Prelude.{◌≡◌, ℕ, ◌<◌, ◌≤◌, ◌⊎◌, true, false, List, length, slice_index}
+use Rattle.game_model.specs.declared.game.Side.TheVariants.{Max, Min}
+use Rattle.game_model.specs.Game.{choices_of, choice_of}
+use Rattle.game_model.specs.Query.{Query, states, is_goal, is_dead, side_at}
+use Rattle.game_model.specs.Limits.{unit}
+use Rattle.game_model.specs.Rounded.{down_value, down_steps, IsBelow}
+use Rattle.game_model.specs.Ranks.{Ranked}
+use Rattle.step_core.specs.Word.{value_at, values_of, picks_of}
+
+-- The values are nowhere above some r-fold down step. Ranks show that their choices reach them: they are at most the unit, goals have the unit and dead states 0
+pub record Sound (q : Query) (words : List ℕ) : Type 0 where
+  pub as_many : length words ≡ states q
+  pub rounds : ℕ
+  pub below : IsBelow q (value_at words) (down_steps q rounds)
+  pub ranks : List ℕ
+  pub ranks_as_many : length ranks ≡ states q
+  pub ranked : Ranked q (values_of words) (picks_of words) ranks
+
+-- each word is the one that was seen or has a greater value; goals were seen with the unit
+pub record Sees (q : Query) (words seen : List ℕ) : Type 0 where
+  pub as_many : length seen ≡ states q
+  pub each : (s : ℕ) → (slice_index words s ≡ slice_index seen s) ⊎ (value_at seen s < value_at words s)
+  pub goals : (s : ℕ) → s < states q → is_goal q s ≡ true → value_at seen s ≡ unit
+
+-- neither a goal nor dead
+abbrev pub IsFree : Query → ℕ → Type 0
+IsFree q s = (is_goal q s ≡ false) × (is_dead q s ≡ false)
+
+-- the choice gives at least the value over a table: at a state of the minimiser it is 0, and every choice does
+pub record Gives (q : Query) (table : ℕ → ℕ) (s value choice : ℕ) : Type 0 where
+  pub greatest : side_at q s ≡ Max → (choice < length (choices_of q.game s)) × (value ≤ down_value table (choice_of q.game s choice))
+  pub least : side_at q s ≡ Min → (choice ≡ 0) × ((c : ℕ) → c < length (choices_of q.game s) → value ≤ down_value table (choice_of q.game s c))

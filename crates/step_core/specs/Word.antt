@@ -1,0 +1,42 @@
+-- Words: a value and a choice in one number.
+use Rattle.std.specs.Prelude.{ℕ, ◌+◌, ◌*◌, ◌/◌, ◌%◌, List, [], ◌∷◌, map, slice_index, Option, Some, if◌then◌else◌, nat_lt}
+use Rattle.game_model.specs.Limits.{unit}
+use Rattle.game_model.specs.Query.{Query, is_goal}
+use Rattle.step_core.specs.declared.word.TheConstants.{CHOICE_SPACE}
+
+-- how many choices a word can name
+abbrev pub choice_space : ℕ
+choice_space = CHOICE_SPACE
+
+abbrev pub packed : ℕ → ℕ → ℕ
+packed value choice = value * choice_space + choice
+
+abbrev pub value_in : ℕ → ℕ
+value_in word = word / choice_space
+
+abbrev pub choice_in : ℕ → ℕ
+choice_in word = word % choice_space
+
+-- the value of a state's word: a table of units
+abbrev pub value_at : List ℕ → ℕ → ℕ
+value_at words s = value_in (slice_index words s)
+
+-- the values of words, and their choices
+abbrev pub values_of : List ℕ → List ℕ
+values_of words = map value_in words
+
+abbrev pub picks_of : List ℕ → List (Option ℕ)
+picks_of words = map (λ word. Some (choice_in word)) words
+
+-- the words of the opening table: goals have the unit, and each choice is 0
+abbrev pub opening_words : Query → List ℕ
+opening_words q = map (λ goal. if goal then packed unit 0 else 0) q.goals
+
+abbrev pub opening_word : Query → ℕ → ℕ
+opening_word q s = if is_goal q s then packed unit 0 else 0
+
+-- state by state the word of greater value, the first at a tie
+abbrev pub greater_words : List ℕ → List ℕ → List ℕ
+greater_words [] ys = []
+greater_words (x ∷ xs) [] = x ∷ xs
+greater_words (x ∷ xs) (y ∷ ys) = (if nat_lt (value_in x) (value_in y) then y else x) ∷ greater_words xs ys

@@ -1,0 +1,33 @@
+-- What contracts say of a table and of a pass.
+use Rattle.std.specs.Prelude.{◌≡◌, ℕ, ◌≤◌, List}
+use Rattle.atomic_table.specs.declared.shared.Seat.{Seat}
+use Rattle.step_core.specs.Word.{value_at}
+use Rattle.value_words.specs.declared.rule.Sight.{Sight}
+use Rattle.value_words.specs.declared.pass.Pass.{Pass}
+use Rattle.value_words.specs.declared.table.Ruled.{Ruled}
+
+-- the pass is of this table
+abbrev pub IsOf : {Q P : Type 0} {g h : _} → Ruled Q P g → Pass P h → Type 0
+IsOf table pass = pass.seat.table_id ≡ table.table.shared.table_id
+
+-- the words that a pass has seen, and their values
+abbrev pub words_seen : {P : Type 0} {h : _} → Pass P h → List ℕ
+words_seen pass = pass.seat.me.0.seen
+
+abbrev pub seen_by : {P : Type 0} {h : _} → Pass P h → ℕ → ℕ
+seen_by pass = value_at pass.seat.me.0.seen
+
+-- how many exchanges a pass has won, with those of the passes that it met
+abbrev pub won_by : {P : Type 0} {h : _} → Pass P h → ℕ
+won_by pass = pass.seat.me.0.won
+
+abbrev pub Token : Type 0
+Token = Seat (Unit {0}) Sight
+
+-- a pass of the same table, which has seen no less anywhere
+pub record GrewSeat (old new : Token) : Type 0 where
+  pub table : new.table_id ≡ old.table_id
+  pub up : (s : ℕ) → value_at old.me.0.seen s ≤ value_at new.me.0.seen s
+
+abbrev pub Grew : {P : Type 0} {h : _} → Pass P h → Pass P h → Type 0
+Grew old new = GrewSeat old.seat new.seat

@@ -1,0 +1,74 @@
+// The rule of the words, and what each step tells.
+use atomic_table::{Join, Play, Split, TableRule};
+use std::collections::LinkedList;
+use std::marker::{Brand, PhantomData};
+
+/// Names the question of a table, for contracts alone. Each call of a program picks one.
+pub trait Posing: Send + Sync {
+    ghost use Rattle.game_model.specs.Query.{Query};
+
+    ghost posed: { Query };
+}
+
+impl Posing for Brand {
+    ghost use Rattle.value_words.specs.Rule.{no_question};
+
+    ghost posed = { no_question };
+}
+
+/// What a pass has seen of each word, and how many exchanges it has won. No value of it is made.
+pub struct Sight {
+    pub live: bool,
+    pub seen: LinkedList<u64>,
+    pub won: u64,
+}
+
+/// The rule of the words of a question.
+pub struct Rising<P: Posing> {
+    posing: PhantomData<P>,
+}
+
+impl<P: Posing> TableRule<(), Sight, ()> for Rising<P> {
+    ghost use Rattle.value_words.specs.Rule.{Kept, opening_sight};
+
+    ghost holds = { λ _. Kept P.posed };
+
+    ghost first = { λ _. opening_sight P.posed };
+}
+
+/// A load.
+pub struct Loading;
+
+impl Play<(), Sight> for Loading {
+    ghost use Rattle.value_words.specs.Rule.{Loaded};
+
+    ghost then = { Loaded };
+}
+
+/// An exchange, which is won or lost.
+pub struct Exchanging;
+
+impl Play<(), Sight> for Exchanging {
+    ghost use Rattle.value_words.specs.Rule.{WonOrLost};
+
+    ghost then = { WonOrLost };
+}
+
+/// A split of a view, and a join of two.
+pub struct Sharing;
+
+impl Split<Sight> for Sharing {
+    ghost use Rattle.value_words.specs.Rule.{copied};
+
+    ghost left = { λ v. v };
+
+    ghost right = { copied };
+}
+
+impl Join<Sight> for Sharing {
+    ghost use Rattle.value_words.specs.Rule.{joined, spent};
+
+    ghost both = { joined };
+
+    ghost spent = { spent };
+}

@@ -1,0 +1,352 @@
+// The table, and its steps.
+ghost use Rattle.std.specs.Prelude.{◌≡◌, ◌≢◌, ℕ, ◌+◌, ◌*◌, ◌<◌, ◌≤◌, length, slice_index, slice_set, All, IfOk, MatchBool};
+ghost use Rattle.game_model.specs.declared.game.Side.TheVariants.{Max, Min};
+ghost use Rattle.game_model.specs.Game.{choices_of, choice_of};
+ghost use Rattle.game_model.specs.Query.{Query, IsQuery, states, side_at};
+ghost use Rattle.game_model.specs.Values.{weighted_sum};
+ghost use Rattle.game_model.specs.Limits.{unit};
+ghost use Rattle.game_model.specs.Rounded.{down_value, down_step};
+ghost use Rattle.step_core.specs.Word.{choice_space, value_in, choice_in, value_at, opening_words, greater_words};
+ghost use Rattle.step_core.specs.Sound.{IsFree, Gives, Sound, Sees};
+ghost use Rattle.std.specs.Mem.Slots.{IsFull, slots_items};
+
+use crate::pass::Pass;
+use crate::rule::{Exchanging, Loading, Posing, Rising, Sharing, Sight};
+use atomic_table::{Closed, Table, TableRule};
+use game_model::{Question, Side, UNIT};
+use game_outside::OutOfMemory;
+use std::alloc::Global;
+use std::marker::{Model, PhantomData};
+use step_core::{opening_words, pack, value_of};
+
+/// The shared words of a question, under a rule.
+#[derive(Drop)]
+pub struct Ruled<'q, Q: TableRule<(), Sight, ()>, P: Posing> {
+    table: Table<(), Sight, (), Q, Global>,
+    question: &'q Question<'q>,
+    of: PhantomData<P>,
+    ghost is: { question.now ≡ P.posed },
+    ghost posed: { IsQuery P.posed },
+    ghost as_many: { table.shared.table_id.words ≡ states P.posed },
+    ghost bare: { table.shared.table_id.slots ≡ 0 },
+}
+
+/// The shared words of a question, whose invariant holds between any two steps.
+pub type ValueTable<'q, P> = Ruled<'q, Rising<P>, P>;
+
+/// The words of a table that was closed, one for each state.
+#[derive(Drop)]
+pub struct Words {
+    words: Vec<u64>,
+}
+
+impl Model for Words {
+    ghost use Rattle.std.specs.Prelude.{ℕ, List};
+
+    ghost Value = { List ℕ };
+
+    ghost view = { λ w. w.words.items };
+}
+
+impl Words {
+    /// The words, by state.
+    pub fn as_slice(&self) -> &[u64]
+        ensures { result.now ≡ self.now }
+    {
+        self.words.as_slice()
+    }
+}
+
+impl<'q, P: Posing> ValueTable<'q, P> {
+    ghost use Rattle.value_words.specs.Passes.{IsOf, Grew, seen_by, words_seen, won_by};
+
+    /// The opening words, and the one pass that has seen them.
+    pub fn start(
+        alloc: Global,
+        question: &'q Question<'q>,
+    ) -> Result<(ValueTable<'q, P>, Pass<P>), OutOfMemory>
+        requires { question.now ≡ P.posed }
+        ensures { IfOk result (λ r. IsOf r.0 r.1 × (words_seen r.1 ≡ opening_words P.posed) × (won_by r.1 ≡ 0)) }
+    {
+        question.known();
+        let words = opening_words(alloc, question)?;
+        match Table::of_words(alloc, words.as_slice(), &()) {
+            Ok((table, seat)) => Ok((
+                Ruled {
+                    table,
+                    question,
+                    of: PhantomData,
+                },
+                Pass {
+                    seat,
+                    of: PhantomData,
+                },
+            )),
+            Err(_) => Err(OutOfMemory {}),
+        }
+    }
+
+    /// The question.
+    pub fn question(&self) -> &'q Question<'q>
+        ensures { result.now ≡ P.posed }
+    {
+        self.question
+    }
+
+    /// Raises the word of a state to its step over the words, where that is greater. Whether an exchange
+    /// of this call won.
+    pub fn update(&self, pass: &mut Pass<P>, state: u32) -> bool
+        requires pass { IsOf self.now pass.old }
+        requires state { state < states P.posed }
+        ensures grew { Grew pass.old pass.new }
+        // What was seen at the state is now at least the down step of what was seen before.
+        ensures step { down_step P.posed (seen_by pass.old) state ≤ seen_by pass.new state }
+        ensures won { MatchBool result (won_by pass.new ≡ won_by pass.old + 1) (won_by pass.new ≡ won_by pass.old) }
+    {
+        if self.question.is_goal(state) || self.question.is_dead(state) {
+            return false;
+        }
+        self.raise(pass, state)
+    }
+
+    /// Loads each word once, and writes their values.
+    pub fn read_into(&self, pass: &mut Pass<P>, table: &mut [u64])
+        requires pass { IsOf self.now pass.old }
+        requires room { length table.old ≡ states P.posed }
+        ensures grew { Grew pass.old pass.new }
+        ensures won { won_by pass.new ≡ won_by pass.old }
+        ensures units { All (λ v. v ≤ unit) table.new }
+        ensures read { (s : ℕ) → s < states P.posed → slice_index table.new s ≡ seen_by pass.new s }
+    {
+        for state in 0..table.len() {
+            table[state] = value_of(self.load(pass, state as u32));
+        }
+    }
+
+    /// A second pass, which has seen the same and has won nothing.
+    pub fn split(&self, pass: &mut Pass<P>) -> Pass<P>
+        requires { IsOf self.now pass.old }
+        ensures grew { Grew pass.old pass.new }
+        ensures seen { words_seen pass.new ≡ words_seen pass.old }
+        ensures won { won_by pass.new ≡ won_by pass.old }
+        ensures new { IsOf self.now result × (words_seen result ≡ words_seen pass.old) × (won_by result ≡ 0) }
+    {
+        let seat = self.table.shared.split_seat::<Sharing>(&mut pass.seat);
+        Pass {
+            seat,
+            of: PhantomData,
+        }
+    }
+
+    /// Takes in another pass: what was seen at a state is then the seen word of greater value.
+    pub fn meet(&self, pass: &mut Pass<P>, other: Pass<P>)
+        requires pass { IsOf self.now pass.old }
+        requires other { IsOf self.now other }
+        ensures grew { Grew pass.old pass.new }
+        ensures other { (s : ℕ) → seen_by other s ≤ seen_by pass.new s }
+        ensures seen { words_seen pass.new ≡ greater_words (words_seen pass.old) (words_seen other) }
+        ensures won { won_by pass.new ≡ won_by pass.old + won_by other }
+    {
+        let Pass { seat, of: _ } = other;
+        self.table.shared.join_seat::<Sharing>(&mut pass.seat, seat);
+    }
+
+    /// The final words. Each is the one that the pass has seen, or has a greater value.
+    pub fn close(self, alloc: Global, pass: Pass<P>) -> Result<Words, OutOfMemory>
+        requires { IsOf self pass }
+        ensures words { IfOk result (λ words. Sound P.posed words) }
+        ensures seen { IfOk result (λ words. Sees P.posed words (words_seen pass)) }
+    {
+        let Ruled {
+            table,
+            question: _,
+            of: _,
+        } = self;
+        let Pass { seat, of: _ } = pass;
+        let closed = table.close_with(seat);
+        let words = words_of(alloc, &closed);
+        closed.free();
+        Ok(Words { words: words? })
+    }
+
+    // The word of a state.
+    fn load(&self, pass: &mut Pass<P>, state: u32) -> u64
+        requires pass { IsOf self.now pass.old }
+        requires state { state < states P.posed }
+        ensures grew { Grew pass.old pass.new }
+        ensures won { won_by pass.new ≡ won_by pass.old }
+        ensures seen { words_seen pass.new ≡ slice_set (words_seen pass.old) state result }
+        ensures current { result ≡ slice_index (words_seen pass.new) state }
+        ensures low { seen_by pass.old state ≤ value_in result }
+        ensures value { seen_by pass.new state ≡ value_in result }
+        ensures units { value_in result ≤ unit }
+    {
+        self.table
+            .shared
+            .load::<Loading>(&mut pass.seat, state as usize)
+    }
+
+    // The weighted sum of a choice, over the words as they are loaded.
+    fn weighted_sum(&self, pass: &mut Pass<P>, state: u32, choice: u32) -> u128
+        requires pass { IsOf self.now pass.old }
+        requires state { state < states P.posed }
+        requires choice { choice < length (choices_of P.posed.game state) }
+        ensures grew { Grew pass.old pass.new }
+        ensures won { won_by pass.new ≡ won_by pass.old }
+        ensures low { weighted_sum (seen_by pass.old) (choice_of P.posed.game state choice).edges ≤ result }
+        ensures high { result ≤ weighted_sum (seen_by pass.new) (choice_of P.posed.game state choice).edges }
+        ensures units { result ≤ (choice_of P.posed.game state choice).total * unit }
+    {
+        let game = self.question.game();
+        let mut sum: u128 = 0;
+        for place in 0..game.edge_count(state, choice) {
+            let edge = game.edge(state, choice, place);
+            let value = value_of(self.load(pass, edge.to));
+            sum += edge.weight * u128::from(value);
+        }
+        sum
+    }
+
+    // The greatest value of the choices of a state and the first choice that gives it, where it is above
+    // `least`; else `least`. It divides only for a gain.
+    fn greatest_above(&self, pass: &mut Pass<P>, state: u32, least: u64) -> (u64, u32)
+        requires pass { IsOf self.now pass.old }
+        requires state { state < states P.posed }
+        requires units { least ≤ unit }
+        ensures grew { Grew pass.old pass.new }
+        ensures won { won_by pass.new ≡ won_by pass.old }
+        ensures least { least ≤ result.0 }
+        ensures units { result.0 ≤ unit }
+        ensures low { (c : ℕ) → c < length (choices_of P.posed.game state) → down_value (seen_by pass.old) (choice_of P.posed.game state c) ≤ result.0 }
+        ensures given { least < result.0 → (result.1 < length (choices_of P.posed.game state)) × (result.0 ≤ down_value (seen_by pass.new) (choice_of P.posed.game state result.1)) }
+    {
+        let game = self.question.game();
+        let mut best = least;
+        let mut first = 0;
+        for choice in 0..game.choices_of(state) {
+            let sum = self.weighted_sum(pass, state, choice);
+            let total = game.total(state, choice);
+            if sum >= (u128::from(best) + 1) * total {
+                best = (sum / total) as u64;
+                first = choice;
+            }
+        }
+        (best, first)
+    }
+
+    // The least value of the choices of a state, where it is above `least`; else `least`. It ends at the
+    // first choice that is not above.
+    fn least_above(&self, pass: &mut Pass<P>, state: u32, least: u64) -> u64
+        requires pass { IsOf self.now pass.old }
+        requires state { state < states P.posed }
+        requires units { least ≤ unit }
+        ensures grew { Grew pass.old pass.new }
+        ensures won { won_by pass.new ≡ won_by pass.old }
+        ensures least { least ≤ result }
+        ensures units { result ≤ unit }
+        ensures low { (c : ℕ) × (c < length (choices_of P.posed.game state)) × (down_value (seen_by pass.old) (choice_of P.posed.game state c) ≤ result) }
+        ensures given { least < result → (c : ℕ) → c < length (choices_of P.posed.game state) → result ≤ down_value (seen_by pass.new) (choice_of P.posed.game state c) }
+    {
+        let game = self.question.game();
+        let mut best = UNIT;
+        for choice in 0..game.choices_of(state) {
+            let sum = self.weighted_sum(pass, state, choice);
+            let total = game.total(state, choice);
+            if sum < (u128::from(least) + 1) * total {
+                return least;
+            }
+            if sum < u128::from(best) * total {
+                let value = sum / total;
+                best = value as u64;
+            }
+        }
+        best
+    }
+
+    // The step of a state over the words and the choice for it, where it is above `least`; else `least`.
+    fn step_above(&self, pass: &mut Pass<P>, state: u32, least: u64) -> (u64, u32)
+        requires pass { IsOf self.now pass.old }
+        requires state { state < states P.posed }
+        requires free { IsFree P.posed state }
+        requires units { least ≤ unit }
+        ensures grew { Grew pass.old pass.new }
+        ensures won { won_by pass.new ≡ won_by pass.old }
+        ensures units { result.0 ≤ unit }
+        ensures low { down_step P.posed (seen_by pass.old) state ≤ result.0 }
+        ensures given { least < result.0 → Gives P.posed (seen_by pass.new) state result.0 result.1 × (result.1 < choice_space) }
+    {
+        match self.question.side(state) {
+            Side::Max => self.greatest_above(pass, state, least),
+            Side::Min => (self.least_above(pass, state, least), 0),
+        }
+    }
+
+    // Tries to exchange the word that the pass has seen for one of greater value.
+    fn exchange(&self, pass: &mut Pass<P>, state: u32, from: u64, to: u64) -> u64
+        requires pass { IsOf self.now pass.old }
+        requires state { state < states P.posed }
+        requires free { IsFree P.posed state }
+        requires from { from ≡ slice_index (words_seen pass.old) state }
+        requires raised { value_in from < value_in to }
+        requires given { Gives P.posed (seen_by pass.old) state (value_in to) (choice_in to) }
+        ensures grew { Grew pass.old pass.new }
+        ensures hit { result ≡ from → (won_by pass.new ≡ won_by pass.old + 1) × (seen_by pass.new state ≡ value_in to) }
+        ensures lost { result ≢ from → (won_by pass.new ≡ won_by pass.old) × (result ≡ slice_index (words_seen pass.new) state) × (value_in from < value_in result) }
+    {
+        self.table
+            .shared
+            .compare_exchange::<Exchanging>(&mut pass.seat, state as usize, from, to)
+    }
+
+    // Tries to exchange the word until it has at least this value. Whether an exchange won.
+    fn exchange_up(&self, pass: &mut Pass<P>, state: u32, to: u64) -> bool
+        requires pass { IsOf self.now pass.old }
+        requires state { state < states P.posed }
+        requires free { IsFree P.posed state }
+        requires given { Gives P.posed (seen_by pass.old) state (value_in to) (choice_in to) }
+        ensures grew { Grew pass.old pass.new }
+        ensures reached { value_in to ≤ seen_by pass.new state }
+        ensures won { MatchBool result (won_by pass.new ≡ won_by pass.old + 1) (won_by pass.new ≡ won_by pass.old) }
+    {
+        let mut current = self.load(pass, state);
+        while value_of(current) < value_of(to) {
+            let found = self.exchange(pass, state, current, to);
+            if found == current {
+                return true;
+            }
+            current = found;
+        }
+        false
+    }
+
+    // `update` at a state that is neither goal nor dead.
+    fn raise(&self, pass: &mut Pass<P>, state: u32) -> bool
+        requires pass { IsOf self.now pass.old }
+        requires state { state < states P.posed }
+        requires free { IsFree P.posed state }
+        ensures grew { Grew pass.old pass.new }
+        ensures step { down_step P.posed (seen_by pass.old) state ≤ seen_by pass.new state }
+        ensures won { MatchBool result (won_by pass.new ≡ won_by pass.old + 1) (won_by pass.new ≡ won_by pass.old) }
+    {
+        let least = value_of(self.load(pass, state));
+        let (value, choice) = self.step_above(pass, state, least);
+        if value <= least {
+            return false;
+        }
+        self.exchange_up(pass, state, pack(value, choice))
+    }
+}
+
+// The words that a closed table holds.
+fn words_of(alloc: Global, closed: &Closed<(), Global>) -> Result<Vec<u64>, OutOfMemory>
+    requires { IsFull closed.now.words }
+    ensures { IfOk result (λ words. words.items ≡ slots_items closed.now.words) }
+{
+    let mut words = Vec::new(alloc);
+    for state in 0..closed.words.len() {
+        let Ok(()) = words.push(closed.word(state)) else {
+            return Err(OutOfMemory {});
+        };
+    }
+    Ok(words)
+}
