@@ -1,5 +1,5 @@
 -- Powers of two and of five beside the finest denominator.
-use Rattle.std.proofs.Common.{◌≡◌, ◌∙◌, ℕ, zero, suc, ◌+◌, ◌-◌, ◌*◌, ◌/◌, ◌%◌, ◌^◌, ◌<◌, ◌≤◌, sym, ap, subst, add-one, arith}
+use Rattle.std.proofs.Common.{◌≡◌, ◌∙◌, ℕ, zero, suc, ◌+◌, ◌-◌, ◌*◌, ◌/◌, ◌%◌, ◌^◌, ◌<◌, ◌≤◌, sym, ap, add-one, arith}
 use Rattle.std.proofs.Math.Nat.{div-mul_cancel, dvd_of_mod-eq-zero, mul_comm, mul_assoc, pow-suc, pow-zero, mul-le-mul_left, mul-le-mul_right}
 use Rattle.std.proofs.lemmas.Nat.{pow-add}
 use Rattle.distributions.specs.Limits.{finest}
@@ -39,3 +39,8 @@ taken_out n r f i j h e divides is =
     let whole : (r / f) * f ≡ r = div-mul_cancel f (dvd_of_mod-eq-zero f divides) in
     let more : f ^ j ≡ f * f ^ i = ap (λ m. f ^ m) (e ∙ add-one i) ∙ pow-suc f i ∙ mul_comm (f ^ i) f in
     is ∙ ap (λ m. m * f ^ i) (sym whole) ∙ mul_assoc (r / f) f (f ^ i) ∙ ap (λ m. (r / f) * m) (sym more)
+
+-- of as many places as the finest denominator has
+pub few_powers : (i j : ℕ) → i ≤ 24 → j ≤ 24 → 2 ^ i * 5 ^ j ≤ finest
+few_powers i j hi hj =
+    omega (arith, mul-le-mul_right (5 ^ j) (pow-rises 2 i 24 (omega arith) hi), mul-le-mul_left (2 ^ 24) (pow-rises 5 j 24 (omega arith) hj))

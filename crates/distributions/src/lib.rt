@@ -15,6 +15,7 @@ mod number;
 pub use choice::{ChoiceFault, Part, make_choice};
 pub use fraction::{Frac, compare};
 pub use limits::{
-    FINEST, MOST_DIGITS, MOST_EXPONENT, MOST_EXPONENT_DIGITS, MOST_PARTS, MOST_VALUE, TOLERANCE,
+    FINEST, FINEST_PLACES, MOST_DIGITS, MOST_EXPONENT, MOST_EXPONENT_DIGITS, MOST_PARTS,
+    MOST_VALUE, TOLERANCE,
 };
 pub use number::{NumberFault, read_number};

@@ -3,6 +3,9 @@
 /// The greatest denominator of a fraction, and of a choice.
 pub const FINEST: u128 = 1_000_000_000_000_000_000_000_000;
 
+/// How many decimal places have it as their denominator.
+pub const FINEST_PLACES: u32 = 24;
+
 /// The greatest value of a fraction.
 pub const MOST_VALUE: u128 = 2;
 

@@ -8,7 +8,7 @@ ghost use Rattle.distributions.specs.Number.{in_range, fraction_said};
 
 use crate::divisors::greatest_common_divisor;
 use crate::fraction::Frac;
-use crate::limits::{FINEST, MOST_VALUE};
+use crate::limits::{FINEST, FINEST_PLACES, MOST_VALUE};
 use crate::number::NumberFault;
 
 // The fraction of two numbers in lowest terms, where it is in range.
@@ -83,6 +83,17 @@ fn powers(twos: u32, fives: u32) -> Option<u128>
     Some(two * five)
 }
 
+// Most decimals need no test by a division.
+#[tactic(auto, using(crate::proofs::Powers::few_powers, crate::proofs::Powers::two_fits, crate::proofs::Powers::five_fits))]
+fn denominator(twos: u32, fives: u32) -> Option<u128>
+    ensures value { MatchOption result (finest < 2 ^ twos * 5 ^ fives) (λ m. m ≡ 2 ^ twos * 5 ^ fives) }
+{
+    if twos <= FINEST_PLACES && fives <= FINEST_PLACES {
+        return Some(2u128.pow(twos) * 5u128.pow(fives));
+    }
+    powers(twos, fives)
+}
+
 // So many digits over a power of ten.
 fn over_tens(digits: u128, tens: u32) -> Result<Frac, NumberFault>
     ensures { result ≡ in_range (lowest (record { num = digits; den = 10 ^ tens })) }
@@ -92,7 +103,7 @@ fn over_tens(digits: u128, tens: u32) -> Result<Frac, NumberFault>
     }
     let odd = without(digits, 2, tens);
     let rest = without(odd.number, 5, tens);
-    match powers(odd.left, rest.left) {
+    match denominator(odd.left, rest.left) {
         Some(den) => checked(rest.number, den),
         None => Err(NumberFault::TooFine),
     }
