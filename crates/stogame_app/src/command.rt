@@ -1,13 +1,15 @@
 //! The top call: from the words and the bytes read to the bytes written.
 
-ghost use Rattle.std.specs.Prelude.{◌≡◌, ◌<◌, ◌⊎◌, ℕ, List, Some, true, All, map};
+ghost use Rattle.std.specs.Prelude.{◌≡◌, ◌≢◌, ◌<◌, ◌⊎◌, ℕ, List, Some, true, All, map};
 ghost use Rattle.std.specs.String.{string_bytes};
+ghost use Rattle.text_lines.specs.declared.TheConstants.{MOST_BYTES};
+ghost use Rattle.stogame_app.specs.declared.refusal.Refusal.{Refusal};
 ghost use Rattle.game_outside.specs.Outside.{Holding, Rose, GrowsBy, GrowsByPrefix};
 ghost use Rattle.formula_sets.specs.Posing.{Posing};
 ghost use Rattle.stogame_app.specs.Words.{Check, AreCheck, AreNoCommand, check_of};
 ghost use Rattle.stogame_app.specs.Said.{Refuses, Says, NotHeld, WhereTold};
 ghost use Rattle.stogame_app.specs.Posed.{reading_of, posed, question_said, HasSizes};
-ghost use Rattle.stogame_app.specs.Refusals.{usage_text};
+ghost use Rattle.stogame_app.specs.Refusals.{refusal_text, usage_text};
 ghost use Rattle.game_model.specs.Query.{states};
 ghost use Rattle.stogame_app.specs.Reports.{IsReport};
 ghost use Rattle.stogame_app.specs.Run.{asked_rounds, IsReportOf, IsRefusalOf, IsLong, PosesIt, RefusesIt, IsReportOfWords, IsRefusalOfWords, IsUsageOfWords, IsOutput};
@@ -85,9 +87,23 @@ fn run_check<H: Shelf, K: Sink>(
 {
     match load_model(alloc, shelf, check) {
         Ok(loaded) => answer(alloc, &loaded, out),
-        Err(End::OutOfMemory) => Status::OutOfMemory,
-        Err(End::ReadFault) => Status::ReadFault,
-        Err(End::Refused(refusal)) => end_with_refusal(alloc, out, &refusal),
+        Err(end) => end_run(alloc, out, end),
+    }
+}
+
+// The end of a run whose loading ended with nothing.
+fn end_run<K: Sink>(alloc: Global, out: &mut K, end: End) -> Status
+    ensures only { (result ≡ Status.Fine) ⊎ (result ≡ Status.Usage) → ⊥ }
+    ensures read_fault { result ≡ Status.ReadFault → (end ≡ End.ReadFault) × (K.written out.new ≡ K.written out.old) }
+    ensures refused { result ≡ Status.ModelRefused → (refusal : Refusal) × (end ≡ End.Refused refusal) × GrowsBy (K.written out.old) (K.written out.new) (refusal_text refusal) }
+    ensures write_fault { result ≡ Status.WriteFault → (refusal : Refusal) × (end ≡ End.Refused refusal) × Rose (K.faults out.old) (K.faults out.new)
+        × GrowsByPrefix (K.written out.old) (K.written out.new) (refusal_text refusal) }
+    ensures memory { result ≡ Status.OutOfMemory → K.written out.new ≡ K.written out.old }
+{
+    match end {
+        End::OutOfMemory => Status::OutOfMemory,
+        End::ReadFault => Status::ReadFault,
+        End::Refused(refusal) => end_with_refusal(alloc, out, &refusal),
     }
 }
 
@@ -97,10 +113,10 @@ fn answer<K: Sink>(alloc: Global, loaded: &Loaded, out: &mut K) -> Status
     ensures only { (result ≡ Status.Usage) ⊎ (result ≡ Status.ReadFault) → ⊥ }
     ensures fine { result ≡ Status.Fine → (text : List ℕ) × IsReportOf (λ posing. posed (reading_of loaded.now) ≡ Says posing) text
         × GrowsBy (K.written out.old) (K.written out.new) text }
-    ensures refused { result ≡ Status.ModelRefused → (text : List ℕ) × IsRefusalOf (λ refusal. posed (reading_of loaded.now) ≡ Refuses refusal) 0 text
+    ensures refused { result ≡ Status.ModelRefused → (text : List ℕ) × ((taken : ℕ) → (MOST_BYTES < taken → ⊥) → IsRefusalOf (λ refusal. posed (reading_of loaded.now) ≡ Refuses refusal) taken text)
         × GrowsBy (K.written out.old) (K.written out.new) text }
     ensures write_fault { result ≡ Status.WriteFault → Rose (K.faults out.old) (K.faults out.new)
-        × ((text : List ℕ) × (IsReportOf (λ posing. posed (reading_of loaded.now) ≡ Says posing) text ⊎ IsRefusalOf (λ refusal. posed (reading_of loaded.now) ≡ Refuses refusal) 0 text)
+        × ((text : List ℕ) × (IsReportOf (λ posing. posed (reading_of loaded.now) ≡ Says posing) text ⊎ ((taken : ℕ) → (MOST_BYTES < taken → ⊥) → IsRefusalOf (λ refusal. posed (reading_of loaded.now) ≡ Refuses refusal) taken text))
         × GrowsByPrefix (K.written out.old) (K.written out.new) text) }
     ensures memory { result ≡ Status.OutOfMemory → K.written out.new ≡ K.written out.old }
 {
@@ -112,8 +128,37 @@ fn answer<K: Sink>(alloc: Global, loaded: &Loaded, out: &mut K) -> Status
         &loaded.formula,
     ) {
         Ok(posed) => answer_question(alloc, &posed, out),
-        Err(PoseFault::OutOfMemory) => Status::OutOfMemory,
-        Err(fault) => end_with_refusal(alloc, out, &Refusal::OfQuestion(fault)),
+        Err(fault) => refuse_question(alloc, out, fault),
+    }
+}
+
+// The end of a run whose formula poses no question.
+fn refuse_question<K: Sink>(alloc: Global, out: &mut K, fault: PoseFault) -> Status
+    ensures only { (result ≡ Status.ModelRefused) ⊎ ((result ≡ Status.WriteFault) ⊎ (result ≡ Status.OutOfMemory)) }
+    ensures refused { result ≡ Status.ModelRefused → (fault ≢ PoseFault.OutOfMemory) × GrowsBy (K.written out.old) (K.written out.new) (refusal_text (Refusal.OfQuestion fault)) }
+    ensures write_fault { result ≡ Status.WriteFault → (fault ≢ PoseFault.OutOfMemory) × Rose (K.faults out.old) (K.faults out.new)
+        × GrowsByPrefix (K.written out.old) (K.written out.new) (refusal_text (Refusal.OfQuestion fault)) }
+    ensures memory { result ≡ Status.OutOfMemory → K.written out.new ≡ K.written out.old }
+{
+    match fault {
+        PoseFault::OutOfMemory => Status::OutOfMemory,
+        PoseFault::UnknownLabel(name) => {
+            end_with_refusal(
+                alloc,
+                out,
+                &Refusal::OfQuestion(PoseFault::UnknownLabel(name)),
+            )
+        }
+        PoseFault::UnknownPlayer(name) => {
+            end_with_refusal(
+                alloc,
+                out,
+                &Refusal::OfQuestion(PoseFault::UnknownPlayer(name)),
+            )
+        }
+        PoseFault::NoInit => {
+            end_with_refusal(alloc, out, &Refusal::OfQuestion(PoseFault::NoInit))
+        }
     }
 }
 
