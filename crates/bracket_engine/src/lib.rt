@@ -13,3 +13,6 @@ mod tables;
 
 pub use bounds::Bracket;
 pub use run::{MOST_ROUNDS, bracket};
+
+#[cfg(test)]
+mod tests;

@@ -12,3 +12,6 @@ mod sum;
 
 pub use fault::ValueFault;
 pub use recursion::numerators;
+
+#[cfg(test)]
+mod tests;

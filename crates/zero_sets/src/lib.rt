@@ -35,3 +35,6 @@ pub fn zero_set(alloc: Global, question: &Question) -> Result<Marks, OutOfMemory
     };
     Ok(Marks::of_list(others))
 }
+
+#[cfg(test)]
+mod tests;

@@ -1,0 +1,33 @@
+//! Worked brackets.
+
+use crate::bracket;
+use game_model::{Question, Side, UNIT};
+use sample_games::{all_of, coin_loop, none_of, only};
+use std::test::Fail;
+use zero_sets::zero_set;
+
+#[test]
+fn the_coin_loop_settles_at_round_40(rt: HostRuntime) -> Result<(), Fail> {
+    let alloc = rt.alloc();
+    let game = coin_loop(alloc)?;
+    let sides = all_of(alloc, Side::Max, 3)?;
+    let question = Question::build(&game, sides, only(alloc, 1, 3)?, none_of(alloc, 3)?);
+    let Ok(zero) = zero_set(alloc, &question) else {
+        return Err(Fail::new("no memory"));
+    };
+    for (asked, lower, rounds, stable) in [
+        (0, 0, 0, false),
+        (2, UNIT / 8 * 3, 2, false),
+        (39, UNIT / 2 - 1, 39, true),
+        (1_000, UNIT / 2 - 1, 40, true),
+    ] {
+        let Ok(found) = bracket(alloc, &question, &zero, asked) else {
+            return Err(Fail::new("no memory"));
+        };
+        assert_eq!(rt; found.lower.as_slice(), [lower, UNIT, 0].as_slice(), "after {asked}");
+        assert_eq!(rt; found.upper.as_slice(), [UNIT, UNIT, 0].as_slice(), "after {asked}");
+        assert_eq!(rt; found.rounds, rounds, "after {asked}");
+        assert_eq!(rt; found.stable, stable, "after {asked}");
+    }
+    Ok(())
+}
