@@ -35,8 +35,8 @@ module _ (kind : FileKind) (n : ℕ) (items : List Item) where
   HasRead-line text rest line after number read more Before After so_far parts h known with holds = record {
     lines = more;
     goes_on =
-      sym (stepped so_far.lines number rest line after read parts h known ∙ ap (λ r. then_at number r (λ ls. lines_from kind n items ls (number + 1) (significant (lines_of after)))) with)
-      ∙ so_far.goes_on;
+        sym (stepped so_far.lines number rest line after read parts h known ∙ ap (λ r. then_at number r (λ ls. lines_from kind n items ls (number + 1) (significant (lines_of after)))) with)
+        ∙ so_far.goes_on;
     holds = holds;
   }
 

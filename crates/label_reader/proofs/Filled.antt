@@ -67,24 +67,26 @@ places_of-read n items lines owners m =
     let long : length (places_of owners) ≡ n = length-map owners (λ owner. unwrap_or owner 0) ∙ m.count in
     ext_get_or 0 (places_of owners) (map (λ s. owner_place items (said_of lines s)) (range_with_len 0 n)) (long ∙ sym (length-map-range_with_len (λ s. owner_place items (said_of lines s)) 0 n))
     (λ i il.
-        get_or-map (λ owner. unwrap_or owner 0) owners i None 0 (omega (arith, m.count, long, il))
-        ∙ ap (λ p. unwrap_or p 0) (m.first i (omega (arith, long, il)))
-        ∙ owner_is items (said_of lines i)
-        ∙ sym (get_or-map-range_with_len (λ s. owner_place items (said_of lines s)) 0 n i i 0 (omega (arith, long, il)) (omega arith)))
+    get_or-map (λ owner. unwrap_or owner 0) owners i None 0 (omega (arith, m.count, long, il))
+    ∙ ap (λ p. unwrap_or p 0) (m.first i (omega (arith, long, il)))
+    ∙ owner_is items (said_of lines i)
+    ∙ sym (get_or-map-range_with_len (λ s. owner_place items (said_of lines s)) 0 n i i 0 (omega (arith, long, il)) (omega arith)))
 
 pub AreOwned-read : (n : ℕ) (lines : List StateLine) (entries : Entries) (items : List Item) (owners : List (Option ℕ)) → items_of entries ≡ items → 0 < length items → AreRead n items lines owners → AreOwned entries owners
 AreOwned-read n lines entries items owners same some m = record {
   known = λ k d kl.
-    let small : k < n = omega (arith, m.count, kl) in
-    let P : Option ℕ → Type 0 = λ p. unwrap_or p 0 < length entries in
-    subst P (sym (get_or_default owners k d None kl ∙ m.first k small)) (found (said_of lines k));
+      let small : k < n = omega (arith, m.count, kl) in
+      let P : Option ℕ → Type 0 = λ p. unwrap_or p 0 < length entries in
+      subst P (sym (get_or_default owners k d None kl ∙ m.first k small)) (found (said_of lines k));
 }
   where
     count : length items ≡ length entries
     count = sym (ap (λ (is : List Item). length is) same) ∙ length-map entries item_at
+
     within : (p : Option ℕ) → IfSome p (λ j. j < length items) → unwrap_or p 0 < length entries
     within None h = omega (arith, some, count)
     within (Some j) h = omega (arith, h, count)
+
     found : (said : List ℕ) → unwrap_or (first_of items said) 0 < length entries
     found [] = omega (arith, some, count)
     found (number ∷ said) = within (place_of items number) (place_of-within items number)

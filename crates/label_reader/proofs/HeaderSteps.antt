@@ -64,6 +64,7 @@ with_item-saturated kind before (Some exact) item e = elim (bool_cases (ltb 9999
   where
     whole_is : saturated_item exact ≡ item
     whole_is = cc
+
     index_is : saturated exact.index ≡ item.index
     index_is = ap (λ (i : Item). i.index) whole_is
 
@@ -116,11 +117,14 @@ AreSingle-push items item single new small = record {
       where
         equal : (a b : ℕ) → eqb a b ≡ true → a ≡ b
         equal a b h = grind (arith, nat_tests)
+
         differs : (eqb item.index (get_or (indices_of items) k 0) ≡ true) ⊎ (eqb item.index (get_or (indices_of items) k 0) ≡ false) → place_of items (get_or (indices_of items) k 0) ≡ Some k → eqb item.index (get_or (indices_of items) k 0) ≡ false
         differs (inr e) at = e
         differs (inl e) at = let none = ap (λ i. place_of items i) (equal item.index (get_or (indices_of items) k 0) e) in cc
+
     last : place_of (items ++ item ∷ []) (get_or (indices_of (items ++ item ∷ [])) (length items) 0) ≡ Some (length items)
     last = ap (λ i. place_of (items ++ item ∷ []) i) (indices_of-last items item) ∙ place_of-push_new items item new
+
     once : (k : ℕ) → k < length (items ++ item ∷ []) → place_of (items ++ item ∷ []) (get_or (indices_of (items ++ item ∷ [])) k 0) ≡ Some k
     once k h = elim (bool_cases (ltb k (length items))) [
       | inl e ↦ old k (grind (arith, nat_tests, e))
@@ -139,6 +143,7 @@ ArePlaced-push items item places more placed new small updates = record { at = a
   where
     equal : (a b : ℕ) → eqb a b ≡ true → a ≡ b
     equal a b h = grind (arith, nat_tests)
+
     at : (index : ℕ) → get nat_eq more index ≡ place_of (items ++ item ∷ []) index
     at index = elim (bool_cases (eqb item.index index)) [
       | inl e ↦

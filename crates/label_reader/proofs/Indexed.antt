@@ -39,7 +39,7 @@ pub place_of-push_other : (items : List Item) (item : Item) (index : ℕ) → eq
 place_of-push_other [] item index h = ap (λ v. place_step item [] index v) h
 place_of-push_other (first ∷ items) item index h = ap (λ p. cond (eqb first.index index) (Some 0) (option_map (λ k. k + 1) p)) (place_of-push_other items item index h)
 
-none_behind : (b : Bool) (p : Option ℕ) → cond b (Some 0) (option_map (λ k. k + 1) p) ≡ None → (b ≡ false) × (p ≡ None)
+pub none_behind : (b : Bool) (p : Option ℕ) → cond b (Some 0) (option_map (λ k. k + 1) p) ≡ None → (b ≡ false) × (p ≡ None)
 none_behind true p h = cc
 none_behind false None h = (refl, refl)
 none_behind false (Some k) h = cc

@@ -8,3 +8,8 @@ pub mod Owning
 pub mod Filled
 pub mod Heads
 pub mod Splits
+pub mod ItemLaws
+pub mod StateLineLaws
+pub mod TextLaws
+pub mod SetLaws
+pub mod OwnerLaws

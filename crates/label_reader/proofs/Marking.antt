@@ -66,10 +66,13 @@ AreMarked-mark n items said sets i k s single place small m = record {
   where
     there : k < length sets
     there = omega (arith, m.count, within items i k place)
+
     row_long : length (get_or sets k []) ≡ n
     row_long = m.lengths k [] there
+
     index_is : get_or (indices_of items) k 0 ≡ i
     index_is = index_at_place items i k place
+
     same_row : (j t : ℕ) → j ≡ k → t < n → (eqb s t ≡ true) ⊎ (eqb s t ≡ false) → get_or (get_or (with_mark s (Some k) sets) j []) t false ≡ said_too said i s (get_or (indices_of items) j 0) t
     same_row j t e tl (inl h) =
         ap (λ x. get_or (get_or (with_mark s (Some k) sets) x []) t false) e
@@ -85,16 +88,19 @@ AreMarked-mark n items said sets i k s single place small m = record {
         ∙ ap (λ x. get_or (get_or sets x []) t false) (sym e)
         ∙ m.marks j t (omega (arith, e, m.count, there)) tl
         ∙ sym (ap (λ v. said (get_or (indices_of items) j 0) t || (eqb i (get_or (indices_of items) j 0) && v)) h ∙ ap (λ v. said (get_or (indices_of items) j 0) t || v) (and_false (eqb i (get_or (indices_of items) j 0))) ∙ or_false (said (get_or (indices_of items) j 0) t))
+
     other_index : (j : ℕ) → j ≢ k → j < length items → (eqb i (get_or (indices_of items) j 0) ≡ true) ⊎ (eqb i (get_or (indices_of items) j 0) ≡ false) → eqb i (get_or (indices_of items) j 0) ≡ false
     other_index j apart jl (inr h) = h
     other_index j apart jl (inl h) =
         let back : Some k ≡ Some j = sym place ∙ ap (λ x. place_of items x) (equal i (get_or (indices_of items) j 0) h) ∙ single.once j jl in
         absurd (apart (sym (cc back)))
+
     other_row : (j t : ℕ) → j ≢ k → j < length items → t < n → get_or (get_or (with_mark s (Some k) sets) j []) t false ≡ said_too said i s (get_or (indices_of items) j 0) t
     other_row j t apart jl tl =
         ap (λ (r : List Bool). get_or r t false) (get_or-set_other sets k j (set (get_or sets k []) s true) [] apart)
         ∙ m.marks j t jl tl
         ∙ sym (ap (λ v. said (get_or (indices_of items) j 0) t || (v && eqb s t)) (other_index j apart jl (bool_cases (eqb i (get_or (indices_of items) j 0)))) ∙ or_false (said (get_or (indices_of items) j 0) t))
+
     at : (j t : ℕ) → j < length items → t < n → get_or (get_or (with_mark s (Some k) sets) j []) t false ≡ said_too said i s (get_or (indices_of items) j 0) t
     at j t jl tl = elim (bool_cases (eqb j k)) [
       | inl h ↦ same_row j t (equal j k h) tl (bool_cases (eqb s t))
@@ -145,7 +151,7 @@ AreMarked-marks n items s (field ∷ fields) said sets single small known m =
     let first = AreMarked-mark n items said sets placed.number placed.place s single placed.at small m in
     let rest = AreMarked-marks n items s fields (said_too said placed.number s) (with_mark s (Some placed.place) sets) single small parts.1 first in
     let same = AreMarked-same n items (said_all (said_too said placed.number s) s fields) (said_all said s (field ∷ fields)) (with_marks items s (with_mark s (Some placed.place) sets) fields)
-      (λ number state. regroup (said number state) (eqb placed.number number) (eqb s state) (list_any (λ other. eqb other number) (map number_in fields)) ∙ ap (λ x. said number state || (eqb s state && (eqb x number || list_any (λ other. eqb other number) (map number_in fields)))) (sym placed.spelled)) rest in
+    (λ number state. regroup (said number state) (eqb placed.number number) (eqb s state) (list_any (λ other. eqb other number) (map number_in fields)) ∙ ap (λ x. said number state || (eqb s state && (eqb x number || list_any (λ other. eqb other number) (map number_in fields)))) (sym placed.spelled)) rest in
     let P : Option ℕ → Type 0 = λ p. AreMarked n items (said_all said s (field ∷ fields)) (with_marks items s (with_mark s p sets) fields) in
     subst P (sym placed.is) same
 

@@ -33,6 +33,7 @@ marks_of-labels_named (entry ∷ entries) (marks ∷ sets) name same = elim (boo
   where
     at_first : bytes_eq name entry.0.items ≡ true → place_named (entry ∷ entries) name ≡ 0
     at_first e = grind (arith, e)
+
     behind : bytes_eq name entry.0.items ≡ false → place_named (entry ∷ entries) name ≡ suc (place_named entries name)
     behind e = grind (arith, e)
 

@@ -59,6 +59,7 @@ split_by x bytes front back true e g =
   where
     below : (a b : ℕ) → ltb a b ≡ true → a < b
     below a b h = grind (arith, nat_tests)
+
     some_is : (p q : List ℕ × List ℕ) → Some p ≡ Some q → p ≡ q
     some_is p q h = cc
 
@@ -101,6 +102,7 @@ last_of (b ∷ c ∷ bytes) h = ap (λ t. b ∷ t) (last_of (c ∷ bytes) (omega
   where
     same_place : (n : ℕ) → suc n - 1 ≡ n
     same_place n = omega arith
+
     behind : (n : ℕ) → suc (suc n) - 1 ≡ suc n
     behind n = omega arith
 
@@ -125,10 +127,13 @@ quoted_by (x ∷ y ∷ bytes) name true true true p q r g =
   where
     behind : (n : ℕ) → suc n - 1 ≡ n
     behind n = omega arith
+
     before : (n : ℕ) → suc n ≡ suc (suc n) - 1
     before n = omega arith
+
     within : (n : ℕ) → suc n - 1 ≡ suc (suc n) - 2
     within n = omega arith
+
     some_is : (p q : List ℕ) → Some p ≡ Some q → p ≡ q
     some_is p q h = cc
 
@@ -151,7 +156,9 @@ quoted-again name =
   where
     at_least : (n : ℕ) → leb 2 (suc (n + 1)) ≡ true
     at_least n = grind (arith, nat_tests)
+
     end : (n : ℕ) → suc (n + 1) - 1 ≡ suc n
     end n = omega arith
+
     inner : (n : ℕ) → suc (n + 1) - 2 ≡ n
     inner n = omega arith

@@ -27,6 +27,8 @@ mod owner_text;
 mod owners;
 mod state_line;
 mod state_set;
+#[cfg(test)]
+mod tests;
 
 pub use faults::{LabCause, LabFault};
 pub use kind::{GREATEST_INDEX, LONGEST_NAME, MOST_LABELS, MOST_PLAYERS};

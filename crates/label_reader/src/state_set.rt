@@ -25,14 +25,6 @@ impl StateSet {
         Ok(StateSet { marks })
     }
 
-    /// Whether a state is in the set.
-    pub fn has(&self, state: u32) -> bool
-        requires { state < length self.now }
-        ensures { result ≡ slice_index_or self.now state false }
-    {
-        self.marks[state as usize]
-    }
-
     /// Adds a state.
     pub fn add(&mut self, state: u32)
         requires { state < length self.old }

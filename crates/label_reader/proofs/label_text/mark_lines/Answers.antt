@@ -19,7 +19,7 @@ loop-line-preserved c =
     let P : List (List Bool) → Type 0 = λ sets. AreMarked n items (is_said (so_far.lines ++ line ∷ [])) sets in
     record {
       read = HasRead-line LabelFile n items c.args.text.now c.loop-line.rest.now c.in-Some.line.now c.in-Some.after.now c.loop-line.number line (so_far.lines ++ line ∷ []) (λ lines. AreMarked n items (is_said lines) c.loop-line.sets) (λ lines. AreMarked n items (is_said lines) c.mark_all.new.sets) so_far
-        c.in-Some.ensures.lines (sym c.is_end.ensures ∙ c.if-is_end.false) c.in-Ok.ensures.line refl
-        (subst P (sym c.mark_all.ensures) (AreMarked-line n items c.in-Ok.state fields so_far.lines c.loop-line.sets c.requires.single c.in-Ok.ensures.range c.in-Ok.ensures.known so_far.holds));
+          c.in-Some.ensures.lines (sym c.is_end.ensures ∙ c.if-is_end.false) c.in-Ok.ensures.line refl
+          (subst P (sym c.mark_all.ensures) (AreMarked-line n items c.in-Ok.state fields so_far.lines c.loop-line.sets c.requires.single c.in-Ok.ensures.range c.in-Ok.ensures.known so_far.holds));
       number = omega (arith, c.in-Some.ensures.shorter, c.loop-line.invariant.number);
     }

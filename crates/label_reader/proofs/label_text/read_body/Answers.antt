@@ -22,7 +22,7 @@ returns-in-Ok-mark_lines c =
     ap (λ r. made_of (labelling c.args.states c.args.header) r) read.all
     ∙ ap (λ l. Ok l)
     (ap (λ (labels : List Label). labelled c.args.states labels) (sym (labels_named-marked c.args.states read.lines c.into_names.result.entries c.args.header c.mark_lines.new.sets c.into_names.ensures read.holds) ∙ ap (λ sets. labels_named c.into_names.result.entries sets) (sym back))
-        ∙ sym c.new.ensures)
+    ∙ sym c.new.ensures)
   where
     labelled : ℕ → List Label → Labelling
     labelled n labels = record { states = n; labels = labels }

@@ -30,8 +30,8 @@ loop-line-preserved c =
     let P : List (Option ℕ) → Type 0 = λ owners. AreRead n items (so_far.lines ++ line ∷ []) owners in
     record {
       read = HasRead-line OwnerFile n items c.args.text.now c.loop-line.rest.now c.in-Some.line.now c.in-Some.after.now c.loop-line.number line (so_far.lines ++ line ∷ []) (λ lines. AreRead n items lines c.loop-line.owners) (λ lines. AreRead n items lines c.own.new.owners) so_far
-        c.in-Some.ensures.lines (sym c.is_end.ensures ∙ c.if-is_end.false) c.in-Ok.ensures.line
-        (with_line-agrees n items c.in-Ok.state fields so_far.lines c.loop-line.owners c.in-Ok.ensures.range c.in-Ok.ensures.known so_far.holds agreed)
-        (subst P (sym c.own.ensures.owner) (AreRead-line n items c.in-Ok.state fields so_far.lines c.loop-line.owners c.in-Ok.ensures.range c.in-Ok.ensures.known so_far.holds agreed));
+          c.in-Some.ensures.lines (sym c.is_end.ensures ∙ c.if-is_end.false) c.in-Ok.ensures.line
+          (with_line-agrees n items c.in-Ok.state fields so_far.lines c.loop-line.owners c.in-Ok.ensures.range c.in-Ok.ensures.known so_far.holds agreed)
+          (subst P (sym c.own.ensures.owner) (AreRead-line n items c.in-Ok.state fields so_far.lines c.loop-line.owners c.in-Ok.ensures.range c.in-Ok.ensures.known so_far.holds agreed));
       number = omega (arith, c.in-Some.ensures.shorter, c.loop-line.invariant.number);
     }

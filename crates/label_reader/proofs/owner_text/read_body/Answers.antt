@@ -27,5 +27,5 @@ returns-in-Ok-own_lines c =
     ap (λ r. made_of (ownership c.args.states c.args.header) r) read.all
     ∙ ap (λ o. Ok o)
     (ap (λ (owners : List ℕ). owned (map (λ (item : Item). item.name) c.args.header) owners) (sym made_owners ∙ ap (λ (os : List (Option ℕ)). places_of os) (sym back))
-        ∙ ap (λ (players : List (List ℕ)). owned players (places_of (take c.in-Ok.owners.len (c.own_lines.new.owners ++ drop (length c.own_lines.new.owners) c.in-Ok.owners.items)))) (sym (names_of-items c.into_names.result.entries ∙ ap (λ (is : List Item). map (λ (item : Item). item.name) is) c.into_names.ensures))
-        ∙ sym c.new.ensures)
+    ∙ ap (λ (players : List (List ℕ)). owned players (places_of (take c.in-Ok.owners.len (c.own_lines.new.owners ++ drop (length c.own_lines.new.owners) c.in-Ok.owners.items)))) (sym (names_of-items c.into_names.result.entries ∙ ap (λ (is : List Item). map (λ (item : Item). item.name) is) c.into_names.ensures))
+    ∙ sym c.new.ensures)

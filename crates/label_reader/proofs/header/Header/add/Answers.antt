@@ -31,7 +31,7 @@ returns-then-has_name c =
     let item = named c.in-Some.index c.in-Some.name.now in
     let read : option_map saturated_item (item_of c.args.kind c.args.field.now) ≡ Some item = search rules in
     inr (with_item-saturated c.args.kind c.args.self _ item read
-        ∙ is_double_name c.args.kind c.args.self item (sym c.is_over.ensures ∙ c.if-is_over.false) (sym c.has_index.ensures ∙ c.if-has_index.false) (sym c.has_name.ensures ∙ c.if-has_name.true))
+    ∙ is_double_name c.args.kind c.args.self item (sym c.is_over.ensures ∙ c.if-is_over.false) (sym c.has_index.ensures ∙ c.if-has_index.false) (sym c.has_name.ensures ∙ c.if-has_name.true))
 
 pub returns : goal.returns
 returns c =
@@ -39,4 +39,4 @@ returns c =
     let read : option_map saturated_item (item_of c.args.kind c.args.field.now) ≡ Some item = search rules in
     gives_added c.with.result _ (c.args.self ++ item ∷ []) c.with.ensures
     (with_item-saturated c.args.kind c.args.self _ item read
-        ∙ is_added c.args.kind c.args.self item (sym c.is_over.ensures ∙ c.if-is_over.false) (sym c.has_index.ensures ∙ c.if-has_index.false) (sym c.has_name.ensures ∙ c.if-has_name.false))
+    ∙ is_added c.args.kind c.args.self item (sym c.is_over.ensures ∙ c.if-is_over.false) (sym c.has_index.ensures ∙ c.if-has_index.false) (sym c.has_name.ensures ∙ c.if-has_name.false))

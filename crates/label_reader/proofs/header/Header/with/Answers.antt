@@ -28,7 +28,7 @@ invariant_of-result c =
     let count : c.len-place.result ≡ length c.args.self = c.len-place.ensures.len ∙ sym (length-map entries item_at) ∙ ap (λ (is : List Item). length is) c.self.view_is in
     subst Q (sym items)
     (ArePlaced-push c.args.self (named c.args.index c.args.name.now) c.self.inside.places c.insert-2.new.self (subst P c.self.view_is c.self.invariant) (has_index-none c.args.self c.args.index c.requires.new_index) c.requires.small
-        (λ index. c.in-Ok-insert-2.ensures.updates.0 index ∙ ap (λ n. cond (nat_eq c.args.index index) (Some n) (get nat_eq c.self.inside.places index)) count))
+    (λ index. c.in-Ok-insert-2.ensures.updates.0 index ∙ ap (λ n. cond (nat_eq c.args.index index) (Some n) (get nat_eq c.self.inside.places index)) count))
 
 pub returns : goal.returns
 returns c =
