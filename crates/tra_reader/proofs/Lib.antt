@@ -11,3 +11,8 @@ pub mod Inside
 pub mod Makes
 pub mod Alike
 pub mod Sorted
+pub mod HeaderLaws
+pub mod RowLaws
+pub mod ActionLaws
+pub mod StateLaws
+pub mod TextLaws
