@@ -1,14 +1,17 @@
 -- The distribution that is said of parts is the one that they denote.
-use Rattle.std.proofs.Common.{◌≡◌, ◌∙◌, ◌<◌, ◌≤◌, ◌*◌, ◌⊎◌, inl, inr, ℕ, List, refl, ap, sym, subst, Bool, true, false, cond, length, arith, Result, Ok, Err}
-use Rattle.std.specs.Prelude.{All, nat_lt, IfOk}
+use Rattle.std.proofs.Common.{◌≡◌, ◌∙◌, ◌≤◌, ◌*◌, inl, inr, ℕ, List, refl, ap, sym, subst, cond, arith, Result, Ok, Err}
+use Rattle.std.specs.Prelude.{nat_lt, IfOk}
+use Prim.Native.Nat.{◌∣◌}
+use Rattle.std.specs.List.Sorted.{IsPermutation}
+use Rattle.std.proofs.lemmas.List.Sorted.{All-permutation, sum_by-IsPermutation, IsPermutation-map, IsPermutation-sym}
 use Rattle.game_model.specs.declared.game.Edge.{Edge}
 use Rattle.game_model.specs.Game.{Distribution}
 use Rattle.distributions.specs.declared.choice.Part.{Part}
 use Rattle.distributions.specs.declared.choice.ChoiceFault.{ChoiceFault}
-use Rattle.distributions.specs.declared.choice.ChoiceFault.TheVariants.{OutOfMemory, BadSum}
-use Rattle.distributions.specs.Limits.{finest, tolerance}
-use Rattle.distributions.specs.Parts.{weighted, total_of, distance, Denotes, denominator_said, gathered, sum_said, choice_over, choice_said, Gives}
-use Rattle.distributions.proofs.Gathering.{gathered-rises, gathered-weights, gathered-only, IsRising-from, weighty-from, RiseFrom-rising}
+use Rattle.distributions.specs.declared.choice.ChoiceFault.TheVariants.{BadSum}
+use Rattle.distributions.specs.Limits.{tolerance}
+use Rattle.distributions.specs.Parts.{edge_of_part, weighted, total_of, distance, Denotes, denominator_said, gathered, sum_said, choice_over, choice_said, Gives}
+use Rattle.distributions.proofs.Gathering.{gives, gathered-rises, gathered-weights, gathered-only, IsRising-from, weighty-from, RiseFrom-rising}
 use Rattle.distributions.proofs.Multiples.{AreKept, over, over-is, ge-from, ge-test, common-same, denominator-found, denominator-again, denominator-is}
 use Rattle.distributions.proofs.Grammar.{chosen}
 
@@ -59,3 +62,24 @@ pub given-only : (parts : List Part) (result : Result Distribution ChoiceFault) 
 given-only parts result d kept given h =
     let P : Result Distribution ChoiceFault → Type 0 = λ r. Gives (λ (x : Distribution). x) result r in
     subst P (choice-again parts d kept h) given
+
+-- the order of the parts plays no part
+pub Denotes-permutation : (parts others : List Part) (d : Distribution) → IsPermutation parts others → Denotes parts d → Denotes others d
+Denotes-permutation parts others d moved h =
+    let divided : ℕ → Part → Type 0 = λ m part. part.share.den ∣ m in
+    let back = IsPermutation-sym parts others moved in
+    record {
+      common = h.common;
+      denominator = record {
+        positive = h.denominator.positive;
+        multiple = All-permutation (divided h.common) parts others moved h.denominator.multiple;
+        least = λ m each. h.denominator.least m (All-permutation (divided m) others parts back each);
+      };
+      fine = h.fine;
+      rising = h.rising;
+      weighty = h.weighty;
+      weights = λ to. h.weights to
+          ∙ sym (sum_by-IsPermutation (gives to) (weighted h.common parts) (weighted h.common others) (IsPermutation-map (edge_of_part h.common) parts others moved));
+      total = h.total;
+      near_one = h.near_one;
+    }

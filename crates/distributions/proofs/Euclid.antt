@@ -1,10 +1,10 @@
 -- Greatest common divisors, least common multiples and lowest terms.
-use Rattle.std.proofs.Common.{◌≡◌, ◌∙◌, ℕ, zero, suc, ◌+◌, ◌*◌, ◌/◌, ◌%◌, ◌^◌, ◌<◌, ◌≤◌, sym, ap, refl, subst, arith, inl, inr}
+use Rattle.std.proofs.Common.{◌≡◌, ◌∙◌, ℕ, zero, suc, ◌+◌, ◌*◌, ◌/◌, ◌%◌, ◌^◌, ◌<◌, ◌≤◌, sym, ap, refl, subst, arith}
 use Prim.Native.Nat.{◌∣◌}
 use Rattle.std.specs.Int.{IsGcd}
-use Rattle.std.proofs.lemmas.Nat.Gcd.{dvd_refl, dvd-zero, dvd_trans, dvd_antisymm, le_of_dvd, IsGcd-from_zero, IsGcd-from_mod, IsGcd-swap, same_from_IsGcd}
-use Rattle.std.proofs.lemmas.Nat.{mod-mul-add, div-mul-add}
-use Rattle.std.proofs.Math.Nat.{one-dvd, dvd-mul_left, dvd-mul_right, mul-dvd-mul_left, dvd-mul_right_of_dvd, dvd-mul_left_of_dvd, dvd_of_mul-dvd-mul_right, dvd_of_mul-dvd-mul_left, div-mul_cancel, mul-div_cancel', mul-div_cancel, eq-one_of_dvd-one, mul-lt-mul_of_pos_left, pow-suc, pow-zero, eq-zero_of_zero-dvd, mul-div_cancel_left, div_self, one-mul, div-lt_iff_lt-mul, div-mul-le_self, mul-le-mul_right, dvd_of_mod-eq-zero, mul_assoc, mul_comm, mul_right_comm, mul-dvd-mul_right, mul-le-mul_left}
+use Rattle.std.proofs.lemmas.Nat.Gcd.{dvd_refl, dvd-zero, dvd_trans, dvd_antisymm, IsGcd-from_zero, IsGcd-from_mod, IsGcd-swap, same_from_IsGcd}
+use Rattle.std.proofs.lemmas.Nat.{mod-mul-add}
+use Rattle.std.proofs.Math.Nat.{one-dvd, dvd-mul_left, dvd-mul_right, mul-dvd-mul_left, dvd_of_mul-dvd-mul_right, div-mul_cancel, mul-div_cancel', mul-div_cancel, mul-lt-mul_of_pos_left, pow-suc, pow-zero, eq-zero_of_zero-dvd, mul-div_cancel_left, div_self, one-mul, div-lt_iff_lt-mul, div-mul-le_self, mul-le-mul_right, dvd_of_mod-eq-zero, mul_assoc, mul_comm, mul_right_comm, mul-dvd-mul_right, mul-le-mul_left}
 use Rattle.distributions.specs.Divisors.{gcd, gcd_within, lcm}
 use Rattle.distributions.specs.Fraction.{Fraction, lowest}
 

@@ -8,3 +8,4 @@ pub mod Said
 pub mod Gathering
 pub mod Multiples
 pub mod Chosen
+mod Examples

@@ -1,11 +1,11 @@
 -- Common denominators.
-use Rattle.std.proofs.Common.{◌≡◌, ◌≢◌, ◌∙◌, ◌<◌, ◌≤◌, ◌+◌, ◌*◌, ◌/◌, ◌⊎◌, inl, inr, ℕ, zero, suc, List, [], ◌∷◌, refl, ap, sym, subst, Bool, true, false, cond, length, get_or, drop, add-one, arith, Result, Ok, Err}
+use Rattle.std.proofs.Common.{◌≡◌, ◌∙◌, ◌<◌, ◌≤◌, ◌+◌, ◌*◌, ◌/◌, inl, inr, ℕ, suc, List, [], ◌∷◌, refl, ap, sym, subst, false, cond, length, get_or, drop, add-one, arith, Result, Ok, Err}
 use Prim.Native.Nat.{◌∣◌}
 use Rattle.std.specs.Prelude.{All, nat_lt}
 use Rattle.std.proofs.lemmas.Bool.Decides.{nat_tests}
 use Rattle.std.proofs.lemmas.List.Elements.{All-nil, All-cons}
 use Rattle.std.proofs.lemmas.Nat.Gcd.{dvd_refl, dvd_trans, dvd_antisymm, le_of_dvd}
-use Rattle.std.proofs.Math.Nat.{one-dvd, mul-div_assoc, mul-div_cancel', mul-le-mul_left, mul-le-mul_right}
+use Rattle.std.proofs.Math.Nat.{one-dvd, mul-div_assoc, mul-div_cancel', mul-le-mul_right}
 use Rattle.std.proofs.Math.Seq.{drop-cons}
 use Rattle.distributions.specs.declared.choice.Part.{Part}
 use Rattle.distributions.specs.declared.choice.ChoiceFault.{ChoiceFault}

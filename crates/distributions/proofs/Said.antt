@@ -1,15 +1,13 @@
 -- The fraction that is said of a text is the one that it denotes.
-use Rattle.std.proofs.Common.{◌≡◌, ◌≢◌, ◌∙◌, ◌<◌, ◌≤◌, ◌+◌, ◌*◌, ◌^◌, ◌⊎◌, inl, inr, ℕ, zero, suc, List, [], ◌∷◌, ◌++◌, refl, ap, sym, subst, Bool, true, false, cond, Option, Some, None, Result, Ok, Err, length, arith}
-use Rattle.std.specs.Prelude.{◌==◌, ◌||◌, nat_lt, IfOk}
-use Rattle.std.specs.Int.{IsGcd}
-use Rattle.std.proofs.lemmas.Bool.{ltb-true, lt-ltb}
+use Rattle.std.proofs.Common.{◌≡◌, ◌∙◌, ◌≤◌, ◌+◌, ◌*◌, ◌^◌, inl, inr, ℕ, List, ◌++◌, refl, ap, sym, subst, Bool, false, cond, Option, Some, None, Result, Ok, Err, length, arith}
+use Rattle.std.specs.Prelude.{◌==◌, nat_lt, IfOk}
 use Rattle.std.proofs.lemmas.Bool.Decides.{nat_tests}
 use Rattle.distributions.specs.declared.number.NumberFault.{NumberFault}
-use Rattle.distributions.specs.declared.number.NumberFault.TheVariants.{NotANumber, TooManyDigits, ZeroDenominator, TooFine, TooLarge}
+use Rattle.distributions.specs.declared.number.NumberFault.TheVariants.{TooManyDigits, ZeroDenominator, TooFine, TooLarge}
 use Rattle.text_lines.specs.Text.{value_onto}
 use Rattle.distributions.specs.Limits.{finest, most_value, most_digits, most_exponent, most_exponent_digits}
 use Rattle.distributions.specs.Fraction.{Fraction, IsFraction, SameValue, lowest}
-use Rattle.distributions.specs.Number.{Spelling, Decimal, Spells, value_of, is_long, Denotes, in_range, fraction_said, spelling_said, spelling_of, number_said}
+use Rattle.distributions.specs.Number.{Spelling, Decimal, value_of, is_long, Denotes, in_range, fraction_said, spelling_said, spelling_of, number_said}
 use Rattle.distributions.proofs.Euclid.{coprime-div, lowest-value, lowest-pos, lowest-is}
 use Rattle.distributions.proofs.Spelled.{value_append}
 use Rattle.distributions.proofs.Grammar.{chosen, spelling_of-found, spelling_of-again}

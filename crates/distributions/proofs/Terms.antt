@@ -1,13 +1,12 @@
 -- Decimals in lowest terms.
-use Rattle.std.proofs.Common.{◌≡◌, ◌≢◌, ◌∙◌, ℕ, zero, suc, ◌+◌, ◌-◌, ◌*◌, ◌/◌, ◌%◌, ◌^◌, ◌<◌, ◌≤◌, ◌⊎◌, inl, inr, refl, sym, ap, subst, arith, cond, true, false, Ok, Err, pow-add}
-use Rattle.std.specs.Prelude.{nat_lt, ◌==◌, Result}
+use Rattle.std.proofs.Common.{◌≡◌, ◌≢◌, ◌∙◌, ℕ, zero, suc, ◌+◌, ◌-◌, ◌*◌, ◌%◌, ◌^◌, ◌<◌, ◌≤◌, ◌⊎◌, inl, inr, refl, sym, ap, subst, arith, true, false, Err, pow-add}
+use Rattle.std.specs.Prelude.{nat_lt, ◌==◌}
 use Prim.Native.Nat.{◌∣◌}
 use Rattle.std.specs.Int.{IsGcd}
-use Rattle.std.proofs.lemmas.Nat.Gcd.{dvd_trans, IsGcd-from_mod, IsGcd-from_zero}
+use Rattle.std.proofs.lemmas.Nat.Gcd.{dvd_trans, IsGcd-from_mod}
 use Rattle.std.proofs.lemmas.Nat.{mul-pow}
 use Rattle.std.proofs.lemmas.Bool.{lt-ltb}
 use Rattle.std.proofs.Math.Nat.{one-dvd, dvd-mul_right, pow-zero, mul-le-mul_right}
-use Rattle.distributions.specs.declared.number.NumberFault.{NumberFault}
 use Rattle.distributions.specs.declared.number.NumberFault.TheVariants.{TooFine, TooLarge}
 use Rattle.distributions.specs.Limits.{finest, most_value}
 use Rattle.distributions.specs.Fraction.{Fraction, lowest}

@@ -1,5 +1,4 @@
 -- The spelling in a number as it is written.
-use Rattle.std.specs.Prelude.{ℕ, List}
 use Rattle.distributions.specs.declared.number.Power.{Power}
 use Rattle.distributions.specs.declared.number.Written.{Written}
 use Rattle.distributions.specs.declared.number.Written.TheVariants.{Point, Line}

@@ -1,7 +1,6 @@
-use Rattle.std.proofs.Common.{◌≡◌, ◌∙◌, ◌≤◌, ◌*◌, ℕ, List, length, map, sym, ap, subst, arith}
+use Rattle.std.proofs.Common.{◌≡◌, ◌∙◌, ◌*◌, List, length, sym, ap, arith}
 use Rattle.std.proofs.lemmas.List.{length-map}
 use Rattle.game_model.specs.declared.game.Edge.{Edge}
-use Rattle.distributions.specs.declared.choice.Part.{Part}
 use Rattle.distributions.specs.Limits.{finest, most_value}
 use Rattle.distributions.specs.Parts.{edge_of_part}
 use Rattle.distributions.proofs.Multiples.{denominator-is}

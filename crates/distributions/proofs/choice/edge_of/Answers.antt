@@ -1,6 +1,5 @@
-use Rattle.std.proofs.Common.{◌≡◌, ◌∙◌, ◌≤◌, ◌*◌, ◌/◌, ℕ, sym, ap, subst, arith}
+use Rattle.std.proofs.Common.{◌∙◌, ◌*◌, ◌/◌, ℕ, ap, arith}
 use Rattle.game_model.specs.declared.game.Edge.{Edge}
-use Rattle.distributions.specs.Limits.{finest, most_value}
 use Rattle.distributions.proofs.Multiples.{share_weight, share_small}
 use Rattle.distributions.proofs.choice.edge_of.Goals as goal
 

@@ -1,4 +1,3 @@
-use Rattle.std.proofs.Common.{arith}
 use Rattle.std.proofs.lemmas.List.Elements.{AllWithin-more, at_read}
 use Rattle.distributions.specs.Fraction.{IsFraction}
 use Rattle.distributions.specs.declared.choice.Part.{Part}

@@ -2,7 +2,7 @@ use Rattle.std.proofs.Common.{◌≡◌, ◌∙◌, ◌≤◌, List, sym, ap, su
 use Rattle.std.specs.Prelude.{All}
 use Rattle.game_model.specs.declared.game.Edge.{Edge}
 use Rattle.game_model.specs.Game.{IsRising, no_edge}
-use Rattle.distributions.specs.Parts.{gathered, total_of}
+use Rattle.distributions.specs.Parts.{total_of}
 use Rattle.distributions.specs.Merging.{merged_from, RiseFrom}
 use Rattle.distributions.proofs.Gathering.{gathered-only, merged-rises, merged-gathered, merged-total, IsRising-from, weighty-from}
 use Rattle.distributions.proofs.gather.gather.Goals as goal

@@ -1,5 +1,4 @@
-use Rattle.std.proofs.Common.{◌≡◌, ◌≤◌, ◌<◌, ◌*◌, ◌-◌, ◌^◌, ℕ, ◌∙◌, sym, ap, subst, rules, arith, Ok, Err}
-use Rattle.distributions.specs.Fraction.{Fraction}
+use Rattle.std.proofs.Common.{◌≡◌, ◌*◌, ◌^◌, ◌∙◌, sym, ap, rules, arith, Ok}
 use Rattle.distributions.specs.Number.{in_range}
 use Rattle.distributions.proofs.Powers.{pow-pos}
 use Rattle.distributions.proofs.Terms.{lowest-zero, lowest-shifted, lowest-whole, large-said, said-above_zero}

@@ -1,4 +1,4 @@
-use Rattle.std.proofs.Common.{◌≡◌, ◌≤◌, ◌<◌, ◌*◌, ◌^◌, ℕ, ◌∙◌, sym, ap, subst, rules, arith, Ok, Err}
+use Rattle.std.proofs.Common.{◌*◌, ◌^◌, ℕ, ◌∙◌, sym, ap, subst, rules, arith, Ok}
 use Rattle.std.specs.Int.{IsGcd}
 use Rattle.distributions.specs.Fraction.{Fraction}
 use Rattle.distributions.specs.Number.{in_range}

@@ -1,4 +1,4 @@
-use Rattle.std.proofs.Common.{◌≡◌, ◌≤◌, ◌<◌, ◌/◌, ℕ, sym, subst, rules}
+use Rattle.std.proofs.Common.{◌≤◌, ◌<◌, ◌/◌, ℕ, sym, subst, rules}
 use Rattle.std.specs.Int.{IsGcd}
 use Rattle.distributions.proofs.Euclid.{gcd-pos, coprime-div, lowest-pos}
 use Rattle.distributions.proofs.lowest.quotient.Goals as goal

@@ -1,4 +1,4 @@
-use Rattle.std.proofs.Common.{◌≡◌, ◌∙◌, ◌≤◌, ◌+◌, ◌-◌, ◌*◌, ◌^◌, ℕ, ap, subst, sym, arith, length, get_or, drop}
+use Rattle.std.proofs.Common.{◌∙◌, ◌≤◌, ◌+◌, ◌-◌, ◌*◌, ◌^◌, ℕ, ap, subst, sym, arith, length, drop}
 use Rattle.text_lines.specs.Text.{value_onto}
 use Rattle.distributions.proofs.Spelled.{digit_step}
 use Rattle.distributions.proofs.number.digits_onto.Goals as goal

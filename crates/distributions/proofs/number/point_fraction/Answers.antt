@@ -1,4 +1,4 @@
-use Rattle.std.proofs.Common.{◌≡◌, ◌∙◌, sym, ap, arith}
+use Rattle.std.proofs.Common.{◌∙◌, ap, arith}
 use Rattle.text_lines.specs.Text.{value_onto}
 use Rattle.distributions.proofs.Said.{point-said}
 use Rattle.distributions.proofs.number.point_fraction.Goals as goal

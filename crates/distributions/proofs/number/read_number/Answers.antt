@@ -1,4 +1,4 @@
-use Rattle.std.proofs.Common.{◌≡◌, ◌∙◌, sym}
+use Rattle.std.proofs.Common.{◌∙◌}
 use Rattle.distributions.proofs.Said.{number-again, said-denotes}
 use Rattle.distributions.proofs.number.read_number.Goals as goal
 
