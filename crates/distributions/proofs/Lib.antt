@@ -1,1 +1,11 @@
--- Lemmas.
+pub mod Euclid
+pub mod Powers
+pub mod Wide
+pub mod Spelled
+pub mod Terms
+pub mod Grammar
+pub mod Said
+pub mod Gathering
+pub mod Multiples
+pub mod Chosen
+mod Examples

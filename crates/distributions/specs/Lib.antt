@@ -2,4 +2,6 @@ pub mod Limits
 pub mod Divisors
 pub mod Fraction
 pub mod Number
+pub mod Written
 pub mod Parts
+pub mod Merging

@@ -1,5 +1,5 @@
 -- The numbers that texts spell: decimals with an optional point and exponent, and fractions.
-use Rattle.std.specs.Prelude.{◌≡◌, ◌≢◌, ℕ, ◌+◌, ◌*◌, ◌^◌, ◌==◌, ◌||◌, ◌≤◌, ◌⊎◌, nat_lt, Bool, true, false, List, [], ◌∷◌, ◌++◌, length, Option, Some, None, option_map, Result, Ok, Err, if◌then◌else◌}
+use Rattle.std.specs.Prelude.{◌≡◌, ◌≢◌, ℕ, ◌+◌, ◌*◌, ◌^◌, ◌==◌, ◌||◌, ◌≤◌, ◌⊎◌, nat_lt, Bool, true, false, List, [], ◌∷◌, ◌++◌, length, take, drop, Option, Some, None, option_map, Result, Ok, Err, if◌then◌else◌}
 use Rattle.text_lines.specs.Text.{is_digit, all_digits, is_nil, value_onto}
 use Rattle.distributions.specs.declared.number.NumberFault.{NumberFault}
 use Rattle.distributions.specs.declared.number.NumberFault.TheVariants.{NotANumber, TooManyDigits, ZeroDenominator, TooFine, TooLarge}
@@ -90,15 +90,18 @@ pub record Denotes (text : List ℕ) (f : Fraction) : Type 0 where
 
 -- 3. The fraction or the first fault, by cases on the text.
 
+-- how many digits stand at the front
+abbrev pub digits_len : List ℕ → ℕ
+digits_len [] = 0
+digits_len (b ∷ bytes) = if is_digit b then digits_len bytes + 1 else 0
+
 -- the digits at the front
 abbrev pub leading_digits : List ℕ → List ℕ
-leading_digits [] = []
-leading_digits (b ∷ bytes) = if is_digit b then b ∷ leading_digits bytes else []
+leading_digits text = take (digits_len text) text
 
 -- what stands behind them
 abbrev pub behind_digits : List ℕ → List ℕ
-behind_digits [] = []
-behind_digits (b ∷ bytes) = if is_digit b then behind_digits bytes else b ∷ bytes
+behind_digits text = drop (digits_len text) text
 
 abbrev pub exponent_digits : Bool → List ℕ → Option Exponent
 exponent_digits below [] = None

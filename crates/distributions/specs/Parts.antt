@@ -9,9 +9,12 @@ use Rattle.distributions.specs.declared.choice.ChoiceFault.TheVariants.{OutOfMem
 use Rattle.distributions.specs.Limits.{finest, tolerance}
 use Rattle.distributions.specs.Divisors.{lcm}
 
--- for each part its destination, and its share of the common denominator as a whole weight
+-- the destination of a part, and its share of the common denominator as a whole weight
+abbrev pub edge_of_part : ℕ → Part → Edge
+edge_of_part common part = record { to = part.to; weight = part.share.num * common / part.share.den }
+
 abbrev pub weighted : ℕ → List Part → List Edge
-weighted common parts = map (λ part. record { to = part.to; weight = part.share.num * common / part.share.den }) parts
+weighted common parts = map (λ part. edge_of_part common part) parts
 
 -- the weight of a destination: the sum over the edges that lead to it
 abbrev pub weight_to : List Edge → ℕ → ℕ
@@ -69,12 +72,13 @@ span (e ∷ edges) = max (e.to + 1) (span edges)
 unfoldable pub gathered : List Edge → List Edge
 gathered edges = edges_from (weight_to edges) 0 (span edges)
 
+-- the distribution with these edges, where their weights nearly sum to the common denominator
 abbrev pub sum_said : ℕ → List Edge → Result Distribution ChoiceFault
 sum_said common edges =
-    if nat_lt common (distance (total_of edges) common * tolerance) then Err (BadSum (total_of edges) common) else Ok (record { total = total_of edges; edges = gathered edges })
+    if nat_lt common (distance (total_of edges) common * tolerance) then Err (BadSum (total_of edges) common) else Ok (record { total = total_of edges; edges = edges })
 
 abbrev pub choice_over : Result ℕ ChoiceFault → List Part → Result Distribution ChoiceFault
-choice_over (Ok common) parts = sum_said common (weighted common parts)
+choice_over (Ok common) parts = sum_said common (gathered (weighted common parts))
 choice_over (Err fault) parts = Err fault
 
 -- the distribution of a choice with these parts, or the first fault

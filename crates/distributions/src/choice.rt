@@ -1,13 +1,18 @@
 //! The distribution of a choice.
 
-ghost use Rattle.std.specs.Prelude.{◌≡◌, ◌≤◌, Ok, IfOk, length};
-ghost use Rattle.game_model.specs.Game.{Distribution};
-ghost use Rattle.distributions.specs.Limits.{most_parts};
-ghost use Rattle.distributions.specs.Parts.{choice_said, Denotes, Gives};
+ghost use Rattle.std.specs.Prelude.{◌≡◌, ◌<◌, ◌≤◌, ◌*◌, ◌^◌, Ok, IfOk, All, length};
+ghost use Prim.Native.Nat.{◌∣◌};
+ghost use Rattle.game_model.specs.Game.{Distribution, IsRising};
+ghost use Rattle.distributions.specs.Limits.{finest, most_parts, most_value};
+ghost use Rattle.distributions.specs.Fraction.{IsFraction};
+ghost use Rattle.distributions.specs.Parts.{choice_said, denominator_said, edge_of_part, weighted, sum_said, total_of, Denotes, Gives};
 
+use crate::divisors::least_common_multiple;
 use crate::fraction::Frac;
-use game_model::Choice;
-use std::alloc::Global;
+use crate::gather::gather;
+use crate::limits::TOLERANCE;
+use game_model::{Choice, Edge};
+use std::alloc::{AllocError, Global};
 
 /// A part of a choice: a destination and its probability.
 #[derive(Clone, Copy, Debug, PartialEq, Eq)]
@@ -26,6 +31,103 @@ pub enum ChoiceFault {
     BadSum { sum: u128, denominator: u128 },
 }
 
+// What every part keeps.
+fn known_of_all(parts: &[Part])
+    ensures { All (λ part. IsFraction part.share) parts.now }
+{
+    for part in parts {
+        part.share.known();
+    }
+}
+
+#[tactic(auto, using(crate::proofs::Multiples::lcm_some))]
+// The least common multiple of the denominators.
+fn common_denominator(parts: &[Part]) -> Result<u128, ChoiceFault>
+    ensures value { result ≡ denominator_said 1 parts.now }
+    ensures positive { IfOk result (λ common. 1 ≤ common) }
+    ensures fine { IfOk result (λ common. common ≤ finest) }
+{
+    let mut common = 1;
+    for part in parts {
+        let den = part.share.den();
+        match least_common_multiple(common, den) {
+            Some(multiple) => common = multiple,
+            None => {
+                return Err(ChoiceFault::TooFine {
+                    first: common,
+                    second: den,
+                });
+            }
+        }
+    }
+    Ok(common)
+}
+
+#[tactic(auto, using(crate::proofs::Multiples::share_weight, crate::proofs::Multiples::share_small))]
+// The destination of a part, and its weight.
+fn edge_of(common: u128, part: &Part) -> Edge
+    requires divided { part.now.share.den ∣ common }
+    requires fine { common ≤ finest }
+    ensures value { result ≡ edge_of_part common part.now }
+    ensures small { result.weight ≤ most_value * finest }
+{
+    let share = &part.share;
+    Edge {
+        to: part.to,
+        weight: share.num() * (common / share.den()),
+    }
+}
+
+fn edges_of(alloc: Global, common: u128, parts: &[Part]) -> Result<Vec<Edge>, AllocError>
+    requires divided { All (λ part. part.share.den ∣ common) parts.now }
+    requires fine { common ≤ finest }
+    ensures value { IfOk result (λ edges. edges.items ≡ weighted common parts.now) }
+    ensures small { IfOk result (λ edges. All (λ e. e.weight ≤ most_value * finest) edges.items) }
+{
+    let mut edges = Vec::with_capacity(alloc, parts.len())?;
+    for part in parts {
+        edges.push(edge_of(common, part))?;
+    }
+    Ok(edges)
+}
+
+// The choice with these edges, where their weights nearly sum to the common denominator.
+fn choice_of_edges(common: u128, edges: Vec<Edge>) -> Result<Choice, ChoiceFault>
+    requires positive { 1 ≤ common }
+    requires fine { common ≤ finest }
+    requires rising { IsRising edges.items }
+    requires weighty { All (λ e. 1 ≤ e.weight) edges.items }
+    requires small { total_of edges.items < 2 ^ 110 }
+    ensures { result ≡ sum_said common edges.items }
+{
+    let sum: u128 = edges.iter().map(|edge| edge.weight).sum();
+    if sum.abs_diff(common) * TOLERANCE > common {
+        return Err(ChoiceFault::BadSum {
+            sum,
+            denominator: common,
+        });
+    }
+    Ok(Choice::of_edges(edges))
+}
+
+fn choice_of_parts(alloc: Global, parts: &[Part]) -> Result<Choice, ChoiceFault>
+    requires few { length parts.now ≤ most_parts }
+    requires known { All (λ part. IsFraction part.share) parts.now }
+    ensures { Gives (λ c. c) result (choice_said parts.now) }
+{
+    let common = match common_denominator(parts) {
+        Ok(common) => common,
+        Err(fault) => return Err(fault),
+    };
+    let Ok(edges) = edges_of(alloc, common, parts) else {
+        return Err(ChoiceFault::OutOfMemory);
+    };
+    let Ok(edges) = gather(alloc, edges) else {
+        return Err(ChoiceFault::OutOfMemory);
+    };
+    choice_of_edges(common, edges)
+}
+
 /// The choice with these parts. The weight of a destination is the sum of its parts over the common
 /// denominator; a choice whose weights nearly sum to that denominator is divided by their sum.
 pub fn make_choice(alloc: Global, parts: &[Part]) -> Result<Choice, ChoiceFault>
@@ -35,7 +137,36 @@ pub fn make_choice(alloc: Global, parts: &[Part]) -> Result<Choice, ChoiceFault>
     ensures only { (d : Distribution) → Denotes parts.now d → Gives (λ c. c) result (Ok d) }
     ensures exact { Gives (λ c. c) result (choice_said parts.now) }
 {
-    let _ = alloc;
-    let _ = parts;
-    Err(ChoiceFault::OutOfMemory)
+    known_of_all(parts);
+    choice_of_parts(alloc, parts)
+}
+
+#[cfg(test)]
+mod tests {
+    use super::*;
+    use crate::fraction::compare;
+    use crate::number::read_number;
+    use std::cmp::Ordering;
+    use std::test::Fail;
+
+    #[test]
+    fn parts_add_up(rt: HostRuntime) -> Result<(), Fail> {
+        let half = read_number(b"0.5").ok().ok_or("no half")?;
+        let quarter = read_number(b"1/4").ok().ok_or("no quarter")?;
+        assert_eq!(rt; compare(&quarter, &half), Ordering::Less);
+        let parts = [
+            Part {
+                to: 7,
+                share: quarter,
+            },
+            Part { to: 3, share: half },
+            Part {
+                to: 7,
+                share: quarter,
+            },
+        ];
+        let choice = make_choice(rt.alloc(), &parts).ok().ok_or("no choice")?;
+        assert_eq!(rt; choice.total(), 4);
+        Ok(())
+    }
 }

@@ -1,6 +1,7 @@
 //! Fractions.
 
-ghost use Rattle.std.specs.Prelude.{◌≡◌, ◌≤◌, ◌*◌};
+ghost use Rattle.std.specs.Prelude.{◌≡◌, ◌<◌, ◌≤◌, ◌+◌, ◌*◌, ◌^◌};
+ghost use Rattle.std.specs.Int.{IsGcd};
 ghost use Rattle.distributions.specs.Limits.{finest, most_value};
 ghost use Rattle.distributions.specs.Fraction.{fraction_cmp, IsFraction};
 
@@ -34,10 +35,22 @@ impl Frac {
         let _ = &self.num;
     }
 
+    // The fraction of these numbers, which are in lowest terms.
+    pub(crate) fn of(num: u128, den: u128) -> Frac
+        requires lowest { IsGcd num den 1 }
+        requires positive { 1 ≤ den }
+        requires fine { den ≤ finest }
+        requires small { num ≤ most_value * den }
+        ensures { result ≡ record { num = num; den = den } }
+    {
+        Frac { num, den }
+    }
+
     /// The numerator.
     pub fn num(&self) -> u128
         ensures value { result ≡ self.now.num }
         ensures small { result ≤ most_value * self.now.den }
+        ensures bounded { result ≤ most_value * finest }
     {
         self.num
     }
@@ -56,5 +69,32 @@ impl Frac {
 pub fn compare(a: &Frac, b: &Frac) -> Ordering
     ensures { result ≡ fraction_cmp a.now b.now }
 {
-    a.num().cmp(&b.num())
+    let left = wide_product(a.num(), b.den());
+    let right = wide_product(b.num(), a.den());
+    left.high.cmp(&right.high).then(left.low.cmp(&right.low))
+}
+
+// How often 2^64 goes into a number, and what is left.
+#[derive(Clone, Copy)]
+struct Wide {
+    high: u128,
+    low: u128,
+}
+
+const WORD: u128 = 18_446_744_073_709_551_616;
+
+fn wide_product(a: u128, b: u128) -> Wide
+    requires a_small { a < 2 ^ 82 }
+    requires b_small { b < 2 ^ 82 }
+    ensures value { result.high * 2 ^ 64 + result.low ≡ a * b }
+    ensures low { result.low < 2 ^ 64 }
+{
+    let (a_high, a_low) = (a / WORD, a % WORD);
+    let (b_high, b_low) = (b / WORD, b % WORD);
+    let lowest = a_low * b_low;
+    let middle = a_high * b_low + a_low * b_high + lowest / WORD;
+    Wide {
+        high: a_high * b_high * WORD + middle,
+        low: lowest % WORD,
+    }
 }

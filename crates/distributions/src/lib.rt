@@ -6,8 +6,10 @@
 mod choice;
 mod divisors;
 mod fraction;
+mod gather;
 pub mod laws;
 mod limits;
+mod lowest;
 mod number;
 
 pub use choice::{ChoiceFault, Part, make_choice};

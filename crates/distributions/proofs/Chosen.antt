@@ -1,0 +1,85 @@
+-- The distribution that is said of parts is the one that they denote.
+use Rattle.std.proofs.Common.{◌≡◌, ◌∙◌, ◌≤◌, ◌*◌, inl, inr, ℕ, List, refl, ap, sym, subst, cond, arith, Result, Ok, Err}
+use Rattle.std.specs.Prelude.{nat_lt, IfOk}
+use Prim.Native.Nat.{◌∣◌}
+use Rattle.std.specs.List.Sorted.{IsPermutation}
+use Rattle.std.proofs.lemmas.List.Sorted.{All-permutation, sum_by-IsPermutation, IsPermutation-map, IsPermutation-sym}
+use Rattle.game_model.specs.declared.game.Edge.{Edge}
+use Rattle.game_model.specs.Game.{Distribution}
+use Rattle.distributions.specs.declared.choice.Part.{Part}
+use Rattle.distributions.specs.declared.choice.ChoiceFault.{ChoiceFault}
+use Rattle.distributions.specs.declared.choice.ChoiceFault.TheVariants.{BadSum}
+use Rattle.distributions.specs.Limits.{tolerance}
+use Rattle.distributions.specs.Parts.{edge_of_part, weighted, total_of, distance, Denotes, denominator_said, gathered, sum_said, choice_over, choice_said, Gives}
+use Rattle.distributions.proofs.Gathering.{gives, gathered-rises, gathered-weights, gathered-only, IsRising-from, weighty-from, RiseFrom-rising}
+use Rattle.distributions.proofs.Multiples.{AreKept, over, over-is, ge-from, ge-test, common-same, denominator-found, denominator-again, denominator-is}
+use Rattle.distributions.proofs.Grammar.{chosen}
+
+ok-same : (d e : Distribution) → ◌≡◌ {A = Result Distribution ChoiceFault} (Ok d) (Ok e) → d ≡ e
+ok-same d e h = cc
+
+found-over : (parts : List Part) (d : Distribution) (r : Result ℕ ChoiceFault) → AreKept parts → denominator_said 1 parts ≡ r → choice_over r parts ≡ Ok d → Denotes parts d
+found-over parts d (Err fault) kept said is = cc
+found-over parts d (Ok common) kept said is =
+    let edges : List Edge = gathered (weighted common parts) in
+    elim (chosen (nat_lt common (distance (total_of edges) common * tolerance)) (Err (BadSum (total_of edges) common)) (Ok (record { total = total_of edges; edges = edges })) (Ok d) is) [
+      | inl t ↦ cc t.1
+      | inr t ↦
+          let P : Distribution → Type 0 = λ x. Denotes parts x in
+          subst P (ok-same (record { total = total_of edges; edges = edges }) d t.1) (record {
+            common = common;
+            denominator = denominator-is parts common kept said;
+            fine = (denominator-found 1 parts common (omega arith) said).1;
+            rising = IsRising-from 0 edges (gathered-rises (weighted common parts));
+            weighty = weighty-from 0 edges (gathered-rises (weighted common parts));
+            weights = gathered-weights (weighted common parts);
+            total = refl;
+            near_one = ge-from common (distance (total_of edges) common * tolerance) t.0;
+          })
+    ]
+
+pub choice-found : (parts : List Part) (d : Distribution) → AreKept parts → choice_said parts ≡ Ok d → Denotes parts d
+choice-found parts d kept is = found-over parts d (denominator_said 1 parts) kept refl is
+
+pub choice-again : (parts : List Part) (d : Distribution) → AreKept parts → Denotes parts d → choice_said parts ≡ Ok d
+choice-again parts d kept h =
+    let same : h.common ≡ over 1 parts = common-same h.common (over 1 parts) parts h.denominator (over-is parts kept) in
+    let said : denominator_said 1 parts ≡ Ok h.common = denominator-again 1 parts (omega arith) kept (omega (arith, same, h.fine)) ∙ ap (λ n. Ok n) (sym same) in
+    let edges : gathered (weighted h.common parts) ≡ d.edges =
+    gathered-only (weighted h.common parts) d.edges (RiseFrom-rising 0 d.edges (λ e l. omega arith) h.rising h.weighty) h.weights in
+    let near : distance (total_of d.edges) h.common * tolerance ≤ h.common = let P : ℕ → Type 0 = λ n. distance n h.common * tolerance ≤ h.common in subst P h.total h.near_one in
+    let distribution : ℕ → Distribution = λ n. record { total = n; edges = d.edges } in
+    ap (λ r. choice_over r parts) said
+    ∙ ap (λ es. sum_said h.common es) edges
+    ∙ ap (λ b. cond b (Err (BadSum (total_of d.edges) h.common)) (Ok (distribution (total_of d.edges)))) (ge-test h.common (distance (total_of d.edges) h.common * tolerance) near)
+    ∙ ap (λ n. Ok (distribution n)) (sym h.total)
+
+pub given-found : (parts : List Part) (result : Result Distribution ChoiceFault) → AreKept parts → Gives (λ (d : Distribution). d) result (choice_said parts) → IfOk result (Denotes parts)
+given-found parts (Ok d) kept given = choice-found parts d kept given
+given-found parts (Err fault) kept given = tt
+
+pub given-only : (parts : List Part) (result : Result Distribution ChoiceFault) (d : Distribution) → AreKept parts → Gives (λ (x : Distribution). x) result (choice_said parts) → Denotes parts d → Gives (λ (x : Distribution). x) result (Ok d)
+given-only parts result d kept given h =
+    let P : Result Distribution ChoiceFault → Type 0 = λ r. Gives (λ (x : Distribution). x) result r in
+    subst P (choice-again parts d kept h) given
+
+-- the order of the parts plays no part
+pub Denotes-permutation : (parts others : List Part) (d : Distribution) → IsPermutation parts others → Denotes parts d → Denotes others d
+Denotes-permutation parts others d moved h =
+    let divided : ℕ → Part → Type 0 = λ m part. part.share.den ∣ m in
+    let back = IsPermutation-sym parts others moved in
+    record {
+      common = h.common;
+      denominator = record {
+        positive = h.denominator.positive;
+        multiple = All-permutation (divided h.common) parts others moved h.denominator.multiple;
+        least = λ m each. h.denominator.least m (All-permutation (divided m) others parts back each);
+      };
+      fine = h.fine;
+      rising = h.rising;
+      weighty = h.weighty;
+      weights = λ to. h.weights to
+          ∙ sym (sum_by-IsPermutation (gives to) (weighted h.common parts) (weighted h.common others) (IsPermutation-map (edge_of_part h.common) parts others moved));
+      total = h.total;
+      near_one = h.near_one;
+    }

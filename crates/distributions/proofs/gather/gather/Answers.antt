@@ -1,0 +1,45 @@
+use Rattle.std.proofs.Common.{◌≡◌, ◌∙◌, ◌≤◌, List, sym, ap, subst, rules, arith, zero-add}
+use Rattle.std.specs.Prelude.{All}
+use Rattle.game_model.specs.declared.game.Edge.{Edge}
+use Rattle.game_model.specs.Game.{IsRising, no_edge}
+use Rattle.distributions.specs.Parts.{total_of}
+use Rattle.distributions.specs.Merging.{merged_from, RiseFrom}
+use Rattle.distributions.proofs.Gathering.{gathered-only, merged-rises, merged-gathered, merged-total, IsRising-from, weighty-from}
+use Rattle.distributions.proofs.gather.gather.Goals as goal
+
+pub returns-then-is_gathered-clause-value : goal.returns-then-is_gathered-clause-value
+returns-then-is_gathered-clause-value c =
+    let rise : RiseFrom 0 c.args.edges.items = search rules in
+    sym (gathered-only c.args.edges.items c.args.edges.items rise (λ to. search rules))
+
+pub returns-then-is_gathered-clause-rising : goal.returns-then-is_gathered-clause-rising
+returns-then-is_gathered-clause-rising c =
+    let rise : RiseFrom 0 c.args.edges.items = search rules in
+    IsRising-from 0 c.args.edges.items rise
+
+pub returns-then-is_gathered-clause-weighty : goal.returns-then-is_gathered-clause-weighty
+returns-then-is_gathered-clause-weighty c =
+    let rise : RiseFrom 0 c.args.edges.items = search rules in
+    weighty-from 0 c.args.edges.items rise
+
+pub returns-clause-value : goal.returns-clause-value
+returns-clause-value c =
+    let merged : c.in_ok-merged.merged.items ≡ merged_from no_edge c.in_ok-standing.standing.items = c.in_ok-merged.ensures ∙ ap (λ es. merged_from no_edge es) c.deref-2.ensures.value in
+    merged ∙ sym (merged-gathered c.args.edges.items c.in_ok-standing.standing.items c.in_ok-standing.ensures.standing c.in_ok-standing.ensures.weights)
+
+pub returns-clause-total : goal.returns-clause-total
+returns-clause-total c =
+    let merged : c.in_ok-merged.merged.items ≡ merged_from no_edge c.in_ok-standing.standing.items = c.in_ok-merged.ensures ∙ ap (λ es. merged_from no_edge es) c.deref-2.ensures.value in
+    ap (λ es. total_of es) merged ∙ merged-total no_edge c.in_ok-standing.standing.items ∙ zero-add (total_of c.in_ok-standing.standing.items) ∙ c.in_ok-standing.ensures.total
+
+pub returns-clause-rising : goal.returns-clause-rising
+returns-clause-rising c =
+    let merged : c.in_ok-merged.merged.items ≡ merged_from no_edge c.in_ok-standing.standing.items = c.in_ok-merged.ensures ∙ ap (λ es. merged_from no_edge es) c.deref-2.ensures.value in
+    let P : List Edge → Type 0 = λ es. IsRising es in
+    subst P (sym merged) (IsRising-from 0 (merged_from no_edge c.in_ok-standing.standing.items) (merged-rises 0 no_edge c.in_ok-standing.standing.items (omega arith) c.in_ok-standing.ensures.standing))
+
+pub returns-clause-weighty : goal.returns-clause-weighty
+returns-clause-weighty c =
+    let merged : c.in_ok-merged.merged.items ≡ merged_from no_edge c.in_ok-standing.standing.items = c.in_ok-merged.ensures ∙ ap (λ es. merged_from no_edge es) c.deref-2.ensures.value in
+    let P : List Edge → Type 0 = λ es. All (λ e. 1 ≤ e.weight) es in
+    subst P (sym merged) (weighty-from 0 (merged_from no_edge c.in_ok-standing.standing.items) (merged-rises 0 no_edge c.in_ok-standing.standing.items (omega arith) c.in_ok-standing.ensures.standing))

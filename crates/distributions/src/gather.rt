@@ -1,0 +1,107 @@
+//! Edges by rising destination, those to one destination added up.
+
+ghost use Rattle.std.specs.Prelude.{◌≡◌, ◌<◌, ◌≤◌, ◌+◌, ◌^◌, ◌++◌, ◌∷◌, [], ℕ, List, All, OnOk, IfOk, IsTrue};
+ghost use Rattle.game_model.specs.declared.game.Edge.{Edge};
+ghost use Rattle.game_model.specs.Game.{IsRising, no_edge};
+ghost use Rattle.distributions.specs.Parts.{gathered, keep_edge, total_of, weight_to};
+ghost use Rattle.distributions.specs.Merging.{merged_from, StandFrom, RiseFrom};
+
+use game_model::Edge;
+use std::alloc::{AllocError, Global};
+
+// The edges stand by rising destination, and none has weight 0.
+fn is_gathered(edges: &[Edge]) -> bool
+    ensures { IsTrue result → RiseFrom 0 edges.now }
+{
+    let mut least = 0;
+    for edge in edges {
+        if u64::from(edge.to) < least || edge.weight == 0 {
+            return false;
+        }
+        least = u64::from(edge.to) + 1;
+    }
+    true
+}
+
+// The edges stand by destination.
+fn is_ordered(edges: &[Edge]) -> bool
+    ensures { IsTrue result → StandFrom 0 edges.now }
+{
+    let mut least = 0;
+    for edge in edges {
+        if edge.to < least {
+            return false;
+        }
+        least = edge.to;
+    }
+    true
+}
+
+fn ordered(edges: Vec<Edge>) -> Result<Vec<Edge>, AllocError>
+    ensures standing { IfOk result (λ new. StandFrom 0 new.items) }
+    ensures weights { IfOk result (λ new. (to : ℕ) → weight_to new.items to ≡ weight_to edges.items to) }
+    ensures total { IfOk result (λ new. total_of new.items ≡ total_of edges.items) }
+{
+    if is_ordered(&edges) {
+        return Ok(edges);
+    }
+    let mut edges = edges;
+    edges.sort_by_key(|edge| edge.to)?;
+    Ok(edges)
+}
+
+// Puts an edge behind the others, unless its weight is 0.
+fn keep(edges: &mut Vec<Edge>, edge: Edge) -> Result<(), AllocError>
+    ensures { OnOk result (edges.new.items ≡ edges.old.items ++ keep_edge edge.to edge.weight []) }
+{
+    if edge.weight > 0 {
+        edges.push(edge)?;
+    }
+    Ok(())
+}
+
+// Adds an edge to the sum of the edges to one destination, or keeps that sum and begins a new one.
+fn add_edge(merged: &mut Vec<Edge>, sum: Edge, edge: Edge) -> Result<Edge, AllocError>
+    requires { sum.weight + edge.weight < 2 ^ 128 }
+    ensures value { IfOk result (λ new. (rest : List Edge) → merged.new.items ++ merged_from new rest ≡ merged.old.items ++ merged_from sum (edge ∷ rest)) }
+    ensures small { IfOk result (λ new. new.weight ≤ sum.weight + edge.weight) }
+{
+    if edge.to == sum.to {
+        return Ok(Edge {
+            to: sum.to,
+            weight: sum.weight + edge.weight,
+        });
+    }
+    keep(merged, sum)?;
+    Ok(edge)
+}
+
+// Neighbouring edges to one destination added up.
+fn merge(alloc: Global, edges: &[Edge]) -> Result<Vec<Edge>, AllocError>
+    requires { total_of edges.now < 2 ^ 128 }
+    ensures { IfOk result (λ new. new.items ≡ merged_from no_edge edges.now) }
+{
+    let mut merged = Vec::new(alloc);
+    let mut sum = Edge { to: 0, weight: 0 };
+    for edge in edges {
+        sum = add_edge(&mut merged, sum, *edge)?;
+    }
+    keep(&mut merged, sum)?;
+    Ok(merged)
+}
+
+/// The edges by rising destination, those to one destination added up, and none of weight 0.
+pub fn gather(alloc: Global, edges: Vec<Edge>) -> Result<Vec<Edge>, AllocError>
+    requires { total_of edges.items < 2 ^ 128 }
+    ensures value { IfOk result (λ new. new.items ≡ gathered edges.items) }
+    ensures total { IfOk result (λ new. total_of new.items ≡ total_of edges.items) }
+    ensures rising { IfOk result (λ new. IsRising new.items) }
+    ensures weighty { IfOk result (λ new. All (λ e. 1 ≤ e.weight) new.items) }
+{
+    if is_gathered(&edges) {
+        return Ok(edges);
+    }
+    let standing = ordered(edges)?;
+    let merged = merge(alloc, &standing)?;
+    Ok(merged)
+}
