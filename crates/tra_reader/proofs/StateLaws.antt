@@ -1,28 +1,51 @@
 -- The choices of the states that are made are those that transitions come to, and the other way round.
-use Rattle.std.proofs.Common.{◌≡◌, ◌∙◌, ◌<◌, ◌≤◌, ◌⊎◌, inl, inr, ℕ, zero, suc, ◌+◌, ◌==◌, Bool, true, false, cond, List, [], ◌∷◌, ◌++◌, length, get_or, take, Option, Some, None, option_map, Result, Ok, Err, refl, sym, ap, ap₂, subst, arith, add-one, slice_index_or}
+use Rattle.std.proofs.Common.{◌≡◌, ◌∙◌, ◌<◌, ◌≤◌, ◌⊎◌, inl, inr, ℕ, zero, suc, ◌+◌, ◌==◌, Bool, true, false, cond, List, [], ◌∷◌, ◌++◌, length, map, get_or, take, Option, Some, None, option_map, Result, Ok, Err, refl, sym, ap, ap₂, subst, arith, add-one, slice_index_or}
 use Rattle.std.proofs.lemmas.Bool.{cases_eq}
 use Rattle.std.proofs.lemmas.List.{length_push, get_or_push, take_more}
 use Rattle.std.proofs.Math.Seq.{take-length}
 use Rattle.std.specs.Option.{option_or, ForSome}
+use Rattle.std.specs.List.{All}
 use Rattle.game_model.specs.Game.{Distribution, no_distribution, choices_of}
 use Rattle.distributions.specs.declared.choice.Part.{Part}
 use Rattle.distributions.specs.declared.choice.ChoiceFault.{ChoiceFault}
+use Rattle.distributions.specs.Fraction.{IsFraction}
 use Rattle.distributions.specs.Parts.{Denotes as DenotesChoice, choice_said}
 use Rattle.tra_reader.specs.declared.line.Transition.{Transition}
 use Rattle.tra_reader.specs.declared.fault.TraCause.TheVariants.{ChoiceCount}
 use Rattle.tra_reader.specs.declared.fault.TraFault.{TraFault}
 use Rattle.tra_reader.specs.Faults.{fault_of_all}
-use Rattle.tra_reader.specs.Choices.{transitions_of, parts_of, HasChoices, IsState, self_loop, sum_of_first, choice_end, least_missing, first_gap, of_state, then_push, choice_at, choices_said, state_said, states_said, unless_gap, if_as_stated, transitions_game}
+use Rattle.tra_reader.specs.Choices.{transitions_of, part_of, parts_of, HasChoices, IsState, self_loop, sum_of_first, choice_end, least_missing, first_gap, of_state, then_push, choice_at, choices_said, state_said, states_said, unless_gap, if_as_stated, transitions_game}
+use Rattle.tra_reader.specs.Lines.{is_of}
 use Rattle.tra_reader.proofs.Tests.{chosen, cases_lt, is_eq, eq_test, ne_test}
 use Rattle.tra_reader.proofs.Ends.{end_is, end_none, all_there, none_missing, no_gap}
 use Rattle.tra_reader.proofs.Counts.{push_before}
 
 -- what the parts of a choice say is what they denote
 abbrev pub ChoicesFound : Type 0
-ChoicesFound = (parts : List Part) (d : Distribution) → choice_said parts ≡ Ok d → DenotesChoice parts d
+ChoicesFound = (parts : List Part) (d : Distribution) → All (λ part. IsFraction part.share) parts → choice_said parts ≡ Ok d → DenotesChoice parts d
 
 abbrev pub ChoicesAgain : Type 0
-ChoicesAgain = (parts : List Part) (d : Distribution) → DenotesChoice parts d → choice_said parts ≡ Ok d
+ChoicesAgain = (parts : List Part) (d : Distribution) → All (λ part. IsFraction part.share) parts → DenotesChoice parts d → choice_said parts ≡ Ok d
+
+-- the probability of each transition is a fraction
+abbrev pub HaveFractions : List Transition → Type 0
+HaveFractions ts = All (λ t. IsFraction t.share) ts
+
+pub fraction_first : (t : Transition) (ts : List Transition) → IsFraction t.share → HaveFractions ts → HaveFractions (t ∷ ts)
+fraction_first t ts here more zero d h = here
+fraction_first t ts here more (suc k) d h = more k d (omega arith)
+
+kept_one : (b : Bool) (t : Transition) (ts : List Transition) → IsFraction t.share → All (λ part. IsFraction part.share) (map part_of ts) → All (λ part. IsFraction part.share) (map part_of (cond b (t ∷ ts) ts))
+kept_one false t ts here more = more
+kept_one true t ts here more = cons
+  where
+    cons : All (λ part. IsFraction part.share) (part_of t ∷ map part_of ts)
+    cons zero d h = here
+    cons (suc k) d h = more k d (omega arith)
+
+fractions_of : (ts : List Transition) (s k : ℕ) → HaveFractions ts → All (λ part. IsFraction part.share) (parts_of ts s k)
+fractions_of [] s k all = λ j d h. absurd (omega (arith, h))
+fractions_of (t ∷ ts) s k all = kept_one (is_of s k t) t (transitions_of ts s k) (all zero t (omega arith)) (fractions_of ts s k (λ j d h. all (suc j) d (omega arith)))
 
 -- a list and one element more
 record Pushes {X : Type 0} (first : Result (List X) TraFault) (last : Result X TraFault) (all : List X) : Type 0 where
@@ -68,8 +91,8 @@ choices_again ts s (suc n) choices h all =
     ap₂ (λ r d. then_push r (choice_at s n d)) (choices_again ts s n choices (omega (arith, h)) (λ k g. all k (omega (arith, g)))) (all n (omega arith))
     ∙ ap (λ ds. Ok ds) (sym (take_more choices n no_distribution (omega (arith, h))) ∙ ap (λ m. take m choices) (add-one n))
 
-pub state_found : ChoicesFound → (ts : List Transition) (s : ℕ) (choices : List Distribution) → least_missing ts s (choice_end ts s) ≡ None → state_said ts s ≡ Ok choices → IsState ts s (choice_end ts s) choices
-state_found found ts s choices full e =
+pub state_found : ChoicesFound → (ts : List Transition) (s : ℕ) (choices : List Distribution) → HaveFractions ts → least_missing ts s (choice_end ts s) ≡ None → state_said ts s ≡ Ok choices → IsState ts s (choice_end ts s) choices
+state_found found ts s choices fractions full e =
     elim (chosen (choice_end ts s == 0) (Ok (self_loop s ∷ [])) (choices_said ts s (choice_end ts s)) (Ok choices) e) [
       | inl none ↦
           let nought : choice_end ts s ≡ 0 = is_eq (choice_end ts s) 0 none.0 in
@@ -85,7 +108,7 @@ state_found found ts s choices full e =
             has = has;
             alone = λ z. absurd (not_nought (choice_end ts s) some.0 z);
             as_many = λ h. is.0;
-            made = λ k h. found (parts_of ts s k) (get_or choices k no_distribution) (is.1 k h);
+            made = λ k h. found (parts_of ts s k) (get_or choices k no_distribution) (fractions_of ts s k fractions) (is.1 k h);
           }
     ]
   where
@@ -98,8 +121,8 @@ state_found found ts s choices full e =
 end_of : (ts : List Transition) (s count : ℕ) → HasChoices ts s count → choice_end ts s ≡ count
 end_of ts s count has = end_is ts s count (record { none = has.no_more; last = λ k e. has.there k (omega (arith, e)) })
 
-pub state_again : ChoicesAgain → (ts : List Transition) (s count : ℕ) (choices : List Distribution) → IsState ts s count choices → (choice_end ts s ≡ count) × (least_missing ts s (choice_end ts s) ≡ None) × (state_said ts s ≡ Ok choices)
-state_again again ts s count choices is =
+pub state_again : ChoicesAgain → (ts : List Transition) (s count : ℕ) (choices : List Distribution) → HaveFractions ts → IsState ts s count choices → (choice_end ts s ≡ count) × (least_missing ts s (choice_end ts s) ≡ None) × (state_said ts s ≡ Ok choices)
+state_again again ts s count choices fractions is =
     let end = end_of ts s count is.has in (
       end,
       ap (λ m. least_missing ts s m) end ∙ none_missing ts s count is.has.there,
@@ -109,7 +132,7 @@ state_again again ts s count choices is =
     by_count : (0 < count) ⊎ (count ≤ 0) → cond (count == 0) (Ok (self_loop s ∷ [])) (choices_said ts s count) ≡ Ok choices
     by_count (inl some) =
         ap (λ b. cond b (Ok (self_loop s ∷ [])) (choices_said ts s count)) (ne_test count 0 (λ z. omega (arith, z, some)))
-        ∙ choices_again ts s count choices (omega (arith, is.as_many some)) (λ k h. again (parts_of ts s k) (get_or choices k no_distribution) (is.made k h))
+        ∙ choices_again ts s count choices (omega (arith, is.as_many some)) (λ k h. again (parts_of ts s k) (get_or choices k no_distribution) (fractions_of ts s k fractions) (is.made k h))
         ∙ ap (λ m. Ok (take m choices)) (sym (is.as_many some)) ∙ ap (λ ds. Ok ds) (take-length choices)
     by_count (inr none) =
         let nought : count ≡ 0 = omega (arith, none) in

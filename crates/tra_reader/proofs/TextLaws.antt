@@ -8,13 +8,20 @@ use Rattle.tra_reader.specs.declared.header.Header.{Header}
 use Rattle.tra_reader.specs.declared.line.Transition.{Transition}
 use Rattle.tra_reader.specs.declared.fault.TraCause.{TraCause}
 use Rattle.tra_reader.specs.declared.fault.TraFault.{TraFault}
-use Rattle.tra_reader.specs.Lines.{IsHeader, Row, header_said, rows_said}
+use Rattle.tra_reader.specs.Lines.{IsHeader, Row, AreRows, header_said, rows_said}
 use Rattle.tra_reader.specs.Choices.{IsState, choice_end, first_gap, least_missing, sum_of_first, state_said, states_said}
 use Rattle.tra_reader.specs.Text.{Denotes, transitions, rows_game, behind_header, lines_game, game_of}
 use Rattle.tra_reader.proofs.HeaderLaws.{header_found, header_again}
 use Rattle.tra_reader.proofs.RowLaws.{NumbersFound, NumbersAgain, Follow, rows_found, rows_again}
 use Rattle.tra_reader.proofs.ActionLaws.{action_in, actions_found, actions_again}
-use Rattle.tra_reader.proofs.StateLaws.{ChoicesFound, ChoicesAgain, MakesGame, state_found, state_again, states_found, states_again, gaps_found, gaps_again, sums_alike, game_found, game_again}
+use Rattle.tra_reader.proofs.StateLaws.{ChoicesFound, ChoicesAgain, HaveFractions, fraction_first, MakesGame, state_found, state_again, states_found, states_again, gaps_found, gaps_again, sums_alike, game_found, game_again}
+
+-- the probabilities of rows are fractions
+fractions : (header : Header) (lines : List (List ℕ)) (rows : List Row) → AreRows header lines rows → HaveFractions (transitions rows)
+fractions header [] [] are = λ k d h. absurd (omega (arith, h))
+fractions header [] (row ∷ rows) are = absurd are
+fractions header (line ∷ lines) [] are = absurd are
+fractions header (line ∷ lines) (row ∷ rows) are = fraction_first row.transition (transitions rows) are.0.share.fraction (fractions header lines rows are.1)
 
 denoted : ChoicesFound → (text first : List ℕ) (others : List (List ℕ)) (header : Header) (rows : List Row) (game : List (List Distribution)) → significant (lines_of text) ≡ first ∷ others → IsHeader first header
     → Follow header [] others rows → MakesGame (transitions rows) header.states header.choices game → Denotes text game
@@ -37,7 +44,7 @@ denoted found text first others header rows game lines is_header follow makes =
       action_of = action_in follow.rows;
       actions = actions_found follow.rows follow.fine;
       choice_count = choice_end ts;
-      made = λ s h. let low : s < header.states = omega (arith, all.0, h) in state_found found ts s (choices_of game s) (gaps_found ts header.states is.full s low) (all.1 s low);
+      made = λ s h. let low : s < header.states = omega (arith, all.0, h) in state_found found ts s (choices_of game s) (fractions header others follow.rows follow.are) (gaps_found ts header.states is.full s low) (all.1 s low);
       all_choices = λ c e. ap (λ n. sum_of_first (choice_end ts) n) all.0 ∙ is.as_stated c e;
     }
 
@@ -64,7 +71,7 @@ pub text_again : NumbersAgain → ChoicesAgain → (text : List ℕ) (game : Lis
 unfolding game_of
 text_again numbers choices text game is =
     let ts : List Transition = transitions is.rows in
-    let each = λ (s : ℕ) (h : s < is.header.states). state_again choices ts s (is.choice_count s) (choices_of game s) (is.made s (omega (arith, is.states, h))) in
+    let each = λ (s : ℕ) (h : s < is.header.states). state_again choices ts s (is.choice_count s) (choices_of game s) (fractions is.header is.others is.rows is.are_rows) (is.made s (omega (arith, is.states, h))) in
     let makes : MakesGame ts is.header.states is.header.choices game = record {
       full = gaps_again ts is.header.states (λ s h. (each s h).1);
       as_stated = λ c e. sums_alike (choice_end ts) is.choice_count is.header.states (λ s h. (each s h).0) ∙ ap (λ n. sum_of_first is.choice_count n) (sym is.states) ∙ is.all_choices c e;
