@@ -5,7 +5,7 @@ use Rattle.std.specs.Option.{option_map_or, option_or}
 use Rattle.std.specs.Str.{bytes_eq}
 use Rattle.std.proofs.lemmas.Slice.Eq.{bytes_eq-Decides}
 use Rattle.tra_reader.specs.Lines.{Row, is_of, first_action, clashes, HaveActions}
-use Rattle.tra_reader.proofs.Tests.{bool_cases, is_eq, eq_test}
+use Rattle.tra_reader.proofs.Decisions.{bool_cases, is_eq, eq_test}
 use Rattle.tra_reader.proofs.RowLaws.{NoClash}
 
 abbrev first_of : List Row → Option (List ℕ)

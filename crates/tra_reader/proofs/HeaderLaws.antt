@@ -9,7 +9,7 @@ use Rattle.tra_reader.specs.declared.fault.TraCause.{TraCause}
 use Rattle.tra_reader.specs.declared.fault.TraCause.TheVariants.{OverLimit, NoStates}
 use Rattle.tra_reader.specs.Limits.{most_choices, most_lines}
 use Rattle.tra_reader.specs.Lines.{IsHeader, header_numbers, header_checked, mdp_header, dtmc_header, header_said}
-use Rattle.tra_reader.proofs.Tests.{chosen, ge_from, ge_test, is_eq, ne_test}
+use Rattle.tra_reader.proofs.Decisions.{chosen, ge_from, ge_test, is_eq, ne_test}
 
 either_false : (a b : Bool) → (a || b) ≡ false → (a ≡ false) × (b ≡ false)
 either_false true b e = cc

@@ -1,4 +1,4 @@
-pub mod Tests
+pub mod Decisions
 pub mod Noting
 pub mod Rows
 pub mod Steps

@@ -13,7 +13,7 @@ use Rattle.tra_reader.specs.declared.fault.TraCause.TheVariants.{StateOutOfRange
 use Rattle.tra_reader.specs.declared.fault.TraFault.{TraFault}
 use Rattle.tra_reader.specs.Faults.{fault_at, fault_of_all}
 use Rattle.tra_reader.specs.Lines.{Row, LineParts, IsRow, AreRows, line_parts, transition_with, transition_within, transition_said, row_with, parts_said, row_said, clashes, action_checked, line_said, behind, rows_said}
-use Rattle.tra_reader.proofs.Tests.{chosen, lt_from, ge_from, lt_test, ge_test, bool_cases}
+use Rattle.tra_reader.proofs.Decisions.{chosen, lt_from, ge_from, lt_test, ge_test, bool_cases}
 use Rattle.tra_reader.proofs.Rows.{said_with}
 
 -- what a number's text says is what it denotes

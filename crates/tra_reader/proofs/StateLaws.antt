@@ -16,7 +16,7 @@ use Rattle.tra_reader.specs.declared.fault.TraFault.{TraFault}
 use Rattle.tra_reader.specs.Faults.{fault_of_all}
 use Rattle.tra_reader.specs.Choices.{transitions_of, part_of, parts_of, HasChoices, IsState, self_loop, sum_of_first, choice_end, least_missing, first_gap, of_state, then_push, choice_at, choices_said, state_said, states_said, unless_gap, if_as_stated, transitions_game}
 use Rattle.tra_reader.specs.Lines.{is_of}
-use Rattle.tra_reader.proofs.Tests.{chosen, cases_lt, is_eq, eq_test, ne_test}
+use Rattle.tra_reader.proofs.Decisions.{chosen, cases_lt, is_eq, eq_test, ne_test}
 use Rattle.tra_reader.proofs.Ends.{end_is, end_none, all_there, none_missing, no_gap}
 use Rattle.tra_reader.proofs.Counts.{push_before}
 
