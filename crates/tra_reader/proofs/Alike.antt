@@ -6,7 +6,7 @@ use Rattle.distributions.specs.Parts.{choice_said}
 use Rattle.tra_reader.specs.declared.line.Transition.{Transition}
 use Rattle.tra_reader.specs.declared.fault.TraFault.{TraFault}
 use Rattle.tra_reader.specs.Choices.{transitions_of, part_of, parts_of, choice_end, least_missing, first_gap, of_state, self_loop, sum_of_first, then_push, choice_at, choices_said, state_said, states_said, unless_gap, if_as_stated, transitions_game}
-use Rattle.tra_reader.proofs.Tests.{cases_lt}
+use Rattle.tra_reader.proofs.Decisions.{cases_lt}
 use Rattle.tra_reader.proofs.Ends.{end_alike, missing_alike}
 
 choices_alike : (ts us : List Transition) (s n : ℕ) → ((k : ℕ) → transitions_of ts s k ≡ transitions_of us s k) → choices_said ts s n ≡ choices_said us s n

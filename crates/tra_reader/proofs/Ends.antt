@@ -10,7 +10,7 @@ use Rattle.tra_reader.specs.declared.line.Transition.{Transition}
 use Rattle.tra_reader.specs.Lines.{is_of}
 use Rattle.tra_reader.specs.Choices.{transitions_of, choice_end, least_missing, first_gap, of_state}
 use Rattle.tra_reader.specs.Order.{has, place_of, transition_place}
-use Rattle.tra_reader.proofs.Tests.{bool_cases, is_eq, eq_test, cases_lt}
+use Rattle.tra_reader.proofs.Decisions.{bool_cases, is_eq, eq_test, cases_lt}
 use Rattle.tra_reader.proofs.Rows.{same_place}
 
 -- each transition has a small choice

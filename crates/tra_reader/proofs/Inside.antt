@@ -9,7 +9,7 @@ use Rattle.distributions.specs.Parts.{Denotes, weighted, weight_to}
 use Rattle.tra_reader.specs.declared.line.Transition.{Transition}
 use Rattle.tra_reader.specs.Choices.{part_of}
 use Rattle.tra_reader.specs.Answers.{LeadsInside}
-use Rattle.tra_reader.proofs.Tests.{cases_lt, below_ne, eq_test}
+use Rattle.tra_reader.proofs.Decisions.{cases_lt, below_ne, eq_test}
 
 at_least : {X : Type 0} (f : X → ℕ) (xs : List X) (i : ℕ) (d : X) → i < length xs → f (get_or xs i d) ≤ sum_by f xs
 at_least f [] i d h = absurd (omega arith)

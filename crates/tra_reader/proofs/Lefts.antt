@@ -8,7 +8,7 @@ use Rattle.tra_reader.specs.declared.line.Transition.{Transition}
 use Rattle.tra_reader.specs.Choices.{transitions_of, choice_end, least_missing}
 use Rattle.tra_reader.specs.Order.{has, From, Rises, run_len, place_of, transition_place, InOrder, IsLeft, IsWithin}
 use Rattle.tra_reader.specs.Answers.{HasCount}
-use Rattle.tra_reader.proofs.Tests.{bool_cases, is_eq, eq_test, cases_lt}
+use Rattle.tra_reader.proofs.Decisions.{bool_cases, is_eq, eq_test, cases_lt}
 use Rattle.tra_reader.proofs.Runs.{From-weaker, none_has, behind_run, run_is, run_keeps, run_within}
 use Rattle.tra_reader.proofs.Ends.{AreSmall, small_more, of_at, none_of_high, end_is, end_none, above_of, none_missing, one_missing, end_alike, missing_alike}
 

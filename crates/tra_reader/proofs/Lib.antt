@@ -1,4 +1,4 @@
-pub mod Tests
+pub mod Decisions
 pub mod Noting
 pub mod Rows
 pub mod Steps
@@ -11,3 +11,8 @@ pub mod Inside
 pub mod Makes
 pub mod Alike
 pub mod Sorted
+pub mod HeaderLaws
+pub mod RowLaws
+pub mod ActionLaws
+pub mod StateLaws
+pub mod TextLaws

@@ -12,7 +12,7 @@ use Rattle.tra_reader.specs.Order.{has, From, Rises, run_len, place_of, transiti
 use Rattle.std.specs.Borrow.{Bor}
 use Rattle.tra_reader.specs.Answers.{LeadsInside, AreFirst, AreOfState, AreOfStates, ChoicesAnswer, StateAnswer}
 use Rattle.tra_reader.proofs.Alike.{state_alike, states_stay}
-use Rattle.tra_reader.proofs.Tests.{cases_lt, eq_test, ne_test}
+use Rattle.tra_reader.proofs.Decisions.{cases_lt, eq_test, ne_test}
 use Rattle.tra_reader.proofs.Rows.{All-push}
 use Rattle.tra_reader.proofs.Ends.{AreSmall, of_at, end_none, end_small, empty_not_some}
 use Rattle.tra_reader.proofs.Lefts.{state_ends, starts, run_of, left_more, cons_some, same_of}

@@ -4,7 +4,7 @@ use Rattle.std.specs.List.{filter}
 use Rattle.tra_reader.specs.Lines.{Row}
 use Rattle.tra_reader.specs.Order.{has}
 use Rattle.tra_reader.specs.Answers.{row_place, action_at}
-use Rattle.tra_reader.proofs.Tests.{bool_cases, is_eq}
+use Rattle.tra_reader.proofs.Decisions.{bool_cases, is_eq}
 
 abbrev or_one : Option (List ℕ) → Option (List ℕ) → Option (List ℕ)
 or_one None other = other

@@ -14,7 +14,7 @@ use Rattle.tra_reader.specs.declared.fault.TraCause.TheVariants.{FieldCount, Lin
 use Rattle.tra_reader.specs.Lines.{Row, is_of, first_action, clashes, row_said, action_checked, line_said}
 use Rattle.tra_reader.specs.Order.{IsWithin, has, place_of, transition_place}
 use Rattle.tra_reader.specs.Answers.{row_place, action_at}
-use Rattle.tra_reader.proofs.Tests.{bool_cases, lt_test}
+use Rattle.tra_reader.proofs.Decisions.{bool_cases, lt_test}
 
 All-nil-push : {X : Type 0} (P : X → Type 0) (x : X) → P x → All P (x ∷ [])
 All-nil-push P x here zero d h = here

@@ -4,7 +4,7 @@ use Rattle.std.specs.List.{filter}
 use Rattle.std.proofs.lemmas.List.{at_drop_more}
 use Rattle.tra_reader.specs.declared.line.Transition.{Transition}
 use Rattle.tra_reader.specs.Order.{has, From, Rises, run_len, transition_place}
-use Rattle.tra_reader.proofs.Tests.{bool_cases, is_eq, eq_test, ne_test, above_ne, below_ne, ne_below}
+use Rattle.tra_reader.proofs.Decisions.{bool_cases, is_eq, eq_test, ne_test, above_ne, below_ne, ne_below}
 
 module _ {X : Type 0} (key : X → ℕ) where
   pub From-weaker : (p q : ℕ) (xs : List X) → p ≤ q → From key q xs → From key p xs

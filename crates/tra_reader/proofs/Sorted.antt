@@ -5,7 +5,7 @@ use Rattle.tra_reader.specs.Limits.{most_choices}
 use Rattle.tra_reader.specs.declared.line.Transition.{Transition}
 use Rattle.tra_reader.specs.Choices.{transitions_of}
 use Rattle.tra_reader.specs.Order.{From, has, place_of, transition_place}
-use Rattle.tra_reader.proofs.Tests.{cases_lt}
+use Rattle.tra_reader.proofs.Decisions.{cases_lt}
 use Rattle.tra_reader.proofs.Ends.{AreSmall, of_at, none_of_high}
 
 pub on_ok : {T E : Type 0} {P : Type 0} (r : Result T E) → is_err r ≡ false → OnOk r P → P

@@ -13,6 +13,8 @@ mod limits;
 mod line;
 mod order;
 mod reader;
+#[cfg(test)]
+mod tests;
 
 pub use fault::{TraCause, TraFault};
 pub use limits::{MOST_BYTES, MOST_CHOICES, MOST_LINES};
