@@ -1,17 +1,31 @@
-//! The outside of the program as traits: a shelf of named texts, a sink of bytes and a gate for the workers.
+//! The outside of the program as traits: a shelf of named texts, a sink of bytes, and a gate for the workers.
+//!
+//! `read_all` reads a whole text off a `Shelf`, and `write_all` puts a whole text into a `Sink`. What is promised of
+//! them rests on what the object tells: its texts and its bytes where it tells them, and always a count of faults that
+//! never falls. A call answers a fault only where this count rose, so a program that reports a fault can't have made it
+//! up. Over real files nothing of the content is told, and all else holds.
+//!
+//! `SteadyShelf` and `SteadySink` hold texts in memory and never fail. `MemShelf` and `MemSink` work in small steps and
+//! fail in exactly the calls that are named, so that a test can let each call fail in turn.
+//!
+//! Nothing is promised of what a real file holds, of how a text is cut into pieces, nor that memory is there.
 #![tactic(auto)]
 
 mod gate;
 mod held;
+mod hold_gate;
 mod memory_shelf;
 mod memory_sink;
 mod name;
 mod search;
 mod shelf;
 mod sink;
+#[cfg(test)]
+mod tests;
 
 pub use gate::{Gate, OpenGate};
 pub use held::HeldFile;
+pub use hold_gate::HoldGate;
 pub use memory_shelf::{MemShelf, SteadyShelf};
 pub use memory_sink::{Kept, MemSink, SteadySink};
 pub use name::Name;
@@ -25,28 +39,3 @@ pub struct Failed {}
 /// Memory was wanting.
 #[derive(Clone, Copy, Debug, PartialEq, Eq, Drop)]
 pub struct OutOfMemory {}
-
-#[cfg(test)]
-mod tests {
-    use super::*;
-    use std::test::Fail;
-
-    #[test]
-    fn a_steady_shelf_gives_all(rt: HostRuntime) -> Result<(), Fail> {
-        let alloc = rt.alloc();
-        let mut files = Vec::new(alloc);
-        let Ok(name) = Name::from_bytes(alloc, b"m.tra") else {
-            return Err(Fail::new("no memory"));
-        };
-        files.push(HeldFile {
-            name,
-            bytes: b"hello".to_vec(alloc)?,
-        })?;
-        let mut shelf = SteadyShelf::new(files);
-        let all = read_all(alloc, &mut shelf, "m.tra", 5);
-        assert!(rt; matches!(all, Ok(ref v) if v.as_slice() == b"hello".as_slice()));
-        let long = read_all(alloc, &mut shelf, "m.tra", 4);
-        assert!(rt; matches!(long, Err(ReadEnd::TooLong)));
-        Ok(())
-    }
-}

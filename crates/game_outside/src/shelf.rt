@@ -7,6 +7,10 @@ ghost use Rattle.game_outside.specs.Outside.{Holding, Rose, HasCause, IsHeldAs, 
 use crate::Failed;
 use std::alloc::{AllocError, Global};
 
+/// A place with named texts. One text at a time is begun and read from front to end.
+///
+/// An object tells what it likes of the texts that it holds. It always tells how many bytes were taken, how often a call
+/// failed, and whether its calls for what is held never fail.
 pub trait Shelf {
     /// The bytes under each name, where they are told.
     ghost held: { Self → Option Holding };
@@ -17,12 +21,13 @@ pub trait Shelf {
     /// How many bytes `next` has given since the last `begin`, up to the greatest `u64`.
     ghost taken: { Self → ℕ };
 
-    /// A count that never falls.
+    /// How often a call failed, a count that never falls. At the greatest `u64` it stays.
     ghost faults: { Self → ℕ };
 
     /// Its calls for what is held never fail.
     ghost steady: { Self → Bool };
 
+    /// Begins the text under this name. A name that is not held fails; after a failure no text is begun.
     fn begin(&mut self, name: &str) -> Result<(), Failed>
         ensures text { OnOk result (Begins (held self.old) name.now (rest self.new)) }
         ensures taken { taken self.new ≡ 0 }
@@ -32,6 +37,8 @@ pub trait Shelf {
         ensures steady { steady self.new ≡ steady self.old }
         ensures steadily { steady self.old ≡ true → Holds (held self.old) name.now → IsOk result × (faults self.new ≡ faults self.old) };
 
+    /// Puts the next bytes of the text into the piece, and answers how many. Zero says that the text is at its end, or
+    /// that none was begun.
     fn next(&mut self, piece: &mut [u8]) -> Result<usize, Failed>
         requires { 0 < length piece.old }
         ensures bound { ReadsAtMost result piece.new }
@@ -43,30 +50,41 @@ pub trait Shelf {
         ensures steadily { steady self.old ≡ true → IsOk result × (faults self.new ≡ faults self.old) };
 }
 
+/// Why a text was not read whole.
 #[derive(Clone, Copy, Debug, PartialEq, Eq, Drop)]
 pub enum ReadEnd {
+    /// Memory was wanting.
     OutOfMemory,
+    /// A call of the shelf failed.
     ReadFault,
+    /// The text is longer than the limit.
     TooLong,
 }
 
 const PIECE: usize = 4096;
 
+/// All bytes that are held under the name, at most `limit` of them. It takes at most the limit and one piece.
 #[tactic(auto, using(crate::proofs::Streams::longer))]
-/// All bytes that are held under the name, at most `limit` of them.
 pub fn read_all<H: Shelf>(
     alloc: Global,
     shelf: &mut H,
     name: &str,
     limit: u64,
 ) -> Result<Vec<u8>, ReadEnd>
+    // The whole text.
     ensures bytes { IfOk result (λ v. IsHeldAs (H.held shelf.old) name.now v.items) }
     ensures within { IfOk result (λ v. length v.items ≤ limit) }
+
+    // It doesn't fail by itself.
     ensures read_fault { IsErrOf result ReadEnd.ReadFault → Rose (H.faults shelf.old) (H.faults shelf.new) }
     ensures steadily { IsErrOf result ReadEnd.ReadFault → H.steady shelf.old ≡ true → Holds (H.held shelf.old) name.now → ⊥ }
+
+    // A text is too long exactly where more than the limit was taken.
     ensures too_long { IsErrOf result ReadEnd.TooLong → limit < H.taken shelf.new }
     ensures too_long_held { IsErrOf result ReadEnd.TooLong → IsHeldLonger (H.held shelf.old) name.now limit }
     ensures only_too_long { limit < H.taken shelf.new → IsErrOf result ReadEnd.TooLong ⊎ IsErrOf result ReadEnd.OutOfMemory }
+
+    // What the shelf holds stays, and its count never falls.
     ensures later { H.faults shelf.old ≤ H.faults shelf.new }
     ensures held { H.held shelf.new ≡ H.held shelf.old }
     ensures steady { H.steady shelf.new ≡ H.steady shelf.old }
