@@ -59,11 +59,7 @@ pub fn sweep<P: Posing, G: Gate>(
 }
 
 /// Puts the halves of a round together.
-pub fn meet<P: Posing>(
-    table: &ValueTable<'_, P>,
-    left: Rounded<P>,
-    right: Rounded<P>,
-) -> Rounded<P>
+pub fn meet<P: Posing>(table: &ValueTable<'_, P>, left: Rounded<P>, right: Rounded<P>) -> Rounded<P>
     requires left { IsOf table.now left.pass }
     requires right { IsOf table.now right.pass }
     requires fits { left.raises + right.raises < 2 ^ 64 }

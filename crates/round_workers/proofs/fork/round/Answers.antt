@@ -1,4 +1,4 @@
-use Rattle.std.proofs.Common.{◌≡◌, ℕ, ◌<◌, ◌≤◌, sym, subst, arith, zero-le}
+use Rattle.std.proofs.Common.{ℕ, ◌<◌, ◌≤◌, sym, subst, zero-le}
 use Rattle.game_model.specs.Query.{states}
 use Rattle.round_workers.proofs.Shares.{first_of-zero, first_of-all}
 use Rattle.round_workers.proofs.fork.round.Goals as goal
