@@ -13,6 +13,7 @@
 
 mod gate;
 mod held;
+mod hold_gate;
 mod memory_shelf;
 mod memory_sink;
 mod name;
@@ -24,6 +25,7 @@ mod tests;
 
 pub use gate::{Gate, OpenGate};
 pub use held::HeldFile;
+pub use hold_gate::HoldGate;
 pub use memory_shelf::{MemShelf, SteadyShelf};
 pub use memory_sink::{Kept, MemSink, SteadySink};
 pub use name::Name;

@@ -66,7 +66,7 @@ units-whole q s c p sum h inside chosen so_far =
     let part : sum_by (λ e. e.weight) (take p (choice_of q.game s c).edges) ≤ sum_by (λ e. e.weight) (choice_of q.game s c).edges = sum_by-take-le (λ (e : Edge). e.weight) (choice_of q.game s c).edges p in
     omega (arith, so_far, mul-le-mul_right unit part, ap (λ n. n * unit) (h.game.distribution s c inside chosen).sums)
 
-div-rises : (x y w : ℕ) → 0 < w → x ≤ y → x / w ≤ y / w
+pub div-rises : (x y w : ℕ) → 0 < w → x ≤ y → x / w ≤ y / w
 div-rises x y w positive h =
     let below : x / w * w ≤ x = (le-div_iff_mul-le positive).0 (let same : x / w ≤ x / w = omega arith in same) in
     (le-div_iff_mul-le positive).1 (omega (arith, below, h))

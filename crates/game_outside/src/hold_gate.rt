@@ -1,0 +1,64 @@
+// A gate that shows that two workers work at once.
+use crate::gate::Gate;
+use std::sync::atomic::{AtomicBool, Ordering};
+use std::thread;
+
+/// How many turns a worker is held.
+const TURNS: u32 = 10_000_000;
+
+/// A gate that holds the first arrivals of the workers 0 and 1 until both have arrived, for a number of
+/// turns each. Where the two run one after another, it gives up. It promises nothing.
+#[derive(Drop)]
+pub struct HoldGate {
+    first: AtomicBool,
+    second: AtomicBool,
+    gave_up: AtomicBool,
+}
+
+impl HoldGate {
+    /// A gate where nobody has arrived.
+    pub fn new() -> HoldGate {
+        HoldGate {
+            first: AtomicBool::new(false),
+            second: AtomicBool::new(false),
+            gave_up: AtomicBool::new(false),
+        }
+    }
+
+    /// Whether a worker's turns ran out before the other arrived.
+    pub fn gave_up(&self) -> bool {
+        self.gave_up.load(Ordering::SeqCst)
+    }
+
+    // Marks that a worker has arrived and, where it does so for the first time, holds it for the other.
+    fn hold(&self, arrived: &AtomicBool, other: &AtomicBool) {
+        if arrived.swap(true, Ordering::SeqCst) {
+            return;
+        }
+        for _ in 0..TURNS {
+            if other.load(Ordering::SeqCst) {
+                return;
+            }
+            thread::yield_now();
+        }
+        self.gave_up.store(true, Ordering::SeqCst);
+    }
+}
+
+impl Gate for HoldGate {
+    fn arrive(&self, worker: u32, state: u32) {
+        let _ = state;
+        match worker {
+            0 => self.hold(&self.first, &self.second),
+            1 => self.hold(&self.second, &self.first),
+            _ => {}
+        }
+    }
+}
+
+// The workers share one gate.
+fn shared<T: Sync>(_: &T) {}
+
+fn hold_gate_is_shared(gate: &HoldGate) {
+    shared(gate);
+}

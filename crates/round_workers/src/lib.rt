@@ -1,0 +1,14 @@
+//! One round over all states of a question, by several workers that race on the shared words.
+//!
+//! [`round`] cuts the states into one range for each worker. Each worker updates its range in rising order
+//! (asynchronous value iteration: Bertsekas, Distributed dynamic programming, 1982). The work is forked and
+//! joined by halves of the workers; one worker costs no thread. What a round ensures holds for every
+//! schedule: at each state at least the down step of what was seen before is seen after. Nothing is said of
+//! which worker raised what, nor that two of them run at once.
+#![tactic(auto)]
+
+mod fork;
+mod sweep;
+
+pub use fork::round;
+pub use sweep::{MOST_WORKERS, Rounded};
