@@ -40,8 +40,8 @@ fn known_of_all(parts: &[Part])
     }
 }
 
-#[tactic(auto, using(crate::proofs::Multiples::lcm_some))]
 // The least common multiple of the denominators.
+#[tactic(auto, using(crate::proofs::Multiples::lcm_some))]
 fn common_denominator(parts: &[Part]) -> Result<u128, ChoiceFault>
     ensures value { result ≡ denominator_said 1 parts.now }
     ensures positive { IfOk result (λ common. 1 ≤ common) }
@@ -63,8 +63,8 @@ fn common_denominator(parts: &[Part]) -> Result<u128, ChoiceFault>
     Ok(common)
 }
 
-#[tactic(auto, using(crate::proofs::Multiples::share_weight, crate::proofs::Multiples::share_small))]
 // The destination of a part, and its weight.
+#[tactic(auto, using(crate::proofs::Multiples::share_weight, crate::proofs::Multiples::share_small))]
 fn edge_of(common: u128, part: &Part) -> Edge
     requires divided { part.now.share.den ∣ common }
     requires fine { common ≤ finest }

@@ -48,8 +48,8 @@ fn wide_divisor(a: u128, b: u128) -> u128
     greater
 }
 
-#[tactic(auto, using(crate::proofs::Euclid::lcm_above, crate::proofs::Euclid::lcm_below, crate::proofs::Euclid::lcm_by, crate::proofs::Euclid::gcd_some, crate::proofs::Euclid::product_above, crate::proofs::Euclid::product_below))]
 /// The least common multiple, unless it is above the finest denominator.
+#[tactic(auto, using(crate::proofs::Euclid::lcm_above, crate::proofs::Euclid::lcm_below, crate::proofs::Euclid::lcm_by, crate::proofs::Euclid::gcd_some, crate::proofs::Euclid::product_above, crate::proofs::Euclid::product_below))]
 pub fn least_common_multiple(a: u128, b: u128) -> Option<u128>
     requires a_some { 1 ≤ a }
     requires a_fine { a ≤ finest }

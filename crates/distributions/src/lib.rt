@@ -1,6 +1,17 @@
-//! Exact probabilities: numbers as fractions, and the distribution of a choice from its parts.
+//! Exact probabilities: fractions in lowest terms, and the distribution of a choice from its parts.
 //!
-//! `read_number` reads a fraction, `compare` orders two of them, and `make_choice` adds up the parts of a choice.
+//! `read_number` gives the fraction that a text spells, as `0.25`, `1e-05` or `1/3`, or the first reason why it spells
+//! none. `compare` orders two fractions. `make_choice` adds up the parts of a choice over the least common multiple of
+//! their denominators. The decimals of a file may be rounded, so a sum that misses 1 by at most one part in 100,000 is
+//! accepted, and the weights are then divided by their sum: a move has its weight over the total as its probability.
+//!
+//! ```text
+//! let share = read_number(b"0.33333333333333331")?;
+//! let choice = make_choice(alloc, &[Part { to: 1, share }, Part { to: 2, share }, Part { to: 3, share }])?;
+//! ```
+//!
+//! Contracts see a `Frac` as a numerator over a denominator. Each call is exact: its answer is what the definitions say,
+//! and `make_choice` alone takes memory.
 #![tactic(auto)]
 
 mod choice;

@@ -45,8 +45,8 @@ struct Rest {
     left: u32,
 }
 
-#[tactic(auto, using(crate::proofs::Powers::taken_out))]
 // Takes a factor out of a number as often as it goes, but not more often than this.
+#[tactic(auto, using(crate::proofs::Powers::taken_out))]
 #[inline(always)]
 fn without(number: u128, factor: u128, most: u32) -> Rest
     requires some { 1 ≤ number }
@@ -64,8 +64,8 @@ fn without(number: u128, factor: u128, most: u32) -> Rest
     Rest { number: rest, left }
 }
 
-#[tactic(auto, using(crate::proofs::Powers::many_twos, crate::proofs::Powers::many_fives, crate::proofs::Powers::two_fits, crate::proofs::Powers::five_fits, crate::proofs::Powers::five_some, crate::proofs::Euclid::product_above, crate::proofs::Euclid::product_below))]
 // A product of powers of two and of five, unless it is above the finest denominator.
+#[tactic(auto, using(crate::proofs::Powers::many_twos, crate::proofs::Powers::many_fives, crate::proofs::Powers::two_fits, crate::proofs::Powers::five_fits, crate::proofs::Powers::five_some, crate::proofs::Euclid::product_above, crate::proofs::Euclid::product_below))]
 fn powers(twos: u32, fives: u32) -> Option<u128>
     ensures value { MatchOption result (finest < 2 ^ twos * 5 ^ fives) (λ m. m ≡ 2 ^ twos * 5 ^ fives) }
 {

@@ -73,8 +73,8 @@ fn split_digits(text: &[u8]) -> (&[u8], &[u8])
     text.split_at(digits_length(text))
 }
 
-#[tactic(auto, using(crate::proofs::Spelled::digits_whole))]
 // One or more digits, and nothing else.
+#[tactic(auto, using(crate::proofs::Spelled::digits_whole))]
 fn only_digits(text: &[u8]) -> bool
     ensures { result ≡ (not (is_nil text.now) && all_digits text.now) }
 {
@@ -171,8 +171,8 @@ fn digits_onto(before: u128, digits: &[u8]) -> u128
     value
 }
 
-#[tactic(auto, using(crate::proofs::Spelled::digits_room, crate::proofs::Spelled::digits_room_behind, crate::proofs::Spelled::power_room, crate::proofs::Spelled::value_append))]
 // The fraction of a decimal.
+#[tactic(auto, using(crate::proofs::Spelled::digits_room, crate::proofs::Spelled::digits_room_behind, crate::proofs::Spelled::power_room, crate::proofs::Spelled::value_append))]
 fn point_fraction(front: &[u8], back: &[u8], power: Power<'_>) -> Result<Frac, NumberFault>
     requires front { all_digits front.now ≡ true }
     requires back { all_digits back.now ≡ true }
@@ -199,8 +199,8 @@ fn point_fraction(front: &[u8], back: &[u8], power: Power<'_>) -> Result<Frac, N
     }
 }
 
-#[tactic(auto, using(crate::proofs::Spelled::digits_room))]
 // The fraction of two numbers.
+#[tactic(auto, using(crate::proofs::Spelled::digits_room))]
 fn line_fraction(above: &[u8], below: &[u8]) -> Result<Frac, NumberFault>
     requires above { all_digits above.now ≡ true }
     requires below { all_digits below.now ≡ true }

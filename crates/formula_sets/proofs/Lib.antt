@@ -1,2 +1,3 @@
-pub mod Unknown
-pub mod Listed
+pub mod Finding
+pub mod Asking
+pub mod Inside

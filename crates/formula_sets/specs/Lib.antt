@@ -1,3 +1,4 @@
 pub mod Truth
 pub mod Sides
 pub mod Posing
+pub mod Seen

@@ -1,13 +1,14 @@
--- Who chooses at a state: by the bound, the coalition and the owner of the state.
-use Rattle.std.specs.Prelude.{ℕ, Bool, List, Option, Some, None, if◌then◌else◌, bytes_eq}
+-- Who chooses at each state.
+use Rattle.std.specs.Prelude.{ℕ, Bool, not, List, [], Option, Some, None, bytes_eq, find, if◌then◌else◌}
 use Rattle.std.specs.List.{list_any}
 use Rattle.game_model.specs.declared.game.Side.{Side}
 use Rattle.game_model.specs.declared.game.Side.TheVariants.{Max, Min}
 use Rattle.game_model.specs.Dual.{other_side}
+use Rattle.label_reader.specs.Owners.{Ownership, owner_of, is_player}
 use Rattle.rpatl_syntax.specs.declared.formula.Bound.{Bound}
 use Rattle.rpatl_syntax.specs.declared.formula.Bound.TheVariants.{AtLeast, Above, AtMost, Below, AskMax, AskMin}
 
--- the side of the states of a coalition: it raises the probability or lowers it
+-- the side of a coalition: it tries to keep the bound, or to reach what is asked
 abbrev pub coalition_side : Bound → Side
 coalition_side (AtLeast p) = Max
 coalition_side (Above p) = Max
@@ -16,19 +17,28 @@ coalition_side (Below p) = Min
 coalition_side AskMax = Max
 coalition_side AskMin = Min
 
--- the side of all states where no coalition is named: a threshold speaks of all strategies
-abbrev pub lone_side : Bound → Side
-lone_side (AtLeast p) = Min
-lone_side (Above p) = Min
-lone_side (AtMost p) = Max
-lone_side (Below p) = Max
-lone_side AskMax = Max
-lone_side AskMin = Min
+-- the side of all states where no coalition is named: a bound has to be kept whatever is chosen
+abbrev pub common_side : Bound → Side
+common_side (AtLeast p) = Min
+common_side (Above p) = Min
+common_side (AtMost p) = Max
+common_side (Below p) = Max
+common_side AskMax = Max
+common_side AskMin = Min
 
 abbrev pub is_member : List (List ℕ) → List ℕ → Bool
-is_member coalition player = list_any (λ name. bytes_eq name player) coalition
+is_member names name = list_any (λ other. bytes_eq name other) names
 
--- the side of a state with this owner
-abbrev pub side_of : Bound → Option (List (List ℕ)) → List ℕ → Side
-side_of bound None owner = lone_side bound
-side_of bound (Some coalition) owner = if is_member coalition owner then coalition_side bound else other_side (coalition_side bound)
+-- the side that chooses at a state
+abbrev pub side_of : Option (List (List ℕ)) → Bound → Ownership → ℕ → Side
+side_of None bound owners s = common_side bound
+side_of (Some names) bound owners s = if is_member names (owner_of owners s) then coalition_side bound else other_side (coalition_side bound)
+
+-- the players of a coalition
+abbrev pub members_of : Option (List (List ℕ)) → List (List ℕ)
+members_of None = []
+members_of (Some names) = names
+
+-- the first of these players that there is not
+abbrev pub unknown_player : Ownership → List (List ℕ) → Option (List ℕ)
+unknown_player owners names = find (λ name. not (is_player owners name)) names

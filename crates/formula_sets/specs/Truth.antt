@@ -1,19 +1,19 @@
--- Where a state formula holds, and the labels that it names.
-use Rattle.std.specs.Prelude.{ℕ, Bool, true, false, not, ◌&&◌, ◌||◌, List, [], ◌∷◌, ◌++◌}
-use Rattle.label_reader.specs.Labels.{Labelling, holds_at}
+-- Where state formulas hold, and the labels that they name.
+use Rattle.std.specs.Prelude.{ℕ, Bool, true, false, not, ◌&&◌, ◌||◌, List, [], ◌∷◌, ◌++◌, Option, find}
+use Rattle.label_reader.specs.Labels.{Labelling, holds_at, is_known}
 use Rattle.rpatl_syntax.specs.Formula.{State, True, False, Label, Not, And, Or, Implies}
 
 -- the state formula holds at the state
 abbrev pub holds : Labelling → State → ℕ → Bool
-holds labels True s = true
-holds labels False s = false
-holds labels (Label name) s = holds_at labels name s
-holds labels (Not x) s = not (holds labels x s)
-holds labels (And x y) s = holds labels x s && holds labels y s
-holds labels (Or x y) s = holds labels x s || holds labels y s
-holds labels (Implies x y) s = not (holds labels x s) || holds labels y s
+holds l True s = true
+holds l False s = false
+holds l (Label name) s = holds_at l name s
+holds l (Not x) s = not (holds l x s)
+holds l (And x y) s = holds l x s && holds l y s
+holds l (Or x y) s = holds l x s || holds l y s
+holds l (Implies x y) s = not (holds l x s) || holds l y s
 
--- the labels that the formula names, in their order
+-- the labels that it names, in the order of the text
 abbrev pub labels_in : State → List (List ℕ)
 labels_in True = []
 labels_in False = []
@@ -22,3 +22,7 @@ labels_in (Not x) = labels_in x
 labels_in (And x y) = labels_in x ++ labels_in y
 labels_in (Or x y) = labels_in x ++ labels_in y
 labels_in (Implies x y) = labels_in x ++ labels_in y
+
+-- the first of these labels that there is not
+abbrev pub unknown_label : Labelling → List (List ℕ) → Option (List ℕ)
+unknown_label l names = find (λ name. not (is_known l name)) names

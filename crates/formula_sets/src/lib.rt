@@ -1,13 +1,23 @@
-//! Poses the question of a formula to a game, with its labels and the owners of its states.
+//! The question that a formula poses of a game whose states have labels and owners.
 //!
-//! `pose` is the one call. It gives exactly the question that the texts denote, or the first of three faults.
+//! `pose` gives the question, which says who chooses at each state and which states are goals and dead, and the initial
+//! states; or the first reason why the formula poses none: a label or a player that there is not, or no initial state.
+//!
+//! ```text
+//! let formula = read_formula(alloc, "<<p1>> P>=0.5 [ F \"goal\" ]")?;
+//! let posed = pose(alloc, &game, &labels, &owners, &formula)?;
+//! ```
+//!
+//! A goal is a state where the right side of `U` holds, and a dead state one where neither side holds. A coalition
+//! maximises under `>=`, `>` and `Pmax`, and minimises under `<=`, `<` and `Pmin`, against all others. Where no coalition
+//! is named, all states are one side's: the one that keeps a bound only if every choice keeps it, or the one that is asked.
 #![tactic(auto)]
 
+mod bounds;
 mod fault;
-mod marks;
-mod posing;
+mod labels;
+mod question;
 mod sides;
-mod truth;
 
 pub use fault::PoseFault;
-pub use posing::{Posed, pose};
+pub use question::{Posed, pose};

@@ -1,71 +1,62 @@
 //! Who chooses at each state.
 
-ghost use Rattle.std.specs.Prelude.{◌≡◌, ◌≤◌, length, map, IfOk, option_map};
-ghost use Rattle.std.specs.List.{range_with_len};
-ghost use Rattle.label_reader.specs.Owners.{owner_of};
-ghost use Rattle.rpatl_syntax.specs.Formula.{names_of};
-ghost use Rattle.formula_sets.specs.Sides.{coalition_side, lone_side, is_member, side_of};
+ghost use Rattle.std.specs.Prelude.{◌≡◌, ◌<◌, option_copied, option_map, length};
+ghost use Rattle.rpatl_syntax.specs.Formula.{names_of, tree_of};
+ghost use Rattle.formula_sets.specs.Sides.{is_member, members_of, side_of, unknown_player};
 
+use crate::bounds::{coalition_side_of, common_side_of};
 use game_model::Side;
+use game_outside::Name;
 use label_reader::Owners;
-use rpatl_syntax::{Bound, Names};
-use std::alloc::{AllocError, Global};
+use rpatl_syntax::{Bound, Formula, Names};
 
-/// The side of each state, by the bound, the coalition and the state's owner.
-pub fn sides_of(
-    alloc: Global,
-    bound: &Bound,
-    coalition: &Option<Names>,
-    owners: &Owners,
-    states: u32,
-) -> Result<Vec<Side>, AllocError>
-    requires { states ≤ length owners.now.owners }
-    ensures { IfOk result (λ sides. sides.items ≡ map (λ s. side_of bound.now (option_map names_of coalition.now) (owner_of owners.now s)) (range_with_len 0 states)) }
+fn is_member_of(names: &[Name], name: &[u8]) -> bool
+    ensures { result ≡ is_member names.now name.now }
 {
-    let mut sides = Vec::with_capacity(alloc, states as usize)?;
-    for state in 0..states {
-        sides.push(side(bound, coalition, owners.owner(state)))?;
+    for other in names {
+        if name == other.as_bytes() {
+            return true;
+        }
     }
-    Ok(sides)
+    false
 }
 
-/// The side of the states of a coalition.
-fn side_of_coalition(bound: &Bound) -> Side
-    ensures { result ≡ coalition_side bound.now }
-{
-    match bound {
-        Bound::AtLeast(_) | Bound::Above(_) | Bound::AskMax => Side::Max,
-        Bound::AtMost(_) | Bound::Below(_) | Bound::AskMin => Side::Min,
-    }
-}
-
-/// The side of all states where no coalition is named.
-fn side_of_all(bound: &Bound) -> Side
-    ensures { result ≡ lone_side bound.now }
-{
-    match bound {
-        Bound::AtLeast(_) | Bound::Above(_) | Bound::AskMin => Side::Min,
-        Bound::AtMost(_) | Bound::Below(_) | Bound::AskMax => Side::Max,
-    }
-}
-
-fn is_named(coalition: &Names, player: &[u8]) -> bool
-    ensures { result ≡ is_member (names_of coalition.now) player.now }
-{
-    coalition.list.iter().any(|name| name.as_bytes() == player)
-}
-
-fn side(bound: &Bound, coalition: &Option<Names>, owner: &[u8]) -> Side
-    ensures { result ≡ side_of bound.now (option_map names_of coalition.now) owner.now }
+/// The side that chooses at a state.
+pub fn side_at_state(owners: &Owners, coalition: &Option<Names>, bound: &Bound, state: u32) -> Side
+    requires { state < length owners.now.owners }
+    ensures { result ≡ side_of (option_map names_of coalition.now) bound.now owners.now state }
 {
     match coalition {
-        None => side_of_all(bound),
+        None => common_side_of(bound),
         Some(names) => {
-            if is_named(names, owner) {
-                side_of_coalition(bound)
+            let side = coalition_side_of(bound);
+            if is_member_of(&names.list, owners.owner(state)) {
+                side
             } else {
-                side_of_coalition(bound).other()
+                side.other()
             }
         }
+    }
+}
+
+// The first of these players that there is not.
+fn first_stranger<'a>(owners: &Owners, names: &'a [Name]) -> Option<&'a Name>
+    ensures { option_copied result ≡ unknown_player owners.now names.now }
+{
+    for name in names {
+        if !owners.knows(name.as_bytes()) {
+            return Some(name);
+        }
+    }
+    None
+}
+
+/// The first player of a formula's coalition that there is not.
+pub fn unknown_player_of<'a>(owners: &Owners, formula: &'a Formula) -> Option<&'a Name>
+    ensures { option_copied result ≡ unknown_player owners.now (members_of (tree_of formula.now).coalition) }
+{
+    match &formula.coalition {
+        None => None,
+        Some(names) => first_stranger(owners, &names.list),
     }
 }

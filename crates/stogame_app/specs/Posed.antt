@@ -10,7 +10,7 @@ use Rattle.rpatl_syntax.specs.declared.fault.FormulaCause.TheVariants.{NotYet}
 use Rattle.rpatl_syntax.specs.Fault.{fault_at}
 use Rattle.rpatl_syntax.specs.Formula.{Tree, tree_of}
 use Rattle.rpatl_syntax.specs.Grammar.{formula_said}
-use Rattle.formula_sets.specs.Posing.{Posing, posing_said}
+use Rattle.formula_sets.specs.Posing.{Posing, pose_said}
 use Rattle.stogame_app.specs.declared.refusal.Refusal.TheVariants.{OfFormula, OfQuestion}
 use Rattle.stogame_app.specs.declared.model.Loaded.{Loaded}
 use Rattle.stogame_app.specs.Words.{Check}
@@ -64,7 +64,7 @@ reading_said held check = and_then (game_said held check.tra) (λ game. behind_g
 
 -- the question that a reading poses
 abbrev pub posed : Reading → Said Posing
-posed reading = read_said OfQuestion (posing_said reading.game reading.labels reading.owners reading.formula)
+posed reading = read_said OfQuestion (pose_said reading.game reading.labels reading.owners reading.formula)
 
 -- the question that the texts of a command pose, or their first refusal
 abbrev pub question_said : Holding → Check → Said Posing

@@ -23,7 +23,7 @@ IsLong refusal = (text : Text) × (refusal ≡ TooLong text)
 pub record IsReportOf (IsPosed : Posing → Type 0) (text : List ℕ) : Type 0 where
   pub posing : Posing
   pub posed : IsPosed posing
-  pub report : IsReport posing.query posing.initial asked_rounds text
+  pub report : IsReport posing.question posing.initial asked_rounds text
 
 -- the text is the line of a refusal that is said; it says that a text is too long where this many bytes were taken of the last one
 pub record IsRefusalOf (IsSaid : Refusal → Type 0) (taken : ℕ) (text : List ℕ) : Type 0 where

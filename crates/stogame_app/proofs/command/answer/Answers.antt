@@ -1,5 +1,5 @@
 use Rattle.std.proofs.Common.{inl, inr, ap}
-use Rattle.formula_sets.specs.Posing.{posing_of}
+use Rattle.formula_sets.specs.Seen.{posing_of}
 use Rattle.stogame_app.specs.declared.refusal.Refusal.TheVariants.{OfQuestion}
 use Rattle.stogame_app.specs.Said.{read_said}
 use Rattle.stogame_app.specs.Refusals.{refusal_text}

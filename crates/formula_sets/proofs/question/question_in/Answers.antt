@@ -1,0 +1,29 @@
+use Rattle.std.proofs.Common.{◌≡◌, ◌∙◌, Bool, List, length, ap, subst, sym, arith}
+use Rattle.std.specs.Prelude.{true, false, slice_index_or}
+use Rattle.game_model.specs.declared.game.Side.{Side}
+use Rattle.rpatl_syntax.specs.Formula.{state_of, tree_of}
+use Rattle.formula_sets.specs.Truth.{holds}
+use Rattle.formula_sets.specs.Sides.{side_of}
+use Rattle.formula_sets.specs.Posing.{is_lost}
+use Rattle.formula_sets.proofs.Asking.{length-at_states, goals-apart}
+use Rattle.formula_sets.proofs.question.question_in.Goals as goal
+
+pub build-requires-clause-sides : goal.build-requires-clause-sides
+build-requires-clause-sides c =
+    ap (λ (xs : List Side). length xs) c.in_ok-sides.ensures
+    ∙ length-at_states (side_of (tree_of c.args.formula.now).coalition c.args.formula.now.bound c.args.owners.now) c.states-states.result ∙ c.states-states.ensures
+
+pub build-requires-clause-goal : goal.build-requires-clause-goal
+build-requires-clause-goal c =
+    ap (λ (xs : List Bool). length xs) c.in_ok-goals.ensures
+    ∙ length-at_states (holds c.args.labels.now (state_of c.args.formula.now.right)) c.states-states.result ∙ c.states-states.ensures
+
+pub build-requires-clause-dead : goal.build-requires-clause-dead
+build-requires-clause-dead c =
+    ap (λ (xs : List Bool). length xs) c.in_ok-deads.ensures
+    ∙ length-at_states (is_lost c.args.labels.now (tree_of c.args.formula.now)) c.states-states.result ∙ c.states-states.ensures
+
+pub build-requires-clause-apart : goal.build-requires-clause-apart
+build-requires-clause-apart c = λ s goal.
+    ap (λ (xs : List Bool). slice_index_or xs s false) c.in_ok-deads.ensures
+    ∙ goals-apart c.args.labels.now (tree_of c.args.formula.now) c.states-states.result s (sym (ap (λ (xs : List Bool). slice_index_or xs s false) c.in_ok-goals.ensures) ∙ goal)

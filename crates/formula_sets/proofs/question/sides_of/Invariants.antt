@@ -1,0 +1,9 @@
+use Rattle.std.proofs.Common.{◌≡◌}
+use Rattle.rpatl_syntax.specs.Formula.{state_of, tree_of}
+use Rattle.formula_sets.specs.Truth.{holds}
+use Rattle.formula_sets.specs.Sides.{side_of}
+use Rattle.formula_sets.specs.Posing.{at_states, is_lost}
+use Rattle.formula_sets.proofs.question.sides_of.Given as goal
+
+abbrev pub invariant-loop-state : goal.invariant-loop-state
+invariant-loop-state l = l.sides.items ≡ at_states (side_of (tree_of l.formula).coalition l.formula.bound l.owners) l.state

@@ -1,0 +1,27 @@
+//! The sides that a bound gives.
+
+ghost use Rattle.std.specs.Prelude.{◌≡◌};
+ghost use Rattle.formula_sets.specs.Sides.{coalition_side, common_side};
+
+use game_model::Side;
+use rpatl_syntax::Bound;
+
+/// The side of a coalition.
+pub fn coalition_side_of(bound: &Bound) -> Side
+    ensures { result ≡ coalition_side bound.now }
+{
+    match bound {
+        Bound::AtLeast(_) | Bound::Above(_) | Bound::AskMax => Side::Max,
+        Bound::AtMost(_) | Bound::Below(_) | Bound::AskMin => Side::Min,
+    }
+}
+
+/// The side of all states where no coalition is named.
+pub fn common_side_of(bound: &Bound) -> Side
+    ensures { result ≡ common_side bound.now }
+{
+    match bound {
+        Bound::AtMost(_) | Bound::Below(_) | Bound::AskMax => Side::Max,
+        Bound::AtLeast(_) | Bound::Above(_) | Bound::AskMin => Side::Min,
+    }
+}

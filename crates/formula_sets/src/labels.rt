@@ -1,0 +1,61 @@
+//! Where state formulas hold, and the labels that they name.
+
+ghost use Rattle.std.specs.Prelude.{◌≡◌, ◌<◌, option_copied};
+ghost use Rattle.rpatl_syntax.specs.Formula.{state_of, tree_of};
+ghost use Rattle.formula_sets.specs.Truth.{holds, labels_in, unknown_label};
+ghost use Rattle.formula_sets.specs.Posing.{formula_labels};
+
+use game_outside::Name;
+use label_reader::Labels;
+use rpatl_syntax::{Formula, StateFormula};
+
+/// Whether a state formula holds at a state.
+pub fn holds_at_state(labels: &Labels, formula: &StateFormula, state: u32) -> bool
+    requires { state < labels.now.states }
+    ensures { result ≡ holds labels.now (state_of formula.now) state }
+{
+    match formula {
+        StateFormula::All => true,
+        StateFormula::Nothing => false,
+        StateFormula::Named(name) => labels.holds(name.as_bytes(), state),
+        StateFormula::Negated(x) => !holds_at_state(labels, x, state),
+        StateFormula::Both(x, y) => {
+            holds_at_state(labels, x, state) && holds_at_state(labels, y, state)
+        }
+        StateFormula::Either(x, y) => {
+            holds_at_state(labels, x, state) || holds_at_state(labels, y, state)
+        }
+        StateFormula::Implied(x, y) => {
+            !holds_at_state(labels, x, state) || holds_at_state(labels, y, state)
+        }
+    }
+}
+
+// The first label of a state formula that there is not.
+#[tactic(auto, using(crate::proofs::Finding::first_unknown_of))]
+fn first_unknown<'a>(labels: &Labels, formula: &'a StateFormula) -> Option<&'a Name>
+    ensures { option_copied result ≡ unknown_label labels.now (labels_in (state_of formula.now)) }
+{
+    match formula {
+        StateFormula::All | StateFormula::Nothing => None,
+        StateFormula::Named(name) => {
+            if labels.knows(name.as_bytes()) {
+                None
+            } else {
+                Some(name)
+            }
+        }
+        StateFormula::Negated(x) => first_unknown(labels, x),
+        StateFormula::Both(x, y) => first_unknown(labels, x).or(first_unknown(labels, y)),
+        StateFormula::Either(x, y) => first_unknown(labels, x).or(first_unknown(labels, y)),
+        StateFormula::Implied(x, y) => first_unknown(labels, x).or(first_unknown(labels, y)),
+    }
+}
+
+/// The first label of a formula that there is not.
+#[tactic(auto, using(crate::proofs::Finding::first_unknown_of))]
+pub fn unknown_label_of<'a>(labels: &Labels, formula: &'a Formula) -> Option<&'a Name>
+    ensures { option_copied result ≡ unknown_label labels.now (formula_labels (tree_of formula.now)) }
+{
+    first_unknown(labels, &formula.left).or(first_unknown(labels, &formula.right))
+}

@@ -1,0 +1,195 @@
+//! The question that a formula poses.
+
+ghost use Rattle.std.specs.Prelude.{◌≡◌, ◌<◌, ◌&&◌, not, Ok, All, IfOk, length};
+ghost use Rattle.game_model.specs.Query.{states};
+ghost use Rattle.rpatl_syntax.specs.Formula.{state_of, tree_of};
+ghost use Rattle.formula_sets.specs.Truth.{holds};
+ghost use Rattle.formula_sets.specs.Sides.{side_of};
+ghost use Rattle.formula_sets.specs.Posing.{Posing, Poses, at_states, is_lost, question_of, pose_said, Gives};
+ghost use Rattle.formula_sets.specs.Seen.{posing_of};
+
+use crate::fault::PoseFault;
+use crate::labels::{holds_at_state, unknown_label_of};
+use crate::sides::{side_at_state, unknown_player_of};
+use game_model::{Game, Question, Side};
+use label_reader::{Labels, Owners};
+use rpatl_syntax::{Formula, StateFormula};
+use std::alloc::{AllocError, Global};
+
+/// A question, and the initial states of its game, rising.
+#[derive(Drop)]
+pub struct Posed<'g> {
+    pub question: Question<'g>,
+    pub initial: Vec<u32>,
+}
+
+// The sides of so many states.
+fn sides_of(
+    alloc: Global,
+    owners: &Owners,
+    formula: &Formula,
+    states: u32,
+) -> Result<Vec<Side>, AllocError>
+    requires { length owners.now.owners ≡ states }
+    ensures { IfOk result (λ v. v.items ≡ at_states (side_of (tree_of formula.now).coalition formula.now.bound owners.now) states) }
+{
+    let mut sides = Vec::with_capacity(alloc, states as usize)?;
+    for state in 0..states {
+        sides.push(side_at_state(owners, &formula.coalition, &formula.bound, state))?;
+    }
+    Ok(sides)
+}
+
+// Where the right side holds.
+fn goals_of(
+    alloc: Global,
+    labels: &Labels,
+    right: &StateFormula,
+    states: u32,
+) -> Result<Vec<bool>, AllocError>
+    requires { labels.now.states ≡ states }
+    ensures { IfOk result (λ v. v.items ≡ at_states (holds labels.now (state_of right.now)) states) }
+{
+    let mut goals = Vec::with_capacity(alloc, states as usize)?;
+    for state in 0..states {
+        goals.push(holds_at_state(labels, right, state))?;
+    }
+    Ok(goals)
+}
+
+// Neither the right side, of which this is told, nor the left side holds at a state.
+fn neither(right: bool, labels: &Labels, left: &StateFormula, state: u32) -> bool
+    requires { state < labels.now.states }
+    ensures { result ≡ (not right && not (holds labels.now (state_of left.now) state)) }
+{
+    !right && !holds_at_state(labels, left, state)
+}
+
+// Where neither side holds.
+fn deads_of(
+    alloc: Global,
+    labels: &Labels,
+    formula: &Formula,
+    goals: &[bool],
+    states: u32,
+) -> Result<Vec<bool>, AllocError>
+    requires states { labels.now.states ≡ states }
+    requires goals { goals.now ≡ at_states (holds labels.now (state_of formula.now.right)) states }
+    ensures { IfOk result (λ v. v.items ≡ at_states (is_lost labels.now (tree_of formula.now)) states) }
+{
+    let mut deads = Vec::with_capacity(alloc, states as usize)?;
+    for state in 0..states {
+        let goal = goals[state as usize];
+        deads.push(neither(goal, labels, &formula.left, state))?;
+    }
+    Ok(deads)
+}
+
+fn question_in<'g>(
+    alloc: Global,
+    game: &'g Game,
+    labels: &Labels,
+    owners: &Owners,
+    formula: &Formula,
+) -> Result<Question<'g>, AllocError>
+    requires labels { labels.now.states ≡ length game.now }
+    requires owners { length owners.now.owners ≡ length game.now }
+    ensures { IfOk result (λ question. question ≡ question_of game.now labels.now owners.now (tree_of formula.now)) }
+{
+    let states = game.states();
+    let sides = sides_of(alloc, owners, formula, states)?;
+    let goals = goals_of(alloc, labels, &formula.right, states)?;
+    let deads = deads_of(alloc, labels, formula, &goals, states)?;
+    Ok(Question::build(game, sides, goals, deads))
+}
+
+fn first_answer<'g>(
+    alloc: Global,
+    game: &'g Game,
+    labels: &Labels,
+    owners: &Owners,
+    formula: &Formula,
+) -> Result<Posed<'g>, PoseFault>
+    requires labels { labels.now.states ≡ length game.now }
+    requires owners { length owners.now.owners ≡ length game.now }
+    ensures { Gives posing_of result (pose_said game.now labels.now owners.now (tree_of formula.now)) }
+{
+    if let Some(name) = unknown_label_of(labels, formula) {
+        return Err(PoseFault::label(alloc, name));
+    }
+    if let Some(name) = unknown_player_of(owners, formula) {
+        return Err(PoseFault::player(alloc, name));
+    }
+    let Ok(initial) = labels.states_of(alloc, b"init") else {
+        return Err(PoseFault::OutOfMemory);
+    };
+    if initial.is_empty() {
+        return Err(PoseFault::NoInit);
+    }
+    let Ok(question) = question_in(alloc, game, labels, owners, formula) else {
+        return Err(PoseFault::OutOfMemory);
+    };
+    Ok(Posed { question, initial })
+}
+
+/// The question that a formula poses of a game whose states have these labels and owners.
+pub fn pose<'g>(
+    alloc: Global,
+    game: &'g Game,
+    labels: &Labels,
+    owners: &Owners,
+    formula: &Formula,
+) -> Result<Posed<'g>, PoseFault>
+    requires labels { labels.now.states ≡ length game.now }
+    requires owners { length owners.now.owners ≡ length game.now }
+    // What is posed is what the formula asks, or its first fault.
+    ensures found { IfOk result (λ posed. Poses game.now labels.now owners.now (tree_of formula.now) (posing_of posed)) }
+    ensures only { (p : Posing) → Poses game.now labels.now owners.now (tree_of formula.now) p → Gives posing_of result (Ok p) }
+    ensures exact { Gives posing_of result (pose_said game.now labels.now owners.now (tree_of formula.now)) }
+    ensures inside { IfOk result (λ posed. All (λ s. s < states posed.question) posed.initial.items) }
+{
+    labels.known();
+    first_answer(alloc, game, labels, owners, formula)
+}
+
+#[cfg(test)]
+mod tests {
+    use super::*;
+    use game_model::{Choice, Edge};
+    use label_reader::read_labels;
+    use rpatl_syntax::read_formula;
+    use std::test::Fail;
+
+    // One state that stays where it is.
+    fn one_state(alloc: Global) -> Result<Game, AllocError>
+        ensures { IfOk result (λ game. length game ≡ 1) }
+    {
+        let mut edges = Vec::new(alloc);
+        edges.push(Edge { to: 0, weight: 1 })?;
+        let mut choices = Vec::new(alloc);
+        choices.push(Choice::of_edges(edges))?;
+        let mut states = Vec::new(alloc);
+        states.push(choices)?;
+        Ok(Game::from_choices(states))
+    }
+
+    #[test]
+    fn a_formula_poses_a_question(rt: HostRuntime) -> Result<(), Fail> {
+        let alloc = rt.alloc();
+        let game = one_state(alloc)?;
+        let labels = read_labels(alloc, b"0=\"init\" 1=\"goal\"\n0: 0\n", 1)
+            .ok()
+            .ok_or("no labels")?;
+        let owners = Owners::single(alloc, 1).ok().ok_or("no owners")?;
+        let formula = read_formula(alloc, "<<p0>> P<=0.5 [ F \"goal\" ]")
+            .ok()
+            .ok_or("no formula")?;
+        let posed = pose(alloc, &game, &labels, &owners, &formula)
+            .ok()
+            .ok_or("no question")?;
+        assert_eq!(rt; posed.initial.as_slice(), [0].as_slice());
+        assert!(rt; posed.question.side(0) == Side::Min);
+        assert!(rt; !posed.question.is_goal(0) && !posed.question.is_dead(0));
+        Ok(())
+    }
+}
