@@ -16,3 +16,4 @@ pub mod RowLaws
 pub mod ActionLaws
 pub mod StateLaws
 pub mod TextLaws
+pub mod Permutations

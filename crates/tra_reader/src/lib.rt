@@ -9,6 +9,7 @@ mod choices;
 mod fault;
 mod groups;
 mod header;
+pub mod laws;
 mod limits;
 mod line;
 mod order;

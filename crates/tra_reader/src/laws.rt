@@ -1,0 +1,15 @@
+//! Laws of transition texts. Each function does nothing; its contract is the law.
+
+ghost use Rattle.std.specs.Prelude.{◌≡◌, ◌∷◌, ℕ, List};
+ghost use Rattle.std.specs.List.Sorted.{IsPermutation};
+ghost use Rattle.text_lines.specs.Text.{lines_of, significant};
+ghost use Rattle.game_model.specs.Game.{Distribution};
+ghost use Rattle.tra_reader.specs.Text.{Denotes};
+
+/// The order of the transition lines plays no part in which game a text denotes.
+pub fn order_of_lines()
+    ensures { (text other first : List ℕ) (lines others : List (List ℕ)) (game : List (List Distribution)) →
+        significant (lines_of text) ≡ first ∷ lines → significant (lines_of other) ≡ first ∷ others → IsPermutation lines others → Denotes text game → Denotes other game }
+{
+    distributions::laws::order_of_parts();
+}
