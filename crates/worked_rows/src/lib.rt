@@ -1,0 +1,20 @@
+//! Worked examples of `stogame`, from the words and the files to the written text: each is a row of a test.
+//!
+//! A row names a model, a formula, the text that is written and the status. Expected values were worked out by hand or
+//! by a program apart from this one.
+#![tactic(auto)]
+
+#[cfg(test)]
+mod desk;
+#[cfg(test)]
+mod faults;
+#[cfg(test)]
+mod formulas;
+#[cfg(test)]
+mod labels;
+#[cfg(test)]
+mod models;
+#[cfg(test)]
+mod transitions;
+#[cfg(test)]
+mod values;

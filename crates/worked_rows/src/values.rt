@@ -1,0 +1,137 @@
+//! Values of models.
+
+use crate::desk::{Row, plain_row, writes};
+use crate::models::{
+    AGREEMENT, AGREEMENT_LABELS, AGREEMENT_OWNERS, COIN_LOOP, COIN_LOOP_REPORT, FORK, GOAL_AT_1,
+    GOAL_AT_2, SECOND_OWNS_1, TWO_PLAYERS,
+};
+use std::test::Fail;
+use stogame_app::Status;
+
+#[test]
+fn the_coin_loop_has_one_half(rt: HostRuntime) -> Result<(), Fail> {
+    let alloc = rt.alloc();
+    let reach = "Pmax=? [ F \"goal\" ]";
+    writes(
+        &rt,
+        alloc,
+        plain_row(COIN_LOOP, GOAL_AT_1, reach),
+        COIN_LOOP_REPORT,
+        Status::Fine,
+    )?;
+    let at_goal = "0=\"init\" 1=\"goal\"\n1: 0 1\n";
+    let report = "state 1 lower 1.000000000000 upper 1.000000000000 rounds 40 Bracket\n";
+    writes(
+        &rt,
+        alloc,
+        plain_row(COIN_LOOP, at_goal, reach),
+        report,
+        Status::Fine,
+    )?;
+    let two = "0=\"init\" 1=\"goal\"\n2: 0\n0: 0\n1: 1\n";
+    let lines =
+        "state 0 lower 0.499999999999 upper 1.000000000000 rounds 40 Bracket\nstate 2 lower 0.000000000000 upper 0.000000000000 rounds 40 Bracket\n";
+    writes(
+        &rt,
+        alloc,
+        plain_row(COIN_LOOP, two, reach),
+        lines,
+        Status::Fine,
+    )
+}
+
+#[test]
+fn states_of_value_0_have_the_upper_bound_0(rt: HostRuntime) -> Result<(), Fail> {
+    let alloc = rt.alloc();
+    let zero = "state 0 lower 0.000000000000 upper 0.000000000000 rounds 1 Bracket\n";
+    let alone = plain_row(
+        "1 0 0\n",
+        "0=\"init\" 1=\"goal\"\n0: 0\n",
+        "Pmax=? [ F \"goal\" ]",
+    );
+    writes(&rt, alloc, alone, zero, Status::Fine)?;
+    let least = plain_row(FORK, GOAL_AT_1, "Pmin=? [ F \"goal\" ]");
+    writes(&rt, alloc, least, zero, Status::Fine)
+}
+
+#[test]
+fn decimals_and_fractions_are_exact(rt: HostRuntime) -> Result<(), Fail> {
+    let alloc = rt.alloc();
+    let reach = "Pmax=? [ F \"goal\" ]";
+    let thirds =
+        "4 4 6\n0 0 1 0.33333333333333331\n0 0 2 0.33333333333333331\n0 0 3 0.33333333333333331\n1 0 1 1\n2 0 2 1\n3 0 3 1\n";
+    let third = "state 0 lower 0.333333333333 upper 1.000000000000 rounds 2 Bracket\n";
+    writes(
+        &rt,
+        alloc,
+        plain_row(thirds, GOAL_AT_1, reach),
+        third,
+        Status::Fine,
+    )?;
+    let chain = "3 4\r\n0 1 0.3\r\n0 2 0.7\r\n1 1 1\r\n2 2 1\r\n\r\n\r\n";
+    let three = "state 0 lower 0.300000000000 upper 1.000000000000 rounds 2 Bracket\n";
+    writes(
+        &rt,
+        alloc,
+        plain_row(chain, GOAL_AT_1, reach),
+        three,
+        Status::Fine,
+    )?;
+    let mixed =
+        "3 4 8\n0 0 1 1e-05\n0 0 2 0.99999\n0 1 1 1/3\n0 1 2 1/3\n0 1 2 1/3\n0 1 0 0\n1 0 1 1\n2 0 2 1\n";
+    writes(
+        &rt,
+        alloc,
+        plain_row(mixed, GOAL_AT_1, reach),
+        third,
+        Status::Fine,
+    )?;
+    let small = "state 0 lower 0.000010000000 upper 1.000000000000 rounds 2 Bracket\n";
+    writes(
+        &rt,
+        alloc,
+        plain_row(mixed, GOAL_AT_1, "Pmin=? [ F \"goal\" ]"),
+        small,
+        Status::Fine,
+    )?;
+    let rounded = "3 3 4\n0 0 1 0.5\n0 0 2 0.50001\n1 0 1 1\n2 0 2 1\n";
+    let divided = "state 0 lower 0.499995000049 upper 1.000000000000 rounds 2 Bracket\n";
+    writes(
+        &rt,
+        alloc,
+        plain_row(rounded, GOAL_AT_1, reach),
+        divided,
+        Status::Fine,
+    )?;
+    let fine =
+        "3 3 4\n0 0 1 0.000000000000000000000001\n0 0 2 0.999999999999999999999999\n1 0 1 1\n2 0 2 1\n";
+    let less = "state 0 lower 0.000000000000 upper 1.000000000000 rounds 1 Bracket\n";
+    writes(
+        &rt,
+        alloc,
+        plain_row(fine, GOAL_AT_1, reach),
+        less,
+        Status::Fine,
+    )
+}
+
+#[test]
+fn coalitions_choose_at_the_states_of_their_players(rt: HostRuntime) -> Result<(), Fail> {
+    let alloc = rt.alloc();
+    let first = Row {
+        tra: TWO_PLAYERS,
+        lab: GOAL_AT_2,
+        own: Some(SECOND_OWNS_1),
+        formula: "<<p1>> Pmax=? [ F \"goal\" ]",
+    };
+    let most = "state 0 lower 0.650000000000 upper 1.000000000000 rounds 2 Bracket\n";
+    writes(&rt, alloc, first, most, Status::Fine)?;
+    let agreement = Row {
+        tra: AGREEMENT,
+        lab: AGREEMENT_LABELS,
+        own: Some(AGREEMENT_OWNERS),
+        formula: "<<p1>> Pmax=? [ \"ok\" U \"done\" ]",
+    };
+    let agreed = "state 0 lower 0.839999999999 upper 1.000000000000 rounds 20 Bracket\n";
+    writes(&rt, alloc, agreement, agreed, Status::Fine)
+}
