@@ -1,11 +1,10 @@
 -- What transitions make is known from those of each choice, in whatever order they stand.
-use Rattle.std.proofs.Common.{◌≡◌, ◌∙◌, ◌<◌, ◌≤◌, ◌⊎◌, inl, inr, ℕ, zero, suc, ◌+◌, ◌==◌, Bool, true, false, cond, List, [], ◌∷◌, ◌++◌, length, map, Option, Some, None, option_map, Result, Ok, Err, refl, sym, ap, ap₂, arith}
+use Rattle.std.proofs.Common.{◌≡◌, ◌∙◌, ◌≤◌, inl, inr, ℕ, zero, suc, ◌+◌, ◌==◌, cond, List, [], ◌∷◌, map, Option, option_map, Ok, Err, refl, ap, ap₂, arith}
 use Rattle.std.specs.Option.{option_or}
-use Rattle.game_model.specs.Game.{Distribution}
 use Rattle.distributions.specs.Parts.{choice_said}
 use Rattle.tra_reader.specs.declared.line.Transition.{Transition}
 use Rattle.tra_reader.specs.declared.fault.TraFault.{TraFault}
-use Rattle.tra_reader.specs.Choices.{transitions_of, part_of, parts_of, choice_end, least_missing, first_gap, of_state, self_loop, sum_of_first, then_push, choice_at, choices_said, state_said, states_said, unless_gap, if_as_stated, transitions_game}
+use Rattle.tra_reader.specs.Choices.{transitions_of, part_of, choice_end, least_missing, first_gap, of_state, self_loop, sum_of_first, then_push, choice_at, choices_said, state_said, states_said, unless_gap, if_as_stated, transitions_game}
 use Rattle.tra_reader.proofs.Decisions.{cases_lt}
 use Rattle.tra_reader.proofs.Ends.{end_alike, missing_alike}
 

@@ -1,5 +1,5 @@
 -- The numbers of choices of the first states.
-use Rattle.std.proofs.Common.{◌≡◌, ◌∙◌, ◌<◌, ℕ, zero, suc, ◌+◌, List, [], ◌∷◌, ◌++◌, length, get_or, refl, sym, ap, subst, arith, slice_index, ◌⊎◌, inl, inr}
+use Rattle.std.proofs.Common.{◌≡◌, ◌∙◌, ◌<◌, ℕ, zero, suc, List, [], ◌∷◌, ◌++◌, length, get_or, refl, sym, ap, arith, inl, inr}
 use Rattle.std.proofs.lemmas.List.{get_or_push, length_push}
 use Rattle.std.proofs.lemmas.Bool.{cases_eq}
 use Rattle.tra_reader.specs.declared.line.Transition.{Transition}

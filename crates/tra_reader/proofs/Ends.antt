@@ -1,7 +1,6 @@
 -- How many choices a state has, from the transitions of each.
-use Rattle.std.proofs.Common.{◌≡◌, ◌∙◌, ◌<◌, ◌≤◌, ◌⊎◌, inl, inr, ℕ, zero, suc, ◌+◌, ◌-◌, ◌*◌, ◌==◌, ◌&&◌, max, Bool, true, false, cond, List, [], ◌∷◌, length, get_or, Option, Some, None, option_map, refl, sym, ap, ap₂, subst, arith, add-one}
+use Rattle.std.proofs.Common.{◌≡◌, ◌∙◌, ◌<◌, ◌≤◌, ◌⊎◌, inl, inr, ℕ, zero, suc, ◌+◌, ◌-◌, ◌==◌, ◌&&◌, max, Bool, true, false, cond, List, [], ◌∷◌, length, Option, Some, None, option_map, refl, sym, ap, ap₂, subst, arith}
 use Rattle.std.proofs.lemmas.Bool.Decides.{nat_tests}
-use Rattle.std.proofs.lemmas.List.{nil_from_length}
 use Rattle.std.specs.List.{filter, All}
 use Rattle.std.specs.Option.{option_or}
 use Rattle.text_lines.specs.Text.{is_nil}
@@ -10,7 +9,7 @@ use Rattle.tra_reader.specs.declared.line.Transition.{Transition}
 use Rattle.tra_reader.specs.Lines.{is_of}
 use Rattle.tra_reader.specs.Choices.{transitions_of, choice_end, least_missing, first_gap, of_state}
 use Rattle.tra_reader.specs.Order.{has, place_of, transition_place}
-use Rattle.tra_reader.proofs.Decisions.{bool_cases, is_eq, eq_test, cases_lt}
+use Rattle.tra_reader.proofs.Decisions.{bool_cases, cases_lt}
 use Rattle.tra_reader.proofs.Rows.{same_place}
 
 -- each transition has a small choice

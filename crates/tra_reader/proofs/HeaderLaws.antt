@@ -1,15 +1,14 @@
 -- A header that is read is one that its line spells, and the other way round.
-use Rattle.std.proofs.Common.{◌≡◌, ◌∙◌, ◌<◌, ◌≤◌, ◌⊎◌, inl, inr, ℕ, ◌==◌, ◌||◌, Bool, true, false, cond, List, [], ◌∷◌, map, Option, Some, None, Result, Ok, Err, refl, sym, ap, ap₂, subst, arith, nat_lt}
+use Rattle.std.proofs.Common.{◌≡◌, ◌∙◌, ◌<◌, ◌≤◌, inl, inr, ℕ, ◌==◌, ◌||◌, Bool, true, false, cond, List, [], ◌∷◌, map, Option, Some, None, Ok, Err, refl, sym, ap, ap₂, subst, arith, nat_lt}
 use Rattle.std.proofs.lemmas.Bool.Decides.{nat_tests}
 use Rattle.std.specs.Option.{option_map_or, ForSome}
 use Rattle.text_lines.specs.Text.{fields_of, number_of}
 use Rattle.game_model.specs.Limits.{most_states}
 use Rattle.tra_reader.specs.declared.header.Header.{Header}
-use Rattle.tra_reader.specs.declared.fault.TraCause.{TraCause}
 use Rattle.tra_reader.specs.declared.fault.TraCause.TheVariants.{OverLimit, NoStates}
 use Rattle.tra_reader.specs.Limits.{most_choices, most_lines}
 use Rattle.tra_reader.specs.Lines.{IsHeader, header_numbers, header_checked, mdp_header, dtmc_header, header_said}
-use Rattle.tra_reader.proofs.Decisions.{chosen, ge_from, ge_test, is_eq, ne_test}
+use Rattle.tra_reader.proofs.Decisions.{chosen, ge_from, ge_test, ne_test}
 
 either_false : (a b : Bool) → (a || b) ≡ false → (a ≡ false) × (b ≡ false)
 either_false true b e = cc

@@ -1,5 +1,5 @@
 -- What is left of transitions in order.
-use Rattle.std.proofs.Common.{◌≡◌, ◌∙◌, ◌<◌, ◌≤◌, ◌⊎◌, inl, inr, ℕ, zero, suc, ◌+◌, ◌*◌, ◌==◌, Bool, true, false, cond, List, [], ◌∷◌, length, get_or, drop, take, Some, slice_get, refl, sym, ap, subst, arith}
+use Rattle.std.proofs.Common.{◌≡◌, ◌∙◌, ◌<◌, ◌≤◌, inl, inr, ℕ, zero, suc, ◌+◌, ◌*◌, ◌==◌, Bool, false, cond, List, [], ◌∷◌, length, drop, take, Some, slice_get, refl, sym, ap, subst, arith}
 use Rattle.std.proofs.lemmas.Bool.Decides.{nat_tests}
 use Rattle.std.proofs.lemmas.List.{nil_from_length, length-take-le}
 use Rattle.std.specs.List.{filter, All}
@@ -10,7 +10,7 @@ use Rattle.tra_reader.specs.Order.{has, From, Rises, run_len, place_of, transiti
 use Rattle.tra_reader.specs.Answers.{HasCount}
 use Rattle.tra_reader.proofs.Decisions.{bool_cases, is_eq, eq_test, cases_lt}
 use Rattle.tra_reader.proofs.Runs.{From-weaker, none_has, behind_run, run_is, run_keeps, run_within}
-use Rattle.tra_reader.proofs.Ends.{AreSmall, small_more, of_at, none_of_high, end_is, end_none, above_of, none_missing, one_missing, end_alike, missing_alike}
+use Rattle.tra_reader.proofs.Ends.{AreSmall, of_at, none_of_high, end_is, above_of, none_missing, one_missing}
 
 pub All-drop : {X : Type 0} (P : X → Type 0) (n : ℕ) (xs : List X) → All P xs → All P (drop n xs)
 All-drop P zero xs all = all

@@ -1,5 +1,5 @@
 -- The choices of a state, one after another.
-use Rattle.std.proofs.Common.{◌≡◌, ◌∙◌, ◌<◌, ◌≤◌, ◌⊎◌, inl, inr, ℕ, zero, suc, ◌+◌, ◌*◌, ◌==◌, Bool, true, false, cond, List, [], ◌∷◌, ◌++◌, length, map, get_or, take, drop, Result, Ok, Err, refl, sym, ap, ap₂, subst, arith, add-one, Vec, Global}
+use Rattle.std.proofs.Common.{◌≡◌, ◌∙◌, ◌<◌, ◌≤◌, ◌⊎◌, inl, inr, ℕ, zero, suc, ◌+◌, ◌*◌, Bool, cond, List, [], ◌∷◌, ◌++◌, length, map, get_or, take, drop, Result, Ok, Err, refl, sym, ap, ap₂, subst, arith, add-one, Vec, Global}
 use Rattle.std.specs.List.{filter, All}
 use Rattle.game_model.specs.Game.{Distribution}
 use Rattle.distributions.specs.declared.choice.ChoiceFault.{ChoiceFault}
@@ -8,7 +8,7 @@ use Rattle.tra_reader.specs.Limits.{most_choices}
 use Rattle.tra_reader.specs.declared.line.Transition.{Transition}
 use Rattle.tra_reader.specs.declared.fault.TraFault.{TraFault}
 use Rattle.tra_reader.specs.Choices.{transitions_of, part_of, parts_of, choice_end, self_loop, then_push, choice_at, choices_said, state_said, states_said}
-use Rattle.tra_reader.specs.Order.{has, From, Rises, run_len, place_of, transition_place, InOrder, IsLeft, IsWithin}
+use Rattle.tra_reader.specs.Order.{has, From, run_len, place_of, transition_place, InOrder, IsLeft, IsWithin}
 use Rattle.std.specs.Borrow.{Bor}
 use Rattle.tra_reader.specs.Answers.{LeadsInside, AreFirst, AreOfState, AreOfStates, ChoicesAnswer, StateAnswer}
 use Rattle.tra_reader.proofs.Alike.{state_alike, states_stay}

@@ -1,9 +1,9 @@
 -- Transition lines in another order.
-use Rattle.std.proofs.Common.{◌≡◌, ◌∙◌, ◌<◌, ◌≤◌, ℕ, zero, suc, ◌+◌, Bool, true, false, cond, List, [], ◌∷◌, ◌++◌, length, map, get_or, set, Option, Some, None, Result, Ok, Err, refl, sym, ap, ap₂, subst, arith}
+use Rattle.std.proofs.Common.{◌≡◌, ◌∙◌, ◌<◌, ℕ, zero, suc, Bool, true, false, cond, List, [], ◌∷◌, length, map, get_or, set, Result, Ok, Err, refl, sym, ap, ap₂, subst, arith}
 use Rattle.std.specs.List.{filter, All, AllByRecursion, swap}
 use Rattle.std.specs.List.Sorted.{IsPermutation}
 use Rattle.std.proofs.lemmas.List.{nil_from_length}
-use Rattle.std.proofs.lemmas.List.Sorted.{IsPermutation-refl, IsPermutation-sym, IsPermutation-trans, IsPermutation-cons, IsPermutation-middle, IsPermutation-keeps, IsPermutation-map, All-permutation, length_permutation}
+use Rattle.std.proofs.lemmas.List.Sorted.{IsPermutation-refl, IsPermutation-trans, IsPermutation-cons, IsPermutation-middle, IsPermutation-keeps, IsPermutation-map, All-permutation, length_permutation}
 use Rattle.text_lines.specs.Text.{lines_of, fields_of, significant}
 use Rattle.game_model.specs.Game.{Distribution, choices_of}
 use Rattle.distributions.specs.declared.choice.Part.{Part}
@@ -11,7 +11,7 @@ use Rattle.distributions.specs.Parts.{Denotes as DenotesChoice}
 use Rattle.tra_reader.specs.declared.header.Header.{Header}
 use Rattle.tra_reader.specs.declared.line.Transition.{Transition}
 use Rattle.tra_reader.specs.declared.fault.TraCause.{TraCause}
-use Rattle.tra_reader.specs.Lines.{Row, AreRows, HaveActions, is_of, row_said}
+use Rattle.tra_reader.specs.Lines.{Row, AreRows, is_of, row_said}
 use Rattle.tra_reader.specs.Choices.{transitions_of, part_of, parts_of, IsState}
 use Rattle.tra_reader.specs.Text.{Denotes, transitions}
 use Rattle.tra_reader.proofs.RowLaws.{NumbersFound, NumbersAgain, row_found, row_again}

@@ -1,20 +1,15 @@
 -- Rows behind one another.
-use Rattle.std.proofs.Common.{◌≡◌, ◌∙◌, ◌<◌, ◌≤◌, ℕ, suc, zero, ◌+◌, ◌*◌, ◌==◌, ◌&&◌, not, Bool, true, false, cond, List, [], ◌∷◌, ◌++◌, length, get_or, Option, Some, None, option_map, slice_get, Result, Ok, Err, refl, sym, ap, ap₂, subst, arith, nat_lt, Bor}
+use Rattle.std.proofs.Common.{◌≡◌, ◌∙◌, ◌<◌, ℕ, suc, zero, ◌+◌, ◌*◌, ◌==◌, ◌&&◌, Bool, false, cond, List, [], ◌∷◌, ◌++◌, length, option_map, slice_get, Ok, Err, refl, ap, ap₂, arith, nat_lt}
 use Rattle.std.proofs.lemmas.Bool.Decides.{nat_tests}
-use Rattle.std.proofs.lemmas.List.{length_push}
 use Rattle.std.specs.List.{filter, All}
-use Rattle.std.specs.Option.{option_map_or}
-use Rattle.std.specs.Str.{bytes_eq}
-use Rattle.text_lines.specs.Text.{fields_of, is_nil}
+use Rattle.text_lines.specs.Text.{is_nil}
 use Rattle.tra_reader.specs.Limits.{most_choices}
 use Rattle.tra_reader.specs.declared.header.Header.{Header}
-use Rattle.tra_reader.specs.declared.line.Transition.{Transition}
-use Rattle.tra_reader.specs.declared.fault.TraCause.{TraCause}
 use Rattle.tra_reader.specs.declared.fault.TraCause.TheVariants.{FieldCount, LineCount, ActionClash}
 use Rattle.tra_reader.specs.Lines.{Row, is_of, first_action, clashes, row_said, action_checked, line_said}
-use Rattle.tra_reader.specs.Order.{IsWithin, has, place_of, transition_place}
+use Rattle.tra_reader.specs.Order.{IsWithin, has, place_of}
 use Rattle.tra_reader.specs.Answers.{row_place, action_at}
-use Rattle.tra_reader.proofs.Decisions.{bool_cases, lt_test}
+use Rattle.tra_reader.proofs.Decisions.{lt_test}
 
 All-nil-push : {X : Type 0} (P : X → Type 0) (x : X) → P x → All P (x ∷ [])
 All-nil-push P x here zero d h = here

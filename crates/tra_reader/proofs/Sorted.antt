@@ -1,6 +1,6 @@
 -- Transitions put in order.
-use Rattle.std.proofs.Common.{◌≡◌, ◌∙◌, ◌<◌, ◌≤◌, ◌⊎◌, inl, inr, ℕ, List, [], ◌∷◌, length, Result, Ok, Err, OnOk, is_err, false, arith, sym, refl}
-use Rattle.std.specs.List.{filter, All}
+use Rattle.std.proofs.Common.{◌≡◌, ◌∙◌, inl, inr, ℕ, List, [], ◌∷◌, Result, Ok, Err, OnOk, is_err, false, arith, sym}
+use Rattle.std.specs.List.{filter}
 use Rattle.tra_reader.specs.Limits.{most_choices}
 use Rattle.tra_reader.specs.declared.line.Transition.{Transition}
 use Rattle.tra_reader.specs.Choices.{transitions_of}

@@ -1,9 +1,7 @@
 -- One line further.
-use Rattle.std.proofs.Common.{◌≡◌, ◌∙◌, ℕ, ◌+◌, Bool, true, false, cond, List, [], ◌∷◌, ◌++◌, length, map, Result, Ok, Err, refl, sym, ap}
+use Rattle.std.proofs.Common.{◌≡◌, ◌∙◌, ℕ, ◌+◌, false, cond, List, [], ◌∷◌, ◌++◌, Ok, refl, sym, ap}
 use Rattle.text_lines.specs.Text.{lines_of, fields_of, is_nil, significant, keep_line}
 use Rattle.tra_reader.specs.declared.header.Header.{Header}
-use Rattle.tra_reader.specs.declared.line.Transition.{Transition}
-use Rattle.tra_reader.specs.declared.fault.TraCause.{TraCause}
 use Rattle.tra_reader.specs.Lines.{Row, header_said, line_said, behind, rows_said}
 use Rattle.tra_reader.specs.Text.{transitions, lines_game, behind_header}
 

@@ -1,7 +1,6 @@
 -- What a text says by cases is what it denotes.
-use Rattle.std.proofs.Common.{◌≡◌, ◌∙◌, ◌<◌, ◌≤◌, ℕ, ◌+◌, List, [], ◌∷◌, length, take, Option, Some, Result, Ok, Err, refl, sym, ap, subst, arith}
+use Rattle.std.proofs.Common.{◌≡◌, ◌∙◌, ◌<◌, ℕ, List, [], ◌∷◌, take, Result, Ok, Err, refl, sym, ap, subst, arith}
 use Rattle.std.proofs.Math.Seq.{take-length}
-use Rattle.std.specs.Option.{ForSome}
 use Rattle.text_lines.specs.Text.{lines_of, fields_of, significant}
 use Rattle.game_model.specs.Game.{Distribution, choices_of}
 use Rattle.tra_reader.specs.declared.header.Header.{Header}
@@ -9,7 +8,7 @@ use Rattle.tra_reader.specs.declared.line.Transition.{Transition}
 use Rattle.tra_reader.specs.declared.fault.TraCause.{TraCause}
 use Rattle.tra_reader.specs.declared.fault.TraFault.{TraFault}
 use Rattle.tra_reader.specs.Lines.{IsHeader, Row, AreRows, header_said, rows_said}
-use Rattle.tra_reader.specs.Choices.{IsState, choice_end, first_gap, least_missing, sum_of_first, state_said, states_said}
+use Rattle.tra_reader.specs.Choices.{choice_end, sum_of_first}
 use Rattle.tra_reader.specs.Text.{Denotes, transitions, rows_game, behind_header, lines_game, game_of}
 use Rattle.tra_reader.proofs.HeaderLaws.{header_found, header_again}
 use Rattle.tra_reader.proofs.RowLaws.{NumbersFound, NumbersAgain, Follow, rows_found, rows_again}

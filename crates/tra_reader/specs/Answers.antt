@@ -1,5 +1,5 @@
 -- What the parts of the reader answer.
-use Rattle.std.specs.Prelude.{◌≡◌, ◌≤◌, ◌<◌, ◌⊎◌, ℕ, ◌+◌, Bool, List, [], ◌∷◌, ◌++◌, length, map, slice_get, slice_index, Option, Some, None, Result, Ok, Err, Vec, option_map, nat_eq, nat_lt, true, false}
+use Rattle.std.specs.Prelude.{◌≡◌, ◌≤◌, ◌<◌, ◌⊎◌, ℕ, ◌+◌, List, [], ◌∷◌, ◌++◌, length, slice_get, slice_index, Option, Some, None, Result, Ok, Err, Vec, option_map, nat_lt, true, false}
 use Rattle.std.specs.Borrow.{Bor}
 use Rattle.std.specs.List.{filter, All}
 use Rattle.std.specs.declared.alloc.Global.{Global}

@@ -2,8 +2,7 @@ use Rattle.std.proofs.Common.{rules, ◌≡◌, ◌∙◌, ◌==◌, ℕ, List, 
 use Rattle.std.specs.Option.{option_map_or}
 use Rattle.std.specs.HashMap.{get}
 use Rattle.std.specs.Str.{bytes_eq}
-use Rattle.tra_reader.specs.Lines.{Row}
-use Rattle.tra_reader.specs.Answers.{action_at, row_place}
+use Rattle.tra_reader.specs.Answers.{action_at}
 use Rattle.tra_reader.proofs.Noting.{noted_stays, newly_noted}
 use Rattle.tra_reader.proofs.actions.note.Goals as goal
 

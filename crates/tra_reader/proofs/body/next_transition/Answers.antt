@@ -1,14 +1,12 @@
-use Rattle.std.proofs.Common.{rules, ◌≡◌, ◌∙◌, ◌<◌, ◌+◌, ◌==◌, ℕ, List, [], ◌∷◌, ◌++◌, Option, Some, None, length, not, true, false, cond, sym, ap, nat_eq, option_map, Bor, refl, Bool, inl, inr, arith, subst, Ok}
+use Rattle.std.proofs.Common.{rules, ◌≡◌, ◌∙◌, ℕ, List, Option, not, true, false, sym, ap, refl, inr, arith, Ok}
 use Rattle.std.proofs.lemmas.List.{length_push}
 use Rattle.std.specs.Option.{option_map_or}
-use Rattle.std.specs.List.{All}
-use Rattle.std.specs.HashMap.{get}
 use Rattle.std.specs.Str.{bytes_eq}
 use Rattle.text_lines.specs.Text.{fields_of, is_nil}
 use Rattle.tra_reader.specs.declared.fault.TraCause.TheVariants.{ActionClash}
 use Rattle.tra_reader.specs.Lines.{Row, clashes, row_said}
-use Rattle.tra_reader.specs.Order.{IsWithin, place_of, transition_place}
-use Rattle.tra_reader.specs.Answers.{Behind, Notes, action_at, row_place}
+use Rattle.tra_reader.specs.Order.{IsWithin}
+use Rattle.tra_reader.specs.Answers.{action_at, row_place}
 use Rattle.tra_reader.proofs.Rows.{first_at, said_with, All-push}
 use Rattle.tra_reader.proofs.body.next_transition.Goals as goal
 

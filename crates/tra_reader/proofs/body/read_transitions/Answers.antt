@@ -1,9 +1,8 @@
-use Rattle.std.proofs.Common.{rules, ◌≡◌, ◌∙◌, ◌≤◌, ◌<◌, ◌+◌, ℕ, List, [], ◌∷◌, ◌++◌, length, sym, ap, subst, nat_eq, arith}
+use Rattle.std.proofs.Common.{rules, ◌≡◌, ◌∙◌, ◌+◌, ℕ, List, [], ◌∷◌, ◌++◌, length, sym, ap, subst, nat_eq, arith}
 use Rattle.std.specs.List.{All}
 use Rattle.std.specs.HashMap.{get}
 use Rattle.std.proofs.lemmas.List.{length_push}
 use Rattle.tra_reader.specs.declared.line.Transition.{Transition}
-use Rattle.tra_reader.specs.Lines.{Row}
 use Rattle.tra_reader.specs.Text.{transitions}
 use Rattle.tra_reader.specs.Order.{IsWithin}
 use Rattle.tra_reader.specs.Answers.{Behind}

@@ -1,9 +1,6 @@
-use Rattle.std.proofs.Common.{rules, ◌≡◌, ◌∙◌, ◌≤◌, ◌+◌, ◌⊎◌, ℕ, List, [], ◌∷◌, ◌++◌, length, map, Ok, Err, Vec, Global, arith, sym, ap, subst, refl, inl, inr}
+use Rattle.std.proofs.Common.{rules, ◌≡◌, ◌∙◌, ◌+◌, List, [], ◌∷◌, ◌++◌, length, map, Ok, Vec, Global, arith, sym, subst, inl, inr}
 use Rattle.game_model.specs.Game.{Distribution}
-use Rattle.tra_reader.specs.declared.fault.TraFault.{TraFault}
-use Rattle.tra_reader.specs.declared.fault.TraCause.TheVariants.{OutOfMemory}
-use Rattle.tra_reader.specs.Faults.{fault_of_all}
-use Rattle.tra_reader.specs.Choices.{choice_end, states_said}
+use Rattle.tra_reader.specs.Choices.{states_said}
 use Rattle.tra_reader.specs.Order.{place_of}
 use Rattle.tra_reader.specs.Answers.{AreOfStates}
 use Rattle.tra_reader.proofs.Ends.{end_alike}

@@ -1,6 +1,5 @@
-use Rattle.std.proofs.Common.{rules, ◌≡◌, ◌∙◌, ◌<◌, ◌+◌, ◌⊎◌, ℕ, Err, List, ◌∷◌, ◌++◌, [], length, take, drop, sym, ap, subst, refl, arith, inl, inr}
+use Rattle.std.proofs.Common.{rules, ◌≡◌, ◌∙◌, ◌<◌, ◌+◌, ◌⊎◌, Err, List, ◌∷◌, ◌++◌, [], take, drop, sym, ap, subst, refl, arith, inl, inr}
 use Rattle.game_model.specs.Game.{Distribution}
-use Rattle.tra_reader.specs.declared.line.Transition.{Transition}
 use Rattle.tra_reader.specs.Order.{run_len, transition_place, place_of}
 use Rattle.tra_reader.specs.Choices.{transitions_of, choices_said}
 use Rattle.tra_reader.specs.Faults.{fault_of_all}

@@ -1,7 +1,6 @@
-use Rattle.std.proofs.Common.{rules, ◌≡◌, List, map, subst, take, ap, ◌∙◌, length, arith}
+use Rattle.std.proofs.Common.{◌≡◌, List, map, subst, take, ap, ◌∙◌, length, arith}
 use Rattle.std.proofs.Math.Seq.{take-length}
 use Rattle.tra_reader.specs.declared.line.Transition.{Transition}
-use Rattle.game_model.specs.Game.{Distribution}
 use Rattle.distributions.specs.declared.choice.Part.{Part}
 use Rattle.distributions.specs.Parts.{Denotes}
 use Rattle.tra_reader.specs.Choices.{part_of}

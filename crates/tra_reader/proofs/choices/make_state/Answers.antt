@@ -1,6 +1,4 @@
-use Rattle.std.proofs.Common.{rules, ◌≡◌, ◌≤◌, arith, sym}
-use Rattle.tra_reader.specs.Limits.{most_choices}
-use Rattle.tra_reader.specs.Choices.{choice_end}
+use Rattle.std.proofs.Common.{arith, sym}
 use Rattle.tra_reader.proofs.Ends.{end_small}
 use Rattle.tra_reader.proofs.Makes.{state_answer, state_alone}
 use Rattle.tra_reader.proofs.choices.make_state.Goals as goal

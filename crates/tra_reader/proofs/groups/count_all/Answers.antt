@@ -1,9 +1,6 @@
-use Rattle.std.proofs.Common.{rules, ◌≡◌, ◌∙◌, ◌<◌, ◌≤◌, ◌+◌, ℕ, suc, List, ◌∷◌, ◌++◌, [], length, Some, None, sym, ap, ap₂, subst, refl, arith, inl, inr, slice_index, add-one, Result}
+use Rattle.std.proofs.Common.{rules, ◌≡◌, ◌∙◌, ◌+◌, ℕ, suc, List, ◌∷◌, ◌++◌, [], length, Some, None, sym, ap, ap₂, subst, refl, arith, inr, add-one}
 use Rattle.std.proofs.lemmas.List.{length_push}
-use Rattle.game_model.specs.Game.{Distribution}
-use Rattle.tra_reader.specs.declared.line.Transition.{Transition}
-use Rattle.tra_reader.specs.declared.fault.TraFault.{TraFault}
-use Rattle.tra_reader.specs.Order.{place_of, IsLeft}
+use Rattle.tra_reader.specs.Order.{place_of}
 use Rattle.tra_reader.specs.Choices.{transitions_of, choice_end, least_missing, first_gap, sum_of_first, unless_gap}
 use Rattle.tra_reader.specs.Answers.{AreCounts}
 use Rattle.tra_reader.proofs.Lefts.{starts, left_on, same_of}

@@ -1,4 +1,4 @@
-use Rattle.std.proofs.Common.{rules, ◌≡◌, ◌∙◌, ◌<◌, ◌≤◌, ◌+◌, ℕ, List, ◌∷◌, [], length, drop, Some, None, slice_get, sym, ap, subst, refl, arith}
+use Rattle.std.proofs.Common.{rules, ◌≡◌, ◌∙◌, ◌<◌, ◌+◌, List, ◌∷◌, length, drop, Some, None, slice_get, sym, ap, subst, arith}
 use Rattle.tra_reader.specs.declared.line.Transition.{Transition}
 use Rattle.tra_reader.specs.Order.{run_len, transition_place, place_of, IsLeft}
 use Rattle.tra_reader.specs.Choices.{transitions_of}

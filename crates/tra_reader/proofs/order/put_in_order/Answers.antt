@@ -1,4 +1,4 @@
-use Rattle.std.proofs.Common.{rules, ◌≡◌, true, sym, ◌∙◌}
+use Rattle.std.proofs.Common.{rules, ◌≡◌, true}
 use Rattle.tra_reader.specs.Order.{transition_place, rises_from}
 use Rattle.tra_reader.proofs.Sorting.{rises_test}
 use Rattle.tra_reader.proofs.order.put_in_order.Goals as goal

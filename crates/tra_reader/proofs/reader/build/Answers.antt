@@ -1,12 +1,12 @@
-use Rattle.std.proofs.Common.{rules, ◌≡◌, ◌∙◌, ◌<◌, ◌≤◌, ◌⊎◌, inl, inr, ℕ, List, length, Result, Ok, Err, arith, sym, ap, subst, OnOk, is_err, false}
-use Rattle.std.specs.List.{filter, All}
+use Rattle.std.proofs.Common.{◌≡◌, ◌∙◌, ◌<◌, List, Result, sym, ap, subst, is_err, false}
+use Rattle.std.specs.List.{All}
 use Rattle.game_model.specs.Game.{Distribution}
 use Rattle.tra_reader.specs.Limits.{most_choices}
 use Rattle.tra_reader.specs.declared.line.Transition.{Transition}
 use Rattle.tra_reader.specs.declared.fault.TraFault.{TraFault}
 use Rattle.tra_reader.specs.Faults.{Gives}
-use Rattle.tra_reader.specs.Choices.{transitions_of, transitions_game}
-use Rattle.tra_reader.specs.Order.{Rises, From, IsWithin, InOrder, has, transition_place}
+use Rattle.tra_reader.specs.Choices.{transitions_game}
+use Rattle.tra_reader.specs.Order.{IsWithin, InOrder}
 use Rattle.tra_reader.proofs.Sorted.{on_ok, same_transitions, from_nought}
 use Rattle.tra_reader.proofs.Ends.{AreSmall}
 use Rattle.tra_reader.proofs.Makes.{All-weaker}

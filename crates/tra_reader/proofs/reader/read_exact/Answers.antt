@@ -1,9 +1,8 @@
-use Rattle.std.proofs.Common.{rules, ◌≡◌, ◌∙◌, ℕ, List, [], ◌∷◌, Result, Ok, Err, sym, ap, subst, inl, inr}
-use Rattle.text_lines.specs.Text.{lines_of, fields_of, significant}
+use Rattle.std.proofs.Common.{rules, ◌≡◌, ◌∙◌, List, [], Result, sym, ap, subst, inr}
+use Rattle.text_lines.specs.Text.{lines_of, significant}
 use Rattle.game_model.specs.Game.{Distribution}
 use Rattle.tra_reader.specs.declared.fault.TraFault.{TraFault}
 use Rattle.tra_reader.specs.Faults.{Gives}
-use Rattle.tra_reader.specs.Lines.{header_said}
 use Rattle.tra_reader.specs.Text.{game_of, lines_game, behind_header}
 use Rattle.tra_reader.proofs.Steps.{behind_first}
 use Rattle.tra_reader.proofs.reader.read_exact.Goals as goal

@@ -1,4 +1,4 @@
-use Rattle.std.proofs.Common.{◌≡◌, List, Result, Ok, Err, subst, IfOk}
+use Rattle.std.proofs.Common.{List, Result, Ok, Err, subst, IfOk}
 use Rattle.game_model.specs.Game.{Distribution}
 use Rattle.distributions.proofs.Said.{number-found, number-again}
 use Rattle.distributions.proofs.Chosen.{choice-found, choice-again}
