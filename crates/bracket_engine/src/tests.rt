@@ -24,8 +24,16 @@ fn the_coin_loop_settles_at_round_40(rt: HostRuntime) -> Result<(), Fail> {
         let Ok(found) = bracket(alloc, &question, &zero, asked) else {
             return Err(Fail::new("no memory"));
         };
-        assert_eq!(rt; found.lower.as_slice(), [lower, UNIT, 0].as_slice(), "after {asked}");
-        assert_eq!(rt; found.upper.as_slice(), [UNIT, UNIT, 0].as_slice(), "after {asked}");
+        assert_eq!(rt;
+            found.lower.as_slice(),
+            [lower, UNIT, 0].as_slice(),
+            "after {asked}"
+        );
+        assert_eq!(rt;
+            found.upper.as_slice(),
+            [UNIT, UNIT, 0].as_slice(),
+            "after {asked}"
+        );
         assert_eq!(rt; found.rounds, rounds, "after {asked}");
         assert_eq!(rt; found.stable, stable, "after {asked}");
     }

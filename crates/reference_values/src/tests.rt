@@ -18,7 +18,10 @@ fn the_coin_loop_and_a_power_that_does_not_fit(rt: HostRuntime) -> Result<(), Fa
         (3, [28, 64, 0]),
     ] {
         let found = numerators(alloc, &question, steps);
-        assert!(rt; matches!(found, Ok(ref v) if v.as_slice() == want.as_slice()), "after {steps}");
+        assert!(rt;
+            matches!(found, Ok(ref v) if v.as_slice() == want.as_slice()),
+            "after {steps}"
+        );
     }
     // The common denominator is 4, and 4 to the 64 is 2 to the 128.
     let last = numerators(alloc, &question, 63);
@@ -42,7 +45,10 @@ fn the_game_of_four_states_with_two_players(rt: HostRuntime) -> Result<(), Fail>
         (2, [26_000, 8_000, 40_000, 0]),
     ] {
         let found = numerators(alloc, &question, steps);
-        assert!(rt; matches!(found, Ok(ref v) if v.as_slice() == want.as_slice()), "after {steps}");
+        assert!(rt;
+            matches!(found, Ok(ref v) if v.as_slice() == want.as_slice()),
+            "after {steps}"
+        );
     }
     Ok(())
 }

@@ -44,7 +44,11 @@ pub fn four_states(alloc: Global) -> Result<Game, AllocError>
 {
     let mut states = Vec::new(alloc);
     states.push(two_choices(alloc, to(alloc, 1)?, pair(alloc, (2, 13), (3, 7))?)?)?;
-    states.push(two_choices(alloc, pair(alloc, (2, 1), (3, 1))?, pair(alloc, (2, 1), (3, 4))?)?)?;
+    states.push(two_choices(
+        alloc,
+        pair(alloc, (2, 1), (3, 1))?,
+        pair(alloc, (2, 1), (3, 4))?,
+    )?)?;
     states.push(only_choice(alloc, to(alloc, 2)?)?)?;
     states.push(only_choice(alloc, to(alloc, 3)?)?)?;
     Ok(Game::from_choices(states))
