@@ -2,6 +2,12 @@ pub mod Again
 pub mod Denoted
 pub mod Derived
 pub mod Joining
+pub mod Laying
+pub mod Lexed
 pub mod Naming
+pub mod Needs
+pub mod Numerals
 pub mod Passing
+pub mod Printing
+pub mod Reread
 pub mod Spans

@@ -1,6 +1,8 @@
 // The one spelling of a formula.
-ghost use Rattle.std.specs.Prelude.{◌≡◌, ◌++◌, option_map, OnOk, IfOk, decimal};
+ghost use Rattle.std.specs.Prelude.{◌≡◌, ◌≤◌, ◌++◌, ℕ, List, length, option_map, Ok, OnOk, IfOk, decimal};
 ghost use Rattle.rpatl_syntax.specs.Formula.{state_of, tree_of, names_of};
+ghost use Rattle.rpatl_syntax.specs.Grammar.{formula_said};
+ghost use Rattle.rpatl_syntax.specs.Limits.{longest};
 ghost use Rattle.rpatl_syntax.specs.Spelling.{strength_of, in_place, state_spelling, path_spelling, names_spelling, coalition_spelling, fraction_spelling, bound_spelling, spelling};
 
 use crate::formula::{Bound, Formula, Names, StateFormula};
@@ -9,8 +11,17 @@ use game_outside::{Name, OutOfMemory};
 use itoa::Buffer;
 use std::alloc::Global;
 
-/// The spelling of a formula. What was read from a text and has a spelling of at most 4,096 bytes is read from it again.
+/// The spelling of a formula, which depends on its tree alone.
 pub fn print_formula(alloc: Global, formula: &Formula) -> Result<Vec<u8>, OutOfMemory>
+    ensures spelled { IfOk result (λ text. text.items ≡ spelling (tree_of formula.now)) }
+    // What was read from some text is read again from what is printed, unless that is too long.
+    ensures again { IfOk result (λ text. (source : List ℕ) → formula_said source ≡ Ok (tree_of formula.now) → length text.items ≤ longest
+        → formula_said text.items ≡ Ok (tree_of formula.now)) }
+{
+    spell(alloc, formula)
+}
+
+fn spell(alloc: Global, formula: &Formula) -> Result<Vec<u8>, OutOfMemory>
     ensures { IfOk result (λ text. text.items ≡ spelling (tree_of formula.now)) }
 {
     let mut out = Vec::new(alloc);

@@ -1,0 +1,151 @@
+-- A printed fraction is a number of its value.
+use Rattle.std.proofs.Common.{◌≡◌, ◌≢◌, ◌∙◌, ◌+◌, ◌-◌, ◌*◌, ◌/◌, ◌%◌, ◌^◌, ◌<◌, ◌≤◌, inl, ℕ, zero, suc, List, [], ◌∷◌, ◌++◌, length, Bool, true, false, cond, refl, ap, sym, subst, arith, nat_lt}
+use Rattle.std.specs.Prelude.{◌==◌, ◌||◌, ◌&&◌, codes, decimal}
+use Rattle.std.proofs.lemmas.Fmt.{decimal_by_steps_wide, length-decimal-le_wide}
+use Rattle.std.proofs.lemmas.List.{append-nil}
+use Rattle.std.proofs.lemmas.Bool.Decides.{nat_tests}
+use Rattle.text_lines.specs.Text.{all_digits, value_onto}
+use Rattle.distributions.specs.Limits.{finest, most_digits, most_exponent, most_exponent_digits}
+use Rattle.distributions.specs.Fraction.{Fraction, IsFraction, SameValue}
+use Rattle.distributions.specs.Number.{Decimal, Quotient, no_exponent, AreDigits, Spells, SpellsDecimal, SpellsQuotient, value_of, is_long, Denotes}
+use Rattle.distributions.proofs.Spelled.{value_append}
+use Rattle.rpatl_syntax.specs.Tokens.{is_digit}
+use Rattle.rpatl_syntax.specs.Spelling.{fraction_spelling}
+use Rattle.rpatl_syntax.proofs.Lexed.{both_true, parts_true}
+use Rattle.rpatl_syntax.proofs.Laying.{in_fraction, all_in_fraction}
+
+-- the digits of a number
+pub record Numeral (n : ℕ) (digits : List ℕ) : Type 0 where
+  pub first : ℕ
+  pub others : List ℕ
+  pub whole : digits ≡ first ∷ others
+  pub all : all_digits digits ≡ true
+  pub value : value_onto 0 digits ≡ n
+
+digit_is : (n : ℕ) → n < 10 → is_digit (48 + n) ≡ true
+digit_is n h = grind (arith, nat_tests)
+
+one_digit : (n : ℕ) → n < 10 → Numeral n ((48 + n) ∷ [])
+one_digit n h = record {
+  first = 48 + n;
+  others = [];
+  whole = refl;
+  all = both_true (is_digit (48 + n)) true (digit_is n h) refl;
+  value = let e : 10 * 0 + (48 + n - 48) ≡ n = omega arith in e;
+}
+
+digits_append : (front back : List ℕ) → all_digits front ≡ true → all_digits back ≡ true → all_digits (front ++ back) ≡ true
+digits_append [] back a b = b
+digits_append (d ∷ front) back a b =
+    let parts = parts_true (is_digit d) (all_digits front) a in
+    both_true (is_digit d) (all_digits (front ++ back)) parts.0 (digits_append front back parts.1 b)
+
+last_digit : (n : ℕ) (front : List ℕ) → 10 ≤ n → Numeral (n / 10) front → Numeral n (front ++ ((48 + n % 10) ∷ []))
+last_digit n front h m =
+    let small : n % 10 < 10 = omega arith in
+    let e : 10 * (n / 10) + (48 + n % 10 - 48) ≡ n = omega arith in
+    record {
+      first = m.first;
+      others = m.others ++ ((48 + n % 10) ∷ []);
+      whole = ap (λ ds. ds ++ ((48 + n % 10) ∷ [])) m.whole;
+      all = digits_append front ((48 + n % 10) ∷ []) m.all (both_true (is_digit (48 + n % 10)) true (digit_is (n % 10) small) refl);
+      value = value_append 0 front ((48 + n % 10) ∷ []) ∙ ap (λ v. 10 * v + (48 + n % 10 - 48)) m.value ∙ e;
+    }
+
+numeral : (n : ℕ) → n < 10 ^ 64 → Numeral n (decimal n)
+numeral n h = decimal_by_steps_wide Numeral one_digit last_digit n h
+
+digits_in_fraction : (digits : List ℕ) → all_digits digits ≡ true → all_in_fraction digits ≡ true
+digits_in_fraction [] a = refl
+digits_in_fraction (d ∷ digits) a =
+    let parts = parts_true (is_digit d) (all_digits digits) a in
+    both_true (in_fraction d) (all_in_fraction digits) (ap (λ t. t || d == 47) parts.0) (digits_in_fraction digits parts.1)
+
+fraction_append : (front back : List ℕ) → all_in_fraction front ≡ true → all_in_fraction back ≡ true → all_in_fraction (front ++ back) ≡ true
+fraction_append [] back a b = b
+fraction_append (d ∷ front) back a b =
+    let parts = parts_true (in_fraction d) (all_in_fraction front) a in
+    both_true (in_fraction d) (all_in_fraction (front ++ back)) parts.0 (fraction_append front back parts.1 b)
+
+-- a threshold as it is read: a fraction that is at most 1
+pub record IsShare (p : Fraction) : Type 0 where
+  pub fraction : IsFraction p
+  pub small : p.num ≤ p.den
+
+-- the text of a fraction
+pub record FractionText (p : Fraction) (text : List ℕ) : Type 0 where
+  pub first : ℕ
+  pub others : List ℕ
+  pub whole : text ≡ first ∷ others
+  pub digit : is_digit first ≡ true
+  pub rest : all_in_fraction others ≡ true
+  pub denotes : Denotes text p
+
+some_digits : (n : ℕ) (digits : List ℕ) → Numeral n digits → AreDigits digits
+some_digits n digits m = (λ none. let e : m.first ∷ m.others ≡ [] = sym m.whole ∙ none in cc e, m.all)
+
+first_digit : (n : ℕ) (digits : List ℕ) (m : Numeral n digits) → (is_digit m.first ≡ true) × (all_digits m.others ≡ true)
+first_digit n digits m = parts_true (is_digit m.first) (all_digits m.others) (ap all_digits (sym m.whole) ∙ m.all)
+
+few_digits : (n : ℕ) → n ≤ finest → nat_lt most_digits (length (decimal n)) ≡ false
+few_digits n h =
+    let l : length (decimal n) ≤ 30 = length-decimal-le_wide 30 n (omega arith) (omega (arith, h)) (omega (arith, h)) in
+    grind (arith, nat_tests)
+
+same_parts : (p : Fraction) (n d : ℕ) → n ≡ p.num → d ≡ p.den → p.num * d ≡ n * p.den
+same_parts p n d a b = ap (λ k. p.num * k) b ∙ ap (λ k. k * p.den) (sym a)
+
+quotient_text : (p : Fraction) → IsShare p → FractionText p (decimal p.num ++ (codes "/" ++ decimal p.den))
+quotient_text p is =
+    let fine : p.den ≤ finest = is.fraction.fine in
+    let n = numeral p.num (omega (arith, is.small, fine)) in
+    let d = numeral p.den (omega (arith, fine)) in
+    let head = first_digit p.num (decimal p.num) n in
+    record {
+      first = n.first;
+      others = n.others ++ (codes "/" ++ decimal p.den);
+      whole = ap (λ ds. ds ++ (codes "/" ++ decimal p.den)) n.whole;
+      digit = head.0;
+      rest = fraction_append n.others (codes "/" ++ decimal p.den) (digits_in_fraction n.others head.1) (digits_in_fraction (decimal p.den) d.all);
+      denotes = record {
+        spelling = Quotient (decimal p.num) (decimal p.den);
+        spelled = record { parts = refl; numerator = some_digits p.num (decimal p.num) n; denominator = some_digits p.den (decimal p.den) d };
+        short = ap (λ t. t || nat_lt most_digits (length (decimal p.den))) (few_digits p.num (omega (arith, is.small, fine))) ∙ few_digits p.den fine;
+        divided = let positive : 1 ≤ p.den = is.fraction.positive in omega (arith, d.value, positive);
+        value = same_parts p (value_onto 0 (decimal p.num)) (value_onto 0 (decimal p.den)) n.value d.value;
+        fraction = is.fraction;
+      };
+    }
+
+whole_text : (p : Fraction) → IsShare p → p.den ≡ 1 → FractionText p (decimal p.num)
+whole_text p is one =
+    let fine : p.den ≤ finest = is.fraction.fine in
+    let n = numeral p.num (omega (arith, is.small, fine)) in
+    let head = first_digit p.num (decimal p.num) n in
+    let short : nat_lt most_digits (length (decimal p.num) + 0) ≡ false = ap (λ k. nat_lt most_digits k) (let e : length (decimal p.num) + 0 ≡ length (decimal p.num) = omega arith in e) ∙ few_digits p.num (omega (arith, is.small, fine)) in
+    let value : value_onto 0 (decimal p.num ++ []) * 1 ≡ p.num = let v : value_onto 0 (decimal p.num ++ []) ≡ p.num = ap (value_onto 0) (append-nil (decimal p.num)) ∙ n.value in omega (arith, v) in
+    record {
+      first = n.first;
+      others = n.others;
+      whole = n.whole;
+      digit = head.0;
+      rest = digits_in_fraction n.others head.1;
+      denotes = record {
+        spelling = Decimal (decimal p.num) [] no_exponent;
+        spelled = record { middle = []; end = []; parts = sym (append-nil (decimal p.num)); digits = some_digits p.num (decimal p.num) n; point = inl (refl, refl); power = inl (refl, refl) };
+        short = ap (λ t. t || false) short;
+        divided = omega arith;
+        value = same_parts p (value_onto 0 (decimal p.num ++ []) * 1) 1 value (sym one);
+        fraction = is.fraction;
+      };
+    }
+
+den_one : (d : ℕ) → (d == 1) ≡ true → d ≡ 1
+den_one d e = grind (arith, nat_tests)
+
+pub fraction_text : (p : Fraction) → IsShare p → FractionText p (fraction_spelling p)
+fraction_text p is = by_test (p.den == 1) refl
+  where
+    by_test : (t : Bool) → (p.den == 1) ≡ t → FractionText p (cond t (decimal p.num) (decimal p.num ++ (codes "/" ++ decimal p.den)))
+    by_test true e = whole_text p is (den_one p.den e)
+    by_test false e = quotient_text p is

@@ -1,0 +1,110 @@
+-- The tokens of a printed state formula are derived by the rules.
+use Rattle.std.proofs.Common.{◌≡◌, ◌∙◌, ◌+◌, ◌<◌, ◌≤◌, ℕ, zero, suc, List, [], ◌∷◌, ◌++◌, Bool, true, false, cond, refl, ap, sym, subst, arith, nat_lt}
+use Rattle.std.specs.Prelude.{max, codes, if◌then◌else◌}
+use Rattle.std.proofs.Math.Nat.{le-max_left, le-max_right}
+use Rattle.rpatl_syntax.specs.Formula.{State, True, False, Label, Not, And, Or, Implies}
+use Rattle.rpatl_syntax.specs.Spelling.{strength_of}
+use Rattle.rpatl_syntax.specs.Grammar.{unquoted}
+use Rattle.rpatl_syntax.specs.Rules.{between, IsState, IsEither, IsBoth, IsUnary, plain_state, implies, plain_either, or, plain_both, and, negation, brackets, everywhere, nowhere, label}
+use Rattle.rpatl_syntax.proofs.Needs.{need, need_in, HasNames, Suits, unquoted-quoted}
+
+abbrev pub tokens_in : ℕ → State → List (List ℕ) → List (List ℕ)
+tokens_in least x tokens = if nat_lt (strength_of x) least then codes "(" ∷ (tokens ++ codes ")" ∷ []) else tokens
+
+-- the tokens of the spelling
+abbrev pub state_tokens : State → List (List ℕ)
+state_tokens True = codes "true" ∷ []
+state_tokens False = codes "false" ∷ []
+state_tokens (Label name) = (34 ∷ (name ++ 34 ∷ [])) ∷ []
+state_tokens (Not x) = codes "!" ∷ tokens_in 3 x (state_tokens x)
+state_tokens (And x y) = between (tokens_in 2 x (state_tokens x)) (codes "&") (tokens_in 3 y (state_tokens y))
+state_tokens (Or x y) = between (tokens_in 1 x (state_tokens x)) (codes "|") (tokens_in 2 y (state_tokens y))
+state_tokens (Implies x y) = between (tokens_in 0 x (state_tokens x)) (codes "=>") (tokens_in 1 y (state_tokens y))
+
+-- the tokens are derived by the rule of the outermost operator
+abbrev Bare : ℕ → State → Type 0
+Bare room True = IsUnary room (state_tokens True) True
+Bare room False = IsUnary room (state_tokens False) False
+Bare room (Label name) = IsUnary room (state_tokens (Label name)) (Label name)
+Bare room (Not x) = IsUnary room (state_tokens (Not x)) (Not x)
+Bare room (And x y) = IsBoth room (state_tokens (And x y)) (And x y)
+Bare room (Or x y) = IsEither room (state_tokens (Or x y)) (Or x y)
+Bare room (Implies x y) = IsState room (state_tokens (Implies x y)) (Implies x y)
+
+from_unary : (room : ℕ) (us : List (List ℕ)) (x : State) → IsUnary room us x → IsState room us x
+from_unary room us x d = plain_state room us x (plain_either room us x (plain_both room us x d))
+
+lifted : (room : ℕ) (x : State) → Bare room x → IsState room (state_tokens x) x
+lifted room True d = from_unary room _ True d
+lifted room False d = from_unary room _ False d
+lifted room (Label name) d = from_unary room _ (Label name) d
+lifted room (Not x) d = from_unary room _ (Not x) d
+lifted room (And x y) d = plain_state room _ (And x y) (plain_either room _ (And x y) d)
+lifted room (Or x y) d = plain_state room _ (Or x y) d
+lifted room (Implies x y) d = d
+
+-- what a formula needs, and what that gives
+abbrev Derives : State → Type 0
+Derives x = (room : ℕ) → need x ≤ room → Bare room x
+
+in_brackets : (room : ℕ) (x : State) → Derives x → need x + 1 ≤ room → IsUnary room (codes "(" ∷ (state_tokens x ++ codes ")" ∷ [])) x
+in_brackets zero x d h = absurd (omega (arith, h))
+in_brackets (suc room) x d h = brackets room (state_tokens x) x (lifted room x (d room (omega (arith, h))))
+
+to_unary : (room : ℕ) (x : State) → Derives x → need_in 3 x (need x) ≤ room → IsUnary room (tokens_in 3 x (state_tokens x)) x
+to_unary room True d h = d room h
+to_unary room False d h = d room h
+to_unary room (Label name) d h = d room h
+to_unary room (Not x) d h = d room h
+to_unary room (And x y) d h = in_brackets room (And x y) d h
+to_unary room (Or x y) d h = in_brackets room (Or x y) d h
+to_unary room (Implies x y) d h = in_brackets room (Implies x y) d h
+
+to_both : (room : ℕ) (x : State) → Derives x → need_in 2 x (need x) ≤ room → IsBoth room (tokens_in 2 x (state_tokens x)) x
+to_both room True d h = plain_both room _ True (d room h)
+to_both room False d h = plain_both room _ False (d room h)
+to_both room (Label name) d h = plain_both room _ (Label name) (d room h)
+to_both room (Not x) d h = plain_both room _ (Not x) (d room h)
+to_both room (And x y) d h = d room h
+to_both room (Or x y) d h = plain_both room _ (Or x y) (in_brackets room (Or x y) d h)
+to_both room (Implies x y) d h = plain_both room _ (Implies x y) (in_brackets room (Implies x y) d h)
+
+to_either : (room : ℕ) (x : State) → Derives x → need_in 1 x (need x) ≤ room → IsEither room (tokens_in 1 x (state_tokens x)) x
+to_either room True d h = plain_either room _ True (plain_both room _ True (d room h))
+to_either room False d h = plain_either room _ False (plain_both room _ False (d room h))
+to_either room (Label name) d h = plain_either room _ (Label name) (plain_both room _ (Label name) (d room h))
+to_either room (Not x) d h = plain_either room _ (Not x) (plain_both room _ (Not x) (d room h))
+to_either room (And x y) d h = plain_either room _ (And x y) (d room h)
+to_either room (Or x y) d h = d room h
+to_either room (Implies x y) d h = plain_either room _ (Implies x y) (plain_both room _ (Implies x y) (in_brackets room (Implies x y) d h))
+
+to_state : (room : ℕ) (x : State) → Derives x → need_in 0 x (need x) ≤ room → IsState room (tokens_in 0 x (state_tokens x)) x
+to_state room True d h = lifted room True (d room h)
+to_state room False d h = lifted room False (d room h)
+to_state room (Label name) d h = lifted room (Label name) (d room h)
+to_state room (Not x) d h = lifted room (Not x) (d room h)
+to_state room (And x y) d h = lifted room (And x y) (d room h)
+to_state room (Or x y) d h = lifted room (Or x y) (d room h)
+to_state room (Implies x y) d h = lifted room (Implies x y) (d room h)
+
+derives_not : (room : ℕ) (x : State) → Derives x → need (Not x) ≤ room → Bare room (Not x)
+derives_not zero x d h = absurd (omega (arith, h))
+derives_not (suc room) x d h = negation room (tokens_in 3 x (state_tokens x)) x (to_unary room x d (omega (arith, h)))
+
+derives : (x : State) → Derives x
+derives True = λ room h. everywhere room
+derives False = λ room h. nowhere room
+derives (Label name) = λ room h.
+    let P : List ℕ → Type 0 = λ n. IsUnary room ((34 ∷ (name ++ 34 ∷ [])) ∷ []) (Label n) in
+    subst P (unquoted-quoted name) (label room (34 ∷ (name ++ 34 ∷ [])) refl)
+derives (Not x) = λ room h. derives_not room x (derives x) h
+derives (And x y) = λ room h.
+    and room _ _ x y (to_both room x (derives x) (omega (arith, h, le-max_left (need_in 2 x (need x)) (need_in 3 y (need y))))) (to_unary room y (derives y) (omega (arith, h, le-max_right (need_in 2 x (need x)) (need_in 3 y (need y)))))
+derives (Or x y) = λ room h.
+    or room _ _ x y (to_either room x (derives x) (omega (arith, h, le-max_left (need_in 1 x (need x)) (need_in 2 y (need y))))) (to_both room y (derives y) (omega (arith, h, le-max_right (need_in 1 x (need x)) (need_in 2 y (need y)))))
+derives (Implies x y) = λ room h.
+    implies room _ _ x y (to_state room x (derives x) (omega (arith, h, le-max_left (need_in 0 x (need x)) (need_in 1 y (need y))))) (to_either room y (derives y) (omega (arith, h, le-max_right (need_in 0 x (need x)) (need_in 1 y (need y)))))
+
+-- the tokens of the spelling, where it nests no deeper
+pub printed_state : (room : ℕ) (x : State) → need x ≤ room → IsState room (state_tokens x) x
+printed_state room x h = lifted room x (derives x room h)

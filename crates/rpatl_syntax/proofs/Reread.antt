@@ -1,0 +1,234 @@
+-- The spelling of a formula that was read denotes that formula.
+use Rattle.std.proofs.Common.{◌≡◌, ◌∙◌, ◌+◌, ◌<◌, ◌≤◌, ℕ, zero, suc, List, [], ◌∷◌, ◌++◌, length, Bool, true, false, cond, Option, Some, None, Result, Ok, Err, Vec, Global, refl, ap, sym, subst, arith, append_assoc}
+use Rattle.std.specs.Prelude.{codes, IfOk}
+use Rattle.game_outside.specs.declared.OutOfMemory.{OutOfMemory}
+use Rattle.std.specs.List.{AllByRecursion}
+use Rattle.std.proofs.lemmas.List.{append-nil}
+use Rattle.distributions.specs.Fraction.{Fraction, IsFraction}
+use Rattle.rpatl_syntax.specs.declared.formula.Bound.{Bound}
+use Rattle.rpatl_syntax.specs.declared.formula.Bound.TheVariants.{AtLeast, Above, AtMost, Below, AskMax, AskMin}
+use Rattle.rpatl_syntax.specs.Formula.{State, True, False, Label, Not, And, Or, Implies, Tree}
+use Rattle.rpatl_syntax.specs.Grammar.{formula_said, is_word, is_number}
+use Rattle.rpatl_syntax.specs.Limits.{longest, most_nested}
+use Rattle.rpatl_syntax.specs.Rules.{between, IsState, with_commas, IsWord, IsCoalition, IsThreshold, IsComparison, IsBound, IsPath, reach, until as until_path, IsFormula, AreTokens, Denotes}
+use Rattle.rpatl_syntax.specs.Spelling.{state_spelling, path_spelling, names_spelling, coalition_spelling, fraction_spelling, bound_spelling, spelling}
+use Rattle.rpatl_syntax.specs.Tokens.{Tokens, tokens_from, tokens_of, is_digit}
+use Rattle.rpatl_syntax.proofs.Spans.{Spans}
+use Rattle.rpatl_syntax.proofs.Denoted.{ends_with, formula_denoted}
+use Rattle.rpatl_syntax.proofs.Again.{formula_said_again}
+use Rattle.rpatl_syntax.proofs.Lexed.{all_in_word, IsWhole, text_whole}
+use Rattle.rpatl_syntax.proofs.Needs.{need, need_in, Suits, state_suits, all_left, all_right, need-below}
+use Rattle.rpatl_syntax.proofs.Printing.{state_tokens, printed_state}
+use Rattle.rpatl_syntax.proofs.Laying.{Lays, Ends, spaced, lays_append, lays_token, lays_blank, lays_spaced, lays_both, lays_state, lays_names, lays_number, lays_above, lays_below, IsWholeWord}
+use Rattle.rpatl_syntax.proofs.Numerals.{IsShare, FractionText, fraction_text}
+
+-- 1. What a formula keeps that was read.
+
+abbrev pub HasWords : Option (List (List ℕ)) → Type 0
+HasWords None = Unit {0}
+HasWords (Some names) = AllByRecursion IsWholeWord names
+
+abbrev pub HasShare : Bound → Type 0
+HasShare (AtLeast p) = IsShare p
+HasShare (Above p) = IsShare p
+HasShare (AtMost p) = IsShare p
+HasShare (Below p) = IsShare p
+HasShare AskMax = Unit {0}
+HasShare AskMin = Unit {0}
+
+pub record IsReadable (f : Tree) : Type 0 where
+  pub words : HasWords f.coalition
+  pub share : HasShare f.bound
+  pub left : Suits 0 most_nested f.left
+  pub right : Suits 0 most_nested f.right
+
+words_whole : (name : List ℕ) (others : List (List ℕ)) → AllByRecursion IsWord (name ∷ others) → AllByRecursion IsWhole (with_commas (name ∷ others) ++ codes ">>" ∷ []) → AllByRecursion IsWholeWord (name ∷ others)
+words_whole name [] w a = (record { word_begins = w.0; goes_on = a.0.word w.0 }, tt)
+words_whole name (other ∷ more) w a = (record { word_begins = w.0; goes_on = a.0.word w.0 }, let rest = a.1 in words_whole other more w.1 rest.1)
+
+coalition_kept : (us : List (List ℕ)) (team : Option (List (List ℕ))) → IsCoalition us team → AllByRecursion IsWhole us → HasWords team
+coalition_kept us None d a = tt
+coalition_kept us (Some []) d a = tt
+coalition_kept us (Some (name ∷ others)) d a =
+    let P : List (List ℕ) → Type 0 = λ vs. AllByRecursion IsWhole vs in
+    let b : AllByRecursion IsWhole (codes "<<" ∷ (with_commas (name ∷ others) ++ codes ">>" ∷ [])) = subst P d.0 a in
+    words_whole name others d.1 b.1
+
+share_of : (sign : List ℕ) (us : List (List ℕ)) (p : Fraction) → IsComparison sign us p → IsShare p
+share_of sign us p d = let t = d.2 in record { fraction = t.value.fraction; small = t.small }
+
+bound_kept : (us : List (List ℕ)) (b : Bound) → IsBound us b → HasShare b
+bound_kept us (AtLeast p) d = share_of (codes ">=") us p d
+bound_kept us (Above p) d = share_of (codes ">") us p d
+bound_kept us (AtMost p) d = share_of (codes "<=") us p d
+bound_kept us (Below p) d = share_of (codes "<") us p d
+bound_kept us AskMax d = tt
+bound_kept us AskMin d = tt
+
+path_kept : (us : List (List ℕ)) (x y : State) → IsPath us x y → AllByRecursion IsWhole us → Suits 0 most_nested x × Suits 0 most_nested y
+path_kept _ _ _ (reach us y d) a = (record { nests = omega arith; names = tt }, state_suits most_nested us y d a.1)
+path_kept _ _ _ (until_path us vs x y d e) a = (state_suits most_nested us x d (all_left us (codes "U" ∷ vs) a), state_suits most_nested vs y e (let b = all_right us (codes "U" ∷ vs) a in b.1))
+
+readable : (text : List ℕ) (f : Tree) → Denotes text f → IsReadable f
+readable text f d =
+    let g = d.formula in
+    let P : List (List ℕ) → Type 0 = λ us. AllByRecursion IsWhole us in
+    let all : AllByRecursion IsWhole (g.team ++ (g.asks ++ codes "[" ∷ (g.sides ++ codes "]" ∷ []))) = subst P g.whole (text_whole text d.tokens d.read) in
+    let behind_team = all_right g.team (g.asks ++ codes "[" ∷ (g.sides ++ codes "]" ∷ [])) all in
+    let behind_bound = all_right g.asks (codes "[" ∷ (g.sides ++ codes "]" ∷ [])) behind_team in
+    let sides = path_kept g.sides f.left f.right g.path (all_left g.sides (codes "]" ∷ []) behind_bound.1) in
+    record {
+      words = coalition_kept g.team f.coalition g.coalition (all_left g.team (g.asks ++ codes "[" ∷ (g.sides ++ codes "]" ∷ [])) all);
+      share = bound_kept g.asks f.bound g.bound;
+      left = sides.0;
+      right = sides.1;
+    }
+
+-- 2. The tokens of its spelling.
+
+abbrev pub team_tokens : Option (List (List ℕ)) → List (List ℕ)
+team_tokens None = []
+team_tokens (Some names) = codes "<<" ∷ (with_commas names ++ codes ">>" ∷ [])
+
+abbrev pub bound_tokens : Bound → List (List ℕ)
+bound_tokens (AtLeast p) = codes "P" ∷ codes ">=" ∷ fraction_spelling p ∷ []
+bound_tokens (Above p) = codes "P" ∷ codes ">" ∷ fraction_spelling p ∷ []
+bound_tokens (AtMost p) = codes "P" ∷ codes "<=" ∷ fraction_spelling p ∷ []
+bound_tokens (Below p) = codes "P" ∷ codes "<" ∷ fraction_spelling p ∷ []
+bound_tokens AskMax = codes "Pmax" ∷ codes "=?" ∷ []
+bound_tokens AskMin = codes "Pmin" ∷ codes "=?" ∷ []
+
+abbrev pub path_tokens : State → State → List (List ℕ)
+path_tokens True right = codes "F" ∷ state_tokens right
+path_tokens left right = between (state_tokens left) (codes "U") (state_tokens right)
+
+abbrev pub formula_tokens : Tree → List (List ℕ)
+formula_tokens f = team_tokens f.coalition ++ (bound_tokens f.bound ++ codes "[" ∷ (path_tokens f.left f.right ++ codes "]" ∷ []))
+
+lays_nothing : (rest : List ℕ) → Lays [] [] rest
+lays_nothing rest = λ place. let e : place ≡ place + length {A = ℕ} [] = omega arith in ap (λ p. tokens_from p 0 rest) e
+
+lays_end_of_team : (rest : List ℕ) → Lays (codes ">> ") (codes ">>" ∷ []) rest
+lays_end_of_team rest = lays_append (codes ">>") (32 ∷ []) (codes ">>" ∷ []) [] rest (lays_token 62 (62 ∷ []) (32 ∷ rest) refl) (lays_blank rest)
+
+lays_team : (team : Option (List (List ℕ))) → HasWords team → (rest : List ℕ) → Lays (coalition_spelling team) (team_tokens team) rest
+lays_team None w rest = lays_nothing rest
+lays_team (Some []) w rest = lays_append (codes "<<") (codes ">> ") (codes "<<" ∷ []) (codes ">>" ∷ []) rest (lays_token 60 (60 ∷ []) (codes ">> " ++ rest) refl) (lays_end_of_team rest)
+lays_team (Some (name ∷ others)) w rest =
+    lays_append (codes "<<") (names_spelling (name ∷ others) ++ codes ">> ") (codes "<<" ∷ []) (with_commas (name ∷ others) ++ codes ">>" ∷ []) rest
+      (lays_token 60 (60 ∷ []) ((names_spelling (name ∷ others) ++ codes ">> ") ++ rest) refl)
+      (lays_append (names_spelling (name ∷ others)) (codes ">> ") (with_commas (name ∷ others)) (codes ">>" ∷ []) rest (lays_names name others w (codes ">> " ++ rest) refl) (lays_end_of_team rest))
+
+-- `P`, a sign that a digit ends, and a number before a blank
+lays_comparison : (sign : List ℕ) (p : Fraction) (rest : List ℕ) → IsShare p → ((d : ℕ) (more : List ℕ) → is_digit d ≡ true → Lays sign (sign ∷ []) (d ∷ more))
+    → ((more : List ℕ) → Lays (codes "P") (codes "P" ∷ []) (sign ++ more)) → Lays (codes "P" ++ (sign ++ fraction_spelling p)) (codes "P" ∷ sign ∷ fraction_spelling p ∷ []) (32 ∷ rest)
+lays_comparison sign p rest is lays word =
+    let t = fraction_text p is in
+    let P : List ℕ → Type 0 = λ text. Lays (codes "P" ++ (sign ++ text)) (codes "P" ∷ sign ∷ text ∷ []) (32 ∷ rest) in
+    let Q : List ℕ → Type 0 = λ more. Lays (codes "P") (codes "P" ∷ []) more in
+    subst P (sym t.whole)
+      (lays_append (codes "P") (sign ++ (t.first ∷ t.others)) (codes "P" ∷ []) (sign ∷ (t.first ∷ t.others) ∷ []) (32 ∷ rest) (subst Q (sym (append_assoc sign (t.first ∷ t.others) (32 ∷ rest))) (word ((t.first ∷ t.others) ++ 32 ∷ rest)))
+        (lays_append sign (t.first ∷ t.others) (sign ∷ []) ((t.first ∷ t.others) ∷ []) (32 ∷ rest) (lays t.first (t.others ++ 32 ∷ rest) t.digit) (lays_number t.first t.others rest t.digit t.rest)))
+
+lays_bound : (b : Bound) → HasShare b → (rest : List ℕ) → Lays (bound_spelling b) (bound_tokens b) (32 ∷ rest)
+lays_bound (AtLeast p) is rest = lays_comparison (codes ">=") p rest is (λ d more e. lays_token 62 (61 ∷ []) (d ∷ more) refl) (λ more. lays_token 80 [] (62 ∷ 61 ∷ more) refl)
+lays_bound (Above p) is rest = lays_comparison (codes ">") p rest is lays_above (λ more. lays_token 80 [] (62 ∷ more) refl)
+lays_bound (AtMost p) is rest = lays_comparison (codes "<=") p rest is (λ d more e. lays_token 60 (61 ∷ []) (d ∷ more) refl) (λ more. lays_token 80 [] (60 ∷ 61 ∷ more) refl)
+lays_bound (Below p) is rest = lays_comparison (codes "<") p rest is lays_below (λ more. lays_token 80 [] (60 ∷ more) refl)
+lays_bound AskMax is rest =
+    lays_append (codes "Pmax") (codes "=?") (codes "Pmax" ∷ []) (codes "=?" ∷ []) (32 ∷ rest) (lays_token 80 (109 ∷ 97 ∷ 120 ∷ []) (61 ∷ 63 ∷ 32 ∷ rest) refl) (lays_token 61 (63 ∷ []) (32 ∷ rest) refl)
+lays_bound AskMin is rest =
+    lays_append (codes "Pmin") (codes "=?") (codes "Pmin" ∷ []) (codes "=?" ∷ []) (32 ∷ rest) (lays_token 80 (109 ∷ 105 ∷ 110 ∷ []) (61 ∷ 63 ∷ 32 ∷ rest) refl) (lays_token 61 (63 ∷ []) (32 ∷ rest) refl)
+
+lays_until : (x y : State) (rest : List ℕ) → Suits 0 most_nested x → Suits 0 most_nested y
+    → Lays (state_spelling x ++ (codes " U " ++ state_spelling y)) (between (state_tokens x) (codes "U") (state_tokens y)) (32 ∷ rest)
+lays_until x y rest a b =
+    lays_both (state_spelling x) (state_spelling y) (codes "U") (state_tokens x) (state_tokens y) (32 ∷ rest)
+      (lays_state x a.names ((spaced (codes "U") ++ state_spelling y) ++ 32 ∷ rest) refl) (λ more. lays_token 85 [] (32 ∷ more) refl) (lays_state y b.names (32 ∷ rest) refl)
+
+lays_path : (x y : State) (rest : List ℕ) → Suits 0 most_nested x → Suits 0 most_nested y → Lays (path_spelling x (state_spelling y)) (path_tokens x y) (32 ∷ rest)
+lays_path True y rest a b =
+    lays_append (codes "F") (32 ∷ state_spelling y) (codes "F" ∷ []) (state_tokens y) (32 ∷ rest) (lays_token 70 [] ((32 ∷ state_spelling y) ++ 32 ∷ rest) refl)
+      (lays_append (32 ∷ []) (state_spelling y) [] (state_tokens y) (32 ∷ rest) (lays_blank (state_spelling y ++ 32 ∷ rest)) (lays_state y b.names (32 ∷ rest) refl))
+lays_path False y rest a b = lays_until False y rest a b
+lays_path (Label name) y rest a b = lays_until (Label name) y rest a b
+lays_path (Not x) y rest a b = lays_until (Not x) y rest a b
+lays_path (And x z) y rest a b = lays_until (And x z) y rest a b
+lays_path (Or x z) y rest a b = lays_until (Or x z) y rest a b
+lays_path (Implies x z) y rest a b = lays_until (Implies x z) y rest a b
+
+lays_formula : (f : Tree) → IsReadable f → Lays (spelling f) (formula_tokens f) []
+lays_formula f is =
+    let closing : Lays (codes " ]") (codes "]" ∷ []) [] = lays_append (32 ∷ []) (codes "]") [] (codes "]" ∷ []) [] (lays_blank (codes "]")) (lays_token 93 [] [] refl) in
+    let sides = path_spelling f.left (state_spelling f.right) in
+    let inner = lays_append sides (codes " ]") (path_tokens f.left f.right) (codes "]" ∷ []) [] (lays_path f.left f.right (codes "]") is.left is.right) closing in
+    let opened = lays_append (spaced (codes "[")) (sides ++ codes " ]") (codes "[" ∷ []) (path_tokens f.left f.right ++ codes "]" ∷ []) []
+      (lays_spaced (codes "[") ((sides ++ codes " ]") ++ []) (lays_token 91 [] (32 ∷ ((sides ++ codes " ]") ++ [])) refl)) inner in
+    let asked = lays_append (bound_spelling f.bound) (codes " [ " ++ (sides ++ codes " ]")) (bound_tokens f.bound) (codes "[" ∷ (path_tokens f.left f.right ++ codes "]" ∷ [])) []
+      (lays_bound f.bound is.share (91 ∷ 32 ∷ ((sides ++ codes " ]") ++ []))) opened in
+    lays_append (coalition_spelling f.coalition) (bound_spelling f.bound ++ (codes " [ " ++ (sides ++ codes " ]"))) (team_tokens f.coalition) (bound_tokens f.bound ++ codes "[" ∷ (path_tokens f.left f.right ++ codes "]" ∷ [])) []
+      (lays_team f.coalition is.words ((bound_spelling f.bound ++ (codes " [ " ++ (sides ++ codes " ]"))) ++ [])) asked
+
+-- 3. Those tokens are derived.
+
+words_are : (names : List (List ℕ)) → AllByRecursion IsWholeWord names → AllByRecursion IsWord names
+words_are [] w = tt
+words_are (name ∷ names) w = (w.0.word_begins, words_are names w.1)
+
+team_derived : (team : Option (List (List ℕ))) → HasWords team → IsCoalition (team_tokens team) team
+team_derived None w = refl
+team_derived (Some names) w = (refl, words_are names w)
+
+share_derived : (sign : List ℕ) (p : Fraction) → IsShare p → IsComparison sign (codes "P" ∷ sign ∷ fraction_spelling p ∷ []) p
+share_derived sign p is =
+    let t = fraction_text p is in
+    (fraction_spelling p, refl, record { number = ap is_number t.whole ∙ t.digit; value = t.denotes; small = is.small })
+
+bound_derived : (b : Bound) → HasShare b → IsBound (bound_tokens b) b
+bound_derived (AtLeast p) is = share_derived (codes ">=") p is
+bound_derived (Above p) is = share_derived (codes ">") p is
+bound_derived (AtMost p) is = share_derived (codes "<=") p is
+bound_derived (Below p) is = share_derived (codes "<") p is
+bound_derived AskMax is = refl
+bound_derived AskMin is = refl
+
+state_derived : (x : State) → Suits 0 most_nested x → IsState most_nested (state_tokens x) x
+state_derived x a = printed_state most_nested x (omega (arith, need-below 0 x (need x), a.nests))
+
+path_derived : (x y : State) → Suits 0 most_nested x → Suits 0 most_nested y → IsPath (path_tokens x y) x y
+path_derived True y a b = reach (state_tokens y) y (state_derived y b)
+path_derived False y a b = until_path (state_tokens False) (state_tokens y) False y (state_derived False a) (state_derived y b)
+path_derived (Label name) y a b = until_path (state_tokens (Label name)) (state_tokens y) (Label name) y (state_derived (Label name) a) (state_derived y b)
+path_derived (Not x) y a b = until_path (state_tokens (Not x)) (state_tokens y) (Not x) y (state_derived (Not x) a) (state_derived y b)
+path_derived (And x z) y a b = until_path (state_tokens (And x z)) (state_tokens y) (And x z) y (state_derived (And x z) a) (state_derived y b)
+path_derived (Or x z) y a b = until_path (state_tokens (Or x z)) (state_tokens y) (Or x z) y (state_derived (Or x z) a) (state_derived y b)
+path_derived (Implies x z) y a b = until_path (state_tokens (Implies x z)) (state_tokens y) (Implies x z) y (state_derived (Implies x z) a) (state_derived y b)
+
+spelling_denotes : (f : Tree) → IsReadable f → length (spelling f) ≤ longest → Denotes (spelling f) f
+spelling_denotes f is short =
+    let P : List ℕ → Type 0 = λ text. AreTokens (tokens_of text) (formula_tokens f) in
+    record {
+      short = short;
+      tokens = formula_tokens f;
+      read = subst P (append-nil (spelling f)) (ends_with (formula_tokens f) (tokens_of (spelling f ++ [])) (0 + length (spelling f)) (lays_formula f is 0));
+      formula = record {
+        team = team_tokens f.coalition;
+        asks = bound_tokens f.bound;
+        sides = path_tokens f.left f.right;
+        whole = refl;
+        coalition = team_derived f.coalition is.words;
+        bound = bound_derived f.bound is.share;
+        path = path_derived f.left f.right is.left is.right;
+      };
+    }
+
+-- What was read and has a spelling that is not too long is read from it again.
+pub read_again : (source : List ℕ) (f : Tree) → formula_said source ≡ Ok f → length (spelling f) ≤ longest → formula_said (spelling f) ≡ Ok f
+read_again source f e short = formula_said_again (spelling f) f (spelling_denotes f (readable source f (formula_denoted source f e)) short)
+
+pub printed_again : (r : Result (Vec ℕ Global) OutOfMemory) (f : Tree) → IfOk r (λ (text : Vec ℕ Global). text.items ≡ spelling f)
+    → IfOk r (λ (text : Vec ℕ Global). (source : List ℕ) → formula_said source ≡ Ok f → length text.items ≤ longest → formula_said text.items ≡ Ok f)
+printed_again (Ok text) f e = λ source said short.
+    let P : List ℕ → Type 0 = λ t. length t ≤ longest → formula_said t ≡ Ok f in
+    subst P (sym e) (read_again source f said) short
+printed_again (Err fault) f e = tt
