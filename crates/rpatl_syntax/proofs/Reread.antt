@@ -116,8 +116,8 @@ lays_team None w rest = lays_nothing rest
 lays_team (Some []) w rest = lays_append (codes "<<") (codes ">> ") (codes "<<" ∷ []) (codes ">>" ∷ []) rest (lays_token 60 (60 ∷ []) (codes ">> " ++ rest) refl) (lays_end_of_team rest)
 lays_team (Some (name ∷ others)) w rest =
     lays_append (codes "<<") (names_spelling (name ∷ others) ++ codes ">> ") (codes "<<" ∷ []) (with_commas (name ∷ others) ++ codes ">>" ∷ []) rest
-      (lays_token 60 (60 ∷ []) ((names_spelling (name ∷ others) ++ codes ">> ") ++ rest) refl)
-      (lays_append (names_spelling (name ∷ others)) (codes ">> ") (with_commas (name ∷ others)) (codes ">>" ∷ []) rest (lays_names name others w (codes ">> " ++ rest) refl) (lays_end_of_team rest))
+    (lays_token 60 (60 ∷ []) ((names_spelling (name ∷ others) ++ codes ">> ") ++ rest) refl)
+    (lays_append (names_spelling (name ∷ others)) (codes ">> ") (with_commas (name ∷ others)) (codes ">>" ∷ []) rest (lays_names name others w (codes ">> " ++ rest) refl) (lays_end_of_team rest))
 
 -- `P`, a sign that a digit ends, and a number before a blank
 lays_comparison : (sign : List ℕ) (p : Fraction) (rest : List ℕ) → IsShare p → ((d : ℕ) (more : List ℕ) → is_digit d ≡ true → Lays sign (sign ∷ []) (d ∷ more))
@@ -127,8 +127,8 @@ lays_comparison sign p rest is lays word =
     let P : List ℕ → Type 0 = λ text. Lays (codes "P" ++ (sign ++ text)) (codes "P" ∷ sign ∷ text ∷ []) (32 ∷ rest) in
     let Q : List ℕ → Type 0 = λ more. Lays (codes "P") (codes "P" ∷ []) more in
     subst P (sym t.whole)
-      (lays_append (codes "P") (sign ++ (t.first ∷ t.others)) (codes "P" ∷ []) (sign ∷ (t.first ∷ t.others) ∷ []) (32 ∷ rest) (subst Q (sym (append_assoc sign (t.first ∷ t.others) (32 ∷ rest))) (word ((t.first ∷ t.others) ++ 32 ∷ rest)))
-        (lays_append sign (t.first ∷ t.others) (sign ∷ []) ((t.first ∷ t.others) ∷ []) (32 ∷ rest) (lays t.first (t.others ++ 32 ∷ rest) t.digit) (lays_number t.first t.others rest t.digit t.rest)))
+    (lays_append (codes "P") (sign ++ (t.first ∷ t.others)) (codes "P" ∷ []) (sign ∷ (t.first ∷ t.others) ∷ []) (32 ∷ rest) (subst Q (sym (append_assoc sign (t.first ∷ t.others) (32 ∷ rest))) (word ((t.first ∷ t.others) ++ 32 ∷ rest)))
+    (lays_append sign (t.first ∷ t.others) (sign ∷ []) ((t.first ∷ t.others) ∷ []) (32 ∷ rest) (lays t.first (t.others ++ 32 ∷ rest) t.digit) (lays_number t.first t.others rest t.digit t.rest)))
 
 lays_bound : (b : Bound) → HasShare b → (rest : List ℕ) → Lays (bound_spelling b) (bound_tokens b) (32 ∷ rest)
 lays_bound (AtLeast p) is rest = lays_comparison (codes ">=") p rest is (λ d more e. lays_token 62 (61 ∷ []) (d ∷ more) refl) (λ more. lays_token 80 [] (62 ∷ 61 ∷ more) refl)
@@ -144,12 +144,12 @@ lays_until : (x y : State) (rest : List ℕ) → Suits 0 most_nested x → Suits
     → Lays (state_spelling x ++ (codes " U " ++ state_spelling y)) (between (state_tokens x) (codes "U") (state_tokens y)) (32 ∷ rest)
 lays_until x y rest a b =
     lays_both (state_spelling x) (state_spelling y) (codes "U") (state_tokens x) (state_tokens y) (32 ∷ rest)
-      (lays_state x a.names ((spaced (codes "U") ++ state_spelling y) ++ 32 ∷ rest) refl) (λ more. lays_token 85 [] (32 ∷ more) refl) (lays_state y b.names (32 ∷ rest) refl)
+    (lays_state x a.names ((spaced (codes "U") ++ state_spelling y) ++ 32 ∷ rest) refl) (λ more. lays_token 85 [] (32 ∷ more) refl) (lays_state y b.names (32 ∷ rest) refl)
 
 lays_path : (x y : State) (rest : List ℕ) → Suits 0 most_nested x → Suits 0 most_nested y → Lays (path_spelling x (state_spelling y)) (path_tokens x y) (32 ∷ rest)
 lays_path True y rest a b =
     lays_append (codes "F") (32 ∷ state_spelling y) (codes "F" ∷ []) (state_tokens y) (32 ∷ rest) (lays_token 70 [] ((32 ∷ state_spelling y) ++ 32 ∷ rest) refl)
-      (lays_append (32 ∷ []) (state_spelling y) [] (state_tokens y) (32 ∷ rest) (lays_blank (state_spelling y ++ 32 ∷ rest)) (lays_state y b.names (32 ∷ rest) refl))
+    (lays_append (32 ∷ []) (state_spelling y) [] (state_tokens y) (32 ∷ rest) (lays_blank (state_spelling y ++ 32 ∷ rest)) (lays_state y b.names (32 ∷ rest) refl))
 lays_path False y rest a b = lays_until False y rest a b
 lays_path (Label name) y rest a b = lays_until (Label name) y rest a b
 lays_path (Not x) y rest a b = lays_until (Not x) y rest a b
@@ -163,11 +163,11 @@ lays_formula f is =
     let sides = path_spelling f.left (state_spelling f.right) in
     let inner = lays_append sides (codes " ]") (path_tokens f.left f.right) (codes "]" ∷ []) [] (lays_path f.left f.right (codes "]") is.left is.right) closing in
     let opened = lays_append (spaced (codes "[")) (sides ++ codes " ]") (codes "[" ∷ []) (path_tokens f.left f.right ++ codes "]" ∷ []) []
-      (lays_spaced (codes "[") ((sides ++ codes " ]") ++ []) (lays_token 91 [] (32 ∷ ((sides ++ codes " ]") ++ [])) refl)) inner in
+    (lays_spaced (codes "[") ((sides ++ codes " ]") ++ []) (lays_token 91 [] (32 ∷ ((sides ++ codes " ]") ++ [])) refl)) inner in
     let asked = lays_append (bound_spelling f.bound) (codes " [ " ++ (sides ++ codes " ]")) (bound_tokens f.bound) (codes "[" ∷ (path_tokens f.left f.right ++ codes "]" ∷ [])) []
-      (lays_bound f.bound is.share (91 ∷ 32 ∷ ((sides ++ codes " ]") ++ []))) opened in
+    (lays_bound f.bound is.share (91 ∷ 32 ∷ ((sides ++ codes " ]") ++ []))) opened in
     lays_append (coalition_spelling f.coalition) (bound_spelling f.bound ++ (codes " [ " ++ (sides ++ codes " ]"))) (team_tokens f.coalition) (bound_tokens f.bound ++ codes "[" ∷ (path_tokens f.left f.right ++ codes "]" ∷ [])) []
-      (lays_team f.coalition is.words ((bound_spelling f.bound ++ (codes " [ " ++ (sides ++ codes " ]"))) ++ [])) asked
+    (lays_team f.coalition is.words ((bound_spelling f.bound ++ (codes " [ " ++ (sides ++ codes " ]"))) ++ [])) asked
 
 -- 3. Those tokens are derived.
 

@@ -6,7 +6,7 @@ pub loop-place-preserved : goal.loop-place-preserved
 loop-place-preserved c = record {
   written = digit_more c.loop-place.place c.loop-place.rest c.loop-place.digits (omega arith) (omega arith) ∙ c.loop-place.invariant.written;
   within = omega arith;
-  size = search rules
+  size = search rules;
 }
 
 pub returns : goal.returns
