@@ -1,6 +1,17 @@
-//! Transition files: the explicit `.tra` form of an MDP or a DTMC.
+//! Transition files: the explicit `.tra` form of an MDP or a DTMC, as the PRISM manual describes it.
 //!
-//! `read_tra` gives the game that a text denotes, or the text's first fault with its line.
+//! The first line has three whole numbers, states, choices and transition lines, for an MDP, or two, states and lines,
+//! for a DTMC. Each further line is a transition: `source choice destination probability` and an action or none, in a
+//! DTMC without the choice. Lines stand in any order, and those of one choice to one destination add up. A state
+//! without a line has one choice, a move to itself.
+//!
+//! ```text
+//! let game = read_tra(alloc, b"3 3 5\n0 0 0 0.5\n0 0 1 0.25\n0 0 2 0.25\n1 0 1 1\n2 0 2 1\n")?;
+//! ```
+//!
+//! `read_tra` gives the game that a text denotes, or the text's first fault with its line: the faults of the header, then
+//! those of the lines in their order, then those of the whole text. It takes memory for 48 bytes a line beside the game
+//! and one entry a choice, and sorts only lines that do not already stand in the order of their choices.
 #![tactic(auto)]
 
 mod actions;
