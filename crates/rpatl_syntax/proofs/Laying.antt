@@ -1,15 +1,15 @@
 -- The tokens of printed text.
-use Rattle.std.proofs.Common.{◌≡◌, ◌∙◌, ◌+◌, ◌<◌, ◌≤◌, ℕ, zero, suc, List, [], ◌∷◌, ◌++◌, length, take, drop, Bool, true, false, cond, refl, ap, sym, subst, arith, nat_lt, append_assoc}
-use Rattle.std.specs.Prelude.{◌==◌, ◌||◌, ◌&&◌, nat_le, codes}
+use Rattle.std.proofs.Common.{◌≡◌, ◌∙◌, ◌+◌, ◌<◌, ◌≤◌, ℕ, List, [], ◌∷◌, ◌++◌, length, drop, Bool, true, false, cond, refl, ap, sym, subst, arith, nat_lt, append_assoc}
+use Rattle.std.specs.Prelude.{◌==◌, ◌||◌, ◌&&◌, codes}
 use Rattle.std.specs.List.{AllByRecursion}
 use Rattle.std.proofs.Math.Seq.{take-append_seam, drop-append_seam}
 use Rattle.std.proofs.lemmas.List.{length-append}
 use Rattle.std.proofs.lemmas.Bool.Decides.{nat_tests}
-use Rattle.rpatl_syntax.specs.declared.front.Front.TheVariants.{Blank, Spelling, Unclosed, Strange}
+use Rattle.rpatl_syntax.specs.declared.front.Front.TheVariants.{Blank, Spelling, Strange}
 use Rattle.rpatl_syntax.specs.Formula.{State, True, False, Label, Not, And, Or, Implies}
 use Rattle.rpatl_syntax.specs.Limits.{longest_name}
 use Rattle.rpatl_syntax.specs.Spelling.{strength_of, in_place, state_spelling, names_spelling}
-use Rattle.rpatl_syntax.specs.Tokens.{Tokens, Finish, Then, tokens_from, front_from, begins_word, in_word, in_name, is_letter, is_digit, in_number, is_blank, word_length, number_length, name_from, sign_from, is_long_sign}
+use Rattle.rpatl_syntax.specs.Tokens.{Then, tokens_from, front_from, begins_word, in_word, in_name, is_letter, is_digit, in_number, is_blank, word_length, number_length, name_from, sign_from, is_long_sign}
 use Rattle.rpatl_syntax.specs.Grammar.{is_word}
 use Rattle.rpatl_syntax.specs.Rules.{between, with_commas}
 use Rattle.rpatl_syntax.proofs.Spans.{Spans, spans_append}
@@ -34,11 +34,13 @@ lays_append text more us vs rest a b = λ place.
 pub lays_token : (b : ℕ) (bytes rest : List ℕ) → front_from b (bytes ++ rest) ≡ Spelling (length bytes + 1) → Lays (b ∷ bytes) ((b ∷ bytes) ∷ []) rest
 lays_token b bytes rest e = λ place.
     let size : length bytes + 1 ≡ length (b ∷ bytes) = omega arith in
-    let cut = token_cut b (bytes ++ rest) place (length (b ∷ bytes)) (e ∙ ap (λ n. Spelling n) size) (omega arith) (omega (arith, length-append bytes rest)) in
-    (place, tokens_from (place + length (b ∷ bytes)) 0 rest,
+    let cut = token_cut b (bytes ++ rest) place (length (b ∷ bytes)) (e ∙ ap (λ n. Spelling n) size) (omega arith) (omega (arith, length-append bytes rest)) in (
+      place,
+      tokens_from (place + length (b ∷ bytes)) 0 rest,
       cut ∙ ap (λ t. Then place t (tokens_from (place + length (b ∷ bytes)) 0 (drop (length (b ∷ bytes)) (b ∷ (bytes ++ rest))))) (take-append_seam (b ∷ bytes) rest)
-        ∙ ap (λ t. Then place (b ∷ bytes) (tokens_from (place + length (b ∷ bytes)) 0 t)) (drop-append_seam (b ∷ bytes) rest),
-      refl)
+          ∙ ap (λ t. Then place (b ∷ bytes) (tokens_from (place + length (b ∷ bytes)) 0 t)) (drop-append_seam (b ∷ bytes) rest),
+      refl,
+    )
 
 pub lays_blank : (rest : List ℕ) → Lays (32 ∷ []) [] rest
 lays_blank rest = λ place. refl
@@ -72,7 +74,7 @@ spaced sign = 32 ∷ (sign ++ 32 ∷ [])
 pub lays_spaced : (sign rest : List ℕ) → Lays sign (sign ∷ []) (32 ∷ rest) → Lays (spaced sign) (sign ∷ []) rest
 lays_spaced sign rest lays =
     lays_append (32 ∷ []) (sign ++ 32 ∷ []) [] (sign ∷ []) rest (lays_blank ((sign ++ 32 ∷ []) ++ rest))
-      (lays_append sign (32 ∷ []) (sign ∷ []) [] rest lays (lays_blank rest))
+    (lays_append sign (32 ∷ []) (sign ∷ []) [] rest lays (lays_blank rest))
 
 -- state formulas
 
@@ -103,7 +105,7 @@ lays_label : (name rest : List ℕ) → IsName name → Lays (34 ∷ (name ++ 34
 lays_label name rest is =
     let size : 0 + length name + 2 ≡ length (name ++ 34 ∷ []) + 1 = omega (arith, length-append name (34 ∷ [])) in
     lays_token 34 (name ++ 34 ∷ []) rest
-      (ap (λ t. name_from 0 t) (append_assoc name (34 ∷ []) rest) ∙ name_reads name 0 rest is.bytes (omega (arith, is.short)) (omega (arith, is.some)) ∙ ap (λ k. Spelling k) size)
+    (ap (λ t. name_from 0 t) (append_assoc name (34 ∷ []) rest) ∙ name_reads name 0 rest is.bytes (omega (arith, is.short)) (omega (arith, is.some)) ∙ ap (λ k. Spelling k) size)
 
 lays_true : (rest : List ℕ) → Ends rest → Lays (codes "true") (codes "true" ∷ []) rest
 lays_true rest e = lays_token 116 (114 ∷ 117 ∷ 101 ∷ []) rest (ap (λ n. Spelling (n + 1 + 1 + 1 + 1)) e)
@@ -117,7 +119,7 @@ lays_in : (b : Bool) (text : List ℕ) (us : List (List ℕ)) → ((rest : List 
 lays_in false text us lays rest e = lays rest e
 lays_in true text us lays rest e =
     lays_append (codes "(") (text ++ codes ")") (codes "(" ∷ []) (us ++ codes ")" ∷ []) rest (lays_open ((text ++ codes ")") ++ rest))
-      (lays_append text (codes ")") us (codes ")" ∷ []) rest (lays (codes ")" ++ rest) refl) (lays_close rest))
+    (lays_append text (codes ")") us (codes ")" ∷ []) rest (lays (codes ")" ++ rest) refl) (lays_close rest))
 
 lays_place : (least : ℕ) (x : State) → ((rest : List ℕ) → Ends rest → Lays (state_spelling x) (state_tokens x) rest)
     → (rest : List ℕ) → Ends rest → Lays (in_place least x (state_spelling x)) (tokens_in least x (state_tokens x)) rest
@@ -135,16 +137,16 @@ lays_state False names rest e = lays_false rest e
 lays_state (Label name) names rest e = lays_label name rest names
 lays_state (Not x) names rest e =
     lays_append (codes "!") (in_place 3 x (state_spelling x)) (codes "!" ∷ []) (tokens_in 3 x (state_tokens x)) rest (lays_not (in_place 3 x (state_spelling x) ++ rest))
-      (lays_place 3 x (lays_state x names) rest e)
+    (lays_place 3 x (lays_state x names) rest e)
 lays_state (And x y) names rest e =
     lays_both (in_place 2 x (state_spelling x)) (in_place 3 y (state_spelling y)) (codes "&") _ _ rest
-      (lays_place 2 x (lays_state x names.0) _ refl) (λ more. lays_token 38 [] (32 ∷ more) refl) (lays_place 3 y (lays_state y names.1) rest e)
+    (lays_place 2 x (lays_state x names.0) _ refl) (λ more. lays_token 38 [] (32 ∷ more) refl) (lays_place 3 y (lays_state y names.1) rest e)
 lays_state (Or x y) names rest e =
     lays_both (in_place 1 x (state_spelling x)) (in_place 2 y (state_spelling y)) (codes "|") _ _ rest
-      (lays_place 1 x (lays_state x names.0) _ refl) (λ more. lays_token 124 [] (32 ∷ more) refl) (lays_place 2 y (lays_state y names.1) rest e)
+    (lays_place 1 x (lays_state x names.0) _ refl) (λ more. lays_token 124 [] (32 ∷ more) refl) (lays_place 2 y (lays_state y names.1) rest e)
 lays_state (Implies x y) names rest e =
     lays_both (in_place 0 x (state_spelling x)) (in_place 1 y (state_spelling y)) (codes "=>") _ _ rest
-      (lays_place 0 x (lays_state x names.0) _ refl) (λ more. lays_token 61 (62 ∷ []) (32 ∷ more) refl) (lays_place 1 y (lays_state y names.1) rest e)
+    (lays_place 0 x (lays_state x names.0) _ refl) (λ more. lays_token 61 (62 ∷ []) (32 ∷ more) refl) (lays_place 1 y (lays_state y names.1) rest e)
 
 -- names
 
@@ -163,9 +165,9 @@ lays_word [] rest w a e = cc w
 lays_word (b ∷ bytes) rest w a e =
     let parts = parts_true (in_word b) (all_in_word bytes) a in
     lays_token b bytes rest
-      (ap (λ t. cond t Blank (cond (begins_word b) (Spelling (word_length (bytes ++ rest) + 1)) (cond (is_digit b) (Spelling (number_length b (bytes ++ rest) + 1)) (cond (b == 34) (name_from 0 (bytes ++ rest)) (sign_from b (bytes ++ rest)))))) (word_not_blank b (bytes ++ rest) w)
-      ∙ ap (λ t. cond t (Spelling (word_length (bytes ++ rest) + 1)) (cond (is_digit b) (Spelling (number_length b (bytes ++ rest) + 1)) (cond (b == 34) (name_from 0 (bytes ++ rest)) (sign_from b (bytes ++ rest))))) w
-      ∙ ap (λ n. Spelling (n + 1)) (word_goes_on bytes rest parts.1 e))
+    (ap (λ t. cond t Blank (cond (begins_word b) (Spelling (word_length (bytes ++ rest) + 1)) (cond (is_digit b) (Spelling (number_length b (bytes ++ rest) + 1)) (cond (b == 34) (name_from 0 (bytes ++ rest)) (sign_from b (bytes ++ rest)))))) (word_not_blank b (bytes ++ rest) w)
+    ∙ ap (λ t. cond t (Spelling (word_length (bytes ++ rest) + 1)) (cond (is_digit b) (Spelling (number_length b (bytes ++ rest) + 1)) (cond (b == 34) (name_from 0 (bytes ++ rest)) (sign_from b (bytes ++ rest))))) w
+    ∙ ap (λ n. Spelling (n + 1)) (word_goes_on bytes rest parts.1 e))
 
 -- a word, and all of its bytes are
 pub record IsWholeWord (word : List ℕ) : Type 0 where
@@ -176,8 +178,8 @@ pub lays_names : (name : List ℕ) (others : List (List ℕ)) → AllByRecursion
 lays_names name [] words rest e = lays_word name rest words.0.word_begins words.0.goes_on e
 lays_names name (other ∷ more) words rest e =
     lays_append name (codes "," ++ names_spelling (other ∷ more)) (name ∷ []) (codes "," ∷ with_commas (other ∷ more)) rest
-      (lays_word name ((codes "," ++ names_spelling (other ∷ more)) ++ rest) words.0.word_begins words.0.goes_on refl)
-      (lays_append (codes ",") (names_spelling (other ∷ more)) (codes "," ∷ []) (with_commas (other ∷ more)) rest (lays_comma (names_spelling (other ∷ more) ++ rest)) (lays_names other more words.1 rest e))
+    (lays_word name ((codes "," ++ names_spelling (other ∷ more)) ++ rest) words.0.word_begins words.0.goes_on refl)
+    (lays_append (codes ",") (names_spelling (other ∷ more)) (codes "," ∷ []) (with_commas (other ∷ more)) rest (lays_comma (names_spelling (other ∷ more) ++ rest)) (lays_names other more words.1 rest e))
 
 -- numbers
 
@@ -219,10 +221,10 @@ digit_begins_no_word b d = grind (arith, nat_tests)
 pub lays_number : (b : ℕ) (bytes rest : List ℕ) → is_digit b ≡ true → all_in_fraction bytes ≡ true → Lays (b ∷ bytes) ((b ∷ bytes) ∷ []) (32 ∷ rest)
 lays_number b bytes rest d a =
     lays_token b bytes (32 ∷ rest)
-      (ap (λ t. cond t Blank (cond (begins_word b) (Spelling (word_length (bytes ++ 32 ∷ rest) + 1)) (cond (is_digit b) (Spelling (number_length b (bytes ++ 32 ∷ rest) + 1)) (cond (b == 34) (name_from 0 (bytes ++ 32 ∷ rest)) (sign_from b (bytes ++ 32 ∷ rest)))))) (digit_not_blank b (bytes ++ 32 ∷ rest) d)
-      ∙ ap (λ t. cond t (Spelling (word_length (bytes ++ 32 ∷ rest) + 1)) (cond (is_digit b) (Spelling (number_length b (bytes ++ 32 ∷ rest) + 1)) (cond (b == 34) (name_from 0 (bytes ++ 32 ∷ rest)) (sign_from b (bytes ++ 32 ∷ rest))))) (digit_begins_no_word b d)
-      ∙ ap (λ t. cond t (Spelling (number_length b (bytes ++ 32 ∷ rest) + 1)) (cond (b == 34) (name_from 0 (bytes ++ 32 ∷ rest)) (sign_from b (bytes ++ 32 ∷ rest)))) d
-      ∙ ap (λ n. Spelling (n + 1)) (number_goes_on bytes b rest a))
+    (ap (λ t. cond t Blank (cond (begins_word b) (Spelling (word_length (bytes ++ 32 ∷ rest) + 1)) (cond (is_digit b) (Spelling (number_length b (bytes ++ 32 ∷ rest) + 1)) (cond (b == 34) (name_from 0 (bytes ++ 32 ∷ rest)) (sign_from b (bytes ++ 32 ∷ rest)))))) (digit_not_blank b (bytes ++ 32 ∷ rest) d)
+    ∙ ap (λ t. cond t (Spelling (word_length (bytes ++ 32 ∷ rest) + 1)) (cond (is_digit b) (Spelling (number_length b (bytes ++ 32 ∷ rest) + 1)) (cond (b == 34) (name_from 0 (bytes ++ 32 ∷ rest)) (sign_from b (bytes ++ 32 ∷ rest))))) (digit_begins_no_word b d)
+    ∙ ap (λ t. cond t (Spelling (number_length b (bytes ++ 32 ∷ rest) + 1)) (cond (b == 34) (name_from 0 (bytes ++ 32 ∷ rest)) (sign_from b (bytes ++ 32 ∷ rest)))) d
+    ∙ ap (λ n. Spelling (n + 1)) (number_goes_on bytes b rest a))
 
 digit_ends_above : (d : ℕ) → is_digit d ≡ true → is_long_sign 62 d ≡ false
 digit_ends_above d e = grind (arith, nat_tests)

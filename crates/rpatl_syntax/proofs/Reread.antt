@@ -1,26 +1,25 @@
 -- The spelling of a formula that was read denotes that formula.
-use Rattle.std.proofs.Common.{◌≡◌, ◌∙◌, ◌+◌, ◌<◌, ◌≤◌, ℕ, zero, suc, List, [], ◌∷◌, ◌++◌, length, Bool, true, false, cond, Option, Some, None, Result, Ok, Err, Vec, Global, refl, ap, sym, subst, arith, append_assoc}
+use Rattle.std.proofs.Common.{◌≡◌, ◌∙◌, ◌+◌, ◌≤◌, ℕ, List, [], ◌∷◌, ◌++◌, length, true, Option, Some, None, Result, Ok, Err, Vec, Global, refl, ap, sym, subst, arith, append_assoc}
 use Rattle.std.specs.Prelude.{codes, IfOk}
 use Rattle.game_outside.specs.declared.OutOfMemory.{OutOfMemory}
 use Rattle.std.specs.List.{AllByRecursion}
 use Rattle.std.proofs.lemmas.List.{append-nil}
-use Rattle.distributions.specs.Fraction.{Fraction, IsFraction}
+use Rattle.distributions.specs.Fraction.{Fraction}
 use Rattle.rpatl_syntax.specs.declared.formula.Bound.{Bound}
 use Rattle.rpatl_syntax.specs.declared.formula.Bound.TheVariants.{AtLeast, Above, AtMost, Below, AskMax, AskMin}
 use Rattle.rpatl_syntax.specs.Formula.{State, True, False, Label, Not, And, Or, Implies, Tree}
-use Rattle.rpatl_syntax.specs.Grammar.{formula_said, is_word, is_number}
+use Rattle.rpatl_syntax.specs.Grammar.{formula_said, is_number}
 use Rattle.rpatl_syntax.specs.Limits.{longest, most_nested}
-use Rattle.rpatl_syntax.specs.Rules.{between, IsState, with_commas, IsWord, IsCoalition, IsThreshold, IsComparison, IsBound, IsPath, reach, until as until_path, IsFormula, AreTokens, Denotes}
+use Rattle.rpatl_syntax.specs.Rules.{between, IsState, with_commas, IsWord, IsCoalition, IsComparison, IsBound, IsPath, reach, until as until_path, AreTokens, Denotes}
 use Rattle.rpatl_syntax.specs.Spelling.{state_spelling, path_spelling, names_spelling, coalition_spelling, fraction_spelling, bound_spelling, spelling}
-use Rattle.rpatl_syntax.specs.Tokens.{Tokens, tokens_from, tokens_of, is_digit}
-use Rattle.rpatl_syntax.proofs.Spans.{Spans}
+use Rattle.rpatl_syntax.specs.Tokens.{tokens_from, tokens_of, is_digit}
 use Rattle.rpatl_syntax.proofs.Denoted.{ends_with, formula_denoted}
 use Rattle.rpatl_syntax.proofs.Again.{formula_said_again}
-use Rattle.rpatl_syntax.proofs.Lexed.{all_in_word, IsWhole, text_whole}
-use Rattle.rpatl_syntax.proofs.Needs.{need, need_in, Suits, state_suits, all_left, all_right, need-below}
+use Rattle.rpatl_syntax.proofs.Lexed.{IsWhole, text_whole}
+use Rattle.rpatl_syntax.proofs.Needs.{need, Suits, state_suits, all_left, all_right, need-below}
 use Rattle.rpatl_syntax.proofs.Printing.{state_tokens, printed_state}
-use Rattle.rpatl_syntax.proofs.Laying.{Lays, Ends, spaced, lays_append, lays_token, lays_blank, lays_spaced, lays_both, lays_state, lays_names, lays_number, lays_above, lays_below, IsWholeWord}
-use Rattle.rpatl_syntax.proofs.Numerals.{IsShare, FractionText, fraction_text}
+use Rattle.rpatl_syntax.proofs.Laying.{Lays, spaced, lays_append, lays_token, lays_blank, lays_spaced, lays_both, lays_state, lays_names, lays_number, lays_above, lays_below, IsWholeWord}
+use Rattle.rpatl_syntax.proofs.Numerals.{IsShare, fraction_text}
 
 -- 1. What a formula keeps that was read.
 
@@ -116,8 +115,8 @@ lays_team None w rest = lays_nothing rest
 lays_team (Some []) w rest = lays_append (codes "<<") (codes ">> ") (codes "<<" ∷ []) (codes ">>" ∷ []) rest (lays_token 60 (60 ∷ []) (codes ">> " ++ rest) refl) (lays_end_of_team rest)
 lays_team (Some (name ∷ others)) w rest =
     lays_append (codes "<<") (names_spelling (name ∷ others) ++ codes ">> ") (codes "<<" ∷ []) (with_commas (name ∷ others) ++ codes ">>" ∷ []) rest
-      (lays_token 60 (60 ∷ []) ((names_spelling (name ∷ others) ++ codes ">> ") ++ rest) refl)
-      (lays_append (names_spelling (name ∷ others)) (codes ">> ") (with_commas (name ∷ others)) (codes ">>" ∷ []) rest (lays_names name others w (codes ">> " ++ rest) refl) (lays_end_of_team rest))
+    (lays_token 60 (60 ∷ []) ((names_spelling (name ∷ others) ++ codes ">> ") ++ rest) refl)
+    (lays_append (names_spelling (name ∷ others)) (codes ">> ") (with_commas (name ∷ others)) (codes ">>" ∷ []) rest (lays_names name others w (codes ">> " ++ rest) refl) (lays_end_of_team rest))
 
 -- `P`, a sign that a digit ends, and a number before a blank
 lays_comparison : (sign : List ℕ) (p : Fraction) (rest : List ℕ) → IsShare p → ((d : ℕ) (more : List ℕ) → is_digit d ≡ true → Lays sign (sign ∷ []) (d ∷ more))
@@ -127,8 +126,8 @@ lays_comparison sign p rest is lays word =
     let P : List ℕ → Type 0 = λ text. Lays (codes "P" ++ (sign ++ text)) (codes "P" ∷ sign ∷ text ∷ []) (32 ∷ rest) in
     let Q : List ℕ → Type 0 = λ more. Lays (codes "P") (codes "P" ∷ []) more in
     subst P (sym t.whole)
-      (lays_append (codes "P") (sign ++ (t.first ∷ t.others)) (codes "P" ∷ []) (sign ∷ (t.first ∷ t.others) ∷ []) (32 ∷ rest) (subst Q (sym (append_assoc sign (t.first ∷ t.others) (32 ∷ rest))) (word ((t.first ∷ t.others) ++ 32 ∷ rest)))
-        (lays_append sign (t.first ∷ t.others) (sign ∷ []) ((t.first ∷ t.others) ∷ []) (32 ∷ rest) (lays t.first (t.others ++ 32 ∷ rest) t.digit) (lays_number t.first t.others rest t.digit t.rest)))
+    (lays_append (codes "P") (sign ++ (t.first ∷ t.others)) (codes "P" ∷ []) (sign ∷ (t.first ∷ t.others) ∷ []) (32 ∷ rest) (subst Q (sym (append_assoc sign (t.first ∷ t.others) (32 ∷ rest))) (word ((t.first ∷ t.others) ++ 32 ∷ rest)))
+    (lays_append sign (t.first ∷ t.others) (sign ∷ []) ((t.first ∷ t.others) ∷ []) (32 ∷ rest) (lays t.first (t.others ++ 32 ∷ rest) t.digit) (lays_number t.first t.others rest t.digit t.rest)))
 
 lays_bound : (b : Bound) → HasShare b → (rest : List ℕ) → Lays (bound_spelling b) (bound_tokens b) (32 ∷ rest)
 lays_bound (AtLeast p) is rest = lays_comparison (codes ">=") p rest is (λ d more e. lays_token 62 (61 ∷ []) (d ∷ more) refl) (λ more. lays_token 80 [] (62 ∷ 61 ∷ more) refl)
@@ -144,12 +143,12 @@ lays_until : (x y : State) (rest : List ℕ) → Suits 0 most_nested x → Suits
     → Lays (state_spelling x ++ (codes " U " ++ state_spelling y)) (between (state_tokens x) (codes "U") (state_tokens y)) (32 ∷ rest)
 lays_until x y rest a b =
     lays_both (state_spelling x) (state_spelling y) (codes "U") (state_tokens x) (state_tokens y) (32 ∷ rest)
-      (lays_state x a.names ((spaced (codes "U") ++ state_spelling y) ++ 32 ∷ rest) refl) (λ more. lays_token 85 [] (32 ∷ more) refl) (lays_state y b.names (32 ∷ rest) refl)
+    (lays_state x a.names ((spaced (codes "U") ++ state_spelling y) ++ 32 ∷ rest) refl) (λ more. lays_token 85 [] (32 ∷ more) refl) (lays_state y b.names (32 ∷ rest) refl)
 
 lays_path : (x y : State) (rest : List ℕ) → Suits 0 most_nested x → Suits 0 most_nested y → Lays (path_spelling x (state_spelling y)) (path_tokens x y) (32 ∷ rest)
 lays_path True y rest a b =
     lays_append (codes "F") (32 ∷ state_spelling y) (codes "F" ∷ []) (state_tokens y) (32 ∷ rest) (lays_token 70 [] ((32 ∷ state_spelling y) ++ 32 ∷ rest) refl)
-      (lays_append (32 ∷ []) (state_spelling y) [] (state_tokens y) (32 ∷ rest) (lays_blank (state_spelling y ++ 32 ∷ rest)) (lays_state y b.names (32 ∷ rest) refl))
+    (lays_append (32 ∷ []) (state_spelling y) [] (state_tokens y) (32 ∷ rest) (lays_blank (state_spelling y ++ 32 ∷ rest)) (lays_state y b.names (32 ∷ rest) refl))
 lays_path False y rest a b = lays_until False y rest a b
 lays_path (Label name) y rest a b = lays_until (Label name) y rest a b
 lays_path (Not x) y rest a b = lays_until (Not x) y rest a b
@@ -163,11 +162,11 @@ lays_formula f is =
     let sides = path_spelling f.left (state_spelling f.right) in
     let inner = lays_append sides (codes " ]") (path_tokens f.left f.right) (codes "]" ∷ []) [] (lays_path f.left f.right (codes "]") is.left is.right) closing in
     let opened = lays_append (spaced (codes "[")) (sides ++ codes " ]") (codes "[" ∷ []) (path_tokens f.left f.right ++ codes "]" ∷ []) []
-      (lays_spaced (codes "[") ((sides ++ codes " ]") ++ []) (lays_token 91 [] (32 ∷ ((sides ++ codes " ]") ++ [])) refl)) inner in
+    (lays_spaced (codes "[") ((sides ++ codes " ]") ++ []) (lays_token 91 [] (32 ∷ ((sides ++ codes " ]") ++ [])) refl)) inner in
     let asked = lays_append (bound_spelling f.bound) (codes " [ " ++ (sides ++ codes " ]")) (bound_tokens f.bound) (codes "[" ∷ (path_tokens f.left f.right ++ codes "]" ∷ [])) []
-      (lays_bound f.bound is.share (91 ∷ 32 ∷ ((sides ++ codes " ]") ++ []))) opened in
+    (lays_bound f.bound is.share (91 ∷ 32 ∷ ((sides ++ codes " ]") ++ []))) opened in
     lays_append (coalition_spelling f.coalition) (bound_spelling f.bound ++ (codes " [ " ++ (sides ++ codes " ]"))) (team_tokens f.coalition) (bound_tokens f.bound ++ codes "[" ∷ (path_tokens f.left f.right ++ codes "]" ∷ [])) []
-      (lays_team f.coalition is.words ((bound_spelling f.bound ++ (codes " [ " ++ (sides ++ codes " ]"))) ++ [])) asked
+    (lays_team f.coalition is.words ((bound_spelling f.bound ++ (codes " [ " ++ (sides ++ codes " ]"))) ++ [])) asked
 
 -- 3. Those tokens are derived.
 
