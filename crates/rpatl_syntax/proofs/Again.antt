@@ -1,5 +1,5 @@
 -- What the rules derive is read.
-use Rattle.std.proofs.Common.{◌≡◌, ◌∙◌, ◌⊎◌, ◌+◌, ◌≤◌, inl, inr, ℕ, zero, suc, List, [], ◌∷◌, ◌++◌, length, Bool, true, false, cond, Option, Some, None, Result, Ok, Err, refl, ap, sym, subst, arith, nat_lt}
+use Rattle.std.proofs.Common.{◌≡◌, ◌∙◌, ◌≤◌, ℕ, suc, List, [], ◌∷◌, ◌++◌, length, Bool, true, false, cond, Option, Some, None, Result, Ok, Err, refl, ap, sym, subst, arith, nat_lt}
 use Rattle.std.specs.Prelude.{codes, bytes_eq, ◌==◌, ◌||◌, ◌&&◌}
 use Rattle.std.specs.List.{AllByRecursion}
 use Rattle.std.proofs.lemmas.Bool.Decides.{nat_tests}
@@ -11,12 +11,12 @@ use Rattle.rpatl_syntax.specs.declared.fault.FormulaCause.TheVariants.{NotYet, U
 use Rattle.rpatl_syntax.specs.declared.formula.Bound.{Bound}
 use Rattle.rpatl_syntax.specs.declared.formula.Bound.TheVariants.{AtLeast, Above, AtMost, Below, AskMax, AskMin}
 use Rattle.rpatl_syntax.specs.Fault.{fault_at, ◌>>=◌}
-use Rattle.rpatl_syntax.specs.Formula.{State, True, False, Label, Not, And, Or, Implies, Tree}
+use Rattle.rpatl_syntax.specs.Formula.{State, True, False, Label, And, Or, Implies, Tree}
 use Rattle.rpatl_syntax.specs.Limits.{longest, most_nested}
-use Rattle.rpatl_syntax.specs.Tokens.{Tokens, Finish, Broken, Then, Token, tokens_of, count_of, begins_word}
-use Rattle.rpatl_syntax.specs.Grammar.{Reading, next, behind, is, is_word, is_number, is_quoted, unquoted, begins_formula, fails, plain, opens, unary, follows, where_next, joined, both, either, implied, negated, closed, inside_of, nested, state, names, further_names, with_name, some_names, coalition, threshold_of, threshold, compared, comparison, asked, bound, reached, until, path, finished, behind_bound, formula, formula_said}
+use Rattle.rpatl_syntax.specs.Tokens.{Tokens, Finish, Broken, Then, Token, tokens_of, begins_word}
+use Rattle.rpatl_syntax.specs.Grammar.{next, behind, is, is_word, is_quoted, unquoted, fails, unary, follows, where_next, both, either, implied, negated, closed, nested, state, names, further_names, with_name, some_names, coalition, threshold_of, threshold, compared, comparison, asked, bound, reached, until, path, finished, behind_bound, formula, formula_said}
 use Rattle.rpatl_syntax.specs.Rules.{between, IsState, IsEither, IsBoth, IsUnary, plain_state, implies, plain_either, or, plain_both, and, negation, brackets, everywhere, nowhere, label, with_commas, IsWord, IsCoalition, IsThreshold, IsComparison, IsBound, IsPath, reach, until as until_path, IsFormula, AreTokens, Denotes}
-use Rattle.rpatl_syntax.proofs.Spans.{Spans, spans_append, spans_split, spans_count, bytes_same}
+use Rattle.rpatl_syntax.proofs.Spans.{Spans, spans_split, spans_count}
 use Rattle.rpatl_syntax.proofs.Joining.{Stands, begun, went_on, ended}
 
 -- 1. State formulas.

@@ -1,15 +1,13 @@
 -- A formula that is said is denoted.
-use Rattle.std.proofs.Common.{◌≡◌, ◌∙◌, ◌⊎◌, ◌≤◌, inl, inr, ℕ, List, [], ◌∷◌, ◌++◌, length, Bool, true, false, cond, Option, Some, None, Result, Ok, Err, refl, ap, sym, subst, arith, nat_lt}
+use Rattle.std.proofs.Common.{◌≡◌, ◌∙◌, ◌≤◌, inl, inr, ℕ, List, [], ◌∷◌, ◌++◌, length, true, false, cond, Option, Some, None, Result, Ok, Err, refl, ap, sym, subst, arith, nat_lt}
 use Rattle.std.specs.Prelude.{codes, bytes_eq, ◌||◌}
 use Rattle.std.specs.List.{AllByRecursion}
 use Rattle.std.proofs.lemmas.Bool.Decides.{nat_tests}
-use Rattle.std.proofs.lemmas.List.{append_assoc}
 use Rattle.distributions.specs.Fraction.{Fraction}
 use Rattle.distributions.specs.Number.{number_said}
 use Rattle.distributions.specs.declared.number.NumberFault.{NumberFault}
 use Rattle.distributions.specs.declared.number.NumberFault.TheVariants.{NotANumber, TooManyDigits, ZeroDenominator, TooFine, TooLarge}
 use Rattle.distributions.proofs.Said.{number-found}
-use Rattle.rpatl_syntax.specs.declared.fault.FormulaFault.{FormulaFault}
 use Rattle.rpatl_syntax.specs.declared.fault.FormulaCause.TheVariants.{NotYet, Unexpected, ThresholdOutOfRange, TooLong}
 use Rattle.rpatl_syntax.specs.declared.formula.Bound.{Bound}
 use Rattle.rpatl_syntax.specs.declared.formula.Bound.TheVariants.{AtLeast, Above, AtMost, Below, AskMax, AskMin}
@@ -17,10 +15,10 @@ use Rattle.rpatl_syntax.specs.Fault.{fault_at, ◌>>=◌}
 use Rattle.rpatl_syntax.specs.Formula.{State, True, Tree}
 use Rattle.rpatl_syntax.specs.Limits.{longest, most_nested}
 use Rattle.rpatl_syntax.specs.Tokens.{Tokens, Finish, Broken, Then, Token, tokens_of}
-use Rattle.rpatl_syntax.specs.Grammar.{Reading, next, behind, is, is_word, is_number, fails, follows, where_next, names, further_names, with_name, some_names, coalition, threshold_of, threshold, compared, comparison, asked, bound, state, reached, until, path, finished, behind_bound, formula, formula_said}
+use Rattle.rpatl_syntax.specs.Grammar.{next, behind, is, is_word, is_number, fails, follows, where_next, names, further_names, with_name, some_names, coalition, threshold_of, threshold, compared, comparison, asked, bound, state, reached, until, path, finished, behind_bound, formula, formula_said}
 use Rattle.rpatl_syntax.specs.Rules.{between, IsState, with_commas, IsWord, IsCoalition, IsThreshold, IsComparison, IsBound, IsPath, reach, until as until_path, IsFormula, AreTokens, Denotes}
 use Rattle.rpatl_syntax.proofs.Spans.{Spans, Found, spans_append, chosen, bind_ok, next_ok, behind_ok, follows_ok, same_bytes}
-use Rattle.rpatl_syntax.proofs.Derived.{read, same_read, state_found}
+use Rattle.rpatl_syntax.proofs.Derived.{same_read, state_found}
 
 -- 1. Coalitions.
 

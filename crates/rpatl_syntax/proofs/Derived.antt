@@ -1,15 +1,15 @@
 -- What is read is derived by the rules of the grammar.
-use Rattle.std.proofs.Common.{◌≡◌, ◌∙◌, ◌⊎◌, inl, inr, ℕ, zero, suc, List, [], ◌∷◌, ◌++◌, Bool, true, false, cond, Option, Some, None, Result, Ok, Err, refl, ap, sym, subst}
+use Rattle.std.proofs.Common.{◌≡◌, inl, inr, ℕ, zero, suc, List, [], ◌∷◌, ◌++◌, Bool, true, false, cond, Option, Some, None, Result, Ok, Err, refl, ap, sym, subst}
 use Rattle.std.specs.Prelude.{codes, ◌||◌}
 use Rattle.rpatl_syntax.specs.declared.fault.FormulaFault.{FormulaFault}
-use Rattle.rpatl_syntax.specs.declared.fault.FormulaCause.TheVariants.{NotYet, Unexpected, TooDeep}
+use Rattle.rpatl_syntax.specs.declared.fault.FormulaCause.TheVariants.{NotYet, Unexpected}
 use Rattle.rpatl_syntax.specs.Fault.{◌>>=◌}
 use Rattle.rpatl_syntax.specs.Formula.{State, True, False, Label, Not, And, Or, Implies}
 use Rattle.rpatl_syntax.specs.Limits.{most_nested}
 use Rattle.rpatl_syntax.specs.Tokens.{Tokens, Then, Token, count_of}
-use Rattle.rpatl_syntax.specs.Grammar.{Reading, next, behind, is, is_quoted, unquoted, begins_formula, fails, plain, opens, unary, follows, where_next, further, joined, both, either, implied, negated, closed, inside_of, nested, state}
+use Rattle.rpatl_syntax.specs.Grammar.{Reading, next, behind, is, is_quoted, unquoted, begins_formula, fails, plain, opens, unary, follows, where_next, further, joined, both, either, implied, negated, closed, nested, state}
 use Rattle.rpatl_syntax.specs.Rules.{between, IsState, IsEither, IsBoth, IsUnary, plain_state, implies, plain_either, or, plain_both, and, negation, brackets, everywhere, nowhere, label}
-use Rattle.rpatl_syntax.proofs.Spans.{Spans, Found, spans_append, chosen, Both_ok, bind_ok, next_ok, behind_ok, follows_ok, same_bytes}
+use Rattle.rpatl_syntax.proofs.Spans.{Spans, Found, spans_append, chosen, bind_ok, next_ok, behind_ok, follows_ok, same_bytes}
 
 abbrev pub read : {X : Type 0} → X → Tokens → Result (X × Tokens) FormulaFault
 read x rest = Ok (x, rest)

@@ -1,15 +1,14 @@
 -- Each token of a text is whole: a word has bytes of words alone, a quoted name is a name between two `"`.
-use Rattle.std.proofs.Common.{◌≡◌, ◌∙◌, ◌⊎◌, ◌+◌, ◌-◌, ◌<◌, ◌≤◌, inl, inr, ℕ, zero, suc, List, [], ◌∷◌, ◌++◌, length, take, drop, Bool, true, false, cond, refl, ap, sym, subst, arith, nat_lt}
+use Rattle.std.proofs.Common.{◌≡◌, ◌∙◌, ◌+◌, ◌-◌, ◌<◌, ◌≤◌, inl, inr, ℕ, zero, suc, List, [], ◌∷◌, ◌++◌, length, take, Bool, true, false, cond, refl, ap, sym, subst, arith, nat_lt}
 use Rattle.std.specs.Prelude.{◌==◌, ◌||◌, ◌&&◌}
 use Rattle.std.proofs.Math.Seq.{take-append-add}
 use Rattle.std.specs.List.{AllByRecursion}
 use Rattle.std.proofs.lemmas.Bool.Decides.{nat_tests}
-use Rattle.rpatl_syntax.specs.declared.fault.FormulaFault.{FormulaFault}
 use Rattle.rpatl_syntax.specs.declared.front.Front.{Front}
 use Rattle.rpatl_syntax.specs.declared.front.Front.TheVariants.{Blank, Spelling, Unclosed, Strange}
 use Rattle.rpatl_syntax.specs.Limits.{longest_name}
-use Rattle.rpatl_syntax.specs.Tokens.{Tokens, Finish, Broken, Then, tokens_of, in_front, passed, tokens_from, front_from, begins_word, in_word, in_name, is_blank, is_digit, word_length, number_length, name_from, short_sign, is_short_sign, is_long_sign, sign_from}
-use Rattle.rpatl_syntax.specs.Grammar.{is_word, is_quoted, unquoted}
+use Rattle.rpatl_syntax.specs.Tokens.{Tokens, Finish, Broken, Then, tokens_of, in_front, tokens_from, front_from, begins_word, in_word, in_name, is_blank, is_digit, word_length, number_length, name_from, sign_from}
+use Rattle.rpatl_syntax.specs.Grammar.{is_word, is_quoted}
 use Rattle.rpatl_syntax.specs.Rules.{AreTokens}
 use Rattle.rpatl_syntax.proofs.Spans.{chosen}
 

@@ -1,15 +1,15 @@
 -- How deep a printed state formula nests, and that what was read nests no deeper.
-use Rattle.std.proofs.Common.{◌≡◌, ◌∙◌, ◌+◌, ◌-◌, ◌<◌, ◌≤◌, ℕ, zero, suc, List, [], ◌∷◌, ◌++◌, length, take, drop, Bool, true, false, cond, refl, ap, sym, subst, arith, nat_lt}
+use Rattle.std.proofs.Common.{◌≡◌, ◌∙◌, ◌+◌, ◌-◌, ◌≤◌, ℕ, List, [], ◌∷◌, ◌++◌, length, take, Bool, true, false, cond, refl, ap, sym, subst, arith, nat_lt}
 use Rattle.std.specs.Prelude.{max, codes, if◌then◌else◌}
 use Rattle.std.specs.List.{AllByRecursion}
-use Rattle.std.proofs.Math.Nat.{max-le, le-max_left, le-max_right}
+use Rattle.std.proofs.Math.Nat.{max-le}
 use Rattle.std.proofs.Math.Seq.{take-append_seam}
 use Rattle.std.proofs.lemmas.List.{length-append}
 use Rattle.std.proofs.lemmas.Bool.Decides.{nat_tests}
 use Rattle.rpatl_syntax.specs.Formula.{State, True, False, Label, Not, And, Or, Implies}
 use Rattle.rpatl_syntax.specs.Spelling.{strength_of}
 use Rattle.rpatl_syntax.specs.Grammar.{is_quoted, unquoted}
-use Rattle.rpatl_syntax.specs.Rules.{between, IsState, IsEither, IsBoth, IsUnary, plain_state, implies, plain_either, or, plain_both, and, negation, brackets, everywhere, nowhere, label}
+use Rattle.rpatl_syntax.specs.Rules.{IsState, IsEither, IsBoth, IsUnary, plain_state, implies, plain_either, or, plain_both, and, negation, brackets, everywhere, nowhere, label}
 use Rattle.rpatl_syntax.proofs.Lexed.{IsName, IsWhole}
 
 -- in a place for formulas that bind at least so tightly

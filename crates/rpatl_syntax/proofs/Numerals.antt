@@ -1,13 +1,13 @@
 -- A printed fraction is a number of its value.
-use Rattle.std.proofs.Common.{◌≡◌, ◌≢◌, ◌∙◌, ◌+◌, ◌-◌, ◌*◌, ◌/◌, ◌%◌, ◌^◌, ◌<◌, ◌≤◌, inl, ℕ, zero, suc, List, [], ◌∷◌, ◌++◌, length, Bool, true, false, cond, refl, ap, sym, subst, arith, nat_lt}
-use Rattle.std.specs.Prelude.{◌==◌, ◌||◌, ◌&&◌, codes, decimal}
+use Rattle.std.proofs.Common.{◌≡◌, ◌∙◌, ◌+◌, ◌-◌, ◌*◌, ◌/◌, ◌%◌, ◌^◌, ◌<◌, ◌≤◌, inl, ℕ, List, [], ◌∷◌, ◌++◌, length, Bool, true, false, cond, refl, ap, sym, arith, nat_lt}
+use Rattle.std.specs.Prelude.{◌==◌, ◌||◌, codes, decimal}
 use Rattle.std.proofs.lemmas.Fmt.{decimal_by_steps_wide, length-decimal-le_wide}
 use Rattle.std.proofs.lemmas.List.{append-nil}
 use Rattle.std.proofs.lemmas.Bool.Decides.{nat_tests}
 use Rattle.text_lines.specs.Text.{all_digits, value_onto}
-use Rattle.distributions.specs.Limits.{finest, most_digits, most_exponent, most_exponent_digits}
-use Rattle.distributions.specs.Fraction.{Fraction, IsFraction, SameValue}
-use Rattle.distributions.specs.Number.{Decimal, Quotient, no_exponent, AreDigits, Spells, SpellsDecimal, SpellsQuotient, value_of, is_long, Denotes}
+use Rattle.distributions.specs.Limits.{finest, most_digits}
+use Rattle.distributions.specs.Fraction.{Fraction, IsFraction}
+use Rattle.distributions.specs.Number.{Decimal, Quotient, no_exponent, AreDigits, Denotes}
 use Rattle.distributions.proofs.Spelled.{value_append}
 use Rattle.rpatl_syntax.specs.Tokens.{is_digit}
 use Rattle.rpatl_syntax.specs.Spelling.{fraction_spelling}

@@ -1,8 +1,8 @@
 -- The tokens behind a token.
-use Rattle.std.proofs.Common.{◌≡◌, ◌∙◌, ◌+◌, ◌-◌, ◌<◌, ◌≤◌, ℕ, zero, suc, List, [], ◌∷◌, length, take, drop, refl, ap, sym, subst, arith}
+use Rattle.std.proofs.Common.{◌≡◌, ◌∙◌, ◌+◌, ◌-◌, ◌<◌, ◌≤◌, ℕ, zero, suc, List, [], ◌∷◌, length, take, drop, ap, sym, subst, arith}
 use Rattle.rpatl_syntax.specs.declared.tokens.Lead.{Lead}
 use Rattle.rpatl_syntax.specs.Cursor.{Leads}
-use Rattle.rpatl_syntax.specs.declared.front.Front.TheVariants.{Blank, Spelling}
+use Rattle.rpatl_syntax.specs.declared.front.Front.TheVariants.{Spelling}
 use Rattle.rpatl_syntax.specs.Tokens.{Tokens, Then, in_front, tokens_from, front_from}
 
 passing : (bytes : List ℕ) (place count : ℕ) → count ≤ length bytes → tokens_from place count bytes ≡ tokens_from (place + count) 0 (drop count bytes)

@@ -1,12 +1,11 @@
 -- The tokens of a printed state formula are derived by the rules.
-use Rattle.std.proofs.Common.{◌≡◌, ◌∙◌, ◌+◌, ◌<◌, ◌≤◌, ℕ, zero, suc, List, [], ◌∷◌, ◌++◌, Bool, true, false, cond, refl, ap, sym, subst, arith, nat_lt}
-use Rattle.std.specs.Prelude.{max, codes, if◌then◌else◌}
+use Rattle.std.proofs.Common.{◌+◌, ◌≤◌, ℕ, zero, suc, List, [], ◌∷◌, ◌++◌, refl, subst, arith, nat_lt}
+use Rattle.std.specs.Prelude.{codes, if◌then◌else◌}
 use Rattle.std.proofs.Math.Nat.{le-max_left, le-max_right}
 use Rattle.rpatl_syntax.specs.Formula.{State, True, False, Label, Not, And, Or, Implies}
 use Rattle.rpatl_syntax.specs.Spelling.{strength_of}
-use Rattle.rpatl_syntax.specs.Grammar.{unquoted}
 use Rattle.rpatl_syntax.specs.Rules.{between, IsState, IsEither, IsBoth, IsUnary, plain_state, implies, plain_either, or, plain_both, and, negation, brackets, everywhere, nowhere, label}
-use Rattle.rpatl_syntax.proofs.Needs.{need, need_in, HasNames, Suits, unquoted-quoted}
+use Rattle.rpatl_syntax.proofs.Needs.{need, need_in, unquoted-quoted}
 
 abbrev pub tokens_in : ℕ → State → List (List ℕ) → List (List ℕ)
 tokens_in least x tokens = if nat_lt (strength_of x) least then codes "(" ∷ (tokens ++ codes ")" ∷ []) else tokens

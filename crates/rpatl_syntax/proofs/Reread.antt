@@ -1,26 +1,25 @@
 -- The spelling of a formula that was read denotes that formula.
-use Rattle.std.proofs.Common.{◌≡◌, ◌∙◌, ◌+◌, ◌<◌, ◌≤◌, ℕ, zero, suc, List, [], ◌∷◌, ◌++◌, length, Bool, true, false, cond, Option, Some, None, Result, Ok, Err, Vec, Global, refl, ap, sym, subst, arith, append_assoc}
+use Rattle.std.proofs.Common.{◌≡◌, ◌∙◌, ◌+◌, ◌≤◌, ℕ, List, [], ◌∷◌, ◌++◌, length, true, Option, Some, None, Result, Ok, Err, Vec, Global, refl, ap, sym, subst, arith, append_assoc}
 use Rattle.std.specs.Prelude.{codes, IfOk}
 use Rattle.game_outside.specs.declared.OutOfMemory.{OutOfMemory}
 use Rattle.std.specs.List.{AllByRecursion}
 use Rattle.std.proofs.lemmas.List.{append-nil}
-use Rattle.distributions.specs.Fraction.{Fraction, IsFraction}
+use Rattle.distributions.specs.Fraction.{Fraction}
 use Rattle.rpatl_syntax.specs.declared.formula.Bound.{Bound}
 use Rattle.rpatl_syntax.specs.declared.formula.Bound.TheVariants.{AtLeast, Above, AtMost, Below, AskMax, AskMin}
 use Rattle.rpatl_syntax.specs.Formula.{State, True, False, Label, Not, And, Or, Implies, Tree}
-use Rattle.rpatl_syntax.specs.Grammar.{formula_said, is_word, is_number}
+use Rattle.rpatl_syntax.specs.Grammar.{formula_said, is_number}
 use Rattle.rpatl_syntax.specs.Limits.{longest, most_nested}
-use Rattle.rpatl_syntax.specs.Rules.{between, IsState, with_commas, IsWord, IsCoalition, IsThreshold, IsComparison, IsBound, IsPath, reach, until as until_path, IsFormula, AreTokens, Denotes}
+use Rattle.rpatl_syntax.specs.Rules.{between, IsState, with_commas, IsWord, IsCoalition, IsComparison, IsBound, IsPath, reach, until as until_path, AreTokens, Denotes}
 use Rattle.rpatl_syntax.specs.Spelling.{state_spelling, path_spelling, names_spelling, coalition_spelling, fraction_spelling, bound_spelling, spelling}
-use Rattle.rpatl_syntax.specs.Tokens.{Tokens, tokens_from, tokens_of, is_digit}
-use Rattle.rpatl_syntax.proofs.Spans.{Spans}
+use Rattle.rpatl_syntax.specs.Tokens.{tokens_from, tokens_of, is_digit}
 use Rattle.rpatl_syntax.proofs.Denoted.{ends_with, formula_denoted}
 use Rattle.rpatl_syntax.proofs.Again.{formula_said_again}
-use Rattle.rpatl_syntax.proofs.Lexed.{all_in_word, IsWhole, text_whole}
-use Rattle.rpatl_syntax.proofs.Needs.{need, need_in, Suits, state_suits, all_left, all_right, need-below}
+use Rattle.rpatl_syntax.proofs.Lexed.{IsWhole, text_whole}
+use Rattle.rpatl_syntax.proofs.Needs.{need, Suits, state_suits, all_left, all_right, need-below}
 use Rattle.rpatl_syntax.proofs.Printing.{state_tokens, printed_state}
-use Rattle.rpatl_syntax.proofs.Laying.{Lays, Ends, spaced, lays_append, lays_token, lays_blank, lays_spaced, lays_both, lays_state, lays_names, lays_number, lays_above, lays_below, IsWholeWord}
-use Rattle.rpatl_syntax.proofs.Numerals.{IsShare, FractionText, fraction_text}
+use Rattle.rpatl_syntax.proofs.Laying.{Lays, spaced, lays_append, lays_token, lays_blank, lays_spaced, lays_both, lays_state, lays_names, lays_number, lays_above, lays_below, IsWholeWord}
+use Rattle.rpatl_syntax.proofs.Numerals.{IsShare, fraction_text}
 
 -- 1. What a formula keeps that was read.
 

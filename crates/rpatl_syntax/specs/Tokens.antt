@@ -1,5 +1,5 @@
 -- A text as tokens: words, numbers, quoted names and signs, each as long as it goes on, with blanks between them.
-use Rattle.std.specs.Prelude.{◌≡◌, ℕ, zero, suc, ◌+◌, ◌-◌, ◌==◌, ◌&&◌, ◌||◌, nat_le, nat_lt, Bool, true, false, List, [], ◌∷◌, length, take, Result, Ok, Err, if◌then◌else◌}
+use Rattle.std.specs.Prelude.{ℕ, zero, suc, ◌+◌, ◌-◌, ◌==◌, ◌&&◌, ◌||◌, nat_le, nat_lt, Bool, false, List, [], ◌∷◌, length, take, if◌then◌else◌}
 use Rattle.rpatl_syntax.specs.declared.fault.FormulaFault.{FormulaFault}
 use Rattle.rpatl_syntax.specs.declared.fault.FormulaCause.TheVariants.{End, Unexpected}
 use Rattle.rpatl_syntax.specs.declared.front.Front.{Front}

@@ -7,17 +7,25 @@ use distributions::NumberFault;
 /// What is wrong with a text, or that memory was wanting.
 #[derive(Clone, Copy, Debug, PartialEq, Eq)]
 pub enum FormulaCause {
+    /// Memory was wanting; the place is 0.
     OutOfMemory,
+    /// Bytes that form no token, or a token that the grammar does not allow there.
     Unexpected,
+    /// The text ends where a token has to stand, or inside a quoted name; the place is the text's length.
     End,
+    /// A `(` or `!` of which too many would be open at once.
     TooDeep,
+    /// The threshold is no number, for this reason.
     BadNumber(NumberFault),
+    /// The threshold is above 1.
     ThresholdOutOfRange,
+    /// The text has more than `LONGEST` bytes, which is the place.
     TooLong,
+    /// `X`, `G`, a bound on the steps of `F` or `U`, or a formula inside a state formula.
     NotYet,
 }
 
-/// A cause, and the offset of its first byte in the text.
+/// A cause, and the offset in bytes of the token that it speaks of.
 #[derive(Clone, Copy, Debug, PartialEq, Eq)]
 pub struct FormulaFault {
     pub place: u32,

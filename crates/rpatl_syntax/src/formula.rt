@@ -7,23 +7,36 @@ use game_outside::Name;
 /// A property of states: labels and their combinations.
 #[derive(Drop)]
 pub enum StateFormula {
+    /// `true`: every state.
     All,
+    /// `false`: no state.
     Nothing,
+    /// The states with this label.
     Named(Name),
+    /// `!x`
     Negated(Box<StateFormula>),
+    /// `x & y`
     Both(Box<StateFormula>, Box<StateFormula>),
+    /// `x | y`
     Either(Box<StateFormula>, Box<StateFormula>),
+    /// `x => y`
     Implied(Box<StateFormula>, Box<StateFormula>),
 }
 
 /// What is asked of the probability: that it keeps a threshold, or its greatest or least value.
 #[derive(Clone, Copy, Debug, PartialEq, Eq)]
 pub enum Bound {
+    /// `P>=p`
     AtLeast(Frac),
+    /// `P>p`
     Above(Frac),
+    /// `P<=p`
     AtMost(Frac),
+    /// `P<p`
     Below(Frac),
+    /// `Pmax=?`: the greatest value.
     AskMax,
+    /// `Pmin=?`: the least value.
     AskMin,
 }
 

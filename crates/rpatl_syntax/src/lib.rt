@@ -1,4 +1,9 @@
-//! Formulas of rPATL and PCTL: read from text and printed, as PRISM spells them.
+//! Reachability formulas of PCTL (Hansson and Jonsson 1994) and rPATL (Chen et al. 2013), spelled as PRISM spells them.
+//!
+//! `read_formula` gives the formula that a text spells, or the first fault of the text with its offset. `print_formula`
+//! gives the one spelling of a formula. The rules of the grammar are `IsFormula` of `specs/Rules.antt`; contracts see a
+//! formula as a `Tree` of `specs/Formula.antt`, by `tree_of`. Which names stand for labels or players of a model is not
+//! looked at here.
 #![tactic(auto)]
 
 mod cursor;

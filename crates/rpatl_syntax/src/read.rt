@@ -80,7 +80,7 @@ fn behind_bound(
     }
 }
 
-/// The names of a coalition, where one stands.
+// The names of a coalition, where one stands.
 fn read_coalition<'a>(
     alloc: Global,
     cursor: Cursor<'a>,
@@ -146,7 +146,7 @@ fn add_name(alloc: Global, list: &mut Vec<Name>, word: &[u8]) -> Result<(), Form
     }
 }
 
-/// A bound on the probability.
+// A bound on the probability.
 fn read_bound<'a>(cursor: Cursor<'a>) -> Result<(Bound, Cursor<'a>), FormulaFault>
     ensures { Says bound_at result (bound (tokens_at cursor.entry)) }
 {
@@ -208,7 +208,7 @@ fn threshold_in(token: &Token<'_>) -> Result<Frac, FormulaFault>
     }
 }
 
-/// The two sides of `left U right`, where `F right` has `true` on the left.
+// The two sides of `left U right`, where `F right` has `true` on the left.
 fn read_path<'a>(
     alloc: Global,
     cursor: Cursor<'a>,

@@ -20,12 +20,12 @@ pub type Read<'a> = Result<(StateFormula, Cursor<'a>), FormulaFault>;
 
 /// The state formula at the front.
 pub fn read_state<'a>(alloc: Global, cursor: Cursor<'a>) -> Read<'a>
-    ensures value { Gives state_at result (state (tokens_at cursor.entry)) }
+    ensures { Gives state_at result (state (tokens_at cursor.entry)) }
 {
     level_state(alloc, Level::Implication, MOST_NESTED, cursor)
 }
 
-/// `true`, `false` or a quoted name.
+// `true`, `false` or a quoted name.
 fn plain_state<'a>(alloc: Global, token: Token<'a>) -> Read<'a>
     ensures value { Gives state_at result (plain (token_of token.entry)) }
     ensures shorter { Shortens result (count_of (tokens_at token.entry.after) + 1) }

@@ -27,12 +27,14 @@ pub enum Lead<'a> {
 }
 
 impl<'a> Token<'a> {
+    /// The token has this spelling.
     pub fn is(&self, spelling: &str) -> bool
         ensures { result ≡ bytes_eq self.now.spelling.now spelling.now }
     {
         self.spelling == spelling.as_bytes()
     }
 
+    /// A fault of this token.
     pub fn fault(&self, cause: FormulaCause) -> FormulaFault
         ensures { result ≡ fault_at self.now.place cause }
     {
@@ -41,7 +43,6 @@ impl<'a> Token<'a> {
 }
 
 /// What comes next.
-#[tactic(auto, using(crate::proofs::Passing::token_cut))]
 pub fn next_lead<'a>(cursor: Cursor<'a>) -> Lead<'a>
     ensures { Leads (tokens_at cursor.entry) result }
 {

@@ -1,4 +1,4 @@
-use Rattle.std.proofs.Common.{rules, ◌≡◌, sym, ap, ◌∙◌, inr, Err, true, false, subst, List, ◌++◌, ℕ}
+use Rattle.std.proofs.Common.{rules, ◌≡◌, sym, ap, ◌∙◌, inr, Err, true, false, subst, List, ℕ}
 use Rattle.std.specs.Prelude.{bytes_eq, codes}
 use Rattle.rpatl_syntax.specs.Grammar.{names, is_word}
 use Rattle.rpatl_syntax.specs.Cursor.{tokens_at, token_of}

@@ -1,4 +1,4 @@
-use Rattle.std.proofs.Common.{◌≡◌, refl}
+use Rattle.std.proofs.Common.{◌≡◌}
 use Rattle.rpatl_syntax.specs.Grammar.{names}
 use Rattle.rpatl_syntax.specs.Tokens.{count_of}
 use Rattle.rpatl_syntax.specs.Cursor.{tokens_at}
