@@ -17,8 +17,8 @@ use Rattle.game_model.specs.Limits.{unit}
 use Rattle.game_model.specs.Rounded.{down_value, down_step, IsBelow}
 use Rattle.game_model.proofs.Each.{AllByRecursion-weaker}
 use Rattle.game_model.proofs.Choices.{IsChoiceOf, IsChoiceOf-choice_of}
-use Rattle.game_model.proofs.Best.{min-cases, weighted_sum-le, weighted_sum-most}
-use Rattle.game_laws.proofs.Steps.{down_value-le, optimum-each}
+use Rattle.game_model.proofs.Best.{min-cases, optimum-each, weighted_sum-le, weighted_sum-most}
+use Rattle.game_laws.proofs.Steps.{down_value-le}
 use Rattle.step_core.specs.Sound.{IsFree, Gives}
 
 -- each choice of a question is one of its game

@@ -9,7 +9,7 @@ use Rattle.game_model.specs.declared.game.Side.TheVariants.{Max, Min}
 use Rattle.game_model.specs.Game.{choices_of, choice_of, no_distribution}
 use Rattle.game_model.specs.Query.{Query, IsQuery, states, is_goal, is_dead, side_at}
 use Rattle.game_model.specs.Rounded.{down_value, down_step}
-use Rattle.game_laws.proofs.Steps.{optimum-below}
+use Rattle.game_model.proofs.Best.{optimum-below}
 use Rattle.step_core.specs.declared.event.Event.{Event}
 use Rattle.step_core.specs.declared.event.Event.TheVariants.{Load, Won, Lost, Split, Join}
 use Rattle.step_core.specs.declared.event.Refused.{Refused}

@@ -11,9 +11,9 @@ use Rattle.game_model.specs.Query.{Query, IsQuery, states, side_at}
 use Rattle.game_model.specs.Values.{optimum, weighted_sum}
 use Rattle.game_model.specs.Limits.{unit}
 use Rattle.game_model.specs.Rounded.{down_value, down_step}
-use Rattle.game_model.proofs.Best.{weighted_sum-le, optimum-most}
+use Rattle.game_model.proofs.Best.{weighted_sum-le, optimum-below, optimum-most}
 use Rattle.game_model.proofs.Each.{AllByRecursion-always}
-use Rattle.game_laws.proofs.Steps.{down_value-le, optimum-below}
+use Rattle.game_laws.proofs.Steps.{down_value-le}
 use Rattle.std.proofs.lemmas.List.Elements.{recursion_from_All, All-from_get_or}
 use Rattle.step_core.specs.Sound.{IsFree}
 use Rattle.step_core.proofs.Tables.{free_step, choice_fits, weighted_sum-rises}
