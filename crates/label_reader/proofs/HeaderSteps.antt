@@ -1,21 +1,20 @@
 -- One item more in a header.
-use Rattle.std.proofs.Common.{◌≡◌, ◌<◌, ◌≤◌, ◌+◌, ◌-◌, ◌^◌, ◌⊎◌, ℕ, suc, zero, Bool, true, false, cond, List, [], ◌∷◌, ◌++◌, length, map, get_or, Option, Some, None, Ok, Err, Vec, Global, All, refl, sym, ap, ◌∙◌, subst, inl, inr, arith, eqb, ltb, leb, nat_eq, is_some, bytes_eq, ◌||◌}
+use Rattle.std.proofs.Common.{◌≡◌, ◌<◌, ◌≤◌, ◌+◌, ◌⊎◌, ℕ, suc, zero, Bool, true, false, cond, List, [], ◌∷◌, ◌++◌, length, get_or, Option, Some, None, Ok, Err, Vec, Global, refl, sym, ap, ◌∙◌, subst, inl, inr, arith, eqb, ltb, leb, nat_eq, is_some, bytes_eq, ◌||◌}
 use Rattle.std.specs.Option.{option_map}
 use Rattle.std.specs.HashMap.{get}
 use Rattle.std.specs.List.{list_any}
 use Rattle.std.proofs.lemmas.Bool.Decides.{nat_tests}
-use Rattle.std.proofs.lemmas.List.{length-append, get_or_past}
+use Rattle.std.proofs.lemmas.List.{length-append}
 use Rattle.std.proofs.lemmas.List.Elements.{All-push}
 use Rattle.indexmap.specs.IndexMap.{insert_entry}
 use Rattle.text_lines.specs.Text.{saturated}
 use Rattle.text_lines.proofs.Texts.{bool_cases}
 use Rattle.label_reader.specs.declared.kind.FileKind.{FileKind}
-use Rattle.label_reader.specs.declared.faults.LabCause.{LabCause}
 use Rattle.label_reader.specs.declared.faults.LabCause.TheVariants.{OverLimit, DoubleIndex, DoubleName}
 use Rattle.label_reader.specs.Header.{Item, place_of, has_index, has_name, passes_limit, most_items, with_item, saturated_item}
 use Rattle.label_reader.specs.Placed.{item_at, items_of, indices_of, Places, AreSingle, ArePlaced}
 use Rattle.label_reader.specs.Named.{names_of}
-use Rattle.label_reader.proofs.Indexed.{place_of-push_other, place_of-push_new, index_at_place}
+use Rattle.label_reader.proofs.Indexed.{place_of-push_other, place_of-push_new}
 
 abbrev tests : FileKind → List Item → Item → Bool → Bool → Bool → Type 0
 tests kind before item over index name = with_item kind before (Some item) ≡ cond over (Err OverLimit) (cond index (Err DoubleIndex) (cond name (Err DoubleName) (Ok (before ++ item ∷ []))))

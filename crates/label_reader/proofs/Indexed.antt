@@ -1,11 +1,11 @@
 -- The places of items by their indices.
-use Rattle.std.proofs.Common.{◌≡◌, ◌<◌, ◌≤◌, ◌+◌, ◌-◌, ◌^◌, ℕ, suc, zero, Bool, true, false, cond, List, [], ◌∷◌, ◌++◌, length, map, get_or, Option, Some, None, All, refl, sym, ap, ◌∙◌, subst, inl, inr, arith, eqb}
+use Rattle.std.proofs.Common.{◌≡◌, ◌<◌, ◌≤◌, ◌+◌, ℕ, suc, Bool, true, false, cond, List, [], ◌∷◌, ◌++◌, length, get_or, Option, Some, None, All, refl, sym, ap, ◌∙◌, subst, inl, inr, arith, eqb}
 use Rattle.std.specs.Option.{option_map, option_and_then, IfSome}
 use Rattle.std.proofs.lemmas.Bool.Decides.{nat_tests}
-use Rattle.text_lines.specs.Text.{number_of, saturated}
+use Rattle.text_lines.specs.Text.{saturated}
 use Rattle.text_lines.proofs.Texts.{bool_cases}
-use Rattle.label_reader.specs.Header.{Item, place_of, place_in}
-use Rattle.label_reader.specs.Placed.{indices_of, AreSingle}
+use Rattle.label_reader.specs.Header.{Item, place_of}
+use Rattle.label_reader.specs.Placed.{indices_of}
 
 abbrev pub place_step : Item → List Item → ℕ → Bool → Option ℕ
 place_step item items index v = cond v (Some 0) (option_map (λ k. k + 1) (place_of items index))

@@ -1,5 +1,5 @@
 -- The header by cases is the header that the relation describes.
-use Rattle.std.proofs.Common.{◌≡◌, ◌≢◌, ◌<◌, ◌≤◌, ◌+◌, ◌-◌, ◌⊎◌, inl, inr, ℕ, suc, Bool, true, false, cond, List, [], ◌∷◌, ◌++◌, length, Option, Some, None, Ok, Err, Result, sym, ap, ◌∙◌, refl, subst, arith, eqb, ltb, leb, is_some, bytes_eq, ◌||◌, ◌&&◌, append_assoc}
+use Rattle.std.proofs.Common.{◌≡◌, ◌≢◌, ◌<◌, ◌≤◌, ◌+◌, inl, inr, ℕ, Bool, true, false, cond, List, [], ◌∷◌, ◌++◌, length, Option, Some, None, Ok, Err, Result, sym, ap, ◌∙◌, refl, subst, arith, eqb, ltb, leb, is_some, bytes_eq, ◌||◌, append_assoc}
 use Rattle.std.specs.Option.{option_map}
 use Rattle.std.proofs.lemmas.Bool.Decides.{nat_tests}
 use Rattle.std.proofs.lemmas.List.{append-nil, length-append}
@@ -9,11 +9,11 @@ use Rattle.text_lines.specs.Laws.{HasNo}
 use Rattle.text_lines.proofs.Texts.{bool_cases}
 use Rattle.label_reader.specs.declared.kind.FileKind.{FileKind}
 use Rattle.label_reader.specs.declared.faults.LabCause.{LabCause}
-use Rattle.label_reader.specs.Header.{Item, split_first, quoted, is_name, item_named, item_parts, item_of, most_items, place_of, has_index, has_name, passes_limit, with_item, and_then, items_from, header_of}
-use Rattle.label_reader.specs.Denotes.{Spells, IsItem, AreItems, IsNew, AreApart, IsHeader}
+use Rattle.label_reader.specs.Header.{Item, split_first, quoted, is_name, item_named, item_parts, item_of, most_items, place_of, has_index, has_name, with_item, and_then, items_from, header_of}
+use Rattle.label_reader.specs.Denotes.{IsItem, AreItems, IsNew, AreApart, IsHeader}
 use Rattle.label_reader.proofs.Indexed.{none_behind}
 use Rattle.label_reader.proofs.HeaderSteps.{is_added, has_index-none}
-use Rattle.label_reader.proofs.Heads.{IsAdded, with_item-added}
+use Rattle.label_reader.proofs.Heads.{with_item-added}
 use Rattle.label_reader.proofs.KnownLines.{both_true}
 use Rattle.label_reader.proofs.Splits.{split_first-found, split_first-again, quoted-found, quoted-again}
 
