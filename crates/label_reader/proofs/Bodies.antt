@@ -1,10 +1,10 @@
 -- The lines behind the header, one after another.
-use Rattle.std.proofs.Common.{◌≡◌, ◌+◌, ℕ, Bool, true, false, cond, List, [], ◌∷◌, Ok, Err, Result, sym, ap, ◌∙◌, refl, ◌&&◌}
+use Rattle.std.proofs.Common.{◌≡◌, ◌+◌, ℕ, Bool, true, false, cond, List, [], ◌∷◌, Ok, Err, sym, ap, ◌∙◌, refl, ◌&&◌}
 use Rattle.text_lines.specs.Text.{lines_of, fields_of, is_nil, keep_line, significant}
 use Rattle.label_reader.specs.declared.kind.FileKind.{FileKind}
 use Rattle.label_reader.specs.declared.faults.LabCause.{LabCause}
 use Rattle.label_reader.specs.Header.{Item, and_then}
-use Rattle.label_reader.specs.Lines.{StateLine, state_line, known_line, with_line, add_line}
+use Rattle.label_reader.specs.Lines.{StateLine, state_line, known_line, with_line}
 use Rattle.label_reader.specs.Texts.{fault_at, then_at, lines_from}
 use Rattle.label_reader.specs.Read.{body_of, HasRead}
 

@@ -1,5 +1,5 @@
 -- What the readers have filled is what the lines say.
-use Rattle.std.proofs.Common.{◌≡◌, ◌<◌, ◌≤◌, ◌+◌, ◌^◌, ℕ, suc, zero, Bool, true, false, List, [], ◌∷◌, ◌++◌, length, map, get_or, take, drop, Option, Some, None, Vec, Global, All, sym, ap, ◌∙◌, refl, subst, arith}
+use Rattle.std.proofs.Common.{◌≡◌, ◌<◌, ◌^◌, ℕ, suc, Bool, false, List, [], ◌∷◌, ◌++◌, length, map, get_or, take, drop, Option, Some, None, Vec, Global, sym, ap, ◌∙◌, refl, subst, arith}
 use Rattle.std.specs.Option.{unwrap_or, IfSome}
 use Rattle.std.specs.List.{range_with_len}
 use Rattle.std.proofs.lemmas.List.{length-map, get_or-map, ext_get_or, get_or_default}

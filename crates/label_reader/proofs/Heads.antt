@@ -1,15 +1,14 @@
 -- The header line and what stands behind it.
-use Rattle.std.proofs.Common.{◌≡◌, ◌≢◌, ◌<◌, ◌≤◌, ◌+◌, ◌⊎◌, inl, inr, ℕ, Bool, true, false, cond, List, [], ◌∷◌, ◌++◌, length, Option, Some, None, Ok, Err, Result, sym, ap, ◌∙◌, refl, subst, arith, ◌||◌}
+use Rattle.std.proofs.Common.{◌≡◌, ◌<◌, ◌≤◌, ◌⊎◌, inl, inr, ℕ, Bool, true, false, cond, List, [], ◌∷◌, ◌++◌, length, Option, Some, None, Ok, Err, Result, sym, ap, ◌∙◌, refl, subst, arith}
 use Rattle.std.proofs.lemmas.List.{length-append}
 use Rattle.text_lines.specs.Text.{lines_of, fields_of, is_nil, keep_line, significant}
-use Rattle.text_lines.proofs.Texts.{bool_cases}
 use Rattle.label_reader.specs.declared.kind.FileKind.{FileKind}
 use Rattle.label_reader.specs.declared.faults.LabCause.{LabCause}
 use Rattle.label_reader.specs.declared.faults.LabCause.TheVariants.{OutOfMemory, OverLimit, DoubleIndex, DoubleName}
 use Rattle.label_reader.specs.declared.faults.LabFault.{LabFault}
 use Rattle.label_reader.specs.Header.{Item, item_of, passes_limit, has_index, has_name, with_item, and_then, items_from, header_of}
 use Rattle.label_reader.specs.Lines.{StateLine}
-use Rattle.label_reader.specs.Texts.{fault_at, then_at, lines_from, made_of, said_by_lines, said_by, Gives, GivesCause, GivesFault}
+use Rattle.label_reader.specs.Texts.{then_at, lines_from, made_of, said_by_lines, said_by, Gives, GivesFault}
 use Rattle.label_reader.specs.Read.{body_of}
 
 module _ {Y : Type 0} (kind : FileKind) (n : ℕ) (make : List Item → List StateLine → Y) where

@@ -5,8 +5,8 @@ use Rattle.std.specs.List.{list_all}
 use Rattle.std.proofs.lemmas.Bool.Decides.{nat_tests}
 use Rattle.text_lines.specs.Text.{fields_of, number_of, saturated}
 use Rattle.label_reader.specs.declared.faults.LabCause.{LabCause}
-use Rattle.label_reader.specs.declared.faults.LabCause.TheVariants.{BadField, StateOutOfRange, UnknownIndex}
-use Rattle.label_reader.specs.Header.{Item, split_first, place_of, place_in, has_place, has_index}
+use Rattle.label_reader.specs.declared.faults.LabCause.TheVariants.{StateOutOfRange, UnknownIndex}
+use Rattle.label_reader.specs.Header.{Item, split_first, place_of, has_place, has_index}
 use Rattle.label_reader.specs.Lines.{StateLine, is_number, number_in, only_number, numbered, line_parts, state_line, known_line}
 
 pub both_true : (a b : Bool) → (a && b) ≡ true → (a ≡ true) × (b ≡ true)

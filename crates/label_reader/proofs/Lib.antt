@@ -13,3 +13,4 @@ pub mod StateLineLaws
 pub mod TextLaws
 pub mod SetLaws
 pub mod OwnerLaws
+pub mod RisingStates

@@ -1,7 +1,6 @@
 -- Names in a map, beside what stands at their places.
-use Rattle.std.proofs.Common.{◌≡◌, ◌<◌, ◌≤◌, ◌+◌, ℕ, suc, zero, Bool, true, false, cond, List, [], ◌∷◌, ◌++◌, length, map, replicate, get_or, drop, Option, Some, None, Vec, Global, All, refl, sym, ap, ◌∙◌, subst, inl, inr, arith, is_some, bytes_eq, ltb, ◌||◌}
-use Rattle.std.specs.Option.{unwrap_or}
-use Rattle.std.specs.List.{list_any, position, position_or_len}
+use Rattle.std.proofs.Common.{◌≡◌, ◌<◌, ◌≤◌, ◌+◌, ℕ, suc, zero, Bool, true, false, cond, List, [], ◌∷◌, length, replicate, get_or, drop, Some, None, Vec, Global, All, refl, sym, ap, ◌∙◌, inl, inr, arith, is_some, bytes_eq, ltb, ◌||◌}
+use Rattle.std.specs.List.{list_any, position_or_len}
 use Rattle.std.specs.Map.{keys_of, lookup}
 use Rattle.std.proofs.lemmas.List.{at_drop_more, length-map}
 use Rattle.std.proofs.lemmas.Bool.Decides.{nat_tests}

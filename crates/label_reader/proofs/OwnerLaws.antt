@@ -1,7 +1,7 @@
 -- Owners by cases are those that the relation describes.
-use Rattle.std.proofs.Common.{◌≡◌, ◌≢◌, ◌<◌, ◌≤◌, ◌+◌, ◌⊎◌, inl, inr, ℕ, Bool, true, false, cond, List, [], ◌∷◌, ◌++◌, length, map, get_or, Option, Some, None, sym, ap, ◌∙◌, refl, subst, arith, eqb, is_some, ◌&&◌, ◌||◌}
+use Rattle.std.proofs.Common.{◌≡◌, ◌<◌, inl, inr, ℕ, Bool, true, false, List, [], ◌∷◌, length, map, get_or, Option, Some, None, sym, ap, ◌∙◌, refl, subst, arith, eqb, is_some, ◌&&◌, ◌||◌}
 use Rattle.std.specs.Option.{unwrap_or}
-use Rattle.std.specs.List.{list_any, list_all, range_with_len}
+use Rattle.std.specs.List.{list_all, range_with_len}
 use Rattle.std.proofs.lemmas.Bool.Decides.{nat_tests}
 use Rattle.std.proofs.lemmas.List.{ext_get_or}
 use Rattle.std.proofs.lemmas.List.FromFn.{get_or-map-range_with_len, length-map-range_with_len}
@@ -10,7 +10,7 @@ use Rattle.label_reader.specs.Header.{Item, place_of, has_index}
 use Rattle.label_reader.specs.Lines.{StateLine, said_of, all_same}
 use Rattle.label_reader.specs.Owners.{Ownership}
 use Rattle.label_reader.specs.Texts.{owner_place, ownership}
-use Rattle.label_reader.specs.Denotes.{IsOneOf, Says, IsIndex, AreIndices, IsStateLine, AreStateLines, DenotesOwners}
+use Rattle.label_reader.specs.Denotes.{IsOneOf, Says, AreIndices, AreStateLines, DenotesOwners}
 use Rattle.label_reader.proofs.KnownLines.{both_true}
 use Rattle.label_reader.proofs.StateLineLaws.{IsIndex-has}
 use Rattle.label_reader.proofs.SetLaws.{or_cases, among, is_said-Says, Says-is_said}

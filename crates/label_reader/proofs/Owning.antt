@@ -1,18 +1,18 @@
 -- Owners of states, and what the lines say.
-use Rattle.std.proofs.Common.{◌≡◌, ◌≢◌, ◌<◌, ◌+◌, ℕ, Bool, true, false, cond, List, [], ◌∷◌, ◌++◌, length, map, replicate, get_or, set, Option, Some, None, Ok, Err, sym, ap, ◌∙◌, refl, subst, arith, eqb, is_some, ◌&&◌, ◌||◌, inl, inr, ◌⊎◌}
+use Rattle.std.proofs.Common.{◌≡◌, ◌≢◌, ◌<◌, ℕ, true, false, cond, List, [], ◌∷◌, ◌++◌, map, get_or, set, Option, Some, None, Ok, Err, sym, ap, ◌∙◌, refl, subst, arith, eqb, is_some, ◌&&◌, inl, inr}
 use Rattle.std.specs.List.{list_all}
 use Rattle.std.proofs.lemmas.Bool.Decides.{nat_tests}
-use Rattle.std.proofs.lemmas.List.{append-nil, length-set, get_or-set_same, get_or-set_other, get_or-replicate, length-replicate}
+use Rattle.std.proofs.lemmas.List.{append-nil, length-set, get_or-set_same, get_or-set_other}
 use Rattle.std.proofs.lemmas.List.Folds.{list_all-append}
 use Rattle.text_lines.proofs.Texts.{bool_cases}
 use Rattle.label_reader.specs.declared.kind.FileKind.TheVariants.{OwnerFile}
 use Rattle.label_reader.specs.declared.faults.LabCause.TheVariants.{TwoOwners}
-use Rattle.label_reader.specs.Header.{Item, place_of, place_in, has_place, has_index}
+use Rattle.label_reader.specs.Header.{Item, place_of, has_place, has_index}
 use Rattle.label_reader.specs.Lines.{StateLine, number_in, said_of, all_same, with_line}
 use Rattle.label_reader.specs.Owned.{first_of, first_in, owner_then, is_at, all_at, AreRead}
 use Rattle.label_reader.proofs.Indexed.{index_at_place}
 use Rattle.label_reader.proofs.KnownLines.{both_true, line_with}
-use Rattle.label_reader.proofs.Marking.{said_of-push, IsPlaced, placed_field}
+use Rattle.label_reader.proofs.Marking.{said_of-push, placed_field}
 
 equal : (a b : ℕ) → eqb a b ≡ true → a ≡ b
 equal a b h = grind (arith, nat_tests)

@@ -1,18 +1,16 @@
 -- Sets and owners by cases are those that the relation describes.
-use Rattle.std.proofs.Common.{◌≡◌, ◌≢◌, ◌<◌, ◌≤◌, ◌+◌, ◌⊎◌, ◌↔◌, inl, inr, ℕ, Bool, true, false, cond, List, [], ◌∷◌, ◌++◌, length, map, get_or, Option, Some, None, sym, ap, ◌∙◌, refl, subst, arith, eqb, is_some, ◌&&◌, ◌||◌}
-use Rattle.std.specs.Option.{unwrap_or}
-use Rattle.std.specs.List.{list_any, list_all, range_with_len}
+use Rattle.std.proofs.Common.{◌≡◌, ◌<◌, ◌⊎◌, inl, inr, ℕ, Bool, true, false, cond, List, [], ◌∷◌, ◌++◌, length, map, get_or, sym, ap, ◌∙◌, refl, arith, eqb, ◌||◌}
+use Rattle.std.specs.List.{list_any, range_with_len}
 use Rattle.std.proofs.lemmas.Bool.Decides.{nat_tests}
 use Rattle.std.proofs.lemmas.List.{ext_get_or}
 use Rattle.std.proofs.lemmas.List.Folds.{list_any-append}
 use Rattle.std.proofs.lemmas.List.FromFn.{get_or-map-range_with_len, length-map-range_with_len}
 use Rattle.text_lines.proofs.Texts.{bool_cases}
-use Rattle.label_reader.specs.Header.{Item, place_of, has_index}
+use Rattle.label_reader.specs.Header.{Item}
 use Rattle.label_reader.specs.Labels.{Label}
-use Rattle.label_reader.specs.Lines.{StateLine, said_of, all_same}
-use Rattle.label_reader.specs.Texts.{is_said, label_from, owner_place}
-use Rattle.label_reader.specs.Denotes.{IsOneOf, Says, IsLabel, AreLabels, AreStateLines}
-use Rattle.label_reader.proofs.KnownLines.{both_true}
+use Rattle.label_reader.specs.Lines.{StateLine, said_of}
+use Rattle.label_reader.specs.Texts.{is_said, label_from}
+use Rattle.label_reader.specs.Denotes.{IsOneOf, Says, IsLabel, AreLabels}
 
 equal : (a b : ℕ) → eqb a b ≡ true → a ≡ b
 equal a b h = grind (arith, nat_tests)

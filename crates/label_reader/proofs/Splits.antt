@@ -1,9 +1,9 @@
 -- Bytes that are split at the first of a byte, and what stands between quotes.
-use Rattle.std.proofs.Common.{◌≡◌, ◌≢◌, ◌<◌, ◌≤◌, ◌+◌, ◌-◌, ℕ, suc, zero, Bool, true, false, cond, List, [], ◌∷◌, ◌++◌, length, get_or, take, drop, Option, Some, None, sym, ap, ◌∙◌, refl, subst, arith, eqb, ltb, leb, ◌&&◌, ◌⊎◌, inl, inr, add-one}
+use Rattle.std.proofs.Common.{◌≡◌, ◌≢◌, ◌<◌, ◌+◌, ◌-◌, ℕ, suc, Bool, true, false, cond, List, [], ◌∷◌, ◌++◌, length, get_or, take, drop, Some, None, sym, ap, ◌∙◌, refl, subst, arith, eqb, ltb, leb, ◌&&◌, ◌⊎◌, inl, inr, add-one}
 use Rattle.std.specs.Option.{option_map}
-use Rattle.std.specs.List.{position, position_or_len}
+use Rattle.std.specs.List.{position_or_len}
 use Rattle.std.proofs.lemmas.Bool.Decides.{nat_tests}
-use Rattle.std.proofs.lemmas.List.{length-append, length-take-le}
+use Rattle.std.proofs.lemmas.List.{length-append}
 use Rattle.text_lines.specs.Laws.{HasNo}
 use Rattle.text_lines.proofs.Texts.{bool_cases}
 use Rattle.label_reader.specs.Header.{split_first, parted_at, quoted}

@@ -1,5 +1,5 @@
 -- A line by cases is the line that the relation describes.
-use Rattle.std.proofs.Common.{◌≡◌, ◌≢◌, ◌<◌, ◌≤◌, ◌+◌, ◌⊎◌, inl, inr, ℕ, Bool, true, false, cond, List, [], ◌∷◌, ◌++◌, length, map, Option, Some, None, Ok, Err, Result, sym, ap, ◌∙◌, refl, subst, arith, eqb, ltb, is_some, ◌&&◌}
+use Rattle.std.proofs.Common.{◌≡◌, ◌<◌, ◌+◌, inl, inr, ℕ, Bool, true, false, cond, List, [], ◌∷◌, map, Option, Some, None, Ok, Err, Result, sym, ap, ◌∙◌, refl, subst, arith, eqb, ltb, is_some, ◌&&◌}
 use Rattle.std.specs.Option.{option_map, unwrap_or}
 use Rattle.std.specs.List.{list_all}
 use Rattle.std.proofs.lemmas.Bool.Decides.{nat_tests}

@@ -1,5 +1,5 @@
 -- A whole text by cases is the text that the relation describes.
-use Rattle.std.proofs.Common.{◌≡◌, ◌≢◌, ◌<◌, ◌≤◌, ◌+◌, ℕ, Bool, true, false, cond, List, [], ◌∷◌, ◌++◌, Option, Some, None, Ok, Err, Result, sym, ap, ◌∙◌, refl, subst, arith, eqb, ◌&&◌, append_assoc, inl, inr}
+use Rattle.std.proofs.Common.{◌≡◌, ◌+◌, ℕ, Bool, true, false, cond, List, [], ◌∷◌, ◌++◌, Ok, Err, Result, sym, ap, ◌∙◌, refl, subst, arith, eqb, append_assoc, inl, inr}
 use Rattle.std.specs.List.{list_all}
 use Rattle.std.proofs.lemmas.Bool.Decides.{nat_tests}
 use Rattle.std.proofs.lemmas.List.{append-nil}
@@ -13,8 +13,8 @@ use Rattle.label_reader.specs.declared.faults.LabCause.TheVariants.{TwoOwners}
 use Rattle.label_reader.specs.declared.faults.LabFault.{LabFault}
 use Rattle.label_reader.specs.Header.{Item, and_then, header_of}
 use Rattle.label_reader.specs.Lines.{StateLine, state_line, known_line, said_of, all_same, with_line, add_line}
-use Rattle.label_reader.specs.Texts.{fault_at, then_at, lines_from, made_of, said_by_lines, said_by}
-use Rattle.label_reader.specs.Denotes.{IsStateLine, AreStateLines, IsText}
+use Rattle.label_reader.specs.Texts.{then_at, lines_from, made_of, said_by_lines, said_by}
+use Rattle.label_reader.specs.Denotes.{AreStateLines, IsText}
 use Rattle.label_reader.proofs.KnownLines.{both_true}
 use Rattle.label_reader.proofs.Marking.{said_of-push}
 use Rattle.label_reader.proofs.ItemLaws.{header_of-found, header_of-again}

@@ -1,11 +1,11 @@
 -- What texts denote, by lines and fields. The order of lines plays no part.
-use Rattle.std.specs.Prelude.{◌≡◌, ◌≢◌, ◌<◌, ◌≤◌, ◌↔◌, ◌⊎◌, ℕ, Bool, true, false, List, [], ◌∷◌, ◌++◌, length, map, slice_index, slice_index_or, Option, Some, All, Any, Contains}
+use Rattle.std.specs.Prelude.{◌≡◌, ◌≢◌, ◌<◌, ◌≤◌, ◌↔◌, ◌⊎◌, ℕ, true, false, List, [], ◌∷◌, ◌++◌, length, map, slice_index, slice_index_or, Some}
 use Rattle.text_lines.specs.Text.{lines_of, fields_of, number_of, significant}
 use Rattle.text_lines.specs.Laws.{HasNo}
 use Rattle.label_reader.specs.declared.kind.FileKind.{FileKind}
 use Rattle.label_reader.specs.declared.kind.FileKind.TheVariants.{LabelFile, OwnerFile}
 use Rattle.label_reader.specs.declared.kind.TheConstants.{GREATEST_INDEX}
-use Rattle.label_reader.specs.Header.{Item, is_name, most_items, place_of, has_index}
+use Rattle.label_reader.specs.Header.{Item, is_name, most_items, place_of}
 use Rattle.label_reader.specs.Lines.{StateLine}
 use Rattle.label_reader.specs.Labels.{Label, Labelling}
 use Rattle.label_reader.specs.Owners.{Ownership}

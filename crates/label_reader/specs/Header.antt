@@ -1,5 +1,5 @@
 -- The header of a label file or an owner file: its items, or its first fault.
-use Rattle.std.specs.Prelude.{◌==◌, ◌&&◌, ◌||◌, ◌+◌, ◌-◌, ℕ, nat_le, nat_lt, not, Bool, true, false, List, [], ◌∷◌, ◌++◌, length, take, drop, slice_index, position, Option, Some, None, option_map, option_and_then, is_some, if◌then◌else◌, bytes_eq, Result, Ok, Err}
+use Rattle.std.specs.Prelude.{◌==◌, ◌&&◌, ◌||◌, ◌+◌, ◌-◌, ℕ, nat_le, nat_lt, not, Bool, List, [], ◌∷◌, ◌++◌, length, take, drop, slice_index, position, Option, Some, None, option_map, option_and_then, is_some, if◌then◌else◌, bytes_eq, Result, Ok, Err}
 use Rattle.std.specs.List.{list_any, list_all}
 use Rattle.text_lines.specs.Text.{number_of, is_digit, saturated}
 use Rattle.label_reader.specs.declared.kind.FileKind.{FileKind}

@@ -42,7 +42,7 @@ impl LabFault {
     ghost use Rattle.label_reader.specs.Texts.{fault_at, GivesFault};
 
     /// The fault that memory was wanting.
-    pub fn out_of_memory() -> LabFault
+    pub(crate) fn out_of_memory() -> LabFault
         ensures { result ≡ fault_at 0 LabCause.OutOfMemory }
     {
         LabFault {
@@ -52,7 +52,7 @@ impl LabFault {
     }
 
     /// The fault of a header with this cause.
-    pub fn of_header(cause: LabCause) -> LabFault
+    pub(crate) fn of_header(cause: LabCause) -> LabFault
         ensures { GivesFault cause result }
     {
         match cause {

@@ -33,7 +33,7 @@ impl Labels {
     ghost use Rattle.label_reader.specs.Labels.{is_known, marks_of, holds_at, states_with, IsLabelling};
 
     /// The labels with these names, and the states of each.
-    pub fn new(states: u32, names: IndexMap<Vec<u8>, u64>, sets: Vec<StateSet>) -> Labels
+    pub(crate) fn new(states: u32, names: IndexMap<Vec<u8>, u64>, sets: Vec<StateSet>) -> Labels
         requires { AreNamed states names.entries sets.items }
         ensures { result ≡ record { states = states; labels = labels_named names.entries sets.items } }
     {

@@ -30,7 +30,7 @@ impl Owners {
     ghost use Rattle.label_reader.specs.Owners.{is_player, owner_of, IsOwnership};
 
     /// The players with these names, and the place of each state's owner, the first where none is named.
-    pub fn new(names: IndexMap<Vec<u8>, u64>, owners: Vec<Option<u32>>) -> Owners
+    pub(crate) fn new(names: IndexMap<Vec<u8>, u64>, owners: Vec<Option<u32>>) -> Owners
         requires { AreOwned names.entries owners.items }
         ensures { result ≡ record { players = names_of names.entries; owners = places_of owners.items } }
     {

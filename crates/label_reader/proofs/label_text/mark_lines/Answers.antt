@@ -1,7 +1,6 @@
-use Rattle.std.proofs.Common.{◌≡◌, ◌∙◌, ◌++◌, ◌∷◌, [], false, sym, ap, refl, subst, List, Bool, arith, ◌&&◌}
-use Rattle.text_lines.specs.Text.{lines_of, fields_of, is_nil, significant}
+use Rattle.std.proofs.Common.{◌∙◌, ◌++◌, ◌∷◌, [], sym, refl, subst, List, Bool, arith}
+use Rattle.text_lines.specs.Text.{fields_of}
 use Rattle.label_reader.specs.declared.kind.FileKind.TheVariants.{LabelFile}
-use Rattle.label_reader.specs.Lines.{StateLine}
 use Rattle.label_reader.specs.Marked.{AreMarked}
 use Rattle.label_reader.specs.Texts.{is_said}
 use Rattle.label_reader.proofs.KnownLines.{line_with}

@@ -1,4 +1,4 @@
-use Rattle.std.proofs.Common.{◌≡◌, ◌≤◌, ◌+◌, length}
+use Rattle.std.proofs.Common.{◌≤◌, ◌+◌, length}
 use Rattle.label_reader.specs.declared.kind.FileKind.TheVariants.{LabelFile}
 use Rattle.label_reader.specs.Marked.{AreMarked}
 use Rattle.label_reader.specs.Read.{HasRead}

@@ -1,4 +1,4 @@
-use Rattle.std.proofs.Common.{◌≡◌, ◌^◌, ◌<◌, ◌∙◌, ℕ, false, replicate, length, List, Bool, Ok, ap, sym, subst, arith}
+use Rattle.std.proofs.Common.{◌≡◌, ◌∙◌, ℕ, false, replicate, length, List, Bool, Ok, ap, sym, subst, arith}
 use Rattle.std.proofs.lemmas.List.{length-replicate}
 use Rattle.label_reader.specs.Named.{AreNamed, labels_named}
 use Rattle.label_reader.specs.Labels.{Label, Labelling}

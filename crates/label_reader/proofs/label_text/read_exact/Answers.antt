@@ -1,6 +1,5 @@
 use Rattle.label_reader.specs.declared.kind.FileKind.TheVariants.{LabelFile}
 use Rattle.label_reader.specs.Texts.{labelling}
-use Rattle.text_lines.specs.Text.{fields_of}
 use Rattle.label_reader.proofs.Heads.{Gives-header, Gives-body}
 use Rattle.label_reader.proofs.label_text.read_exact.Goals as goal
 

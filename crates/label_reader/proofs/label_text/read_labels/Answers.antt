@@ -4,7 +4,7 @@ use Rattle.label_reader.specs.declared.kind.FileKind.TheVariants.{LabelFile}
 use Rattle.label_reader.specs.Labels.{Label, Labelling}
 use Rattle.label_reader.specs.Texts.{Gives, labels_of, labelling}
 use Rattle.label_reader.specs.Denotes.{DenotesLabels}
-use Rattle.label_reader.proofs.TextLaws.{said_by-found, said_by-again, Agrees}
+use Rattle.label_reader.proofs.TextLaws.{said_by-found, said_by-again}
 use Rattle.label_reader.proofs.SetLaws.{AreLabels-made, AreLabels-are}
 use Rattle.label_reader.proofs.label_text.read_labels.Goals as goal
 

@@ -1,4 +1,4 @@
-use Rattle.std.proofs.Common.{◌≡◌, ◌∙◌, ◌++◌, ◌∷◌, [], true, false, sym, ap, refl, subst, List, Option, ℕ, arith}
+use Rattle.std.proofs.Common.{◌∙◌, ◌++◌, ◌∷◌, [], sym, subst, List, Option, ℕ, arith}
 use Rattle.text_lines.specs.Text.{fields_of}
 use Rattle.label_reader.specs.declared.kind.FileKind.TheVariants.{OwnerFile}
 use Rattle.label_reader.specs.declared.faults.LabCause.TheVariants.{TwoOwners}

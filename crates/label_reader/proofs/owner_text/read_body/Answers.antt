@@ -1,4 +1,4 @@
-use Rattle.std.proofs.Common.{◌≡◌, ◌∙◌, ℕ, None, replicate, length, map, take, drop, ◌++◌, List, Option, Ok, ap, sym, subst, arith}
+use Rattle.std.proofs.Common.{◌≡◌, ◌∙◌, ℕ, None, length, map, take, drop, ◌++◌, List, Option, Ok, ap, sym, subst, arith}
 use Rattle.std.proofs.lemmas.List.{length-replicate}
 use Rattle.label_reader.specs.Header.{Item}
 use Rattle.label_reader.specs.Named.{AreOwned, places_of}

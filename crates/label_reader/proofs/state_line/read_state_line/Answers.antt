@@ -1,4 +1,4 @@
-use Rattle.std.proofs.Common.{◌≡◌, ◌<◌, ◌^◌, ◌∙◌, true, cond, Some, Ok, Err, sym, ap, rules, arith}
+use Rattle.std.proofs.Common.{◌≡◌, ◌<◌, ◌∙◌, true, cond, Some, Ok, Err, sym, ap, rules, arith}
 use Rattle.std.specs.List.{list_all}
 use Rattle.text_lines.specs.Text.{fields_of}
 use Rattle.label_reader.specs.declared.faults.LabCause.TheVariants.{UnknownIndex}

@@ -1,4 +1,4 @@
-use Rattle.std.proofs.Common.{◌≡◌, ◌<◌, ◌∙◌, ap, sym, subst, length, List, Option, ℕ}
+use Rattle.std.proofs.Common.{◌<◌, ◌∙◌, ap, sym, subst, length, List, Option, ℕ}
 use Rattle.std.specs.Option.{IfSome}
 use Rattle.text_lines.specs.Text.{number_of}
 use Rattle.label_reader.specs.Header.{Item, place_of, place_in}

@@ -1,4 +1,4 @@
-use Rattle.std.proofs.Common.{◌∙◌, ap, sym}
+use Rattle.std.proofs.Common.{◌∙◌, ap}
 use Rattle.label_reader.specs.Labels.{is_known}
 use Rattle.label_reader.proofs.NamedMarks.{is_some-lookup, list_any-labels_named}
 use Rattle.label_reader.proofs.labels.Labels.knows.Goals as goal

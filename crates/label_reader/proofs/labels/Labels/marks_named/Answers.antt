@@ -1,4 +1,4 @@
-use Rattle.std.proofs.Common.{◌≡◌, ◌<◌, ◌^◌, ◌∙◌, ap, sym, length, get_or, [], List, Bool, arith, rules}
+use Rattle.std.proofs.Common.{◌≡◌, ◌<◌, ◌∙◌, ap, sym, length, get_or, [], List, Bool, arith, rules}
 use Rattle.std.proofs.lemmas.List.{get_or_default, get_or_past}
 use Rattle.label_reader.specs.Labels.{marks_of}
 use Rattle.label_reader.proofs.NamedMarks.{marks_of-labels_named, place_named, placed, not_placed, past_sets}
