@@ -1,0 +1,9 @@
+//! Small games, and races on them: tests of the crates below that no clause covers.
+#![tactic(auto)]
+
+mod draft;
+mod games;
+#[cfg(test)]
+mod tests;
+
+pub use games::{agreement_game, agreement_question, coin_game, coin_question};

@@ -1,0 +1,180 @@
+// Races on the games.
+ghost use Rattle.std.specs.Prelude.{◌≡◌, ◌≤◌, IfSome, vec_len};
+ghost use Rattle.game_model.specs.Query.{states};
+ghost use Rattle.value_words.specs.Passes.{IsOf, Grew};
+
+use super::*;
+use game_model::Question;
+use game_outside::HoldGate;
+use round_workers::round;
+use std::alloc::Global;
+use std::marker::Brand;
+use std::mem::size_of;
+use std::test::Fail;
+use std::thread::{Threads, join};
+use step_core::{Event, Refused, World, pack, value_of};
+use value_words::{Pass, Posing, ValueTable, Words};
+
+#[test]
+fn a_world_takes_lawful_events_and_refuses_others(rt: HostRuntime) -> Result<(), Fail> {
+    let alloc = rt.alloc();
+    let game = coin_game(alloc).ok_or("the game")?;
+    let question = coin_question(alloc, &game).ok_or("the question")?;
+    let Ok(mut world) = World::start(alloc, &question) else {
+        return Err(Fail::new("the world"));
+    };
+    let quarter = pack(250_000_000_000, 0);
+    let three_eighths = pack(375_000_000_000, 0);
+    let half = pack(500_000_000_000, 0);
+    let to = |from, to| Event::Won {
+        view: 0,
+        state: 0,
+        from,
+        to,
+    };
+    assert_eq!(rt; world.apply(to(0, quarter)), Ok(()));
+    assert_eq!(rt; world.apply(to(0, quarter)), Err(Refused::NotFrom));
+    assert_eq!(rt; world.apply(to(quarter, half)), Err(Refused::TooHigh));
+    assert_eq!(rt; world.apply(Event::Split { view: 0 }), Ok(()));
+    assert_eq!(rt; world.apply(Event::Lost { view: 1, state: 0 }), Err(Refused::SameWord));
+    let other = Event::Won {
+        view: 1,
+        state: 0,
+        from: quarter,
+        to: three_eighths,
+    };
+    assert_eq!(rt; world.apply(other), Ok(()));
+    assert_eq!(rt; world.apply(Event::Lost { view: 0, state: 0 }), Ok(()));
+    let joined = Event::Join { view: 0, other: 1 };
+    assert_eq!(rt; world.apply(joined), Ok(()));
+    assert_eq!(rt; world.apply(Event::Load { view: 1, state: 0 }), Err(Refused::NoView));
+    Ok(())
+}
+
+#[test]
+fn a_pass_has_no_bytes(rt: HostRuntime) {
+    assert_eq!(rt; size_of::<Pass<Brand>>(), 0);
+}
+
+// Updates all states three times.
+fn sweeps<P: Posing>(table: &ValueTable<'_, P>, mut pass: Pass<P>, count: u32) -> Pass<P>
+    requires pass { IsOf table.now pass }
+    requires count { count ≤ states P.posed }
+    ensures { Grew pass result }
+{
+    for _turn in 0..3 {
+        for state in 0..count {
+            table.update(&mut pass, state);
+        }
+    }
+    pass
+}
+
+// Two threads with a pass each. It gives the final words, and the values that the met pass has read.
+fn two_threads<P: Posing, R: Threads + Sync>(
+    rt: &R,
+    alloc: Global,
+    question: &Question<'_>,
+) -> Option<(Words, Vec<u64>)>
+    requires { question.now ≡ P.posed }
+{
+    let (table, mut pass) = ValueTable::<P>::start(alloc, question).ok()?;
+    question.known();
+    let count = question.game().states();
+    let mut seen = zeros(alloc, count)?;
+    let other = table.split(&mut pass);
+    let (mut pass, other) = join(
+        rt,
+        || -> Pass<P>
+            requires { IsOf table pass × (count ≤ states P.posed) }
+            ensures { Grew pass result }
+        { sweeps(&table, pass, count) },
+        || -> Pass<P>
+            requires { IsOf table other × (count ≤ states P.posed) }
+            ensures { Grew other result }
+        { sweeps(&table, other, count) },
+    );
+    table.meet(&mut pass, other);
+    table.read_into(&mut pass, seen.as_mut_slice());
+    let words = table.close(alloc, pass).ok()?;
+    Some((words, seen))
+}
+
+// So many zeros.
+fn zeros(alloc: Global, count: u32) -> Option<Vec<u64>>
+    ensures { IfSome result (λ table. vec_len table ≡ count) }
+{
+    let mut table = Vec::new(alloc);
+    for _i in 0..count {
+        table.push(0).ok()?;
+    }
+    Some(table)
+}
+
+#[test]
+fn two_threads_race_over_the_agreement_protocol(rt: HostRuntime) -> Result<(), Fail> {
+    let alloc = rt.alloc();
+    let game = agreement_game(alloc).ok_or("the game")?;
+    let question = agreement_question(alloc, &game).ok_or("the question")?;
+    let (words, seen) = two_threads::<Brand, _>(&rt, alloc, &question).ok_or("memory")?;
+    let words = words.as_slice();
+    assert_eq!(rt; words.len(), 12);
+    assert_eq!(rt; seen.len(), 12);
+    for state in 0..12 {
+        assert!(rt; value_of(words[state]) >= seen[state]);
+    }
+    // Three sweeps reach what one thread reaches: state 3 leads to state 4, and state 4 to the goal.
+    assert_eq!(rt; seen[11], 1_000_000_000_000);
+    assert_eq!(rt; seen[4], 1_000_000_000_000);
+    assert!(rt; seen[3] >= 500_000_000_000);
+    assert_eq!(rt; seen[10], 0);
+    Ok(())
+}
+
+// So many rounds of two workers. It gives the final words.
+fn rounds<P: Posing, R: Threads + Sync>(
+    rt: &R,
+    alloc: Global,
+    question: &Question<'_>,
+    count: u32,
+    gate: &HoldGate,
+) -> Option<Words>
+    requires { question.now ≡ P.posed }
+{
+    let (table, pass) = ValueTable::<P>::start(alloc, question).ok()?;
+    let pass = repeat(rt, &table, pass, count, gate);
+    table.close(alloc, pass).ok()
+}
+
+fn repeat<P: Posing, R: Threads + Sync>(
+    rt: &R,
+    table: &ValueTable<'_, P>,
+    mut pass: Pass<P>,
+    count: u32,
+    gate: &HoldGate,
+) -> Pass<P>
+    requires { IsOf table.now pass }
+    ensures { Grew pass result }
+{
+    for _turn in 0..count {
+        pass = round(rt, table, pass, 2, gate).pass;
+    }
+    pass
+}
+
+#[test]
+fn two_workers_work_at_once_and_reach_the_values(rt: HostRuntime) -> Result<(), Fail> {
+    let alloc = rt.alloc();
+    let game = agreement_game(alloc).ok_or("the game")?;
+    let question = agreement_question(alloc, &game).ok_or("the question")?;
+    let gate = HoldGate::new();
+    let words = rounds::<Brand, _>(&rt, alloc, &question, 100, &gate).ok_or("memory")?;
+    assert!(rt; !gate.gave_up());
+    let words = words.as_slice();
+    assert_eq!(rt; words.len(), 12);
+    assert_eq!(rt; value_of(words[0]), 839_999_999_999);
+    assert_eq!(rt; value_of(words[1]), 699_999_999_999);
+    assert_eq!(rt; value_of(words[2]), 899_999_999_999);
+    assert_eq!(rt; value_of(words[3]), 919_999_999_999);
+    Ok(())
+}
