@@ -173,14 +173,30 @@ mod tests {
         Ok(Game::from_choices(states))
     }
 
+    fn labels_of_one_state(alloc: Global) -> Result<Labels, &'static str>
+        ensures { IfOk result (λ labels. labels.states ≡ 1) }
+    {
+        match read_labels(alloc, b"0=\"init\" 1=\"goal\"\n0: 0\n", 1) {
+            Ok(labels) => Ok(labels),
+            Err(_) => Err("no labels"),
+        }
+    }
+
+    fn owner_of_one_state(alloc: Global) -> Result<Owners, &'static str>
+        ensures { IfOk result (λ owners. length owners.owners ≡ 1) }
+    {
+        match Owners::single(alloc, 1) {
+            Ok(owners) => Ok(owners),
+            Err(_) => Err("no owners"),
+        }
+    }
+
     #[test]
     fn a_formula_poses_a_question(rt: HostRuntime) -> Result<(), Fail> {
         let alloc = rt.alloc();
         let game = one_state(alloc)?;
-        let labels = read_labels(alloc, b"0=\"init\" 1=\"goal\"\n0: 0\n", 1)
-            .ok()
-            .ok_or("no labels")?;
-        let owners = Owners::single(alloc, 1).ok().ok_or("no owners")?;
+        let labels = labels_of_one_state(alloc)?;
+        let owners = owner_of_one_state(alloc)?;
         let formula = read_formula(alloc, "<<p0>> P<=0.5 [ F \"goal\" ]")
             .ok()
             .ok_or("no formula")?;

@@ -1,8 +1,8 @@
 // Games from lists of edges.
 ghost use Rattle.std.specs.Prelude.{◌≡◌, ℕ, ◌+◌, ◌*◌, ◌^◌, ◌<◌, ◌≤◌, All, IfSome, length, slice_index_or, true, false};
 ghost use Rattle.game_model.specs.Limits.{most_choices};
-
 ghost use Rattle.std.specs.Bool.{OnTrue};
+
 use game_model::{Choice, Edge, Game, MOST_STATES, Question, Side};
 use std::alloc::Global;
 
@@ -39,7 +39,12 @@ impl Draft {
     }
 
     /// The next state, with two choices.
-    pub fn two(&mut self, alloc: Global, first: &[(u32, u64)], second: &[(u32, u64)]) -> Option<()> {
+    pub fn two(
+        &mut self,
+        alloc: Global,
+        first: &[(u32, u64)],
+        second: &[(u32, u64)],
+    ) -> Option<()> {
         let mut choices = Vec::new(alloc);
         choices.push(choice(alloc, self.states, first)?).ok()?;
         choices.push(choice(alloc, self.states, second)?).ok()?;
@@ -63,7 +68,12 @@ fn choice(alloc: Global, states: u32, edges: &[(u32, u64)]) -> Option<Choice>
     let mut made = Vec::new(alloc);
     let mut least = 0;
     for (to, weight) in edges {
-        if *to < least || *to >= states || *weight == 0 || *weight > MOST_WEIGHT || made.len() == MOST_EDGES {
+        if *to < least
+            || *to >= states
+            || *weight == 0
+            || *weight > MOST_WEIGHT
+            || made.len() == MOST_EDGES
+        {
             return None;
         }
         let edge = Edge {

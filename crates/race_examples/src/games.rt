@@ -53,11 +53,27 @@ pub fn agreement_question(alloc: Global, game: &Game) -> Option<Question<'_>> {
     question(
         game,
         vec![in alloc;
-            Side::Max, Side::Min, Side::Min, Side::Max, Side::Max, Side::Max,
-            Side::Max, Side::Max, Side::Min, Side::Min, Side::Max, Side::Max,
+            Side::Max,
+            Side::Min,
+            Side::Min,
+            Side::Max,
+            Side::Max,
+            Side::Max,
+            Side::Max,
+            Side::Max,
+            Side::Min,
+            Side::Min,
+            Side::Max,
+            Side::Max,
         ]
         .ok()?,
-        vec![in alloc; false, false, false, false, false, false, false, false, false, false, false, true].ok()?,
-        vec![in alloc; false, false, false, false, false, false, false, false, false, false, true, false].ok()?,
+        vec![in alloc;
+            false, false, false, false, false, false, false, false, false, false, false, true,
+        ]
+        .ok()?,
+        vec![in alloc;
+            false, false, false, false, false, false, false, false, false, false, true, false,
+        ]
+        .ok()?,
     )
 }

@@ -36,7 +36,10 @@ fn a_world_takes_lawful_events_and_refuses_others(rt: HostRuntime) -> Result<(),
     assert_eq!(rt; world.apply(to(0, quarter)), Err(Refused::NotFrom));
     assert_eq!(rt; world.apply(to(quarter, half)), Err(Refused::TooHigh));
     assert_eq!(rt; world.apply(Event::Split { view: 0 }), Ok(()));
-    assert_eq!(rt; world.apply(Event::Lost { view: 1, state: 0 }), Err(Refused::SameWord));
+    assert_eq!(rt;
+        world.apply(Event::Lost { view: 1, state: 0 }),
+        Err(Refused::SameWord)
+    );
     let other = Event::Won {
         view: 1,
         state: 0,
@@ -47,7 +50,10 @@ fn a_world_takes_lawful_events_and_refuses_others(rt: HostRuntime) -> Result<(),
     assert_eq!(rt; world.apply(Event::Lost { view: 0, state: 0 }), Ok(()));
     let joined = Event::Join { view: 0, other: 1 };
     assert_eq!(rt; world.apply(joined), Ok(()));
-    assert_eq!(rt; world.apply(Event::Load { view: 1, state: 0 }), Err(Refused::NoView));
+    assert_eq!(rt;
+        world.apply(Event::Load { view: 1, state: 0 }),
+        Err(Refused::NoView)
+    );
     Ok(())
 }
 

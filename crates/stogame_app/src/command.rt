@@ -1,6 +1,6 @@
 //! The top call: from the words and the bytes read to the bytes written.
 
-ghost use Rattle.std.specs.Prelude.{◌≡◌, ◌≢◌, ◌<◌, ◌⊎◌, ℕ, List, Some, true, All, map};
+ghost use Rattle.std.specs.Prelude.{◌≡◌, ◌≢◌, ◌<◌, ◌≤◌, ◌⊎◌, ℕ, List, Some, true, All, map};
 ghost use Rattle.std.specs.String.{string_bytes};
 ghost use Rattle.text_lines.specs.declared.TheConstants.{MOST_BYTES};
 ghost use Rattle.stogame_app.specs.declared.refusal.Refusal.{Refusal};
@@ -45,10 +45,13 @@ pub fn run<R: Threads + Sync, H: Shelf, K: Sink, G: Gate + Sync>(
         × GrowsBy (K.written out.old) (K.written out.new) text }
     ensures refused { result ≡ Status.ModelRefused → (text : List ℕ) × IsRefusalOfWords (map string_bytes words.now) (H.held shelf.old) (H.taken shelf.new) text
         × GrowsBy (K.written out.old) (K.written out.new) text }
+    ensures short { result ≡ Status.Fine → H.taken shelf.new ≤ MOST_BYTES }
     ensures usage { result ≡ Status.Usage → AreNoCommand (map string_bytes words.now) × GrowsBy (K.written out.old) (K.written out.new) usage_text }
 
     // A fault of the outside is answered only where its count rose.
     ensures read_fault { result ≡ Status.ReadFault → Rose (H.faults shelf.old) (H.faults shelf.new) × (K.written out.new ≡ K.written out.old) }
+    ensures steadily { result ≡ Status.ReadFault → H.steady shelf.old ≡ true → (check : Check) × AreCheck (map string_bytes words.now) check
+        × WhereTold (H.held shelf.old) (λ held. question_said held check ≡ NotHeld) }
     ensures write_fault { result ≡ Status.WriteFault → Rose (K.faults out.old) (K.faults out.new)
         × ((text : List ℕ) × IsOutput (map string_bytes words.now) (H.held shelf.old) (H.taken shelf.new) text × GrowsByPrefix (K.written out.old) (K.written out.new) text) }
     ensures memory { result ≡ Status.OutOfMemory → K.written out.new ≡ K.written out.old }
@@ -76,6 +79,7 @@ fn run_check<H: Shelf, K: Sink>(
     ensures no_usage { result ≡ Status.Usage → ⊥ }
     ensures fine { result ≡ Status.Fine → (text : List ℕ) × IsReportOf (PosesIt (H.held shelf.old) (check_of check.now)) text
         × GrowsBy (K.written out.old) (K.written out.new) text }
+    ensures short { result ≡ Status.Fine → H.taken shelf.new ≤ MOST_BYTES }
     ensures refused { result ≡ Status.ModelRefused → (text : List ℕ) × IsRefusalOf (RefusesIt (H.held shelf.old) (check_of check.now)) (H.taken shelf.new) text
         × GrowsBy (K.written out.old) (K.written out.new) text }
     ensures read_fault { result ≡ Status.ReadFault → Rose (H.faults shelf.old) (H.faults shelf.new) × (K.written out.new ≡ K.written out.old) }

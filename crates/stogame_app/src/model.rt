@@ -1,6 +1,6 @@
 //! What a command names, loaded: a game, its labels, its owners and a formula.
 
-ghost use Rattle.std.specs.Prelude.{◌≡◌, ◌<◌, ◌≤◌, ◌⊎◌, IsErrOf, IfOk, true, length};
+ghost use Rattle.std.specs.Prelude.{◌≡◌, ◌<◌, ◌≤◌, ◌⊎◌, IsErrOf, IfOk, OnOk, true, length};
 ghost use Rattle.game_outside.specs.Outside.{Rose};
 ghost use Rattle.rpatl_syntax.specs.Formula.{tree_of};
 ghost use Rattle.stogame_app.specs.Words.{check_of};
@@ -65,6 +65,7 @@ pub fn load_model<H: Shelf>(
     ensures steadily { IsErrOf result End.ReadFault → H.steady shelf.old ≡ true → WhereTold (H.held shelf.old) (λ held. reading_said held (check_of check.now) ≡ NotHeld) }
     ensures too_long { IsTooLong result → MOST_BYTES < H.taken shelf.new }
     ensures only_too_long { MOST_BYTES < H.taken shelf.new → IsTooLong result ⊎ IsErrOf result End.OutOfMemory }
+    ensures small { OnOk result (H.taken shelf.new ≤ MOST_BYTES) }
     ensures sizes { IfOk result (λ loaded. HasSizes loaded.game loaded.labels loaded.owners) }
 {
     let game = load_game(alloc, shelf, check.tra)?;
@@ -82,6 +83,7 @@ fn load_behind_game<H: Shelf>(
     ensures steadily { IsErrOf result End.ReadFault → H.steady shelf.old ≡ true → WhereTold (H.held shelf.old) (λ held. behind_game held (check_of check.now) game ≡ NotHeld) }
     ensures too_long { IsTooLong result → MOST_BYTES < H.taken shelf.new }
     ensures only_too_long { MOST_BYTES < H.taken shelf.new → IsTooLong result ⊎ IsErrOf result End.OutOfMemory }
+    ensures small { OnOk result (H.taken shelf.new ≤ MOST_BYTES) }
     ensures sizes { IfOk result (λ loaded. HasSizes loaded.game loaded.labels loaded.owners) }
 {
     let labels = load_labels(alloc, shelf, check.lab, game.states())?;
@@ -102,6 +104,7 @@ fn load_behind_labels<H: Shelf>(
     ensures steadily { IsErrOf result End.ReadFault → H.steady shelf.old ≡ true → WhereTold (H.held shelf.old) (λ held. behind_labels held (check_of check.now) game labels ≡ NotHeld) }
     ensures too_long { IsTooLong result → MOST_BYTES < H.taken shelf.new }
     ensures only_too_long { MOST_BYTES < H.taken shelf.new → IsTooLong result ⊎ IsErrOf result End.OutOfMemory }
+    ensures small { OnOk result (H.taken shelf.new ≤ MOST_BYTES) }
     ensures sizes { IfOk result (λ loaded. HasSizes loaded.game loaded.labels loaded.owners) }
 {
     let owners = load_owners(alloc, shelf, check.own, game.states())?;

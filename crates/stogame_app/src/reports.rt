@@ -6,7 +6,7 @@ ghost use Rattle.game_model.specs.Limits.{unit};
 ghost use Rattle.verdicts.specs.Report.{HasValues};
 ghost use Rattle.stogame_app.specs.Reports.{IsReport, line_at};
 
-use bracket_engine::{Bracket, bracket};
+use bracket_engine::{Bracket, MOST_ROUNDS, bracket};
 use game_model::Question;
 use game_outside::OutOfMemory;
 use std::alloc::{AllocError, Global};
@@ -21,7 +21,7 @@ pub fn report(
     rounds: u32,
 ) -> Result<Vec<u8>, OutOfMemory>
     requires inside { All (λ s. s < states question.now) initial.now }
-    requires rounds { rounds ≤ 1000000 }
+    requires rounds { rounds ≤ MOST_ROUNDS }
     ensures { IfOk result (λ text. IsReport question.now initial.now rounds text.items) }
 {
     let zero = zero_set(alloc, question)?;

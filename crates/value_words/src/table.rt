@@ -102,6 +102,8 @@ impl<'q, P: Posing> ValueTable<'q, P> {
         // What was seen at the state is now at least the down step of what was seen before.
         ensures step { down_step P.posed (seen_by pass.old) state ≤ seen_by pass.new state }
         ensures won { MatchBool result (won_by pass.new ≡ won_by pass.old + 1) (won_by pass.new ≡ won_by pass.old) }
+        // At a goal or a dead state nothing is done.
+        ensures fixed { (is_goal P.posed state ≡ true) ⊎ (is_dead P.posed state ≡ true) → (result ≡ false) × (words_seen pass.new ≡ words_seen pass.old) }
     {
         if self.question.is_goal(state) || self.question.is_dead(state) {
             return false;

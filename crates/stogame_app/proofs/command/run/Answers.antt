@@ -22,3 +22,6 @@ returns-in-Some-clause-complete g c = λ check held posing words told said calm 
       | inr still ↦ still (c.run_check.ensures.read_fault is).0
     ])
     (λ is. quiet (c.run_check.ensures.write_fault is).0)
+
+pub returns-in-Some-clause-steadily : goal.returns-in-Some-clause-steadily
+returns-in-Some-clause-steadily g c = λ is steady. (check_of c.in-Some.check, c.in-Some.ensures, c.run_check.ensures.steadily is steady)
