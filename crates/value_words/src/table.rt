@@ -1,8 +1,8 @@
 // The table, and its steps.
-ghost use Rattle.std.specs.Prelude.{◌≡◌, ◌≢◌, ℕ, ◌+◌, ◌*◌, ◌<◌, ◌≤◌, length, slice_index, slice_set, All, IfOk, MatchBool};
+ghost use Rattle.std.specs.Prelude.{◌≡◌, ◌≢◌, ℕ, ◌+◌, ◌*◌, ◌<◌, ◌≤◌, ◌⊎◌, true, false, length, slice_index, slice_set, All, IfOk, MatchBool};
 ghost use Rattle.game_model.specs.declared.game.Side.TheVariants.{Max, Min};
 ghost use Rattle.game_model.specs.Game.{choices_of, choice_of};
-ghost use Rattle.game_model.specs.Query.{Query, IsQuery, states, side_at};
+ghost use Rattle.game_model.specs.Query.{Query, IsQuery, states, side_at, is_goal, is_dead};
 ghost use Rattle.game_model.specs.Values.{weighted_sum};
 ghost use Rattle.game_model.specs.Limits.{unit};
 ghost use Rattle.game_model.specs.Rounded.{down_value, down_step};
