@@ -1,5 +1,5 @@
 -- The question that is said to be posed is the one that is posed.
-use Rattle.std.proofs.Common.{◌≡◌, ◌≢◌, ◌∙◌, ◌<◌, ◌≤◌, ◌+◌, ◌⊎◌, inl, inr, ℕ, zero, suc, Bool, true, false, cond, List, [], ◌∷◌, ◌++◌, length, map, get_or, refl, sym, ap, subst, arith, Option, Some, None, Result, Ok, Err}
+use Rattle.std.proofs.Common.{◌≡◌, ◌≢◌, ◌∙◌, ◌<◌, ◌+◌, inl, inr, ℕ, suc, Bool, true, false, cond, List, [], ◌∷◌, ◌++◌, length, get_or, refl, sym, ap, subst, arith, Option, Some, None, Result, Ok, Err}
 use Rattle.std.specs.Prelude.{find, not, ◌&&◌, All, IfOk, slice_index_or}
 use Rattle.std.proofs.lemmas.Bool.{cases_Bool, cases_lt}
 use Rattle.std.proofs.Math.ListN.{get_or-eq_default}
@@ -8,12 +8,11 @@ use Rattle.std.proofs.lemmas.List.FromFn.{get_or-map-range_with_len, length-map-
 use Rattle.game_model.specs.declared.game.Side.{Side}
 use Rattle.game_model.specs.declared.game.Side.TheVariants.{Max}
 use Rattle.game_model.specs.Game.{Distribution}
-use Rattle.game_model.specs.Query.{Query, is_goal, is_dead, side_at}
+use Rattle.game_model.specs.Query.{Query}
 use Rattle.label_reader.specs.Labels.{Labelling, is_known, states_with}
 use Rattle.label_reader.specs.Owners.{Ownership, is_player}
-use Rattle.rpatl_syntax.specs.Formula.{State, Tree}
+use Rattle.rpatl_syntax.specs.Formula.{Tree}
 use Rattle.formula_sets.specs.declared.fault.PoseFault.{PoseFault}
-use Rattle.formula_sets.specs.declared.fault.PoseFault.TheVariants.{OutOfMemory, UnknownLabel, UnknownPlayer, NoInit}
 use Rattle.formula_sets.specs.declared.question.Posed.{Posed}
 use Rattle.formula_sets.specs.Truth.{holds, unknown_label}
 use Rattle.formula_sets.specs.Sides.{side_of, members_of, unknown_player}

@@ -5,7 +5,7 @@ use Rattle.game_model.specs.Game.{Distribution}
 use Rattle.game_model.specs.Query.{Query, is_goal, is_dead, side_at}
 use Rattle.label_reader.specs.Labels.{Labelling, is_known, states_with}
 use Rattle.label_reader.specs.Owners.{Ownership, is_player}
-use Rattle.rpatl_syntax.specs.Formula.{State, Tree}
+use Rattle.rpatl_syntax.specs.Formula.{Tree}
 use Rattle.formula_sets.specs.declared.fault.PoseFault.{PoseFault}
 use Rattle.formula_sets.specs.declared.fault.PoseFault.TheVariants.{OutOfMemory, UnknownLabel, UnknownPlayer, NoInit}
 use Rattle.formula_sets.specs.Truth.{holds, labels_in, unknown_label}

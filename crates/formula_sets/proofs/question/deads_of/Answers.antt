@@ -1,4 +1,4 @@
-use Rattle.std.proofs.Common.{◌≡◌, ◌∙◌, Bool, List, length, ap, arith}
+use Rattle.std.proofs.Common.{◌∙◌, Bool, List, length, ap, arith}
 use Rattle.std.specs.Prelude.{false, not, ◌&&◌, slice_index_or}
 use Rattle.rpatl_syntax.specs.Formula.{state_of, tree_of}
 use Rattle.formula_sets.specs.Truth.{holds}

@@ -1,7 +1,5 @@
 use Rattle.std.proofs.Common.{◌≡◌}
-use Rattle.rpatl_syntax.specs.Formula.{state_of, tree_of}
-use Rattle.formula_sets.specs.Truth.{holds}
-use Rattle.formula_sets.specs.Sides.{side_of}
+use Rattle.rpatl_syntax.specs.Formula.{tree_of}
 use Rattle.formula_sets.specs.Posing.{at_states, is_lost}
 use Rattle.formula_sets.proofs.question.deads_of.Given as goal
 

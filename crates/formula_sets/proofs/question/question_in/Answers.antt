@@ -1,5 +1,5 @@
-use Rattle.std.proofs.Common.{◌≡◌, ◌∙◌, Bool, List, length, ap, subst, sym, arith}
-use Rattle.std.specs.Prelude.{true, false, slice_index_or}
+use Rattle.std.proofs.Common.{◌∙◌, Bool, List, length, ap, sym}
+use Rattle.std.specs.Prelude.{false, slice_index_or}
 use Rattle.game_model.specs.declared.game.Side.{Side}
 use Rattle.rpatl_syntax.specs.Formula.{state_of, tree_of}
 use Rattle.formula_sets.specs.Truth.{holds}

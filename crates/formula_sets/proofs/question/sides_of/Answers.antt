@@ -1,4 +1,3 @@
-use Rattle.std.proofs.Common.{◌≡◌}
 use Rattle.rpatl_syntax.specs.Formula.{tree_of}
 use Rattle.formula_sets.specs.Sides.{side_of}
 use Rattle.formula_sets.proofs.Asking.{pushed-more}

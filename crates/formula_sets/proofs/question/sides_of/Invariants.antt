@@ -1,8 +1,7 @@
 use Rattle.std.proofs.Common.{◌≡◌}
-use Rattle.rpatl_syntax.specs.Formula.{state_of, tree_of}
-use Rattle.formula_sets.specs.Truth.{holds}
+use Rattle.rpatl_syntax.specs.Formula.{tree_of}
 use Rattle.formula_sets.specs.Sides.{side_of}
-use Rattle.formula_sets.specs.Posing.{at_states, is_lost}
+use Rattle.formula_sets.specs.Posing.{at_states}
 use Rattle.formula_sets.proofs.question.sides_of.Given as goal
 
 abbrev pub invariant-loop-state : goal.invariant-loop-state
