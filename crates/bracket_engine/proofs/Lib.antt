@@ -1,2 +1,2 @@
-pub mod Sweeping
 pub mod Bracketing
+pub mod Racing

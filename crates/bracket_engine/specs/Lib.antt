@@ -1,3 +1,4 @@
 pub mod Bracket
-pub mod Opening
-pub mod Sweep
+pub mod Choices
+pub mod Race
+pub mod Upper

@@ -1,14 +1,16 @@
 //! The run of rounds: a bracket of a question is a table of sound lower bounds and a table of sound upper
 //! bounds, in units.
 //!
-//! [`bracket`] is value iteration from below with the Bellman operator rounded down, in place, in rising
-//! order of states (Baier and Katoen 2008, chapter 10; Gauss-Seidel order). It ends after the asked rounds
-//! or after a round that raised nothing. It says nothing of how near the two tables come to each other.
+//! [`bracket`] is value iteration from below with the Bellman operator rounded down, by rounds of workers
+//! that race on shared words (Baier and Katoen 2008, chapter 10; asynchronous iteration after Bertsekas
+//! 1982). What it ensures holds for every schedule and number of workers. It ends after the asked rounds or
+//! where the words are settled. It says nothing of how near the two tables come to each other, nor that two
+//! workers ran at once.
 #![tactic(auto)]
 
 mod bounds;
+mod race;
 mod run;
-mod sweep;
 mod tables;
 
 pub use bounds::Bracket;

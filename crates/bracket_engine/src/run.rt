@@ -1,58 +1,55 @@
 //! The run of rounds.
 
-ghost use Rattle.std.specs.Prelude.{◌≡◌, ◌≤◌, ◌↔◌, true, length, All, slice_index, IfOk};
-ghost use Rattle.game_model.specs.Query.{states};
+ghost use Rattle.std.specs.Prelude.{◌≤◌, IfOk};
 ghost use Rattle.game_model.specs.Dual.{IsZeroSet};
-ghost use Rattle.game_model.specs.Limits.{unit};
-ghost use Rattle.game_model.specs.Rounded.{IsSettled};
+ghost use Rattle.round_workers.specs.Share.{most_workers};
 ghost use Rattle.bracket_engine.specs.Bracket.{IsBracket};
+ghost use Rattle.bracket_engine.specs.Choices.{AreChoices};
 
 use crate::bounds::Bracket;
-use crate::sweep::sweep_rounds;
-use crate::tables::{opening_table, upper_table};
+use crate::race::race;
+use crate::tables::{choices_of_words, upper_table, values_of_words};
 use fixed_bellman::settled;
 use game_model::{Marks, Question};
-use game_outside::OutOfMemory;
+use game_outside::{Gate, OutOfMemory};
 use std::alloc::Global;
+use std::marker::Brand;
+use std::thread::Threads;
 
 /// The most rounds that may be asked for.
 pub const MOST_ROUNDS: u32 = 1_000_000;
 
-/// The bracket after at most this many rounds. The marks are the question's zero set. The only error is
-/// want of memory.
-pub fn bracket(
+/// The bracket after at most this many rounds of so many workers. The marks are the question's zero set.
+/// The only error is want of memory.
+pub fn bracket<R: Threads + Sync, G: Gate + Sync>(
+    rt: &R,
     alloc: Global,
     question: &Question,
     zero: &Marks,
     rounds: u32,
+    workers: u32,
+    gate: &G,
 ) -> Result<Bracket, OutOfMemory>
     requires zero { IsZeroSet question.now zero.now }
     requires rounds { rounds ≤ MOST_ROUNDS }
-    ensures { IfOk result (λ b. IsBracket question.now zero.now rounds b.lower.items b.upper.items b.rounds b.stable) }
+    requires some { 1 ≤ workers }
+    requires few { workers ≤ most_workers }
+    ensures bounds { IfOk result (λ b. IsBracket question.now zero.now rounds b.lower.items b.upper.items b.rounds b.stable) }
+    ensures choices { IfOk result (λ b. AreChoices question.now b.lower.items b.choices.items) }
 {
     question.known();
-    let Ok(mut lower) = opening_table(alloc, question) else {
-        return Err(OutOfMemory {});
-    };
+    let raced = race::<R, Brand, G>(rt, alloc, question, rounds, workers, gate)?;
     let Ok(upper) = upper_table(alloc, question, zero) else {
         return Err(OutOfMemory {});
     };
-    let (completed, quiet) = sweep_rounds(question, &mut lower, rounds);
-    let stable = is_settled(question, &lower, quiet);
+    let lower = values_of_words(alloc, raced.words.as_slice())?;
+    let choices = choices_of_words(alloc, question, raced.words.as_slice())?;
+    let stable = settled(question, lower.as_slice());
     Ok(Bracket {
         lower,
         upper,
-        rounds: completed,
+        choices,
+        rounds: raced.rounds,
         stable,
     })
-}
-
-/// Whether a table is settled, as it is after a quiet round.
-fn is_settled(question: &Question, table: &[u64], quiet: bool) -> bool
-    requires length { length table.now ≡ states question.now }
-    requires units { All (λ v. v ≤ unit) table.now }
-    requires quiet { quiet ≡ true → IsSettled question.now (slice_index table.now) }
-    ensures { (result ≡ true) ↔ IsSettled question.now (slice_index table.now) }
-{
-    quiet || settled(question, table)
 }

@@ -1,27 +1,17 @@
-//! The tables that a run opens with.
+//! The tables that a run gives.
 
-ghost use Rattle.std.specs.Prelude.{◌≡◌, ℕ, ◌<◌, ◌≤◌, Bool, true, false, length, All, slice_index, slice_index_or, IfOk};
+ghost use Rattle.std.specs.Prelude.{◌≡◌, ℕ, ◌<◌, ◌≤◌, Bool, true, false, List, length, All, slice_index, slice_index_or, IfOk, None};
 ghost use Rattle.game_model.specs.Query.{states};
 ghost use Rattle.game_model.specs.Dual.{IsZeroSet};
 ghost use Rattle.game_model.specs.Limits.{unit};
-ghost use Rattle.game_model.specs.Rounded.{opening};
-ghost use Rattle.bracket_engine.specs.Opening.{Opens, IsUpperOf};
+ghost use Rattle.step_core.specs.Word.{values_of};
+ghost use Rattle.bracket_engine.specs.Choices.{choice_of_word};
+ghost use Rattle.bracket_engine.specs.Upper.{IsUpperOf};
 
-use game_model::{Marks, Question, UNIT};
+use game_model::{Marks, Question, Side, UNIT};
+use game_outside::OutOfMemory;
 use std::alloc::{AllocError, Global};
-
-/// The opening table: 1 at goals and 0 elsewhere.
-pub fn opening_table(alloc: Global, question: &Question) -> Result<Vec<u64>, AllocError>
-    ensures { IfOk result (λ table. Opens question.now table.items) }
-{
-    question.known();
-    let states = question.game().states();
-    let mut table = Vec::with_capacity(alloc, states as usize)?;
-    for state in 0..states {
-        table.push(if question.is_goal(state) { UNIT } else { 0 })?;
-    }
-    Ok(table)
-}
+use step_core::{choice_of, value_of};
 
 /// The upper table: 0 on the zero set and 1 elsewhere.
 pub fn upper_table(alloc: Global, question: &Question, zero: &Marks) -> Result<Vec<u64>, AllocError>
@@ -35,4 +25,55 @@ pub fn upper_table(alloc: Global, question: &Question, zero: &Marks) -> Result<V
         table.push(if zero.has(state) { 0 } else { UNIT })?;
     }
     Ok(table)
+}
+
+/// The values of words.
+pub fn values_of_words(alloc: Global, words: &[u64]) -> Result<Vec<u64>, OutOfMemory>
+    ensures { IfOk result (λ values. values.items ≡ values_of words.now) }
+{
+    match words.iter().map(|word| value_of(*word)).collect(alloc) {
+        Ok(values) => Ok(values),
+        Err(_) => Err(OutOfMemory {}),
+    }
+}
+
+/// The choices of words, where a plan needs them.
+pub fn choices_of_words(
+    alloc: Global,
+    question: &Question,
+    words: &[u64],
+) -> Result<Vec<Option<u32>>, OutOfMemory>
+    requires { length words.now ≡ states question.now }
+    ensures as_many { IfOk result (λ choices. length choices.items ≡ states question.now) }
+    ensures choices { IfOk result (λ choices. (s : ℕ) → s < states question.now → slice_index_or choices.items s None ≡ choice_of_word question.now s (slice_index words.now s)) }
+{
+    question.known();
+    let mut choices = Vec::new(alloc);
+    for state in 0..question.game().states() {
+        let choice = choice_of_state(question, state, words[state as usize]);
+        let Ok(()) = choices.push(choice) else {
+            return Err(OutOfMemory {});
+        };
+    }
+    Ok(choices)
+}
+
+// The choice of a state's word, where a plan needs one.
+fn choice_of_state(question: &Question, state: u32, word: u64) -> Option<u32>
+    requires { state < states question.now }
+    ensures { result ≡ choice_of_word question.now state word }
+{
+    if question.is_goal(state) || question.is_dead(state) {
+        return None;
+    }
+    match question.side(state) {
+        Side::Max => {
+            if value_of(word) == 0 {
+                None
+            } else {
+                Some(choice_of(word))
+            }
+        }
+        Side::Min => None,
+    }
 }

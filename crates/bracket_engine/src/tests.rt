@@ -2,6 +2,7 @@
 
 use crate::bracket;
 use game_model::{Question, Side, UNIT};
+use game_outside::OpenGate;
 use sample_games::{all_of, coin_loop, none_of, only};
 use std::test::Fail;
 use zero_sets::zero_set;
@@ -21,7 +22,7 @@ fn the_coin_loop_settles_at_round_40(rt: HostRuntime) -> Result<(), Fail> {
         (39, UNIT / 2 - 1, 39, true),
         (1_000, UNIT / 2 - 1, 40, true),
     ] {
-        let Ok(found) = bracket(alloc, &question, &zero, asked) else {
+        let Ok(found) = bracket(&rt, alloc, &question, &zero, asked, 1, &OpenGate {}) else {
             return Err(Fail::new("no memory"));
         };
         assert_eq!(rt;

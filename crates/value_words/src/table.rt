@@ -201,8 +201,7 @@ impl<'q, P: Posing> ValueTable<'q, P> {
     {
         let game = self.question.game();
         let mut sum: u128 = 0;
-        for place in 0..game.edge_count(state, choice) {
-            let edge = game.edge(state, choice, place);
+        for edge in game.edges(state, choice) {
             let value = value_of(self.load(pass, edge.to));
             sum += edge.weight * u128::from(value);
         }

@@ -1,14 +1,7 @@
--- The tables that a run opens with.
+-- The upper table of a run.
 use Rattle.std.specs.Prelude.{◌≡◌, ℕ, ◌<◌, ◌≤◌, Bool, true, false, List, length, All, slice_index, slice_index_or}
 use Rattle.game_model.specs.Query.{Query, states}
 use Rattle.game_model.specs.Limits.{unit}
-use Rattle.game_model.specs.Rounded.{opening}
-
--- the opening table, as a list
-pub record Opens (q : Query) (table : List ℕ) : Type 0 where
-  pub many : length table ≡ states q
-  pub units : All (λ v. v ≤ unit) table
-  pub opening : (s : ℕ) → s < states q → slice_index table s ≡ opening q s
 
 -- the table that is 0 at the marked states and 1 elsewhere
 pub record IsUpperOf (q : Query) (marks : List Bool) (table : List ℕ) : Type 0 where

@@ -1,0 +1,45 @@
+-- What a race leaves, from what its passes have seen.
+use Rattle.std.proofs.Common.{◌≡◌, ℕ, zero, suc, ◌+◌, ◌<◌, ◌≤◌, List, length, arith, sym, ap, ◌∙◌, subst, le_refl, le_trans, add-one}
+use Rattle.std.specs.Prelude.{slice_index}
+use Rattle.std.specs.List.{AllByRecursion}
+use Rattle.game_model.specs.Game.{choices_of}
+use Rattle.game_model.specs.Query.{Query, IsQuery, states}
+use Rattle.game_model.specs.Rounded.{down_step, down_steps, opening, IsBelow, IsSettled}
+use Rattle.game_model.proofs.Choices.{AreChoicesOf, AreChoicesOf-choices_of}
+use Rattle.game_laws.proofs.Steps.{down_step-le, down_steps-settled}
+use Rattle.step_core.specs.Word.{value_at, opening_words}
+use Rattle.step_core.specs.Sound.{Sound, Sees}
+use Rattle.step_core.proofs.Sights.{Sees-below}
+use Rattle.step_core.proofs.Words.{opening_words-value}
+use Rattle.bracket_engine.specs.Race.{IsRaced}
+
+-- one more round
+pub swept-more : (q : Query) (r : ℕ) (old new : ℕ → ℕ) → IsQuery q → IsBelow q (down_steps q r) old → ((s : ℕ) → s < states q → down_step q old s ≤ new s) → IsBelow q (down_steps q (r + 1)) new
+unfolding down_steps
+swept-more q r old new h below step s inside =
+    subst (λ (n : ℕ). down_steps q n s ≤ new s) (sym (add-one r)) (le_trans (down_step-le q (down_steps q r) old (AreChoicesOf-choices_of q.game h.game) below s) (step s inside))
+
+-- a table that agrees with a settled one is settled
+pub settled-same : (q : Query) (table other : ℕ → ℕ) → IsQuery q → ((s : ℕ) → s < states q → table s ≡ other s) → IsSettled q table → IsSettled q other
+settled-same q table other h same settled s inside =
+    omega (arith, down_step-le q other table (AreChoicesOf-choices_of q.game h.game) (λ t within. omega (arith, same t within)) s, settled s inside, same s inside)
+
+-- the opening words are seen
+pub opens-seen : (q : Query) (seen : List ℕ) → seen ≡ opening_words q → IsBelow q (down_steps q 0) (value_at seen)
+unfolding down_steps
+opens-seen q seen is s inside = subst (λ n. opening q s ≤ n) (sym (ap (λ l. value_at l s) is ∙ opening_words-value q s)) (le_refl (opening q s))
+
+opening-first : (q : Query) (table : ℕ → ℕ) → IsBelow q (down_steps q 0) table → IsBelow q (opening q) table
+unfolding down_steps
+opening-first q table below = below
+
+-- where what was seen is settled, it is what is closed
+pub closed-settled : (q : Query) (words seen : List ℕ) → IsQuery q → Sound q words → Sees q words seen → IsBelow q (down_steps q 0) (value_at seen) → IsSettled q (value_at seen) → IsSettled q (value_at words)
+closed-settled q words seen h sound sees opens settled =
+    let chosen : AreChoicesOf q.game (choices_of q.game) = AreChoicesOf-choices_of q.game h.game in
+    let top : IsBelow q (down_steps q sound.rounds) (value_at seen) = down_steps-settled q (value_at seen) chosen (opening-first q (value_at seen) opens) settled sound.rounds in
+    settled-same q (value_at seen) (value_at words) h (λ s inside. omega (arith, Sees-below q words seen sees s, sound.below s inside, top s inside)) settled
+
+-- what is closed has at least what was seen
+pub closed-swept : (q : Query) (words seen : List ℕ) (r : ℕ) → Sees q words seen → IsBelow q (down_steps q r) (value_at seen) → IsBelow q (down_steps q r) (value_at words)
+closed-swept q words seen r sees below s inside = le_trans (below s inside) (Sees-below q words seen sees s)

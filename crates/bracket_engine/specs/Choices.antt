@@ -1,0 +1,23 @@
+-- The choices of a bracket.
+use Rattle.std.specs.Prelude.{◌≡◌, ℕ, ◌<◌, ◌==◌, ◌||◌, true, List, length, slice_index, slice_index_or, Option, Some, None, if◌then◌else◌}
+use Rattle.game_model.specs.declared.game.Side.TheVariants.{Min}
+use Rattle.game_model.specs.Query.{Query, states, is_goal, is_dead, side_at}
+use Rattle.game_model.specs.Ranks.{Ranked}
+use Rattle.step_core.specs.Word.{value_in, choice_in}
+use Rattle.step_core.specs.Events.{on_side}
+
+-- the choice of a word, where a plan needs one
+abbrev pub choice_of_word : Query → ℕ → ℕ → Option ℕ
+choice_of_word q s word =
+    if is_goal q s || is_dead q s then None else on_side (side_at q s) (if value_in word == 0 then None else Some (choice_in word)) None
+
+-- the choices reach the lower table, as some ranks show; a goal, a dead state, a state of the minimiser and one of value 0 have none
+pub record AreChoices (q : Query) (lower : List ℕ) (choices : List (Option ℕ)) : Type 0 where
+  pub as_many : length choices ≡ states q
+  pub ranks : List ℕ
+  pub ranks_as_many : length ranks ≡ states q
+  pub ranked : Ranked q lower choices ranks
+  pub none_at_goals : (s : ℕ) → s < states q → is_goal q s ≡ true → slice_index_or choices s None ≡ None
+  pub none_at_deads : (s : ℕ) → s < states q → is_dead q s ≡ true → slice_index_or choices s None ≡ None
+  pub none_at_least : (s : ℕ) → s < states q → side_at q s ≡ Min → slice_index_or choices s None ≡ None
+  pub none_at_zero : (s : ℕ) → s < states q → slice_index lower s ≡ 0 → slice_index_or choices s None ≡ None
