@@ -29,10 +29,10 @@ behind_reading (Some held) check result loaded said is loads of_reading =
     ap (λ s. and_then s (λ reading. posed reading)) read ∙ of_reading
 
 -- the report of a reading that was loaded
-pub report_loaded : (holding : Option Holding) (check : Check) (result : Result Loaded End) (loaded : Loaded) (text : List ℕ) → result ≡ Ok loaded
+pub report_loaded : (holding : Option Holding) (check : Check) (result : Result Loaded End) (loaded : Loaded) (asked : ℕ) (text : List ℕ) → result ≡ Ok loaded
     → WhereTold holding (λ held. Loads reading_of result (reading_said held check))
-    → IsReportOf (λ posing. posed (reading_of loaded) ≡ Says posing) text → IsReportOf (PosesIt holding check) text
-report_loaded holding check result loaded text is loads report = record {
+    → IsReportOf (λ posing. posed (reading_of loaded) ≡ Says posing) asked text → IsReportOf (PosesIt holding check) asked text
+report_loaded holding check result loaded asked text is loads report = record {
   posing = report.posing;
   posed = behind_reading holding check result loaded (Says report.posing) is loads report.posed;
   report = report.report;

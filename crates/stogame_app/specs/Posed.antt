@@ -54,7 +54,7 @@ abbrev pub behind_owners : Check → List (List Distribution) → Labelling → 
 behind_owners check game labels owners = and_then (formula_read check.formula) (λ formula. Says (reading_with game labels owners formula))
 
 abbrev pub behind_labels : Holding → Check → List (List Distribution) → Labelling → Said Reading
-behind_labels held check game labels = and_then (owners_said held check.own (length game)) (λ owners. behind_owners check game labels owners)
+behind_labels held check game labels = and_then (owners_said held check.options.own (length game)) (λ owners. behind_owners check game labels owners)
 
 abbrev pub behind_game : Holding → Check → List (List Distribution) → Said Reading
 behind_game held check game = and_then (labels_said held check.lab (length game)) (λ labels. behind_labels held check game labels)

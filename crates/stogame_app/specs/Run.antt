@@ -12,18 +12,14 @@ use Rattle.stogame_app.specs.Posed.{question_said}
 use Rattle.stogame_app.specs.Refusals.{refusal_text, usage_text}
 use Rattle.stogame_app.specs.Reports.{IsReport}
 
--- how many rounds are made at most
-abbrev pub asked_rounds : ℕ
-asked_rounds = 10000
-
 abbrev pub IsLong : Refusal → Type 0
 IsLong refusal = (text : Text) × (refusal ≡ TooLong text)
 
--- the text is the report of a question that is posed
-pub record IsReportOf (IsPosed : Posing → Type 0) (text : List ℕ) : Type 0 where
+-- the text is the report of a question that is posed, after at most the asked rounds
+pub record IsReportOf (IsPosed : Posing → Type 0) (asked : ℕ) (text : List ℕ) : Type 0 where
   pub posing : Posing
   pub posed : IsPosed posing
-  pub report : IsReport posing.question posing.initial asked_rounds text
+  pub report : IsReport posing.question posing.initial asked text
 
 -- the text is the line of a refusal that is said; it says that a text is too long where this many bytes were taken of the last one
 pub record IsRefusalOf (IsSaid : Refusal → Type 0) (taken : ℕ) (text : List ℕ) : Type 0 where
@@ -45,7 +41,7 @@ RefusesIt holding check refusal = WhereTold holding (λ held. question_said held
 pub record IsReportOfWords (words : List (List ℕ)) (holding : Option Holding) (text : List ℕ) : Type 0 where
   pub check : Check
   pub command : AreCheck words check
-  pub report : IsReportOf (PosesIt holding check) text
+  pub report : IsReportOf (PosesIt holding check) check.options.rounds text
 
 -- the words denote a command, and this is its refusal
 pub record IsRefusalOfWords (words : List (List ℕ)) (holding : Option Holding) (taken : ℕ) (text : List ℕ) : Type 0 where

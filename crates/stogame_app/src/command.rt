@@ -6,13 +6,13 @@ ghost use Rattle.text_lines.specs.declared.TheConstants.{MOST_BYTES};
 ghost use Rattle.stogame_app.specs.declared.refusal.Refusal.{Refusal};
 ghost use Rattle.game_outside.specs.Outside.{Holding, Rose, GrowsBy, GrowsByPrefix};
 ghost use Rattle.formula_sets.specs.Posing.{Posing};
-ghost use Rattle.stogame_app.specs.Words.{Check, AreCheck, AreNoCommand, check_of};
+ghost use Rattle.stogame_app.specs.Words.{Check, AreInRange, AreCheck, AreNoCommand, options_of, check_of};
 ghost use Rattle.stogame_app.specs.Said.{Refuses, Says, NotHeld, WhereTold};
 ghost use Rattle.stogame_app.specs.Posed.{reading_of, posed, question_said, HasSizes};
 ghost use Rattle.stogame_app.specs.Refusals.{refusal_text, usage_text};
 ghost use Rattle.game_model.specs.Query.{states};
 ghost use Rattle.stogame_app.specs.Reports.{IsReport};
-ghost use Rattle.stogame_app.specs.Run.{asked_rounds, IsReportOf, IsRefusalOf, IsLong, PosesIt, RefusesIt, IsReportOfWords, IsRefusalOfWords, IsUsageOfWords, IsOutput};
+ghost use Rattle.stogame_app.specs.Run.{IsReportOf, IsRefusalOf, IsLong, PosesIt, RefusesIt, IsReportOfWords, IsRefusalOfWords, IsUsageOfWords, IsOutput};
 
 use crate::ends::{end_with_refusal, end_with_usage, say};
 use crate::load::End;
@@ -20,14 +20,11 @@ use crate::model::{Loaded, load_model};
 use crate::refusal::Refusal;
 use crate::reports::report;
 use crate::status::Status;
-use crate::words::{CheckWords, read_words};
+use crate::words::{CheckWords, OptionWords, read_words};
 use formula_sets::{PoseFault, Posed, pose};
 use game_outside::{Gate, Shelf, Sink};
 use std::alloc::Global;
 use std::thread::Threads;
-
-/// How many rounds are made at most.
-const ASKED_ROUNDS: u32 = 10_000;
 
 /// Reads the words and the texts that they name, and writes the report of the question that they pose: one line for
 /// each initial state, rising. Each printed lower bound is at most some k-step value, and each upper bound at least
@@ -61,23 +58,24 @@ pub fn run<R: Threads + Sync, H: Shelf, K: Sink, G: Gate + Sync>(
         → question_said held check ≡ Says posing → (H.steady shelf.old ≡ true) ⊎ (Rose (H.faults shelf.old) (H.faults shelf.new) → ⊥)
         → (Rose (K.faults out.old) (K.faults out.new) → ⊥) → (result ≡ Status.Fine) ⊎ (result ≡ Status.OutOfMemory) }
 {
-    let _ = rt;
-    let _ = gate;
     match read_words(words) {
-        Some(check) => run_check(alloc, &check, shelf, out),
+        Some(check) => run_check(rt, alloc, &check, shelf, out, gate),
         None => end_with_usage(alloc, out),
     }
 }
 
 // The run of `check`.
-fn run_check<H: Shelf, K: Sink>(
+fn run_check<R: Threads + Sync, H: Shelf, K: Sink, G: Gate + Sync>(
+    rt: &R,
     alloc: Global,
     check: &CheckWords<'_>,
     shelf: &mut H,
     out: &mut K,
+    gate: &G,
 ) -> Status
+    requires { AreInRange (options_of check.now.options) }
     ensures no_usage { result ≡ Status.Usage → ⊥ }
-    ensures fine { result ≡ Status.Fine → (text : List ℕ) × IsReportOf (PosesIt (H.held shelf.old) (check_of check.now)) text
+    ensures fine { result ≡ Status.Fine → (text : List ℕ) × IsReportOf (PosesIt (H.held shelf.old) (check_of check.now)) check.now.options.rounds text
         × GrowsBy (K.written out.old) (K.written out.new) text }
     ensures short { result ≡ Status.Fine → H.taken shelf.new ≤ MOST_BYTES }
     ensures refused { result ≡ Status.ModelRefused → (text : List ℕ) × IsRefusalOf (RefusesIt (H.held shelf.old) (check_of check.now)) (H.taken shelf.new) text
@@ -85,12 +83,12 @@ fn run_check<H: Shelf, K: Sink>(
     ensures read_fault { result ≡ Status.ReadFault → Rose (H.faults shelf.old) (H.faults shelf.new) × (K.written out.new ≡ K.written out.old) }
     ensures steadily { result ≡ Status.ReadFault → H.steady shelf.old ≡ true → WhereTold (H.held shelf.old) (λ held. question_said held (check_of check.now) ≡ NotHeld) }
     ensures write_fault { result ≡ Status.WriteFault → Rose (K.faults out.old) (K.faults out.new)
-        × ((text : List ℕ) × (IsReportOf (PosesIt (H.held shelf.old) (check_of check.now)) text ⊎ IsRefusalOf (RefusesIt (H.held shelf.old) (check_of check.now)) (H.taken shelf.new) text)
+        × ((text : List ℕ) × (IsReportOf (PosesIt (H.held shelf.old) (check_of check.now)) check.now.options.rounds text ⊎ IsRefusalOf (RefusesIt (H.held shelf.old) (check_of check.now)) (H.taken shelf.new) text)
         × GrowsByPrefix (K.written out.old) (K.written out.new) text) }
     ensures memory { result ≡ Status.OutOfMemory → K.written out.new ≡ K.written out.old }
 {
     match load_model(alloc, shelf, check) {
-        Ok(loaded) => answer(alloc, &loaded, out),
+        Ok(loaded) => answer(rt, alloc, &loaded, &check.options, out, gate),
         Err(end) => end_run(alloc, out, end),
     }
 }
@@ -112,15 +110,23 @@ fn end_run<K: Sink>(alloc: Global, out: &mut K, end: End) -> Status
 }
 
 // The answer to the question that was loaded.
-fn answer<K: Sink>(alloc: Global, loaded: &Loaded, out: &mut K) -> Status
-    requires { HasSizes loaded.now.game loaded.now.labels loaded.now.owners }
+fn answer<R: Threads + Sync, K: Sink, G: Gate + Sync>(
+    rt: &R,
+    alloc: Global,
+    loaded: &Loaded,
+    asked: &OptionWords<'_>,
+    out: &mut K,
+    gate: &G,
+) -> Status
+    requires sizes { HasSizes loaded.now.game loaded.now.labels loaded.now.owners }
+    requires in_range { AreInRange (options_of asked.now) }
     ensures only { (result ≡ Status.Usage) ⊎ (result ≡ Status.ReadFault) → ⊥ }
-    ensures fine { result ≡ Status.Fine → (text : List ℕ) × IsReportOf (λ posing. posed (reading_of loaded.now) ≡ Says posing) text
+    ensures fine { result ≡ Status.Fine → (text : List ℕ) × IsReportOf (λ posing. posed (reading_of loaded.now) ≡ Says posing) asked.now.rounds text
         × GrowsBy (K.written out.old) (K.written out.new) text }
     ensures refused { result ≡ Status.ModelRefused → (text : List ℕ) × ((taken : ℕ) → (MOST_BYTES < taken → ⊥) → IsRefusalOf (λ refusal. posed (reading_of loaded.now) ≡ Refuses refusal) taken text)
         × GrowsBy (K.written out.old) (K.written out.new) text }
     ensures write_fault { result ≡ Status.WriteFault → Rose (K.faults out.old) (K.faults out.new)
-        × ((text : List ℕ) × (IsReportOf (λ posing. posed (reading_of loaded.now) ≡ Says posing) text ⊎ ((taken : ℕ) → (MOST_BYTES < taken → ⊥) → IsRefusalOf (λ refusal. posed (reading_of loaded.now) ≡ Refuses refusal) taken text))
+        × ((text : List ℕ) × (IsReportOf (λ posing. posed (reading_of loaded.now) ≡ Says posing) asked.now.rounds text ⊎ ((taken : ℕ) → (MOST_BYTES < taken → ⊥) → IsRefusalOf (λ refusal. posed (reading_of loaded.now) ≡ Refuses refusal) taken text))
         × GrowsByPrefix (K.written out.old) (K.written out.new) text) }
     ensures memory { result ≡ Status.OutOfMemory → K.written out.new ≡ K.written out.old }
 {
@@ -131,7 +137,7 @@ fn answer<K: Sink>(alloc: Global, loaded: &Loaded, out: &mut K) -> Status
         &loaded.owners,
         &loaded.formula,
     ) {
-        Ok(posed) => answer_question(alloc, &posed, out),
+        Ok(posed) => answer_question(rt, alloc, &posed, asked, out, gate),
         Err(fault) => refuse_question(alloc, out, fault),
     }
 }
@@ -167,16 +173,24 @@ fn refuse_question<K: Sink>(alloc: Global, out: &mut K, fault: PoseFault) -> Sta
 }
 
 // The report of a posed question.
-fn answer_question<K: Sink>(alloc: Global, posed: &Posed<'_>, out: &mut K) -> Status
-    requires { All (λ s. s < states posed.now.question) posed.now.initial.items }
+fn answer_question<R: Threads + Sync, K: Sink, G: Gate + Sync>(
+    rt: &R,
+    alloc: Global,
+    posed: &Posed<'_>,
+    asked: &OptionWords<'_>,
+    out: &mut K,
+    gate: &G,
+) -> Status
+    requires initial { All (λ s. s < states posed.now.question) posed.now.initial.items }
+    requires in_range { AreInRange (options_of asked.now) }
     ensures only { (result ≡ Status.Fine) ⊎ ((result ≡ Status.WriteFault) ⊎ (result ≡ Status.OutOfMemory)) }
-    ensures fine { result ≡ Status.Fine → (text : List ℕ) × IsReport posed.now.question posed.now.initial.items asked_rounds text
+    ensures fine { result ≡ Status.Fine → (text : List ℕ) × IsReport posed.now.question posed.now.initial.items asked.now.rounds text
         × GrowsBy (K.written out.old) (K.written out.new) text }
     ensures write_fault { result ≡ Status.WriteFault → Rose (K.faults out.old) (K.faults out.new)
-        × ((text : List ℕ) × IsReport posed.now.question posed.now.initial.items asked_rounds text × GrowsByPrefix (K.written out.old) (K.written out.new) text) }
+        × ((text : List ℕ) × IsReport posed.now.question posed.now.initial.items asked.now.rounds text × GrowsByPrefix (K.written out.old) (K.written out.new) text) }
     ensures memory { result ≡ Status.OutOfMemory → K.written out.new ≡ K.written out.old }
 {
-    match report(alloc, &posed.question, &posed.initial, ASKED_ROUNDS) {
+    match report(rt, alloc, &posed.question, &posed.initial, asked, gate) {
         Ok(text) => say(out, &text, Status::Fine),
         Err(_) => Status::OutOfMemory,
     }

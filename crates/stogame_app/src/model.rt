@@ -107,7 +107,7 @@ fn load_behind_labels<H: Shelf>(
     ensures small { OnOk result (H.taken shelf.new ≤ MOST_BYTES) }
     ensures sizes { IfOk result (λ loaded. HasSizes loaded.game loaded.labels loaded.owners) }
 {
-    let owners = load_owners(alloc, shelf, check.own, game.states())?;
+    let owners = load_owners(alloc, shelf, check.options.own, game.states())?;
     load_behind_owners(alloc, check, game, labels, owners)
 }
 

@@ -4,28 +4,34 @@ ghost use Rattle.std.specs.Prelude.{◌≡◌, ◌≤◌, ◌<◌, All, IfOk, le
 ghost use Rattle.game_model.specs.Query.{states};
 ghost use Rattle.game_model.specs.Limits.{unit};
 ghost use Rattle.verdicts.specs.Report.{HasValues};
+ghost use Rattle.stogame_app.specs.Words.{AreInRange, options_of};
 ghost use Rattle.stogame_app.specs.Reports.{IsReport, line_at};
 
-use bracket_engine::{Bracket, MOST_ROUNDS, bracket};
+use crate::words::OptionWords;
+use bracket_engine::{Bracket, bracket};
 use game_model::Question;
-use game_outside::OutOfMemory;
+use game_outside::{Gate, OutOfMemory};
 use std::alloc::{AllocError, Global};
+use std::thread::Threads;
 use verdicts::{How, ReportLine, Verdict, report_text};
 use zero_sets::zero_set;
 
-/// One line for each initial state, with the bounds after at most so many rounds. The only error is want of memory.
-pub fn report(
+/// One line for each initial state, with the bounds after at most the asked rounds of so many workers. The only error
+/// is want of memory.
+pub fn report<R: Threads + Sync, G: Gate + Sync>(
+    rt: &R,
     alloc: Global,
     question: &Question,
     initial: &[u32],
-    rounds: u32,
+    asked: &OptionWords<'_>,
+    gate: &G,
 ) -> Result<Vec<u8>, OutOfMemory>
     requires inside { All (λ s. s < states question.now) initial.now }
-    requires rounds { rounds ≤ MOST_ROUNDS }
-    ensures { IfOk result (λ text. IsReport question.now initial.now rounds text.items) }
+    requires in_range { AreInRange (options_of asked.now) }
+    ensures { IfOk result (λ text. IsReport question.now initial.now asked.now.rounds text.items) }
 {
     let zero = zero_set(alloc, question)?;
-    let found = bracket(alloc, question, &zero, rounds)?;
+    let found = bracket(rt, alloc, question, &zero, asked.rounds, asked.workers, gate)?;
     let Ok(lines) = lines_of(alloc, &found, initial) else {
         return Err(OutOfMemory {});
     };
