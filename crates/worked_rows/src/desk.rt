@@ -1,28 +1,33 @@
 //! Runs a row: files in memory, words, and what is written.
 
-use game_outside::{HeldFile, MemShelf, MemSink, Name, OpenGate, SteadyShelf, SteadySink};
+use game_outside::{Gate, HeldFile, MemShelf, MemSink, Name, OpenGate, SteadyShelf, SteadySink};
 use std::alloc::Global;
 use std::process::Abort;
 use std::test::Fail;
 use std::thread::Threads;
 use stogame_app::{Status, run};
 
-/// A model in files, and a formula.
+/// A model in files, a formula, and the words of its numbers.
 #[derive(Clone, Copy)]
 pub struct Row<'a> {
     pub tra: &'a str,
     pub lab: &'a str,
     pub own: Option<&'a str>,
     pub formula: &'a str,
+    pub numbers: &'a [&'a str],
 }
 
-/// A row without an owner file.
+/// With one worker the number of rounds is the same at each run.
+pub const ONE_WORKER: &[&str] = &["--workers", "1"];
+
+/// A row of one worker, without an owner file.
 pub fn plain_row<'a>(tra: &'a str, lab: &'a str, formula: &'a str) -> Row<'a> {
     Row {
         tra,
         lab,
         own: None,
         formula,
+        numbers: ONE_WORKER,
     }
 }
 
@@ -50,20 +55,24 @@ pub fn files(alloc: Global, row: Row<'_>) -> Result<Vec<HeldFile>, Fail> {
 /// These words.
 pub fn words(alloc: Global, words: &[&str]) -> Result<Vec<String>, Fail> {
     let mut owned = Vec::new(alloc);
-    for word in words {
-        owned.push(String::from_str(alloc, word)?)?;
-    }
+    add_words(alloc, &mut owned, words)?;
     Ok(owned)
 }
 
-fn row_words(alloc: Global, row: Row<'_>) -> Result<Vec<String>, Fail> {
-    match row.own {
-        None => words(alloc, &["check", "m.tra", "m.lab", row.formula]),
-        Some(_) => words(
-            alloc,
-            &["check", "m.tra", "m.lab", row.formula, "--own", "m.own"],
-        ),
+fn add_words(alloc: Global, owned: &mut Vec<String>, words: &[&str]) -> Result<(), Fail> {
+    for word in words {
+        owned.push(String::from_str(alloc, word)?)?;
     }
+    Ok(())
+}
+
+fn row_words(alloc: Global, row: Row<'_>) -> Result<Vec<String>, Fail> {
+    let mut owned = words(alloc, &["check", "m.tra", "m.lab", row.formula])?;
+    if row.own.is_some() {
+        add_words(alloc, &mut owned, &["--own", "m.own"])?;
+    }
+    add_words(alloc, &mut owned, row.numbers)?;
+    Ok(owned)
 }
 
 /// A row over a shelf and a sink that never fail writes this text and ends with this status.
@@ -74,20 +83,31 @@ pub fn writes<R: Threads + Sync + Abort>(
     text: &str,
     status: Status,
 ) -> Result<(), Fail> {
+    let (ended, written) = runs(rt, alloc, row, &OpenGate {})?;
+    let formula = row.formula;
+    assert!(rt; ended == status, "{formula} gives {ended:?}");
+    assert_eq!(rt; written.as_slice(), text.as_bytes());
+    Ok(())
+}
+
+/// How a row ends over a shelf and a sink that never fail, and what it writes.
+pub fn runs<R: Threads + Sync + Abort, G: Gate + Sync>(
+    rt: &R,
+    alloc: Global,
+    row: Row<'_>,
+    gate: &G,
+) -> Result<(Status, Vec<u8>), Fail> {
     let words = row_words(alloc, row)?;
     let mut shelf = SteadyShelf::new(files(alloc, row)?);
     let mut out = SteadySink::new(alloc);
     if out.reserve(1000).is_err() {
         return Err(Fail::new("no memory"));
     }
-    let ended = run(rt, alloc, &words, &mut shelf, &mut out, &OpenGate {});
-    let formula = row.formula;
-    assert!(rt; ended == status, "{formula} gives {ended:?}");
-    let Some(written) = out.bytes() else {
-        return Err(Fail::new("the text is lost"));
-    };
-    assert_eq!(rt; written, text.as_bytes());
-    Ok(())
+    let ended = run(rt, alloc, &words, &mut shelf, &mut out, gate);
+    match out.bytes() {
+        Some(written) => Ok((ended, written.to_vec(alloc)?)),
+        None => Err(Fail::new("the text is lost")),
+    }
 }
 
 /// The row is refused with this line.

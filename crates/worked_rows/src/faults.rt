@@ -78,6 +78,38 @@ fn other_words_give_the_usage_line(rt: HostRuntime) -> Result<(), Fail> {
 }
 
 #[test]
+fn numbers_out_of_range_or_order_give_the_usage_line(rt: HostRuntime) -> Result<(), Fail> {
+    let alloc = rt.alloc();
+    for numbers in [
+        ["--rounds", "1000001"],
+        ["--rounds", "4294967296"],
+        ["--rounds", "-0"],
+        ["--rounds", ""],
+        ["--rounds", "1.0"],
+        ["--workers", "0"],
+        ["--workers", "65"],
+        ["--workers", "+"],
+    ] {
+        let [option, number] = numbers;
+        usage(
+            &rt,
+            alloc,
+            &["check", "m.tra", "m.lab", REACH, option, number],
+        )?;
+    }
+    let turned = [
+        "check", "m.tra", "m.lab", REACH, "--workers", "1", "--rounds", "2",
+    ];
+    usage(&rt, alloc, &turned)?;
+    let twice = [
+        "check", "m.tra", "m.lab", REACH, "--rounds", "1", "--rounds", "2",
+    ];
+    usage(&rt, alloc, &twice)?;
+    usage(&rt, alloc, &["check", "m.tra", "m.lab", REACH, "--rounds"])?;
+    usage(&rt, alloc, &["check", "m.tra", "m.lab", REACH, "--plan"])
+}
+
+#[test]
 fn an_empty_transition_file_is_refused_at_line_1(rt: HostRuntime) -> Result<(), Fail> {
     let alloc = rt.alloc();
     let empty = plain_row("", GOAL_AT_1, REACH);

@@ -1,6 +1,6 @@
 //! Label files, owner files and questions that are refused.
 
-use crate::desk::{Row, plain_row, refuses};
+use crate::desk::{ONE_WORKER, Row, plain_row, refuses};
 use crate::models::{COIN_LOOP, GOAL_AT_1, GOAL_AT_2, TWO_PLAYERS};
 use std::alloc::Global;
 use std::process::Abort;
@@ -80,6 +80,7 @@ fn two_owners_are_refused(rt: HostRuntime) -> Result<(), Fail> {
         lab: GOAL_AT_2,
         own: Some("0=\"p1\" 1=\"p2\"\n1: 0\n1: 1\n"),
         formula: REACH,
+        numbers: ONE_WORKER,
     };
     refuses(&rt, alloc, two, "refused own line 3 TwoOwners state 1\n")
 }

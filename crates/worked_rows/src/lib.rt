@@ -20,3 +20,5 @@ mod models;
 mod transitions;
 #[cfg(test)]
 mod values;
+#[cfg(test)]
+mod workers;

@@ -1,6 +1,6 @@
 //! Values of models.
 
-use crate::desk::{Row, plain_row, writes};
+use crate::desk::{ONE_WORKER, Row, plain_row, writes};
 use crate::models::{
     AGREEMENT, AGREEMENT_LABELS, AGREEMENT_OWNERS, COIN_LOOP, COIN_LOOP_REPORT, FORK, GOAL_AT_1,
     GOAL_AT_2, SECOND_OWNS_1, TWO_PLAYERS,
@@ -123,6 +123,7 @@ fn coalitions_choose_at_the_states_of_their_players(rt: HostRuntime) -> Result<(
         lab: GOAL_AT_2,
         own: Some(SECOND_OWNS_1),
         formula: "<<p1>> Pmax=? [ F \"goal\" ]",
+        numbers: ONE_WORKER,
     };
     let most = "state 0 lower 0.650000000000 upper 1.000000000000 rounds 2 Bracket\n";
     writes(&rt, alloc, first, most, Status::Fine)?;
@@ -131,6 +132,7 @@ fn coalitions_choose_at_the_states_of_their_players(rt: HostRuntime) -> Result<(
         lab: AGREEMENT_LABELS,
         own: Some(AGREEMENT_OWNERS),
         formula: "<<p1>> Pmax=? [ \"ok\" U \"done\" ]",
+        numbers: ONE_WORKER,
     };
     let agreed = "state 0 lower 0.839999999999 upper 1.000000000000 rounds 20 Bracket\n";
     writes(&rt, alloc, agreement, agreed, Status::Fine)

@@ -1,0 +1,67 @@
+#!/usr/bin/env python3
+"""Writes a random MDP as PRISM's explicit files, to measure with.
+
+    random_model.py STATES CHOICES SEED NAME
+
+writes NAME.tra and NAME.lab. Each state has so many choices of two moves each, to states drawn at random, with
+probabilities that are hundredths. One state in a thousand is a goal and one in a hundred is a trap; both keep to
+themselves. The label `init` is at state 0. The same arguments give the same files.
+"""
+
+import random
+import sys
+
+MOVES = 2
+GOAL_EVERY = 1000
+TRAP_EVERY = 100
+
+
+def is_goal(state):
+    return state % GOAL_EVERY == GOAL_EVERY - 1
+
+
+def is_trap(state):
+    return state % TRAP_EVERY == TRAP_EVERY // 2
+
+
+def choice_lines(draw, states, state, choice):
+    """The lines of one choice: two moves to different states, the lower first."""
+    if is_goal(state) or is_trap(state):
+        return f"{state} {choice} {state} 1\n"
+    first, second = sorted(draw.sample(range(states), MOVES))
+    percent = draw.randint(1, 99)
+    return f"{state} {choice} {first} 0.{percent:02}\n{state} {choice} {second} 0.{100 - percent:02}\n"
+
+
+def write_transitions(path, states, choices, seed):
+    draw = random.Random(seed)
+    fixed = sum(is_goal(state) or is_trap(state) for state in range(states))
+    lines = choices * (MOVES * (states - fixed) + fixed)
+    with open(path, "w", encoding="ascii") as out:
+        out.write(f"{states} {states * choices} {lines}\n")
+        for state in range(states):
+            for choice in range(choices):
+                out.write(choice_lines(draw, states, state, choice))
+
+
+def write_labels(path, states):
+    with open(path, "w", encoding="ascii") as out:
+        out.write('0="init" 1="goal"\n0: 0\n')
+        for state in range(states):
+            if is_goal(state):
+                out.write(f"{state}: 1\n")
+
+
+def main():
+    if len(sys.argv) != 5:
+        sys.exit(__doc__)
+    states, choices, seed = (int(word) for word in sys.argv[1:4])
+    if states < MOVES or choices < 1:
+        sys.exit("a model has two states and one choice at least")
+    name = sys.argv[4]
+    write_transitions(f"{name}.tra", states, choices, seed)
+    write_labels(f"{name}.lab", states)
+
+
+if __name__ == "__main__":
+    main()
