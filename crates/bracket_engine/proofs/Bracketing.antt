@@ -81,6 +81,8 @@ IsBracket-raced q zero_set asked words lower upper rounds stable posed is_zero_s
       upper_zero = is_upper.marked;
       upper_unit = is_upper.unmarked;
       few = raced.few;
+      steps = sound.rounds;
+      within = top;
       swept = swept;
       swept_asked = swept_asked;
       near = near-down_steps q (slice_index lower) rounds chosen swept;

@@ -28,8 +28,10 @@ pub record IsBracket (q : Query) (zero : List Bool) (asked : ℕ) (lower upper :
   -- the upper table is 0 on the zero set and 1 elsewhere
   pub upper_zero : (s : ℕ) → s < states q → slice_index_or zero s false ≡ true → slice_index upper s ≡ 0
   pub upper_unit : (s : ℕ) → s < states q → slice_index_or zero s false ≡ false → slice_index upper s ≡ unit
-  -- the lower table is as far as the completed rounds take it, and as far as all asked rounds would
+  -- the lower table lies between the down steps of the completed rounds and some more, and is as far as all asked rounds would take it
   pub few : rounds ≤ asked
+  pub steps : ℕ
+  pub within : IsBelow q (slice_index lower) (down_steps q steps)
   pub swept : IsBelow q (down_steps q rounds) (slice_index lower)
   pub swept_asked : IsBelow q (down_steps q asked) (slice_index lower)
   pub near : IsNear q rounds (slice_index lower)
