@@ -1,7 +1,5 @@
 -- What a race leaves, from what its passes have seen.
-use Rattle.std.proofs.Common.{◌≡◌, ℕ, zero, suc, ◌+◌, ◌<◌, ◌≤◌, List, length, arith, sym, ap, ◌∙◌, subst, le_refl, le_trans, add-one}
-use Rattle.std.specs.Prelude.{slice_index}
-use Rattle.std.specs.List.{AllByRecursion}
+use Rattle.std.proofs.Common.{◌≡◌, ℕ, ◌+◌, ◌<◌, ◌≤◌, List, arith, sym, ap, ◌∙◌, subst, le_refl, le_trans, add-one}
 use Rattle.game_model.specs.Game.{choices_of}
 use Rattle.game_model.specs.Query.{Query, IsQuery, states}
 use Rattle.game_model.specs.Rounded.{down_step, down_steps, opening, IsBelow, IsSettled}
@@ -11,7 +9,6 @@ use Rattle.step_core.specs.Word.{value_at, opening_words}
 use Rattle.step_core.specs.Sound.{Sound, Sees}
 use Rattle.step_core.proofs.Sights.{Sees-below}
 use Rattle.step_core.proofs.Words.{opening_words-value}
-use Rattle.bracket_engine.specs.Race.{IsRaced}
 
 -- one more round
 pub swept-more : (q : Query) (r : ℕ) (old new : ℕ → ℕ) → IsQuery q → IsBelow q (down_steps q r) old → ((s : ℕ) → s < states q → down_step q old s ≤ new s) → IsBelow q (down_steps q (r + 1)) new

@@ -52,15 +52,7 @@ fn the_first_player_chooses_the_better_lottery(rt: HostRuntime) -> Result<(), Fa
         return Err(Fail::new("no memory"));
     };
     for workers in [1, 2, 3, 64] {
-        let Ok(found) = bracket(
-            &rt,
-            alloc,
-            &question,
-            &zero,
-            1_000,
-            workers,
-            &OpenGate {},
-        ) else {
+        let Ok(found) = bracket(&rt, alloc, &question, &zero, 1_000, workers, &OpenGate {}) else {
             return Err(Fail::new("no memory"));
         };
         assert_eq!(rt;

@@ -2,7 +2,7 @@
 
 ghost use Rattle.std.specs.Prelude.{◌≡◌, ◌≢◌, ◌<◌, ◌≤◌, ◌^◌, ◌↔◌, ◌++◌, ℕ, List, ◌∷◌, Option, None, IsTrue, MatchOption, map, codes, length, slice_index, option_map};
 ghost use Rattle.std.specs.String.{string_bytes};
-ghost use Rattle.stogame_app.specs.Words.{IsPlain, IsNumber, AreRounds, AreWorkers, Options, AreOptions, AreCheck, AreNoCommand, IsTaken, options_of, check_of};
+ghost use Rattle.stogame_app.specs.Words.{IsPlain, IsNumber, AreInRange, Options, AreOptions, AreCheck, AreNoCommand, IsTaken, options_of, check_of};
 
 use bracket_engine::MOST_ROUNDS;
 use round_workers::MOST_WORKERS;
@@ -112,7 +112,7 @@ fn take_option<'a>(name: &str, words: &'a [String]) -> (Option<&'a str>, &'a [St
 // The number that the word of an option spells, or the default where it is not given. None where it is no number of
 // 32 bits.
 fn read_number(word: Option<&str>, default: u32) -> Option<u32>
-    ensures { MatchOption result ((n : ℕ) → IsNumber default (option_map (λ w. w.now) word) n → 2 ^ 32 ≤ n) (λ n. IsNumber default (option_map (λ w. w.now) word) n) }
+    ensures { MatchOption result ((n : ℕ) → IsNumber default (option_map (λ w. w.now) word.entry) n → 2 ^ 32 ≤ n) (λ n. IsNumber default (option_map (λ w. w.now) word.entry) n) }
 {
     match word {
         None => Some(default),
