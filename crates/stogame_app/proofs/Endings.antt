@@ -1,5 +1,5 @@
 -- How a run ends, from how its loading ended.
-use Rattle.std.proofs.Common.{◌≡◌, ◌<◌, ◌⊎◌, inl, inr, ℕ, List, Option, Some, None, Result, Ok, Err, sym, ◌∙◌, ap, subst, refl, arith}
+use Rattle.std.proofs.Common.{◌≡◌, ◌<◌, ◌⊎◌, inl, inr, ℕ, List, Option, Some, None, Result, Ok, Err, ◌∙◌, ap, subst, refl}
 use Rattle.std.specs.Prelude.{IsErrOf}
 use Rattle.text_lines.specs.declared.TheConstants.{MOST_BYTES}
 use Rattle.game_outside.specs.Outside.{Holding}
@@ -7,7 +7,7 @@ use Rattle.formula_sets.specs.Posing.{Posing}
 use Rattle.formula_sets.specs.declared.fault.PoseFault.{PoseFault}
 use Rattle.formula_sets.specs.declared.fault.PoseFault.TheVariants as fault
 use Rattle.stogame_app.specs.declared.load.End.{End}
-use Rattle.stogame_app.specs.declared.load.End.TheVariants.{Refused, ReadFault, OutOfMemory}
+use Rattle.stogame_app.specs.declared.load.End.TheVariants.{Refused, OutOfMemory}
 use Rattle.stogame_app.specs.declared.model.Loaded.{Loaded}
 use Rattle.stogame_app.specs.declared.refusal.Refusal.{Refusal}
 use Rattle.stogame_app.specs.declared.refusal.Refusal.TheVariants.{OfQuestion}
@@ -15,7 +15,7 @@ use Rattle.stogame_app.specs.declared.status.Status.{Status}
 use Rattle.stogame_app.specs.declared.status.Status.TheVariants as status
 use Rattle.stogame_app.specs.Words.{Check}
 use Rattle.stogame_app.specs.Said.{Said, NotHeld, Refuses, Says, and_then, read_said, WhereTold, Loads, IsTooLong}
-use Rattle.stogame_app.specs.Posed.{Reading, reading_of, reading_said, question_said, posed}
+use Rattle.stogame_app.specs.Posed.{reading_of, reading_said, question_said, posed}
 use Rattle.stogame_app.specs.Refusals.{refusal_text}
 use Rattle.stogame_app.specs.Run.{IsLong, IsReportOf, IsRefusalOf, PosesIt, RefusesIt}
 

@@ -1,3 +1,4 @@
 pub mod Endings
 pub mod OneCheck
+pub mod Reported
 pub mod TakenFirst

@@ -90,8 +90,8 @@ one_options : (words : List (List ℕ)) (a b : Options) → AreOptions words a �
 one_options words a b of_a of_b =
     let same = as_taken words b of_b a.own of_a.rounds_word of_a.workers_word [] (are_taken words a of_a) in
     same_options a.own b.own a.rounds b.rounds a.workers b.workers (sym same.own_is)
-        (one_number 10000 of_a.rounds_word of_b.rounds_word a.rounds b.rounds (sym same.rounds_is) of_a.rounds of_b.rounds)
-        (one_number 4 of_a.workers_word of_b.workers_word a.workers b.workers (sym same.workers_is) of_a.workers of_b.workers)
+    (one_number 10000 of_a.rounds_word of_b.rounds_word a.rounds b.rounds (sym same.rounds_is) of_a.rounds of_b.rounds)
+    (one_number 4 of_a.workers_word of_b.workers_word a.workers b.workers (sym same.workers_is) of_a.workers of_b.workers)
 
 same_check : (t l f t' l' f' : List ℕ) (o o' : Options) → t ≡ t' → l ≡ l' → f ≡ f' → o ≡ o'
     → ◌≡◌ {A = Check} (record { tra = t; lab = l; formula = f; options = o }) (record { tra = t'; lab = l'; formula = f'; options = o' })
@@ -102,7 +102,7 @@ one_check words a b of_a of_b =
     let same : codes "check" ∷ a.tra ∷ a.lab ∷ a.formula ∷ of_a.rest ≡ codes "check" ∷ b.tra ∷ b.lab ∷ b.formula ∷ of_b.rest = sym of_a.words_are ∙ of_b.words_are in
     let rest : of_b.rest ≡ of_a.rest = cc (same) in
     same_check a.tra a.lab a.formula b.tra b.lab b.formula a.options b.options (cc (same)) (cc (same)) (cc (same))
-        (one_options of_a.rest a.options b.options of_a.options (subst (λ (ws : List (List ℕ)). AreOptions ws b.options) rest of_b.options))
+    (one_options of_a.rest a.options b.options of_a.options (subst (λ (ws : List (List ℕ)). AreOptions ws b.options) rest of_b.options))
 
 -- where words are left over, they say no options
 pub none_left : (words : List (List ℕ)) (own rounds workers : Option (List ℕ)) (rest : List (List ℕ)) → AreTaken words own rounds workers rest → rest ≢ []
@@ -115,5 +115,5 @@ pub none_in_range : (words : List (List ℕ)) (own rounds workers : Option (List
 none_in_range words own rounds workers rest r w taken of_r of_w out options are =
     let same = as_taken words options are own rounds workers rest taken in
     out (subst AreInRange (same_options options.own own options.rounds r options.workers w same.own_is
-        (one_number 10000 are.rounds_word rounds options.rounds r same.rounds_is are.rounds of_r)
-        (one_number 4 are.workers_word workers options.workers w same.workers_is are.workers of_w)) are.in_range)
+    (one_number 10000 are.rounds_word rounds options.rounds r same.rounds_is are.rounds of_r)
+    (one_number 4 are.workers_word workers options.workers w same.workers_is are.workers of_w)) are.in_range)

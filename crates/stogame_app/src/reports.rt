@@ -31,7 +31,15 @@ pub fn report<R: Threads + Sync, G: Gate + Sync>(
     ensures { IfOk result (λ text. IsReport question.now initial.now asked.now.rounds text.items) }
 {
     let zero = zero_set(alloc, question)?;
-    let found = bracket(rt, alloc, question, &zero, asked.rounds, asked.workers, gate)?;
+    let found = bracket(
+        rt,
+        alloc,
+        question,
+        &zero,
+        asked.rounds,
+        asked.workers,
+        gate,
+    )?;
     let Ok(lines) = lines_of(alloc, &found, initial) else {
         return Err(OutOfMemory {});
     };

@@ -25,3 +25,6 @@ returns-in-Some-clause-complete g c = λ check held posing words told said calm 
 
 pub returns-in-Some-clause-steadily : goal.returns-in-Some-clause-steadily
 returns-in-Some-clause-steadily g c = λ is steady. (check_of c.in-Some.check, c.in-Some.ensures, c.run_check.ensures.steadily is steady)
+
+pub returns-in-None-clause-complete : goal.returns-in-None-clause-complete
+returns-in-None-clause-complete g c = λ check held posing words told said calm quiet. absurd (c.in-None.ensures check words)

@@ -1,4 +1,4 @@
-use Rattle.std.proofs.Common.{◌⊎◌, inl, inr}
+use Rattle.std.proofs.Common.{inl, inr}
 use Rattle.stogame_app.specs.Words.{check_of}
 use Rattle.stogame_app.specs.Refusals.{refusal_text}
 use Rattle.stogame_app.proofs.Endings.{report_loaded, refusal_posed, refusal_loaded}
