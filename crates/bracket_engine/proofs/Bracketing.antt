@@ -2,7 +2,7 @@
 use Rattle.std.proofs.Common.{◌≡◌, ℕ, ◌+◌, ◌*◌, ◌^◌, ◌<◌, ◌≤◌, Bool, true, false, List, length, arith, refl, sym, ap, ◌∙◌, subst, inl, inr, le_trans, ne_eqb, eq-eqb}
 use Rattle.std.specs.Prelude.{slice_index, slice_index_or, ◌↔◌, ◌==◌, ◌||◌, Option, Some, None, if◌then◌else◌}
 use Rattle.std.proofs.lemmas.Bool.{cases_lt}
-use Rattle.std.proofs.lemmas.List.{length-map, get_or-map, get_or_default}
+use Rattle.std.proofs.lemmas.List.{length-map, get_or-map, get_or_default, same_lists}
 use Rattle.std.proofs.Math.Nat.{mul-le-mul_left, mul-le-mul_right}
 use Rattle.game_model.specs.declared.game.Side.{Side}
 use Rattle.game_model.specs.declared.game.Side.TheVariants.{Max, Min}
@@ -95,6 +95,22 @@ IsBracket-raced q zero_set asked words lower upper rounds stable posed is_zero_s
         least = λ other over is_settled s inside. le_trans (top s inside) (down_steps-settled q other chosen over is_settled sound.rounds s inside);
       };
     }
+
+-- two lower tables that are settled are both the least
+pub settled-agree : (q : Query) (zero other_zero : List Bool) (asked other_asked : ℕ) (lower upper other other_upper : List ℕ) (rounds other_rounds : ℕ)
+    → IsBracket q zero asked lower upper rounds true → IsBracket q other_zero other_asked other other_upper other_rounds true → lower ≡ other
+settled-agree q zero other_zero asked other_asked lower upper other other_upper rounds other_rounds one two =
+    let first = one.least refl in
+    let second = two.least refl in
+    same_lists lower other (one.lower_length ∙ sym two.lower_length) (λ s d inside.
+    let within : s < states q = subst (λ n. s < n) one.lower_length inside in
+    omega (
+      arith,
+      get_or_default lower s d 0 inside,
+      get_or_default other s d 0 (subst (λ n. s < n) (sym two.lower_length) within),
+      first.least (slice_index other) second.opens second.settled s within,
+      second.least (slice_index lower) first.opens first.settled s within,
+    ))
 
 -- the choices of the words, where a plan needs them
 picks-at : (words : List ℕ) (s : ℕ) → s < length words → slice_index_or (picks_of words) s None ≡ Some (choice_in (slice_index words s))

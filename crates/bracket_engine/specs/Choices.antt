@@ -11,7 +11,7 @@ abbrev pub choice_of_word : Query → ℕ → ℕ → Option ℕ
 choice_of_word q s word =
     if is_goal q s || is_dead q s then None else on_side (side_at q s) (if value_in word == 0 then None else Some (choice_in word)) None
 
--- the choices reach the lower table, as some ranks show; a goal, a dead state, a state of the minimiser and one of value 0 have none
+-- the choices and some ranks go with the lower table; a goal, a dead state, a state of the minimiser and one of value 0 have none
 pub record AreChoices (q : Query) (lower : List ℕ) (choices : List (Option ℕ)) : Type 0 where
   pub as_many : length choices ≡ states q
   pub ranks : List ℕ

@@ -9,6 +9,7 @@
 #![tactic(auto)]
 
 mod bounds;
+pub mod laws;
 mod race;
 mod run;
 mod tables;

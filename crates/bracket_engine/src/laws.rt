@@ -1,0 +1,12 @@
+//! Laws of brackets.
+
+ghost use Rattle.std.specs.Prelude.{◌≡◌, ℕ, List, Bool, true};
+ghost use Rattle.game_model.specs.Query.{Query};
+ghost use Rattle.bracket_engine.specs.Bracket.{IsBracket};
+
+/// Two runs of one question that settle have the same lower bounds, whatever their schedules, their numbers of workers
+/// and the rounds that were asked for.
+pub fn settled_lower_bounds_agree()
+    ensures { (q : Query) (zero other_zero : List Bool) (asked other_asked : ℕ) (lower upper other other_upper : List ℕ) (rounds other_rounds : ℕ)
+        → IsBracket q zero asked lower upper rounds true → IsBracket q other_zero other_asked other other_upper other_rounds true → lower ≡ other }
+{}
