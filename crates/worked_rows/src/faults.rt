@@ -98,7 +98,14 @@ fn numbers_out_of_range_or_order_give_the_usage_line(rt: HostRuntime) -> Result<
         )?;
     }
     let turned = [
-        "check", "m.tra", "m.lab", REACH, "--workers", "1", "--rounds", "2",
+        "check",
+        "m.tra",
+        "m.lab",
+        REACH,
+        "--workers",
+        "1",
+        "--rounds",
+        "2",
     ];
     usage(&rt, alloc, &turned)?;
     let twice = [
