@@ -3,6 +3,7 @@
 use crate::bracket;
 use game_model::{Question, Side, UNIT};
 use game_outside::{HoldGate, OpenGate};
+use reference_values::numerators;
 use sample_games::{all_of, coin_loop, four_states, none_of, only};
 use std::test::Fail;
 use zero_sets::zero_set;
@@ -66,6 +67,35 @@ fn the_first_player_chooses_the_better_lottery(rt: HostRuntime) -> Result<(), Fa
             "{workers} workers"
         );
         assert!(rt; found.stable, "{workers} workers");
+    }
+    Ok(())
+}
+
+#[test]
+fn after_r_rounds_the_r_step_values_are_reached_but_for_r_units(
+    rt: HostRuntime,
+) -> Result<(), Fail> {
+    let alloc = rt.alloc();
+    let game = coin_loop(alloc)?;
+    let sides = all_of(alloc, Side::Max, 3)?;
+    let question = Question::build(&game, sides, only(alloc, 1, 3)?, none_of(alloc, 3)?);
+    let Ok(zero) = zero_set(alloc, &question) else {
+        return Err(Fail::new("no memory"));
+    };
+    let mut power: u128 = 1;
+    for rounds in 0..20u32 {
+        let Ok(found) = bracket(&rt, alloc, &question, &zero, rounds, 1, &OpenGate {}) else {
+            return Err(Fail::new("no memory"));
+        };
+        let Ok(exact) = numerators(alloc, &question, rounds) else {
+            return Err(Fail::new("no numerators"));
+        };
+        for (lower, numerator) in found.lower.iter().zip(exact.iter()) {
+            let reached = (u128::from(*lower) + u128::from(rounds)).saturating_mul(power);
+            let value = numerator.saturating_mul(u128::from(UNIT));
+            assert!(rt; reached >= value, "after {rounds} rounds");
+        }
+        power = power.saturating_mul(4);
     }
     Ok(())
 }

@@ -1,7 +1,7 @@
 //! Words that denote no command, and faults of the outside.
 
-use crate::desk::{fails, plain_row, words, writes};
 use crate::models::{COIN_LOOP, COIN_LOOP_REPORT, GOAL_AT_1, USAGE};
+use crate::rows::{fails, plain_row, words, writes};
 use game_outside::{OpenGate, SteadyShelf, SteadySink};
 use std::alloc::Global;
 use std::process::Abort;

@@ -1,7 +1,7 @@
 //! Formulas that are refused.
 
-use crate::desk::{plain_row, refuses};
 use crate::models::{COIN_LOOP, GOAL_AT_1};
+use crate::rows::{plain_row, refuses};
 use std::alloc::Global;
 use std::process::Abort;
 use std::test::Fail;

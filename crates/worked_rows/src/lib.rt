@@ -7,8 +7,6 @@
 #[cfg(test)]
 mod adapters;
 #[cfg(test)]
-mod desk;
-#[cfg(test)]
 mod faults;
 #[cfg(test)]
 mod formulas;
@@ -16,6 +14,8 @@ mod formulas;
 mod labels;
 #[cfg(test)]
 mod models;
+#[cfg(test)]
+mod rows;
 #[cfg(test)]
 mod transitions;
 #[cfg(test)]

@@ -1,7 +1,7 @@
 //! Transition files that are refused.
 
-use crate::desk::{plain_row, refuses};
 use crate::models::{COIN_LOOP, FORK, GOAL_AT_1};
+use crate::rows::{plain_row, refuses};
 use std::alloc::Global;
 use std::process::Abort;
 use std::test::Fail;

@@ -1,10 +1,10 @@
 //! Values of models.
 
-use crate::desk::{ONE_WORKER, Row, plain_row, writes};
 use crate::models::{
     AGREEMENT, AGREEMENT_LABELS, AGREEMENT_OWNERS, COIN_LOOP, COIN_LOOP_REPORT, FORK, GOAL_AT_1,
     GOAL_AT_2, SECOND_OWNS_1, TWO_PLAYERS,
 };
+use crate::rows::{ONE_WORKER, Row, plain_row, writes};
 use std::test::Fail;
 use stogame_app::Status;
 

@@ -1,9 +1,9 @@
 //! Rounds and workers.
 
-use crate::desk::{Row, plain_row, runs, writes};
 use crate::models::{
     AGREEMENT, AGREEMENT_LABELS, AGREEMENT_OWNERS, COIN_LOOP, COIN_LOOP_REPORT, GOAL_AT_1,
 };
+use crate::rows::{Row, plain_row, runs, writes};
 use game_outside::{Gate, HoldGate, OpenGate};
 use std::alloc::Global;
 use std::process::Abort;

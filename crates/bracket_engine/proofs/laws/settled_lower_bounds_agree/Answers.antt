@@ -1,4 +1,3 @@
-use Rattle.std.proofs.Common.{refl}
 use Rattle.bracket_engine.proofs.Bracketing.{settled-agree}
 use Rattle.bracket_engine.proofs.laws.settled_lower_bounds_agree.Goals as goal
 

@@ -1,4 +1,4 @@
-//! Runs a row: files in memory, words, and what is written.
+//! Rows: files in memory and words, run, and what is written.
 
 use game_outside::{Gate, HeldFile, MemShelf, MemSink, Name, OpenGate, SteadyShelf, SteadySink};
 use std::alloc::Global;
