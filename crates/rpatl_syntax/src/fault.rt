@@ -33,6 +33,7 @@ pub struct FormulaFault {
 }
 
 impl FormulaFault {
+    /// The fault of this cause at a byte of the text.
     pub fn new(place: u32, cause: FormulaCause) -> FormulaFault
         ensures { result ≡ fault_at place cause }
     {

@@ -52,6 +52,7 @@ pub enum Comparison {
 impl Comparison {
     ghost use Rattle.rpatl_syntax.specs.Bounds.{bound_with};
 
+    /// The bound that compares with this threshold.
     pub fn bound(self, threshold: Frac) -> Bound
         ensures { result ≡ bound_with self threshold }
     {

@@ -17,6 +17,7 @@ pub enum Level {
 }
 
 impl Level {
+    /// How the operator of the level is spelt.
     pub fn sign(self) -> &'static str
         ensures { result.now ≡ sign_of self }
     {
@@ -27,6 +28,7 @@ impl Level {
         }
     }
 
+    /// The formula of two operands under the operator of the level. The only error is want of memory.
     pub fn join(
         self,
         alloc: Global,
