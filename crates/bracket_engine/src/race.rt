@@ -1,6 +1,6 @@
 //! Rounds of workers on the shared words, until these are settled.
 
-ghost use Rattle.std.specs.Prelude.{◌≡◌, ℕ, ◌<◌, ◌≤◌, true, length, IfOk, vec_len};
+ghost use Rattle.std.specs.Prelude.{◌≡◌, ℕ, ◌<◌, ◌≤◌, true, length, IfOk};
 ghost use Rattle.game_model.specs.Query.{Query, IsQuery, states};
 ghost use Rattle.game_model.specs.Rounded.{down_step, down_steps, IsBelow, IsSettled};
 ghost use Rattle.round_workers.specs.Share.{most_workers};
@@ -42,7 +42,9 @@ pub fn race<R: Threads + Sync, P: Posing, G: Gate + Sync>(
     ensures { IfOk result (λ raced. IsRaced P.posed most raced.words raced.rounds) }
 {
     question.known();
-    let mut seen = zeros(alloc, question.game().states())?;
+    let Ok(mut seen) = vec![in alloc; 0u64; question.game().states() as usize] else {
+        return Err(OutOfMemory {});
+    };
     let (table, pass) = ValueTable::<P>::start(alloc, question)?;
     let (pass, rounds) = run_rounds(rt, &table, pass, seen.as_mut_slice(), most, workers, gate);
     let words = table.close(alloc, pass)?;
@@ -151,17 +153,4 @@ fn edges_of(question: &Question<'_>, state: u32) -> u64
         count = count.saturating_add(game.edges(state, choice).len() as u64);
     }
     count
-}
-
-// A table of zeros.
-fn zeros(alloc: Global, count: u32) -> Result<Vec<u64>, OutOfMemory>
-    ensures { IfOk result (λ table. vec_len table ≡ count) }
-{
-    let mut table = Vec::new(alloc);
-    for _state in 0..count {
-        let Ok(()) = table.push(0) else {
-            return Err(OutOfMemory {});
-        };
-    }
-    Ok(table)
 }
