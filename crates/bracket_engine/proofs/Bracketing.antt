@@ -1,4 +1,4 @@
--- The tables of a run are a bracket, and its choices reach the lower one.
+-- The tables of a run are a bracket, and its choices are ranked with the lower one.
 use Rattle.std.proofs.Common.{◌≡◌, ℕ, ◌+◌, ◌*◌, ◌^◌, ◌<◌, ◌≤◌, Bool, true, false, List, length, arith, refl, sym, ap, ◌∙◌, subst, inl, inr, le_trans, ne_eqb, eq-eqb}
 use Rattle.std.specs.Prelude.{slice_index, slice_index_or, ◌↔◌, ◌==◌, ◌||◌, Option, Some, None, if◌then◌else◌}
 use Rattle.std.proofs.lemmas.Bool.{cases_lt}
@@ -73,13 +73,10 @@ IsBracket-raced q zero_set asked words lower upper rounds stable posed is_zero_s
     let many : length lower ≡ states q = ap length is ∙ length-map words value_in ∙ sound.as_many in
     record {
       lower_length = many;
-      upper_length = is_upper.many;
       lower_units = λ s d inside. omega (arith, get_or_default lower s d 0 inside, ap (λ t. t s) table, Sound-units q words sound s (subst (λ n. s < n) many inside));
-      upper_units = is_upper.units;
       low = below-low q (slice_index lower) sound.rounds chosen top;
       high = upper-high q zero_set upper chosen is_zero_set is_upper;
-      upper_zero = is_upper.marked;
-      upper_unit = is_upper.unmarked;
+      exact = is_upper;
       few = raced.few;
       steps = sound.rounds;
       within = top;

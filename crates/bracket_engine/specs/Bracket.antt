@@ -1,10 +1,11 @@
--- What a run of rounds gives: a sound lower and a sound upper table, and how near they are.
-use Rattle.std.specs.Prelude.{◌≡◌, ℕ, ◌+◌, ◌*◌, ◌^◌, ◌<◌, ◌≤◌, ◌↔◌, Bool, true, false, List, length, All, slice_index, slice_index_or}
+-- What a run of rounds gives: a sound lower and a sound upper table, and how near the lower one is to the r-step values.
+use Rattle.std.specs.Prelude.{◌≡◌, ℕ, ◌+◌, ◌*◌, ◌^◌, ◌<◌, ◌≤◌, ◌↔◌, Bool, true, List, length, All, slice_index}
 use Rattle.game_model.specs.Query.{Query, states}
 use Rattle.game_model.specs.Values.{denominator, numerator}
 use Rattle.game_model.specs.Limits.{unit}
 use Rattle.game_model.specs.Rounded.{down_steps, opening, IsBelow, IsSettled}
 use Rattle.game_model.specs.Bounds.{Low, High}
+use Rattle.bracket_engine.specs.Upper.{IsUpperOf}
 
 -- at most r units below the r-step values
 abbrev pub IsNear : Query → ℕ → (ℕ → ℕ) → Type 0
@@ -19,16 +20,13 @@ pub record IsLeastSettled (q : Query) (table : ℕ → ℕ) : Type 0 where
 -- a bracket of a question with this zero set, after this many completed rounds of those that were asked for
 pub record IsBracket (q : Query) (zero : List Bool) (asked : ℕ) (lower upper : List ℕ) (rounds : ℕ) (stable : Bool) : Type 0 where
   pub lower_length : length lower ≡ states q
-  pub upper_length : length upper ≡ states q
   pub lower_units : All (λ v. v ≤ unit) lower
-  pub upper_units : All (λ v. v ≤ unit) upper
   -- the bounds are sound
   pub low : Low q (slice_index lower)
   pub high : High q (slice_index upper)
   -- the upper table is 0 on the zero set and 1 elsewhere
-  pub upper_zero : (s : ℕ) → s < states q → slice_index_or zero s false ≡ true → slice_index upper s ≡ 0
-  pub upper_unit : (s : ℕ) → s < states q → slice_index_or zero s false ≡ false → slice_index upper s ≡ unit
-  -- the lower table lies between the down steps of the completed rounds and some more, and is as far as all asked rounds would take it
+  pub exact : IsUpperOf q zero upper
+  -- the lower table lies between the down steps of the completed rounds and some number of them, and is nowhere below those of the asked rounds
   pub few : rounds ≤ asked
   pub steps : ℕ
   pub within : IsBelow q (slice_index lower) (down_steps q steps)

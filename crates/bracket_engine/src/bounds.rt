@@ -1,7 +1,8 @@
 //! What a run gives.
 
-/// A lower and an upper bound in units for each state, the choices that reach the lower bounds, the number
-/// of completed rounds, and whether the lower table is settled: no state's down value is above its entry.
+/// A lower and an upper bound in units for each state, choices of the maximiser that are ranked with the lower
+/// bounds, the number of completed rounds, and whether the lower table is settled: no state's down value is
+/// above its entry.
 #[derive(Drop)]
 pub struct Bracket {
     /// At most some k-step value, for each state.

@@ -15,7 +15,7 @@ use std::alloc::Global;
 use std::thread::Threads;
 use value_words::{Pass, Posing, ValueTable, Words};
 
-/// How many edges make a worker worth its thread.
+/// How many edges make one more worker worth its thread.
 const EDGES_FOR_A_WORKER: u64 = 50_000;
 
 /// The closed words of a race, and the number of completed rounds.
@@ -27,7 +27,7 @@ pub struct Raced {
     pub rounds: u32,
 }
 
-/// At most so many rounds of so many workers. It ends earlier where the words are settled.
+/// Runs at most `most` rounds, each of at most so many workers. It ends earlier where the words are settled.
 pub fn race<R: Threads + Sync, P: Posing, G: Gate + Sync>(
     rt: &R,
     alloc: Global,
@@ -119,12 +119,15 @@ fn is_settled<P: Posing>(table: &ValueTable<'_, P>, pass: &mut Pass<P>, seen: &m
     settled(table.question(), seen)
 }
 
-// How many workers a round after the first has: so many that each has edges enough.
+// How many workers a round after the first has: one, and one more for each so many edges.
 fn busy_workers(question: &Question<'_>, workers: u32) -> u32
     requires { 1 ≤ workers }
     ensures some { 1 ≤ result }
     ensures few { result ≤ workers }
 {
+    if workers == 1 {
+        return 1;
+    }
     let worth = edge_count(question) / EDGES_FOR_A_WORKER + 1;
     if worth < u64::from(workers) {
         worth as u32
@@ -138,13 +141,13 @@ fn edge_count(question: &Question<'_>) -> u64 {
     let game = question.game();
     let mut count: u64 = 0;
     for state in 0..game.states() {
-        count = count.saturating_add(edges_of(question, state));
+        count = count.saturating_add(edge_count_at(question, state));
     }
     count
 }
 
 // How many edges the choices of a state have.
-fn edges_of(question: &Question<'_>, state: u32) -> u64
+fn edge_count_at(question: &Question<'_>, state: u32) -> u64
     requires { state < states question.now }
 {
     let game = question.game();

@@ -19,8 +19,8 @@ use std::thread::Threads;
 /// The most rounds that may be asked for.
 pub const MOST_ROUNDS: u32 = 1_000_000;
 
-/// The bracket after at most this many rounds of so many workers. The marks are the question's zero set.
-/// The only error is want of memory.
+/// The bracket after at most this many rounds, each of at most so many workers, who pass the gate before each
+/// state. The marks are the question's zero set. The only error is want of memory.
 pub fn bracket<R: Threads + Sync, G: Gate + Sync>(
     rt: &R,
     alloc: Global,
@@ -39,9 +39,7 @@ pub fn bracket<R: Threads + Sync, G: Gate + Sync>(
 {
     question.known();
     let raced = race::<R, Brand, G>(rt, alloc, question, rounds, workers, gate)?;
-    let Ok(upper) = upper_table(alloc, question, zero) else {
-        return Err(OutOfMemory {});
-    };
+    let upper = upper_table(alloc, question, zero)?;
     let lower = values_of_words(alloc, raced.words.as_slice())?;
     let choices = choices_of_words(alloc, question, raced.words.as_slice())?;
     let stable = settled(question, lower.as_slice());

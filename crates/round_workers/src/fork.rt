@@ -1,10 +1,10 @@
-// A round, forked and joined by halves of the workers.
+//! A round, forked and joined by halves of the workers.
 ghost use Rattle.std.specs.Prelude.{◌≡◌, ℕ, ◌+◌, ◌-◌, ◌<◌, ◌≤◌};
 ghost use Rattle.std.specs.Thread.{IsSend, IsSync};
 ghost use Rattle.game_model.specs.Query.{states};
 ghost use Rattle.game_model.specs.Rounded.{down_step};
 ghost use Rattle.value_words.specs.Passes.{IsOf, Grew, seen_by, won_by};
-ghost use Rattle.round_workers.specs.Share.{first_of, most_workers};
+ghost use Rattle.round_workers.specs.Share.{IsPart, most_workers};
 
 use crate::sweep::{Rounded, first_state, meet, sweep};
 use game_outside::Gate;
@@ -43,9 +43,7 @@ fn fork<R: Threads + Sync, P: Posing, G: Gate + Sync>(
 ) -> Rounded<P>
     requires pass { IsOf table.now pass }
     requires range { (first < last) × (last ≤ workers) × (workers ≤ most_workers) }
-    ensures grew { Grew pass result.pass }
-    ensures step { (s : ℕ) → first_of (states P.posed) workers first ≤ s → s < first_of (states P.posed) workers last → down_step P.posed (seen_by pass) s ≤ seen_by result.pass s }
-    ensures raises { (won_by result.pass ≡ won_by pass + result.raises) × (result.raises ≤ first_of (states P.posed) workers last - first_of (states P.posed) workers first) }
+    ensures { IsPart P.posed workers first last pass result.pass result.raises }
 {
     if last - first == 1 {
         return alone(table, pass, first, workers, gate);
@@ -56,11 +54,11 @@ fn fork<R: Threads + Sync, P: Posing, G: Gate + Sync>(
         rt,
         move || -> Rounded<P>
             requires { IsSync R.row × IsSend P.row × IsSync P.row × IsSync G.row × IsOf table.now pass × (first < middle) × (middle ≤ workers) × (workers ≤ most_workers) }
-            ensures { Grew pass result.pass × ((s : ℕ) → first_of (states P.posed) workers first ≤ s → s < first_of (states P.posed) workers middle → down_step P.posed (seen_by pass) s ≤ seen_by result.pass s) × (won_by result.pass ≡ won_by pass + result.raises) × (result.raises ≤ first_of (states P.posed) workers middle - first_of (states P.posed) workers first) }
+            ensures { IsPart P.posed workers first middle pass result.pass result.raises }
         { fork(rt, table, pass, first, middle, workers, gate) },
         move || -> Rounded<P>
             requires { IsSync R.row × IsSend P.row × IsSync P.row × IsSync G.row × IsOf table.now other × (middle < last) × (last ≤ workers) × (workers ≤ most_workers) }
-            ensures { Grew other result.pass × ((s : ℕ) → first_of (states P.posed) workers middle ≤ s → s < first_of (states P.posed) workers last → down_step P.posed (seen_by other) s ≤ seen_by result.pass s) × (won_by result.pass ≡ won_by other + result.raises) × (result.raises ≤ first_of (states P.posed) workers last - first_of (states P.posed) workers middle) }
+            ensures { IsPart P.posed workers middle last other result.pass result.raises }
         { fork(rt, table, other, middle, last, workers, gate) },
     );
     meet(table, left, right)
@@ -77,10 +75,7 @@ fn alone<P: Posing, G: Gate>(
     requires pass { IsOf table.now pass }
     requires worker { worker < workers }
     requires few { workers ≤ most_workers }
-    ensures grew { Grew pass result.pass }
-    ensures step { (s : ℕ) → first_of (states P.posed) workers worker ≤ s → s < first_of (states P.posed) workers (worker + 1) → down_step P.posed (seen_by pass) s ≤ seen_by result.pass s }
-    ensures raises { won_by result.pass ≡ won_by pass + result.raises }
-    ensures share { result.raises ≤ first_of (states P.posed) workers (worker + 1) - first_of (states P.posed) workers worker }
+    ensures { IsPart P.posed workers worker (worker + 1) pass result.pass result.raises }
 {
     table.question().known();
     let states = table.question().game().states();

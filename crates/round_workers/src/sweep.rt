@@ -1,10 +1,10 @@
-// One worker's part of a round.
+//! One worker's part of a round.
 ghost use Rattle.std.specs.Prelude.{◌≡◌, ℕ, ◌+◌, ◌-◌, ◌^◌, ◌<◌, ◌≤◌};
 ghost use Rattle.game_model.specs.Query.{states};
 ghost use Rattle.game_model.specs.Limits.{most_states};
 ghost use Rattle.game_model.specs.Rounded.{down_step};
 ghost use Rattle.value_words.specs.Passes.{IsOf, Grew, seen_by, won_by};
-ghost use Rattle.round_workers.specs.Share.{first_of, most_workers};
+ghost use Rattle.round_workers.specs.Share.{first_of, IsSwept};
 
 use game_outside::Gate;
 use value_words::{Pass, Posing, ValueTable};
@@ -43,10 +43,7 @@ pub fn sweep<P: Posing, G: Gate>(
     requires pass { IsOf table.now pass }
     requires range { from ≤ to }
     requires inside { to ≤ states P.posed }
-    ensures grew { Grew pass result.pass }
-    ensures step { (s : ℕ) → from ≤ s → s < to → down_step P.posed (seen_by pass) s ≤ seen_by result.pass s }
-    ensures raises { won_by result.pass ≡ won_by pass + result.raises }
-    ensures few { result.raises ≤ to - from }
+    ensures { IsSwept P.posed from to pass.seat result.pass.seat result.raises }
 {
     let mut raises = 0;
     for state in from..to {
