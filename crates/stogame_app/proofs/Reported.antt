@@ -1,17 +1,18 @@
 -- The text of a report, from a bracket and the lines that were made of it.
-use Rattle.std.proofs.Common.{◌≡◌, ℕ, Bool, List, Result, Ok, Err, Vec, Global, map, ap, ◌∙◌}
+use Rattle.std.proofs.Common.{◌≡◌, ℕ, Bool, List, Option, Result, Ok, Err, Vec, Global, map, ap, ◌∙◌}
 use Rattle.std.specs.Prelude.{IfOk}
 use Rattle.game_model.specs.Query.{Query}
 use Rattle.game_model.specs.Dual.{IsZeroSet}
 use Rattle.bracket_engine.specs.Bracket.{IsBracket}
+use Rattle.bracket_engine.specs.Choices.{AreChoices}
 use Rattle.verdicts.specs.Report.{report}
 use Rattle.verdicts.specs.declared.report.ReportLine.{ReportLine}
 use Rattle.stogame_app.specs.Reports.{IsReport, line_at}
 
-pub reported : {E : Type 0} (q : Query) (zero : List Bool) (initial : List ℕ) (asked : ℕ) (lower upper : List ℕ) (rounds : ℕ) (stable : Bool) (lines : List ReportLine) (answer : Result (Vec ℕ Global) E)
-    → IsZeroSet q zero → IsBracket q zero asked lower upper rounds stable → lines ≡ map (line_at lower upper rounds) initial
+pub reported : {E : Type 0} (q : Query) (zero : List Bool) (initial : List ℕ) (asked : ℕ) (lower upper : List ℕ) (rounds : ℕ) (stable : Bool) (choices : List (Option ℕ)) (lines : List ReportLine) (answer : Result (Vec ℕ Global) E)
+    → IsZeroSet q zero → IsBracket q zero asked lower upper rounds stable → AreChoices q lower choices → lines ≡ map (line_at lower upper rounds) initial
     → IfOk answer (λ text. text.items ≡ report lines) → IfOk answer (λ text. IsReport q initial asked text.items)
-reported q zero initial asked lower upper rounds stable lines (Ok text) is_zero bracket are written = record {
+reported q zero initial asked lower upper rounds stable choices lines (Ok text) is_zero bracket ranked are written = record {
   zero = zero;
   is_zero = is_zero;
   lower = lower;
@@ -19,6 +20,8 @@ reported q zero initial asked lower upper rounds stable lines (Ok text) is_zero 
   rounds = rounds;
   stable = stable;
   bracket = bracket;
+  choices = choices;
+  ranked = ranked;
   written = written ∙ ap report are;
 }
-reported q zero initial asked lower upper rounds stable lines (Err error) is_zero bracket are written = tt
+reported q zero initial asked lower upper rounds stable choices lines (Err error) is_zero bracket ranked are written = tt

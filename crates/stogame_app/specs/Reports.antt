@@ -1,8 +1,9 @@
 -- The report of a question at its initial states.
-use Rattle.std.specs.Prelude.{◌≡◌, ℕ, Bool, List, map, slice_index}
+use Rattle.std.specs.Prelude.{◌≡◌, ℕ, Bool, List, Option, map, slice_index}
 use Rattle.game_model.specs.Query.{Query}
 use Rattle.game_model.specs.Dual.{IsZeroSet}
 use Rattle.bracket_engine.specs.Bracket.{IsBracket}
+use Rattle.bracket_engine.specs.Choices.{AreChoices}
 use Rattle.verdicts.specs.Report.{report}
 use Rattle.verdicts.specs.declared.report.ReportLine.{ReportLine}
 use Rattle.verdicts.specs.declared.report.How.TheVariants.{Rounds}
@@ -21,4 +22,6 @@ pub record IsReport (q : Query) (initial : List ℕ) (asked : ℕ) (text : List 
   pub rounds : ℕ
   pub stable : Bool
   pub bracket : IsBracket q zero asked lower upper rounds stable
+  pub choices : List (Option ℕ)
+  pub ranked : AreChoices q lower choices
   pub written : text ≡ report (map (line_at lower upper rounds) initial)

@@ -28,8 +28,8 @@ use std::thread::Threads;
 
 /// Reads the words and the texts that they name, and writes the report of the question that they pose: one line for
 /// each initial state, rising. Each printed lower bound is at most some k-step value, and each upper bound at least
-/// every one. What is not accepted is refused by one line that names the cause and its place. The whole output is made in
-/// memory first and written once.
+/// every one, whatever the schedule of the workers, who pass the gate before each state. What is not accepted is refused
+/// by one line that names the cause and its place. The whole output is made in memory first and written once.
 pub fn run<R: Threads + Sync, H: Shelf, K: Sink, G: Gate + Sync>(
     rt: &R,
     alloc: Global,

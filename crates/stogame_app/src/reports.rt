@@ -16,8 +16,7 @@ use std::thread::Threads;
 use verdicts::{How, ReportLine, Verdict, report_text};
 use zero_sets::zero_set;
 
-/// One line for each initial state, with the bounds after at most the asked rounds of so many workers. The only error
-/// is want of memory.
+/// One line for each initial state, with the bounds after at most the asked rounds. The only error is want of memory.
 pub fn report<R: Threads + Sync, G: Gate + Sync>(
     rt: &R,
     alloc: Global,

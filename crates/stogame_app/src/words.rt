@@ -16,9 +16,13 @@ const DEFAULT_WORKERS: u32 = 4;
 /// The words of `check TRA LAB FORMULA` and options.
 #[derive(Clone, Copy, Debug)]
 pub struct CheckWords<'a> {
+    /// The name of the transition file.
     pub tra: &'a str,
+    /// The name of the label file.
     pub lab: &'a str,
+    /// The formula.
     pub formula: &'a str,
+    /// What the options say.
     pub options: OptionWords<'a>,
 }
 
@@ -67,7 +71,7 @@ fn is_plain(word: &str) -> bool
     }
 }
 
-// What the words of options say, or none where they are no options.
+// The options that the words spell, or none where they spell none.
 fn read_options(words: &[String]) -> Option<OptionWords<'_>>
     ensures { MatchOption result ((options : Options) → AreOptions (map string_bytes words.now) options → ⊥) (λ read. AreOptions (map string_bytes words.now) (options_of read)) }
 {
