@@ -10,7 +10,7 @@ use Rattle.label_reader.specs.Owners.{Ownership}
 use Rattle.rpatl_syntax.specs.Formula.{Tree}
 use Rattle.formula_sets.specs.declared.fault.PoseFault.{PoseFault}
 use Rattle.formula_sets.specs.declared.question.Posed.{Posed}
-use Rattle.formula_sets.specs.Posing.{Posing, Poses, init}
+use Rattle.formula_sets.specs.Posing.{Poses, init}
 use Rattle.formula_sets.specs.Seen.{posing_of}
 
 weaker : (n m : ℕ) → n ≤ m → (xs : List ℕ) → AllByRecursion (λ s. s < n) xs → AllByRecursion (λ s. s < m) xs

@@ -3,10 +3,11 @@
 use crate::models::{
     AGREEMENT, AGREEMENT_LABELS, AGREEMENT_OWNERS, COIN_LOOP, COIN_LOOP_REPORT, GOAL_AT_1,
 };
-use crate::rows::{Row, plain_row, runs, writes};
+use crate::rows::{Row, runs, writes};
 use game_outside::{Gate, HoldGate, OpenGate};
 use std::alloc::Global;
 use std::process::Abort;
+use std::sync::atomic::{AtomicU32, Ordering};
 use std::test::Fail;
 use std::thread::Threads;
 use stogame_app::Status;
@@ -26,7 +27,7 @@ fn agreement<'a>(numbers: &'a [&'a str]) -> Row<'a> {
     }
 }
 
-// The agreement's bounds are those of one worker, whatever the number of rounds.
+// The agreement's bounds are those of one worker, whatever the number of rounds; there is one line.
 fn agrees<R: Threads + Sync + Abort, G: Gate + Sync>(
     rt: &R,
     alloc: Global,
@@ -36,6 +37,9 @@ fn agrees<R: Threads + Sync + Abort, G: Gate + Sync>(
     let (ended, written) = runs(rt, alloc, agreement(&["--workers", workers]), gate)?;
     assert!(rt; ended == Status::Fine, "{workers} workers give {ended:?}");
     assert!(rt; written.starts_with(AGREED.as_bytes()), "{workers} workers");
+    assert!(rt; written.ends_with(b" Bracket\n"), "{workers} workers");
+    let ends = written.iter().filter(|byte| **byte == b'\n').count();
+    assert_eq!(rt; ends, 1);
     Ok(())
 }
 
@@ -53,6 +57,53 @@ fn two_workers_run_at_once(rt: HostRuntime) -> Result<(), Fail> {
     let gate = HoldGate::new();
     agrees(&rt, rt.alloc(), "2", &gate)?;
     assert!(rt; !gate.gave_up(), "the workers ran one after another");
+    Ok(())
+}
+
+// Counts who passes it, and who passes it before a state of another: three workers share three states.
+#[derive(Drop)]
+struct CountGate {
+    passed: AtomicU32,
+    strayed: AtomicU32,
+}
+
+impl Gate for CountGate {
+    fn arrive(&self, worker: u32, state: u32) {
+        let _before = self.passed.fetch_add(1, Ordering::SeqCst);
+        if worker != state {
+            let _more = self.strayed.fetch_add(1, Ordering::SeqCst);
+        }
+    }
+}
+
+// The coin loop with at most these rounds, and with three workers.
+fn coin_loop<'a>(numbers: &'a [&'a str]) -> Row<'a> {
+    Row {
+        tra: COIN_LOOP,
+        lab: GOAL_AT_1,
+        own: None,
+        formula: REACH,
+        numbers,
+    }
+}
+
+// Only the first round of a small model has all workers.
+#[test]
+fn each_worker_passes_the_gate_before_each_of_its_states(rt: HostRuntime) -> Result<(), Fail> {
+    let alloc = rt.alloc();
+    for (rounds, passed) in [("0", 0), ("1", 3), ("5", 15), ("10000", 120)] {
+        let gate = CountGate {
+            passed: AtomicU32::new(0),
+            strayed: AtomicU32::new(0),
+        };
+        let numbers = ["--rounds", rounds, "--workers", "3"];
+        let (ended, _written) = runs(&rt, alloc, coin_loop(&numbers), &gate)?;
+        assert!(rt; ended == Status::Fine);
+        assert_eq!(rt; gate.passed.load(Ordering::SeqCst), passed);
+        if rounds == "1" {
+            assert_eq!(rt; gate.strayed.load(Ordering::SeqCst), 0);
+        }
+    }
     Ok(())
 }
 
@@ -74,12 +125,8 @@ fn at_most_the_asked_rounds_are_made(rt: HostRuntime) -> Result<(), Fail> {
         ),
         ("1000000", COIN_LOOP_REPORT),
     ] {
-        let mut row = plain_row(COIN_LOOP, GOAL_AT_1, REACH);
         let numbers = ["--rounds", rounds, "--workers", "3"];
-        row.numbers = &numbers;
-        writes(&rt, alloc, row, line, Status::Fine)?;
+        writes(&rt, alloc, coin_loop(&numbers), line, Status::Fine)?;
     }
-    let mut by_default = plain_row(COIN_LOOP, GOAL_AT_1, REACH);
-    by_default.numbers = &[];
-    writes(&rt, alloc, by_default, COIN_LOOP_REPORT, Status::Fine)
+    writes(&rt, alloc, coin_loop(&[]), COIN_LOOP_REPORT, Status::Fine)
 }
