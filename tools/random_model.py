@@ -4,8 +4,9 @@
     random_model.py STATES CHOICES SEED NAME
 
 writes NAME.tra and NAME.lab. Each state has so many choices of two moves each, to states drawn at random, with
-probabilities that are hundredths. One state in a thousand is a goal and one in a hundred is a trap; both keep to
-themselves. The label `init` is at state 0. The same arguments give the same files.
+probabilities that are hundredths. Each thousandth state is a goal, the first of them state 999, and one state in a
+hundred is a trap; both keep to themselves, with one move a choice. The label `init` is at state 0. The same arguments
+give the same files.
 """
 
 import random
@@ -55,9 +56,11 @@ def write_labels(path, states):
 def main():
     if len(sys.argv) != 5:
         sys.exit(__doc__)
+    if not all(word.isascii() and word.isdigit() for word in sys.argv[1:4]):
+        sys.exit("STATES, CHOICES and SEED are whole numbers")
     states, choices, seed = (int(word) for word in sys.argv[1:4])
-    if states < MOVES or choices < 1:
-        sys.exit("a model has two states and one choice at least")
+    if states < GOAL_EVERY or choices < 1:
+        sys.exit("a model has a thousand states and one choice at least")
     name = sys.argv[4]
     write_transitions(f"{name}.tra", states, choices, seed)
     write_labels(f"{name}.lab", states)
