@@ -9,7 +9,8 @@ use Rattle.rpatl_syntax.specs.declared.front.Front.TheVariants.{Blank, Spelling,
 use Rattle.rpatl_syntax.specs.Formula.{State, True, False, Label, Not, And, Or, Implies}
 use Rattle.rpatl_syntax.specs.Limits.{longest_name}
 use Rattle.rpatl_syntax.specs.Spelling.{strength_of, in_place, state_spelling, names_spelling}
-use Rattle.rpatl_syntax.specs.Tokens.{Then, tokens_from, front_from, begins_word, in_word, in_name, is_letter, is_digit, in_number, is_blank, word_length, number_length, name_from, sign_from, is_long_sign}
+use Rattle.text_lines.specs.Text.{is_digit}
+use Rattle.rpatl_syntax.specs.Tokens.{Then, tokens_from, front_from, begins_word, in_word, in_name, is_letter, in_number, is_blank, word_length, number_length, name_from, sign_from, is_long_sign}
 use Rattle.rpatl_syntax.specs.Grammar.{is_word}
 use Rattle.rpatl_syntax.specs.Rules.{between, with_commas}
 use Rattle.rpatl_syntax.proofs.Spans.{Spans, spans_append}

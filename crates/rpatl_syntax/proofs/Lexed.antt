@@ -7,7 +7,8 @@ use Rattle.std.proofs.lemmas.Bool.Decides.{nat_tests}
 use Rattle.rpatl_syntax.specs.declared.front.Front.{Front}
 use Rattle.rpatl_syntax.specs.declared.front.Front.TheVariants.{Blank, Spelling, Unclosed, Strange}
 use Rattle.rpatl_syntax.specs.Limits.{longest_name}
-use Rattle.rpatl_syntax.specs.Tokens.{Tokens, Finish, Broken, Then, tokens_of, in_front, tokens_from, front_from, begins_word, in_word, in_name, is_blank, is_digit, word_length, number_length, name_from, sign_from}
+use Rattle.text_lines.specs.Text.{is_digit}
+use Rattle.rpatl_syntax.specs.Tokens.{Tokens, Finish, Broken, Then, tokens_of, in_front, tokens_from, front_from, begins_word, in_word, in_name, is_blank, word_length, number_length, name_from, sign_from}
 use Rattle.rpatl_syntax.specs.Grammar.{is_word, is_quoted}
 use Rattle.rpatl_syntax.specs.Rules.{AreTokens}
 use Rattle.rpatl_syntax.proofs.Spans.{chosen}

@@ -4,12 +4,11 @@ use Rattle.std.specs.Prelude.{◌==◌, ◌||◌, codes, decimal}
 use Rattle.std.proofs.lemmas.Fmt.{decimal_by_steps_wide, length-decimal-le_wide}
 use Rattle.std.proofs.lemmas.List.{append-nil}
 use Rattle.std.proofs.lemmas.Bool.Decides.{nat_tests}
-use Rattle.text_lines.specs.Text.{all_digits, value_onto}
+use Rattle.text_lines.specs.Text.{all_digits, value_onto, is_digit}
 use Rattle.distributions.specs.Limits.{finest, most_digits}
 use Rattle.distributions.specs.Fraction.{Fraction, IsFraction}
 use Rattle.distributions.specs.Number.{Decimal, Quotient, no_exponent, AreDigits, Denotes}
 use Rattle.distributions.proofs.Spelled.{value_append}
-use Rattle.rpatl_syntax.specs.Tokens.{is_digit}
 use Rattle.rpatl_syntax.specs.Spelling.{fraction_spelling}
 use Rattle.rpatl_syntax.proofs.Lexed.{both_true, parts_true}
 use Rattle.rpatl_syntax.proofs.Laying.{in_fraction, all_in_fraction}

@@ -12,7 +12,8 @@ use Rattle.rpatl_syntax.specs.Grammar.{formula_said, is_number}
 use Rattle.rpatl_syntax.specs.Limits.{longest, most_nested}
 use Rattle.rpatl_syntax.specs.Rules.{between, IsState, with_commas, IsWord, IsCoalition, IsComparison, IsBound, IsPath, reach, until as until_path, AreTokens, Denotes}
 use Rattle.rpatl_syntax.specs.Spelling.{state_spelling, path_spelling, names_spelling, coalition_spelling, fraction_spelling, bound_spelling, spelling}
-use Rattle.rpatl_syntax.specs.Tokens.{tokens_from, tokens_of, is_digit}
+use Rattle.text_lines.specs.Text.{is_digit}
+use Rattle.rpatl_syntax.specs.Tokens.{tokens_from, tokens_of}
 use Rattle.rpatl_syntax.proofs.Denoted.{ends_with, formula_denoted}
 use Rattle.rpatl_syntax.proofs.Again.{formula_said_again}
 use Rattle.rpatl_syntax.proofs.Lexed.{IsWhole, text_whole}

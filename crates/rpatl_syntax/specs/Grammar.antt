@@ -12,7 +12,8 @@ use Rattle.rpatl_syntax.specs.declared.formula.Bound.TheVariants.{AtLeast, Above
 use Rattle.rpatl_syntax.specs.Fault.{fault_at, ◌>>=◌}
 use Rattle.rpatl_syntax.specs.Formula.{State, True, False, Label, Not, And, Or, Implies, Tree}
 use Rattle.rpatl_syntax.specs.Limits.{longest, most_nested}
-use Rattle.rpatl_syntax.specs.Tokens.{Tokens, Finish, Broken, Then, Token, tokens_of, count_of, begins_word, is_digit}
+use Rattle.text_lines.specs.Text.{is_digit}
+use Rattle.rpatl_syntax.specs.Tokens.{Tokens, Finish, Broken, Then, Token, tokens_of, count_of, begins_word}
 
 -- what is read from the left: a value, and the tokens behind it, or the first fault
 abbrev pub Reading : Type 0 → Type 0

@@ -1,5 +1,6 @@
 -- A text as tokens: words, numbers, quoted names and signs, each as long as it goes on, with blanks between them.
-use Rattle.std.specs.Prelude.{ℕ, zero, suc, ◌+◌, ◌-◌, ◌==◌, ◌&&◌, ◌||◌, nat_le, nat_lt, Bool, false, List, [], ◌∷◌, length, take, if◌then◌else◌}
+use Rattle.std.specs.Prelude.{ℕ, zero, suc, ◌+◌, ◌-◌, ◌==◌, ◌&&◌, ◌||◌, nat_le, nat_lt, Bool, List, [], ◌∷◌, length, take, if◌then◌else◌}
+use Rattle.text_lines.specs.Text.{is_digit, begins_lf}
 use Rattle.rpatl_syntax.specs.declared.fault.FormulaFault.{FormulaFault}
 use Rattle.rpatl_syntax.specs.declared.fault.FormulaCause.TheVariants.{End, Unexpected}
 use Rattle.rpatl_syntax.specs.declared.front.Front.{Front}
@@ -8,9 +9,6 @@ use Rattle.rpatl_syntax.specs.Fault.{fault_at}
 use Rattle.rpatl_syntax.specs.Limits.{longest_name}
 
 -- Bytes.
-
-abbrev pub is_digit : ℕ → Bool
-is_digit b = nat_le 48 b && nat_le b 57
 
 abbrev pub is_letter : ℕ → Bool
 is_letter b = (nat_le 65 b && nat_le b 90) || (nat_le 97 b && nat_le b 122)
@@ -64,10 +62,6 @@ short_sign b = if is_short_sign b then Spelling 1 else Strange
 abbrev pub sign_from : ℕ → List ℕ → Front
 sign_from b [] = short_sign b
 sign_from b (c ∷ bytes) = if is_long_sign b c then Spelling 2 else short_sign b
-
-abbrev pub begins_lf : List ℕ → Bool
-begins_lf [] = false
-begins_lf (b ∷ bytes) = b == 10
 
 -- a space, a tab, or a byte of a line ending, LF or CRLF
 abbrev pub is_blank : ℕ → List ℕ → Bool
