@@ -1,10 +1,6 @@
 -- The limits, under the names that definitions and lemmas cite.
 use Rattle.std.specs.Prelude.{ℕ}
-use Rattle.tra_reader.specs.declared.limits.TheConstants.{MOST_BYTES, MOST_CHOICES, MOST_LINES}
-
--- the most bytes of a text
-abbrev pub most_bytes : ℕ
-most_bytes = MOST_BYTES
+use Rattle.tra_reader.specs.declared.limits.TheConstants.{MOST_CHOICES, MOST_LINES}
 
 -- the most choices that a header states; the number of a choice is below it
 abbrev pub most_choices : ℕ

@@ -1,8 +1,5 @@
 //! The limits of a transition file, each in one place.
 
-/// The most bytes of a file.
-pub const MOST_BYTES: usize = 268_435_456;
-
 /// The most choices that a header states. The number of a choice is below it.
 pub const MOST_CHOICES: u32 = 4_000_000;
 

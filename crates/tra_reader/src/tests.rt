@@ -1,10 +1,11 @@
 // Texts and what they are read as, from outside.
 
-use crate::{MOST_BYTES, TraCause, TraFault, read_tra};
+use crate::{TraCause, TraFault, read_tra};
 use distributions::{ChoiceFault, NumberFault};
 use game_model::Game;
 use std::alloc::{AllocError, Global};
 use std::test::Fail;
+use text_lines::MOST_BYTES;
 
 const COIN_LOOP: &[u8] = b"3 3 5\n0 0 0 0.5\n0 0 1 0.25\n0 0 2 0.25\n1 0 1 1\n2 0 2 1\n";
 
