@@ -14,7 +14,7 @@ use Rattle.stogame_app.specs.declared.refusal.Refusal.TheVariants.{OfQuestion}
 use Rattle.stogame_app.specs.declared.status.Status.{Status}
 use Rattle.stogame_app.specs.declared.status.Status.TheVariants as status
 use Rattle.stogame_app.specs.Words.{Check}
-use Rattle.stogame_app.specs.Said.{Said, NotHeld, Refuses, Says, and_then, read_said, WhereTold, Loads, IsTooLong}
+use Rattle.stogame_app.specs.Said.{Said, NotHeld, Refuses, Says, and_then, read_said, WhereTold, Loads, IsTooLong, RefusesCaused}
 use Rattle.stogame_app.specs.Posed.{reading_of, reading_said, question_said, posed}
 use Rattle.stogame_app.specs.Refusals.{refusal_text}
 use Rattle.stogame_app.specs.Run.{IsLong, IsReportOf, IsRefusalOf, PosesIt, RefusesIt}
@@ -50,6 +50,7 @@ refusal_posed holding check result loaded taken text is loads only_long refusal 
     record {
       refusal = r.refusal;
       said = behind_reading holding check result loaded (Refuses r.refusal) is loads r.said;
+      caused = r.caused;
       line = r.line;
       long = r.long;
       only_long = r.only_long;
@@ -69,6 +70,7 @@ refusal_of_question said why taken (inl memory) other short = absurd (other memo
 refusal_of_question said why taken (inr is) other short = record {
   refusal = OfQuestion why;
   said = ap (read_said OfQuestion) is;
+  caused = other;
   line = refl;
   long = λ long. cc (long.1);
   only_long = λ above. absurd (short above);
@@ -86,14 +88,16 @@ refused_reading (Some held) check result refusal is loads =
 -- the refusal with which loading ended
 pub refusal_loaded : (holding : Option Holding) (check : Check) (result : Result Loaded End) (end : End) (refusal : Refusal) (taken : ℕ) → result ≡ Err end → end ≡ Refused refusal
     → WhereTold holding (λ held. Loads reading_of result (reading_said held check))
+    → RefusesCaused result
     → (IsTooLong result → MOST_BYTES < taken)
     → (MOST_BYTES < taken → IsTooLong result ⊎ IsErrOf result OutOfMemory)
     → IsRefusalOf (RefusesIt holding check) taken (refusal_text refusal)
-refusal_loaded holding check result end refusal taken is ended loads long only_long =
+refusal_loaded holding check result end refusal taken is ended loads caused long only_long =
     let same : result ≡ Err (Refused refusal) = is ∙ ap (λ (e : End). Err e) ended in
     record {
       refusal = refusal;
       said = refused_reading holding check result refusal same loads;
+      caused = subst (λ (r : Result Loaded End). RefusesCaused r) same caused;
       line = refl;
       long = λ of. long (of.0, same ∙ ap (λ (r : Refusal). Err (Refused r)) of.1);
       only_long = λ above. which (subst P same (only_long above));

@@ -7,7 +7,7 @@ use Rattle.stogame_app.specs.declared.refusal.Text.{Text}
 use Rattle.stogame_app.specs.declared.refusal.Refusal.{Refusal}
 use Rattle.stogame_app.specs.declared.refusal.Refusal.TheVariants.{TooLong}
 use Rattle.stogame_app.specs.Words.{Check, AreCheck, AreNoCommand}
-use Rattle.stogame_app.specs.Said.{Refuses, Says, WhereTold}
+use Rattle.stogame_app.specs.Said.{Refuses, Says, WhereTold, IsCaused}
 use Rattle.stogame_app.specs.Posed.{question_said}
 use Rattle.stogame_app.specs.Refusals.{refusal_text, usage_text}
 use Rattle.stogame_app.specs.Reports.{IsReport}
@@ -21,10 +21,11 @@ pub record IsReportOf (IsPosed : Posing → Type 0) (asked : ℕ) (text : List �
   pub posed : IsPosed posing
   pub report : IsReport posing.question posing.initial asked text
 
--- the text is the line of a refusal that is said; it says that a text is too long where this many bytes were taken of the last one
+-- the text is the line of a refusal that is said, and not for want of memory; it says that a text is too long where this many bytes were taken of the last one
 pub record IsRefusalOf (IsSaid : Refusal → Type 0) (taken : ℕ) (text : List ℕ) : Type 0 where
   pub refusal : Refusal
   pub said : IsSaid refusal
+  pub caused : IsCaused refusal
   pub line : text ≡ refusal_text refusal
   pub long : IsLong refusal → MOST_BYTES < taken
   pub only_long : MOST_BYTES < taken → IsLong refusal

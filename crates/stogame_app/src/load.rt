@@ -4,7 +4,7 @@ ghost use Rattle.std.specs.Prelude.{◌≡◌, ◌<◌, ◌≤◌, ◌⊎◌, Is
 ghost use Rattle.tra_reader.specs.Text.{game_of};
 ghost use Rattle.game_outside.specs.Outside.{Rose};
 ghost use Rattle.label_reader.specs.Texts.{labels_of, owners_of};
-ghost use Rattle.stogame_app.specs.Said.{WhereTold, Loads, IsTooLong, KeepsShelf, NotHeld, read_said};
+ghost use Rattle.stogame_app.specs.Said.{WhereTold, Loads, IsTooLong, RefusesCaused, KeepsShelf, NotHeld, read_said};
 ghost use Rattle.stogame_app.specs.Texts.{text_said, game_said, labels_said, owners_said, single_owner};
 
 use crate::refusal::{Refusal, Text};
@@ -34,6 +34,7 @@ pub fn load_text<H: Shelf>(
     ensures within { IfOk result (λ v. length v.items ≤ MOST_BYTES) }
     ensures read_fault { IsErrOf result End.ReadFault → Rose (H.faults shelf.old) (H.faults shelf.new) }
     ensures steadily { IsErrOf result End.ReadFault → H.steady shelf.old ≡ true → WhereTold (H.held shelf.old) (λ held. text_said held text name.now ≡ NotHeld) }
+    ensures caused { RefusesCaused result }
     ensures too_long { IsTooLong result → MOST_BYTES < H.taken shelf.new }
     ensures only_too_long { MOST_BYTES < H.taken shelf.new → IsTooLong result ⊎ IsErrOf result End.OutOfMemory }
     ensures small { OnOk result (H.taken shelf.new ≤ MOST_BYTES) }
@@ -52,6 +53,7 @@ pub fn load_game<H: Shelf>(alloc: Global, shelf: &mut H, name: &str) -> Result<G
     ensures says { WhereTold (H.held shelf.old) (λ held. Loads (λ x. x) result (game_said held name.now)) }
     ensures read_fault { IsErrOf result End.ReadFault → Rose (H.faults shelf.old) (H.faults shelf.new) }
     ensures steadily { IsErrOf result End.ReadFault → H.steady shelf.old ≡ true → WhereTold (H.held shelf.old) (λ held. game_said held name.now ≡ NotHeld) }
+    ensures caused { RefusesCaused result }
     ensures too_long { IsTooLong result → MOST_BYTES < H.taken shelf.new }
     ensures only_too_long { MOST_BYTES < H.taken shelf.new → IsTooLong result ⊎ IsErrOf result End.OutOfMemory }
     ensures small { OnOk result (H.taken shelf.new ≤ MOST_BYTES) }
@@ -65,6 +67,7 @@ fn game_in(alloc: Global, bytes: &[u8]) -> Result<Game, End>
     requires { length bytes.now ≤ MOST_BYTES }
     ensures says { Loads (λ x. x) result (read_said Refusal.OfTra (game_of bytes.now)) }
     ensures read { IsErrOf result End.ReadFault → ⊥ }
+    ensures caused { RefusesCaused result }
     ensures short { IsTooLong result → ⊥ }
 {
     match read_tra(alloc, bytes) {
@@ -86,6 +89,7 @@ pub fn load_labels<H: Shelf>(
     ensures says { WhereTold (H.held shelf.old) (λ held. Loads (λ x. x) result (labels_said held name.now states)) }
     ensures read_fault { IsErrOf result End.ReadFault → Rose (H.faults shelf.old) (H.faults shelf.new) }
     ensures steadily { IsErrOf result End.ReadFault → H.steady shelf.old ≡ true → WhereTold (H.held shelf.old) (λ held. labels_said held name.now states ≡ NotHeld) }
+    ensures caused { RefusesCaused result }
     ensures too_long { IsTooLong result → MOST_BYTES < H.taken shelf.new }
     ensures only_too_long { MOST_BYTES < H.taken shelf.new → IsTooLong result ⊎ IsErrOf result End.OutOfMemory }
     ensures small { OnOk result (H.taken shelf.new ≤ MOST_BYTES) }
@@ -101,6 +105,7 @@ fn labels_in(alloc: Global, bytes: &[u8], states: u32) -> Result<Labels, End>
     ensures says { Loads (λ x. x) result (read_said Refusal.OfLab (labels_of bytes.now states)) }
     ensures sizes { IfOk result (λ labels. labels.states ≡ states) }
     ensures read { IsErrOf result End.ReadFault → ⊥ }
+    ensures caused { RefusesCaused result }
     ensures short { IsTooLong result → ⊥ }
 {
     match read_labels(alloc, bytes, states) {
@@ -122,6 +127,7 @@ pub fn load_owner_file<H: Shelf>(
     ensures says { WhereTold (H.held shelf.old) (λ held. Loads (λ x. x) result (owners_said held (Some name.now) states)) }
     ensures read_fault { IsErrOf result End.ReadFault → Rose (H.faults shelf.old) (H.faults shelf.new) }
     ensures steadily { IsErrOf result End.ReadFault → H.steady shelf.old ≡ true → WhereTold (H.held shelf.old) (λ held. owners_said held (Some name.now) states ≡ NotHeld) }
+    ensures caused { RefusesCaused result }
     ensures too_long { IsTooLong result → MOST_BYTES < H.taken shelf.new }
     ensures only_too_long { MOST_BYTES < H.taken shelf.new → IsTooLong result ⊎ IsErrOf result End.OutOfMemory }
     ensures small { OnOk result (H.taken shelf.new ≤ MOST_BYTES) }
@@ -137,6 +143,7 @@ fn owners_in(alloc: Global, bytes: &[u8], states: u32) -> Result<Owners, End>
     ensures says { Loads (λ x. x) result (read_said Refusal.OfOwn (owners_of bytes.now states)) }
     ensures sizes { IfOk result (λ owners. length owners.owners ≡ states) }
     ensures read { IsErrOf result End.ReadFault → ⊥ }
+    ensures caused { RefusesCaused result }
     ensures short { IsTooLong result → ⊥ }
 {
     match read_owners(alloc, bytes, states) {
@@ -171,6 +178,7 @@ pub fn load_owners<H: Shelf>(
     ensures says { WhereTold (H.held shelf.old) (λ held. Loads (λ x. x) result (owners_said held (option_map (λ file. file.now) own.entry) states)) }
     ensures read_fault { IsErrOf result End.ReadFault → Rose (H.faults shelf.old) (H.faults shelf.new) }
     ensures steadily { IsErrOf result End.ReadFault → H.steady shelf.old ≡ true → WhereTold (H.held shelf.old) (λ held. owners_said held (option_map (λ file. file.now) own.entry) states ≡ NotHeld) }
+    ensures caused { RefusesCaused result }
     ensures too_long { IsTooLong result → MOST_BYTES < H.taken shelf.new }
     ensures only_too_long { MOST_BYTES < H.taken shelf.new → IsTooLong result ⊎ IsErrOf result End.OutOfMemory }
     ensures small { OnOk result (H.taken shelf.new ≤ MOST_BYTES) }

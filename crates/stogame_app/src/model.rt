@@ -4,7 +4,7 @@ ghost use Rattle.std.specs.Prelude.{◌≡◌, ◌<◌, ◌≤◌, ◌⊎◌, Is
 ghost use Rattle.game_outside.specs.Outside.{Rose};
 ghost use Rattle.rpatl_syntax.specs.Formula.{tree_of};
 ghost use Rattle.stogame_app.specs.Words.{check_of};
-ghost use Rattle.stogame_app.specs.Said.{WhereTold, Loads, IsTooLong, KeepsShelf, NotHeld};
+ghost use Rattle.stogame_app.specs.Said.{WhereTold, Loads, IsTooLong, RefusesCaused, KeepsShelf, NotHeld};
 ghost use Rattle.stogame_app.specs.Posed.{formula_read, reading_of, behind_owners, behind_labels, behind_game, reading_said, asks_for_value, HasSizes};
 
 use crate::load::{End, load_game, load_labels, load_owners};
@@ -30,6 +30,7 @@ pub struct Loaded {
 fn load_formula(alloc: Global, text: &str) -> Result<Formula, End>
     ensures says { Loads tree_of result (formula_read text.now) }
     ensures read { IsErrOf result End.ReadFault → ⊥ }
+    ensures caused { RefusesCaused result }
     ensures short { IsTooLong result → ⊥ }
 {
     match read_formula(alloc, text) {
@@ -63,6 +64,7 @@ pub fn load_model<H: Shelf>(
     ensures says { WhereTold (H.held shelf.old) (λ held. Loads reading_of result (reading_said held (check_of check.now))) }
     ensures read_fault { IsErrOf result End.ReadFault → Rose (H.faults shelf.old) (H.faults shelf.new) }
     ensures steadily { IsErrOf result End.ReadFault → H.steady shelf.old ≡ true → WhereTold (H.held shelf.old) (λ held. reading_said held (check_of check.now) ≡ NotHeld) }
+    ensures caused { RefusesCaused result }
     ensures too_long { IsTooLong result → MOST_BYTES < H.taken shelf.new }
     ensures only_too_long { MOST_BYTES < H.taken shelf.new → IsTooLong result ⊎ IsErrOf result End.OutOfMemory }
     ensures small { OnOk result (H.taken shelf.new ≤ MOST_BYTES) }
@@ -81,6 +83,7 @@ fn load_behind_game<H: Shelf>(
     ensures says { WhereTold (H.held shelf.old) (λ held. Loads reading_of result (behind_game held (check_of check.now) game)) }
     ensures read_fault { IsErrOf result End.ReadFault → Rose (H.faults shelf.old) (H.faults shelf.new) }
     ensures steadily { IsErrOf result End.ReadFault → H.steady shelf.old ≡ true → WhereTold (H.held shelf.old) (λ held. behind_game held (check_of check.now) game ≡ NotHeld) }
+    ensures caused { RefusesCaused result }
     ensures too_long { IsTooLong result → MOST_BYTES < H.taken shelf.new }
     ensures only_too_long { MOST_BYTES < H.taken shelf.new → IsTooLong result ⊎ IsErrOf result End.OutOfMemory }
     ensures small { OnOk result (H.taken shelf.new ≤ MOST_BYTES) }
@@ -102,6 +105,7 @@ fn load_behind_labels<H: Shelf>(
     ensures says { WhereTold (H.held shelf.old) (λ held. Loads reading_of result (behind_labels held (check_of check.now) game labels)) }
     ensures read_fault { IsErrOf result End.ReadFault → Rose (H.faults shelf.old) (H.faults shelf.new) }
     ensures steadily { IsErrOf result End.ReadFault → H.steady shelf.old ≡ true → WhereTold (H.held shelf.old) (λ held. behind_labels held (check_of check.now) game labels ≡ NotHeld) }
+    ensures caused { RefusesCaused result }
     ensures too_long { IsTooLong result → MOST_BYTES < H.taken shelf.new }
     ensures only_too_long { MOST_BYTES < H.taken shelf.new → IsTooLong result ⊎ IsErrOf result End.OutOfMemory }
     ensures small { OnOk result (H.taken shelf.new ≤ MOST_BYTES) }
@@ -122,6 +126,7 @@ fn load_behind_owners(
     requires owners { length owners.owners ≡ length game }
     ensures says { Loads reading_of result (behind_owners (check_of check.now) game labels owners) }
     ensures read { IsErrOf result End.ReadFault → ⊥ }
+    ensures caused { RefusesCaused result }
     ensures short { IsTooLong result → ⊥ }
     ensures sizes { IfOk result (λ loaded. HasSizes loaded.game loaded.labels loaded.owners) }
 {
