@@ -1,13 +1,16 @@
 //! The run of rounds.
 
-ghost use Rattle.std.specs.Prelude.{◌≤◌, IfOk};
+ghost use Rattle.std.specs.Prelude.{◌≡◌, ◌≤◌, ◌↔◌, true, slice_index, IfOk};
 ghost use Rattle.game_model.specs.Dual.{IsZeroSet};
+ghost use Rattle.game_model.specs.Rounded.{IsSettled};
 ghost use Rattle.round_workers.specs.Share.{most_workers};
 ghost use Rattle.bracket_engine.specs.Bracket.{IsBracket};
 ghost use Rattle.bracket_engine.specs.Choices.{AreChoices};
+ghost use Rattle.bracket_engine.specs.Race.{IsRaced};
+ghost use Rattle.step_core.specs.Word.{values_of};
 
 use crate::bounds::Bracket;
-use crate::race::race;
+use crate::race::{Raced, race};
 use crate::tables::{choices_of_words, upper_table, values_of_words};
 use fixed_bellman::settled;
 use game_model::{Marks, Question};
@@ -42,7 +45,7 @@ pub fn bracket<R: Threads + Sync, G: Gate + Sync>(
     let upper = upper_table(alloc, question, zero)?;
     let lower = values_of_words(alloc, raced.words.as_slice())?;
     let choices = choices_of_words(alloc, question, raced.words.as_slice())?;
-    let stable = settled(question, lower.as_slice());
+    let stable = is_stable(question, lower.as_slice(), &raced, rounds);
     Ok(Bracket {
         lower,
         upper,
@@ -50,4 +53,13 @@ pub fn bracket<R: Threads + Sync, G: Gate + Sync>(
         rounds: raced.rounds,
         stable,
     })
+}
+
+// Whether the lower table is settled. It is where the race ended before all asked rounds were made.
+fn is_stable(question: &Question, lower: &[u64], raced: &Raced, asked: u32) -> bool
+    requires raced { IsRaced question.now asked raced.now.words raced.now.rounds }
+    requires values { lower.now ≡ values_of raced.now.words }
+    ensures { (result ≡ true) ↔ IsSettled question.now (slice_index lower.now) }
+{
+    raced.rounds < asked || settled(question, lower)
 }

@@ -12,9 +12,9 @@ returns-clause-bounds g c =
     let q = c.args.question.now in
     let words : List ℕ = c.in_ok-raced.raced.words in
     let lower : List ℕ = c.in_ok-lower.lower.items in
-    let stable = c.settled-stable.result in
+    let stable = c.is_stable-stable.result in
     let is : lower ≡ values_of words = c.in_ok-lower.ensures ∙ ap values_of c.as_slice.ensures in
-    let settled : (stable ≡ true) ↔ IsSettled q (slice_index lower) = subst (λ (l : List ℕ). (stable ≡ true) ↔ IsSettled q (slice_index l)) c.as_slice-3.ensures.value c.settled-stable.ensures in
+    let settled : (stable ≡ true) ↔ IsSettled q (slice_index lower) = subst (λ (l : List ℕ). (stable ≡ true) ↔ IsSettled q (slice_index l)) c.as_slice-3.ensures.value c.is_stable-stable.ensures in
     IsBracket-raced q c.args.zero.now c.args.rounds words lower c.in_ok-upper.upper.items c.in_ok-raced.raced.rounds stable c.known.ensures c.requires.zero c.in_ok-raced.ensures is c.in_ok-upper.ensures settled
 
 pub returns-clause-choices : goal.returns-clause-choices
