@@ -1,7 +1,7 @@
 //! Rounds of workers on the shared words, until these are settled.
 
 ghost use Rattle.std.specs.Prelude.{◌≡◌, ℕ, ◌<◌, ◌≤◌, true, length, IfOk};
-ghost use Rattle.game_model.specs.Query.{Query, IsQuery, states};
+ghost use Rattle.game_model.specs.Query.{states};
 ghost use Rattle.game_model.specs.Rounded.{down_step, down_steps, IsBelow, IsSettled};
 ghost use Rattle.round_workers.specs.Share.{most_workers};
 ghost use Rattle.value_words.specs.Passes.{IsOf, Grew, seen_by};

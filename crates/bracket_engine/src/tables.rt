@@ -1,9 +1,8 @@
 //! The tables that a run gives.
 
-ghost use Rattle.std.specs.Prelude.{◌≡◌, ℕ, ◌<◌, ◌≤◌, Bool, true, false, List, length, All, slice_index, slice_index_or, IfOk, None};
+ghost use Rattle.std.specs.Prelude.{◌≡◌, ℕ, ◌<◌, length, slice_index, slice_index_or, IfOk, None};
 ghost use Rattle.game_model.specs.Query.{states};
 ghost use Rattle.game_model.specs.Dual.{IsZeroSet};
-ghost use Rattle.game_model.specs.Limits.{unit};
 ghost use Rattle.step_core.specs.Word.{values_of};
 ghost use Rattle.bracket_engine.specs.Choices.{choice_of_word};
 ghost use Rattle.bracket_engine.specs.Upper.{IsUpperOf};

@@ -12,7 +12,7 @@ ghost use Rattle.stogame_app.specs.Posed.{reading_of, posed, question_said, HasS
 ghost use Rattle.stogame_app.specs.Refusals.{refusal_text, usage_text};
 ghost use Rattle.game_model.specs.Query.{states};
 ghost use Rattle.stogame_app.specs.Reports.{IsReport};
-ghost use Rattle.stogame_app.specs.Run.{IsReportOf, IsRefusalOf, IsLong, PosesIt, RefusesIt, IsReportOfWords, IsRefusalOfWords, IsUsageOfWords, IsOutput};
+ghost use Rattle.stogame_app.specs.Run.{IsReportOf, IsRefusalOf, PosesIt, RefusesIt, IsReportOfWords, IsRefusalOfWords, IsOutput};
 
 use crate::ends::{end_with_refusal, end_with_usage, say};
 use crate::load::End;

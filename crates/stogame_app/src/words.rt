@@ -1,6 +1,6 @@
 //! The words of the command line, read by hand.
 
-ghost use Rattle.std.specs.Prelude.{◌≡◌, ◌≢◌, ◌<◌, ◌≤◌, ◌^◌, ◌↔◌, ◌++◌, ℕ, List, ◌∷◌, Option, None, IsTrue, MatchOption, map, codes, length, slice_index, option_map};
+ghost use Rattle.std.specs.Prelude.{◌≡◌, ◌<◌, ◌≤◌, ◌^◌, ◌↔◌, ℕ, Option, None, IsTrue, MatchOption, map, codes, option_map};
 ghost use Rattle.std.specs.String.{string_bytes};
 ghost use Rattle.stogame_app.specs.Words.{IsPlain, IsNumber, AreInRange, Options, AreOptions, AreCheck, AreNoCommand, IsTaken, options_of, check_of};
 
