@@ -1,5 +1,5 @@
 -- What contracts see of a choice and of a game, and the facts that each of them keeps.
-use Rattle.std.specs.Prelude.{◌≡◌, ℕ, ◌<◌, ◌≤◌, List, [], length, map, sum_by, All, slice_index, slice_index_or}
+use Rattle.std.specs.Prelude.{◌≡◌, ℕ, ◌<◌, ◌≤◌, List, [], length, map, sum_by, take, All, slice_index, slice_index_or}
 use Rattle.game_model.specs.declared.game.Edge.{Edge}
 use Rattle.game_model.specs.Limits.{most_states, most_choices, total_bound}
 
@@ -41,6 +41,14 @@ no_edge = record { to = 0; weight = 0 }
 -- an edge of a choice
 abbrev pub edge_of : List (List Distribution) → ℕ → ℕ → ℕ → Edge
 edge_of game s c p = slice_index_or (choice_of game s c).edges p no_edge
+
+-- how many choices the states below this one have together
+abbrev pub choices_below : List (List Distribution) → ℕ → ℕ
+choices_below game s = sum_by length (take s game)
+
+-- how many edges the states below this one have together
+abbrev pub edges_below : List (List Distribution) → ℕ → ℕ
+edges_below game s = sum_by (λ choices. sum_by (λ m. length m.edges) choices) (take s game)
 
 -- what every game keeps
 pub record IsGame (game : List (List Distribution)) : Type 0 where

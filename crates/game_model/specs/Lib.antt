@@ -1,6 +1,11 @@
 pub mod Limits
 pub mod Game
 pub mod Made
+pub mod Span
+pub mod Flat
+pub mod OfGame
+pub mod Draft
+pub mod OfBuilder
 pub mod Query
 pub mod Values
 pub mod Rounded

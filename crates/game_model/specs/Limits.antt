@@ -1,19 +1,18 @@
--- The unit and the limits, under the names that definitions and lemmas cite.
+-- The unit and the limits, as numbers. The constants of the code are equal to them: `laws::limits`.
 use Rattle.std.specs.Prelude.{ℕ, ◌^◌}
-use Rattle.game_model.specs.declared.limits.TheConstants.{UNIT, MOST_STATES, MOST_CHOICES}
 
--- probability 1 in units
+-- probability 1, in units: twelve decimal places of a probability are whole numbers
 abbrev pub unit : ℕ
-unit = UNIT
+unit = 1000000000000
 
 -- the most states of a game
 abbrev pub most_states : ℕ
-most_states = MOST_STATES
+most_states = 1000000
 
--- the most choices of a state
+-- the most choices of a state: a choice takes 24 bits of a word, and a value the other 40
 abbrev pub most_choices : ℕ
-most_choices = MOST_CHOICES
+most_choices = 2 ^ 24
 
--- each total is below this number
+-- each total is below this number, so that a total times the unit takes 120 bits
 abbrev pub total_bound : ℕ
 total_bound = 2 ^ 80

@@ -2,7 +2,7 @@
 //! distribution over the states. With one side alone they are Markov decision processes (Baier and
 //! Katoen, Principles of Model Checking, 2008, chapter 10).
 
-ghost use Rattle.std.specs.Prelude.{◌≡◌, ℕ, ◌+◌, ◌^◌, ◌<◌, ◌≤◌, List, length, sum_by, All, slice_index, slice_index_or, slice_get, map, Some};
+ghost use Rattle.std.specs.Prelude.{◌≡◌, ℕ, ◌+◌, ◌-◌, ◌*◌, ◌^◌, ◌<◌, ◌≤◌, List, length, sum_by, All, slice_index, slice_index_or, slice_get, map, take, drop, Some};
 ghost use Rattle.game_model.specs.Limits.{most_states, most_choices, total_bound};
 
 use std::marker::Model;
@@ -97,6 +97,13 @@ impl Choice {
         self.total
     }
 
+    /// The edges, by rising successor.
+    pub fn edges(&self) -> &[Edge]
+        ensures { result.now ≡ self.now.edges }
+    {
+        &self.edges
+    }
+
     /// The edge at this place.
     pub fn edge(&self, place: u32) -> Edge
         requires { place < length self.now.edges }
@@ -108,53 +115,48 @@ impl Choice {
 
 /// A game: for each state a list of at least one choice. The states are numbered from 0, and so are the
 /// choices of a state and the edges of a choice.
+///
+/// It lies in flat lists: where the choices of each state begin, where the edges of each choice begin and
+/// its total, and for each edge its successor and its weight. A weight has a low word, and a high word only
+/// where some total is 2^64 or more; behind the end of the high words each is 0. So an edge takes 12 bytes.
 #[derive(Debug, Drop)]
 pub struct Game {
-    choices: Vec<Vec<Choice>>,
+    pub(crate) first_choice: Vec<u32>,
+    pub(crate) first_edge: Vec<u32>,
+    pub(crate) totals: Vec<u128>,
+    pub(crate) to: Vec<u32>,
+    pub(crate) low: Vec<u64>,
+    pub(crate) high: Vec<u64>,
 }
 
 impl Model for Game {
-    ghost use Rattle.std.specs.Prelude.{List, map};
-    ghost use Rattle.game_model.specs.Game.{Distribution, IsGame};
+    ghost use Rattle.std.specs.Prelude.{List};
+    ghost use Rattle.game_model.specs.Game.{Distribution};
 
     ghost Value = { List (List Distribution) };
 
-    ghost view = { λ g. map (λ choices. choices.items) g.choices.items };
+    ghost use Rattle.game_model.specs.OfGame.{game_of_flat, IsFlat};
 
-    ghost invariant = { λ g. IsGame (map (λ choices. choices.items) g.choices.items) };
+    ghost view = { game_of_flat };
+
+    ghost invariant = { IsFlat };
 }
 
 impl Game {
-    ghost use Rattle.game_model.specs.Game.{Distribution, IsGame, choices_of, choice_of, edge_of};
-    ghost use Rattle.game_model.specs.Made.{game_of};
-
-    /// The game with these choices at each state.
-    pub fn from_choices(choices: Vec<Vec<Choice>>) -> Game
-        requires some { 0 < length choices.items }
-        requires few { length choices.items ≤ most_states }
-        requires chosen { All (λ c. 0 < length c.items) choices.items }
-        requires bounded { All (λ c. length c.items ≤ most_choices) choices.items }
-        requires inside { All (λ c. All (λ m. All (λ e. e.to < length choices.items) m.edges) c.items) choices.items }
-        ensures { result ≡ game_of choices }
-    {
-        for state_choices in &choices {
-            Choice::known_of_all(state_choices);
-        }
-        Game { choices }
-    }
+    ghost use Rattle.game_model.specs.Game.{Distribution, IsGame, choices_of, choice_of, edge_of, choices_below, edges_below};
 
     /// Tells a proof what every game keeps. It does nothing.
     pub fn known(&self)
         ensures { IsGame self.now }
     {
-        let _ = &self.choices;
+        let _ = &self.to;
     }
 
     /// How many states there are.
     pub fn states(&self) -> u32
         ensures { result ≡ length self.now }
     {
-        self.choices.len() as u32
+        (self.first_choice.len() - 1) as u32
     }
 
     /// How many choices a state has, at least 1.
@@ -162,16 +164,23 @@ impl Game {
         requires { state < length self.now }
         ensures { result ≡ length (choices_of self.now state) }
     {
-        self.choices[state as usize].len() as u32
+        self.first_choice[state as usize + 1] - self.first_choice[state as usize]
     }
 
-    /// A choice of a state.
-    fn choice(&self, state: u32, choice: u32) -> &Choice
-        requires state { state < length self.now }
-        requires choice { choice < length (choices_of self.now state) }
-        ensures { result.now ≡ choice_of self.now state choice }
+    /// How many choices the states below this one have together; with the number of states, how many there are.
+    pub fn choices_below(&self, state: u32) -> u64
+        requires { state ≤ length self.now }
+        ensures { result ≡ choices_below self.now state }
     {
-        &self.choices[state as usize][choice as usize]
+        u64::from(self.first_choice[state as usize])
+    }
+
+    /// How many edges the states below this one have together; with the number of states, how many there are.
+    pub fn edges_below(&self, state: u32) -> u64
+        requires { state ≤ length self.now }
+        ensures { result ≡ edges_below self.now state }
+    {
+        u64::from(self.first_edge[self.first_choice[state as usize] as usize])
     }
 
     /// The total of a choice: the sum of its weights.
@@ -182,7 +191,8 @@ impl Game {
         ensures positive { 0 < result }
         ensures small { result < total_bound }
     {
-        self.choice(state, choice).total
+        self.known();
+        self.totals[self.first_choice[state as usize] as usize + choice as usize]
     }
 
     /// How many edges a choice has, at least 1.
@@ -191,17 +201,34 @@ impl Game {
         requires choice { choice < length (choices_of self.now state) }
         ensures { result ≡ length (choice_of self.now state choice).edges }
     {
-        self.known();
-        self.choice(state, choice).edges.len() as u32
+        let at = self.first_choice[state as usize] as usize + choice as usize;
+        self.first_edge[at + 1] - self.first_edge[at]
     }
 
-    /// The edges of a choice, by rising successor.
-    pub fn edges(&self, state: u32, choice: u32) -> &[Edge]
+    /// The successors of a choice, rising.
+    pub fn successors(&self, state: u32, choice: u32) -> &[u32]
         requires state { state < length self.now }
         requires choice { choice < length (choices_of self.now state) }
-        ensures { result.now ≡ (choice_of self.now state choice).edges }
+        ensures { result.now ≡ map (λ e. e.to) (choice_of self.now state choice).edges }
     {
-        &self.choice(state, choice).edges
+        let at = self.first_choice[state as usize] as usize + choice as usize;
+        let from = self.first_edge[at];
+        let to = self.first_edge[at + 1];
+        part(&self.to, from, to)
+    }
+
+    /// The weights of a choice whose total fits 64 bits, in the order of its successors.
+    pub fn narrow_weights(&self, state: u32, choice: u32) -> &[u64]
+        requires state { state < length self.now }
+        requires choice { choice < length (choices_of self.now state) }
+        requires narrow { (choice_of self.now state choice).total < 2 ^ 64 }
+        ensures { result.now ≡ map (λ e. e.weight) (choice_of self.now state choice).edges }
+    {
+        self.known();
+        let at = self.first_choice[state as usize] as usize + choice as usize;
+        let from = self.first_edge[at];
+        let to = self.first_edge[at + 1];
+        part(&self.low, from, to)
     }
 
     /// An edge of a choice. The successors rise with the place.
@@ -211,6 +238,34 @@ impl Game {
         requires place { place < length (choice_of self.now state choice).edges }
         ensures { result ≡ edge_of self.now state choice place }
     {
-        self.choice(state, choice).edges[place as usize]
+        let at = self.first_choice[state as usize] as usize + choice as usize;
+        let edge = self.first_edge[at] as usize + place as usize;
+        Edge {
+            to: self.to[edge],
+            weight: weight_of(self.low[edge], entry(&self.high, edge)),
+        }
     }
+}
+
+/// A part of a list.
+fn part<T>(xs: &[T], from: u32, to: u32) -> &[T]
+    requires order { from ≤ to }
+    requires within { to ≤ length xs.now }
+    ensures { result.now ≡ take (to - from) (drop from xs.now) }
+{
+    &xs[from as usize..to as usize]
+}
+
+/// The entry at a place, or 0 past the end.
+fn entry(xs: &[u64], at: usize) -> u64
+    ensures { result ≡ slice_index xs.now at }
+{
+    if at < xs.len() { xs[at] } else { 0 }
+}
+
+/// A weight of its two words.
+fn weight_of(low: u64, high: u64) -> u128
+    ensures { result ≡ low + 2 ^ 64 * high }
+{
+    u128::from(low) + 18_446_744_073_709_551_616 * u128::from(high)
 }

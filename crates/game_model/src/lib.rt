@@ -1,6 +1,7 @@
 //! Games, reachability questions about them, and the values that they have.
 //!
-//! A game is made of choices: [`Choice::of_edges`] and [`Game::from_choices`]. [`Question::build`] asks
+//! A game is made of choices ([`Choice::of_edges`]), all at once by [`Game::from_choices`] or one after
+//! another by a [`GameBuilder`]. [`Question::build`] asks
 //! of it with which probability a goal is reached. The definition of that value is in `specs/Values.antt`:
 //! whole numerators over one common denominator, by backward recursion over the number of steps. No
 //! program forms them. Programs compute with whole numbers of units, of which [`UNIT`] are probability 1,
@@ -8,11 +9,13 @@
 //! lower and a sound upper table are, and [`laws`] has the laws of the values.
 #![tactic(auto)]
 
+mod builder;
 mod game;
 pub mod laws;
 mod limits;
 mod question;
 
+pub use builder::GameBuilder;
 pub use game::{Choice, Edge, Game, Side};
 pub use limits::{MOST_CHOICES, MOST_STATES, UNIT};
 pub use question::{Marks, Question};

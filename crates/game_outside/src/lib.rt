@@ -23,6 +23,8 @@ mod sink;
 #[cfg(test)]
 mod tests;
 
+use std::alloc::{AllocError, AllocFailed};
+
 pub use gate::{Gate, OpenGate};
 pub use held::HeldFile;
 pub use hold_gate::HoldGate;
@@ -39,3 +41,19 @@ pub struct Failed {}
 /// Memory was wanting.
 #[derive(Clone, Copy, Debug, PartialEq, Eq, Drop)]
 pub struct OutOfMemory {}
+
+impl From<AllocError> for OutOfMemory {
+    ghost from_gives = { λ _ _. Unit {0} };
+
+    fn from(_: AllocError) -> Self {
+        OutOfMemory {}
+    }
+}
+
+impl<T: Drop> From<AllocFailed<T>> for OutOfMemory {
+    ghost from_gives = { λ _ _. Unit {0} };
+
+    fn from(_: AllocFailed<T>) -> Self {
+        OutOfMemory {}
+    }
+}

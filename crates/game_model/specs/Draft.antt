@@ -1,0 +1,57 @@
+-- A game under way: the states that have ended, and the choices so far of the one that has not.
+use Rattle.std.specs.Prelude.{◌≡◌, ℕ, ◌+◌, ◌-◌, List, [], ◌∷◌, ◌++◌, length, map, take, sum_by, replicate, slice_index, slice_index_or, ◌<◌, ◌/◌, ◌%◌, ◌^◌}
+use Rattle.game_model.specs.declared.game.Edge.{Edge}
+use Rattle.game_model.specs.Game.{Distribution, no_edge}
+use Rattle.game_model.specs.Flat.{last_of}
+
+pub record Draft : Type 0 where
+  pub done : List (List Distribution)
+  pub under_way : List Distribution
+
+-- nothing so far
+abbrev pub no_states : Draft
+no_states = record { done = []; under_way = [] }
+
+-- the choice with these edges
+abbrev pub distribution_of : List Edge → Distribution
+distribution_of edges = record { total = sum_by (λ e. e.weight) edges; edges = edges }
+
+-- a draft between two states
+abbrev pub between : List (List Distribution) → Draft
+between done = record { done = done; under_way = [] }
+
+-- one more choice
+abbrev pub with_choice : Draft → Distribution → Draft
+with_choice draft distribution = record { done = draft.done; under_way = draft.under_way ++ distribution ∷ [] }
+
+-- the state under way ends, and the next begins
+abbrev pub with_state : Draft → Draft
+with_state draft = record { done = draft.done ++ draft.under_way ∷ []; under_way = [] }
+
+-- ys begins with xs
+abbrev pub IsLonger : List ℕ → List ℕ → Type 0
+IsLonger xs ys = (zs : List ℕ) × (ys ≡ xs ++ zs)
+
+-- the first n entries are the same
+abbrev pub IsSameBelow : ℕ → List ℕ → List ℕ → Type 0
+IsSameBelow n xs ys = (i : ℕ) → i < n → slice_index ys i ≡ slice_index xs i
+
+-- from n on the high words of the weights
+abbrev pub IsHigh : ℕ → List Edge → List ℕ → Type 0
+IsHigh n edges xs = (i : ℕ) → i < length edges → slice_index xs (n + i) ≡ (slice_index_or edges i no_edge).weight / 2 ^ 64
+
+-- ys is xs and zeros
+abbrev pub IsPadded : List ℕ → List ℕ → Type 0
+IsPadded xs ys = (n : ℕ) × (ys ≡ xs ++ replicate n 0)
+
+-- the lists behind with the edges of one more choice
+abbrev pub IsPushed : List ℕ → List ℕ → List ℕ → List ℕ → List ℕ → List Edge → List ℕ → List ℕ → List ℕ → List ℕ → List ℕ → Type 0
+IsPushed fe totals to low high edges fe' totals' to' low' high' =
+    (fe' ≡ fe ++ (last_of fe + length edges) ∷ []) × (totals' ≡ take (length fe - 1) totals ++ sum_by (λ e. e.weight) edges ∷ [])
+    × (to' ≡ take (last_of fe) to ++ map (λ e. e.to) edges) × (low' ≡ take (last_of fe) low ++ map (λ e. e.weight % 2 ^ 64) edges)
+    × IsSameBelow (last_of fe) high high' × IsHigh (last_of fe) edges high'
+
+-- the lists are as before where they are in use
+abbrev pub IsStill : List ℕ → List ℕ → List ℕ → List ℕ → List ℕ → List ℕ → List ℕ → List ℕ → List ℕ → List ℕ → Type 0
+IsStill fe totals to low high fe' totals' to' low' high' =
+    (fe' ≡ fe) × IsLonger (take (length fe - 1) totals) totals' × IsLonger (take (last_of fe) to) to' × IsLonger (take (last_of fe) low) low' × IsSameBelow (last_of fe) high high'

@@ -1,0 +1,13 @@
+-- What contracts see of a builder.
+use Rattle.game_model.specs.declared.builder.GameBuilder.TheInside.{Inside}
+use Rattle.game_model.specs.Flat.{game_at, under_way_at, IsKept}
+use Rattle.game_model.specs.Draft.{Draft}
+
+abbrev pub draft_of : Inside → Draft
+draft_of b = record {
+  done = game_at b.first_choice.items b.first_edge.items b.totals.items b.to.items b.low.items b.high.items;
+  under_way = under_way_at b.first_choice.items b.first_edge.items b.totals.items b.to.items b.low.items b.high.items;
+}
+
+abbrev pub IsBuilder : Inside → Type 0
+IsBuilder b = IsKept b.first_choice.items b.first_edge.items b.totals.items b.to.items b.low.items b.high.items
