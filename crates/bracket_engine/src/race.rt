@@ -28,7 +28,7 @@ pub struct Raced {
 }
 
 /// Runs at most `most` rounds, each of at most so many workers. It ends earlier where the words are settled.
-pub fn race<R: Threads + Sync, P: Posing, G: Gate + Sync>(
+pub fn race<R: Threads + Sync, P: Posing + Send + Sync, G: Gate + Sync>(
     rt: &R,
     alloc: Global,
     question: &Question<'_>,
@@ -52,7 +52,7 @@ pub fn race<R: Threads + Sync, P: Posing, G: Gate + Sync>(
 }
 
 // Rounds until one raises nothing and leaves the words settled, at most this many. How many there were.
-fn run_rounds<R: Threads + Sync, P: Posing, G: Gate + Sync>(
+fn run_rounds<R: Threads + Sync, P: Posing + Send + Sync, G: Gate + Sync>(
     rt: &R,
     table: &ValueTable<'_, P>,
     mut pass: Pass<P>,
@@ -84,7 +84,7 @@ fn run_rounds<R: Threads + Sync, P: Posing, G: Gate + Sync>(
 }
 
 // One round, and whether it raised nothing and left the words settled.
-fn one_round<R: Threads + Sync, P: Posing, G: Gate + Sync>(
+fn one_round<R: Threads + Sync, P: Posing + Send + Sync, G: Gate + Sync>(
     rt: &R,
     table: &ValueTable<'_, P>,
     pass: Pass<P>,

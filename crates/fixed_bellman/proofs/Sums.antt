@@ -1,16 +1,17 @@
--- The weighted sum of a choice fits 128 bits.
-use Rattle.std.proofs.Common.{◌≡◌, ℕ, ◌+◌, ◌*◌, ◌^◌, ◌<◌, ◌≤◌, List, length, take, get_or, sum_by, arith, ap, ◌∙◌, inl, inr}
+-- The weighted sum of edges over values that are read one after another.
+use Rattle.std.proofs.Common.{◌≡◌, ℕ, ◌+◌, ◌*◌, ◌^◌, ◌<◌, ◌≤◌, List, length, take, get_or, sum_by, sym, ap, ◌∙◌, subst, arith, inl, inr}
 use Rattle.std.specs.Prelude.{slice_index, All}
-use Rattle.std.proofs.lemmas.List.Sums.{sum_by-take-le, sum_by_more_le}
-use Rattle.std.proofs.lemmas.List.{get_or_past}
+use Rattle.std.proofs.lemmas.List.{get_or_past, take_all}
+use Rattle.std.proofs.lemmas.List.Sums.{sum_by_more, sum_by-take-le}
 use Rattle.std.proofs.lemmas.Bool.{cases_lt}
+use Rattle.std.proofs.Math.Nat.{mul-le-mul_left}
 use Rattle.game_model.specs.declared.game.Edge.{Edge}
 use Rattle.game_model.specs.Game.{no_edge}
 use Rattle.game_model.specs.Values.{weighted_sum}
 use Rattle.game_model.specs.Limits.{unit, total_bound}
-use Rattle.game_model.proofs.Best.{weighted_sum-most}
+use Rattle.fixed_bellman.specs.Sums.{IsSumBetween}
+use Rattle.game_model.proofs.Best.{weighted_sum-le, weighted_sum-most}
 use Rattle.game_model.proofs.Each.{AllByRecursion-always}
-use Rattle.game_model.proofs.Sizes.{total-fits}
 
 -- a table of units, past its end too
 pub slice_index-units : (table : List ℕ) → All (λ v. v ≤ unit) table → (t : ℕ) → slice_index table t ≤ unit
@@ -23,21 +24,40 @@ slice_index-units table units t = elim (cases_lt t (length table)) [
 pub weighted_sum-whole : (edges : List Edge) (table : List ℕ) → All (λ v. v ≤ unit) table → weighted_sum (slice_index table) edges ≤ sum_by (λ e. e.weight) edges * unit
 weighted_sum-whole edges table units = weighted_sum-most (slice_index table) unit edges (AllByRecursion-always _ (λ e. slice_index-units table units e.to) edges)
 
--- and so is the sum so far
-pub weighted_sum-take-whole : (edges : List Edge) (table : List ℕ) (p : ℕ) → All (λ v. v ≤ unit) table → weighted_sum (slice_index table) (take p edges) ≤ sum_by (λ e. e.weight) edges * unit
-weighted_sum-take-whole edges table p units =
-    omega (arith, sum_by-take-le (λ (e : Edge). e.weight * slice_index table e.to) edges p, weighted_sum-whole edges table units)
+-- one more edge
+module _ (edges : List Edge) (p sum value : ℕ) (edge : Edge) (there : p < length edges) (is : edge ≡ get_or edges p no_edge) where
+  weights-more : sum_by (λ e. e.weight) (take (p + 1) edges) ≡ sum_by (λ e. e.weight) (take p edges) + edge.weight
+  weights-more = sum_by_more (λ (e : Edge). e.weight) edges p no_edge there ∙ ap (λ (e : Edge). sum_by (λ d. d.weight) (take p edges) + e.weight) (sym is)
 
-below-top : (x w u m : ℕ) → x ≤ w * u → w * (u + 1) < m → x < m
-below-top x w u m h k = omega (arith, h, k)
+  sum-more : (v : ℕ → ℕ) → weighted_sum v (take (p + 1) edges) ≡ weighted_sum v (take p edges) + edge.weight * v edge.to
+  sum-more v = sum_by_more (λ (e : Edge). e.weight * v e.to) edges p no_edge there ∙ ap (λ (e : Edge). weighted_sum v (take p edges) + e.weight * v e.to) (sym is)
 
--- the sum so far and one more product, as the code has them
-pub sum-fits : (edges : List Edge) (table : List ℕ) (p sum v : ℕ) (e : Edge) → All (λ v. v ≤ unit) table → sum_by (λ e. e.weight) edges < total_bound → p < length edges
-    → e ≡ get_or edges p no_edge → v ≡ slice_index table e.to → sum ≡ weighted_sum (slice_index table) (take p edges) → sum + e.weight * v < 2 ^ 128
-sum-fits edges table p sum v e units small inside is_e is_v is_sum =
-    let at : Edge = get_or edges p no_edge in
-    let part : weighted_sum (slice_index table) (take p edges) + at.weight * slice_index table at.to ≤ weighted_sum (slice_index table) edges =
-    sum_by_more_le (λ (e : Edge). e.weight * slice_index table e.to) edges p no_edge inside in
-    let whole : weighted_sum (slice_index table) edges ≤ sum_by (λ e. e.weight) edges * unit = weighted_sum-whole edges table units in
-    let is_v' : v ≡ slice_index table at.to = is_v ∙ ap (λ (d : Edge). slice_index table d.to) is_e in
-    rw (is_sum, is_v', is_e) (below-top _ (sum_by (λ e. e.weight) edges) unit (2 ^ 128) (omega (arith, part, whole)) (total-fits (sum_by (λ e. e.weight) edges) small))
+  pub units-more : sum ≤ sum_by (λ e. e.weight) (take p edges) * unit → value ≤ unit → sum + edge.weight * value ≤ sum_by (λ e. e.weight) (take (p + 1) edges) * unit
+  units-more so_far units = omega (arith, weights-more, mul-le-mul_left edge.weight units, so_far)
+
+  pub sum-fits : sum ≤ sum_by (λ e. e.weight) (take p edges) * unit → value ≤ unit → sum_by (λ e. e.weight) edges < total_bound → sum + edge.weight * value < 2 ^ 128
+  sum-fits so_far units small = omega (arith, units-more so_far units, sum_by-take-le (λ (e : Edge). e.weight) edges (p + 1), small)
+
+  pub low-more : (v : ℕ → ℕ) → weighted_sum v (take p edges) ≤ sum → v edge.to ≤ value → weighted_sum v (take (p + 1) edges) ≤ sum + edge.weight * value
+  low-more v so_far less = omega (arith, sum-more v, mul-le-mul_left edge.weight less, so_far)
+
+  pub high-more : (v w : ℕ → ℕ) → sum ≤ weighted_sum v (take p edges) → ((t : ℕ) → v t ≤ w t) → value ≤ w edge.to → sum + edge.weight * value ≤ weighted_sum w (take (p + 1) edges)
+  high-more v w so_far up less =
+      let rise : 1 * weighted_sum v (take p edges) ≤ 1 * weighted_sum w (take p edges) = weighted_sum-le v w 1 1 (take p edges) (AllByRecursion-always _ (λ e. omega (arith, up e.to)) (take p edges)) in
+      omega (arith, sum-more w, mul-le-mul_left edge.weight less, so_far, rise)
+
+  -- the sum so far and one more product
+  pub IsSumBetween-more : (old mid new : ℕ → ℕ) → IsSumBetween (take p edges) old mid sum → old edge.to ≤ value → ((t : ℕ) → mid t ≤ new t) → value ≤ new edge.to → value ≤ unit
+      → IsSumBetween (take (p + 1) edges) old new (sum + edge.weight * value)
+  IsSumBetween-more old mid new so_far low later high units = record {
+    low = low-more old so_far.low low;
+    high = high-more mid new so_far.high later high;
+    whole = units-more so_far.whole units;
+  }
+
+  pub narrow-fits : (old mid : ℕ → ℕ) → IsSumBetween (take p edges) old mid sum → value ≤ unit → sum_by (λ e. e.weight) edges * unit < 2 ^ 64 → sum + edge.weight * value < 2 ^ 64
+  narrow-fits old mid so_far units narrow = omega (arith, units-more so_far.whole units, sum_by-take-le (λ (e : Edge). e.weight) edges (p + 1), narrow)
+
+-- the sum over all edges
+pub IsSumBetween-all : (edges : List Edge) (p sum : ℕ) (old new : ℕ → ℕ) → length edges ≤ p → IsSumBetween (take p edges) old new sum → IsSumBetween edges old new sum
+IsSumBetween-all edges p sum old new past h = subst (λ es. IsSumBetween es old new sum) (take_all p edges past) h

@@ -1,1 +1,4 @@
+pub mod Sums
+pub mod Quotients
+pub mod Given
 pub mod Raised

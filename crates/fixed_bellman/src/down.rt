@@ -1,97 +1,15 @@
 //! The down step of a table.
 
-ghost use Rattle.std.specs.Prelude.{◌≡◌, ℕ, ◌<◌, ◌≤◌, ◌↔◌, length, slice_index, All, IsTrue, MatchOption};
-ghost use Rattle.game_model.specs.Game.{choices_of, choice_of};
+ghost use Rattle.std.specs.Prelude.{◌≡◌, ℕ, ◌<◌, ◌≤◌, ◌↔◌, ◌⊎◌, length, slice_index, All, IsTrue, MatchOption};
 ghost use Rattle.game_model.specs.Query.{states};
-ghost use Rattle.game_model.specs.Values.{optimum};
 ghost use Rattle.game_model.specs.Limits.{unit};
-ghost use Rattle.game_model.specs.Rounded.{IsFirstWith, DownChoice, IsSettled, down_value, down_step};
+ghost use Rattle.game_model.specs.Rounded.{DownChoice, IsSettled, down_step};
+ghost use Rattle.fixed_bellman.specs.Given.{IsFree};
 ghost use Rattle.fixed_bellman.specs.Raised.{Raises};
 
-use crate::choice::{down_choice_above, down_choice_below};
-use game_model::{Question, Side, UNIT};
-
-/// The greatest down value of the choices of a state, where it is above a floor, and the first choice that
-/// has it.
-fn greatest_down_above(
-    question: &Question,
-    state: u32,
-    table: &[u64],
-    floor: u64,
-) -> Option<(u64, u32)>
-    requires state { state < states question.now }
-    requires length { length table.now ≡ states question.now }
-    requires units { All (λ v. v ≤ unit) table.now }
-    requires floor { floor ≤ unit }
-    ensures { let greatest = optimum Side.Max (down_value (slice_index table.now)) (choices_of question.now.game state) in
-        MatchOption result (greatest ≤ floor) (λ r. (r.0 ≡ greatest) × (floor < r.0) × (r.0 ≤ unit)
-        × IsFirstWith (down_value (slice_index table.now)) (choices_of question.now.game state) r.0 r.1) }
-{
-    let mut best = floor;
-    let mut found = None;
-    for choice in 0..question.game().choices_of(state) {
-        if let Some(value) = down_choice_above(question, state, choice, table, best) {
-            best = value;
-            found = Some((value, choice));
-        }
-    }
-    found
-}
-
-/// The least down value of the choices of a state, where it is above a floor. It ends at the first choice
-/// that is not.
-fn least_down_above(question: &Question, state: u32, table: &[u64], floor: u64) -> Option<u64>
-    requires state { state < states question.now }
-    requires length { length table.now ≡ states question.now }
-    requires units { All (λ v. v ≤ unit) table.now }
-    requires floor { floor ≤ unit }
-    ensures { let least = optimum Side.Min (down_value (slice_index table.now)) (choices_of question.now.game state) in
-        MatchOption result (least ≤ floor) (λ v. (v ≡ least) × (floor < v) × (v ≤ unit)) }
-{
-    question.known();
-    let mut best = UNIT;
-    for choice in 0..question.game().choices_of(state) {
-        let Some(value) = down_choice_above(question, state, choice, table, floor) else {
-            return None;
-        };
-        best = best.min(value);
-    }
-    Some(best)
-}
-
-/// The least down value of the choices of a state.
-fn least_down(question: &Question, state: u32, table: &[u64]) -> u64
-    requires state { state < states question.now }
-    requires length { length table.now ≡ states question.now }
-    requires units { All (λ v. v ≤ unit) table.now }
-    ensures value { result ≡ optimum Side.Min (down_value (slice_index table.now)) (choices_of question.now.game state) }
-    ensures units { result ≤ unit }
-{
-    question.known();
-    let mut best = UNIT;
-    for choice in 0..question.game().choices_of(state) {
-        if let Some(value) = down_choice_below(question, state, choice, table, best) {
-            best = value;
-        }
-    }
-    best
-}
-
-/// The greatest down value of the choices of a state, and the first choice that has it.
-fn greatest_down(question: &Question, state: u32, table: &[u64]) -> (u64, u32)
-    requires state { state < states question.now }
-    requires length { length table.now ≡ states question.now }
-    requires units { All (λ v. v ≤ unit) table.now }
-    ensures value { result.0 ≡ optimum Side.Max (down_value (slice_index table.now)) (choices_of question.now.game state) }
-    ensures units { result.0 ≤ unit }
-    ensures first { IsFirstWith (down_value (slice_index table.now)) (choices_of question.now.game state) result.0 result.1 }
-{
-    question.known();
-    match greatest_down_above(question, state, table, 0) {
-        Some(greatest) => greatest,
-        None => (0, 0),
-    }
-}
+use crate::above::step_above;
+use crate::values::Entries;
+use game_model::{Question, UNIT};
 
 /// The down step of a table at a state, and at a Max state that is neither goal nor dead the first choice
 /// that gives it. Elsewhere the choice is 0.
@@ -109,10 +27,7 @@ pub fn down_state(question: &Question, state: u32, table: &[u64]) -> (u64, u32)
     if question.is_dead(state) {
         return (0, 0);
     }
-    match question.side(state) {
-        Side::Max => greatest_down(question, state, table),
-        Side::Min => (least_down(question, state, table), 0),
-    }
+    table_step_above(question, state, table, 0)
 }
 
 /// The down step of a table at a state, as [`down_state`] has it, where its value is above the entry of the
@@ -131,10 +46,28 @@ pub fn raised_state(question: &Question, state: u32, table: &[u64]) -> Option<(u
     if question.is_dead(state) {
         return None;
     }
-    match question.side(state) {
-        Side::Max => greatest_down_above(question, state, table, entry),
-        Side::Min => least_down_above(question, state, table, entry).map(|value| (value, 0)),
+    let (value, choice) = table_step_above(question, state, table, entry);
+    if entry < value {
+        Some((value, choice))
+    } else {
+        None
     }
+}
+
+/// The step of a state over a table, as [`step_above`] has it.
+fn table_step_above(question: &Question, state: u32, table: &[u64], floor: u64) -> (u64, u32)
+    requires state { state < states question.now }
+    requires free { IsFree question.now state }
+    requires length { length table.now ≡ states question.now }
+    requires units { All (λ v. v ≤ unit) table.now }
+    requires floor { floor ≤ unit }
+    ensures units { result.0 ≤ unit }
+    ensures low { down_step question.now (slice_index table.now) state ≤ result.0 }
+    ensures exact { (floor < result.0) ⊎ (floor ≡ 0) → (result.0 ≡ down_step question.now (slice_index table.now) state) × DownChoice question.now (slice_index table.now) state result.0 result.1 }
+{
+    question.known();
+    let entries = Entries::new(table);
+    step_above(question, &entries, &mut (), state, floor)
 }
 
 /// The step of a goal, where it is above the entry.

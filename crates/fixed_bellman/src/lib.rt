@@ -7,11 +7,17 @@
 //! [`settled`] says that no state rises. No call takes memory.
 #![tactic(auto)]
 
+mod above;
 mod choice;
 mod down;
+mod quotient;
 mod sum;
 mod up;
+mod values;
 
+pub use above::step_above;
 pub use choice::{down_choice, up_choice};
 pub use down::{down_state, raised_state, settled};
+pub use quotient::Quotient;
 pub use up::up_state;
+pub use values::{Entries, Values};

@@ -7,7 +7,7 @@ ghost use Rattle.game_model.specs.Values.{optimum};
 ghost use Rattle.game_model.specs.Limits.{unit};
 ghost use Rattle.game_model.specs.Rounded.{up_value, up_step};
 
-use crate::choice::{up_choice_above, up_choice_below};
+use crate::sum::table_quotient;
 use game_model::{Question, Side, UNIT};
 
 /// The greatest up value of the choices of a state.
@@ -20,8 +20,9 @@ fn greatest_up(question: &Question, state: u32, table: &[u64]) -> u64
 {
     let mut best = 0;
     for choice in 0..question.game().choices_of(state) {
-        if let Some(value) = up_choice_above(question, state, choice, table, best) {
-            best = value;
+        let given = table_quotient(question, state, choice, table);
+        if given.up_above(best) {
+            best = given.up();
         }
     }
     best
@@ -38,8 +39,9 @@ fn least_up(question: &Question, state: u32, table: &[u64]) -> u64
     question.known();
     let mut best = UNIT;
     for choice in 0..question.game().choices_of(state) {
-        if let Some(value) = up_choice_below(question, state, choice, table, best) {
-            best = value;
+        let given = table_quotient(question, state, choice, table);
+        if given.up_below(best) {
+            best = given.up();
         }
     }
     best

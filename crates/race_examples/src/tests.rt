@@ -77,7 +77,7 @@ fn sweeps<P: Posing>(table: &ValueTable<'_, P>, mut pass: Pass<P>, count: u32) -
 }
 
 // Two threads with a pass each. It gives the final words, and the values that the met pass has read.
-fn two_threads<P: Posing, R: Threads + Sync>(
+fn two_threads<P: Posing + Send + Sync, R: Threads + Sync>(
     rt: &R,
     alloc: Global,
     question: &Question<'_>,
@@ -138,7 +138,7 @@ fn two_threads_race_over_the_agreement_protocol(rt: HostRuntime) -> Result<(), F
 }
 
 // So many rounds of two workers. It gives the final words.
-fn rounds<P: Posing, R: Threads + Sync>(
+fn rounds<P: Posing + Send + Sync, R: Threads + Sync>(
     rt: &R,
     alloc: Global,
     question: &Question<'_>,
@@ -152,7 +152,7 @@ fn rounds<P: Posing, R: Threads + Sync>(
     table.close(alloc, pass).ok()
 }
 
-fn repeat<P: Posing, R: Threads + Sync>(
+fn repeat<P: Posing + Send + Sync, R: Threads + Sync>(
     rt: &R,
     table: &ValueTable<'_, P>,
     mut pass: Pass<P>,

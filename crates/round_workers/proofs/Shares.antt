@@ -1,14 +1,18 @@
 -- The workers' ranges meet, and cover all states.
 use Rattle.std.proofs.Common.{◌≡◌, ℕ, ◌+◌, ◌*◌, ◌/◌, ◌<◌, ◌≤◌, List, ap, ◌∙◌, arith, inl, inr, le_trans, subst}
 use Rattle.std.proofs.lemmas.Bool.{cases_lt}
-use Rattle.std.proofs.Math.Nat.{mul-le-mul_right, mul-div_cancel_left, zero-div}
+use Rattle.std.proofs.Math.Nat.{mul-le-mul_right, mul-div_cancel_left, zero-div, le-div_iff_mul-le}
 use Rattle.game_model.specs.Query.{Query}
 use Rattle.game_model.specs.Rounded.{down_step}
 use Rattle.step_core.specs.Word.{value_at}
 use Rattle.value_words.specs.Passes.{Token, GrewSeat}
 use Rattle.value_words.proofs.Grown.{grew-twice}
-use Rattle.value_words.proofs.Sums.{div-rises}
 use Rattle.round_workers.specs.Share.{first_of, IsSwept}
+
+div-rises : (x y w : ℕ) → 0 < w → x ≤ y → x / w ≤ y / w
+div-rises x y w positive h =
+    let below : x / w * w ≤ x = (le-div_iff_mul-le positive).0 (let same : x / w ≤ x / w = omega arith in same) in
+    (le-div_iff_mul-le positive).1 (omega (arith, below, h))
 
 pub first_of-rises : (states workers a b : ℕ) → 0 < workers → a ≤ b → first_of states workers a ≤ first_of states workers b
 first_of-rises states workers a b some h = div-rises (a * states) (b * states) workers some (mul-le-mul_right states h)

@@ -13,7 +13,7 @@ use value_words::{Pass, Posing, ValueTable};
 
 /// One round: each worker updates the states of its range, in rising order, and passes the gate before
 /// each. Worker w of W begins at state w * n / W, rounded down.
-pub fn round<R: Threads + Sync, P: Posing, G: Gate + Sync>(
+pub fn round<R: Threads + Sync, P: Posing + Send + Sync, G: Gate + Sync>(
     rt: &R,
     table: &ValueTable<'_, P>,
     pass: Pass<P>,
@@ -32,7 +32,7 @@ pub fn round<R: Threads + Sync, P: Posing, G: Gate + Sync>(
 }
 
 // The part of the workers from `first` up to and not including `last`.
-fn fork<R: Threads + Sync, P: Posing, G: Gate + Sync>(
+fn fork<R: Threads + Sync, P: Posing + Send + Sync, G: Gate + Sync>(
     rt: &R,
     table: &ValueTable<'_, P>,
     mut pass: Pass<P>,

@@ -1,4 +1,3 @@
-pub mod Tables
 pub mod Raised
 pub mod Sights
 pub mod Words

@@ -13,8 +13,8 @@ use Rattle.game_model.specs.Rounded.{down_value, IsBelow}
 use Rattle.game_model.specs.Ranks.{IsRankedChoice, HasRankedChoice, Ranked}
 use Rattle.game_model.proofs.Each.{AllByRecursion-at}
 use Rattle.game_model.proofs.Choices.{IsChoiceOf}
-use Rattle.step_core.specs.Sound.{IsFree, Gives}
-use Rattle.step_core.proofs.Tables.{choice_fits, weighted_sum-rises, down_value-pays, leads_high, Gives-units}
+use Rattle.fixed_bellman.specs.Given.{IsFree, Gives}
+use Rattle.fixed_bellman.proofs.Tables.{choice_fits, weighted_sum-rises, down_value-pays, leads_high, Gives-units}
 
 -- a rank above all others
 abbrev pub next_rank : List ℕ → ℕ

@@ -15,10 +15,10 @@ use Rattle.step_core.specs.declared.event.Event.TheVariants.{Load, Won, Lost, Sp
 use Rattle.step_core.specs.declared.event.Refused.{Refused}
 use Rattle.step_core.specs.declared.event.Refused.TheVariants.{OutOfMemory, NoView, SameView, NoState, FixedState, BadChoice, NotFrom, NotRaised, TooHigh, SameWord}
 use Rattle.step_core.specs.Word.{value_in, choice_in, value_at}
-use Rattle.step_core.specs.Sound.{IsFree, Gives}
+use Rattle.fixed_bellman.specs.Given.{IsFree, Gives}
 use Rattle.step_core.specs.Configuration.{Configuration, view_of, seen_by}
 use Rattle.step_core.specs.Events.{IsLive, Raises, Lawful, on_side, is_bad_choice, given_by, unless_there, unless_raised, reasons, first_of, Answers}
-use Rattle.step_core.proofs.Tables.{free_step, Gives-below}
+use Rattle.fixed_bellman.proofs.Tables.{free_step, Gives-below}
 
 -- the first reason does not hold
 skips : (holds : Bool) (reason : Refused) (rest : Option Refused) → holds ≡ false → (if holds then Some reason else rest) ≡ rest

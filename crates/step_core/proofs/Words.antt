@@ -10,8 +10,9 @@ use Rattle.game_model.specs.Rounded.{down_step, down_steps, opening}
 use Rattle.game_model.proofs.Choices.{AreChoicesOf, AreChoicesOf-choices_of}
 use Rattle.game_laws.proofs.Steps.{down_step-le, down_steps-rises}
 use Rattle.step_core.specs.Word.{packed, value_in, choice_in, value_at, values_of, picks_of, opening_words, opening_word}
-use Rattle.step_core.specs.Sound.{Sound, Sees, IsFree, Gives}
-use Rattle.step_core.proofs.Tables.{Gives-below}
+use Rattle.step_core.specs.Sound.{Sound, Sees}
+use Rattle.fixed_bellman.specs.Given.{IsFree, Gives}
+use Rattle.fixed_bellman.proofs.Tables.{Gives-below}
 use Rattle.step_core.proofs.Raised.{next_rank, Ranked-raised}
 use Rattle.step_core.proofs.Sights.{value_at-here, value_at-else, Sees-below}
 

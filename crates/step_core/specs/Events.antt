@@ -10,7 +10,7 @@ use Rattle.step_core.specs.declared.event.Event.TheVariants.{Load, Won, Lost, Sp
 use Rattle.step_core.specs.declared.event.Refused.{Refused}
 use Rattle.step_core.specs.declared.event.Refused.TheVariants.{OutOfMemory, NoView, SameView, NoState, FixedState, BadChoice, NotFrom, NotRaised, TooHigh, SameWord}
 use Rattle.step_core.specs.Word.{value_in, choice_in, value_at, greater_words}
-use Rattle.step_core.specs.Sound.{IsFree, Gives}
+use Rattle.fixed_bellman.specs.Given.{IsFree, Gives}
 use Rattle.step_core.specs.Configuration.{Configuration, view_of, seen_by}
 
 abbrev pub IsLive : Configuration → ℕ → Type 0

@@ -22,12 +22,3 @@ pub record Sees (q : Query) (words seen : List ℕ) : Type 0 where
   pub as_many : length seen ≡ states q
   pub each : (s : ℕ) → (slice_index words s ≡ slice_index seen s) ⊎ (value_at seen s < value_at words s)
   pub goals : (s : ℕ) → s < states q → is_goal q s ≡ true → value_at seen s ≡ unit
-
--- neither a goal nor dead
-abbrev pub IsFree : Query → ℕ → Type 0
-IsFree q s = (is_goal q s ≡ false) × (is_dead q s ≡ false)
-
--- the choice gives at least the value over a table: at a state of the minimiser it is 0, and every choice does
-pub record Gives (q : Query) (table : ℕ → ℕ) (s value choice : ℕ) : Type 0 where
-  pub greatest : side_at q s ≡ Max → (choice < length (choices_of q.game s)) × (value ≤ down_value table (choice_of q.game s choice))
-  pub least : side_at q s ≡ Min → (choice ≡ 0) × ((c : ℕ) → c < length (choices_of q.game s) → value ≤ down_value table (choice_of q.game s c))

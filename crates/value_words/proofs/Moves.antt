@@ -10,7 +10,8 @@ use Rattle.atomic_table.proofs.Lists.{at_set, at_snoc, set_again, exchanged}
 use Rattle.game_model.specs.Query.{Query, IsQuery, states}
 use Rattle.game_model.specs.Limits.{unit}
 use Rattle.step_core.specs.Word.{value_in, choice_in, value_at, opening_words, greater_words}
-use Rattle.step_core.specs.Sound.{Sound, Sees, IsFree, Gives}
+use Rattle.step_core.specs.Sound.{Sound, Sees}
+use Rattle.fixed_bellman.specs.Given.{IsFree, Gives}
 use Rattle.step_core.proofs.Sights.{value_at-here, value_at-else, value_at-rises, Sees-raised, Sees-looked, Sees-won, Sees-both, greater_words-at}
 use Rattle.step_core.proofs.Words.{Sound-goals, Sound-units, Sound-won, Sound-opening, Sees-itself}
 use Rattle.value_words.specs.declared.rule.Sight.{Sight}

@@ -17,7 +17,7 @@ pub use rule::{Posing, Sight};
 pub use table::{ValueTable, Words};
 
 /// A table may be shared among threads, and a pass may be handed on to one.
-fn crosses_threads<P: Posing>(table: &ValueTable<'_, P>, pass: &Pass<P>) {
+fn crosses_threads<P: Posing + Send + Sync>(table: &ValueTable<'_, P>, pass: &Pass<P>) {
     shares(table);
     hands_on(pass);
 }

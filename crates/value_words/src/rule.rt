@@ -4,7 +4,7 @@ use std::collections::LinkedList;
 use std::marker::{Brand, PhantomData};
 
 /// Names the question of a table, for contracts alone. Each call of a program picks one.
-pub trait Posing: Send + Sync {
+pub trait Posing {
     ghost use Rattle.game_model.specs.Query.{Query};
 
     ghost posed: { Query };

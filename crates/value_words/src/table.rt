@@ -1,19 +1,18 @@
 // The table, and its steps.
 ghost use Rattle.std.specs.Prelude.{◌≡◌, ◌≢◌, ℕ, ◌+◌, ◌*◌, ◌<◌, ◌≤◌, ◌⊎◌, true, false, length, slice_index, slice_set, All, IfOk, MatchBool};
-ghost use Rattle.game_model.specs.declared.game.Side.TheVariants.{Max, Min};
-ghost use Rattle.game_model.specs.Game.{choices_of, choice_of};
-ghost use Rattle.game_model.specs.Query.{Query, IsQuery, states, side_at, is_goal, is_dead};
-ghost use Rattle.game_model.specs.Values.{weighted_sum};
+ghost use Rattle.game_model.specs.Query.{Query, IsQuery, states, is_goal, is_dead};
 ghost use Rattle.game_model.specs.Limits.{unit};
-ghost use Rattle.game_model.specs.Rounded.{down_value, down_step};
+ghost use Rattle.game_model.specs.Rounded.{down_step};
 ghost use Rattle.step_core.specs.Word.{choice_space, value_in, choice_in, value_at, opening_words, greater_words};
-ghost use Rattle.step_core.specs.Sound.{IsFree, Gives, Sound, Sees};
+ghost use Rattle.step_core.specs.Sound.{Sound, Sees};
+ghost use Rattle.fixed_bellman.specs.Given.{IsFree, Gives};
 ghost use Rattle.std.specs.Mem.Slots.{IsFull, slots_items};
 
 use crate::pass::Pass;
 use crate::rule::{Exchanging, Loading, Posing, Rising, Sharing, Sight};
 use atomic_table::{Closed, Table, TableRule};
-use game_model::{Question, Side, UNIT};
+use fixed_bellman::{Values, step_above};
+use game_model::Question;
 use game_outside::OutOfMemory;
 use std::alloc::Global;
 use std::marker::{Model, PhantomData};
@@ -188,100 +187,6 @@ impl<'q, P: Posing> ValueTable<'q, P> {
             .load::<Loading>(&mut pass.seat, state as usize)
     }
 
-    // The weighted sum of a choice, over the words as they are loaded.
-    fn weighted_sum(&self, pass: &mut Pass<P>, state: u32, choice: u32) -> u128
-        requires pass { IsOf self.now pass.old }
-        requires state { state < states P.posed }
-        requires choice { choice < length (choices_of P.posed.game state) }
-        ensures grew { Grew pass.old pass.new }
-        ensures won { won_by pass.new ≡ won_by pass.old }
-        ensures low { weighted_sum (seen_by pass.old) (choice_of P.posed.game state choice).edges ≤ result }
-        ensures high { result ≤ weighted_sum (seen_by pass.new) (choice_of P.posed.game state choice).edges }
-        ensures units { result ≤ (choice_of P.posed.game state choice).total * unit }
-    {
-        let game = self.question.game();
-        let mut sum: u128 = 0;
-        for edge in game.edges(state, choice) {
-            let value = value_of(self.load(pass, edge.to));
-            sum += edge.weight * u128::from(value);
-        }
-        sum
-    }
-
-    // The greatest value of the choices of a state and the first choice that gives it, where it is above
-    // `least`; else `least`. It divides only for a gain.
-    fn greatest_above(&self, pass: &mut Pass<P>, state: u32, least: u64) -> (u64, u32)
-        requires pass { IsOf self.now pass.old }
-        requires state { state < states P.posed }
-        requires units { least ≤ unit }
-        ensures grew { Grew pass.old pass.new }
-        ensures won { won_by pass.new ≡ won_by pass.old }
-        ensures least { least ≤ result.0 }
-        ensures units { result.0 ≤ unit }
-        ensures low { (c : ℕ) → c < length (choices_of P.posed.game state) → down_value (seen_by pass.old) (choice_of P.posed.game state c) ≤ result.0 }
-        ensures given { least < result.0 → (result.1 < length (choices_of P.posed.game state)) × (result.0 ≤ down_value (seen_by pass.new) (choice_of P.posed.game state result.1)) }
-    {
-        let game = self.question.game();
-        let mut best = least;
-        let mut first = 0;
-        for choice in 0..game.choices_of(state) {
-            let sum = self.weighted_sum(pass, state, choice);
-            let total = game.total(state, choice);
-            if sum >= (u128::from(best) + 1) * total {
-                best = (sum / total) as u64;
-                first = choice;
-            }
-        }
-        (best, first)
-    }
-
-    // The least value of the choices of a state, where it is above `least`; else `least`. It ends at the
-    // first choice that is not above.
-    fn least_above(&self, pass: &mut Pass<P>, state: u32, least: u64) -> u64
-        requires pass { IsOf self.now pass.old }
-        requires state { state < states P.posed }
-        requires units { least ≤ unit }
-        ensures grew { Grew pass.old pass.new }
-        ensures won { won_by pass.new ≡ won_by pass.old }
-        ensures least { least ≤ result }
-        ensures units { result ≤ unit }
-        ensures low { (c : ℕ) × (c < length (choices_of P.posed.game state)) × (down_value (seen_by pass.old) (choice_of P.posed.game state c) ≤ result) }
-        ensures given { least < result → (c : ℕ) → c < length (choices_of P.posed.game state) → result ≤ down_value (seen_by pass.new) (choice_of P.posed.game state c) }
-    {
-        let game = self.question.game();
-        let mut best = UNIT;
-        for choice in 0..game.choices_of(state) {
-            let sum = self.weighted_sum(pass, state, choice);
-            let total = game.total(state, choice);
-            if sum < (u128::from(least) + 1) * total {
-                return least;
-            }
-            if sum < u128::from(best) * total {
-                let value = sum / total;
-                best = value as u64;
-            }
-        }
-        best
-    }
-
-    // The step of a state over the words and the choice for it, where it is above `least`; else `least`.
-    fn step_above(&self, pass: &mut Pass<P>, state: u32, least: u64) -> (u64, u32)
-        requires pass { IsOf self.now pass.old }
-        requires state { state < states P.posed }
-        requires free { IsFree P.posed state }
-        requires units { least ≤ unit }
-        ensures grew { Grew pass.old pass.new }
-        ensures won { won_by pass.new ≡ won_by pass.old }
-        ensures units { result.0 ≤ unit }
-        ensures low { down_step P.posed (seen_by pass.old) state ≤ result.0 }
-        ensures given { least < result.0 → Gives P.posed (seen_by pass.new) state result.0 result.1 × (result.1 < choice_space) }
-    {
-        match self.question.side(state) {
-            Side::Max => self.greatest_above(pass, state, least),
-            Side::Min => (self.least_above(pass, state, least), 0),
-        }
-    }
-
     // Tries to exchange the word that the pass has seen for one of greater value.
     fn exchange(&self, pass: &mut Pass<P>, state: u32, from: u64, to: u64) -> u64
         requires pass { IsOf self.now pass.old }
@@ -330,12 +235,40 @@ impl<'q, P: Posing> ValueTable<'q, P> {
         ensures won { MatchBool result (won_by pass.new ≡ won_by pass.old + 1) (won_by pass.new ≡ won_by pass.old) }
     {
         let least = value_of(self.load(pass, state));
-        let (value, choice) = self.step_above(pass, state, least);
+        let (value, choice) = step_above(self.question, self, pass, state, least);
         if value <= least {
             return false;
         }
         self.exchange_up(pass, state, pack(value, choice))
     }
+}
+
+// What a kernel of steps reads: the words as they are loaded.
+impl<'q, P: Posing> Values for ValueTable<'q, P> {
+    ghost use Rattle.std.proofs.Common.{refl, ◌∙◌, le_refl, le_trans};
+    ghost use Rattle.value_words.specs.Passes.{IsOf, Grew, seen_by, won_by};
+
+    type Pass = Pass<P>;
+
+    ghost fits = { λ table pass s. IsOf table pass × (s < states P.posed) };
+
+    ghost seen = { λ _ pass. seen_by pass };
+
+    ghost onward = { λ _ old new. Grew old new × (won_by new ≡ won_by old) };
+
+    fn value(&self, pass: &mut Pass<P>, state: u32) -> u64 {
+        value_of(self.load(pass, state))
+    }
+
+    ghost still = { λ _ a. (record { table = refl; up = λ s. le_refl (seen_by a s) }, refl) };
+
+    ghost further = { λ _ a b c h k. (record { table = k.0.table ∙ h.0.table; up = λ s. le_trans (h.0.up s) (k.0.up s) }, k.1 ∙ h.1) };
+
+    ghost carried = { λ _ _ _ _ h k. (h.0.table ∙ k.0, k.1) };
+
+    ghost rises = { λ _ a b h s. h.0.up s };
+
+    ghost units = { λ _ a s k. a.units s k.1 };
 }
 
 // The words that a closed table holds.

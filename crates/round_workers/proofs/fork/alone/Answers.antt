@@ -4,7 +4,7 @@ use Rattle.round_workers.proofs.Shares.{first_of-rises, first_of-all}
 use Rattle.round_workers.proofs.fork.alone.Goals as goal
 
 pub sweep-requires-clause-inside : goal.sweep-requires-clause-inside
-sweep-requires-clause-inside g c κs within =
+sweep-requires-clause-inside g c =
     let workers : ℕ = c.args.workers in
     let some : 0 < workers = let r = c.requires.worker in omega arith in
     let n : ℕ = c.states-states.result in

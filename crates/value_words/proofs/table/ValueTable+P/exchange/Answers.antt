@@ -1,7 +1,7 @@
 use Rattle.std.proofs.Common.{◌<◌, length, get_or, sym, subst, ap, ◌∙◌, le_trans}
 use Rattle.std.proofs.lemmas.List.{get_or-set_same}
 use Rattle.step_core.specs.Word.{value_in, choice_in, value_at}
-use Rattle.step_core.proofs.Tables.{Gives-units}
+use Rattle.fixed_bellman.proofs.Tables.{Gives-units}
 use Rattle.step_core.proofs.Sights.{value_at-here}
 use Rattle.value_words.proofs.Moves.{exchange-allowed, saw-empty, saw-live, saw-as_many, saw-rises, saw-units}
 use Rattle.value_words.proofs.table.ValueTable+P.exchange.Goals as goal

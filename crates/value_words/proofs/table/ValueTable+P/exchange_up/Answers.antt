@@ -1,6 +1,6 @@
 use Rattle.std.proofs.Common.{◌∙◌}
 use Rattle.step_core.specs.Word.{value_in, choice_in}
-use Rattle.step_core.proofs.Tables.{Gives-rises}
+use Rattle.fixed_bellman.proofs.Tables.{Gives-rises}
 use Rattle.value_words.specs.Passes.{seen_by}
 use Rattle.value_words.proofs.Grown.{grew-twice}
 use Rattle.value_words.proofs.table.ValueTable+P.exchange_up.Goals as goal

@@ -1,6 +1,6 @@
 use Rattle.std.proofs.Common.{◌≡◌, ◌-◌, slice_index}
 use Rattle.step_core.specs.Word.{value_in, choice_in}
-use Rattle.step_core.specs.Sound.{Gives}
+use Rattle.fixed_bellman.specs.Given.{Gives}
 use Rattle.value_words.specs.Passes.{Grew, seen_by, words_seen, won_by}
 use Rattle.value_words.proofs.table.ValueTable+P.exchange_up.Given as goal
 

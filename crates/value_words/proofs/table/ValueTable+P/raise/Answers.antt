@@ -1,25 +1,33 @@
-use Rattle.std.proofs.Common.{arith}
+use Rattle.std.proofs.Common.{ℕ, ◌≤◌, subst, arith}
+use Rattle.game_model.specs.Query.{Query}
+use Rattle.game_model.specs.Rounded.{down_step}
+use Rattle.value_words.specs.Passes.{seen_by}
 use Rattle.value_words.proofs.Grown.{step-rises}
 use Rattle.value_words.proofs.table.ValueTable+P.raise.Goals as goal
 
 pub returns-then-value-least-clause-step : goal.returns-then-value-least-clause-step
 returns-then-value-least-clause-step g c =
+    let s : ℕ = c.args.state in
+    let e = c.step_above-value.ensures in
+    let low : down_step g.P.Posing.posed (seen_by c.load.new.pass) s ≤ c.step_above-value.result.0 = subst (λ (q : Query). down_step q (seen_by c.load.new.pass) s ≤ c.step_above-value.result.0) c.args.self.now.is e.step.low in
     omega (
       arith,
-      step-rises g.P.Posing.posed c.args.pass.now.seat c.load.new.pass.seat c.args.state c.args.self.now.posed c.load.ensures.grew,
-      c.step_above-value.ensures.low,
+      step-rises g.P.Posing.posed c.args.pass.now.seat c.load.new.pass.seat s c.args.self.now.posed c.load.ensures.grew,
+      low,
       c.if-value-least.true,
       c.value_of-least.ensures,
       c.load.ensures.value,
-      c.step_above-value.ensures.grew.up c.args.state,
+      e.onward.0.up s,
     )
 
 pub returns-clause-step : goal.returns-clause-step
 returns-clause-step g c =
+    let s : ℕ = c.args.state in
+    let low : down_step g.P.Posing.posed (seen_by c.load.new.pass) s ≤ c.step_above-value.result.0 = subst (λ (q : Query). down_step q (seen_by c.load.new.pass) s ≤ c.step_above-value.result.0) c.args.self.now.is c.step_above-value.ensures.step.low in
     omega (
       arith,
-      step-rises g.P.Posing.posed c.args.pass.now.seat c.load.new.pass.seat c.args.state c.args.self.now.posed c.load.ensures.grew,
-      c.step_above-value.ensures.low,
+      step-rises g.P.Posing.posed c.args.pass.now.seat c.load.new.pass.seat s c.args.self.now.posed c.load.ensures.grew,
+      low,
       c.exchange_up.ensures.reached,
       c.pack.ensures.value,
     )

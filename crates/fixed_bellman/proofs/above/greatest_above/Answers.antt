@@ -1,0 +1,51 @@
+use Rattle.std.proofs.Common.{◌≡◌, ℕ, ◌<◌, ◌≤◌, length, refl, arith}
+use Rattle.game_model.specs.Game.{choices_of}
+use Rattle.fixed_bellman.specs.Quotients.{rounded_down}
+use Rattle.fixed_bellman.proofs.Between.{at-choice, not-less, value-new, low-gains, given-later}
+use Rattle.fixed_bellman.proofs.above.greatest_above.Goals as goal
+use Rattle.fixed_bellman.proofs.above.greatest_above.Goals.{then-down_above, else-down_above}
+
+pub quotient-given-requires-clause-fits : goal.quotient-given-requires-clause-fits
+quotient-given-requires-clause-fits g c s inside = g.met.V.Values.carried c.args.values.now c.args.pass.now c.loop-choice.pass s c.loop-choice.invariant.onward (c.requires.fits s inside)
+
+pub loop-choice-preserved : goal.loop-choice-preserved
+loop-choice-preserved g c =
+    let laws = g.met.V.Values in
+    let values = c.args.values.now in
+    let seen = g.V.Values.seen values in
+    let q = c.args.question.now in
+    let s : ℕ = c.args.state in
+    let i : ℕ = c.loop-choice.choice in
+    let best : ℕ = c.loop-choice.best in
+    let start = c.args.pass.now in
+    let middle = c.loop-choice.pass in
+    let end = c.quotient-given.new.pass in
+    let r = c.quotient-given.result in
+    let h = c.loop-choice.invariant in
+    let e = c.quotient-given.ensures in
+    let chosen : i < length (choices_of q.game s) = at-choice _ _ s _ i c.game.ensures c.choices_of-choice-end.ensures c.loop-choice-test.true in
+    let earlier = laws.rises values start middle h.onward in
+    let later = laws.rises values middle end e.onward in
+    elim c.if-down_above.branch [
+      | then-down_above w ↦
+          let gain : best < rounded_down r = w.if-down_above.ensures.0 refl in
+          let is : w.down-best.result ≡ rounded_down r = w.down-best.ensures.value in
+          rw (w.best-is, w.first-is) (record {
+            onward = laws.further values start middle end h.onward e.onward;
+            units = w.down-best.ensures.units;
+            inside = chosen;
+            low = low-gains q s i r (seen start) (seen middle) (seen end) c.known.ensures c.requires.state chosen e.between earlier later best w.down-best.result h.low (omega arith) (omega arith);
+            given = λ _. rw is (value-new q s i r (seen start) (seen middle) (seen end) c.known.ensures c.requires.state chosen e.between earlier later);
+            first = λ d below. omega (arith, h.low d below);
+          })
+      | else-down_above w ↦
+          let stays : rounded_down r ≤ best = not-less best (rounded_down r) w.if-down_above.ensures.1 in
+          rw (w.best-is, w.first-is) (record {
+            onward = laws.further values start middle end h.onward e.onward;
+            units = h.units;
+            inside = h.inside;
+            low = low-gains q s i r (seen start) (seen middle) (seen end) c.known.ensures c.requires.state chosen e.between earlier later best best h.low (omega arith) stays;
+            given = λ above. given-later q s i r (seen start) (seen middle) (seen end) c.known.ensures c.requires.state chosen e.between earlier later c.loop-choice.first best h.inside (h.given above);
+            first = h.first;
+          })
+    ]

@@ -1,7 +1,0 @@
-use Rattle.std.proofs.Common.{◌≡◌, take}
-use Rattle.std.specs.Prelude.{slice_index}
-use Rattle.game_model.specs.Values.{weighted_sum}
-use Rattle.fixed_bellman.proofs.sum.weighted_sum_of.Given as goal
-
-abbrev pub invariant-loop-edge : goal.invariant-loop-edge
-invariant-loop-edge l = l.sum ≡ weighted_sum (slice_index l.table) (take l.edge-index l.edges)

@@ -1,0 +1,17 @@
+-- What a quotient is, rounded down and up.
+use Rattle.std.specs.Prelude.{◌≡◌, ℕ, ◌+◌, ◌-◌, ◌/◌, ◌≤◌}
+use Rattle.game_model.specs.Game.{Distribution}
+use Rattle.game_model.specs.Values.{weighted_sum}
+use Rattle.fixed_bellman.specs.declared.quotient.Quotient.{Quotient}
+
+abbrev pub rounded_down : Quotient → ℕ
+rounded_down q = q.sum / q.total
+
+abbrev pub rounded_up : Quotient → ℕ
+rounded_up q = (q.sum + (q.total - 1)) / q.total
+
+-- the value of a choice, between those over two tables
+pub record IsBetween (q : Quotient) (old new : ℕ → ℕ) (choice : Distribution) : Type 0 where
+  pub low : weighted_sum old choice.edges ≤ q.sum
+  pub high : q.sum ≤ weighted_sum new choice.edges
+  pub total : q.total ≡ choice.total

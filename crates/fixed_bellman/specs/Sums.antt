@@ -1,0 +1,21 @@
+-- Weighted sums over values that may rise while they are read.
+use Rattle.std.specs.Prelude.{ℕ, ◌*◌, ◌≤◌, List, [], ◌∷◌, sum_by}
+use Rattle.game_model.specs.declared.game.Edge.{Edge}
+use Rattle.game_model.specs.Limits.{unit}
+use Rattle.game_model.specs.Values.{weighted_sum}
+
+-- the edges with these successors and weights
+abbrev pub edges_of : List ℕ → List ℕ → List Edge
+edges_of [] weights = []
+edges_of (successor ∷ successors) [] = []
+edges_of (successor ∷ successors) (weight ∷ weights) = record { to = successor; weight = weight } ∷ edges_of successors weights
+
+-- the sum of their weights
+abbrev pub weight_of_all : List ℕ → List ℕ → ℕ
+weight_of_all successors weights = sum_by (λ e. e.weight) (edges_of successors weights)
+
+-- a weighted sum of units, between those over two tables
+pub record IsSumBetween (edges : List Edge) (old new : ℕ → ℕ) (sum : ℕ) : Type 0 where
+  pub low : weighted_sum old edges ≤ sum
+  pub high : sum ≤ weighted_sum new edges
+  pub whole : sum ≤ sum_by (λ e. e.weight) edges * unit

@@ -1,0 +1,83 @@
+//! The value of a choice before it is rounded.
+
+ghost use Rattle.std.specs.Prelude.{◌≡◌, ℕ, ◌+◌, ◌*◌, ◌^◌, ◌<◌, ◌≤◌, IsTrue, ◌↔◌};
+ghost use Rattle.game_model.specs.Limits.{unit, total_bound};
+
+/// The greatest total whose product with the unit fits 64 bits.
+pub const MOST_NARROW: u128 = 18_446_744;
+
+/// A weighted sum of units over its total. It is compared with no division.
+#[derive(Clone, Copy)]
+pub struct Quotient {
+    sum: u128,
+    total: u128,
+    ghost positive: { 0 < total },
+    ghost whole: { sum ≤ total * unit },
+    ghost small: { total < total_bound },
+}
+
+impl Quotient {
+    ghost use Rattle.fixed_bellman.specs.Quotients.{rounded_down, rounded_up};
+
+    /// The quotient of a sum of units and a total.
+    pub fn new(sum: u128, total: u128) -> Quotient
+        requires positive { 0 < total }
+        requires whole { sum ≤ total * unit }
+        requires small { total < total_bound }
+        ensures sum { result.sum ≡ sum }
+        ensures total { result.total ≡ total }
+    {
+        Quotient { sum, total }
+    }
+
+    /// Rounded down.
+    pub fn down(self) -> u64
+        ensures value { result ≡ rounded_down self }
+        ensures units { result ≤ unit }
+    {
+        if self.total <= MOST_NARROW {
+            return self.sum as u64 / self.total as u64;
+        }
+        (self.sum / self.total) as u64
+    }
+
+    /// Rounded up.
+    pub fn up(self) -> u64
+        ensures value { result ≡ rounded_up self }
+        ensures units { result ≤ unit }
+    {
+        ((self.sum + (self.total - 1)) / self.total) as u64
+    }
+
+    /// Whether it is above a floor, rounded down.
+    pub fn down_above(self, floor: u64) -> bool
+        requires { floor ≤ unit }
+        ensures { IsTrue result ↔ (floor < rounded_down self) }
+    {
+        self.sum >= (u128::from(floor) + 1) * self.total
+    }
+
+    /// Whether it is below a ceiling, rounded down.
+    pub fn down_below(self, ceiling: u64) -> bool
+        requires { ceiling ≤ unit }
+        ensures { IsTrue result ↔ (rounded_down self < ceiling) }
+    {
+        self.sum < u128::from(ceiling) * self.total
+    }
+
+    /// Whether it is above a floor, rounded up.
+    pub fn up_above(self, floor: u64) -> bool
+        requires { floor ≤ unit }
+        ensures { IsTrue result ↔ (floor < rounded_up self) }
+    {
+        self.sum > u128::from(floor) * self.total
+    }
+
+    /// Whether it is below a ceiling, rounded up.
+    pub fn up_below(self, ceiling: u64) -> bool
+        requires { ceiling ≤ unit }
+        ensures { IsTrue result ↔ (rounded_up self < ceiling) }
+    {
+        self.sum + self.total <= u128::from(ceiling) * self.total
+    }
+}
