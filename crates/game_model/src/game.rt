@@ -170,7 +170,8 @@ impl Game {
     /// How many choices the states below this one have together; with the number of states, how many there are.
     pub fn choices_below(&self, state: u32) -> u64
         requires { state ≤ length self.now }
-        ensures { result ≡ choices_below self.now state }
+        ensures value { result ≡ choices_below self.now state }
+        ensures small { result < 2 ^ 32 }
     {
         u64::from(self.first_choice[state as usize])
     }
@@ -178,7 +179,8 @@ impl Game {
     /// How many edges the states below this one have together; with the number of states, how many there are.
     pub fn edges_below(&self, state: u32) -> u64
         requires { state ≤ length self.now }
-        ensures { result ≡ edges_below self.now state }
+        ensures value { result ≡ edges_below self.now state }
+        ensures small { result < 2 ^ 32 }
     {
         u64::from(self.first_edge[self.first_choice[state as usize] as usize])
     }

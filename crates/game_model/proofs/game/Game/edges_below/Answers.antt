@@ -22,8 +22,8 @@ index-requires-2 c =
       read c.self.inside.first_choice.items _ _ inside c.index.ensures,
     )
 
-pub returns : goal.returns
-returns c =
+pub returns-clause-value : goal.returns-clause-value
+returns-clause-value c =
     let some : 0 < length c.self.inside.first_choice.items = c.self.invariant.laid_out.states.some in
     let inside : c.args.state < length c.self.inside.first_choice.items = omega (arith, states-count _ _ _ _ _ _ _ c.self.view_is) in
     let first : c.index.result.now ≡ slice_index c.self.inside.first_choice.items c.args.state = read c.self.inside.first_choice.items _ _ inside c.index.ensures in
