@@ -6,13 +6,15 @@ ghost use Rattle.game_model.specs.Rounded.{down_step};
 ghost use Rattle.value_words.specs.Passes.{IsOf, Grew, seen_by, won_by};
 ghost use Rattle.round_workers.specs.Share.{IsPart, most_workers};
 
-use crate::sweep::{Rounded, first_state, meet, sweep};
+use crate::share::first_state;
+use crate::sweep::{Rounded, meet, sweep};
 use game_outside::Gate;
 use std::thread::{Threads, join};
 use value_words::{Pass, Posing, ValueTable};
 
-/// One round: each worker updates the states of its range, in rising order, and passes the gate before
-/// each. Worker w of W begins at state w * n / W, rounded down.
+/// One round: each worker updates its states, in rising order, and passes the gate before
+/// each. Worker w of W has the states of which the edges below them, times W and over all edges, come to w
+/// when rounded down.
 pub fn round<R: Threads + Sync, P: Posing + Send + Sync, G: Gate + Sync>(
     rt: &R,
     table: &ValueTable<'_, P>,
@@ -77,9 +79,8 @@ fn alone<P: Posing, G: Gate>(
     requires few { workers ≤ most_workers }
     ensures { IsPart P.posed workers worker (worker + 1) pass result.pass result.raises }
 {
-    table.question().known();
-    let states = table.question().game().states();
-    let from = first_state(states, workers, worker);
-    let to = first_state(states, workers, worker + 1);
+    let game = table.question().game();
+    let from = first_state(game, workers, worker);
+    let to = first_state(game, workers, worker + 1);
     sweep(table, pass, worker, from, to, gate)
 }

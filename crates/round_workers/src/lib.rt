@@ -1,6 +1,7 @@
 //! One round over all states of a question, by several workers that race on the shared words.
 //!
-//! [`round`] cuts the states into one range for each worker. Each worker updates its range in rising order
+//! [`round`] cuts the states into one block for each worker, with about as many edges each ([`worker_of`]).
+//! Each worker updates its block in rising order
 //! (asynchronous value iteration: Bertsekas, Distributed dynamic programming, 1982). The work is forked and
 //! joined by halves of the workers; one worker costs no thread. What a round ensures holds for every
 //! schedule: at each state at least the down step of what was seen before is seen after. Nothing is said of
@@ -8,7 +9,10 @@
 #![tactic(auto)]
 
 mod fork;
+pub mod laws;
+mod share;
 mod sweep;
 
 pub use fork::round;
-pub use sweep::{MOST_WORKERS, Rounded};
+pub use share::{MOST_WORKERS, first_state, worker_of};
+pub use sweep::Rounded;

@@ -1,15 +1,11 @@
 //! One worker's part of a round.
 ghost use Rattle.std.specs.Prelude.{◌≡◌, ℕ, ◌+◌, ◌-◌, ◌^◌, ◌<◌, ◌≤◌};
 ghost use Rattle.game_model.specs.Query.{states};
-ghost use Rattle.game_model.specs.Limits.{most_states};
 ghost use Rattle.value_words.specs.Passes.{IsOf, Grew, seen_by, won_by};
-ghost use Rattle.round_workers.specs.Share.{first_of, IsSwept};
+ghost use Rattle.round_workers.specs.Share.{IsSwept};
 
 use game_outside::Gate;
 use value_words::{Pass, Posing, ValueTable};
-
-/// The most workers of a round.
-pub const MOST_WORKERS: u32 = 64;
 
 /// What is left after a round: the pass, and how many exchanges it won in the round.
 #[derive(Drop)]
@@ -18,16 +14,6 @@ pub struct Rounded<P: Posing> {
     pub pass: Pass<P>,
     /// How many exchanges the workers won.
     pub raises: u64,
-}
-
-/// The first state of a worker; of the worker past the last, how many states there are.
-pub fn first_state(states: u32, workers: u32, worker: u32) -> u32
-    requires some { 0 < workers }
-    requires few { states ≤ most_states }
-    requires worker { worker ≤ workers }
-    ensures { result ≡ first_of states workers worker }
-{
-    (u64::from(worker) * u64::from(states) / u64::from(workers)) as u32
 }
 
 /// Updates the states from `from` up to and not including `to`, in rising order.

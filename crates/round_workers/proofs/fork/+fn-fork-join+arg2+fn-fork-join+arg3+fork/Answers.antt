@@ -1,19 +1,14 @@
 use Rattle.std.proofs.Common.{ℕ, ◌+◌, ◌-◌, ◌/◌, arith}
-use Rattle.game_model.specs.Query.{states}
-use Rattle.round_workers.specs.Share.{first_of}
-use Rattle.round_workers.proofs.Shares.{first_of-rises, parts-meet}
+use Rattle.round_workers.proofs.Parts.{parts-meet}
 use Rattle.round_workers.proofs.fork.+fn-fork-join+arg2+fn-fork-join+arg3+fork.Goals as goal
 
 pub returns : goal.returns
 returns g t c =
-    let n : ℕ = states g.P.Posing.posed in
     let first : ℕ = c.args.first in
     let last : ℕ = c.args.last in
-    let workers : ℕ = c.args.workers in
     let middle : ℕ = first + (last - first) / 2 in
     let r = c.requires.range in
     let p = c.split-other.ensures in
     let m = c.meet.ensures in
-    parts-meet g.P.Posing.posed (first_of n workers first) (first_of n workers middle) (first_of n workers last) c.args.pass.seat c.split-other.new.pass.seat c.split-other.result.seat _ _ c.meet.result.pass.seat _ _ c.meet.result.raises
-    p.grew p.seen p.won p.new.1 p.new.2 c.join-left.ensures.first c.join-left.ensures.second m.left m.right m.won m.raises
-    (first_of-rises n workers first middle (omega arith) (omega arith)) (first_of-rises n workers middle last (omega arith) (omega arith))
+    parts-meet g.P.Posing.posed c.args.workers first middle last c.args.pass.seat c.split-other.new.pass.seat c.split-other.result.seat _ _ c.meet.result.pass.seat _ _ c.meet.result.raises
+    p.grew p.seen p.won p.new.1 p.new.2 c.join-left.ensures.first c.join-left.ensures.second m.left m.right m.won m.raises (omega arith) (omega arith)

@@ -1,13 +1,15 @@
-use Rattle.std.proofs.Common.{◌≡◌, ◌<◌, ℕ, ◌+◌, length, ap, ◌∙◌, arith}
+use Rattle.std.proofs.Common.{◌≡◌, ◌<◌, ℕ, ◌+◌, List, length, ap, ◌∙◌, sym, subst, arith}
+use Rattle.game_model.specs.Game.{Distribution}
 use Rattle.game_model.specs.Query.{Query, states}
-use Rattle.round_workers.proofs.Shares.{first_of-rises, first_of-all}
+use Rattle.round_workers.specs.Share.{BeginsBlock}
+use Rattle.round_workers.proofs.Parts.{one-worker, block-follows}
 use Rattle.round_workers.proofs.fork.alone.Goals as goal
 
-pub sweep-requires-clause-inside : goal.sweep-requires-clause-inside
-sweep-requires-clause-inside g c =
-    let workers : ℕ = c.args.workers in
-    let some : 0 < workers = let r = c.requires.worker in omega arith in
-    let n : ℕ = c.states-states.result in
-    let is : n ≡ states g.P.Posing.posed = c.states-states.ensures ∙ ap length c.game.ensures ∙ ap (λ (q : Query). states q) c.question-2.ensures in
-    let r = c.requires.worker in
-    omega (arith, c.first_state-to.ensures, first_of-rises n workers (c.args.worker + 1) workers some (omega arith), first_of-all n workers some, is)
+pub returns : goal.returns
+returns g c =
+    let q : Query = g.P.Posing.posed in
+    let same : c.game-game.result.now ≡ q.game = c.game-game.ensures ∙ ap (λ (q : Query). q.game) c.question.ensures in
+    one-worker q c.args.workers c.args.worker c.first_state-from.result c.first_state-to.result c.args.pass.seat c.sweep.result.pass.seat c.sweep.result.raises
+    (subst (λ (game : List (List Distribution)). BeginsBlock game c.args.workers c.args.worker c.first_state-from.result) same c.first_state-from.ensures)
+    (subst (λ (game : List (List Distribution)). BeginsBlock game c.args.workers (c.args.worker + 1) c.first_state-to.result) same c.first_state-to.ensures)
+    c.sweep.ensures
