@@ -128,32 +128,11 @@ fn busy_workers(question: &Question<'_>, workers: u32) -> u32
     if workers == 1 {
         return 1;
     }
-    let worth = edge_count(question) / EDGES_FOR_A_WORKER + 1;
+    let game = question.game();
+    let worth = game.edges_below(game.states()) / EDGES_FOR_A_WORKER + 1;
     if worth < u64::from(workers) {
         worth as u32
     } else {
         workers
     }
-}
-
-// How many edges a game has.
-fn edge_count(question: &Question<'_>) -> u64 {
-    let game = question.game();
-    let mut count: u64 = 0;
-    for state in 0..game.states() {
-        count = count.saturating_add(edge_count_at(question, state));
-    }
-    count
-}
-
-// How many edges the choices of a state have.
-fn edge_count_at(question: &Question<'_>, state: u32) -> u64
-    requires { state < states question.now }
-{
-    let game = question.game();
-    let mut count: u64 = 0;
-    for choice in 0..game.choices_of(state) {
-        count = count.saturating_add(game.edges(state, choice).len() as u64);
-    }
-    count
 }
