@@ -1,31 +1,30 @@
--- The limits, under the names that definitions and lemmas cite.
-use Rattle.std.specs.Prelude.{ℕ}
-use Rattle.distributions.specs.declared.limits.TheConstants.{FINEST, MOST_VALUE, MOST_DIGITS, MOST_EXPONENT, MOST_EXPONENT_DIGITS, MOST_PARTS, TOLERANCE}
+-- The limits of numbers and choices.
+use Rattle.std.specs.Prelude.{ℕ, ◌^◌}
 
--- the greatest denominator
+-- the greatest denominator, of a fraction and of a choice: a sum of weights over it fits 128 bits
 abbrev pub finest : ℕ
-finest = FINEST
+finest = 10 ^ 24
 
--- the greatest value of a fraction
+-- times 1, the greatest value of a fraction: one above 1 may be rounded, so the sum of its choice decides
 abbrev pub most_value : ℕ
-most_value = MOST_VALUE
+most_value = 2
 
--- the most digits of a number
+-- digits of a decimal without its exponent, and of each side of a fraction: such a number fits 128 bits
 abbrev pub most_digits : ℕ
-most_digits = MOST_DIGITS
+most_digits = 30
 
--- the most digits of an exponent
+-- digits of an exponent, leading zeros included
 abbrev pub most_exponent_digits : ℕ
-most_exponent_digits = MOST_EXPONENT_DIGITS
+most_exponent_digits = 3
 
--- how far an exponent is from 0 at most
+-- powers of ten: how far an exponent is from 0, so that what is far out of range is named before it is computed
 abbrev pub most_exponent : ℕ
-most_exponent = MOST_EXPONENT
+most_exponent = 99
 
--- the most parts of a choice
+-- parts of a choice: as many as a transition text has lines at most
 abbrev pub most_parts : ℕ
-most_parts = MOST_PARTS
+most_parts = 8000000
 
--- the sum of a distribution misses 1 by at most one part in this many
+-- one part in this many: how far a sum of decimals, which may be rounded, misses 1
 abbrev pub tolerance : ℕ
-tolerance = TOLERANCE
+tolerance = 100000

@@ -14,6 +14,7 @@
 mod gate;
 mod held;
 mod hold_gate;
+pub mod laws;
 mod memory_shelf;
 mod memory_sink;
 mod name;

@@ -2,6 +2,7 @@
 ghost use Rattle.std.specs.Prelude.{◌≡◌, ◌↔◌, ◌<◌, ◌≤◌, ℕ, Bool, true, List, length, IfOk, OnOk, OnErr, IsOk, IsErrOf, Option, min, ◌+◌, ◌^◌, MatchResult, ◌⊎◌};
 ghost use Rattle.std.specs.Io.{ReadsAtMost};
 ghost use Rattle.std.specs.Io.KnownBytes.{ReadConsumes};
+ghost use Rattle.game_outside.specs.Limits.{piece_size};
 ghost use Rattle.game_outside.specs.Outside.{Holding, Rose, HasCause, IsHeldAs, IsHeldLonger, Holds, Begins, IsEmptyRest, taken_after};
 
 use crate::Failed;
@@ -61,9 +62,10 @@ pub enum ReadEnd {
     TooLong,
 }
 
-const PIECE: usize = 4096;
+/// The most bytes that `read_all` takes in one call.
+pub const PIECE: usize = 4096;
 
-/// All bytes that are held under the name, at most `limit` of them. It takes at most the limit and one piece.
+/// All bytes that are held under the name, at most `limit` of them.
 #[tactic(auto, using(crate::proofs::Streams::longer))]
 pub fn read_all<H: Shelf>(
     alloc: Global,
@@ -83,6 +85,9 @@ pub fn read_all<H: Shelf>(
     ensures too_long { IsErrOf result ReadEnd.TooLong → limit < H.taken shelf.new }
     ensures too_long_held { IsErrOf result ReadEnd.TooLong → IsHeldLonger (H.held shelf.old) name.now limit }
     ensures only_too_long { limit < H.taken shelf.new → IsErrOf result ReadEnd.TooLong ⊎ IsErrOf result ReadEnd.OutOfMemory }
+
+    // It takes at most the limit and one piece.
+    ensures taken { H.taken shelf.new ≤ limit + piece_size }
 
     // What the shelf holds stays, and its count never falls.
     ensures later { H.faults shelf.old ≤ H.faults shelf.new }

@@ -1,7 +1,15 @@
-// What the definitions of lines, fields and numbers come to. Each function does nothing; its contract is the law.
+//! What the definitions of lines, fields and numbers come to. Each function does nothing; its contract is the law.
 ghost use Rattle.std.specs.Prelude.{◌≡◌, ◌<◌, ◌^◌, ◌∷◌, ◌++◌, [], ℕ, List, Some, length, decimal, true};
 ghost use Rattle.text_lines.specs.Text.{lines_of, fields_of, number_of, is_blank};
+ghost use Rattle.text_lines.specs.Limits.{most_bytes};
 ghost use Rattle.text_lines.specs.Laws.{HasNo, EndsInNoCr, HasNoBlank};
+
+use crate::MOST_BYTES;
+
+/// The limit of the code is that of the definitions.
+pub fn limits()
+    ensures { MOST_BYTES ≡ most_bytes }
+{}
 
 /// A line is what stands before its ending, LF or CRLF, or before the end of the text. With `lines_of [] ≡ []` these
 /// three determine the lines of every text.

@@ -22,12 +22,11 @@
 #![tactic(auto)]
 
 mod fields;
-mod laws;
+pub mod laws;
 mod lines;
 mod numbers;
 
 pub use fields::first_field;
-pub use laws::{fields_are_parted_by_blanks, lines_end_in_lf_or_crlf, numbers_are_read_back};
 pub use lines::{first_line, only_blank};
 pub use numbers::whole;
 

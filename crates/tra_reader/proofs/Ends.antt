@@ -4,7 +4,7 @@ use Rattle.std.proofs.lemmas.Bool.Decides.{nat_tests}
 use Rattle.std.specs.List.{filter, All}
 use Rattle.std.specs.Option.{option_or}
 use Rattle.text_lines.specs.Text.{is_nil}
-use Rattle.tra_reader.specs.Limits.{most_choices}
+use Rattle.tra_reader.specs.Limits.{most_stated_choices}
 use Rattle.tra_reader.specs.declared.line.Transition.{Transition}
 use Rattle.tra_reader.specs.Lines.{is_of}
 use Rattle.tra_reader.specs.Choices.{transitions_of, choice_end, least_missing, first_gap, of_state}
@@ -14,20 +14,20 @@ use Rattle.tra_reader.proofs.Rows.{same_place}
 
 -- each transition has a small choice
 abbrev pub AreSmall : List Transition → Type 0
-AreSmall ts = All (λ t. t.choice < most_choices) ts
+AreSmall ts = All (λ t. t.choice < most_stated_choices) ts
 
 pub small_more : (t : Transition) (ts : List Transition) → AreSmall (t ∷ ts) → AreSmall ts
 small_more t ts small = λ k d h. small (suc k) d (omega arith)
 
 -- the transitions of a choice are those at its place
-pub of_at : (ts : List Transition) (s k : ℕ) → AreSmall ts → k < most_choices → transitions_of ts s k ≡ filter (has transition_place (place_of s k)) ts
+pub of_at : (ts : List Transition) (s k : ℕ) → AreSmall ts → k < most_stated_choices → transitions_of ts s k ≡ filter (has transition_place (place_of s k)) ts
 of_at [] s k small h = refl
 of_at (t ∷ ts) s k small h = ap₂ (λ b us. cond b (t ∷ us) us) (same_place t.source t.choice s k (small zero t (omega arith)) h) (of_at ts s k (small_more t ts small) h)
 
 high_test : (i c s k : ℕ) → c < 4000000 → 4000000 ≤ k → ((i == s) && (c == k)) ≡ false
 high_test i c s k h g = grind (arith, nat_tests)
 
-pub none_of_high : (ts : List Transition) (s k : ℕ) → AreSmall ts → most_choices ≤ k → transitions_of ts s k ≡ []
+pub none_of_high : (ts : List Transition) (s k : ℕ) → AreSmall ts → most_stated_choices ≤ k → transitions_of ts s k ≡ []
 none_of_high [] s k small h = refl
 none_of_high (t ∷ ts) s k small h = ap (λ b. cond b (t ∷ transitions_of ts s k) (transitions_of ts s k)) (high_test t.source t.choice s k (small zero t (omega arith)) h) ∙ none_of_high ts s k (small_more t ts small) h
 
@@ -103,8 +103,8 @@ has_end ts s = record { none = λ k h. end_none ts s k h; last = λ k e. end_las
 pub above_of : (ts : List Transition) (s k : ℕ) → 0 < length (transitions_of ts s k) → k < choice_end ts s
 above_of ts s k some = elim (cases_lt k (choice_end ts s)) [ inl lt ↦ lt | inr ge ↦ absurd (empty_not_some (transitions_of ts s k) (end_none ts s k ge) some) ]
 
-pub end_small : (ts : List Transition) (s : ℕ) → AreSmall ts → choice_end ts s ≤ most_choices
-end_small ts s small = elim (cases_lt most_choices (choice_end ts s)) [
+pub end_small : (ts : List Transition) (s : ℕ) → AreSmall ts → choice_end ts s ≤ most_stated_choices
+end_small ts s small = elim (cases_lt most_stated_choices (choice_end ts s)) [
   | inr le ↦ le
   | inl gt ↦ absurd (empty_not_some (transitions_of ts s (choice_end ts s - 1)) (none_of_high ts s (choice_end ts s - 1) small (omega (arith, gt))) (end_last ts s (choice_end ts s - 1) (omega (arith, gt))))
 ]

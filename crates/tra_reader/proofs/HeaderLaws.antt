@@ -6,7 +6,7 @@ use Rattle.text_lines.specs.Text.{fields_of, number_of}
 use Rattle.game_model.specs.Limits.{most_states}
 use Rattle.tra_reader.specs.declared.header.Header.{Header}
 use Rattle.tra_reader.specs.declared.fault.TraCause.TheVariants.{OverLimit, NoStates}
-use Rattle.tra_reader.specs.Limits.{most_choices, most_lines}
+use Rattle.tra_reader.specs.Limits.{most_stated_choices, most_lines}
 use Rattle.tra_reader.specs.Lines.{IsHeader, header_numbers, header_checked, mdp_header, dtmc_header, header_said}
 use Rattle.tra_reader.proofs.Decisions.{chosen, ge_from, ge_test, ne_test}
 
@@ -19,30 +19,30 @@ record Accepts (n : ℕ) (c : Option ℕ) (m : ℕ) (header : Header) : Type 0 w
   is : header ≡ record { states = n; choices = c; lines = m }
   some : 0 < n
   few : n ≤ most_states
-  bounded : ForSome c (λ k. k ≤ most_choices)
+  bounded : ForSome c (λ k. k ≤ most_stated_choices)
   short : m ≤ most_lines
 
-bounded_from : (c : Option ℕ) → option_map_or (nat_lt most_choices) c false ≡ false → ForSome c (λ k. k ≤ most_choices)
+bounded_from : (c : Option ℕ) → option_map_or (nat_lt most_stated_choices) c false ≡ false → ForSome c (λ k. k ≤ most_stated_choices)
 bounded_from None e k is = cc
-bounded_from (Some d) e k is = let same : d ≡ k = cc in omega (arith, same, ge_from most_choices d e)
+bounded_from (Some d) e k is = let same : d ≡ k = cc in omega (arith, same, ge_from most_stated_choices d e)
 
-bounded_test : (c : Option ℕ) → ForSome c (λ k. k ≤ most_choices) → option_map_or (nat_lt most_choices) c false ≡ false
+bounded_test : (c : Option ℕ) → ForSome c (λ k. k ≤ most_stated_choices) → option_map_or (nat_lt most_stated_choices) c false ≡ false
 bounded_test None h = refl
-bounded_test (Some d) h = ge_test most_choices d (h d refl)
+bounded_test (Some d) h = ge_test most_stated_choices d (h d refl)
 
 not_nought : (n : ℕ) → (n == 0) ≡ false → 0 < n
 not_nought n e = grind (arith, nat_tests)
 
 checked_found : (n : ℕ) (c : Option ℕ) (m : ℕ) (header : Header) → header_checked n c m ≡ Ok header → Accepts n c m header
 checked_found n c m header e =
-    elim (chosen (nat_lt most_states n || (option_map_or (nat_lt most_choices) c false || nat_lt most_lines m)) (Err OverLimit) (cond (n == 0) (Err NoStates) (Ok (record { states = n; choices = c; lines = m }))) (Ok header) e) [
+    elim (chosen (nat_lt most_states n || (option_map_or (nat_lt most_stated_choices) c false || nat_lt most_lines m)) (Err OverLimit) (cond (n == 0) (Err NoStates) (Ok (record { states = n; choices = c; lines = m }))) (Ok header) e) [
       | inl over ↦ cc over.1
       | inr within ↦
           elim (chosen (n == 0) (Err NoStates) (Ok (record { states = n; choices = c; lines = m })) (Ok header) within.1) [
             | inl none ↦ cc none.1
             | inr some ↦
-                let first = either_false (nat_lt most_states n) (option_map_or (nat_lt most_choices) c false || nat_lt most_lines m) within.0 in
-                let second = either_false (option_map_or (nat_lt most_choices) c false) (nat_lt most_lines m) first.1 in
+                let first = either_false (nat_lt most_states n) (option_map_or (nat_lt most_stated_choices) c false || nat_lt most_lines m) within.0 in
+                let second = either_false (option_map_or (nat_lt most_stated_choices) c false) (nat_lt most_lines m) first.1 in
                 record {
                   is = cc some.1;
                   some = not_nought n some.0;
@@ -53,9 +53,9 @@ checked_found n c m header e =
           ]
     ]
 
-checked_again : (n : ℕ) (c : Option ℕ) (m : ℕ) → 0 < n → n ≤ most_states → ForSome c (λ k. k ≤ most_choices) → m ≤ most_lines → header_checked n c m ≡ Ok (record { states = n; choices = c; lines = m })
+checked_again : (n : ℕ) (c : Option ℕ) (m : ℕ) → 0 < n → n ≤ most_states → ForSome c (λ k. k ≤ most_stated_choices) → m ≤ most_lines → header_checked n c m ≡ Ok (record { states = n; choices = c; lines = m })
 checked_again n c m some few bounded short =
-    ap (λ b. cond (b || (option_map_or (nat_lt most_choices) c false || nat_lt most_lines m)) (Err OverLimit) (cond (n == 0) (Err NoStates) (Ok (record { states = n; choices = c; lines = m })))) (ge_test most_states n few)
+    ap (λ b. cond (b || (option_map_or (nat_lt most_stated_choices) c false || nat_lt most_lines m)) (Err OverLimit) (cond (n == 0) (Err NoStates) (Ok (record { states = n; choices = c; lines = m })))) (ge_test most_states n few)
     ∙ ap (λ b. cond (b || nat_lt most_lines m) (Err OverLimit) (cond (n == 0) (Err NoStates) (Ok (record { states = n; choices = c; lines = m })))) (bounded_test c bounded)
     ∙ ap (λ b. cond b (Err OverLimit) (cond (n == 0) (Err NoStates) (Ok (record { states = n; choices = c; lines = m })))) (ge_test most_lines m short)
     ∙ ap (λ b. cond b (Err NoStates) (Ok (record { states = n; choices = c; lines = m }))) (ne_test n 0 (λ e. omega (arith, e, some)))

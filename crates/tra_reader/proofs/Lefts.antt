@@ -3,7 +3,7 @@ use Rattle.std.proofs.Common.{◌≡◌, ◌∙◌, ◌<◌, ◌≤◌, inl, inr
 use Rattle.std.proofs.lemmas.Bool.Decides.{nat_tests}
 use Rattle.std.proofs.lemmas.List.{nil_from_length, length-take-le}
 use Rattle.std.specs.List.{filter, All}
-use Rattle.tra_reader.specs.Limits.{most_choices}
+use Rattle.tra_reader.specs.Limits.{most_stated_choices}
 use Rattle.tra_reader.specs.declared.line.Transition.{Transition}
 use Rattle.tra_reader.specs.Choices.{transitions_of, choice_end, least_missing}
 use Rattle.tra_reader.specs.Order.{has, From, Rises, run_len, place_of, transition_place, InOrder, IsLeft, IsWithin}
@@ -31,17 +31,17 @@ left_more p p' ts rest is e =
     let behind = behind_run transition_place p rest is.order.above is.order.rises in
     let P : ℕ → Type 0 = λ q. From transition_place q (drop (run_len transition_place p rest) rest) in
     record {
-      order = record { rises = behind.1; above = subst P (sym e) behind.0; small = All-drop (λ t. t.choice < most_choices) (run_len transition_place p rest) rest is.order.small };
+      order = record { rises = behind.1; above = subst P (sym e) behind.0; small = All-drop (λ t. t.choice < most_stated_choices) (run_len transition_place p rest) rest is.order.small };
       keeps = λ q h. run_keeps transition_place p q rest (omega (arith, e, h)) ∙ is.keeps q (omega (arith, e, h));
       within = λ n all. All-drop (IsWithin n) (run_len transition_place p rest) rest (is.within n all);
       shorter = omega (arith, drop_shorter (run_len transition_place p rest) rest, is.shorter);
     }
 
 -- the run at the front is the choice
-pub run_of : (ts rest : List Transition) (s k : ℕ) → AreSmall ts → k < most_choices → IsLeft (place_of s k) ts rest → take (run_len transition_place (place_of s k) rest) rest ≡ transitions_of ts s k
+pub run_of : (ts rest : List Transition) (s k : ℕ) → AreSmall ts → k < most_stated_choices → IsLeft (place_of s k) ts rest → take (run_len transition_place (place_of s k) rest) rest ≡ transitions_of ts s k
 run_of ts rest s k small h is = run_is transition_place (place_of s k) rest is.order.above is.order.rises ∙ is.keeps (place_of s k) (omega arith) ∙ sym (of_at ts s k small h)
 
-pub run_size : (ts rest : List Transition) (s k : ℕ) → AreSmall ts → k < most_choices → IsLeft (place_of s k) ts rest → length (transitions_of ts s k) ≡ run_len transition_place (place_of s k) rest
+pub run_size : (ts rest : List Transition) (s k : ℕ) → AreSmall ts → k < most_stated_choices → IsLeft (place_of s k) ts rest → length (transitions_of ts s k) ≡ run_len transition_place (place_of s k) rest
 run_size ts rest s k small h is = ap length (sym (run_of ts rest s k small h is)) ∙ length-take-le (run_len transition_place (place_of s k) rest) rest (run_within transition_place (place_of s k) rest)
 
 next_state : (i s c k : ℕ) → (s ≡ i → ⊥) → 4000000 * i + k ≤ 4000000 * s + c → c < 4000000 → 4000000 * (i + 1) + 0 ≤ 4000000 * s + c
@@ -54,7 +54,7 @@ above_state s k (first ∷ others) ends f up small =
     (higher, From-weaker transition_place (place_of (s + 1) 0) (transition_place first) others higher up.0)
 
 -- behind the last choice of a state the transitions are of later states
-pub state_ends : (ts rest : List Transition) (s k : ℕ) → k ≤ most_choices → IsLeft (place_of s k) ts rest → ((first : Transition) (others : List Transition) → rest ≡ first ∷ others → first.source ≡ s → ⊥) → IsLeft (place_of (s + 1) 0) ts rest
+pub state_ends : (ts rest : List Transition) (s k : ℕ) → k ≤ most_stated_choices → IsLeft (place_of s k) ts rest → ((first : Transition) (others : List Transition) → rest ≡ first ∷ others → first.source ≡ s → ⊥) → IsLeft (place_of (s + 1) 0) ts rest
 state_ends ts rest s k low is ends = record {
   order = record { rises = is.order.rises; above = above_state s k rest ends is.order.above is.order.rises is.order.small; small = is.order.small };
   keeps = λ q h. is.keeps q (omega (arith, low, h));
@@ -63,11 +63,11 @@ state_ends ts rest s k low is ends = record {
 }
 
 -- a state whose choices end here has no more of them
-pub counted : (ts rest : List Transition) (s k : ℕ) → AreSmall ts → k ≤ most_choices → IsLeft (place_of s k) ts rest → ((j : ℕ) → j < k → 0 < length (transitions_of ts s j)) → k + length rest ≤ length ts
+pub counted : (ts rest : List Transition) (s k : ℕ) → AreSmall ts → k ≤ most_stated_choices → IsLeft (place_of s k) ts rest → ((j : ℕ) → j < k → 0 < length (transitions_of ts s j)) → k + length rest ≤ length ts
     → ((first : Transition) (others : List Transition) → rest ≡ first ∷ others → first.source ≡ s → ⊥) → HasCount ts s k rest
 counted ts rest s k small low is there room ends =
     let left = state_ends ts rest s k low is ends in
-    let none : (j : ℕ) → k ≤ j → transitions_of ts s j ≡ [] = λ j h. elim (cases_lt j most_choices) [
+    let none : (j : ℕ) → k ≤ j → transitions_of ts s j ≡ [] = λ j h. elim (cases_lt j most_stated_choices) [
       | inr high ↦ none_of_high ts s j small high
       | inl lower ↦
           of_at ts s j small lower ∙ sym (is.keeps (place_of s j) (omega (arith, h)))
@@ -93,10 +93,10 @@ pub cons_some : (t : Transition) (ts : List Transition) → 0 < length (t ∷ ts
 cons_some t ts = omega arith
 
 -- a missing choice before one that is there
-pub gap_at : (ts rest others : List Transition) (first : Transition) (s k : ℕ) → AreSmall ts → k ≤ most_choices → IsLeft (place_of s k) ts rest → ((j : ℕ) → j < k → 0 < length (transitions_of ts s j))
+pub gap_at : (ts rest others : List Transition) (first : Transition) (s k : ℕ) → AreSmall ts → k ≤ most_stated_choices → IsLeft (place_of s k) ts rest → ((j : ℕ) → j < k → 0 < length (transitions_of ts s j))
     → rest ≡ first ∷ others → first.source ≡ s → run_len transition_place (place_of s k) rest ≡ 0 → least_missing ts s (choice_end ts s) ≡ Some k
 gap_at ts rest others first s k small low is there head same none =
-    let first_small : first.choice < most_choices = (subst (λ (t : List Transition). AreSmall t) head is.order.small) zero first (cons_some first others) in
+    let first_small : first.choice < most_stated_choices = (subst (λ (t : List Transition). AreSmall t) head is.order.small) zero first (cons_some first others) in
     let at_least : place_of s k ≤ transition_place first = (subst (λ (t : List Transition). From transition_place (place_of s k) t) head is.order.above).0 in
     let other : (transition_place first == place_of s k) ≡ false = elim (bool_cases (transition_place first == place_of s k)) [
       | inr e ↦ e
@@ -119,7 +119,7 @@ run_some rest others first q head some = elim (bool_cases (transition_place firs
 same_choice : (s c i k : ℕ) → s ≡ i → 4000000 * s + c ≡ 4000000 * i + k → c < 4000000 → k < 4000000
 same_choice s c i k p e h = omega arith
 
-pub low_more : (rest others : List Transition) (first : Transition) (s k : ℕ) → rest ≡ first ∷ others → AreSmall rest → first.source ≡ s → 0 < run_len transition_place (place_of s k) rest → k < most_choices
+pub low_more : (rest others : List Transition) (first : Transition) (s k : ℕ) → rest ≡ first ∷ others → AreSmall rest → first.source ≡ s → 0 < run_len transition_place (place_of s k) rest → k < most_stated_choices
 low_more rest others first s k head small same some = same_choice first.source first.choice s k same (run_some rest others first (place_of s k) head some) ((subst (λ (t : List Transition). AreSmall t) head small) zero first (cons_some first others))
 
 pub there_more : (ts : List Transition) (s k : ℕ) → ((j : ℕ) → j < k → 0 < length (transitions_of ts s j)) → 0 < length (transitions_of ts s k) → (j : ℕ) → j < k + 1 → 0 < length (transitions_of ts s j)
@@ -130,7 +130,7 @@ there_more ts s k there here j h = elim (cases_lt j k) [
 
 -- what is left has the transitions of this state and of those behind it
 pub same_of : (ts rest : List Transition) (s i k : ℕ) → AreSmall ts → IsLeft (place_of s 0) ts rest → s ≤ i → transitions_of rest i k ≡ transitions_of ts i k
-same_of ts rest s i k small is h = elim (cases_lt k most_choices) [
+same_of ts rest s i k small is h = elim (cases_lt k most_stated_choices) [
   | inr high ↦ none_of_high rest i k is.order.small high ∙ sym (none_of_high ts i k small high)
   | inl lower ↦ of_at rest i k is.order.small lower ∙ is.keeps (place_of i k) (omega (arith, h)) ∙ sym (of_at ts i k small lower)
 ]

@@ -4,7 +4,7 @@ use Rattle.std.specs.List.{filter, All}
 use Rattle.game_model.specs.Game.{Distribution}
 use Rattle.distributions.specs.declared.choice.ChoiceFault.{ChoiceFault}
 use Rattle.distributions.specs.Parts.{choice_said}
-use Rattle.tra_reader.specs.Limits.{most_choices}
+use Rattle.tra_reader.specs.Limits.{most_stated_choices}
 use Rattle.tra_reader.specs.declared.line.Transition.{Transition}
 use Rattle.tra_reader.specs.declared.fault.TraFault.{TraFault}
 use Rattle.tra_reader.specs.Choices.{transitions_of, part_of, parts_of, choice_end, self_loop, then_push, choice_at, choices_said, state_said, states_said}
@@ -50,7 +50,7 @@ choice_fault ts front s k n choices fault said is e h =
     (omega (arith, h))
 
 -- one choice further
-pub first_more : (ts rest front after : List Transition) (s k : ℕ) (choices : List Distribution) (d : Distribution) → AreSmall ts → k < most_choices → AreFirst ts s k choices rest
+pub first_more : (ts rest front after : List Transition) (s k : ℕ) (choices : List Distribution) (d : Distribution) → AreSmall ts → k < most_stated_choices → AreFirst ts s k choices rest
     → front ≡ take (run_len transition_place (place_of s k) rest) rest → after ≡ drop (run_len transition_place (place_of s k) rest) rest
     → choice_said (map part_of front) ≡ Ok d → ((n : ℕ) → All (λ t. t.destination < n) front → LeadsInside n d) → AreFirst ts s (k + 1) (choices ++ d ∷ []) after
 first_more ts rest front after s k choices d small low is front_is after_is made leads =
@@ -69,7 +69,7 @@ first_more ts rest front after s k choices d small low is front_is after_is made
 -- where no transition is of the state from this choice on, what is left is of later states
 at_end : (ts rest : List Transition) (s m : ℕ) → AreSmall ts → choice_end ts s ≡ m → IsLeft (place_of s m) ts rest → (first : Transition) (others : List Transition) → rest ≡ first ∷ others → first.source ≡ s → ⊥
 at_end ts rest s m small end is first others head same =
-    let first_small : first.choice < most_choices = (subst (λ (t : List Transition). AreSmall t) head is.order.small) zero first (cons_some first others) in
+    let first_small : first.choice < most_stated_choices = (subst (λ (t : List Transition). AreSmall t) head is.order.small) zero first (cons_some first others) in
     let above : place_of s m ≤ transition_place first = (subst (λ (t : List Transition). From transition_place (place_of s m) t) head is.order.above).0 in
     let higher : m ≤ first.choice = not_below first.source first.choice s m same above in
     let Q : Bool → Type 0 = λ b. 0 < length (cond b (first ∷ filter (has transition_place (place_of s first.choice)) others) (filter (has transition_place (place_of s first.choice)) others)) in
@@ -84,7 +84,7 @@ at_end ts rest s m small end is first others head same =
 
 pub left_end : (ts rest : List Transition) (s m : ℕ) → AreSmall ts → choice_end ts s ≡ m → IsLeft (place_of s m) ts rest → IsLeft (place_of (s + 1) 0) ts rest
 left_end ts rest s m small end is =
-    let low : m ≤ most_choices = omega (arith, end, end_small ts s small) in
+    let low : m ≤ most_stated_choices = omega (arith, end, end_small ts s small) in
     state_ends ts rest s m low is (at_end ts rest s m small end is)
 
 -- the choices of a state that has some
@@ -141,7 +141,7 @@ pub all_more : (ts rest : List Transition) (s : ℕ) (all : List (Vec Distributi
 all_more ts rest s all choices after left are is = record {
   as_many = length_push all choices ∙ ap (λ n. n + 1) are.as_many;
   some = All-push (λ (c : Vec Distribution Global). 0 < length c.items) all choices are.some is.some;
-  few = All-push (λ (c : Vec Distribution Global). length c.items ≤ most_choices) all choices are.few is.few;
+  few = All-push (λ (c : Vec Distribution Global). length c.items ≤ most_stated_choices) all choices are.few is.few;
   inside = λ n h within. All-push (λ (c : Vec Distribution Global). All (LeadsInside n) c.items) all choices (are.inside n (omega (arith, h)) within) (is.inside n (omega (arith, h)) (left.within n within));
 }
 

@@ -5,7 +5,7 @@ use Rattle.text_lines.specs.Text.{fields_of, is_nil}
 use Rattle.distributions.specs.declared.number.NumberFault.{NumberFault}
 use Rattle.distributions.specs.Fraction.{Fraction}
 use Rattle.distributions.specs.Number.{Denotes as DenotesNumber, number_said}
-use Rattle.tra_reader.specs.Limits.{most_choices}
+use Rattle.tra_reader.specs.Limits.{most_stated_choices}
 use Rattle.tra_reader.specs.declared.header.Header.{Header}
 use Rattle.tra_reader.specs.declared.line.Transition.{Transition}
 use Rattle.tra_reader.specs.declared.fault.TraCause.{TraCause}
@@ -29,7 +29,7 @@ record HasNumbers (n i k j : ℕ) (share : Result Fraction NumberFault) (t : Tra
   destination : j ≡ t.destination
   is : share ≡ Ok t.share
   source_in : i < n
-  choice_in : k < most_choices
+  choice_in : k < most_stated_choices
   destination_in : j < n
 
 with_found : (i k j : ℕ) (share : Result Fraction NumberFault) (t : Transition) → transition_with i k j share ≡ Ok t → (i ≡ t.source) × (k ≡ t.choice) × (j ≡ t.destination) × (share ≡ Ok t.share)
@@ -41,11 +41,11 @@ with_found i k j (Ok f) t e =
 within_found : (n i k j : ℕ) (share : Result Fraction NumberFault) (t : Transition) → transition_within n i k j share ≡ Ok t → HasNumbers n i k j share t
 within_found n i k j share t e =
     let destination = cond (nat_lt j n) (transition_with i k j share) (Err StateOutOfRange) in
-    let choice = cond (nat_lt k most_choices) destination (Err OverLimit) in
+    let choice = cond (nat_lt k most_stated_choices) destination (Err OverLimit) in
     elim (chosen (nat_lt i n) choice (Err StateOutOfRange) (Ok t) e) [
       | inr out ↦ cc out.1
       | inl source ↦
-          elim (chosen (nat_lt k most_choices) destination (Err OverLimit) (Ok t) source.1) [
+          elim (chosen (nat_lt k most_stated_choices) destination (Err OverLimit) (Ok t) source.1) [
             | inr out ↦ cc out.1
             | inl low ↦
                 elim (chosen (nat_lt j n) (transition_with i k j share) (Err StateOutOfRange) (Ok t) low.1) [
@@ -58,17 +58,17 @@ within_found n i k j share t e =
                         destination = is.2;
                         is = is.3;
                         source_in = lt_from i n source.0;
-                        choice_in = lt_from k most_choices low.0;
+                        choice_in = lt_from k most_stated_choices low.0;
                         destination_in = lt_from j n inside.0;
                       }
                 ]
           ]
     ]
 
-within_again : (n i k j : ℕ) (share : Result Fraction NumberFault) → i < n → k < most_choices → j < n → transition_within n i k j share ≡ transition_with i k j share
+within_again : (n i k j : ℕ) (share : Result Fraction NumberFault) → i < n → k < most_stated_choices → j < n → transition_within n i k j share ≡ transition_with i k j share
 within_again n i k j share source low inside =
-    ap (λ b. cond b (cond (nat_lt k most_choices) (cond (nat_lt j n) (transition_with i k j share) (Err StateOutOfRange)) (Err OverLimit)) (Err StateOutOfRange)) (lt_test i n source)
-    ∙ ap (λ b. cond b (cond (nat_lt j n) (transition_with i k j share) (Err StateOutOfRange)) (Err OverLimit)) (lt_test k most_choices low)
+    ap (λ b. cond b (cond (nat_lt k most_stated_choices) (cond (nat_lt j n) (transition_with i k j share) (Err StateOutOfRange)) (Err OverLimit)) (Err StateOutOfRange)) (lt_test i n source)
+    ∙ ap (λ b. cond b (cond (nat_lt j n) (transition_with i k j share) (Err StateOutOfRange)) (Err OverLimit)) (lt_test k most_stated_choices low)
     ∙ ap (λ b. cond b (transition_with i k j share) (Err StateOutOfRange)) (lt_test j n inside)
 
 -- the parts of a row
@@ -79,11 +79,11 @@ record HasParts (n : ℕ) (parts : LineParts) (row : Row) : Type 0 where
   share : number_said parts.probability ≡ Ok row.transition.share
   action : parts.action ≡ row.action
   source_in : row.transition.source < n
-  choice_in : row.transition.choice < most_choices
+  choice_in : row.transition.choice < most_stated_choices
   destination_in : row.transition.destination < n
 
 numbers_found : (n : ℕ) (x y z : Option ℕ) (share : Result Fraction NumberFault) (t : Transition) → transition_said n x y z share ≡ Ok t
-    → (x ≡ Some t.source) × (y ≡ Some t.choice) × (z ≡ Some t.destination) × (share ≡ Ok t.share) × (t.source < n) × (t.choice < most_choices) × (t.destination < n)
+    → (x ≡ Some t.source) × (y ≡ Some t.choice) × (z ≡ Some t.destination) × (share ≡ Ok t.share) × (t.source < n) × (t.choice < most_stated_choices) × (t.destination < n)
 numbers_found n None y z share t e = cc
 numbers_found n (Some i) None z share t e = cc
 numbers_found n (Some i) (Some k) None share t e = cc

@@ -3,7 +3,7 @@ use Rattle.std.proofs.Common.{◌≡◌, ◌∙◌, ◌<◌, ℕ, suc, zero, ◌
 use Rattle.std.proofs.lemmas.Bool.Decides.{nat_tests}
 use Rattle.std.specs.List.{filter, All}
 use Rattle.text_lines.specs.Text.{is_nil}
-use Rattle.tra_reader.specs.Limits.{most_choices}
+use Rattle.tra_reader.specs.Limits.{most_stated_choices}
 use Rattle.tra_reader.specs.declared.header.Header.{Header}
 use Rattle.tra_reader.specs.declared.fault.TraCause.TheVariants.{FieldCount, LineCount, ActionClash}
 use Rattle.tra_reader.specs.Lines.{Row, is_of, first_action, clashes, row_said, action_checked, line_said}
@@ -27,11 +27,11 @@ pub same_place : (s c i k : ℕ) → c < 4000000 → k < 4000000 → ((s == i) &
 same_place s c i k h g = grind (arith, nat_tests)
 
 -- the rows of a choice are those at its place
-filter_rows : (n : ℕ) (rows : List Row) (i k : ℕ) → All (λ (row : Row). IsWithin n row.transition) rows → k < most_choices → filter (λ (row : Row). is_of i k row.transition) rows ≡ filter (has row_place (place_of i k)) rows
+filter_rows : (n : ℕ) (rows : List Row) (i k : ℕ) → All (λ (row : Row). IsWithin n row.transition) rows → k < most_stated_choices → filter (λ (row : Row). is_of i k row.transition) rows ≡ filter (has row_place (place_of i k)) rows
 filter_rows n [] i k all h = refl
 filter_rows n (row ∷ rows) i k all h = ap₂ (λ b rs. cond b (row ∷ rs) rs) (same_place row.transition.source row.transition.choice i k ((all zero row (omega arith)).choice_in) h) (filter_rows n rows i k (λ j d g. all (suc j) d (omega arith)) h)
 
-pub first_at : (n : ℕ) (rows : List Row) (i k : ℕ) → All (λ (row : Row). IsWithin n row.transition) rows → k < most_choices → first_action rows i k ≡ action_at rows (place_of i k)
+pub first_at : (n : ℕ) (rows : List Row) (i k : ℕ) → All (λ (row : Row). IsWithin n row.transition) rows → k < most_stated_choices → first_action rows i k ≡ action_at rows (place_of i k)
 first_at n rows i k all h = ap (λ rs. option_map (λ (row : Row). row.action) (slice_get rs 0)) (filter_rows n rows i k all h)
 
 -- what a line says where its fields say a row

@@ -1,7 +1,7 @@
 -- Transitions put in order.
 use Rattle.std.proofs.Common.{◌≡◌, ◌∙◌, inl, inr, ℕ, List, [], ◌∷◌, Result, Ok, Err, OnOk, is_err, false, arith, sym}
 use Rattle.std.specs.List.{filter}
-use Rattle.tra_reader.specs.Limits.{most_choices}
+use Rattle.tra_reader.specs.Limits.{most_stated_choices}
 use Rattle.tra_reader.specs.declared.line.Transition.{Transition}
 use Rattle.tra_reader.specs.Choices.{transitions_of}
 use Rattle.tra_reader.specs.Order.{From, has, place_of, transition_place}
@@ -13,7 +13,7 @@ on_ok (Ok x) e p = p
 on_ok (Err f) e p = cc
 
 pub same_transitions : (ts us : List Transition) → AreSmall ts → AreSmall us → ((q : ℕ) → filter (has transition_place q) ts ≡ filter (has transition_place q) us) → (s k : ℕ) → transitions_of ts s k ≡ transitions_of us s k
-same_transitions ts us small_ts small_us same s k = elim (cases_lt k most_choices) [
+same_transitions ts us small_ts small_us same s k = elim (cases_lt k most_stated_choices) [
   | inl low ↦ of_at ts s k small_ts low ∙ same (place_of s k) ∙ sym (of_at us s k small_us low)
   | inr high ↦ none_of_high ts s k small_ts high ∙ sym (none_of_high us s k small_us high)
 ]

@@ -13,7 +13,7 @@ use Rattle.tra_reader.specs.declared.fault.TraCause.TheVariants.{OutOfMemory, Li
 use Rattle.tra_reader.specs.declared.fault.TraFault.{TraFault}
 use Rattle.tra_reader.specs.Faults.{fault_at, fault_of_all}
 use Rattle.game_model.specs.Limits.{most_states}
-use Rattle.tra_reader.specs.Limits.{most_choices, most_lines}
+use Rattle.tra_reader.specs.Limits.{most_stated_choices, most_lines}
 use Rattle.tra_reader.specs.Lines.{Row, line_said}
 use Rattle.tra_reader.specs.Choices.{choice_end, least_missing, first_gap, unless_gap, sum_of_first, choices_said, state_said, if_as_stated}
 use Rattle.tra_reader.specs.declared.groups.Counts.{Counts}
@@ -131,7 +131,7 @@ pub record AreOfState (transitions : List Transition) (s : ℕ) (choices : List 
   pub left : IsLeft (place_of (s + 1) 0) transitions rest
   pub inside : (n : ℕ) → s < n → All (IsWithin n) transitions → All (LeadsInside n) choices
   pub some : 0 < length choices
-  pub few : length choices ≤ most_choices
+  pub few : length choices ≤ most_stated_choices
 
 abbrev pub StateAnswer : List Transition → ℕ → Result (Vec Choice Global × Bor (List Transition)) TraFault → Type 0
 StateAnswer transitions s (Ok (choices, rest)) = AreOfState transitions s choices.items rest.now
@@ -141,7 +141,7 @@ StateAnswer transitions s (Err fault) = (fault ≡ fault_of_all OutOfMemory) ⊎
 pub record AreOfStates (transitions : List Transition) (count : ℕ) (all : List (Vec Choice Global)) : Type 0 where
   pub as_many : length all ≡ count
   pub some : All (λ choices. 0 < length choices.items) all
-  pub few : All (λ choices. length choices.items ≤ most_choices) all
+  pub few : All (λ choices. length choices.items ≤ most_stated_choices) all
   pub inside : (n : ℕ) → count ≤ n → All (IsWithin n) transitions → All (λ choices. All (LeadsInside n) choices.items) all
 
 -- whether the choices are as many as stated: the number stated where they are not

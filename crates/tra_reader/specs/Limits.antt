@@ -1,11 +1,10 @@
--- The limits, under the names that definitions and lemmas cite.
+-- The limits of a transition text.
 use Rattle.std.specs.Prelude.{ℕ}
-use Rattle.tra_reader.specs.declared.limits.TheConstants.{MOST_CHOICES, MOST_LINES}
 
--- the most choices that a header states; the number of a choice is below it
-abbrev pub most_choices : ℕ
-most_choices = MOST_CHOICES
+-- choices that a header states, and above each number of a choice: the place of a choice fits 64 bits
+abbrev pub most_stated_choices : ℕ
+most_stated_choices = 4000000
 
--- the most transition lines
+-- transition lines: what is kept of them fits the memory of a common machine
 abbrev pub most_lines : ℕ
-most_lines = MOST_LINES
+most_lines = 8000000

@@ -14,7 +14,7 @@ use Rattle.tra_reader.specs.declared.fault.TraCause.{TraCause}
 use Rattle.tra_reader.specs.declared.fault.TraCause.TheVariants.{NoHeader, BadField, FieldCount, OverLimit, NoStates, StateOutOfRange, Number, ActionClash, LineCount}
 use Rattle.tra_reader.specs.declared.fault.TraFault.{TraFault}
 use Rattle.tra_reader.specs.Faults.{fault_at, fault_of_all}
-use Rattle.tra_reader.specs.Limits.{most_choices, most_lines}
+use Rattle.tra_reader.specs.Limits.{most_stated_choices, most_lines}
 
 -- 1. As relations.
 
@@ -27,7 +27,7 @@ pub record IsHeader (line : List ℕ) (header : Header) : Type 0 where
   pub numbers : map number_of (fields_of line) ≡ map Some (header_numbers header.states header.choices header.lines)
   pub some : 0 < header.states
   pub few : header.states ≤ most_states
-  pub bounded : ForSome header.choices (λ c. c ≤ most_choices)
+  pub bounded : ForSome header.choices (λ c. c ≤ most_stated_choices)
   pub short : header.lines ≤ most_lines
 
 -- The parts of a line: whole numbers where its fields spell them, the probability, and the action. An action is a field, or no byte where there is none.
@@ -66,7 +66,7 @@ pub record IsRow (header : Header) (line : List ℕ) (row : Row) : Type 0 where
       ≡ Some (record { source = Some row.transition.source; choice = Some row.transition.choice; destination = Some row.transition.destination; probability = probability; action = row.action })
   pub share : DenotesNumber probability row.transition.share
   pub source_in : row.transition.source < header.states
-  pub choice_in : row.transition.choice < most_choices
+  pub choice_in : row.transition.choice < most_stated_choices
   pub destination_in : row.transition.destination < header.states
 
 -- each line says the row in its place
@@ -84,7 +84,7 @@ HaveActions rows action_of = AllByRecursion (λ row. row.action ≡ action_of ro
 
 abbrev pub header_checked : ℕ → Option ℕ → ℕ → Result Header TraCause
 header_checked n c m =
-    if nat_lt most_states n || (option_map_or (nat_lt most_choices) c false || nat_lt most_lines m) then Err OverLimit
+    if nat_lt most_states n || (option_map_or (nat_lt most_stated_choices) c false || nat_lt most_lines m) then Err OverLimit
     else (if n == 0 then Err NoStates else Ok (record { states = n; choices = c; lines = m }))
 
 abbrev pub mdp_header : Option ℕ → Option ℕ → Option ℕ → Result Header TraCause
@@ -106,7 +106,7 @@ transition_with i k j (Err fault) = Err (Number fault)
 
 abbrev pub transition_within : ℕ → ℕ → ℕ → ℕ → Result Fraction NumberFault → Result Transition TraCause
 transition_within n i k j share =
-    if nat_lt i n then (if nat_lt k most_choices then (if nat_lt j n then transition_with i k j share else Err StateOutOfRange) else Err OverLimit)
+    if nat_lt i n then (if nat_lt k most_stated_choices then (if nat_lt j n then transition_with i k j share else Err StateOutOfRange) else Err OverLimit)
     else Err StateOutOfRange
 
 abbrev pub transition_said : ℕ → Option ℕ → Option ℕ → Option ℕ → Result Fraction NumberFault → Result Transition TraCause

@@ -2,17 +2,17 @@
 use Rattle.std.specs.Prelude.{◌≡◌, ◌<◌, ◌≤◌, ℕ, ◌+◌, ◌*◌, ◌==◌, ◌&&◌, nat_le, Bool, true, List, [], ◌∷◌, length, if◌then◌else◌}
 use Rattle.std.specs.List.{filter, All}
 use Rattle.tra_reader.specs.declared.line.Transition.{Transition}
-use Rattle.tra_reader.specs.Limits.{most_choices}
+use Rattle.tra_reader.specs.Limits.{most_stated_choices}
 
 -- what every transition keeps that is read from a line, where there are n states
 pub record IsWithin (n : ℕ) (transition : Transition) : Type 0 where
   pub source_in : transition.source < n
-  pub choice_in : transition.choice < most_choices
+  pub choice_in : transition.choice < most_stated_choices
   pub destination_in : transition.destination < n
 
 -- the place of a choice in the order of all choices
 abbrev pub place_of : ℕ → ℕ → ℕ
-place_of s k = most_choices * s + k
+place_of s k = most_stated_choices * s + k
 
 abbrev pub transition_place : Transition → ℕ
 transition_place transition = place_of transition.source transition.choice
@@ -45,7 +45,7 @@ module _ {X : Type 0} (key : X → ℕ) where
 pub record InOrder (place : ℕ) (transitions : List Transition) : Type 0 where
   pub rises : Rises transition_place transitions
   pub above : From transition_place place transitions
-  pub small : All (λ t. t.choice < most_choices) transitions
+  pub small : All (λ t. t.choice < most_stated_choices) transitions
 
 -- what is left of transitions in order: all those from this place on
 pub record IsLeft (place : ℕ) (transitions rest : List Transition) : Type 0 where

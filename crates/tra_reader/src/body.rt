@@ -5,7 +5,7 @@ ghost use Rattle.std.specs.List.{All};
 ghost use Rattle.std.specs.HashMap.{get};
 ghost use Rattle.text_lines.specs.Text.{lines_of, significant};
 ghost use Rattle.game_model.specs.Limits.{most_states};
-ghost use Rattle.text_lines.specs.declared.TheConstants.{MOST_BYTES};
+ghost use Rattle.text_lines.specs.Limits.{most_bytes};
 ghost use Rattle.tra_reader.specs.Limits.{most_lines};
 ghost use Rattle.tra_reader.specs.Faults.{Gives};
 ghost use Rattle.tra_reader.specs.Lines.{rows_said};
@@ -26,7 +26,7 @@ pub fn read_transitions(
     text: &[u8],
     header: &Header,
 ) -> Result<Vec<Transition>, TraFault>
-    requires small { length text.now ≤ MOST_BYTES }
+    requires small { length text.now ≤ most_bytes }
     requires lines { header.now.lines ≤ most_lines }
     ensures said { Gives (λ v. v.items) result (transitions_read (rows_said header.now 2 [] (significant (lines_of text.now)))) }
     ensures within { IfOk result (λ v. All (IsWithin header.now.states) v.items) }

@@ -5,7 +5,7 @@ ghost use Rattle.std.specs.List.{All};
 ghost use Rattle.game_model.specs.Limits.{most_states};
 ghost use Rattle.game_model.specs.Made.{game_of};
 ghost use Rattle.distributions.specs.Parts.{choice_said, Gives as GivesChoice};
-ghost use Rattle.tra_reader.specs.Limits.{most_lines, most_choices};
+ghost use Rattle.tra_reader.specs.Limits.{most_lines, most_stated_choices};
 ghost use Rattle.tra_reader.specs.Faults.{Gives};
 ghost use Rattle.tra_reader.specs.Choices.{choice_end, part_of, states_said, self_loop};
 ghost use Rattle.tra_reader.specs.Order.{InOrder, place_of};
@@ -94,7 +94,7 @@ fn make_choices<'a>(
 ) -> Result<(Vec<Choice>, &'a [Transition]), TraFault>
     requires order { InOrder (place_of state 0) transitions.now }
     requires few { length transitions.now ≤ most_lines }
-    requires count { count ≤ most_choices }
+    requires count { count ≤ most_stated_choices }
     ensures { ChoicesAnswer transitions.entry.now state count result }
 {
     let mut choices = Vec::new(alloc);

@@ -6,7 +6,7 @@ ghost use Rattle.tra_reader.specs.Order.{transition_place, place_of, InOrder, ru
 ghost use Rattle.tra_reader.specs.Answers.{CountAnswer, CountsAnswer};
 
 use crate::fault::TraCause;
-use crate::limits::MOST_CHOICES;
+use crate::limits::MOST_STATED_CHOICES;
 use crate::line::Transition;
 use std::alloc::Global;
 
@@ -84,5 +84,5 @@ pub fn run_length(transitions: &[Transition], place: u64) -> usize
 pub fn place_at(state: u32, choice: u32) -> u64
     ensures { result ≡ place_of state choice }
 {
-    u64::from(MOST_CHOICES) * u64::from(state) + u64::from(choice)
+    u64::from(MOST_STATED_CHOICES) * u64::from(state) + u64::from(choice)
 }

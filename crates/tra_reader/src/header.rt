@@ -6,7 +6,7 @@ ghost use Rattle.tra_reader.specs.Lines.{header_said, header_checked, mdp_header
 ghost use Rattle.tra_reader.specs.Answers.{IsAccepted};
 
 use crate::fault::TraCause;
-use crate::limits::{MOST_CHOICES, MOST_LINES};
+use crate::limits::{MOST_LINES, MOST_STATED_CHOICES};
 use game_model::MOST_STATES;
 use text_lines::{first_field, whole};
 
@@ -78,7 +78,7 @@ fn checked(states: u64, choices: Option<u64>, lines: u64) -> Result<Header, TraC
     let choices = match choices {
         None => None,
         Some(c) => {
-            if c > u64::from(MOST_CHOICES) {
+            if c > u64::from(MOST_STATED_CHOICES) {
                 return Err(TraCause::OverLimit);
             }
             Some(c as u32)

@@ -4,7 +4,16 @@ ghost use Rattle.std.specs.Prelude.{◌≡◌, ◌∷◌, ℕ, List};
 ghost use Rattle.std.specs.List.Sorted.{IsPermutation};
 ghost use Rattle.text_lines.specs.Text.{lines_of, significant};
 ghost use Rattle.game_model.specs.Game.{Distribution};
+ghost use Rattle.tra_reader.specs.Limits.{most_lines, most_stated_choices};
 ghost use Rattle.tra_reader.specs.Text.{Denotes};
+
+use crate::limits::{MOST_LINES, MOST_STATED_CHOICES};
+
+/// The limits of the code are those of the definitions.
+pub fn limits()
+    ensures most_stated_choices { MOST_STATED_CHOICES ≡ most_stated_choices }
+    ensures most_lines { MOST_LINES ≡ most_lines }
+{}
 
 /// The order of the transition lines plays no part in which game a text denotes.
 pub fn order_of_lines()

@@ -29,5 +29,5 @@ mod reader;
 mod tests;
 
 pub use fault::{TraCause, TraFault};
-pub use limits::{MOST_CHOICES, MOST_LINES};
+pub use limits::{MOST_LINES, MOST_STATED_CHOICES};
 pub use reader::read_tra;

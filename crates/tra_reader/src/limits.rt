@@ -1,7 +1,7 @@
 //! The limits of a transition file, each in one place.
 
 /// The most choices that a header states. The number of a choice is below it.
-pub const MOST_CHOICES: u32 = 4_000_000;
+pub const MOST_STATED_CHOICES: u32 = 4_000_000;
 
 /// The most transition lines.
 pub const MOST_LINES: u32 = 8_000_000;

@@ -9,7 +9,7 @@ ghost use Rattle.tra_reader.specs.Answers.{SaysRow, IsLastField};
 
 use crate::fault::TraCause;
 use crate::header::Header;
-use crate::limits::MOST_CHOICES;
+use crate::limits::MOST_STATED_CHOICES;
 use distributions::{Frac, read_number};
 use text_lines::{first_field, whole};
 
@@ -31,7 +31,7 @@ impl Transition {
     {
         let source = self.source;
         let choice = self.choice;
-        u64::from(MOST_CHOICES) * u64::from(source) + u64::from(choice)
+        u64::from(MOST_STATED_CHOICES) * u64::from(source) + u64::from(choice)
     }
 }
 
@@ -159,7 +159,7 @@ fn within(
     if source >= u64::from(states) {
         return Err(TraCause::StateOutOfRange);
     }
-    if choice >= u64::from(MOST_CHOICES) {
+    if choice >= u64::from(MOST_STATED_CHOICES) {
         return Err(TraCause::OverLimit);
     }
     if destination >= u64::from(states) {

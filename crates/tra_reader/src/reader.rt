@@ -4,7 +4,7 @@ ghost use Rattle.std.specs.Prelude.{◌≡◌, ◌≤◌, ◌<◌, List, [], Ok,
 ghost use Rattle.std.specs.List.{All};
 ghost use Rattle.text_lines.specs.Text.{lines_of, significant};
 ghost use Rattle.game_model.specs.Game.{Distribution};
-ghost use Rattle.text_lines.specs.declared.TheConstants.{MOST_BYTES};
+ghost use Rattle.text_lines.specs.Limits.{most_bytes};
 ghost use Rattle.tra_reader.specs.Limits.{most_lines};
 ghost use Rattle.tra_reader.specs.Faults.{Gives};
 ghost use Rattle.tra_reader.specs.Lines.{rows_said};
@@ -26,7 +26,7 @@ use text_lines::first_line;
 
 /// The game that a transition text denotes, or the text's first fault.
 pub fn read_tra(alloc: Global, bytes: &[u8]) -> Result<Game, TraFault>
-    requires { length bytes.now ≤ MOST_BYTES }
+    requires { length bytes.now ≤ most_bytes }
     // What is read is what the text denotes, or its first fault.
     ensures found { IfOk result (Denotes bytes.now) }
     ensures only { (game : List (List Distribution)) → Denotes bytes.now game → Gives (λ g. g) result (Ok game) }
@@ -36,7 +36,7 @@ pub fn read_tra(alloc: Global, bytes: &[u8]) -> Result<Game, TraFault>
 }
 
 fn read_exact(alloc: Global, bytes: &[u8]) -> Result<Game, TraFault>
-    requires { length bytes.now ≤ MOST_BYTES }
+    requires { length bytes.now ≤ most_bytes }
     ensures { Gives (λ g. g) result (game_of bytes.now) }
 {
     let Some((line, rest)) = first_line(bytes) else {
@@ -53,7 +53,7 @@ fn read_exact(alloc: Global, bytes: &[u8]) -> Result<Game, TraFault>
 
 // The game of the lines behind the header.
 fn read_body(alloc: Global, text: &[u8], header: &Header) -> Result<Game, TraFault>
-    requires small { length text.now ≤ MOST_BYTES }
+    requires small { length text.now ≤ most_bytes }
     requires accepted { IsAccepted header.now }
     ensures { Gives (λ g. g) result (rows_game header.now (rows_said header.now 2 [] (significant (lines_of text.now)))) }
 {

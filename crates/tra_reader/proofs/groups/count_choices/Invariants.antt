@@ -1,5 +1,5 @@
 use Rattle.std.proofs.Common.{◌<◌, ◌≤◌, ◌+◌, ℕ, length}
-use Rattle.tra_reader.specs.Limits.{most_choices}
+use Rattle.tra_reader.specs.Limits.{most_stated_choices}
 use Rattle.tra_reader.specs.Choices.{transitions_of}
 use Rattle.tra_reader.specs.Order.{IsLeft, place_of}
 use Rattle.tra_reader.proofs.groups.count_choices.Given as goal
@@ -8,7 +8,7 @@ abbrev pub invariant-loop-first : goal.invariant-loop-first
 invariant-loop-first l = record {
   left : IsLeft (place_of l.state l.choice) l.transitions l.rest;
   there : (k : ℕ) → k < l.choice → 0 < length (transitions_of l.transitions l.state k);
-  low : l.choice ≤ most_choices;
+  low : l.choice ≤ most_stated_choices;
   room : l.choice + length l.rest ≤ length l.transitions;
 }
 
