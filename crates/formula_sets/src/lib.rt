@@ -16,6 +16,7 @@
 mod bounds;
 mod fault;
 mod labels;
+pub mod laws;
 mod question;
 mod sides;
 

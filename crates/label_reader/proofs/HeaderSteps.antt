@@ -11,11 +11,11 @@ use Rattle.text_lines.specs.Text.{saturated}
 use Rattle.text_lines.proofs.Texts.{bool_cases}
 use Rattle.label_reader.specs.declared.kind.FileKind.{FileKind}
 use Rattle.label_reader.specs.declared.faults.LabCause.TheVariants.{OverLimit, DoubleIndex, DoubleName}
+use Rattle.label_reader.specs.Limits.{greatest_index}
 use Rattle.label_reader.specs.Header.{Item, place_of, has_index, has_name, passes_limit, most_items, with_item, saturated_item}
 use Rattle.label_reader.specs.Placed.{item_at, items_of, indices_of, Places, AreSingle, ArePlaced}
 use Rattle.label_reader.specs.Named.{names_of}
 use Rattle.label_reader.proofs.Indexed.{place_of-push_other, place_of-push_new}
-use Rattle.label_reader.specs.declared.kind.TheConstants.{GREATEST_INDEX}
 
 abbrev tests : FileKind → List Item → Item → Bool → Bool → Bool → Type 0
 tests kind before item over index name = with_item kind before (Some item) ≡ cond over (Err OverLimit) (cond index (Err DoubleIndex) (cond name (Err DoubleName) (Ok (before ++ item ∷ []))))
@@ -38,8 +38,8 @@ is_double_name kind before item o i n = tested kind before item false false true
 pub is_added : (kind : FileKind) (before : List Item) (item : Item) → passes_limit kind before item.index ≡ false → has_index before item.index ≡ false → has_name before item.name ≡ false → with_item kind before (Some item) ≡ Ok (before ++ item ∷ [])
 is_added kind before item o i n = tested kind before item false false false o i n
 
-over_anyway : (kind : FileKind) (before : List Item) (index : ℕ) → GREATEST_INDEX < index → passes_limit kind before index ≡ true
-over_anyway kind before index h = past (leb (most_items kind) (length before)) (ltb GREATEST_INDEX index) (grind (arith, nat_tests))
+over_anyway : (kind : FileKind) (before : List Item) (index : ℕ) → greatest_index < index → passes_limit kind before index ≡ true
+over_anyway kind before index h = past (leb (most_items kind) (length before)) (ltb greatest_index index) (grind (arith, nat_tests))
   where
     past : (a b : Bool) → b ≡ true → (a || b) ≡ true
     past true b h = refl
@@ -51,13 +51,13 @@ named n name = record { index = n; name = name }
 -- an item that is read as far as 64 bits go is as good as the item
 pub with_item-saturated : (kind : FileKind) (before : List Item) (read : Option Item) (item : Item) → option_map saturated_item read ≡ Some item → with_item kind before read ≡ with_item kind before (Some item)
 with_item-saturated kind before None item e = cc
-with_item-saturated kind before (Some exact) item e = elim (bool_cases (ltb GREATEST_INDEX exact.index)) [
+with_item-saturated kind before (Some exact) item e = elim (bool_cases (ltb greatest_index exact.index)) [
   | inl big ↦
-      let far : GREATEST_INDEX < exact.index = grind (arith, nat_tests, big) in
+      let far : greatest_index < exact.index = grind (arith, nat_tests, big) in
       is_over kind before exact (over_anyway kind before exact.index far)
       ∙ sym (is_over kind before item (over_anyway kind before item.index (omega (arith, index_is, far))))
   | inr small ↦
-      let near : exact.index ≤ GREATEST_INDEX = grind (arith, nat_tests, small) in
+      let near : exact.index ≤ greatest_index = grind (arith, nat_tests, small) in
       let same : saturated exact.index ≡ exact.index = omega (arith, near) in
       ap (λ i. with_item kind before (Some i)) (sym (ap (λ n. named n exact.name) same) ∙ whole_is)
 ]
@@ -103,9 +103,9 @@ indices_of-last : (items : List Item) (item : Item) → get_or (indices_of (item
 indices_of-last [] item = refl
 indices_of-last (first ∷ items) item = indices_of-last items item
 
-pub AreSingle-push : (items : List Item) (item : Item) → AreSingle items → place_of items item.index ≡ None → item.index ≤ GREATEST_INDEX → AreSingle (items ++ item ∷ [])
+pub AreSingle-push : (items : List Item) (item : Item) → AreSingle items → place_of items item.index ≡ None → item.index ≤ greatest_index → AreSingle (items ++ item ∷ [])
 AreSingle-push items item single new small = record {
-  small = All-push (λ (i : Item). i.index ≤ GREATEST_INDEX) items item single.small small;
+  small = All-push (λ (i : Item). i.index ≤ greatest_index) items item single.small small;
   once = once;
 }
   where
@@ -137,7 +137,7 @@ AreSingle-push items item single new small = record {
         ends : (k n : ℕ) → k < n + 1 → ltb k n ≡ false → n ≡ k
         ends k n h e = grind (arith, nat_tests)
 
-pub ArePlaced-push : (items : List Item) (item : Item) (places more : Places) → ArePlaced items places → place_of items item.index ≡ None → item.index ≤ GREATEST_INDEX
+pub ArePlaced-push : (items : List Item) (item : Item) (places more : Places) → ArePlaced items places → place_of items item.index ≡ None → item.index ≤ greatest_index
     → ((index : ℕ) → get nat_eq more index ≡ cond (nat_eq item.index index) (Some (length items)) (get nat_eq places index)) → ArePlaced (items ++ item ∷ []) more
 ArePlaced-push items item places more placed new small updates = record { at = at; single = AreSingle-push items item placed.single new small }
   where

@@ -4,23 +4,23 @@ use Rattle.std.specs.Option.{option_map, option_and_then, IfSome}
 use Rattle.std.proofs.lemmas.Bool.Decides.{nat_tests}
 use Rattle.text_lines.specs.Text.{saturated}
 use Rattle.text_lines.proofs.Texts.{bool_cases}
+use Rattle.label_reader.specs.Limits.{greatest_index}
 use Rattle.label_reader.specs.Header.{Item, place_of}
 use Rattle.label_reader.specs.Placed.{indices_of}
-use Rattle.label_reader.specs.declared.kind.TheConstants.{GREATEST_INDEX}
 
 abbrev pub place_step : Item → List Item → ℕ → Bool → Option ℕ
 place_step item items index v = cond v (Some 0) (option_map (λ k. k + 1) (place_of items index))
 
-same_test : (a n : ℕ) → a ≤ GREATEST_INDEX → eqb a (saturated n) ≡ eqb a n
+same_test : (a n : ℕ) → a ≤ greatest_index → eqb a (saturated n) ≡ eqb a n
 same_test a n h = grind (arith, nat_tests)
 
-pub place_of-saturated : (items : List Item) (n : ℕ) → All (λ (item : Item). item.index ≤ GREATEST_INDEX) items → place_of items (saturated n) ≡ place_of items n
+pub place_of-saturated : (items : List Item) (n : ℕ) → All (λ (item : Item). item.index ≤ greatest_index) items → place_of items (saturated n) ≡ place_of items n
 place_of-saturated [] n small = refl
 place_of-saturated (item ∷ items) n small =
     ap (λ v. place_step item items (saturated n) v) (same_test item.index n (small 0 item (omega arith)))
     ∙ ap (λ p. cond (eqb item.index n) (Some 0) (option_map (λ k. k + 1) p)) (place_of-saturated items n (λ k d lt. small (suc k) d (omega arith)))
 
-pub place_in-whole : (items : List Item) (index : ℕ) (spelled : Option ℕ) → All (λ (item : Item). item.index ≤ GREATEST_INDEX) items → Some index ≡ option_map saturated spelled
+pub place_in-whole : (items : List Item) (index : ℕ) (spelled : Option ℕ) → All (λ (item : Item). item.index ≤ greatest_index) items → Some index ≡ option_map saturated spelled
     → place_of items index ≡ option_and_then (place_of items) spelled
 place_in-whole items index None small e = cc
 place_in-whole items index (Some n) small e = let same : index ≡ saturated n = cc in ap (λ i. place_of items i) same ∙ place_of-saturated items n small

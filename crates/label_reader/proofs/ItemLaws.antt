@@ -9,6 +9,7 @@ use Rattle.text_lines.specs.Laws.{HasNo}
 use Rattle.text_lines.proofs.Texts.{bool_cases}
 use Rattle.label_reader.specs.declared.kind.FileKind.{FileKind}
 use Rattle.label_reader.specs.declared.faults.LabCause.{LabCause}
+use Rattle.label_reader.specs.Limits.{greatest_index}
 use Rattle.label_reader.specs.Header.{Item, split_first, quoted, is_name, item_named, item_parts, item_of, most_items, place_of, has_index, has_name, with_item, and_then, items_from, header_of}
 use Rattle.label_reader.specs.Denotes.{IsItem, AreItems, IsNew, AreApart, IsHeader}
 use Rattle.label_reader.proofs.Indexed.{none_behind}
@@ -16,7 +17,6 @@ use Rattle.label_reader.proofs.HeaderSteps.{is_added, has_index-none}
 use Rattle.label_reader.proofs.Heads.{with_item-added}
 use Rattle.label_reader.proofs.KnownLines.{both_true}
 use Rattle.label_reader.proofs.Splits.{split_first-found, split_first-again, quoted-found, quoted-again}
-use Rattle.label_reader.specs.declared.kind.TheConstants.{GREATEST_INDEX}
 
 -- one item
 some_is : {X : Type 0} (a b : X) → Some a ≡ Some b → a ≡ b
@@ -32,7 +32,7 @@ abbrev named : ℕ → List ℕ → Item
 named index name = record { index = index; name = name }
 
 item_named-by : (kind : FileKind) (field digits rest : List ℕ) (item : Item) (index : Option ℕ) (name : Option (List ℕ)) → split_first 61 field ≡ Some (digits, rest) → index ≡ number_of digits → name ≡ quoted rest
-    → item_named kind index name ≡ Some item → item.index ≤ GREATEST_INDEX → IsItem kind field item
+    → item_named kind index name ≡ Some item → item.index ≤ greatest_index → IsItem kind field item
 item_named-by kind field digits rest item None name split i q h small = cc
 item_named-by kind field digits rest item (Some index) None split i q h small = cc
 item_named-by kind field digits rest item (Some index) (Some name) split i q h small = by (is_name kind name) refl h
@@ -50,11 +50,11 @@ item_named-by kind field digits rest item (Some index) (Some name) split i q h s
           small = small;
         }
 
-item_by : (kind : FileKind) (field : List ℕ) (item : Item) (parts : Option (List ℕ × List ℕ)) → parts ≡ split_first 61 field → item_parts kind parts ≡ Some item → item.index ≤ GREATEST_INDEX → IsItem kind field item
+item_by : (kind : FileKind) (field : List ℕ) (item : Item) (parts : Option (List ℕ × List ℕ)) → parts ≡ split_first 61 field → item_parts kind parts ≡ Some item → item.index ≤ greatest_index → IsItem kind field item
 item_by kind field item None e h small = cc
 item_by kind field item (Some parts) e h small = item_named-by kind field parts.0 parts.1 item (number_of parts.0) (quoted parts.1) (sym e) refl refl h small
 
-pub item_of-found : (kind : FileKind) (field : List ℕ) (item : Item) → item_of kind field ≡ Some item → item.index ≤ GREATEST_INDEX → IsItem kind field item
+pub item_of-found : (kind : FileKind) (field : List ℕ) (item : Item) → item_of kind field ≡ Some item → item.index ≤ greatest_index → IsItem kind field item
 item_of-found kind field item h small = item_by kind field item (split_first 61 field) refl h small
 
 are_digits : (field : List ℕ) (n : ℕ) → number_of field ≡ Some n → all_digits field ≡ true
@@ -136,10 +136,10 @@ pub record AreFound (kind : FileKind) (before : List Item) (fields : List (List 
   pub apart : AreApart items
   pub few : length items ≤ most_items kind
 
-room : (most n index : ℕ) → (leb most n || ltb GREATEST_INDEX index) ≡ false → (n < most) × (index ≤ GREATEST_INDEX)
+room : (most n index : ℕ) → (leb most n || ltb greatest_index index) ≡ false → (n < most) × (index ≤ greatest_index)
 room most n index h = (grind (arith, nat_tests), grind (arith, nat_tests))
 
-fits : (most n index : ℕ) → n < most → index ≤ GREATEST_INDEX → (leb most n || ltb GREATEST_INDEX index) ≡ false
+fits : (most n index : ℕ) → n < most → index ≤ greatest_index → (leb most n || ltb greatest_index index) ≡ false
 fits most n index h small = grind (arith, nat_tests)
 
 found_by : (kind : FileKind) (before : List Item) (field : List ℕ) (fields : List (List ℕ)) (items : List Item) (r : Result (List Item) LabCause)

@@ -12,5 +12,6 @@ pub mod ItemLaws
 pub mod StateLineLaws
 pub mod TextLaws
 pub mod SetLaws
+pub mod LabelLaws
 pub mod OwnerLaws
 pub mod RisingStates

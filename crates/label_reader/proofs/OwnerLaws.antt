@@ -1,5 +1,5 @@
 -- Owners by cases are those that the relation describes.
-use Rattle.std.proofs.Common.{◌≡◌, ◌<◌, inl, inr, ℕ, Bool, true, false, List, [], ◌∷◌, length, map, get_or, Option, Some, None, sym, ap, ◌∙◌, refl, subst, arith, eqb, is_some, ◌&&◌, ◌||◌}
+use Rattle.std.proofs.Common.{◌≡◌, ◌<◌, inl, inr, ℕ, Bool, true, false, List, [], ◌∷◌, length, map, get_or, Option, Some, None, Ok, sym, ap, ◌∙◌, refl, subst, arith, eqb, is_some, ◌&&◌, ◌||◌}
 use Rattle.std.specs.Option.{unwrap_or}
 use Rattle.std.specs.List.{list_all, range_with_len}
 use Rattle.std.proofs.lemmas.Bool.Decides.{nat_tests}
@@ -9,12 +9,12 @@ use Rattle.label_reader.specs.declared.kind.FileKind.TheVariants.{OwnerFile}
 use Rattle.label_reader.specs.Header.{Item, place_of, has_index}
 use Rattle.label_reader.specs.Lines.{StateLine, said_of, all_same}
 use Rattle.label_reader.specs.Owners.{Ownership}
-use Rattle.label_reader.specs.Texts.{owner_place, ownership}
+use Rattle.label_reader.specs.Texts.{owners_of, owner_place, ownership}
 use Rattle.label_reader.specs.Denotes.{IsOneOf, Says, AreIndices, AreStateLines, DenotesOwners}
 use Rattle.label_reader.proofs.KnownLines.{both_true}
 use Rattle.label_reader.proofs.StateLineLaws.{IsIndex-has}
 use Rattle.label_reader.proofs.SetLaws.{or_cases, among, is_said-Says, Says-is_said}
-use Rattle.label_reader.proofs.TextLaws.{Agrees, Reads}
+use Rattle.label_reader.proofs.TextLaws.{Agrees, Reads, said_by-found, said_by-again}
 
 equal : (a b : ℕ) → eqb a b ≡ true → a ≡ b
 equal a b h = grind (arith, nat_tests)
@@ -88,7 +88,7 @@ nobody_by : (items : List Item) (said : List ℕ) → ((number : ℕ) → among 
 nobody_by items [] h = refl
 nobody_by items (x ∷ said) h = absurd (h x (ap (λ v. v || among said x) (itself x x refl)))
 
-pub ownership-denoted : (text : List ℕ) (n : ℕ) (o : Ownership) → Reads OwnerFile n (ownership n) text o → DenotesOwners text n o
+ownership-denoted : (text : List ℕ) (n : ℕ) (o : Ownership) → Reads OwnerFile n (ownership n) text o → DenotesOwners text n o
 ownership-denoted text n o read =
     let items = read.items in
     let lines = read.lines in
@@ -106,7 +106,7 @@ ownership-denoted text n o read =
       others = λ s small none. owner_at n items lines s small ∙ nobody_by items (said_of lines s) (λ number h. none number (is_said-Says lines number s h));
     })
 
-pub denoted-agrees : (text : List ℕ) (n : ℕ) (o : Ownership) (is : DenotesOwners text n o) → Agrees OwnerFile is.lines
+denoted-agrees : (text : List ℕ) (n : ℕ) (o : Ownership) (is : DenotesOwners text n o) → Agrees OwnerFile is.lines
 denoted-agrees text n o is = λ s. same_from (said_of is.lines s) (λ a b h g. is.one s a b (is_said-Says is.lines a s h) (is_said-Says is.lines b s g))
 
 owner_is : (items : List Item) (lines : List StateLine) (s place : ℕ) (said : List ℕ) → said ≡ said_of lines s → ((number : ℕ) → Says lines number s → place_of items number ≡ Some place) → (((number : ℕ) → Says lines number s → ⊥) → place ≡ 0)
@@ -117,7 +117,7 @@ owner_is items lines s place (x ∷ said) e owned others = ap (λ p. unwrap_or p
 abbrev owned_as : List (List ℕ) → List ℕ → Ownership
 owned_as players owners = record { players = players; owners = owners }
 
-pub ownership-is : (text : List ℕ) (n : ℕ) (o : Ownership) (is : DenotesOwners text n o) → ownership n is.items is.lines ≡ o
+ownership-is : (text : List ℕ) (n : ℕ) (o : Ownership) (is : DenotesOwners text n o) → ownership n is.items is.lines ≡ o
 ownership-is text n o is =
     let owners = map (λ t. owner_place is.items (said_of is.lines t)) (range_with_len 0 n) in
     let long : length owners ≡ n = length-map-range_with_len (λ t. owner_place is.items (said_of is.lines t)) 0 n in
@@ -126,3 +126,9 @@ ownership-is text n o is =
     owner_at n is.items is.lines s (omega (arith, h, long))
     ∙ owner_is is.items is.lines s (get_or o.owners s 0) (said_of is.lines s) refl (λ number says. is.owned s number (omega (arith, h, long)) says) (λ none. is.others s (omega (arith, h, long)) none)))
     ∙ ap (λ (players : List (List ℕ)). owned_as players o.owners) (sym is.players)
+
+pub owners_of-found : (text : List ℕ) (n : ℕ) (o : Ownership) → owners_of text n ≡ Ok o → DenotesOwners text n o
+owners_of-found text n o h = ownership-denoted text n o (said_by-found OwnerFile n (ownership n) text o h)
+
+pub owners_of-again : (text : List ℕ) (n : ℕ) (o : Ownership) → DenotesOwners text n o → owners_of text n ≡ Ok o
+owners_of-again text n o is = said_by-again OwnerFile n (ownership n) text is.items is.lines is.text_is (denoted-agrees text n o is) ∙ ap (λ x. Ok x) (ownership-is text n o is)

@@ -4,7 +4,7 @@ use Rattle.text_lines.specs.Text.{lines_of, fields_of, number_of, significant}
 use Rattle.text_lines.specs.Laws.{HasNo}
 use Rattle.label_reader.specs.declared.kind.FileKind.{FileKind}
 use Rattle.label_reader.specs.declared.kind.FileKind.TheVariants.{LabelFile, OwnerFile}
-use Rattle.label_reader.specs.declared.kind.TheConstants.{GREATEST_INDEX}
+use Rattle.label_reader.specs.Limits.{greatest_index}
 use Rattle.label_reader.specs.Header.{Item, is_name, most_items, place_of}
 use Rattle.label_reader.specs.Lines.{StateLine}
 use Rattle.label_reader.specs.Labels.{Label, Labelling}
@@ -19,7 +19,7 @@ pub record IsItem (kind : FileKind) (field : List ℕ) (item : Item) : Type 0 wh
   pub form : field ≡ digits ++ 61 ∷ 34 ∷ (item.name ++ 34 ∷ [])
   pub index : Spells digits item.index
   pub name : is_name kind item.name ≡ true
-  pub small : item.index ≤ GREATEST_INDEX
+  pub small : item.index ≤ greatest_index
 
 abbrev pub AreItems : FileKind → List (List ℕ) → List Item → Type 0
 AreItems kind [] [] = Unit {0}

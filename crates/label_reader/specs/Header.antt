@@ -4,9 +4,9 @@ use Rattle.std.specs.List.{list_any, list_all}
 use Rattle.text_lines.specs.Text.{number_of, is_digit, saturated}
 use Rattle.label_reader.specs.declared.kind.FileKind.{FileKind}
 use Rattle.label_reader.specs.declared.kind.FileKind.TheVariants.{LabelFile, OwnerFile}
-use Rattle.label_reader.specs.declared.kind.TheConstants.{MOST_LABELS, MOST_PLAYERS, GREATEST_INDEX, LONGEST_NAME}
 use Rattle.label_reader.specs.declared.faults.LabCause.{LabCause}
 use Rattle.label_reader.specs.declared.faults.LabCause.TheVariants.{NoHeader, BadHeader, OverLimit, DoubleIndex, DoubleName}
+use Rattle.label_reader.specs.Limits.{most_labels, most_players, greatest_index, longest_name}
 
 -- an item of a header: the index of a name
 pub record Item : Type 0 where
@@ -43,7 +43,7 @@ has_name_bytes LabelFile name = list_all is_label_byte name
 has_name_bytes OwnerFile name = not (is_digit (slice_index name 0)) && list_all is_word_byte name
 
 abbrev pub is_name : FileKind → List ℕ → Bool
-is_name kind name = nat_le 1 (length name) && nat_le (length name) LONGEST_NAME && has_name_bytes kind name
+is_name kind name = nat_le 1 (length name) && nat_le (length name) longest_name && has_name_bytes kind name
 
 abbrev pub item_named : FileKind → Option ℕ → Option (List ℕ) → Option Item
 item_named kind (Some index) (Some name) = if is_name kind name then Some (record { index = index; name = name }) else None
@@ -58,8 +58,8 @@ abbrev pub item_of : FileKind → List ℕ → Option Item
 item_of kind field = item_parts kind (split_first 61 field)
 
 abbrev pub most_items : FileKind → ℕ
-most_items LabelFile = MOST_LABELS
-most_items OwnerFile = MOST_PLAYERS
+most_items LabelFile = most_labels
+most_items OwnerFile = most_players
 
 -- the place of the item with this index
 abbrev pub place_of : List Item → ℕ → Option ℕ
@@ -81,7 +81,7 @@ has_name items name = list_any (λ item. bytes_eq name item.name) items
 
 -- one item more would be too many, or its index is too great
 abbrev pub passes_limit : FileKind → List Item → ℕ → Bool
-passes_limit kind before index = nat_le (most_items kind) (length before) || nat_lt GREATEST_INDEX index
+passes_limit kind before index = nat_le (most_items kind) (length before) || nat_lt greatest_index index
 
 -- an item behind those before it, or its first fault
 abbrev pub with_item : FileKind → List Item → Option Item → Result (List Item) LabCause

@@ -4,6 +4,7 @@ pub mod Read
 pub mod Placed
 pub mod Named
 pub mod Labels
+pub mod Limits
 pub mod Owners
 pub mod Header
 pub mod Lines

@@ -4,7 +4,7 @@ use Rattle.std.specs.HashMap.{get, HashMap}
 use Rattle.std.specs.declared.hash.FoldHasher.{FoldHasher}
 use Rattle.std.specs.declared.hash.BuildHasherDefault.{BuildHasherDefault}
 use Rattle.std.specs.declared.alloc.Global.{Global}
-use Rattle.label_reader.specs.declared.kind.TheConstants.{GREATEST_INDEX}
+use Rattle.label_reader.specs.Limits.{greatest_index}
 use Rattle.label_reader.specs.Header.{Item, place_of}
 
 abbrev pub item_at : Vec ℕ Global × ℕ → Item
@@ -21,7 +21,7 @@ Places = HashMap ℕ ℕ (BuildHasherDefault FoldHasher)
 
 -- each index stands once, and is within the limit
 pub record AreSingle (items : List Item) : Type 0 where
-  pub small : All (λ item. item.index ≤ GREATEST_INDEX) items
+  pub small : All (λ item. item.index ≤ greatest_index) items
   pub once : (k : ℕ) → k < length items → place_of items (slice_index (indices_of items) k) ≡ Some k
 
 pub record ArePlaced (items : List Item) (places : Places) : Type 0 where

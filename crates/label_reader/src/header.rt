@@ -3,11 +3,12 @@ ghost use Rattle.std.specs.Prelude.{◌≡◌, ◌<◌, ◌≤◌, ◌+◌, ◌+
 ghost use Rattle.std.specs.List.{list_all};
 ghost use Rattle.text_lines.specs.Text.{fields_of};
 ghost use Rattle.label_reader.specs.Header.{place_in, place_of, has_place, has_index, has_name, passes_limit, with_item, item_of, header_of};
+ghost use Rattle.label_reader.specs.Limits.{most_labels, greatest_index};
 ghost use Rattle.label_reader.specs.Texts.{GivesCause};
 
 use crate::faults::LabCause;
 use crate::item::read_item;
-use crate::kind::{FileKind, GREATEST_INDEX, MOST_LABELS};
+use crate::kind::{FileKind, GREATEST_INDEX};
 use indexmap::IndexMap;
 use std::alloc::Global;
 use std::collections::HashMap;
@@ -109,8 +110,8 @@ impl Header {
 
     // One item more, which is new.
     fn with(self, alloc: Global, index: u64, name: &[u8]) -> Result<Header, LabCause>
-        requires few { length self < MOST_LABELS }
-        requires small { index ≤ GREATEST_INDEX }
+        requires few { length self < most_labels }
+        requires small { index ≤ greatest_index }
         requires new_index { has_index self index ≡ false }
         requires new_name { has_name self name.now ≡ false }
         ensures { MatchResult result (λ h. h ≡ self ++ (record { index = index; name = name.now }) ∷ []) (λ cause. cause ≡ LabCause.OutOfMemory) }

@@ -1,22 +1,21 @@
 -- The tokens of printed text.
-use Rattle.std.proofs.Common.{◌≡◌, ◌∙◌, ◌+◌, ◌<◌, ◌≤◌, ℕ, List, [], ◌∷◌, ◌++◌, length, drop, Bool, true, false, cond, refl, ap, sym, subst, arith, nat_lt, append_assoc}
+use Rattle.std.proofs.Common.{◌≡◌, ◌∙◌, ◌+◌, ℕ, List, [], ◌∷◌, ◌++◌, length, Bool, true, false, cond, refl, ap, sym, subst, arith, nat_lt, append_assoc}
 use Rattle.std.specs.Prelude.{◌==◌, ◌||◌, ◌&&◌, codes}
-use Rattle.std.specs.List.{AllByRecursion}
-use Rattle.std.proofs.Math.Seq.{take-append_seam, drop-append_seam}
+use Rattle.std.specs.List.{list_all, AllByRecursion}
 use Rattle.std.proofs.lemmas.List.{length-append}
 use Rattle.std.proofs.lemmas.Bool.Decides.{nat_tests}
-use Rattle.rpatl_syntax.specs.declared.front.Front.TheVariants.{Blank, Spelling, Strange}
-use Rattle.rpatl_syntax.specs.Formula.{State, True, False, Label, Not, And, Or, Implies}
-use Rattle.rpatl_syntax.specs.Limits.{longest_name}
-use Rattle.rpatl_syntax.specs.Spelling.{strength_of, in_place, state_spelling, names_spelling}
 use Rattle.text_lines.specs.Text.{is_digit}
-use Rattle.rpatl_syntax.specs.Tokens.{Then, tokens_from, front_from, begins_word, in_word, in_name, is_letter, in_number, is_blank, word_length, number_length, name_from, sign_from, is_long_sign}
+use Rattle.rpatl_syntax.specs.declared.front.Front.TheVariants.{Spelling}
+use Rattle.rpatl_syntax.specs.Formula.{State, True, False, Label, Not, And, Or, Implies}
+use Rattle.rpatl_syntax.specs.Spelling.{strength_of, in_place, state_spelling, names_spelling}
+use Rattle.rpatl_syntax.specs.Tokens.{tokens_from, front_from, in_word, is_letter, in_number, word_length, number_length, name_from, is_long_sign}
+use Rattle.rpatl_syntax.specs.Laws.{IsName}
 use Rattle.rpatl_syntax.specs.Grammar.{is_word}
 use Rattle.rpatl_syntax.specs.Rules.{between, with_commas}
+use Rattle.rpatl_syntax.specs.Spellable.{IsWholeWord, HasNames}
 use Rattle.rpatl_syntax.proofs.Spans.{Spans, spans_append}
-use Rattle.rpatl_syntax.proofs.Passing.{token_cut}
-use Rattle.rpatl_syntax.proofs.Lexed.{all_in_word, all_in_name, IsName, parts_true}
-use Rattle.rpatl_syntax.proofs.Needs.{HasNames}
+use Rattle.rpatl_syntax.proofs.Fronts.{parts_true, front_word, front_number, name_reads}
+use Rattle.rpatl_syntax.proofs.Cutting.{token_read}
 use Rattle.rpatl_syntax.proofs.Printing.{tokens_in, state_tokens}
 
 -- wherever the text stands before rest, these are its tokens
@@ -33,15 +32,7 @@ lays_append text more us vs rest a b = λ place.
 
 -- one token
 pub lays_token : (b : ℕ) (bytes rest : List ℕ) → front_from b (bytes ++ rest) ≡ Spelling (length bytes + 1) → Lays (b ∷ bytes) ((b ∷ bytes) ∷ []) rest
-lays_token b bytes rest e = λ place.
-    let size : length bytes + 1 ≡ length (b ∷ bytes) = omega arith in
-    let cut = token_cut b (bytes ++ rest) place (length (b ∷ bytes)) (e ∙ ap (λ n. Spelling n) size) (omega arith) (omega (arith, length-append bytes rest)) in (
-      place,
-      tokens_from (place + length (b ∷ bytes)) 0 rest,
-      cut ∙ ap (λ t. Then place t (tokens_from (place + length (b ∷ bytes)) 0 (drop (length (b ∷ bytes)) (b ∷ (bytes ++ rest))))) (take-append_seam (b ∷ bytes) rest)
-          ∙ ap (λ t. Then place (b ∷ bytes) (tokens_from (place + length (b ∷ bytes)) 0 t)) (drop-append_seam (b ∷ bytes) rest),
-      refl,
-    )
+lays_token b bytes rest e = λ place. (place, tokens_from (place + length (b ∷ bytes)) 0 rest, token_read b bytes rest place e, refl)
 
 pub lays_blank : (rest : List ℕ) → Lays (32 ∷ []) [] rest
 lays_blank rest = λ place. refl
@@ -78,29 +69,6 @@ lays_spaced sign rest lays =
     (lays_append sign (32 ∷ []) (sign ∷ []) [] rest lays (lays_blank rest))
 
 -- state formulas
-
-in_name_from : (q n : Bool) → cond q false n ≡ true → (q ≡ false) × (n ≡ true)
-in_name_from true n e = cc e
-in_name_from false n e = (refl, e)
-
-few_before : (read size : ℕ) → read + size + 1 ≤ longest_name → nat_lt read longest_name ≡ true
-few_before read size h = let small : read < longest_name = omega (arith, h) in grind (arith, nat_tests)
-
-name_reads : (name : List ℕ) (read : ℕ) (rest : List ℕ) → all_in_name name ≡ true → read + length name ≤ longest_name → 0 < read + length name → name_from read (name ++ 34 ∷ rest) ≡ Spelling (read + length name + 2)
-name_reads [] read rest e short some =
-    let z : (read == 0) ≡ false = grind (arith, nat_tests) in
-    let n : read + 2 ≡ read + length {A = ℕ} [] + 2 = omega arith in
-    ap (λ t. cond t Strange (Spelling (read + 2))) z ∙ ap (λ k. Spelling k) n
-name_reads (b ∷ name) read rest e short some =
-    let parts = parts_true (cond (b == 34) false (in_name b)) (all_in_name name) e in
-    let byte = in_name_from (b == 34) (in_name b) parts.0 in
-    let few : nat_lt read longest_name ≡ true = few_before read (length name) (omega (arith, short)) in
-    let n : read + 1 + length name + 2 ≡ read + length (b ∷ name) + 2 = omega arith in
-    ap (λ t. cond t (cond (read == 0) Strange (Spelling (read + 2))) (cond (in_name b && nat_lt read longest_name) (name_from (read + 1) (name ++ 34 ∷ rest)) Strange)) byte.0
-    ∙ ap (λ t. cond (t && nat_lt read longest_name) (name_from (read + 1) (name ++ 34 ∷ rest)) Strange) byte.1
-    ∙ ap (λ t. cond t (name_from (read + 1) (name ++ 34 ∷ rest)) Strange) few
-    ∙ name_reads name (read + 1) rest parts.1 (omega (arith, short)) (omega arith)
-    ∙ ap (λ k. Spelling k) n
 
 lays_label : (name rest : List ℕ) → IsName name → Lays (34 ∷ (name ++ 34 ∷ [])) ((34 ∷ (name ++ 34 ∷ [])) ∷ []) rest
 lays_label name rest is =
@@ -151,35 +119,24 @@ lays_state (Implies x y) names rest e =
 
 -- names
 
-word_goes_on : (bytes rest : List ℕ) → all_in_word bytes ≡ true → Ends rest → word_length (bytes ++ rest) ≡ length bytes
+word_goes_on : (bytes rest : List ℕ) → list_all in_word bytes ≡ true → Ends rest → word_length (bytes ++ rest) ≡ length bytes
 word_goes_on [] rest a e = e
 word_goes_on (b ∷ bytes) rest a e =
-    let parts = parts_true (in_word b) (all_in_word bytes) a in
+    let parts = parts_true (in_word b) (list_all in_word bytes) a in
     let n : length bytes + 1 ≡ length (b ∷ bytes) = omega arith in
     ap (λ t. cond t (word_length (bytes ++ rest) + 1) 0) parts.0 ∙ ap (λ k. k + 1) (word_goes_on bytes rest parts.1 e) ∙ n
 
-word_not_blank : (b : ℕ) (bytes : List ℕ) → begins_word b ≡ true → is_blank b bytes ≡ false
-word_not_blank b bytes w = grind (arith, nat_tests)
-
-pub lays_word : (word rest : List ℕ) → is_word word ≡ true → all_in_word word ≡ true → Ends rest → Lays word (word ∷ []) rest
+pub lays_word : (word rest : List ℕ) → is_word word ≡ true → list_all in_word word ≡ true → Ends rest → Lays word (word ∷ []) rest
 lays_word [] rest w a e = cc w
 lays_word (b ∷ bytes) rest w a e =
-    let parts = parts_true (in_word b) (all_in_word bytes) a in
-    lays_token b bytes rest
-    (ap (λ t. cond t Blank (cond (begins_word b) (Spelling (word_length (bytes ++ rest) + 1)) (cond (is_digit b) (Spelling (number_length b (bytes ++ rest) + 1)) (cond (b == 34) (name_from 0 (bytes ++ rest)) (sign_from b (bytes ++ rest)))))) (word_not_blank b (bytes ++ rest) w)
-    ∙ ap (λ t. cond t (Spelling (word_length (bytes ++ rest) + 1)) (cond (is_digit b) (Spelling (number_length b (bytes ++ rest) + 1)) (cond (b == 34) (name_from 0 (bytes ++ rest)) (sign_from b (bytes ++ rest))))) w
-    ∙ ap (λ n. Spelling (n + 1)) (word_goes_on bytes rest parts.1 e))
-
--- a word, and all of its bytes are
-pub record IsWholeWord (word : List ℕ) : Type 0 where
-  pub word_begins : is_word word ≡ true
-  pub goes_on : all_in_word word ≡ true
+    let parts = parts_true (in_word b) (list_all in_word bytes) a in
+    lays_token b bytes rest (front_word b (bytes ++ rest) w ∙ ap (λ n. Spelling (n + 1)) (word_goes_on bytes rest parts.1 e))
 
 pub lays_names : (name : List ℕ) (others : List (List ℕ)) → AllByRecursion IsWholeWord (name ∷ others) → (rest : List ℕ) → Ends rest → Lays (names_spelling (name ∷ others)) (with_commas (name ∷ others)) rest
-lays_names name [] words rest e = lays_word name rest words.0.word_begins words.0.goes_on e
+lays_names name [] words rest e = lays_word name rest words.0.begins words.0.bytes e
 lays_names name (other ∷ more) words rest e =
     lays_append name (codes "," ++ names_spelling (other ∷ more)) (name ∷ []) (codes "," ∷ with_commas (other ∷ more)) rest
-    (lays_word name ((codes "," ++ names_spelling (other ∷ more)) ++ rest) words.0.word_begins words.0.goes_on refl)
+    (lays_word name ((codes "," ++ names_spelling (other ∷ more)) ++ rest) words.0.begins words.0.bytes refl)
     (lays_append (codes ",") (names_spelling (other ∷ more)) (codes "," ∷ []) (with_commas (other ∷ more)) rest (lays_comma (names_spelling (other ∷ more) ++ rest)) (lays_names other more words.1 rest e))
 
 -- numbers
@@ -212,20 +169,10 @@ number_goes_on (b ∷ bytes) before rest a =
     let n : length bytes + 1 ≡ length (b ∷ bytes) = omega arith in
     ap (λ t. cond t (number_length b (bytes ++ 32 ∷ rest) + 1) 0) (in_number_from before b parts.0) ∙ ap (λ k. k + 1) (number_goes_on bytes b rest parts.1) ∙ n
 
-digit_not_blank : (b : ℕ) (bytes : List ℕ) → is_digit b ≡ true → is_blank b bytes ≡ false
-digit_not_blank b bytes d = grind (arith, nat_tests)
-
-digit_begins_no_word : (b : ℕ) → is_digit b ≡ true → begins_word b ≡ false
-digit_begins_no_word b d = grind (arith, nat_tests)
-
 -- a number before a blank
 pub lays_number : (b : ℕ) (bytes rest : List ℕ) → is_digit b ≡ true → all_in_fraction bytes ≡ true → Lays (b ∷ bytes) ((b ∷ bytes) ∷ []) (32 ∷ rest)
 lays_number b bytes rest d a =
-    lays_token b bytes (32 ∷ rest)
-    (ap (λ t. cond t Blank (cond (begins_word b) (Spelling (word_length (bytes ++ 32 ∷ rest) + 1)) (cond (is_digit b) (Spelling (number_length b (bytes ++ 32 ∷ rest) + 1)) (cond (b == 34) (name_from 0 (bytes ++ 32 ∷ rest)) (sign_from b (bytes ++ 32 ∷ rest)))))) (digit_not_blank b (bytes ++ 32 ∷ rest) d)
-    ∙ ap (λ t. cond t (Spelling (word_length (bytes ++ 32 ∷ rest) + 1)) (cond (is_digit b) (Spelling (number_length b (bytes ++ 32 ∷ rest) + 1)) (cond (b == 34) (name_from 0 (bytes ++ 32 ∷ rest)) (sign_from b (bytes ++ 32 ∷ rest))))) (digit_begins_no_word b d)
-    ∙ ap (λ t. cond t (Spelling (number_length b (bytes ++ 32 ∷ rest) + 1)) (cond (b == 34) (name_from 0 (bytes ++ 32 ∷ rest)) (sign_from b (bytes ++ 32 ∷ rest)))) d
-    ∙ ap (λ n. Spelling (n + 1)) (number_goes_on bytes b rest a))
+    lays_token b bytes (32 ∷ rest) (front_number b (bytes ++ 32 ∷ rest) d ∙ ap (λ n. Spelling (n + 1)) (number_goes_on bytes b rest a))
 
 digit_ends_above : (d : ℕ) → is_digit d ≡ true → is_long_sign 62 d ≡ false
 digit_ends_above d e = grind (arith, nat_tests)

@@ -1,68 +1,72 @@
--- Each token of a text is whole: a word has bytes of words alone, a quoted name is a name between two `"`.
-use Rattle.std.proofs.Common.{◌≡◌, ◌∙◌, ◌+◌, ◌-◌, ◌<◌, ◌≤◌, inl, inr, ℕ, zero, suc, List, [], ◌∷◌, ◌++◌, length, take, Bool, true, false, cond, refl, ap, sym, subst, arith, nat_lt}
-use Rattle.std.specs.Prelude.{◌==◌, ◌||◌, ◌&&◌}
+-- A token that is found has a spelling, and the longest.
+use Rattle.std.proofs.Common.{◌≡◌, ◌∙◌, ◌+◌, ◌<◌, ◌≤◌, inl, inr, ℕ, suc, List, [], ◌∷◌, ◌++◌, length, take, drop, Bool, true, false, cond, not, refl, ap, sym, subst, arith, nat_lt}
+use Rattle.std.specs.Prelude.{◌==◌, ◌&&◌}
+use Rattle.std.specs.List.{list_all}
 use Rattle.std.proofs.Math.Seq.{take-append-add}
-use Rattle.std.specs.List.{AllByRecursion}
+use Rattle.std.proofs.lemmas.List.{length-append, length-take-le, take-append-drop}
 use Rattle.std.proofs.lemmas.Bool.Decides.{nat_tests}
-use Rattle.rpatl_syntax.specs.declared.front.Front.{Front}
-use Rattle.rpatl_syntax.specs.declared.front.Front.TheVariants.{Blank, Spelling, Unclosed, Strange}
-use Rattle.rpatl_syntax.specs.Limits.{longest_name}
 use Rattle.text_lines.specs.Text.{is_digit}
-use Rattle.rpatl_syntax.specs.Tokens.{Tokens, Finish, Broken, Then, tokens_of, in_front, tokens_from, front_from, begins_word, in_word, in_name, is_blank, word_length, number_length, name_from, sign_from}
-use Rattle.rpatl_syntax.specs.Grammar.{is_word, is_quoted}
-use Rattle.rpatl_syntax.specs.Rules.{AreTokens}
+use Rattle.rpatl_syntax.specs.declared.front.Front.TheVariants.{Blank, Spelling, Strange}
+use Rattle.rpatl_syntax.specs.Laws.{go_on_number, is_name_byte, IsSpelling, word, number, quoted_name, long_sign, short_sign, IsLongest}
+use Rattle.rpatl_syntax.specs.Limits.{longest_name}
+use Rattle.rpatl_syntax.specs.Tokens.{front_from, begins_word, in_word, in_number, in_name, is_blank, is_long_sign, is_short_sign, word_length, number_length, name_from, sign_from, short_sign as sign_alone}
 use Rattle.rpatl_syntax.proofs.Spans.{chosen}
+use Rattle.rpatl_syntax.proofs.Fronts.{both_true, parts_true, met}
 
--- bytes of a word
-abbrev pub all_in_word : List ℕ → Bool
-all_in_word [] = true
-all_in_word (b ∷ bytes) = in_word b && all_in_word bytes
+-- 1. Each kind of token.
 
--- bytes of a quoted name
-abbrev pub all_in_name : List ℕ → Bool
-all_in_name [] = true
-all_in_name (b ∷ bytes) = (cond (b == 34) false (in_name b)) && all_in_name bytes
+-- so many bytes are cut off as a token
+pub record IsToken (b : ℕ) (bytes : List ℕ) (count : ℕ) : Type 0 where
+  pub spelled : IsSpelling (take count (b ∷ bytes))
+  pub some : 0 < count
+  pub within : count ≤ length bytes + 1
 
--- what may stand between two `"`
-pub record IsName (name : List ℕ) : Type 0 where
-  pub bytes : all_in_name name ≡ true
-  pub some : 0 < length name
-  pub short : length name ≤ longest_name
-
--- a quoted name
-pub record IsQuotedName (token : List ℕ) : Type 0 where
-  pub name : List ℕ
-  pub quoted : token ≡ 34 ∷ (name ++ 34 ∷ [])
-  pub is_name : IsName name
-
-pub record IsWhole (token : List ℕ) : Type 0 where
-  pub word : is_word token ≡ true → all_in_word token ≡ true
-  pub quoted : is_quoted token ≡ true → IsQuotedName token
-
-abbrev pub AreWhole : Tokens → Type 0
-AreWhole (Finish place) = Unit {0}
-AreWhole (Broken fault) = Unit {0}
-AreWhole (Then place spelling rest) = IsWhole spelling × AreWhole rest
-
-pub both_true : (a b : Bool) → a ≡ true → b ≡ true → (a && b) ≡ true
-both_true true true e f = refl
-both_true true false e f = cc
-both_true false b e f = cc
-
-pub parts_true : (a b : Bool) → (a && b) ≡ true → (a ≡ true) × (b ≡ true)
-parts_true true b e = (refl, e)
-parts_true false b e = cc
-
-word_front : (bytes : List ℕ) → all_in_word (take (word_length bytes) bytes) ≡ true
+word_front : (bytes : List ℕ) → list_all in_word (take (word_length bytes) bytes) ≡ true
 word_front [] = refl
 word_front (b ∷ bytes) = by_test (word_front bytes) (in_word b) refl
   where
-    by_test : all_in_word (take (word_length bytes) bytes) ≡ true → (t : Bool) → in_word b ≡ t → all_in_word (take (cond t (word_length bytes + 1) 0) (b ∷ bytes)) ≡ true
+    by_test : list_all in_word (take (word_length bytes) bytes) ≡ true → (t : Bool) → in_word b ≡ t → list_all in_word (take (cond t (word_length bytes + 1) 0) (b ∷ bytes)) ≡ true
     by_test more false e = refl
     by_test more true e =
         let k : word_length bytes + 1 ≡ suc (word_length bytes) = omega arith in
-        let P : ℕ → Type 0 = λ n. all_in_word (take n (b ∷ bytes)) ≡ true in
-        subst P (sym k) (both_true (in_word b) (all_in_word (take (word_length bytes) bytes)) e more)
+        let P : ℕ → Type 0 = λ n. list_all in_word (take n (b ∷ bytes)) ≡ true in
+        subst P (sym k) (both_true (in_word b) (list_all in_word (take (word_length bytes) bytes)) e more)
+
+number_front : (before : ℕ) (bytes : List ℕ) → go_on_number before (take (number_length before bytes) bytes) ≡ true
+number_front before [] = refl
+number_front before (b ∷ bytes) = by_test (number_front b bytes) (in_number before b) refl
+  where
+    by_test : go_on_number b (take (number_length b bytes) bytes) ≡ true → (t : Bool) → in_number before b ≡ t → go_on_number before (take (cond t (number_length b bytes + 1) 0) (b ∷ bytes)) ≡ true
+    by_test more false e = refl
+    by_test more true e =
+        let k : number_length b bytes + 1 ≡ suc (number_length b bytes) = omega arith in
+        let P : ℕ → Type 0 = λ n. go_on_number before (take n (b ∷ bytes)) ≡ true in
+        subst P (sym k) (both_true (in_number before b) (go_on_number b (take (number_length b bytes) bytes)) e more)
+
+test_within : (t : Bool) (n most : ℕ) → n ≤ most → cond t (n + 1) 0 ≤ most + 1
+test_within true n most h = omega (arith, h)
+test_within false n most h = omega arith
+
+word_within : (bytes : List ℕ) → word_length bytes ≤ length bytes
+word_within [] = omega arith
+word_within (b ∷ bytes) = omega (arith, test_within (in_word b) (word_length bytes) (length bytes) (word_within bytes))
+
+number_within : (before : ℕ) (bytes : List ℕ) → number_length before bytes ≤ length bytes
+number_within before [] = omega arith
+number_within before (b ∷ bytes) = omega (arith, test_within (in_number before b) (number_length b bytes) (length bytes) (number_within b bytes))
+
+counted : (b : ℕ) (bytes : List ℕ) (n count : ℕ) → n ≡ count → IsToken b bytes n → IsToken b bytes count
+counted b bytes n count e t = let P : ℕ → Type 0 = λ k. IsToken b bytes k in subst P e t
+
+word_token : (b : ℕ) (bytes : List ℕ) (count : ℕ) → begins_word b ≡ true → word_length bytes + 1 ≡ count → IsToken b bytes count
+word_token b bytes count w size =
+    counted b bytes (suc (word_length bytes)) count (omega (arith, size))
+    (record { spelled = word b (take (word_length bytes) bytes) w (word_front bytes); some = omega arith; within = omega (arith, word_within bytes) })
+
+number_token : (b : ℕ) (bytes : List ℕ) (count : ℕ) → is_digit b ≡ true → number_length b bytes + 1 ≡ count → IsToken b bytes count
+number_token b bytes count d size =
+    counted b bytes (suc (number_length b bytes)) count (omega (arith, size))
+    (record { spelled = number b (take (number_length b bytes) bytes) d (number_front b bytes); some = omega arith; within = omega (arith, number_within b bytes) })
 
 -- the name at the front of what stands behind a `"`, of which so many bytes were read before
 record NameAt (read : ℕ) (bytes : List ℕ) (count : ℕ) : Type 0 where
@@ -70,7 +74,7 @@ record NameAt (read : ℕ) (bytes : List ℕ) (count : ℕ) : Type 0 where
   pub rest : List ℕ
   pub whole : bytes ≡ name ++ 34 ∷ rest
   pub size : count ≡ read + length name + 2
-  pub is_name : all_in_name name ≡ true
+  pub is_name : list_all is_name_byte name ≡ true
   pub some : 0 < read + length name
   pub short : read + length name ≤ longest_name
 
@@ -89,7 +93,7 @@ in_front_of_name b read count bytes q n at = record {
   rest = at.rest;
   whole = ap (λ bs. b ∷ bs) at.whole;
   size = omega (arith, at.size);
-  is_name = both_true (cond (b == 34) false (in_name b)) (all_in_name at.name) (ap (λ t. cond t false (in_name b)) q ∙ n) at.is_name;
+  is_name = both_true (is_name_byte b) (list_all is_name_byte at.name) (both_true (in_name b) (not (b == 34)) n (ap not q)) at.is_name;
   some = omega arith;
   short = omega (arith, at.short);
 }
@@ -120,85 +124,85 @@ name_front (b ∷ bytes) read count h e =
       ]
     ]
 
-first_of_word : (count b : ℕ) (bytes : List ℕ) → is_word (take count (b ∷ bytes)) ≡ true → begins_word b ≡ true
-first_of_word zero b bytes e = cc e
-first_of_word (suc count) b bytes e = e
-
-first_of_quoted : (count b : ℕ) (bytes : List ℕ) → is_quoted (take count (b ∷ bytes)) ≡ true → (b == 34) ≡ true
-first_of_quoted zero b bytes e = cc e
-first_of_quoted (suc count) b bytes e = e
-
-no_quote_in_words : (b : ℕ) → begins_word b ≡ true → (b == 34) ≡ true → ⊥
-no_quote_in_words b w q =
-    let e : begins_word 34 ≡ true = ap begins_word (sym (quote_is b q)) ∙ w in cc e
-
-in_word_from : (b : ℕ) → begins_word b ≡ true → in_word b ≡ true
-in_word_from b e = ap (λ t. t || is_digit b) e
-
-word_whole : (b : ℕ) (bytes : List ℕ) (count : ℕ) → begins_word b ≡ true → word_length bytes + 1 ≡ count → IsWhole (take count (b ∷ bytes))
-word_whole b bytes count w size =
-    let k : suc (word_length bytes) ≡ count = omega (arith, size) in
-    let P : ℕ → Type 0 = λ n. all_in_word (take n (b ∷ bytes)) ≡ true in
-    record {
-      word = λ e. subst P k (both_true (in_word b) (all_in_word (take (word_length bytes) bytes)) (in_word_from b w) (word_front bytes));
-      quoted = λ e. absurd (no_quote_in_words b w (first_of_quoted count b bytes e));
-    }
-
-name_whole : (b : ℕ) (bytes : List ℕ) (count : ℕ) → begins_word b ≡ false → (b == 34) ≡ true → name_from 0 bytes ≡ Spelling count → IsWhole (take count (b ∷ bytes))
-name_whole b bytes count w q e =
+name_token : (b : ℕ) (bytes : List ℕ) (count : ℕ) → (b == 34) ≡ true → name_from 0 bytes ≡ Spelling count → IsToken b bytes count
+name_token b bytes count q e =
     let at = name_front bytes 0 count (omega arith) e in
     let size : count ≡ suc (length at.name + 1) = omega (arith, at.size) in
+    let whole : take count (b ∷ bytes) ≡ 34 ∷ (at.name ++ 34 ∷ []) = ap (λ n. take n (b ∷ bytes)) size ∙ ap (λ bs. b ∷ take (length at.name + 1) bs) at.whole ∙ ap (λ bs. b ∷ bs) (take-append-add at.name (34 ∷ at.rest) 1) ∙ ap (λ c. c ∷ (at.name ++ 34 ∷ [])) (quote_is b q) in
+    let P : List ℕ → Type 0 = λ s. IsSpelling s in
     record {
-      word = λ f. cc (first_of_word count b bytes f, w);
-      quoted = λ f. record {
-        name = at.name;
-        quoted = ap (λ n. take n (b ∷ bytes)) size ∙ ap (λ bs. b ∷ take (length at.name + 1) bs) at.whole ∙ ap (λ bs. b ∷ bs) (take-append-add at.name (34 ∷ at.rest) 1) ∙ ap (λ c. c ∷ (at.name ++ 34 ∷ [])) (quote_is b q);
-        is_name = record { bytes = at.is_name; some = omega (arith, at.some); short = omega (arith, at.short) };
-      };
+      spelled = subst P (sym whole) (quoted_name at.name (record { bytes = at.is_name; some = omega (arith, at.some); short = omega (arith, at.short) }));
+      some = omega (arith, at.size);
+      within = omega (arith, at.size, ap length at.whole, length-append at.name (34 ∷ at.rest));
     }
 
-sign_whole : (b : ℕ) (bytes : List ℕ) (count : ℕ) → begins_word b ≡ false → (b == 34) ≡ false → IsWhole (take count (b ∷ bytes))
-sign_whole b bytes count w q = record {
-  word = λ f. cc (first_of_word count b bytes f, w);
-  quoted = λ f. cc (first_of_quoted count b bytes f, q);
-}
+one_byte : (b : ℕ) (bytes : List ℕ) (count : ℕ) → sign_alone b ≡ Spelling count → IsToken b bytes count
+one_byte b bytes count e = elim (chosen (is_short_sign b) (Spelling 1) Strange (Spelling count) e) [
+  | inl t ↦ counted b bytes 1 count (cc t.1) (record { spelled = short_sign b t.0; some = omega arith; within = omega arith })
+  | inr t ↦ cc t.1
+]
 
-digit_no_quote : (b : ℕ) → is_digit b ≡ true → (b == 34) ≡ false
-digit_no_quote b e = grind (arith, nat_tests)
+sign_token : (b : ℕ) (bytes : List ℕ) (count : ℕ) → sign_from b bytes ≡ Spelling count → IsToken b bytes count
+sign_token b [] count e = one_byte b [] count e
+sign_token b (c ∷ bytes) count e = elim (chosen (is_long_sign b c) (Spelling 2) (sign_alone b) (Spelling count) e) [
+  | inl t ↦ counted b (c ∷ bytes) 2 count (cc t.1) (record { spelled = long_sign b c t.0; some = omega arith; within = omega arith })
+  | inr t ↦ one_byte b (c ∷ bytes) count t.1
+]
 
-token_whole : (b : ℕ) (bytes : List ℕ) (count : ℕ) → front_from b bytes ≡ Spelling count → IsWhole (take count (b ∷ bytes))
-token_whole b bytes count e =
+pub token_found : (b : ℕ) (bytes : List ℕ) (count : ℕ) → front_from b bytes ≡ Spelling count → IsToken b bytes count
+token_found b bytes count e =
     elim (chosen (is_blank b bytes) Blank (cond (begins_word b) (Spelling (word_length bytes + 1)) (cond (is_digit b) (Spelling (number_length b bytes + 1)) (cond (b == 34) (name_from 0 bytes) (sign_from b bytes)))) (Spelling count) e) [
       | inl t ↦ cc t.1
       | inr t ↦ elim (chosen (begins_word b) (Spelling (word_length bytes + 1)) (cond (is_digit b) (Spelling (number_length b bytes + 1)) (cond (b == 34) (name_from 0 bytes) (sign_from b bytes))) (Spelling count) t.1) [
-        | inl w ↦ word_whole b bytes count w.0 (cc w.1)
+        | inl w ↦ word_token b bytes count w.0 (cc w.1)
         | inr w ↦ elim (chosen (is_digit b) (Spelling (number_length b bytes + 1)) (cond (b == 34) (name_from 0 bytes) (sign_from b bytes)) (Spelling count) w.1) [
-          | inl d ↦ sign_whole b bytes count w.0 (digit_no_quote b d.0)
+          | inl d ↦ number_token b bytes count d.0 (cc d.1)
           | inr d ↦ elim (chosen (b == 34) (name_from 0 bytes) (sign_from b bytes) (Spelling count) d.1) [
-            | inl q ↦ name_whole b bytes count w.0 q.0 q.1
-            | inr q ↦ sign_whole b bytes count w.0 q.0
+            | inl q ↦ name_token b bytes count q.0 q.1
+            | inr q ↦ sign_token b bytes count q.1
           ]
         ]
       ]
     ]
 
-front_whole : (place b : ℕ) (bytes : List ℕ) (f : Front) → front_from b bytes ≡ f → ((within : ℕ) → AreWhole (tokens_from (place + 1) within bytes)) → AreWhole (in_front place (b ∷ bytes) f (λ more. tokens_from (place + 1) more bytes))
-front_whole place b bytes Blank e more = more 0
-front_whole place b bytes (Spelling count) e more = (token_whole b bytes count e, more (count - 1))
-front_whole place b bytes Unclosed e more = tt
-front_whole place b bytes Strange e more = tt
+-- 2. The longest spelling.
 
-tokens_whole : (bytes : List ℕ) (place within : ℕ) → AreWhole (tokens_from place within bytes)
-tokens_whole [] place within = tt
-tokens_whole (b ∷ bytes) place zero = front_whole place b bytes (front_from b bytes) refl (λ within. tokens_whole bytes (place + 1) within)
-tokens_whole (b ∷ bytes) place (suc within) = tokens_whole bytes (place + 1) within
+same_front : (b c : ℕ) (bytes others : List ℕ) → b ∷ bytes ≡ c ∷ others → front_from b bytes ≡ front_from c others
+same_front b c bytes others e =
+    let first : b ≡ c = cc in
+    let rest : bytes ≡ others = cc in
+    ap (λ n. front_from n bytes) first ∙ ap (λ t. front_from c t) rest
 
-all_whole : (us : List (List ℕ)) (ts : Tokens) → AreTokens ts us → AreWhole ts → AllByRecursion IsWhole us
-all_whole [] ts a w = tt
-all_whole (u ∷ us) (Finish place) a w = absurd a
-all_whole (u ∷ us) (Broken fault) a w = absurd a
-all_whole (u ∷ us) (Then place spelling rest) a w = (let P : List ℕ → Type 0 = λ s. IsWhole s in subst P a.0 w.0, all_whole us rest a.1 w.1)
+-- what is found is the longest
+pub found_longest : (b : ℕ) (bytes : List ℕ) (count : ℕ) → front_from b bytes ≡ Spelling count → IsLongest (take count (b ∷ bytes)) (drop count (b ∷ bytes))
+found_longest b bytes count e =
+    let t = token_found b bytes count e in
+    let size : length (take count (b ∷ bytes)) ≡ count = length-take-le count (b ∷ bytes) (omega (arith, t.within)) in
+    record {
+      is = t.spelled;
+      longest = λ other behind same s.
+          let m = met other s behind in
+          let here : m.first ∷ (m.others ++ behind) ≡ b ∷ bytes = ap (λ o. o ++ behind) (sym m.whole) ∙ sym same ∙ take-append-drop count (b ∷ bytes) in
+          let counts : Spelling m.count ≡ Spelling count = sym m.front ∙ same_front m.first b (m.others ++ behind) bytes here ∙ e in
+          let one : m.count ≡ count = cc counts in
+          omega (arith, m.enough, one, size);
+    }
 
--- the tokens of a text are whole
-pub text_whole : (text : List ℕ) (us : List (List ℕ)) → AreTokens (tokens_of text) us → AllByRecursion IsWhole us
-text_whole text us a = all_whole us (tokens_of text) a (tokens_whole text 0 0)
+-- the spelling is the token at the front
+pub record IsFound (spelling rest : List ℕ) : Type 0 where
+  pub first : ℕ
+  pub others : List ℕ
+  pub whole : spelling ≡ first ∷ others
+  pub front : front_from first (others ++ rest) ≡ Spelling (length others + 1)
+
+-- the longest is found
+pub longest_found : (spelling rest : List ℕ) → IsLongest spelling rest → IsFound spelling rest
+longest_found spelling rest l =
+    let m = met spelling l.is rest in
+    let text = m.first ∷ (m.others ++ rest) in
+    let t = token_found m.first (m.others ++ rest) m.count m.front in
+    let size : length (take m.count text) ≡ m.count = length-take-le m.count text (omega (arith, t.within)) in
+    let split : spelling ++ rest ≡ take m.count text ++ drop m.count text = ap (λ s. s ++ rest) m.whole ∙ sym (take-append-drop m.count text) in
+    let most : length (take m.count text) ≤ length spelling = l.longest (take m.count text) (drop m.count text) split t.spelled in
+    let count : m.count ≡ length m.others + 1 = omega (arith, m.enough, size, most, ap length m.whole) in
+    record { first = m.first; others = m.others; whole = m.whole; front = m.front ∙ ap (λ n. Spelling n) count }

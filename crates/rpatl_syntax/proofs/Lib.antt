@@ -3,7 +3,10 @@ pub mod Denoted
 pub mod Derived
 pub mod Joining
 pub mod Laying
+pub mod Fronts
 pub mod Lexed
+pub mod Cutting
+pub mod Blanks
 pub mod Naming
 pub mod Needs
 pub mod Numerals

@@ -1,40 +1,20 @@
 -- How deep a printed state formula nests, and that what was read nests no deeper.
 use Rattle.std.proofs.Common.{◌≡◌, ◌∙◌, ◌+◌, ◌-◌, ◌≤◌, ℕ, List, [], ◌∷◌, ◌++◌, length, take, Bool, true, false, cond, refl, ap, sym, subst, arith, nat_lt}
-use Rattle.std.specs.Prelude.{max, codes, if◌then◌else◌}
-use Rattle.std.specs.List.{AllByRecursion}
+use Rattle.std.specs.Prelude.{◌||◌, codes}
+use Rattle.std.specs.List.{list_all, AllByRecursion}
 use Rattle.std.proofs.Math.Nat.{max-le}
 use Rattle.std.proofs.Math.Seq.{take-append_seam}
 use Rattle.std.proofs.lemmas.List.{length-append}
 use Rattle.std.proofs.lemmas.Bool.Decides.{nat_tests}
-use Rattle.rpatl_syntax.specs.Formula.{State, True, False, Label, Not, And, Or, Implies}
+use Rattle.text_lines.specs.Text.{is_digit}
+use Rattle.rpatl_syntax.specs.Formula.{State}
 use Rattle.rpatl_syntax.specs.Spelling.{strength_of}
-use Rattle.rpatl_syntax.specs.Grammar.{is_quoted, unquoted}
+use Rattle.rpatl_syntax.specs.Tokens.{in_word}
+use Rattle.rpatl_syntax.specs.Laws.{IsName, IsSpelling, word, number, quoted_name, long_sign, short_sign}
+use Rattle.rpatl_syntax.specs.Grammar.{is_word, is_quoted, unquoted}
 use Rattle.rpatl_syntax.specs.Rules.{IsState, IsEither, IsBoth, IsUnary, plain_state, implies, plain_either, or, plain_both, and, negation, brackets, everywhere, nowhere, label}
-use Rattle.rpatl_syntax.proofs.Lexed.{IsName, IsWhole}
-
--- in a place for formulas that bind at least so tightly
-abbrev pub need_in : ℕ → State → ℕ → ℕ
-need_in least x inner = if nat_lt (strength_of x) least then inner + 1 else inner
-
--- the most `(` and `!` that are open at once in the spelling
-abbrev pub need : State → ℕ
-need True = 0
-need False = 0
-need (Label name) = 0
-need (Not x) = need_in 3 x (need x) + 1
-need (And x y) = max (need_in 2 x (need x)) (need_in 3 y (need y))
-need (Or x y) = max (need_in 1 x (need x)) (need_in 2 y (need y))
-need (Implies x y) = max (need_in 0 x (need x)) (need_in 1 y (need y))
-
--- each label is a name that can be quoted
-abbrev pub HasNames : State → Type 0
-HasNames True = Unit {0}
-HasNames False = Unit {0}
-HasNames (Label name) = IsName name
-HasNames (Not x) = HasNames x
-HasNames (And x y) = HasNames x × HasNames y
-HasNames (Or x y) = HasNames x × HasNames y
-HasNames (Implies x y) = HasNames x × HasNames y
+use Rattle.rpatl_syntax.specs.Spellable.{IsWholeWord, HasNames, need_in, need}
+use Rattle.rpatl_syntax.proofs.Fronts.{both_true, word_no_quote, digit_no_quote, digit_begins_no_word, long_is_other, short_is_other}
 
 -- in such a place so many open `(` and `!` suffice
 pub record Suits (least room : ℕ) (x : State) : Type 0 where
@@ -70,11 +50,11 @@ need-rises less least x n h = tests_rise (nat_lt (strength_of x) less) (nat_lt (
 looser : (less least room : ℕ) (x : State) → less ≤ least → Suits least room x → Suits less room x
 looser less least room x h s = record { nests = omega (arith, need-rises less least x (need x) h, s.nests); names = s.names }
 
-pub all_left : (ts us : List (List ℕ)) → AllByRecursion IsWhole (ts ++ us) → AllByRecursion IsWhole ts
+pub all_left : (ts us : List (List ℕ)) → AllByRecursion IsSpelling (ts ++ us) → AllByRecursion IsSpelling ts
 all_left [] us a = tt
 all_left (t ∷ ts) us a = (a.0, all_left ts us a.1)
 
-pub all_right : (ts us : List (List ℕ)) → AllByRecursion IsWhole (ts ++ us) → AllByRecursion IsWhole us
+pub all_right : (ts us : List (List ℕ)) → AllByRecursion IsSpelling (ts ++ us) → AllByRecursion IsSpelling us
 all_right [] us a = a
 all_right (t ∷ ts) us a = all_right ts us a.1
 
@@ -83,14 +63,30 @@ unquoted-quoted name =
     let size : length (34 ∷ (name ++ 34 ∷ [])) - 2 ≡ length name = omega (arith, length-append name (34 ∷ [])) in
     ap (λ n. take n (name ++ 34 ∷ [])) size ∙ take-append_seam name (34 ∷ [])
 
-label_kept : (token : List ℕ) → is_quoted token ≡ true → IsWhole token → IsName (unquoted token)
-label_kept token q w =
-    let n = w.quoted q in
+-- a spelling that begins with `"` is that of a quoted name
+quoted_kept : (token : List ℕ) → IsSpelling token → is_quoted token ≡ true → (name : List ℕ) × (token ≡ 34 ∷ (name ++ 34 ∷ [])) × IsName name
+quoted_kept _ (word b bytes w a) q = cc (q, word_no_quote b w)
+quoted_kept _ (number b bytes d a) q = cc (q, digit_no_quote b d)
+quoted_kept _ (quoted_name name is) q = (name, refl, is)
+quoted_kept _ (long_sign b c e) q = cc (q, (long_is_other b c [] e).quote)
+quoted_kept _ (short_sign b e) q = cc (q, (short_is_other b [] e).quote)
+
+label_kept : (token : List ℕ) → is_quoted token ≡ true → IsSpelling token → IsName (unquoted token)
+label_kept token q s =
+    let n = quoted_kept token s q in
     let P : List ℕ → Type 0 = λ t. IsName t in
-    subst P (sym (ap unquoted n.quoted ∙ unquoted-quoted n.name)) n.is_name
+    subst P (sym (ap unquoted n.1 ∙ unquoted-quoted n.0)) n.2
+
+-- a spelling that begins with a letter or `_` is that of a word
+pub word_kept : (token : List ℕ) → IsSpelling token → is_word token ≡ true → IsWholeWord token
+word_kept _ (word b bytes w a) e = record { begins = e; bytes = both_true (in_word b) (list_all in_word bytes) (ap (λ t. t || is_digit b) w) a }
+word_kept _ (number b bytes d a) e = cc (e, digit_begins_no_word b d)
+word_kept _ (quoted_name name is) e = cc e
+word_kept _ (long_sign b c f) e = cc (e, (long_is_other b c [] f).word)
+word_kept _ (short_sign b f) e = cc (e, (short_is_other b [] f).word)
 
 mutual
-  unary_suits : (room : ℕ) (us : List (List ℕ)) (x : State) → IsUnary room us x → AllByRecursion IsWhole us → Suits 3 room x
+  unary_suits : (room : ℕ) (us : List (List ℕ)) (x : State) → IsUnary room us x → AllByRecursion IsSpelling us → Suits 3 room x
   unary_suits _ _ _ (negation room us x d) a =
       let inner = unary_suits room us x d a.1 in
       record { nests = omega (arith, inner.nests); names = inner.names }
@@ -101,21 +97,21 @@ mutual
   unary_suits _ _ _ (nowhere room) a = record { nests = omega arith; names = tt }
   unary_suits _ _ _ (label room token q) a = record { nests = omega arith; names = label_kept token q a.0 }
 
-  both_suits : (room : ℕ) (us : List (List ℕ)) (x : State) → IsBoth room us x → AllByRecursion IsWhole us → Suits 2 room x
+  both_suits : (room : ℕ) (us : List (List ℕ)) (x : State) → IsBoth room us x → AllByRecursion IsSpelling us → Suits 2 room x
   both_suits _ _ _ (plain_both room us x d) a = looser 2 3 room x (omega arith) (unary_suits room us x d a)
   both_suits _ _ _ (and room us vs x y d e) a =
       let left = both_suits room us x d (all_left us (codes "&" ∷ vs) a) in
       let right = unary_suits room vs y e (let b = all_right us (codes "&" ∷ vs) a in b.1) in
       record { nests = max-le left.nests right.nests; names = (left.names, right.names) }
 
-  either_suits : (room : ℕ) (us : List (List ℕ)) (x : State) → IsEither room us x → AllByRecursion IsWhole us → Suits 1 room x
+  either_suits : (room : ℕ) (us : List (List ℕ)) (x : State) → IsEither room us x → AllByRecursion IsSpelling us → Suits 1 room x
   either_suits _ _ _ (plain_either room us x d) a = looser 1 2 room x (omega arith) (both_suits room us x d a)
   either_suits _ _ _ (or room us vs x y d e) a =
       let left = either_suits room us x d (all_left us (codes "|" ∷ vs) a) in
       let right = both_suits room vs y e (let b = all_right us (codes "|" ∷ vs) a in b.1) in
       record { nests = max-le left.nests right.nests; names = (left.names, right.names) }
 
-  pub state_suits : (room : ℕ) (us : List (List ℕ)) (x : State) → IsState room us x → AllByRecursion IsWhole us → Suits 0 room x
+  pub state_suits : (room : ℕ) (us : List (List ℕ)) (x : State) → IsState room us x → AllByRecursion IsSpelling us → Suits 0 room x
   state_suits _ _ _ (plain_state room us x d) a = looser 0 1 room x (omega arith) (either_suits room us x d a)
   state_suits _ _ _ (implies room us vs x y d e) a =
       let left = state_suits room us x d (all_left us (codes "=>" ∷ vs) a) in

@@ -6,11 +6,12 @@ use Rattle.std.proofs.lemmas.List.{append-nil}
 use Rattle.std.proofs.lemmas.Bool.Decides.{nat_tests}
 use Rattle.text_lines.specs.Text.{all_digits, value_onto, is_digit}
 use Rattle.distributions.specs.Limits.{finest, most_digits}
-use Rattle.distributions.specs.Fraction.{Fraction, IsFraction}
+use Rattle.distributions.specs.Fraction.{Fraction}
 use Rattle.distributions.specs.Number.{Decimal, Quotient, no_exponent, AreDigits, Denotes}
 use Rattle.distributions.proofs.Spelled.{value_append}
 use Rattle.rpatl_syntax.specs.Spelling.{fraction_spelling}
-use Rattle.rpatl_syntax.proofs.Lexed.{both_true, parts_true}
+use Rattle.rpatl_syntax.specs.Spellable.{IsShare}
+use Rattle.rpatl_syntax.proofs.Fronts.{both_true, parts_true}
 use Rattle.rpatl_syntax.proofs.Laying.{in_fraction, all_in_fraction}
 
 -- the digits of a number
@@ -65,11 +66,6 @@ fraction_append [] back a b = b
 fraction_append (d ∷ front) back a b =
     let parts = parts_true (in_fraction d) (all_in_fraction front) a in
     both_true (in_fraction d) (all_in_fraction (front ++ back)) parts.0 (fraction_append front back parts.1 b)
-
--- a threshold as it is read: a fraction that is at most 1
-pub record IsShare (p : Fraction) : Type 0 where
-  pub fraction : IsFraction p
-  pub small : p.num ≤ p.den
 
 -- the text of a fraction
 pub record FractionText (p : Fraction) (text : List ℕ) : Type 0 where

@@ -5,7 +5,8 @@ use Rattle.std.proofs.Math.Nat.{le-max_left, le-max_right}
 use Rattle.rpatl_syntax.specs.Formula.{State, True, False, Label, Not, And, Or, Implies}
 use Rattle.rpatl_syntax.specs.Spelling.{strength_of}
 use Rattle.rpatl_syntax.specs.Rules.{between, IsState, IsEither, IsBoth, IsUnary, plain_state, implies, plain_either, or, plain_both, and, negation, brackets, everywhere, nowhere, label}
-use Rattle.rpatl_syntax.proofs.Needs.{need, need_in, unquoted-quoted}
+use Rattle.rpatl_syntax.specs.Spellable.{need, need_in}
+use Rattle.rpatl_syntax.proofs.Needs.{unquoted-quoted}
 
 abbrev pub tokens_in : ℕ → State → List (List ℕ) → List (List ℕ)
 tokens_in least x tokens = if nat_lt (strength_of x) least then codes "(" ∷ (tokens ++ codes ")" ∷ []) else tokens

@@ -1,4 +1,4 @@
--- The spelling of a formula that was read denotes that formula.
+-- The spelling of a formula that the grammar can spell denotes that formula, and nothing else is read.
 use Rattle.std.proofs.Common.{◌≡◌, ◌∙◌, ◌+◌, ◌≤◌, ℕ, List, [], ◌∷◌, ◌++◌, length, true, Option, Some, None, Result, Ok, Err, Vec, Global, refl, ap, sym, subst, arith, append_assoc}
 use Rattle.std.specs.Prelude.{codes, IfOk}
 use Rattle.game_outside.specs.declared.OutOfMemory.{OutOfMemory}
@@ -9,49 +9,33 @@ use Rattle.rpatl_syntax.specs.declared.formula.Bound.{Bound}
 use Rattle.rpatl_syntax.specs.declared.formula.Bound.TheVariants.{AtLeast, Above, AtMost, Below, AskMax, AskMin}
 use Rattle.rpatl_syntax.specs.Formula.{State, True, False, Label, Not, And, Or, Implies, Tree}
 use Rattle.rpatl_syntax.specs.Grammar.{formula_said, is_number}
+use Rattle.rpatl_syntax.specs.Laws.{IsSpelling}
 use Rattle.rpatl_syntax.specs.Limits.{longest, most_nested}
 use Rattle.rpatl_syntax.specs.Rules.{between, IsState, with_commas, IsWord, IsCoalition, IsComparison, IsBound, IsPath, reach, until as until_path, AreTokens, Denotes}
+use Rattle.rpatl_syntax.specs.Spellable.{IsWholeWord, HasWords, IsShare, HasShare, need, IsSide, IsSpellable}
 use Rattle.rpatl_syntax.specs.Spelling.{state_spelling, path_spelling, names_spelling, coalition_spelling, fraction_spelling, bound_spelling, spelling}
 use Rattle.text_lines.specs.Text.{is_digit}
 use Rattle.rpatl_syntax.specs.Tokens.{tokens_from, tokens_of}
-use Rattle.rpatl_syntax.proofs.Denoted.{ends_with, formula_denoted}
+use Rattle.rpatl_syntax.proofs.Denoted.{ends_with}
 use Rattle.rpatl_syntax.proofs.Again.{formula_said_again}
-use Rattle.rpatl_syntax.proofs.Lexed.{IsWhole, text_whole}
-use Rattle.rpatl_syntax.proofs.Needs.{need, Suits, state_suits, all_left, all_right, need-below}
+use Rattle.rpatl_syntax.proofs.Cutting.{tokens_cut, cut_spelled}
+use Rattle.rpatl_syntax.proofs.Needs.{Suits, state_suits, all_left, all_right, need-below, word_kept}
 use Rattle.rpatl_syntax.proofs.Printing.{state_tokens, printed_state}
-use Rattle.rpatl_syntax.proofs.Laying.{Lays, spaced, lays_append, lays_token, lays_blank, lays_spaced, lays_both, lays_state, lays_names, lays_number, lays_above, lays_below, IsWholeWord}
-use Rattle.rpatl_syntax.proofs.Numerals.{IsShare, fraction_text}
+use Rattle.rpatl_syntax.proofs.Laying.{Lays, spaced, lays_append, lays_token, lays_blank, lays_spaced, lays_both, lays_state, lays_names, lays_number, lays_above, lays_below}
+use Rattle.rpatl_syntax.proofs.Numerals.{fraction_text}
 
--- 1. What a formula keeps that was read.
+-- 1. What is read can be spelled.
 
-abbrev pub HasWords : Option (List (List ℕ)) → Type 0
-HasWords None = Unit {0}
-HasWords (Some names) = AllByRecursion IsWholeWord names
+words_whole : (name : List ℕ) (others : List (List ℕ)) → AllByRecursion IsWord (name ∷ others) → AllByRecursion IsSpelling (with_commas (name ∷ others) ++ codes ">>" ∷ []) → AllByRecursion IsWholeWord (name ∷ others)
+words_whole name [] w a = (word_kept name a.0 w.0, tt)
+words_whole name (other ∷ more) w a = (word_kept name a.0 w.0, let rest = a.1 in words_whole other more w.1 rest.1)
 
-abbrev pub HasShare : Bound → Type 0
-HasShare (AtLeast p) = IsShare p
-HasShare (Above p) = IsShare p
-HasShare (AtMost p) = IsShare p
-HasShare (Below p) = IsShare p
-HasShare AskMax = Unit {0}
-HasShare AskMin = Unit {0}
-
-pub record IsReadable (f : Tree) : Type 0 where
-  pub words : HasWords f.coalition
-  pub share : HasShare f.bound
-  pub left : Suits 0 most_nested f.left
-  pub right : Suits 0 most_nested f.right
-
-words_whole : (name : List ℕ) (others : List (List ℕ)) → AllByRecursion IsWord (name ∷ others) → AllByRecursion IsWhole (with_commas (name ∷ others) ++ codes ">>" ∷ []) → AllByRecursion IsWholeWord (name ∷ others)
-words_whole name [] w a = (record { word_begins = w.0; goes_on = a.0.word w.0 }, tt)
-words_whole name (other ∷ more) w a = (record { word_begins = w.0; goes_on = a.0.word w.0 }, let rest = a.1 in words_whole other more w.1 rest.1)
-
-coalition_kept : (us : List (List ℕ)) (team : Option (List (List ℕ))) → IsCoalition us team → AllByRecursion IsWhole us → HasWords team
+coalition_kept : (us : List (List ℕ)) (team : Option (List (List ℕ))) → IsCoalition us team → AllByRecursion IsSpelling us → HasWords team
 coalition_kept us None d a = tt
 coalition_kept us (Some []) d a = tt
 coalition_kept us (Some (name ∷ others)) d a =
-    let P : List (List ℕ) → Type 0 = λ vs. AllByRecursion IsWhole vs in
-    let b : AllByRecursion IsWhole (codes "<<" ∷ (with_commas (name ∷ others) ++ codes ">>" ∷ [])) = subst P d.0 a in
+    let P : List (List ℕ) → Type 0 = λ vs. AllByRecursion IsSpelling vs in
+    let b : AllByRecursion IsSpelling (codes "<<" ∷ (with_commas (name ∷ others) ++ codes ">>" ∷ [])) = subst P d.0 a in
     words_whole name others d.1 b.1
 
 share_of : (sign : List ℕ) (us : List (List ℕ)) (p : Fraction) → IsComparison sign us p → IsShare p
@@ -65,15 +49,18 @@ bound_kept us (Below p) d = share_of (codes "<") us p d
 bound_kept us AskMax d = tt
 bound_kept us AskMin d = tt
 
-path_kept : (us : List (List ℕ)) (x y : State) → IsPath us x y → AllByRecursion IsWhole us → Suits 0 most_nested x × Suits 0 most_nested y
-path_kept _ _ _ (reach us y d) a = (record { nests = omega arith; names = tt }, state_suits most_nested us y d a.1)
-path_kept _ _ _ (until_path us vs x y d e) a = (state_suits most_nested us x d (all_left us (codes "U" ∷ vs) a), state_suits most_nested vs y e (let b = all_right us (codes "U" ∷ vs) a in b.1))
+side : (x : State) → Suits 0 most_nested x → IsSide x
+side x s = record { names = s.names; nests = omega (arith, need-below 0 x (need x), s.nests) }
 
-readable : (text : List ℕ) (f : Tree) → Denotes text f → IsReadable f
-readable text f d =
+path_kept : (us : List (List ℕ)) (x y : State) → IsPath us x y → AllByRecursion IsSpelling us → IsSide x × IsSide y
+path_kept _ _ _ (reach us y d) a = (record { nests = omega arith; names = tt }, side y (state_suits most_nested us y d a.1))
+path_kept _ _ _ (until_path us vs x y d e) a = (side x (state_suits most_nested us x d (all_left us (codes "U" ∷ vs) a)), side y (state_suits most_nested vs y e (let b = all_right us (codes "U" ∷ vs) a in b.1)))
+
+pub spellable : (text : List ℕ) (f : Tree) → Denotes text f → IsSpellable f
+spellable text f d =
     let g = d.formula in
-    let P : List (List ℕ) → Type 0 = λ us. AllByRecursion IsWhole us in
-    let all : AllByRecursion IsWhole (g.team ++ (g.asks ++ codes "[" ∷ (g.sides ++ codes "]" ∷ []))) = subst P g.whole (text_whole text d.tokens d.read) in
+    let P : List (List ℕ) → Type 0 = λ us. AllByRecursion IsSpelling us in
+    let all : AllByRecursion IsSpelling (g.team ++ (g.asks ++ codes "[" ∷ (g.sides ++ codes "]" ∷ []))) = subst P g.whole (cut_spelled text d.tokens (tokens_cut text d.tokens d.read)) in
     let behind_team = all_right g.team (g.asks ++ codes "[" ∷ (g.sides ++ codes "]" ∷ [])) all in
     let behind_bound = all_right g.asks (codes "[" ∷ (g.sides ++ codes "]" ∷ [])) behind_team in
     let sides = path_kept g.sides f.left f.right g.path (all_left g.sides (codes "]" ∷ []) behind_bound.1) in
@@ -140,13 +127,13 @@ lays_bound AskMax is rest =
 lays_bound AskMin is rest =
     lays_append (codes "Pmin") (codes "=?") (codes "Pmin" ∷ []) (codes "=?" ∷ []) (32 ∷ rest) (lays_token 80 (109 ∷ 105 ∷ 110 ∷ []) (61 ∷ 63 ∷ 32 ∷ rest) refl) (lays_token 61 (63 ∷ []) (32 ∷ rest) refl)
 
-lays_until : (x y : State) (rest : List ℕ) → Suits 0 most_nested x → Suits 0 most_nested y
+lays_until : (x y : State) (rest : List ℕ) → IsSide x → IsSide y
     → Lays (state_spelling x ++ (codes " U " ++ state_spelling y)) (between (state_tokens x) (codes "U") (state_tokens y)) (32 ∷ rest)
 lays_until x y rest a b =
     lays_both (state_spelling x) (state_spelling y) (codes "U") (state_tokens x) (state_tokens y) (32 ∷ rest)
     (lays_state x a.names ((spaced (codes "U") ++ state_spelling y) ++ 32 ∷ rest) refl) (λ more. lays_token 85 [] (32 ∷ more) refl) (lays_state y b.names (32 ∷ rest) refl)
 
-lays_path : (x y : State) (rest : List ℕ) → Suits 0 most_nested x → Suits 0 most_nested y → Lays (path_spelling x (state_spelling y)) (path_tokens x y) (32 ∷ rest)
+lays_path : (x y : State) (rest : List ℕ) → IsSide x → IsSide y → Lays (path_spelling x (state_spelling y)) (path_tokens x y) (32 ∷ rest)
 lays_path True y rest a b =
     lays_append (codes "F") (32 ∷ state_spelling y) (codes "F" ∷ []) (state_tokens y) (32 ∷ rest) (lays_token 70 [] ((32 ∷ state_spelling y) ++ 32 ∷ rest) refl)
     (lays_append (32 ∷ []) (state_spelling y) [] (state_tokens y) (32 ∷ rest) (lays_blank (state_spelling y ++ 32 ∷ rest)) (lays_state y b.names (32 ∷ rest) refl))
@@ -157,7 +144,7 @@ lays_path (And x z) y rest a b = lays_until (And x z) y rest a b
 lays_path (Or x z) y rest a b = lays_until (Or x z) y rest a b
 lays_path (Implies x z) y rest a b = lays_until (Implies x z) y rest a b
 
-lays_formula : (f : Tree) → IsReadable f → Lays (spelling f) (formula_tokens f) []
+lays_formula : (f : Tree) → IsSpellable f → Lays (spelling f) (formula_tokens f) []
 lays_formula f is =
     let closing : Lays (codes " ]") (codes "]" ∷ []) [] = lays_append (32 ∷ []) (codes "]") [] (codes "]" ∷ []) [] (lays_blank (codes "]")) (lays_token 93 [] [] refl) in
     let sides = path_spelling f.left (state_spelling f.right) in
@@ -173,7 +160,7 @@ lays_formula f is =
 
 words_are : (names : List (List ℕ)) → AllByRecursion IsWholeWord names → AllByRecursion IsWord names
 words_are [] w = tt
-words_are (name ∷ names) w = (w.0.word_begins, words_are names w.1)
+words_are (name ∷ names) w = (w.0.begins, words_are names w.1)
 
 team_derived : (team : Option (List (List ℕ))) → HasWords team → IsCoalition (team_tokens team) team
 team_derived None w = refl
@@ -192,10 +179,10 @@ bound_derived (Below p) is = share_derived (codes "<") p is
 bound_derived AskMax is = refl
 bound_derived AskMin is = refl
 
-state_derived : (x : State) → Suits 0 most_nested x → IsState most_nested (state_tokens x) x
-state_derived x a = printed_state most_nested x (omega (arith, need-below 0 x (need x), a.nests))
+state_derived : (x : State) → IsSide x → IsState most_nested (state_tokens x) x
+state_derived x a = printed_state most_nested x a.nests
 
-path_derived : (x y : State) → Suits 0 most_nested x → Suits 0 most_nested y → IsPath (path_tokens x y) x y
+path_derived : (x y : State) → IsSide x → IsSide y → IsPath (path_tokens x y) x y
 path_derived True y a b = reach (state_tokens y) y (state_derived y b)
 path_derived False y a b = until_path (state_tokens False) (state_tokens y) False y (state_derived False a) (state_derived y b)
 path_derived (Label name) y a b = until_path (state_tokens (Label name)) (state_tokens y) (Label name) y (state_derived (Label name) a) (state_derived y b)
@@ -204,7 +191,7 @@ path_derived (And x z) y a b = until_path (state_tokens (And x z)) (state_tokens
 path_derived (Or x z) y a b = until_path (state_tokens (Or x z)) (state_tokens y) (Or x z) y (state_derived (Or x z) a) (state_derived y b)
 path_derived (Implies x z) y a b = until_path (state_tokens (Implies x z)) (state_tokens y) (Implies x z) y (state_derived (Implies x z) a) (state_derived y b)
 
-spelling_denotes : (f : Tree) → IsReadable f → length (spelling f) ≤ longest → Denotes (spelling f) f
+spelling_denotes : (f : Tree) → IsSpellable f → length (spelling f) ≤ longest → Denotes (spelling f) f
 spelling_denotes f is short =
     let P : List ℕ → Type 0 = λ text. AreTokens (tokens_of text) (formula_tokens f) in
     record {
@@ -222,13 +209,13 @@ spelling_denotes f is short =
       };
     }
 
--- What was read and has a spelling that is not too long is read from it again.
-pub read_again : (source : List ℕ) (f : Tree) → formula_said source ≡ Ok f → length (spelling f) ≤ longest → formula_said (spelling f) ≡ Ok f
-read_again source f e short = formula_said_again (spelling f) f (spelling_denotes f (readable source f (formula_denoted source f e)) short)
+-- A formula that can be spelled is read from its spelling again, unless that is too long.
+read_again : (f : Tree) → IsSpellable f → length (spelling f) ≤ longest → formula_said (spelling f) ≡ Ok f
+read_again f is short = formula_said_again (spelling f) f (spelling_denotes f is short)
 
 pub printed_again : (r : Result (Vec ℕ Global) OutOfMemory) (f : Tree) → IfOk r (λ (text : Vec ℕ Global). text.items ≡ spelling f)
-    → IfOk r (λ (text : Vec ℕ Global). (source : List ℕ) → formula_said source ≡ Ok f → length text.items ≤ longest → formula_said text.items ≡ Ok f)
-printed_again (Ok text) f e = λ source said short.
+    → IfOk r (λ (text : Vec ℕ Global). IsSpellable f → length text.items ≤ longest → formula_said text.items ≡ Ok f)
+printed_again (Ok text) f e = λ is short.
     let P : List ℕ → Type 0 = λ t. length t ≤ longest → formula_said t ≡ Ok f in
-    subst P (sym e) (read_again source f said) short
+    subst P (sym e) (read_again f is) short
 printed_again (Err fault) f e = tt

@@ -3,8 +3,10 @@ pub mod Cursor
 pub mod Fault
 pub mod Formula
 pub mod Grammar
+pub mod Laws
 pub mod Levels
 pub mod Limits
 pub mod Rules
+pub mod Spellable
 pub mod Spelling
 pub mod Tokens

@@ -1,15 +1,14 @@
--- The limits, under the names that definitions and lemmas cite.
+-- The limits of formulas.
 use Rattle.std.specs.Prelude.{ℕ}
-use Rattle.rpatl_syntax.specs.declared.limits.TheConstants.{LONGEST, MOST_NESTED, LONGEST_NAME}
 
--- the most bytes of a text
+-- the most bytes of a text: what people write is far shorter
 abbrev pub longest : ℕ
-longest = LONGEST
+longest = 4096
 
--- the most `(` and `!` that may be open at once
+-- the most `(` and `!` that may be open at once: each is a call deeper for who reads
 abbrev pub most_nested : ℕ
-most_nested = MOST_NESTED
+most_nested = 64
 
--- the most bytes of a quoted name
+-- the most bytes of a quoted name, as in label files
 abbrev pub longest_name : ℕ
-longest_name = LONGEST_NAME
+longest_name = 255

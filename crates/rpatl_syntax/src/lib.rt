@@ -10,6 +10,7 @@ mod cursor;
 mod fault;
 mod formula;
 mod front;
+pub mod laws;
 mod levels;
 mod limits;
 mod print;

@@ -1,8 +1,9 @@
 // The one spelling of a formula.
-ghost use Rattle.std.specs.Prelude.{◌≡◌, ◌≤◌, ◌++◌, ℕ, List, length, option_map, Ok, OnOk, IfOk, decimal};
+ghost use Rattle.std.specs.Prelude.{◌≡◌, ◌≤◌, ◌++◌, length, option_map, Ok, OnOk, IfOk, decimal};
 ghost use Rattle.rpatl_syntax.specs.Formula.{state_of, tree_of, names_of};
 ghost use Rattle.rpatl_syntax.specs.Grammar.{formula_said};
 ghost use Rattle.rpatl_syntax.specs.Limits.{longest};
+ghost use Rattle.rpatl_syntax.specs.Spellable.{IsSpellable};
 ghost use Rattle.rpatl_syntax.specs.Spelling.{strength_of, in_place, state_spelling, path_spelling, names_spelling, coalition_spelling, fraction_spelling, bound_spelling, spelling};
 
 use crate::formula::{Bound, Formula, Names, StateFormula};
@@ -14,9 +15,8 @@ use std::alloc::Global;
 /// The spelling of a formula, which depends on its tree alone.
 pub fn print_formula(alloc: Global, formula: &Formula) -> Result<Vec<u8>, OutOfMemory>
     ensures spelled { IfOk result (λ text. text.items ≡ spelling (tree_of formula.now)) }
-    // What was read from some text is read again from what is printed, unless that is too long.
-    ensures again { IfOk result (λ text. (source : List ℕ) → formula_said source ≡ Ok (tree_of formula.now) → length text.items ≤ longest
-        → formula_said text.items ≡ Ok (tree_of formula.now)) }
+    // What the grammar can spell is read again from what is printed, unless that is too long.
+    ensures again { IfOk result (λ text. IsSpellable (tree_of formula.now) → length text.items ≤ longest → formula_said text.items ≡ Ok (tree_of formula.now)) }
 {
     spell(alloc, formula)
 }

@@ -1,0 +1,71 @@
+-- Which formulas the grammar can spell.
+use Rattle.std.specs.Prelude.{◌≡◌, ◌≤◌, ◌+◌, ℕ, true, nat_lt, max, List, Option, Some, None, if◌then◌else◌}
+use Rattle.std.specs.List.{list_all, AllByRecursion}
+use Rattle.distributions.specs.Fraction.{Fraction, IsFraction}
+use Rattle.rpatl_syntax.specs.declared.formula.Bound.{Bound}
+use Rattle.rpatl_syntax.specs.declared.formula.Bound.TheVariants.{AtLeast, Above, AtMost, Below, AskMax, AskMin}
+use Rattle.rpatl_syntax.specs.Formula.{State, True, False, Label, Not, And, Or, Implies, Tree}
+use Rattle.rpatl_syntax.specs.Grammar.{is_word}
+use Rattle.rpatl_syntax.specs.Laws.{IsName}
+use Rattle.rpatl_syntax.specs.Limits.{most_nested}
+use Rattle.rpatl_syntax.specs.Spelling.{strength_of}
+use Rattle.rpatl_syntax.specs.Tokens.{in_word}
+
+-- a letter or `_`, and then letters, digits and `_`
+pub record IsWholeWord (word : List ℕ) : Type 0 where
+  pub begins : is_word word ≡ true
+  pub bytes : list_all in_word word ≡ true
+
+-- the players of a coalition have words as names
+abbrev pub HasWords : Option (List (List ℕ)) → Type 0
+HasWords None = Unit {0}
+HasWords (Some names) = AllByRecursion IsWholeWord names
+
+-- a fraction that is at most 1
+pub record IsShare (p : Fraction) : Type 0 where
+  pub fraction : IsFraction p
+  pub small : p.num ≤ p.den
+
+abbrev pub HasShare : Bound → Type 0
+HasShare (AtLeast p) = IsShare p
+HasShare (Above p) = IsShare p
+HasShare (AtMost p) = IsShare p
+HasShare (Below p) = IsShare p
+HasShare AskMax = Unit {0}
+HasShare AskMin = Unit {0}
+
+-- each label has a name that can be quoted
+abbrev pub HasNames : State → Type 0
+HasNames True = Unit {0}
+HasNames False = Unit {0}
+HasNames (Label name) = IsName name
+HasNames (Not x) = HasNames x
+HasNames (And x y) = HasNames x × HasNames y
+HasNames (Or x y) = HasNames x × HasNames y
+HasNames (Implies x y) = HasNames x × HasNames y
+
+-- one more where such a place takes brackets
+abbrev pub need_in : ℕ → State → ℕ → ℕ
+need_in least x inner = if nat_lt (strength_of x) least then inner + 1 else inner
+
+-- the most `(` and `!` that are open at once in the spelling, which has no brackets but those that it needs
+abbrev pub need : State → ℕ
+need True = 0
+need False = 0
+need (Label name) = 0
+need (Not x) = need_in 3 x (need x) + 1
+need (And x y) = max (need_in 2 x (need x)) (need_in 3 y (need y))
+need (Or x y) = max (need_in 1 x (need x)) (need_in 2 y (need y))
+need (Implies x y) = max (need_in 0 x (need x)) (need_in 1 y (need y))
+
+-- a state formula that is no part of another
+pub record IsSide (x : State) : Type 0 where
+  pub names : HasNames x
+  pub nests : need x ≤ most_nested
+
+-- The grammar can spell each part of the formula.
+pub record IsSpellable (f : Tree) : Type 0 where
+  pub words : HasWords f.coalition
+  pub share : HasShare f.bound
+  pub left : IsSide f.left
+  pub right : IsSide f.right

@@ -1,0 +1,47 @@
+//! Laws of formulas and their tokens. Each function does nothing; its contract is the law.
+ghost use Rattle.std.specs.Prelude.{◌≡◌, ◌++◌, ◌↔◌, ℕ, List, None, Ok, length};
+ghost use Rattle.rpatl_syntax.specs.Formula.{Tree};
+ghost use Rattle.rpatl_syntax.specs.Grammar.{formula_said};
+ghost use Rattle.rpatl_syntax.specs.Laws.{AreCut, AreAlike, IsBlank, StandsAt, spellings_of, cause_of};
+ghost use Rattle.rpatl_syntax.specs.Limits.{longest, most_nested, longest_name};
+ghost use Rattle.rpatl_syntax.specs.Rules.{AreTokens, Denotes};
+ghost use Rattle.rpatl_syntax.specs.Spellable.{IsSpellable};
+ghost use Rattle.rpatl_syntax.specs.Tokens.{tokens_of};
+
+use crate::limits::{LONGEST, LONGEST_NAME, MOST_NESTED};
+
+/// The limits of the code are those of the definitions.
+pub fn limits()
+    ensures text { LONGEST ≡ longest }
+    ensures nesting { MOST_NESTED ≡ most_nested }
+    ensures name { LONGEST_NAME ≡ longest_name }
+{}
+
+/// The tokens of a text are the longest spellings that stand there, one behind another, with blanks between them.
+pub fn tokens_are_the_longest_spellings()
+    ensures { (text : List ℕ) (tokens : List (List ℕ)) → AreTokens (tokens_of text) tokens ↔ AreCut text tokens }
+{}
+
+/// A blank parts tokens: behind a text that is all tokens it changes none of them, nor those behind it.
+pub fn blanks_part_tokens()
+    ensures spellings { (front blank back : List ℕ) → IsBlank blank → cause_of (tokens_of front) ≡ None →
+        spellings_of (tokens_of (front ++ (blank ++ back))) ≡ spellings_of (tokens_of front) ++ spellings_of (tokens_of back) }
+    ensures cause { (front blank back : List ℕ) → IsBlank blank → cause_of (tokens_of front) ≡ None →
+        cause_of (tokens_of (front ++ (blank ++ back))) ≡ cause_of (tokens_of back) }
+{}
+
+/// A blank before a token changes places alone.
+pub fn blanks_before_tokens_are_free()
+    ensures { (front blank back : List ℕ) → IsBlank blank → StandsAt (tokens_of (front ++ back)) (length front) →
+        AreAlike (tokens_of (front ++ (blank ++ back))) (tokens_of (front ++ back)) }
+{}
+
+/// The formula that is read from a text is the one that it denotes.
+pub fn formulas_are_those_that_a_text_denotes()
+    ensures { (text : List ℕ) (tree : Tree) → (formula_said text ≡ Ok tree) ↔ Denotes text tree }
+{}
+
+/// What a text denotes can be spelled, so `print_formula` says of it that it is read again.
+pub fn formulas_of_texts_are_spellable()
+    ensures { (text : List ℕ) (tree : Tree) → Denotes text tree → IsSpellable tree }
+{}
