@@ -55,24 +55,22 @@ pub scaled-le : (game : List (List Distribution)) (s c sum power : ℕ) → IsGa
     → denominator game / (choice_of game s c).total * sum ≤ power * denominator game
 scaled-le game s c sum power h ls lc most = scaled (denominator game) (choice_of game s c).total _ sum power (IsChoiceOf-choice_of game s c h ls lc).divides most
 
--- the weights of the edges that the code reads sum to the total
-pub weights-total : (game game' : List (List Distribution)) (edges : List Edge) (s c : ℕ) → IsGame game' → s < length game' → c < length (choices_of game' s) → game ≡ game' → edges ≡ (choice_of game s c).edges
-    → sum_by (λ e. e.weight) edges ≡ (choice_of game' s c).total
-weights-total game game' edges s c h ls lc same is_edges =
-    ap (λ es. sum_by (λ (e : Edge). e.weight) es) (is_edges ∙ ap (λ g. (choice_of g s c).edges) same) ∙ (h.distribution s c ls lc).sums
+-- the weights of the choice that the code reads sum to the total
+weights-total : (game game' : List (List Distribution)) (s c : ℕ) → IsGame game' → s < length game' → c < length (choices_of game' s) → game ≡ game' → sum_by (λ e. e.weight) (choice_of game s c).edges ≡ (choice_of game' s c).total
+weights-total game game' s c h ls lc same = ap (λ g. sum_by (λ (e : Edge). e.weight) (choice_of g s c).edges) same ∙ (h.distribution s c ls lc).sums
 
 -- the sum of the choice that the code reads fits
-pub sum-room : (game game' : List (List Distribution)) (edges : List Edge) (s c power common : ℕ) → IsGame game' → s < length game' → c < length (choices_of game' s) → game ≡ game' → edges ≡ (choice_of game s c).edges
-    → common ≡ denominator game' → power * common < 2 ^ 128 → sum_by (λ e. e.weight) edges * power < 2 ^ 128
-sum-room game game' edges s c power common h ls lc same is_edges is_common fits =
-    let total : sum_by (λ e. e.weight) edges ≡ (choice_of game' s c).total = weights-total game game' edges s c h ls lc same is_edges in
+pub sum-room : (game game' : List (List Distribution)) (s c power common : ℕ) → IsGame game' → s < length game' → c < length (choices_of game' s) → game ≡ game'
+    → common ≡ denominator game' → power * common < 2 ^ 128 → sum_by (λ e. e.weight) (choice_of game s c).edges * power < 2 ^ 128
+sum-room game game' s c power common h ls lc same is_common fits =
+    let total : sum_by (λ e. e.weight) (choice_of game s c).edges ≡ (choice_of game' s c).total = weights-total game game' s c h ls lc same in
     let most : (choice_of game' s c).total ≤ common = omega (arith, total-le game' s c h ls lc, is_common) in
     rw total (omega (arith, mul-le-mul_right power most, fits))
 
 -- the value of the choice that the code reads is within the next power
-pub value-below : (game game' : List (List Distribution)) (edges : List Edge) (s c power common total sum : ℕ) → IsGame game' → s < length game' → c < length (choices_of game' s) → game ≡ game' → edges ≡ (choice_of game s c).edges
-    → common ≡ denominator game' → total ≡ (choice_of game s c).total → sum ≤ sum_by (λ e. e.weight) edges * power → common / total * sum ≤ power * common
-value-below game game' edges s c power common total sum h ls lc same is_edges is_common is_total most =
-    let weights : sum_by (λ e. e.weight) edges ≡ (choice_of game' s c).total = weights-total game game' edges s c h ls lc same is_edges in
+pub value-below : (game game' : List (List Distribution)) (s c power common total sum : ℕ) → IsGame game' → s < length game' → c < length (choices_of game' s) → game ≡ game'
+    → common ≡ denominator game' → total ≡ (choice_of game s c).total → sum ≤ sum_by (λ e. e.weight) (choice_of game s c).edges * power → common / total * sum ≤ power * common
+value-below game game' s c power common total sum h ls lc same is_common is_total most =
+    let weights : sum_by (λ e. e.weight) (choice_of game s c).edges ≡ (choice_of game' s c).total = weights-total game game' s c h ls lc same in
     let is_total' : total ≡ (choice_of game' s c).total = is_total ∙ ap (λ g. (choice_of g s c).total) same in
     rw (is_common, is_total') (scaled-le game' s c sum power h ls lc (subst (λ w. sum ≤ w * power) weights most))

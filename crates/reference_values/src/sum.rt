@@ -6,7 +6,7 @@ ghost use Rattle.game_model.specs.Query.{states};
 ghost use Rattle.game_model.specs.Values.{weighted_sum, denominator};
 ghost use Rattle.reference_values.specs.Numerators.{exact_value};
 
-use game_model::{Edge, Question};
+use game_model::{Game, Question};
 
 /// The value of a choice over a table of numerators of which none is above this power of the denominator.
 pub fn value_of(
@@ -28,20 +28,24 @@ pub fn value_of(
 {
     question.known();
     let game = question.game();
-    let sum = weighted_sum_of(game.edges(state, choice), table, power);
+    let sum = weighted_sum_of(game, state, choice, table, power);
     common / game.total(state, choice) * sum
 }
 
 /// The sum of weight times numerator of the successor.
-fn weighted_sum_of(edges: &[Edge], table: &[u128], power: u128) -> u128
-    requires inside { All (λ e. e.to < length table.now) edges.now }
+fn weighted_sum_of(game: &Game, state: u32, choice: u32, table: &[u128], power: u128) -> u128
+    requires state { state < length game.now }
+    requires choice { choice < length (choices_of game.now state) }
+    requires length { length table.now ≡ length game.now }
     requires below { All (λ n. n ≤ power) table.now }
-    requires fits { sum_by (λ e. e.weight) edges.now * power < 2 ^ 128 }
-    ensures value { result ≡ weighted_sum (slice_index table.now) edges.now }
-    ensures whole { result ≤ sum_by (λ e. e.weight) edges.now * power }
+    requires fits { sum_by (λ e. e.weight) (choice_of game.now state choice).edges * power < 2 ^ 128 }
+    ensures value { result ≡ weighted_sum (slice_index table.now) (choice_of game.now state choice).edges }
+    ensures whole { result ≤ sum_by (λ e. e.weight) (choice_of game.now state choice).edges * power }
 {
+    game.known();
     let mut sum: u128 = 0;
-    for edge in edges {
+    for place in 0..game.edge_count(state, choice) {
+        let edge = game.edge(state, choice, place);
         sum += edge.weight * table[edge.to as usize];
     }
     sum

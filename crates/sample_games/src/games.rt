@@ -5,6 +5,7 @@ ghost use Rattle.game_model.specs.Limits.{most_states};
 
 use crate::choices::{pair, to, triple};
 use game_model::{Choice, Game};
+use game_outside::OutOfMemory;
 use std::alloc::{AllocError, Global};
 
 /// One choice at a state.
@@ -27,19 +28,19 @@ fn two_choices(alloc: Global, first: Choice, second: Choice) -> Result<Vec<Choic
 }
 
 /// The coin loop: state 0 stays with probability 1/2, and goes to 1 and to 2 with 1/4 each; 1 and 2 stay.
-pub fn coin_loop(alloc: Global) -> Result<Game, AllocError>
+pub fn coin_loop(alloc: Global) -> Result<Game, OutOfMemory>
     ensures { IfOk result (λ game. length game ≡ 3) }
 {
     let mut states = Vec::new(alloc);
     states.push(only_choice(alloc, triple(alloc, (0, 2), (1, 1), (2, 1))?)?)?;
     states.push(only_choice(alloc, to(alloc, 1)?)?)?;
     states.push(only_choice(alloc, to(alloc, 2)?)?)?;
-    Ok(Game::from_choices(states))
+    Game::from_choices(alloc, states)
 }
 
 /// State 0 goes to 1, or to 2 with 0.65 and to 3 with 0.35; state 1 goes to 2 and 3 with 0.5 each, or with
 /// 0.2 and 0.8; 2 and 3 stay.
-pub fn four_states(alloc: Global) -> Result<Game, AllocError>
+pub fn four_states(alloc: Global) -> Result<Game, OutOfMemory>
     ensures { IfOk result (λ game. length game ≡ 4) }
 {
     let mut states = Vec::new(alloc);
@@ -51,22 +52,22 @@ pub fn four_states(alloc: Global) -> Result<Game, AllocError>
     )?)?;
     states.push(only_choice(alloc, to(alloc, 2)?)?)?;
     states.push(only_choice(alloc, to(alloc, 3)?)?)?;
-    Ok(Game::from_choices(states))
+    Game::from_choices(alloc, states)
 }
 
 /// State 0 goes to 1 or to 2; 1 and 2 stay.
-pub fn goal_or_sink(alloc: Global) -> Result<Game, AllocError>
+pub fn goal_or_sink(alloc: Global) -> Result<Game, OutOfMemory>
     ensures { IfOk result (λ game. length game ≡ 3) }
 {
     let mut states = Vec::new(alloc);
     states.push(two_choices(alloc, to(alloc, 1)?, to(alloc, 2)?)?)?;
     states.push(only_choice(alloc, to(alloc, 1)?)?)?;
     states.push(only_choice(alloc, to(alloc, 2)?)?)?;
-    Ok(Game::from_choices(states))
+    Game::from_choices(alloc, states)
 }
 
 /// A chain: each state goes to the next; the last one stays.
-pub fn chain(alloc: Global, count: u32) -> Result<Game, AllocError>
+pub fn chain(alloc: Global, count: u32) -> Result<Game, OutOfMemory>
     requires some { 0 < count }
     requires few { count ≤ most_states }
     ensures { IfOk result (λ game. length game ≡ count) }
@@ -76,5 +77,5 @@ pub fn chain(alloc: Global, count: u32) -> Result<Game, AllocError>
         let next = (state + 1).min(count - 1);
         states.push(only_choice(alloc, to(alloc, next)?)?)?;
     }
-    Ok(Game::from_choices(states))
+    Game::from_choices(alloc, states)
 }

@@ -1,0 +1,4 @@
+pub mod Moves
+pub mod Counts
+pub mod Steps
+pub mod Cuts

@@ -1,0 +1,20 @@
+-- What contracts see of the lists of predecessors.
+use Rattle.std.specs.Prelude.{◌≡◌, ℕ, ◌<◌, ◌≤◌, ◌↔◌, List, [], ◌∷◌, length, slice_index, slice_index_or, slice_range, Contains}
+use Rattle.game_model.specs.Game.{Distribution}
+use Rattle.predecessors.specs.declared.lists.Move.{Move}
+use Rattle.predecessors.specs.Moves.{move, LeadsTo}
+
+-- a choice stands in the list of a state exactly where it leads there
+pub record ArePredecessors (game : List (List Distribution)) (lists : List (List Move)) : Type 0 where
+  pub many : length lists ≡ length game
+  pub exact : (s c t : ℕ) → t < length game → Contains (slice_index_or lists t []) (move s c) ↔ LeadsTo game s c t
+
+-- the lists that end at these places, of which the first begins at b
+abbrev pub lists_from : ℕ → List ℕ → List Move → List (List Move)
+lists_from b [] moves = []
+lists_from b (e ∷ ends) moves = slice_range moves b e ∷ lists_from e ends moves
+
+-- no list ends before it begins, or past the moves
+pub record AreEnds (ends : List ℕ) (moves : List Move) : Type 0 where
+  pub rising : (t : ℕ) → t < length ends → slice_index (0 ∷ ends) t ≤ slice_index ends t
+  pub inside : (t : ℕ) → t < length ends → slice_index ends t ≤ length moves
