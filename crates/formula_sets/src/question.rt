@@ -156,12 +156,13 @@ pub fn pose<'g>(
 mod tests {
     use super::*;
     use game_model::{Choice, Edge};
+    use game_outside::OutOfMemory;
     use label_reader::read_labels;
     use rpatl_syntax::read_formula;
     use std::test::Fail;
 
     // One state that stays where it is.
-    fn one_state(alloc: Global) -> Result<Game, AllocError>
+    fn one_state(alloc: Global) -> Result<Game, OutOfMemory>
         ensures { IfOk result (λ game. length game ≡ 1) }
     {
         let mut edges = Vec::new(alloc);
@@ -170,7 +171,7 @@ mod tests {
         choices.push(Choice::of_edges(edges))?;
         let mut states = Vec::new(alloc);
         states.push(choices)?;
-        Ok(Game::from_choices(states))
+        Game::from_choices(alloc, states)
     }
 
     fn labels_of_one_state(alloc: Global) -> Result<Labels, &'static str>

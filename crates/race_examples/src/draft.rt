@@ -52,12 +52,12 @@ impl Draft {
     }
 
     /// The game, where all its states are made.
-    pub fn game(self) -> Option<Game> {
+    pub fn game(self, alloc: Global) -> Option<Game> {
         let Draft { states, all } = self;
         if states == 0 || states > MOST_STATES || all.len() != states as usize {
             return None;
         }
-        Some(Game::from_choices(all))
+        Game::from_choices(alloc, all).ok()
     }
 }
 

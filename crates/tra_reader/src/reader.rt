@@ -98,7 +98,10 @@ fn build_in_order(
     }
     match make_all(alloc, transitions, &counts.of_state) {
         Err(fault) => Err(fault),
-        Ok(choices) => Ok(Game::from_choices(choices)),
+        Ok(choices) => match Game::from_choices(alloc, choices) {
+            Ok(game) => Ok(game),
+            Err(_) => Err(TraFault::of_all(TraCause::OutOfMemory)),
+        },
     }
 }
 
