@@ -1,5 +1,5 @@
 -- The lines of a report.
-use Rattle.std.specs.Prelude.{ℕ, List, [], ◌∷◌, ◌++◌, ◌≤◌, All, codes, decimal}
+use Rattle.std.specs.Prelude.{ℕ, List, [], ◌∷◌, ◌++◌, ◌≤◌, ◌<◌, ◌^◌, codes, decimal}
 use Rattle.game_model.specs.Limits.{unit}
 use Rattle.plan_text.specs.Fixed.{fixed}
 use Rattle.verdicts.specs.declared.report.Verdict.{Verdict}
@@ -11,6 +11,16 @@ use Rattle.verdicts.specs.declared.report.ReportLine.{ReportLine}
 -- both bounds are values: at most the unit
 abbrev pub HasValues : ReportLine → Type 0
 HasValues line = (line.lower ≤ unit) × (line.upper ≤ unit)
+
+abbrev pub HasRounds : How → Type 0
+HasRounds (Rounds rounds) = rounds < 2 ^ 32
+HasRounds Audited = Unit {0}
+
+-- a line as its types hold it, whose bounds are values
+pub record IsLine (line : ReportLine) : Type 0 where
+  pub state : line.state < 2 ^ 32
+  pub rounds : HasRounds line.how
+  pub values : HasValues line
 
 abbrev pub verdict_text : Verdict → List ℕ
 verdict_text Yes = codes "True"
