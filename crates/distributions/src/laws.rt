@@ -1,6 +1,6 @@
 //! Laws of numbers and choices. Each function does nothing; its contract is the law.
 
-ghost use Rattle.std.specs.Prelude.{◌≡◌, ◌≤◌, ◌^◌, ◌↔◌, ℕ, List, Some};
+ghost use Rattle.std.specs.Prelude.{◌≡◌, ◌≤◌, ◌^◌, ◌↔◌, ℕ, List, Some, Ok, All};
 ghost use Prim.Native.Nat.{◌∣◌};
 ghost use Rattle.std.specs.Int.{IsGcd};
 ghost use Rattle.std.specs.List.Sorted.{IsPermutation};
@@ -8,8 +8,9 @@ ghost use Rattle.game_model.specs.Game.{Distribution};
 ghost use Rattle.distributions.specs.declared.choice.Part.{Part};
 ghost use Rattle.distributions.specs.Divisors.{gcd, lcm};
 ghost use Rattle.distributions.specs.Limits.{finest, most_value, most_digits, most_exponent_digits, most_exponent, most_parts, tolerance};
-ghost use Rattle.distributions.specs.Number.{Spelling, Spells, spelling_of};
-ghost use Rattle.distributions.specs.Parts.{Denotes};
+ghost use Rattle.distributions.specs.Fraction.{Fraction, IsFraction};
+ghost use Rattle.distributions.specs.Number.{Spelling, Spells, spelling_of, number_said, Denotes as DenotesNumber};
+ghost use Rattle.distributions.specs.Parts.{Denotes, choice_said};
 
 use crate::limits::{
     FINEST, FINEST_PLACES, MOST_DIGITS, MOST_EXPONENT, MOST_EXPONENT_DIGITS, MOST_PARTS,
@@ -41,7 +42,13 @@ pub fn least_common_multiples()
 
 /// A text is taken apart as the grammar spells it, so it has one spelling at most.
 pub fn spellings()
-    ensures { (text : List ℕ) (spelling : Spelling) → Spells text spelling ↔ (spelling_of text ≡ Some spelling) }
+    ensures { (text : List ℕ) (spelling : Spelling) → (spelling_of text ≡ Some spelling) ↔ Spells text spelling }
+{}
+
+/// What is said by cases is what is denoted: of a text a number, and of parts a distribution.
+pub fn said_is_denoted()
+    ensures number { (text : List ℕ) (f : Fraction) → (number_said text ≡ Ok f) ↔ DenotesNumber text f }
+    ensures choice { (parts : List Part) (d : Distribution) → All (λ part. IsFraction part.share) parts → (choice_said parts ≡ Ok d) ↔ Denotes parts d }
 {}
 
 /// The order of the parts plays no part.
