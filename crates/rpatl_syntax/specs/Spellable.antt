@@ -6,7 +6,7 @@ use Rattle.rpatl_syntax.specs.declared.formula.Bound.{Bound}
 use Rattle.rpatl_syntax.specs.declared.formula.Bound.TheVariants.{AtLeast, Above, AtMost, Below, AskMax, AskMin}
 use Rattle.rpatl_syntax.specs.Formula.{State, True, False, Label, Not, And, Or, Implies, Tree}
 use Rattle.rpatl_syntax.specs.Grammar.{is_word}
-use Rattle.rpatl_syntax.specs.Laws.{IsName}
+use Rattle.rpatl_syntax.specs.TokenRules.{IsName}
 use Rattle.rpatl_syntax.specs.Limits.{most_nested}
 use Rattle.rpatl_syntax.specs.Spelling.{strength_of}
 use Rattle.rpatl_syntax.specs.Tokens.{in_word}
