@@ -6,7 +6,7 @@ ghost use Rattle.value_words.specs.Passes.{IsOf, Grew};
 use super::*;
 use game_model::Question;
 use game_outside::HoldGate;
-use round_workers::round;
+use round_workers::{first_state, round, worker_of};
 use std::alloc::Global;
 use std::marker::Brand;
 use std::mem::size_of;
@@ -182,5 +182,18 @@ fn two_workers_work_at_once_and_reach_the_values(rt: HostRuntime) -> Result<(), 
     assert_eq!(rt; value_of(words[1]), 699_999_999_999);
     assert_eq!(rt; value_of(words[2]), 899_999_999_999);
     assert_eq!(rt; value_of(words[3]), 919_999_999_999);
+    Ok(())
+}
+
+#[test]
+fn two_workers_share_the_agreement_protocol_by_edges(rt: HostRuntime) -> Result<(), Fail> {
+    let game = agreement_game(rt.alloc()).ok_or("the game")?;
+    assert_eq!(rt; game.states(), 12);
+    assert_eq!(rt; game.edges_below(12), 20);
+    assert_eq!(rt; first_state(&game, 2, 1), 4);
+    assert_eq!(rt; worker_of(&game, 2, 0), 0);
+    assert_eq!(rt; worker_of(&game, 2, 3), 0);
+    assert_eq!(rt; worker_of(&game, 2, 4), 1);
+    assert_eq!(rt; worker_of(&game, 2, 11), 1);
     Ok(())
 }

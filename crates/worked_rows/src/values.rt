@@ -112,6 +112,15 @@ fn decimals_and_fractions_are_exact(rt: HostRuntime) -> Result<(), Fail> {
         plain_row(fine, GOAL_AT_1, reach),
         less,
         Status::Fine,
+    )?;
+    let wide =
+        "3 3 4\n0 0 1 0.333333333333333333333\n0 0 2 0.666666666666666666667\n1 0 1 1\n2 0 2 1\n";
+    writes(
+        &rt,
+        alloc,
+        plain_row(wide, GOAL_AT_1, reach),
+        third,
+        Status::Fine,
     )
 }
 
