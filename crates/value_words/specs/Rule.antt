@@ -1,13 +1,12 @@
--- The rule of the words, and what each step tells: the events of `step_core`.
+-- The rule of the words, and what each step tells its pass.
 use Rattle.std.specs.Prelude.{◌≡◌, ◌≢◌, ◌⊎◌, ℕ, ◌+◌, ◌<◌, ◌≤◌, true, false, [], slice_index, slice_set}
-use mathlib.Core.Option.{some}
-use lib.ListN.{get_elem?}
-use Rattle.atomic_table.specs.Table.{State, Me, Step}
+use Rattle.atomic_table.specs.Table.{Step}
 use Rattle.game_model.specs.Query.{Query}
 use Rattle.game_model.specs.Limits.{unit}
 use Rattle.step_core.specs.Word.{value_in, opening_words, greater_words}
-use Rattle.step_core.specs.Sound.{Sound, Sees}
+use Rattle.step_core.specs.Configuration.{IsWorld}
 use Rattle.value_words.specs.declared.rule.Sight.{Sight}
+use Rattle.value_words.specs.Shown.{Shared, Seated, shown}
 
 abbrev pub no_question : Query
 no_question = record { game = []; sides = []; goals = []; deads = [] }
@@ -28,13 +27,9 @@ joined v w = record { live = v.live; seen = greater_words v.seen w.seen; won = v
 abbrev pub spent : Sight
 spent = record { live = false; seen = []; won = 0 }
 
--- the invariant of a world, over the words and the views of all live passes
-pub record Kept (q : Query) (s : State (Unit {0}) Sight) : Type 0 where
-  pub words : Sound q s.words
-  pub views : (id : ℕ) (v : Sight) → get_elem? s.views id ≡ some v → v.live ≡ true → Sees q s.words v.seen
-
-abbrev Seated : Type 0
-Seated = Me (Unit {0}) Sight
+-- the table shows a configuration that meets the invariant of the core
+abbrev pub Kept : Query → Shared → Type 0
+Kept q s = IsWorld (shown q s)
 
 -- the pass has seen this word at a state, and has won so often
 abbrev pub saw : Seated → ℕ → ℕ → ℕ → Seated

@@ -8,6 +8,7 @@
 //! invariant of the crate `step_core`, and each step is one of its events. Nothing here waits.
 #![tactic(auto)]
 
+pub mod laws;
 mod pass;
 mod rule;
 mod table;

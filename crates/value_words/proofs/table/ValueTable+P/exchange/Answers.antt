@@ -1,5 +1,6 @@
-use Rattle.std.proofs.Common.{◌<◌, length, get_or, sym, subst, ap, ◌∙◌, le_trans}
+use Rattle.std.proofs.Common.{◌<◌, ◌≤◌, length, get_or, sym, subst, ap, ◌∙◌, le_trans}
 use Rattle.std.proofs.lemmas.List.{get_or-set_same}
+use Rattle.game_model.specs.Limits.{unit}
 use Rattle.step_core.specs.Word.{value_in, choice_in, value_at}
 use Rattle.fixed_bellman.proofs.Tables.{Gives-units}
 use Rattle.step_core.proofs.Sights.{value_at-here}
@@ -8,8 +9,14 @@ use Rattle.value_words.proofs.table.ValueTable+P.exchange.Goals as goal
 
 pub compare_exchange-requires : goal.compare_exchange-requires
 compare_exchange-requires g c =
+    let q = g.P.Posing.posed in
+    let p = c.args.pass.now in
     let r = c.requires in
-    (r.pass, subst (λ n. c.args.state < n) (sym c.args.self.now.as_many) r.state, exchange-allowed g.P.Posing.posed _ _ _ _ _ _ c.args.pass.now.live r.state c.args.self.now.posed r.free r.from r.raised r.given (Gives-units g.P.Posing.posed (value_at c.args.pass.now.seat.me.0.seen) c.args.state (value_in c.args.to) (choice_in c.args.to) c.args.self.now.posed r.state c.args.pass.now.units r.given))
+    let units : value_in c.args.to ≤ unit = Gives-units q (value_at p.seat.me.0.seen) c.args.state (value_in c.args.to) (choice_in c.args.to) c.args.self.now.posed r.state p.units r.given in (
+      r.pass,
+      subst (λ n. c.args.state < n) (sym c.args.self.now.as_many) r.state,
+      exchange-allowed q _ _ p.seat.me c.args.state c.args.from c.args.to p.live (record { inside = r.state; free = r.free; seen = r.from; raised = r.raised; given = r.given }) units,
+    )
 
 pub invariant_of-pass : goal.invariant_of-pass
 invariant_of-pass g c =
