@@ -1,23 +1,23 @@
 -- Each step of a pass is an event of the core, and so keeps the rule.
-use Rattle.std.proofs.Common.{◌≡◌, ◌≢◌, ℕ, zero, suc, ◌+◌, ◌<◌, true, List, [], ◌∷◌, ◌++◌, map, length, get_or, set, refl, sym, ap, ◌∙◌, subst}
+use Rattle.std.proofs.Common.{◌≡◌, ◌≢◌, ℕ, zero, suc, ◌+◌, ◌<◌, true, List, [], ◌∷◌, ◌++◌, map, length, get_or, set, sym, ap, ◌∙◌, subst}
 use Rattle.std.specs.Prelude.{Option, Some, None, is_some, unwrap_or, if◌then◌else◌}
 use Rattle.std.proofs.lemmas.List.{get_or-set_same, set-get_or, set_comm, map-set, map-append}
-use mathlib.Core.Option.{some, some-injective, some-ne-none}
+use mathlib.Core.Option.{none, some, some-injective, some-ne-none}
 use lib.ListN.{get_elem?}
-use Rattle.atomic_table.specs.Table.{Step, Act, opening, stepped}
+use Rattle.atomic_table.specs.Table.{Act, step, stepped}
 use Rattle.atomic_table.proofs.Lists.{set_again}
 use Rattle.game_model.specs.Query.{Query, states}
 use Rattle.step_core.specs.declared.event.Event.{Event}
 use Rattle.step_core.specs.declared.event.Event.TheVariants.{Load, Won, Lost, Split, Join}
-use Rattle.step_core.specs.Word.{value_in, choice_in, value_at, opening_words, greater_words}
+use Rattle.step_core.specs.Word.{value_in, choice_in, value_at, greater_words}
 use Rattle.step_core.specs.Sound.{Sees}
-use Rattle.step_core.specs.Configuration.{Configuration, IsWorld, view_of, seen_by, opening_configuration}
+use Rattle.step_core.specs.Configuration.{IsWorld, view_of, seen_by}
 use Rattle.step_core.specs.Events.{IsLive, after}
 use Rattle.step_core.proofs.Kept.{after-keeps}
 use Rattle.fixed_bellman.specs.Given.{Gives}
 use Rattle.value_words.specs.declared.rule.Sight.{Sight}
 use Rattle.value_words.specs.Shown.{Shared, Seated, view_shown, shown, IsPassOf, IsEvent}
-use Rattle.value_words.specs.Rule.{opening_sight, copied, joined, spent, Kept, saw, Loaded, WonOrLost}
+use Rattle.value_words.specs.Rule.{copied, joined, spent, Kept, saw, Loaded, WonOrLost}
 use Rattle.value_words.specs.Steps.{IsOffer, after_split, after_join}
 
 -- an event keeps the rule
@@ -52,7 +52,7 @@ module _ (q : Query) (s : Shared) (id : ℕ) (m : Seated) (p : IsPassOf s id m.0
   saw-shown : (n : Seated) (word won : ℕ) → n ≡ saw m i word won → map view_shown (set s.views id n.0) ≡ set (map view_shown s.views) id (Some (set (seen_by (shown q s) id) i word))
   saw-shown n word won is =
       let view : view_shown n.0 ≡ Some (set (seen_by (shown q s) id) i word) =
-          view-live n.0 (ap (λ (x : Seated). x.0.live) is ∙ p.live) ∙ ap (λ (x : Seated). Some x.0.seen) is ∙ ap (λ (xs : List ℕ). Some (set xs i word)) (sym (seen-shown q s id m.0 p)) in
+      view-live n.0 (ap (λ (x : Seated). x.0.live) is ∙ p.live) ∙ ap (λ (x : Seated). Some x.0.seen) is ∙ ap (λ (xs : List ℕ). Some (set xs i word)) (sym (seen-shown q s id m.0 p)) in
       map-set view_shown s.views id n.0 ∙ ap (set (map view_shown s.views) id) view
 
   -- a look at the word as it is
@@ -63,38 +63,39 @@ module _ (q : Query) (s : Shared) (id : ℕ) (m : Seated) (p : IsPassOf s id m.0
   won-effect : (act : Act (Unit {0})) (n : Seated) (from to won : ℕ) → i < length s.words → n ≡ saw m i to won → shown q (stepped s i to id m.1 n.0 act) ≡ after (shown q s) (Won id i from to)
   won-effect act n from to won inside is =
       let own : set (map view_shown s.views) id (Some (set (seen_by (shown q s) id) i to)) ≡ set (map view_shown s.views) id (Some (set (seen_by (shown q s) id) i (get_or (set s.words i to) i 0))) =
-          ap (λ (word : ℕ). set (map view_shown s.views) id (Some (set (seen_by (shown q s) id) i word))) (sym (get_or-set_same s.words i to 0 inside)) in
+      ap (λ (word : ℕ). set (map view_shown s.views) id (Some (set (seen_by (shown q s) id) i word))) (sym (get_or-set_same s.words i to 0 inside)) in
       λ e. record { question = q; words = set s.words i to; views = (saw-shown n to won is ∙ own) e }
 
-module _ (q : Query) (s : Shared) (id : ℕ) (m n : Seated) (step : Step (Unit {0})) (act : Act (Unit {0})) (p : IsPassOf s id m.0) where
+module _ (q : Query) (s : Shared) (id slots state : ℕ) (m n : Seated) (act : Act (Unit {0})) (p : IsPassOf s id m.0) where
   abbrev found : ℕ
-  found = get_or s.words step.word 0
+  found = get_or s.words state 0
 
-  pub load-event : step.word < states q → Loaded step m found n → IsEvent q s (stepped s step.word found id m.1 n.0 act) (Load id step.word)
-  load-event inside told = record { lawful = (live-shown q s id m.0 p, inside); effect = looked-effect q s id m p step.word act n m.0.won told.0 }
+  pub load-event : state < states q → Loaded (step slots state 0 0 none) m found n → IsEvent q s (stepped s state found id m.1 n.0 act) (Load id state)
+  load-event inside told = record { lawful = (live-shown q s id m.0 p, inside); effect = looked-effect q s id m p state act n m.0.won told.0 }
 
-  pub won-event : Kept q s → IsOffer q m step → found ≡ step.first → WonOrLost step m found n → IsEvent q s (stepped s step.word step.second id m.1 n.0 act) (Won id step.word step.first step.second)
-  won-event k offer hit told = record {
-    lawful = record {
-      live = live-shown q s id m.0 p;
-      inside = offer.inside;
-      free = offer.free;
-      is_from = hit;
-      raised = offer.raised;
-      given = subst (λ (seen : List ℕ). Gives q (value_at seen) step.word (value_in step.second) (choice_in step.second)) (sym (seen-shown q s id m.0 p)) offer.given;
-    };
-    effect = won-effect q s id m p step.word act n step.first step.second (m.0.won + 1) (subst (λ k. step.word < k) (sym k.words.as_many) offer.inside) (told.0 hit);
-  }
+  module _ (from to : ℕ) (offer : IsOffer q m.0.seen state from to) (told : WonOrLost (step slots state from to none) m found n) where
+    pub won-event : Kept q s → found ≡ from → IsEvent q s (stepped s state to id m.1 n.0 act) (Won id state from to)
+    won-event k hit = record {
+      lawful = record {
+        live = live-shown q s id m.0 p;
+        inside = offer.inside;
+        free = offer.free;
+        is_from = hit;
+        raised = offer.raised;
+        given = subst (λ (seen : List ℕ). Gives q (value_at seen) state (value_in to) (choice_in to)) (sym (seen-shown q s id m.0 p)) offer.given;
+      };
+      effect = won-effect q s id m p state act n from to (m.0.won + 1) (subst (λ k. state < k) (sym k.words.as_many) offer.inside) (told.0 hit);
+    }
 
-  pub lost-event : IsOffer q m step → found ≢ step.first → WonOrLost step m found n → IsEvent q s (stepped s step.word found id m.1 n.0 act) (Lost id step.word)
-  lost-event offer miss told = record {
-    lawful = (
-      live-shown q s id m.0 p,
-      offer.inside,
-      (λ same. miss (same ∙ ap (λ (seen : List ℕ). get_or seen step.word 0) (seen-shown q s id m.0 p) ∙ sym offer.seen)),
-    );
-    effect = looked-effect q s id m p step.word act n m.0.won (told.1 miss).0;
-  }
+    pub lost-event : found ≢ from → IsEvent q s (stepped s state found id m.1 n.0 act) (Lost id state)
+    lost-event miss = record {
+      lawful = (
+        live-shown q s id m.0 p,
+        offer.inside,
+        (λ same. miss (same ∙ ap (λ (seen : List ℕ). get_or seen state 0) (seen-shown q s id m.0 p) ∙ offer.is_from)),
+      );
+      effect = looked-effect q s id m p state act n m.0.won (told.1 miss).0;
+    }
 
 pub split-event : (q : Query) (s : Shared) (id : ℕ) (v : Sight) → IsPassOf s id v → IsEvent q s (after_split s id v) (Split id)
 split-event q s id v p = record {
@@ -112,7 +113,7 @@ join-event q s id other v w p there apart = record {
   effect =
       let views : List (Option (List ℕ)) = map view_shown s.views in
       let both : view_shown (joined v w) ≡ Some (greater_words (seen_by (shown q s) id) (seen_by (shown q s) other)) =
-          view-live (joined v w) p.live ∙ (λ e. Some (greater_words (sym (seen-shown q s id v p) e) (sym (seen-shown q s other w there) e))) in
+      view-live (joined v w) p.live ∙ (λ e. Some (greater_words (sym (seen-shown q s id v p) e) (sym (seen-shown q s other w there) e))) in
       ap (λ (vs : List (Option (List ℕ))). record { question = q; words = s.words; views = vs })
       (map-set view_shown (set s.views id (joined v w)) other spent
       ∙ ap (λ (vs : List (Option (List ℕ))). set vs other None) (map-set view_shown s.views id (joined v w))

@@ -3,13 +3,13 @@ use Rattle.std.proofs.Common.{◌≡◌, ◌≢◌, ◌⊎◌, inl, inr, ℕ, �
 use Rattle.std.proofs.lemmas.Bool.{cases_eq}
 use mathlib.Core.Option.{none}
 use prog.Atomic.{either}
-use Rattle.atomic_table.specs.Table.{Act, keeps, Step, step, stepped, opening, carried_after, Valid, Allows, Splits, Joins, Final, Seen}
+use Rattle.atomic_table.specs.Table.{Act, keeps, step, stepped, opening, carried_after, Valid, Allows, Splits, Joins, Final, Seen}
 use Rattle.atomic_table.proofs.Lists.{at_set, exchanged}
 use Rattle.game_model.specs.Query.{Query, IsQuery, states}
 use Rattle.game_model.specs.Limits.{unit}
 use Rattle.step_core.specs.Word.{value_in, value_at, opening_words, greater_words}
-use Rattle.step_core.specs.Sound.{Sound, Sees}
-use Rattle.step_core.specs.declared.event.Event.TheVariants.{Load, Won, Lost, Split, Join}
+use Rattle.step_core.specs.Sound.{Sees}
+use Rattle.step_core.specs.declared.event.Event.TheVariants.{Split, Join}
 use Rattle.step_core.proofs.Kept.{opening-keeps}
 use Rattle.step_core.proofs.Sights.{value_at-here, value_at-else, value_at-rises, greater_words-at}
 use Rattle.step_core.proofs.Words.{Sound-units}
@@ -32,10 +32,10 @@ load-allowed q slots id m i live inside s k many at small =
     let p : IsPassOf s id m.0 = record { there = at; live = live } in
     let n : Seated = saw m i (get_or s.words i 0) m.0.won in
     let told : Loaded (step slots i 0 0 none) m (get_or s.words i 0) n = (refl, (pass-sees q s id m.0 p k).each i, Sound-units q s.words k.words i inside) in
-    (n.0, keeps, tt, event-keeps q s _ _ k (load-event q s id m n (step slots i 0 0 none) keeps p inside told), told)
+    (n.0, keeps, tt, event-keeps q s _ _ k (load-event q s id slots i m n keeps p inside told), told)
 
 -- an exchange may be made
-module _ (q : Query) (slots id : ℕ) (m : Seated) (i from to : ℕ) (live : m.0.live ≡ true) (offer : IsOffer q m (step slots i from to none)) (units : value_in to ≤ unit) where
+module _ (q : Query) (slots id : ℕ) (m : Seated) (i from to : ℕ) (live : m.0.live ≡ true) (offer : IsOffer q m.0.seen i from to) (units : value_in to ≤ unit) where
   module _ (s : Shared) (k : Kept q s) (p : IsPassOf s id m.0) where
     abbrev found : ℕ
     found = get_or s.words i 0
@@ -44,30 +44,29 @@ module _ (q : Query) (slots id : ℕ) (m : Seated) (i from to : ℕ) (live : m.0
     told-won hit = (
       (λ _. refl),
       (λ miss. absurd (miss hit)),
-      (to, m.0.won + 1, refl, subst (λ n. value_in n ≤ value_in to) offer.seen (omega (arith, offer.raised)), units),
+      (to, m.0.won + 1, refl, subst (λ n. value_in n ≤ value_in to) (sym offer.is_from) (omega (arith, offer.raised)), units),
     )
 
     told-lost : found ≢ from → WonOrLost (step slots i from to none) m found (saw m i found m.0.won)
     told-lost miss =
         let each = (pass-sees q s id m.0 p k).each i in (
           (λ hit. absurd (miss hit)),
-          (λ _. (refl, elim each [ inl same ↦ absurd (miss (same ∙ sym offer.seen)) | inr less ↦ less ])),
+          (λ _. (refl, elim each [ inl same ↦ absurd (miss (same ∙ offer.is_from)) | inr less ↦ less ])),
           (found, m.0.won, refl, found-rises m.0.seen i found each, Sound-units q s.words k.words i offer.inside),
         )
 
   pub exchange-allowed : Allows (Kept q) slots id m i (λ n. either (eqb n from) to n) (WonOrLost (step slots i from to none) m)
   exchange-allowed s k many at small =
       let p : IsPassOf s id m.0 = record { there = at; live = live } in
-      let at_step = step slots i from to none in
       let word = get_or s.words i 0 in
       exchanged word from to
-      (λ (x : ℕ). (w : Sight) × (a : Act (Unit {0})) × Valid s.homes m.1 a × Kept q (stepped s i x id m.1 w a) × WonOrLost at_step m word (w, carried_after m.1 a))
+      (λ (x : ℕ). (w : Sight) × (a : Act (Unit {0})) × Valid s.homes m.1 a × Kept q (stepped s i x id m.1 w a) × WonOrLost (step slots i from to none) m word (w, carried_after m.1 a))
       (λ (hit : word ≡ from).
-        let told = told-won s k p hit in
-        ((saw m i to (m.0.won + 1)).0, keeps, tt, event-keeps q s _ _ k (won-event q s id m (saw m i to (m.0.won + 1)) at_step keeps p k offer hit told), told))
+      let told = told-won s k p hit in
+      ((saw m i to (m.0.won + 1)).0, keeps, tt, event-keeps q s _ _ k (won-event q s id slots i m (saw m i to (m.0.won + 1)) keeps p from to offer told k hit), told))
       (λ (miss : word ≢ from).
-        let told = told-lost s k p miss in
-        ((saw m i word m.0.won).0, keeps, tt, event-keeps q s _ _ k (lost-event q s id m (saw m i word m.0.won) at_step keeps p offer miss told), told))
+      let told = told-lost s k p miss in
+      ((saw m i word m.0.won).0, keeps, tt, event-keeps q s _ _ k (lost-event q s id slots i m (saw m i word m.0.won) keeps p from to offer told miss), told))
 
 -- a split
 pub split-allowed : (q : Query) (id : ℕ) (v : Sight) → v.live ≡ true → Splits (Kept q) id v v (copied v)

@@ -2,7 +2,8 @@
 //! function does nothing: its contract is the law.
 
 ghost use Rattle.std.specs.Prelude.{◌≡◌, ◌≢◌, ℕ, ◌<◌, List, slice_index};
-ghost use Rattle.atomic_table.specs.Table.{Step, Act, opening, stepped};
+ghost use mathlib.Core.Option.{none};
+ghost use Rattle.atomic_table.specs.Table.{Act, step, opening, stepped};
 ghost use Rattle.game_model.specs.Query.{Query, states};
 ghost use Rattle.step_core.specs.declared.event.Event.{Event};
 ghost use Rattle.step_core.specs.declared.event.Event.TheVariants.{Load, Won, Lost, Split, Join};
@@ -20,23 +21,23 @@ pub fn tables_open_as_the_core_does()
 
 /// A load, with what it tells its pass, is the event `Load`.
 pub fn loads_are_events()
-    ensures { (q : Query) (s : Shared) (id : ℕ) (m n : Seated) (step : Step (Unit {0})) (act : Act (Unit {0})) → IsPassOf s id m.0 → step.word < states q
-        → Loaded step m (slice_index s.words step.word) n
-        → IsEvent q s (stepped s step.word (slice_index s.words step.word) id m.1 n.0 act) (Load id step.word) }
+    ensures { (q : Query) (s : Shared) (id slots state : ℕ) (m n : Seated) (act : Act (Unit {0})) → IsPassOf s id m.0 → state < states q
+        → Loaded (step slots state 0 0 none) m (slice_index s.words state) n
+        → IsEvent q s (stepped s state (slice_index s.words state) id m.1 n.0 act) (Load id state) }
 {}
 
-/// An exchange that finds the word expected is the event `Won`.
+/// An exchange that finds the word that its pass has seen is the event `Won`.
 pub fn won_exchanges_are_events()
-    ensures { (q : Query) (s : Shared) (id : ℕ) (m n : Seated) (step : Step (Unit {0})) (act : Act (Unit {0})) → Kept q s → IsPassOf s id m.0 → IsOffer q m step
-        → slice_index s.words step.word ≡ step.first → WonOrLost step m (slice_index s.words step.word) n
-        → IsEvent q s (stepped s step.word step.second id m.1 n.0 act) (Won id step.word step.first step.second) }
+    ensures { (q : Query) (s : Shared) (id slots state from to : ℕ) (m n : Seated) (act : Act (Unit {0})) → Kept q s → IsPassOf s id m.0 → IsOffer q m.0.seen state from to
+        → slice_index s.words state ≡ from → WonOrLost (step slots state from to none) m (slice_index s.words state) n
+        → IsEvent q s (stepped s state to id m.1 n.0 act) (Won id state from to) }
 {}
 
 /// An exchange that finds another word is the event `Lost`.
 pub fn lost_exchanges_are_events()
-    ensures { (q : Query) (s : Shared) (id : ℕ) (m n : Seated) (step : Step (Unit {0})) (act : Act (Unit {0})) → IsPassOf s id m.0 → IsOffer q m step
-        → slice_index s.words step.word ≢ step.first → WonOrLost step m (slice_index s.words step.word) n
-        → IsEvent q s (stepped s step.word (slice_index s.words step.word) id m.1 n.0 act) (Lost id step.word) }
+    ensures { (q : Query) (s : Shared) (id slots state from to : ℕ) (m n : Seated) (act : Act (Unit {0})) → IsPassOf s id m.0 → IsOffer q m.0.seen state from to
+        → slice_index s.words state ≢ from → WonOrLost (step slots state from to none) m (slice_index s.words state) n
+        → IsEvent q s (stepped s state (slice_index s.words state) id m.1 n.0 act) (Lost id state) }
 {}
 
 /// A split is the event `Split`.

@@ -58,6 +58,7 @@ impl Words {
 
 impl<'q, P: Posing> ValueTable<'q, P> {
     ghost use Rattle.value_words.specs.Passes.{IsOf, Grew, seen_by, words_seen, won_by};
+    ghost use Rattle.value_words.specs.Steps.{IsOffer};
 
     /// The opening words, and the one pass that has seen them.
     pub fn start(
@@ -190,11 +191,7 @@ impl<'q, P: Posing> ValueTable<'q, P> {
     // Tries to exchange the word that the pass has seen for one of greater value.
     fn exchange(&self, pass: &mut Pass<P>, state: u32, from: u64, to: u64) -> u64
         requires pass { IsOf self.now pass.old }
-        requires state { state < states P.posed }
-        requires free { IsFree P.posed state }
-        requires from { from ≡ slice_index (words_seen pass.old) state }
-        requires raised { value_in from < value_in to }
-        requires given { Gives P.posed (seen_by pass.old) state (value_in to) (choice_in to) }
+        requires offer { IsOffer P.posed (words_seen pass.old) state from to }
         ensures grew { Grew pass.old pass.new }
         ensures hit { result ≡ from → (won_by pass.new ≡ won_by pass.old + 1) × (seen_by pass.new state ≡ value_in to) }
         ensures lost { result ≢ from → (won_by pass.new ≡ won_by pass.old) × (result ≡ slice_index (words_seen pass.new) state) × (value_in from < value_in result) }
