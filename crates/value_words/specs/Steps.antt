@@ -5,7 +5,7 @@ use Rattle.step_core.specs.Word.{value_in, choice_in, value_at}
 use Rattle.fixed_bellman.specs.Given.{IsFree, Gives}
 use Rattle.value_words.specs.declared.rule.Sight.{Sight}
 use Rattle.value_words.specs.Shown.{Shared}
-use Rattle.value_words.specs.Rule.{copied, joined, spent}
+use Rattle.value_words.specs.Rule.{halved, copied, joined, spent}
 
 -- an exchange of the word that was seen for one of greater value, which its choice gives over all that was seen
 pub record IsOffer (q : Query) (seen : List ℕ) (state from to : ℕ) : Type 0 where
@@ -17,7 +17,7 @@ pub record IsOffer (q : Query) (seen : List ℕ) (state from to : ℕ) : Type 0 
 
 -- after a split of one pass, a second one is there
 abbrev pub after_split : Shared → ℕ → Sight → Shared
-after_split s id v = record s { views = slice_set s.views id v ++ copied v ∷ [] }
+after_split s id v = record s { views = slice_set s.views id (halved v) ++ copied v ∷ [] }
 
 -- after a join one pass has both sights, and the other is spent
 abbrev pub after_join : Shared → ℕ → Sight → ℕ → Sight → Shared
