@@ -1,4 +1,4 @@
-//! The limits, each in one place.
+//! The limits, as `specs/Limits.antt` defines them: `laws::limits` says so.
 
 /// The greatest denominator of a fraction, and of a choice.
 pub const FINEST: u128 = 1_000_000_000_000_000_000_000_000;

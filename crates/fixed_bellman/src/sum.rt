@@ -14,6 +14,7 @@ use crate::values::{Entries, Values};
 use game_model::{Game, Question};
 
 /// The value of a choice over values that may rise while they are read, before it is rounded.
+#[inline(always)]
 pub fn quotient<V: Values>(
     question: &Question,
     values: &V,
@@ -103,6 +104,7 @@ fn middle_sum<V: Values>(
 }
 
 /// The weighted sum of a choice of any total.
+#[inline(never)]
 fn wide_sum<V: Values>(game: &Game, state: u32, choice: u32, values: &V, pass: &mut V::Pass) -> u128
     requires state { state < length game.now }
     requires choice { choice < length (choices_of game.now state) }

@@ -24,8 +24,6 @@ mod sink;
 #[cfg(test)]
 mod tests;
 
-use std::alloc::{AllocError, AllocFailed};
-
 pub use gate::{Gate, OpenGate};
 pub use held::HeldFile;
 pub use hold_gate::HoldGate;
@@ -34,6 +32,7 @@ pub use memory_sink::{Kept, MemSink, SteadySink};
 pub use name::Name;
 pub use shelf::{ReadEnd, Shelf, read_all};
 pub use sink::{Sink, WriteFault, write_all};
+use std::alloc::{AllocError, AllocFailed};
 
 /// A call of the outside failed.
 #[derive(Clone, Copy, Debug, PartialEq, Eq, Drop)]

@@ -10,7 +10,7 @@ pub fn coin_game(alloc: Global) -> Option<Game> {
     draft.one(alloc, &[(0, 2), (1, 1), (2, 1)])?;
     draft.one(alloc, &[(1, 1)])?;
     draft.one(alloc, &[(2, 1)])?;
-    draft.game()
+    draft.game(alloc)
 }
 
 /// How likely is a win? State 1 is the goal.
@@ -44,7 +44,7 @@ pub fn agreement_game(alloc: Global) -> Option<Game> {
     draft.two(alloc, &[(9, 1)], &[(4, 1)])?;
     draft.one(alloc, &[(10, 1)])?;
     draft.one(alloc, &[(11, 1)])?;
-    draft.game()
+    draft.game(alloc)
 }
 
 /// How likely can the first process make the protocol end well? State 11 is the goal, state 10 is dead, and

@@ -15,9 +15,11 @@ use Rattle.rpatl_syntax.specs.Formula.{State, True, False, Label, And, Or, Impli
 use Rattle.rpatl_syntax.specs.Limits.{longest, most_nested}
 use Rattle.rpatl_syntax.specs.Tokens.{Tokens, Finish, Broken, Then, Token, tokens_of, begins_word}
 use Rattle.rpatl_syntax.specs.Grammar.{next, behind, is, is_word, is_quoted, unquoted, fails, unary, follows, where_next, both, either, implied, negated, closed, nested, state, names, further_names, with_name, some_names, coalition, threshold_of, threshold, compared, comparison, asked, bound, reached, until, path, finished, behind_bound, formula, formula_said}
-use Rattle.rpatl_syntax.specs.Rules.{between, IsState, IsEither, IsBoth, IsUnary, plain_state, implies, plain_either, or, plain_both, and, negation, brackets, everywhere, nowhere, label, with_commas, IsWord, IsCoalition, IsThreshold, IsComparison, IsBound, IsPath, reach, until as until_path, IsFormula, AreTokens, Denotes}
+use Rattle.rpatl_syntax.specs.Rules.{between, IsState, IsEither, IsBoth, IsUnary, plain_state, implies, plain_either, or, plain_both, and, negation, brackets, everywhere, nowhere, label, with_commas, IsWord, IsCoalition, IsThreshold, IsComparison, IsBound, IsPath, reach, until as until_path, IsFormula, Denotes}
+use Rattle.rpatl_syntax.specs.Laws.{AreTokens}
 use Rattle.rpatl_syntax.proofs.Spans.{Spans, spans_split, spans_count}
 use Rattle.rpatl_syntax.proofs.Joining.{Stands, begun, went_on, ended}
+use Rattle.rpatl_syntax.proofs.Cutting.{cut_read}
 
 -- 1. State formulas.
 
@@ -291,4 +293,4 @@ formula_again us f d ts a =
 pub formula_said_again : (text : List ℕ) (f : Tree) → Denotes text f → formula_said text ≡ Ok f
 unfolding formula_said
 formula_said_again text f d =
-    ap (λ b. cond b (Err (fault_at longest TooLong)) (formula (tokens_of text))) (not_above (length text) longest d.short) ∙ formula_again d.tokens f d.formula (tokens_of text) d.read
+    ap (λ b. cond b (Err (fault_at longest TooLong)) (formula (tokens_of text))) (not_above (length text) longest d.short) ∙ formula_again d.tokens f d.formula (tokens_of text) (cut_read text d.tokens d.cut 0)

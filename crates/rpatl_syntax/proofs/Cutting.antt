@@ -7,9 +7,9 @@ use Rattle.std.proofs.lemmas.List.{length-append, take-append-drop}
 use Rattle.text_lines.specs.Text.{is_digit}
 use Rattle.rpatl_syntax.specs.declared.front.Front.{Front}
 use Rattle.rpatl_syntax.specs.declared.front.Front.TheVariants.{Blank, Spelling, Unclosed, Strange}
-use Rattle.rpatl_syntax.specs.Laws.{IsSpelling, IsLongest, AreCut, nothing, blank, token}
+use Rattle.rpatl_syntax.specs.Laws.{AreTokens}
+use Rattle.rpatl_syntax.specs.TokenRules.{IsSpelling, IsLongest, AreCut, nothing, blank, token}
 use Rattle.rpatl_syntax.specs.Limits.{longest_name}
-use Rattle.rpatl_syntax.specs.Rules.{AreTokens}
 use Rattle.rpatl_syntax.specs.Tokens.{Tokens, Then, tokens_of, in_front, tokens_from, front_from, begins_word, in_name, is_blank, is_long_sign, is_short_sign, word_length, number_length, name_from, sign_from, short_sign}
 use Rattle.rpatl_syntax.proofs.Spans.{chosen}
 use Rattle.rpatl_syntax.proofs.Passing.{token_cut}

@@ -16,9 +16,11 @@ use Rattle.rpatl_syntax.specs.Formula.{State, True, Tree}
 use Rattle.rpatl_syntax.specs.Limits.{longest, most_nested}
 use Rattle.rpatl_syntax.specs.Tokens.{Tokens, Finish, Broken, Then, Token, tokens_of}
 use Rattle.rpatl_syntax.specs.Grammar.{next, behind, is, is_word, is_number, fails, follows, where_next, names, further_names, with_name, some_names, coalition, threshold_of, threshold, compared, comparison, asked, bound, state, reached, until, path, finished, behind_bound, formula, formula_said}
-use Rattle.rpatl_syntax.specs.Rules.{between, IsState, with_commas, IsWord, IsCoalition, IsThreshold, IsComparison, IsBound, IsPath, reach, until as until_path, IsFormula, AreTokens, Denotes}
+use Rattle.rpatl_syntax.specs.Rules.{between, IsState, with_commas, IsWord, IsCoalition, IsThreshold, IsComparison, IsBound, IsPath, reach, until as until_path, IsFormula, Denotes}
+use Rattle.rpatl_syntax.specs.Laws.{AreTokens}
 use Rattle.rpatl_syntax.proofs.Spans.{Spans, Found, spans_append, chosen, bind_ok, next_ok, behind_ok, follows_ok, same_bytes}
 use Rattle.rpatl_syntax.proofs.Derived.{same_read, state_found}
+use Rattle.rpatl_syntax.proofs.Cutting.{tokens_cut}
 
 -- 1. Coalitions.
 
@@ -300,5 +302,5 @@ unfolding formula_said
 formula_denoted text f e =
     elim (chosen (nat_lt longest (length text)) (Err (fault_at longest TooLong)) (formula (tokens_of text)) (Ok f) e) [
       | inl t ↦ cc t.1
-      | inr t ↦ let found = formula_found (tokens_of text) f t.1 in record { short = le_from (length text) longest t.0; tokens = found.tokens; read = found.read; formula = found.formula }
+      | inr t ↦ let found = formula_found (tokens_of text) f t.1 in record { short = le_from (length text) longest t.0; tokens = found.tokens; cut = tokens_cut text found.tokens found.read; formula = found.formula }
     ]

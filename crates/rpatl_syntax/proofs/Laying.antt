@@ -9,7 +9,7 @@ use Rattle.rpatl_syntax.specs.declared.front.Front.TheVariants.{Spelling}
 use Rattle.rpatl_syntax.specs.Formula.{State, True, False, Label, Not, And, Or, Implies}
 use Rattle.rpatl_syntax.specs.Spelling.{strength_of, in_place, state_spelling, names_spelling}
 use Rattle.rpatl_syntax.specs.Tokens.{tokens_from, front_from, in_word, is_letter, in_number, word_length, number_length, name_from, is_long_sign}
-use Rattle.rpatl_syntax.specs.Laws.{IsName}
+use Rattle.rpatl_syntax.specs.TokenRules.{IsName}
 use Rattle.rpatl_syntax.specs.Grammar.{is_word}
 use Rattle.rpatl_syntax.specs.Rules.{between, with_commas}
 use Rattle.rpatl_syntax.specs.Spellable.{IsWholeWord, HasNames}

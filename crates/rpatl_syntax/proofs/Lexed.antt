@@ -7,7 +7,7 @@ use Rattle.std.proofs.lemmas.List.{length-append, length-take-le, take-append-dr
 use Rattle.std.proofs.lemmas.Bool.Decides.{nat_tests}
 use Rattle.text_lines.specs.Text.{is_digit}
 use Rattle.rpatl_syntax.specs.declared.front.Front.TheVariants.{Blank, Spelling, Strange}
-use Rattle.rpatl_syntax.specs.Laws.{go_on_number, is_name_byte, IsSpelling, word, number, quoted_name, long_sign, short_sign, IsLongest}
+use Rattle.rpatl_syntax.specs.TokenRules.{go_on_number, is_name_byte, IsSpelling, word, number, quoted_name, long_sign, short_sign, IsLongest}
 use Rattle.rpatl_syntax.specs.Limits.{longest_name}
 use Rattle.rpatl_syntax.specs.Tokens.{front_from, begins_word, in_word, in_number, in_name, is_blank, is_long_sign, is_short_sign, word_length, number_length, name_from, sign_from, short_sign as sign_alone}
 use Rattle.rpatl_syntax.proofs.Spans.{chosen}

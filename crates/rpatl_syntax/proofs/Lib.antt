@@ -6,7 +6,10 @@ pub mod Laying
 pub mod Fronts
 pub mod Lexed
 pub mod Cutting
+pub mod NoBlanks
 pub mod Blanks
+pub mod Reaching
+pub mod BlankFormulas
 pub mod Naming
 pub mod Needs
 pub mod Numerals

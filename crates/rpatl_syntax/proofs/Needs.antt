@@ -10,7 +10,7 @@ use Rattle.text_lines.specs.Text.{is_digit}
 use Rattle.rpatl_syntax.specs.Formula.{State}
 use Rattle.rpatl_syntax.specs.Spelling.{strength_of}
 use Rattle.rpatl_syntax.specs.Tokens.{in_word}
-use Rattle.rpatl_syntax.specs.Laws.{IsName, IsSpelling, word, number, quoted_name, long_sign, short_sign}
+use Rattle.rpatl_syntax.specs.TokenRules.{IsName, IsSpelling, word, number, quoted_name, long_sign, short_sign}
 use Rattle.rpatl_syntax.specs.Grammar.{is_word, is_quoted, unquoted}
 use Rattle.rpatl_syntax.specs.Rules.{IsState, IsEither, IsBoth, IsUnary, plain_state, implies, plain_either, or, plain_both, and, negation, brackets, everywhere, nowhere, label}
 use Rattle.rpatl_syntax.specs.Spellable.{IsWholeWord, HasNames, need_in, need}

@@ -9,9 +9,10 @@ use Rattle.rpatl_syntax.specs.declared.formula.Bound.{Bound}
 use Rattle.rpatl_syntax.specs.declared.formula.Bound.TheVariants.{AtLeast, Above, AtMost, Below, AskMax, AskMin}
 use Rattle.rpatl_syntax.specs.Formula.{State, True, False, Label, Not, And, Or, Implies, Tree}
 use Rattle.rpatl_syntax.specs.Grammar.{formula_said, is_number}
-use Rattle.rpatl_syntax.specs.Laws.{IsSpelling}
+use Rattle.rpatl_syntax.specs.Laws.{AreTokens}
+use Rattle.rpatl_syntax.specs.TokenRules.{IsSpelling}
 use Rattle.rpatl_syntax.specs.Limits.{longest, most_nested}
-use Rattle.rpatl_syntax.specs.Rules.{between, IsState, with_commas, IsWord, IsCoalition, IsComparison, IsBound, IsPath, reach, until as until_path, AreTokens, Denotes}
+use Rattle.rpatl_syntax.specs.Rules.{between, IsState, with_commas, IsWord, IsCoalition, IsComparison, IsBound, IsPath, reach, until as until_path, Denotes}
 use Rattle.rpatl_syntax.specs.Spellable.{IsWholeWord, HasWords, IsShare, HasShare, need, IsSide, IsSpellable}
 use Rattle.rpatl_syntax.specs.Spelling.{state_spelling, path_spelling, names_spelling, coalition_spelling, fraction_spelling, bound_spelling, spelling}
 use Rattle.text_lines.specs.Text.{is_digit}
@@ -60,7 +61,7 @@ pub spellable : (text : List ℕ) (f : Tree) → Denotes text f → IsSpellable 
 spellable text f d =
     let g = d.formula in
     let P : List (List ℕ) → Type 0 = λ us. AllByRecursion IsSpelling us in
-    let all : AllByRecursion IsSpelling (g.team ++ (g.asks ++ codes "[" ∷ (g.sides ++ codes "]" ∷ []))) = subst P g.whole (cut_spelled text d.tokens (tokens_cut text d.tokens d.read)) in
+    let all : AllByRecursion IsSpelling (g.team ++ (g.asks ++ codes "[" ∷ (g.sides ++ codes "]" ∷ []))) = subst P g.whole (cut_spelled text d.tokens d.cut) in
     let behind_team = all_right g.team (g.asks ++ codes "[" ∷ (g.sides ++ codes "]" ∷ [])) all in
     let behind_bound = all_right g.asks (codes "[" ∷ (g.sides ++ codes "]" ∷ [])) behind_team in
     let sides = path_kept g.sides f.left f.right g.path (all_left g.sides (codes "]" ∷ []) behind_bound.1) in
@@ -197,7 +198,7 @@ spelling_denotes f is short =
     record {
       short = short;
       tokens = formula_tokens f;
-      read = subst P (append-nil (spelling f)) (ends_with (formula_tokens f) (tokens_of (spelling f ++ [])) (0 + length (spelling f)) (lays_formula f is 0));
+      cut = tokens_cut (spelling f) (formula_tokens f) (subst P (append-nil (spelling f)) (ends_with (formula_tokens f) (tokens_of (spelling f ++ [])) (0 + length (spelling f)) (lays_formula f is 0)));
       formula = record {
         team = team_tokens f.coalition;
         asks = bound_tokens f.bound;

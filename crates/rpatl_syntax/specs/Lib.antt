@@ -9,4 +9,5 @@ pub mod Limits
 pub mod Rules
 pub mod Spellable
 pub mod Spelling
+pub mod TokenRules
 pub mod Tokens

@@ -7,7 +7,7 @@ use Rattle.rpatl_syntax.specs.declared.formula.Bound.{Bound}
 use Rattle.rpatl_syntax.specs.declared.formula.Bound.TheVariants.{AtLeast, Above, AtMost, Below, AskMax, AskMin}
 use Rattle.rpatl_syntax.specs.Formula.{State, True, False, Label, Not, And, Or, Implies, Tree}
 use Rattle.rpatl_syntax.specs.Limits.{longest, most_nested}
-use Rattle.rpatl_syntax.specs.Tokens.{Tokens, Finish, Broken, Then, tokens_of}
+use Rattle.rpatl_syntax.specs.TokenRules.{AreCut}
 use Rattle.rpatl_syntax.specs.Grammar.{is_word, is_number, is_quoted, unquoted}
 
 -- a token between two others
@@ -87,17 +87,9 @@ pub record IsFormula (ts : List (List ℕ)) (f : Tree) : Type 0 where
   pub bound : IsBound asks f.bound
   pub path : IsPath sides f.left f.right
 
--- these are all the tokens up to the end of the text
-abbrev pub AreTokens : Tokens → List (List ℕ) → Type 0
-AreTokens (Finish place) [] = Unit {0}
-AreTokens (Finish place) (t ∷ ts) = ⊥
-AreTokens (Broken fault) ts = ⊥
-AreTokens (Then place spelling rest) [] = ⊥
-AreTokens (Then place spelling rest) (t ∷ ts) = (spelling ≡ t) × AreTokens rest ts
-
 -- The text spells this formula.
 pub record Denotes (text : List ℕ) (f : Tree) : Type 0 where
   pub short : length text ≤ longest
   pub tokens : List (List ℕ)
-  pub read : AreTokens (tokens_of text) tokens
+  pub cut : AreCut text tokens
   pub formula : IsFormula tokens f

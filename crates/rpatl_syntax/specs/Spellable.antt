@@ -1,4 +1,4 @@
--- Which formulas the grammar can spell.
+-- Which formulas the grammar can spell: exactly these are read from texts, where the spelling is not too long.
 use Rattle.std.specs.Prelude.{◌≡◌, ◌≤◌, ◌+◌, ℕ, true, nat_lt, max, List, Option, Some, None, if◌then◌else◌}
 use Rattle.std.specs.List.{list_all, AllByRecursion}
 use Rattle.distributions.specs.Fraction.{Fraction, IsFraction}
@@ -6,7 +6,7 @@ use Rattle.rpatl_syntax.specs.declared.formula.Bound.{Bound}
 use Rattle.rpatl_syntax.specs.declared.formula.Bound.TheVariants.{AtLeast, Above, AtMost, Below, AskMax, AskMin}
 use Rattle.rpatl_syntax.specs.Formula.{State, True, False, Label, Not, And, Or, Implies, Tree}
 use Rattle.rpatl_syntax.specs.Grammar.{is_word}
-use Rattle.rpatl_syntax.specs.Laws.{IsName}
+use Rattle.rpatl_syntax.specs.TokenRules.{IsName}
 use Rattle.rpatl_syntax.specs.Limits.{most_nested}
 use Rattle.rpatl_syntax.specs.Spelling.{strength_of}
 use Rattle.rpatl_syntax.specs.Tokens.{in_word}
@@ -21,7 +21,7 @@ abbrev pub HasWords : Option (List (List ℕ)) → Type 0
 HasWords None = Unit {0}
 HasWords (Some names) = AllByRecursion IsWholeWord names
 
--- a fraction that is at most 1
+-- a threshold: a fraction in lowest terms whose denominator is not too great, at most 1
 pub record IsShare (p : Fraction) : Type 0 where
   pub fraction : IsFraction p
   pub small : p.num ≤ p.den
@@ -44,7 +44,7 @@ HasNames (And x y) = HasNames x × HasNames y
 HasNames (Or x y) = HasNames x × HasNames y
 HasNames (Implies x y) = HasNames x × HasNames y
 
--- one more where such a place takes brackets
+-- in a place for formulas that bind at least so tightly: one more where it takes brackets
 abbrev pub need_in : ℕ → State → ℕ → ℕ
 need_in least x inner = if nat_lt (strength_of x) least then inner + 1 else inner
 
@@ -58,7 +58,7 @@ need (And x y) = max (need_in 2 x (need x)) (need_in 3 y (need y))
 need (Or x y) = max (need_in 1 x (need x)) (need_in 2 y (need y))
 need (Implies x y) = max (need_in 0 x (need x)) (need_in 1 y (need y))
 
--- a state formula that is no part of another
+-- a side of `left U right`: its labels can be quoted, and its spelling does not nest too deep
 pub record IsSide (x : State) : Type 0 where
   pub names : HasNames x
   pub nests : need x ≤ most_nested

@@ -1,11 +1,12 @@
 //! Laws of formulas and their tokens. Each function does nothing; its contract is the law.
-ghost use Rattle.std.specs.Prelude.{◌≡◌, ◌++◌, ◌↔◌, ℕ, List, None, Ok, length};
+ghost use Rattle.std.specs.Prelude.{◌≡◌, ◌≤◌, ◌++◌, ◌↔◌, ℕ, List, None, Ok, length};
 ghost use Rattle.rpatl_syntax.specs.Formula.{Tree};
 ghost use Rattle.rpatl_syntax.specs.Grammar.{formula_said};
-ghost use Rattle.rpatl_syntax.specs.Laws.{AreCut, AreAlike, IsBlank, StandsAt, spellings_of, cause_of};
+ghost use Rattle.rpatl_syntax.specs.Laws.{AreTokens, AreAlike, IsBlank, StandsAt, spellings_of, cause_of};
 ghost use Rattle.rpatl_syntax.specs.Limits.{longest, most_nested, longest_name};
-ghost use Rattle.rpatl_syntax.specs.Rules.{AreTokens, Denotes};
+ghost use Rattle.rpatl_syntax.specs.Rules.{Denotes};
 ghost use Rattle.rpatl_syntax.specs.Spellable.{IsSpellable};
+ghost use Rattle.rpatl_syntax.specs.TokenRules.{AreCut};
 ghost use Rattle.rpatl_syntax.specs.Tokens.{tokens_of};
 
 use crate::limits::{LONGEST, LONGEST_NAME, MOST_NESTED};
@@ -17,12 +18,13 @@ pub fn limits()
     ensures name { LONGEST_NAME ≡ longest_name }
 {}
 
-/// The tokens of a text are the longest spellings that stand there, one behind another, with blanks between them.
+/// The tokens that are found in a text, where they go up to its end, are those into which the rules cut it: each is the
+/// longest spelling that stands there.
 pub fn tokens_are_the_longest_spellings()
     ensures { (text : List ℕ) (tokens : List (List ℕ)) → AreTokens (tokens_of text) tokens ↔ AreCut text tokens }
 {}
 
-/// A blank parts tokens: behind a text that is all tokens it changes none of them, nor those behind it.
+/// A blank parts tokens: behind a text of whole tokens stand these tokens, and then those of what follows the blank.
 pub fn blanks_part_tokens()
     ensures spellings { (front blank back : List ℕ) → IsBlank blank → cause_of (tokens_of front) ≡ None →
         spellings_of (tokens_of (front ++ (blank ++ back))) ≡ spellings_of (tokens_of front) ++ spellings_of (tokens_of back) }
@@ -34,6 +36,13 @@ pub fn blanks_part_tokens()
 pub fn blanks_before_tokens_are_free()
     ensures { (front blank back : List ℕ) → IsBlank blank → StandsAt (tokens_of (front ++ back)) (length front) →
         AreAlike (tokens_of (front ++ (blank ++ back))) (tokens_of (front ++ back)) }
+{}
+
+/// A blank before a token or at the end of a text changes no formula, where the text does not get too long.
+pub fn blanks_change_no_formula()
+    ensures before { (front blank back : List ℕ) (tree : Tree) → IsBlank blank → StandsAt (tokens_of (front ++ back)) (length front) →
+        length (front ++ (blank ++ back)) ≤ longest → Denotes (front ++ back) tree → Denotes (front ++ (blank ++ back)) tree }
+    ensures end { (text blank : List ℕ) (tree : Tree) → IsBlank blank → length (text ++ blank) ≤ longest → Denotes text tree → Denotes (text ++ blank) tree }
 {}
 
 /// The formula that is read from a text is the one that it denotes.

@@ -1,9 +1,9 @@
 //! Reachability formulas of PCTL (Hansson and Jonsson 1994) and rPATL (Chen et al. 2013), spelled as PRISM spells them.
 //!
 //! `read_formula` gives the formula that a text spells, or the first fault of the text with its offset. `print_formula`
-//! gives the one spelling of a formula. The rules of the grammar are `IsFormula` of `specs/Rules.antt`; contracts see a
-//! formula as a `Tree` of `specs/Formula.antt`, by `tree_of`. Which names stand for labels or players of a model is not
-//! looked at here.
+//! gives the one spelling of a formula, from which it is read again. The rules of the grammar are `IsFormula` of
+//! `specs/Rules.antt`, over the tokens of `specs/TokenRules.antt`; contracts see a formula as a `Tree` of
+//! `specs/Formula.antt`, by `tree_of`. Which names stand for labels or players of a model is not looked at here.
 #![tactic(auto)]
 
 mod cursor;

@@ -12,6 +12,7 @@ use Rattle.verdicts.specs.declared.report.ReportLine.{ReportLine}
 abbrev pub HasValues : ReportLine → Type 0
 HasValues line = (line.lower ≤ unit) × (line.upper ≤ unit)
 
+-- a number of rounds, where one is named, has 32 bits
 abbrev pub HasRounds : How → Type 0
 HasRounds (Rounds rounds) = rounds < 2 ^ 32
 HasRounds Audited = Unit {0}

@@ -2,7 +2,7 @@ use Rattle.std.proofs.Common.{◌≡◌, ◌<◌, ℕ, ◌+◌, List, length, ap
 use Rattle.game_model.specs.Game.{Distribution}
 use Rattle.game_model.specs.Query.{Query, states}
 use Rattle.round_workers.specs.Share.{BeginsBlock}
-use Rattle.round_workers.proofs.Parts.{one-worker, block-follows}
+use Rattle.round_workers.proofs.Parts.{one-worker}
 use Rattle.round_workers.proofs.fork.alone.Goals as goal
 
 pub returns : goal.returns
