@@ -1,4 +1,5 @@
 pub mod Moves
 pub mod Counts
 pub mod Steps
+pub mod Blocks
 pub mod Cuts

@@ -1,7 +1,8 @@
 -- The choices of a state, one after another.
-use Rattle.std.proofs.Common.{◌≡◌, ◌∙◌, ◌<◌, ◌≤◌, ◌⊎◌, inl, inr, ℕ, zero, suc, ◌+◌, ◌*◌, Bool, cond, List, [], ◌∷◌, ◌++◌, length, map, get_or, take, drop, Result, Ok, Err, refl, sym, ap, ap₂, subst, arith, add-one, Vec, Global}
+use Rattle.std.proofs.Common.{◌≡◌, ◌∙◌, ◌<◌, ◌≤◌, ◌⊎◌, inl, inr, ℕ, zero, suc, ◌+◌, ◌*◌, Bool, cond, List, [], ◌∷◌, ◌++◌, length, map, get_or, take, drop, Result, Ok, Err, refl, sym, ap, ap₂, subst, arith, add-one}
 use Rattle.std.specs.List.{filter, All}
 use Rattle.game_model.specs.Game.{Distribution}
+use Rattle.game_model.specs.Draft.{Draft}
 use Rattle.distributions.specs.declared.choice.ChoiceFault.{ChoiceFault}
 use Rattle.distributions.specs.Parts.{choice_said}
 use Rattle.tra_reader.specs.Limits.{most_stated_choices}
@@ -10,7 +11,7 @@ use Rattle.tra_reader.specs.declared.fault.TraFault.{TraFault}
 use Rattle.tra_reader.specs.Choices.{transitions_of, part_of, parts_of, choice_end, self_loop, then_push, choice_at, choices_said, state_said, states_said}
 use Rattle.tra_reader.specs.Order.{has, From, run_len, place_of, transition_place, InOrder, IsLeft, IsWithin}
 use Rattle.std.specs.Borrow.{Bor}
-use Rattle.tra_reader.specs.Answers.{LeadsInside, AreFirst, AreOfState, AreOfStates, ChoicesAnswer, StateAnswer}
+use Rattle.tra_reader.specs.Answers.{LeadsInside, AreFirst, AreOfState, ChoicesAnswer, StateAnswer}
 use Rattle.tra_reader.proofs.Alike.{state_alike, states_stay}
 use Rattle.tra_reader.proofs.Decisions.{cases_lt, eq_test, ne_test}
 use Rattle.tra_reader.proofs.Rows.{All-push}
@@ -119,30 +120,28 @@ choice_answer ts s k n (TooFine a b) (inr said) = inr said
 choice_answer ts s k n (BadSum a b) (inl memory) = cc
 choice_answer ts s k n (BadSum a b) (inr said) = inr said
 
-pub state_answer : (ts : List Transition) (s m : ℕ) (result : Result (Vec Distribution Global × Bor (List Transition)) TraFault) → AreSmall ts → choice_end ts s ≡ m → 0 < m → ChoicesAnswer ts s m result → StateAnswer ts s result
-state_answer ts s m (Ok (choices, rest)) small end some is = state_of_choices ts rest.now s m choices.items small end some is
-state_answer ts s m (Err fault) small end some (inl memory) = inl memory
-state_answer ts s m (Err fault) small end some (inr said) = inr (state_fault ts s m fault end some said)
+pub state_answer : (ts : List Transition) (s m : ℕ) (old new : Draft) (result : Result (Bor (List Transition)) TraFault) → AreSmall ts → choice_end ts s ≡ m → 0 < m → ChoicesAnswer ts s m old new result → StateAnswer ts s old new result
+state_answer ts s m old new (Ok rest) small end some is = (is.0, state_of_choices ts rest.now s m new.under_way small end some is.1)
+state_answer ts s m old new (Err fault) small end some (inl memory) = inl memory
+state_answer ts s m old new (Err fault) small end some (inr said) = inr (state_fault ts s m fault end some said)
 
-map_push : (all : List (Vec Distribution Global)) (choices : Vec Distribution Global) → map (λ (c : Vec Distribution Global). c.items) (all ++ choices ∷ []) ≡ map (λ (c : Vec Distribution Global). c.items) all ++ choices.items ∷ []
-map_push [] choices = refl
-map_push (a ∷ all) choices = ap (λ cs. a.items ∷ cs) (map_push all choices)
+-- the choices of the first states, as a game wants them
+pub record AreOfStates (ts : List Transition) (count : ℕ) (game : List (List Distribution)) : Type 0 where
+  pub said : states_said ts count ≡ Ok game
+  pub as_many : length game ≡ count
+  pub some : All (λ choices. 0 < length choices) game
+  pub few : All (λ choices. length choices ≤ most_stated_choices) game
+  pub inside : (n : ℕ) → count ≤ n → All (IsWithin n) ts → All (λ choices. All (LeadsInside n) choices) game
 
 -- one state further
-pub states_more : (ts rest : List Transition) (s : ℕ) (all : List (Vec Distribution Global)) (choices : Vec Distribution Global) (after : List Transition) → AreSmall ts → IsLeft (place_of s 0) ts rest
-    → states_said ts s ≡ Ok (map (λ (c : Vec Distribution Global). c.items) all) → AreOfState rest s choices.items after → states_said ts (s + 1) ≡ Ok (map (λ (c : Vec Distribution Global). c.items) (all ++ choices ∷ []))
-states_more ts rest s all choices after small left said is =
-    ap (λ n. states_said ts n) (add-one s)
-    ∙ ap₂ (λ r d. then_push r d) said (sym (state_alike rest ts s (λ k. same_of ts rest s s k small left (omega arith))) ∙ is.said)
-    ∙ ap (λ cs. Ok cs) (sym (map_push all choices))
-
-pub all_more : (ts rest : List Transition) (s : ℕ) (all : List (Vec Distribution Global)) (choices : Vec Distribution Global) (after : List Transition) → IsLeft (place_of s 0) ts rest
-    → AreOfStates ts s all → AreOfState rest s choices.items after → AreOfStates ts (s + 1) (all ++ choices ∷ [])
-all_more ts rest s all choices after left are is = record {
-  as_many = length_push all choices ∙ ap (λ n. n + 1) are.as_many;
-  some = All-push (λ (c : Vec Distribution Global). 0 < length c.items) all choices are.some is.some;
-  few = All-push (λ (c : Vec Distribution Global). length c.items ≤ most_stated_choices) all choices are.few is.few;
-  inside = λ n h within. All-push (λ (c : Vec Distribution Global). All (LeadsInside n) c.items) all choices (are.inside n (omega (arith, h)) within) (is.inside n (omega (arith, h)) (left.within n within));
+pub states_more : (ts rest : List Transition) (s : ℕ) (game : List (List Distribution)) (choices : List Distribution) (after : List Transition) → AreSmall ts → IsLeft (place_of s 0) ts rest
+    → AreOfStates ts s game → AreOfState rest s choices after → AreOfStates ts (s + 1) (game ++ choices ∷ [])
+states_more ts rest s game choices after small left are is = record {
+  said = ap (λ n. states_said ts n) (add-one s) ∙ ap₂ (λ r d. then_push r d) are.said (sym (state_alike rest ts s (λ k. same_of ts rest s s k small left (omega arith))) ∙ is.said);
+  as_many = length_push game choices ∙ ap (λ n. n + 1) are.as_many;
+  some = All-push (λ cs. 0 < length cs) game choices are.some is.some;
+  few = All-push (λ cs. length cs ≤ most_stated_choices) game choices are.few is.few;
+  inside = λ n h within. All-push (λ cs. All (LeadsInside n) cs) game choices (are.inside n (omega (arith, h)) within) (is.inside n (omega (arith, h)) (left.within n within));
 }
 
 pub states_fault : (ts rest : List Transition) (s n : ℕ) (all : List (List Distribution)) (fault : TraFault) → AreSmall ts → IsLeft (place_of s 0) ts rest → states_said ts s ≡ Ok all → state_said rest s ≡ Err fault → s < n → states_said ts n ≡ Err fault

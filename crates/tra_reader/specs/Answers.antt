@@ -4,7 +4,7 @@ use Rattle.std.specs.Borrow.{Bor}
 use Rattle.std.specs.List.{filter, All}
 use Rattle.std.specs.declared.alloc.Global.{Global}
 use Rattle.game_model.specs.Game.{Distribution}
-use Rattle.game_model.specs.declared.game.Choice.{Choice}
+use Rattle.game_model.specs.Draft.{Draft}
 use Rattle.text_lines.specs.Text.{fields_of}
 use Rattle.tra_reader.specs.declared.header.Header.{Header}
 use Rattle.tra_reader.specs.declared.line.Transition.{Transition}
@@ -121,9 +121,10 @@ pub record AreFirst (transitions : List Transition) (s count : ℕ) (choices : L
   pub inside : (n : ℕ) → All (IsWithin n) transitions → All (LeadsInside n) choices
   pub as_many : length choices ≡ count
 
-abbrev pub ChoicesAnswer : List Transition → ℕ → ℕ → Result (Vec Choice Global × Bor (List Transition)) TraFault → Type 0
-ChoicesAnswer transitions s count (Ok (choices, rest)) = AreFirst transitions s count choices.items rest.now
-ChoicesAnswer transitions s count (Err fault) = (fault ≡ fault_of_all OutOfMemory) ⊎ (choices_said transitions s count ≡ Err fault)
+-- the state under way has its first choices, and this is left behind them
+abbrev pub ChoicesAnswer : List Transition → ℕ → ℕ → Draft → Draft → Result (Bor (List Transition)) TraFault → Type 0
+ChoicesAnswer transitions s count old new (Ok rest) = (new.done ≡ old.done) × AreFirst transitions s count new.under_way rest.now
+ChoicesAnswer transitions s count old new (Err fault) = (fault ≡ fault_of_all OutOfMemory) ⊎ (choices_said transitions s count ≡ Err fault)
 
 -- the choices of a state, and what is left behind them
 pub record AreOfState (transitions : List Transition) (s : ℕ) (choices : List Distribution) (rest : List Transition) : Type 0 where
@@ -133,16 +134,10 @@ pub record AreOfState (transitions : List Transition) (s : ℕ) (choices : List 
   pub some : 0 < length choices
   pub few : length choices ≤ most_stated_choices
 
-abbrev pub StateAnswer : List Transition → ℕ → Result (Vec Choice Global × Bor (List Transition)) TraFault → Type 0
-StateAnswer transitions s (Ok (choices, rest)) = AreOfState transitions s choices.items rest.now
-StateAnswer transitions s (Err fault) = (fault ≡ fault_of_all OutOfMemory) ⊎ (state_said transitions s ≡ Err fault)
-
--- the choices of the first states, as a game wants them
-pub record AreOfStates (transitions : List Transition) (count : ℕ) (all : List (Vec Choice Global)) : Type 0 where
-  pub as_many : length all ≡ count
-  pub some : All (λ choices. 0 < length choices.items) all
-  pub few : All (λ choices. length choices.items ≤ most_stated_choices) all
-  pub inside : (n : ℕ) → count ≤ n → All (IsWithin n) transitions → All (λ choices. All (LeadsInside n) choices.items) all
+-- the state under way has its choices, and this is left behind them
+abbrev pub StateAnswer : List Transition → ℕ → Draft → Draft → Result (Bor (List Transition)) TraFault → Type 0
+StateAnswer transitions s old new (Ok rest) = (new.done ≡ old.done) × AreOfState transitions s new.under_way rest.now
+StateAnswer transitions s old new (Err fault) = (fault ≡ fault_of_all OutOfMemory) ⊎ (state_said transitions s ≡ Err fault)
 
 -- whether the choices are as many as stated: the number stated where they are not
 abbrev pub CountStated : Option ℕ → ℕ → Option ℕ → Type 0

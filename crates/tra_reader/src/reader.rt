@@ -96,13 +96,7 @@ fn build_in_order(
     if let Some(stated) = stated_otherwise(header, read) {
         return Err(TraFault::of_all(TraCause::ChoiceCount { read, stated }));
     }
-    match make_all(alloc, transitions, &counts.of_state) {
-        Err(fault) => Err(fault),
-        Ok(choices) => match Game::from_choices(alloc, choices) {
-            Ok(game) => Ok(game),
-            Err(_) => Err(TraFault::of_all(TraCause::OutOfMemory)),
-        },
-    }
+    make_all(alloc, transitions, &counts.of_state)
 }
 
 // The number of choices that an MDP's header states, where it is another than this one.

@@ -37,7 +37,7 @@ and-false true b h = inr h
 and-false false b h = inl refl
 
 -- what a test of a list says of its elements
-any-place : {X : Type 0} (p : X → Bool) (xs : List X) (d : X) → list_any p xs ≡ true → (i : ℕ) × (i < length xs) × (p (get_or xs i d) ≡ true)
+pub any-place : {X : Type 0} (p : X → Bool) (xs : List X) (d : X) → list_any p xs ≡ true → (i : ℕ) × (i < length xs) × (p (get_or xs i d) ≡ true)
 any-place p [] d h = absurd (cc)
 any-place p (x ∷ xs) d h = elim (or-true (p x) (list_any p xs) h) [
   | inl here ↦ (zero, omega arith, here)
@@ -52,7 +52,7 @@ all-each : {X : Type 0} (p : X → Bool) (xs : List X) → list_all p xs ≡ tru
 all-each p [] h = tt
 all-each p (x ∷ xs) h = let both : (p x ≡ true) × (list_all p xs ≡ true) = and-true (p x) (list_all p xs) h in (both.0, all-each p xs both.1)
 
-all-place : {X : Type 0} (p : X → Bool) (xs : List X) (d : X) → list_all p xs ≡ false → (i : ℕ) × (i < length xs) × (p (get_or xs i d) ≡ false)
+pub all-place : {X : Type 0} (p : X → Bool) (xs : List X) (d : X) → list_all p xs ≡ false → (i : ℕ) × (i < length xs) × (p (get_or xs i d) ≡ false)
 all-place p [] d h = absurd (cc)
 all-place p (x ∷ xs) d h = elim (and-false (p x) (list_all p xs) h) [
   | inl here ↦ (zero, omega arith, here)

@@ -1,2 +1,8 @@
 pub mod Attracting
-pub mod Growing
+pub mod Numbers
+pub mod Counting
+pub mod Drawing
+pub mod Ordering
+pub mod Meeting
+pub mod Following
+pub mod Closing

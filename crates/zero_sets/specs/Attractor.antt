@@ -1,5 +1,5 @@
 -- The positive attractor of the goals: the states from which the maximiser reaches a goal with a positive probability.
-use Rattle.std.specs.Prelude.{◌≡◌, ℕ, ◌<◌, ◌≤◌, Bool, true, false, List, length, slice_index_or, if◌then◌else◌, count_by, not}
+use Rattle.std.specs.Prelude.{◌≡◌, ℕ, ◌<◌, ◌≤◌, Bool, true, false, List, length, slice_index_or, if◌then◌else◌}
 use Rattle.std.specs.List.{list_any, list_all}
 use Rattle.game_model.specs.declared.game.Side.{Side}
 use Rattle.game_model.specs.declared.game.Side.TheVariants.{Max, Min}
@@ -34,15 +34,3 @@ pub record IsAttractor (q : Query) (set : List Bool) : Type 0 where
   pub many : length set ≡ states q
   pub reached : IsReached q set
   pub closed : IsClosed q set
-
--- how many states are not in the set
-abbrev pub outside : List Bool → ℕ
-outside set = count_by not set
-
--- the set has grown by states that it draws in, if at all
-pub record Grows (q : Query) (old new : List Bool) (grown : Bool) : Type 0 where
-  pub many : length new ≡ length old
-  pub reached : IsReached q old → IsReached q new
-  pub fewer : outside new ≤ outside old
-  pub strictly : grown ≡ true → outside new < outside old
-  pub same : grown ≡ false → new ≡ old

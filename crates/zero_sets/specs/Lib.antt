@@ -1,1 +1,2 @@
 pub mod Attractor
+pub mod Growing

@@ -1,123 +1,52 @@
 //! The positive attractor of the goals.
 
-ghost use Rattle.std.specs.Prelude.{◌≡◌, ℕ, ◌<◌, ◌≤◌, true, false, length, slice_index_or, All, IfOk};
-ghost use Rattle.game_model.specs.Query.{states};
-ghost use Rattle.zero_sets.specs.Attractor.{is_attracted, IsReached, IsClosed, IsAttractor, Grows};
+ghost use Rattle.std.specs.Prelude.{◌≡◌, ℕ, ◌+◌, ◌<◌, ◌≤◌, length, take, IfOk, OnOk};
+ghost use Rattle.game_model.specs.Draft.{IsLonger};
+ghost use Rattle.predecessors.specs.Lists.{ArePredecessors};
+ghost use Rattle.zero_sets.specs.Attractor.{IsAttractor};
+ghost use Rattle.zero_sets.specs.Growing.{joined, moves_into, IsGrowth};
 
-use crate::membership::is_attracted;
-use crate::notes::Notes;
-use crate::predecessors::{Move, Predecessors};
-use crate::state_set::StateSet;
+use crate::growth::Growth;
 use game_model::Question;
-use std::alloc::{AllocError, Global};
+use game_outside::OutOfMemory;
+use predecessors::Predecessors;
+use std::alloc::Global;
 
-/// The positive attractor of the goals.
-pub fn attractor_of(alloc: Global, question: &Question) -> Result<StateSet, AllocError>
-    ensures { IfOk result (λ set. IsAttractor question.now set) }
-{
-    question.known();
-    let mut set = StateSet::empty(alloc, question.game().states())?;
-    grow(alloc, question, &mut set)?;
-    loop {
-        if !add_missing(question, &mut set) {
-            return Ok(set);
-        }
-    }
-}
-
-/// Adds each state that the set draws in, in rising order. Whether there was any.
-fn add_missing(question: &Question, set: &mut StateSet) -> bool
-    requires { length set.old ≡ states question.now }
-    ensures grows { Grows question.now set.old set.new result }
-    ensures closed { result ≡ false → IsClosed question.now set.new }
-{
-    let mut added = false;
-    for state in 0..question.game().states() {
-        added |= join(question, set, state);
-    }
-    added
-}
-
-/// Adds a state where it is no member and the set draws it in. Whether it was added.
-fn join(question: &Question, set: &mut StateSet, state: u32) -> bool
-    requires state { state < states question.now }
-    requires many { length set.old ≡ states question.now }
-    ensures grows { Grows question.now set.old set.new result }
-    ensures left { result ≡ false → slice_index_or set.old state false ≡ false → is_attracted question.now set.old state ≡ false }
-{
-    question.known();
-    if set.has(state) {
-        return false;
-    }
-    if !is_attracted(question, set, state) {
-        return false;
-    }
-    set.add(state);
-    true
-}
-
-/// Adds the goals, and then goes backward from each member over its predecessors.
-fn grow(alloc: Global, question: &Question, set: &mut StateSet) -> Result<(), AllocError>
-    requires { length set.old ≡ states question.now }
-    ensures many { length set.new ≡ length set.old }
-    ensures reached { IsReached question.now set.old → IsReached question.now set.new }
-{
-    let states = question.game().states();
-    let predecessors = Predecessors::of_game(alloc, question.game())?;
-    let mut notes = Notes::of_game(alloc, question.game())?;
-    let mut order = Vec::with_capacity(alloc, states as usize)?;
-    add_goals(question, set, &mut order)?;
-    for place in 0..states {
-        let Some(&member) = order.get(place as usize) else {
-            return Ok(());
-        };
-        go_back(
-            question,
-            set,
-            predecessors.of_state(member),
-            &mut notes,
-            &mut order,
-        )?;
-    }
-    Ok(())
-}
-
-/// Adds the goals, and notes their order.
-fn add_goals(
+/// The positive attractor of the goals: goes backward from each member over its predecessors.
+pub fn attractor_of(
+    alloc: Global,
     question: &Question,
-    set: &mut StateSet,
-    order: &mut Vec<u32>,
-) -> Result<(), AllocError>
-    requires { length set.old ≡ states question.now }
-    ensures many { length set.new ≡ length set.old }
-    ensures reached { IsReached question.now set.old → IsReached question.now set.new }
+    predecessors: &Predecessors,
+) -> Result<Growth, OutOfMemory>
+    requires { ArePredecessors question.now.game predecessors.now }
+    ensures { IfOk result (λ g. IsAttractor question.now (joined g.waiting.items)) }
 {
-    for state in 0..question.game().states() {
-        if question.is_goal(state) && join(question, set, state) {
-            order.push(state)?;
-        }
+    question.known();
+    let mut growth = Growth::of_goals(alloc, question)?;
+    let mut place: usize = 0;
+    while place < growth.order.len() {
+        go_back(question, predecessors, place, &mut growth)?;
+        place += 1;
     }
-    Ok(())
+    Ok(growth)
 }
 
-/// Adds the states that these moves draw in, and notes their order.
+/// Follows the moves that lead to the member at this place of the order.
 fn go_back(
     question: &Question,
-    set: &mut StateSet,
-    moves: &[Move],
-    notes: &mut Notes,
-    order: &mut Vec<u32>,
-) -> Result<(), AllocError>
-    requires many { length set.old ≡ states question.now }
-    requires inside { All (λ m. m.state < states question.now) moves.now }
-    ensures many { length set.new ≡ length set.old }
-    ensures reached { IsReached question.now set.old → IsReached question.now set.new }
+    predecessors: &Predecessors,
+    place: usize,
+    growth: &mut Growth,
+) -> Result<(), OutOfMemory>
+    requires lists { ArePredecessors question.now.game predecessors.now }
+    requires place { place < length growth.old.order.items }
+    requires grown { IsGrowth question.now (moves_into predecessors.now (take place growth.old.order.items)) growth.old.waiting.items growth.old.met.items growth.old.order.items }
+    ensures longer { OnOk result (IsLonger growth.old.order.items growth.new.order.items) }
+    ensures grown { OnOk result (IsGrowth question.now (moves_into predecessors.now (take (place + 1) growth.new.order.items)) growth.new.waiting.items growth.new.met.items growth.new.order.items) }
 {
-    for step in moves {
-        let side = question.side(step.state);
-        if notes.calls_for(side, *step) && join(question, set, step.state) {
-            order.push(step.state)?;
-        }
+    let member = growth.order[place];
+    for step in predecessors.of_state(member) {
+        growth.follow(question, *step)?;
     }
     Ok(())
 }

@@ -1,13 +1,12 @@
-use Rattle.std.proofs.Common.{◌≡◌, false, length, replicate, arith, sym, subst, ap}
-use Rattle.std.proofs.lemmas.List.{length-replicate}
-use Rattle.zero_sets.specs.Attractor.{IsReached}
-use Rattle.zero_sets.proofs.Growing.{IsReached-empty}
+use Rattle.std.proofs.Common.{ℕ, List, arith, subst}
+use Rattle.std.proofs.lemmas.List.{take_all}
+use Rattle.zero_sets.specs.Growing.{IsGrowth, moves_into}
+use Rattle.zero_sets.proofs.Closing.{IsAttractor-grown}
 use Rattle.zero_sets.proofs.attractor.attractor_of.Goals as goal
 
-pub loop-set-init : goal.loop-set-init
-loop-set-init c =
-    let empty : c.in_ok-set.set ≡ replicate c.states.result false = c.in_ok-set.ensures in
-    record {
-      many = omega (arith, c.grow.ensures.many, ap length empty, length-replicate c.states.result false, c.states.ensures, ap length c.game.ensures);
-      reached = c.grow.ensures.reached (subst (IsReached c.args.question.now) (sym empty) (IsReached-empty c.args.question.now c.states.result));
-    }
+pub returns : goal.returns
+returns c =
+    let growth = c.loop-place.growth in
+    IsAttractor-grown c.args.question.now c.args.predecessors.now growth.waiting.items growth.met.items growth.order.items c.known.ensures c.requires
+    (subst (λ (list : List ℕ). IsGrowth c.args.question.now (moves_into c.args.predecessors.now list) growth.waiting.items growth.met.items growth.order.items)
+    (take_all c.loop-place.place growth.order.items (omega (arith, c.loop-place-test.false, c.len.ensures, growth.order.ok.0))) c.loop-place.invariant.grown)

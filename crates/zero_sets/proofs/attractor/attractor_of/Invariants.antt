@@ -1,13 +1,14 @@
-use Rattle.std.proofs.Common.{◌≡◌, length}
+use Rattle.std.proofs.Common.{◌≤◌, ◌-◌, length, take}
 use Rattle.game_model.specs.Query.{states}
-use Rattle.zero_sets.specs.Attractor.{IsReached, outside}
+use Rattle.zero_sets.specs.Growing.{moves_into, IsGrowth}
 use Rattle.zero_sets.proofs.attractor.attractor_of.Given as goal
 
-abbrev pub invariant-loop-set : goal.invariant-loop-set
-invariant-loop-set l = record {
-  many : length l.set ≡ states l.question;
-  reached : IsReached l.question l.set;
+-- the moves to the members so far were followed
+abbrev pub invariant-loop-place : goal.invariant-loop-place
+invariant-loop-place l = record {
+  within : l.place ≤ length l.growth.order.items;
+  grown : IsGrowth l.question (moves_into l.predecessors (take l.place l.growth.order.items)) l.growth.waiting.items l.growth.met.items l.growth.order.items;
 }
 
-abbrev pub decreases-loop-set : goal.decreases-loop-set
-decreases-loop-set l = outside l.set
+abbrev pub decreases-loop-place : goal.decreases-loop-place
+decreases-loop-place l = states l.question - l.place

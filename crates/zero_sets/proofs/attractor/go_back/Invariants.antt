@@ -1,9 +1,11 @@
-use Rattle.std.proofs.Common.{◌≡◌, length}
-use Rattle.zero_sets.specs.Attractor.{IsReached}
+use Rattle.std.proofs.Common.{◌++◌, take}
+use Rattle.game_model.specs.Draft.{IsLonger}
+use Rattle.zero_sets.specs.Growing.{moves_into, IsGrowth}
 use Rattle.zero_sets.proofs.attractor.go_back.Given as goal
 
+-- and those moves to this member
 abbrev pub invariant-loop-step : goal.invariant-loop-step
 invariant-loop-step l = record {
-  many : length l.set ≡ length l.fn.set;
-  reached : IsReached l.question l.fn.set → IsReached l.question l.set;
+  longer : IsLonger l.fn.growth.order.items l.growth.order.items;
+  grown : IsGrowth l.question (moves_into l.predecessors (take l.place l.fn.growth.order.items) ++ take l.step-index l.step-items) l.growth.waiting.items l.growth.met.items l.growth.order.items;
 }
