@@ -1,8 +1,8 @@
 -- Two neighbouring parts of a round are one part.
-use Rattle.std.proofs.Common.{◌≡◌, ℕ, ◌+◌, ◌-◌, ◌/◌, ◌<◌, ◌≤◌, List, arith, inl, inr, le_refl, le_trans, subst}
+use Rattle.std.proofs.Common.{◌≡◌, ℕ, ◌+◌, ◌-◌, ◌/◌, ◌≤◌, List, arith, inl, inr, le_refl, le_trans, subst}
 use Rattle.std.proofs.lemmas.Bool.{cases_lt}
 use Rattle.game_model.specs.Game.{Distribution}
-use Rattle.game_model.specs.Query.{Query, states}
+use Rattle.game_model.specs.Query.{Query}
 use Rattle.game_model.specs.Rounded.{down_step}
 use Rattle.step_core.specs.Word.{value_at}
 use Rattle.value_words.specs.Passes.{Token, GrewSeat}

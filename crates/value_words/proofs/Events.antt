@@ -119,7 +119,7 @@ split-event q s id v p = record {
   lawful = live-shown q s id v p;
   effect =
       let same : map view_shown (set s.views id (halved v)) ≡ map view_shown s.views =
-          map-set view_shown s.views id (halved v) ∙ sym (map-set view_shown s.views id v) ∙ ap (map view_shown) (set_again s.views id v p.there) in
+      map-set view_shown s.views id (halved v) ∙ sym (map-set view_shown s.views id v) ∙ ap (map view_shown) (set_again s.views id v p.there) in
       let copy : view_shown (copied v) ≡ Some (seen_by (shown q s) id) = view-live v p.live ∙ sym (ap Some (seen-shown q s id v p)) in
       ap (λ (vs : List (Option (List ℕ))). record { question = q; words = s.words; views = vs })
       (map-append view_shown (set s.views id (halved v)) (copied v ∷ []) ∙ (λ e. same e ++ copy e ∷ []));
@@ -132,7 +132,7 @@ join-event q s id other v w p there apart = record {
   effect =
       let views : List (Option (List ℕ)) = map view_shown s.views in
       let both : view_shown (joined v w) ≡ Some (greater_words (seen_by (shown q s) id) (seen_by (shown q s) other)) =
-          view-live (joined v w) p.live ∙ (λ e. Some (greater_words (sym (seen-shown q s id v p) e) (sym (seen-shown q s other w there) e))) in
+      view-live (joined v w) p.live ∙ (λ e. Some (greater_words (sym (seen-shown q s id v p) e) (sym (seen-shown q s other w there) e))) in
       ap (λ (vs : List (Option (List ℕ))). record { question = q; words = s.words; views = vs })
       (map-set view_shown (set s.views id (joined v w)) other spent
       ∙ ap (λ (vs : List (Option (List ℕ))). set vs other None) (map-set view_shown s.views id (joined v w))

@@ -1,5 +1,5 @@
 -- The parts of passes through each step, and the exchanges that all of them have won.
-use Rattle.std.proofs.Common.{◌≡◌, ◌≢◌, ◌⊎◌, inl, inr, ℕ, zero, suc, ◌+◌, ◌-◌, ◌/◌, ◌<◌, ◌≤◌, Bool, true, false, List, [], ◌∷◌, ◌++◌, set, sum_by, refl, sym, ap, ◌∙◌, subst, arith}
+use Rattle.std.proofs.Common.{◌≡◌, inl, inr, ℕ, zero, suc, ◌+◌, ◌-◌, ◌/◌, ◌<◌, ◌≤◌, Bool, true, false, List, [], ◌∷◌, ◌++◌, set, sum_by, refl, sym, ap, ◌∙◌, arith}
 use Rattle.std.specs.Prelude.{if◌then◌else◌, nat_lt}
 use Rattle.std.proofs.lemmas.Bool.{cases_lt, true≢false}
 use Rattle.std.proofs.lemmas.Bool.Decides.{nat_tests}
@@ -56,10 +56,10 @@ module _ (views : List Sight) (p : AreParts views) (id : ℕ) (v : Sight) (at : 
       let all : sum_by parts views ≡ all_parts = omega (arith, sum-part parts views id v at) in
       let rest : sum_by parts (set views id spent) ≡ 0 = omega (arith, sum-set parts views id v spent at) in
       let none : sum_by won (set views id spent) ≡ 0 =
-          sum-none won (set views id spent) (λ j u found. elim (at_set views id j spent u found) [
-            | inl here ↦ sym (ap won here.1)
-            | inr there ↦ ap won (p.idle all j u there.1 (let few = sum-part parts (set views id spent) j u found in omega arith))
-          ]) in
+      sum-none won (set views id spent) (λ j u found. elim (at_set views id j spent u found) [
+        | inl here ↦ sym (ap won here.1)
+        | inr there ↦ ap won (p.idle all j u there.1 (let few = sum-part parts (set views id spent) j u found in omega arith))
+      ]) in
       omega (arith, sum-set won views id v spent at, none)
 
 less-two : (n : ℕ) → n < 2 → nat_lt n 2 ≡ true
