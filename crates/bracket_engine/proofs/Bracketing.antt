@@ -78,8 +78,7 @@ IsBracket-raced q zero_set asked words lower upper rounds stable posed is_zero_s
       high = upper-high q zero_set upper chosen is_zero_set is_upper;
       exact = is_upper;
       few = raced.few;
-      steps = sound.rounds;
-      within = top;
+      within = subst (λ (t : ℕ → ℕ). IsBelow q t (down_steps q (rounds * states q))) (sym table) raced.within;
       swept = swept;
       swept_asked = swept_asked;
       near = near-down_steps q (slice_index lower) rounds chosen swept;

@@ -1,10 +1,10 @@
 -- What a race leaves, from what its passes have seen.
-use Rattle.std.proofs.Common.{◌≡◌, ℕ, ◌+◌, ◌<◌, ◌≤◌, List, arith, sym, ap, ◌∙◌, subst, le_refl, le_trans, add-one}
+use Rattle.std.proofs.Common.{◌≡◌, ℕ, zero, suc, ◌+◌, ◌-◌, ◌<◌, ◌≤◌, List, arith, sym, ap, ◌∙◌, subst, le_refl, le_trans, add-one}
 use Rattle.game_model.specs.Game.{choices_of}
 use Rattle.game_model.specs.Query.{Query, IsQuery, states}
 use Rattle.game_model.specs.Rounded.{down_step, down_steps, opening, IsBelow, IsSettled}
 use Rattle.game_model.proofs.Choices.{AreChoicesOf, AreChoicesOf-choices_of}
-use Rattle.game_laws.proofs.Steps.{down_step-le, down_steps-settled}
+use Rattle.game_laws.proofs.Steps.{down_step-le, down_steps-rises, down_steps-settled}
 use Rattle.step_core.specs.Word.{value_at, opening_words}
 use Rattle.step_core.specs.Sound.{Sound, Sees}
 use Rattle.step_core.proofs.Sights.{Sees-below}
@@ -40,3 +40,16 @@ closed-settled q words seen h sound sees opens settled =
 -- what is closed has at least what was seen
 pub closed-swept : (q : Query) (words seen : List ℕ) (r : ℕ) → Sees q words seen → IsBelow q (down_steps q r) (value_at seen) → IsBelow q (down_steps q r) (value_at words)
 closed-swept q words seen r sees below s inside = le_trans (below s inside) (Sees-below q words seen sees s)
+
+-- down steps rise with their number
+down_steps-more : (q : Query) (r more s : ℕ) → IsQuery q → down_steps q r s ≤ down_steps q (more + r) s
+down_steps-more q r zero s h = let same : r ≡ 0 + r = omega arith in subst (λ n. down_steps q r s ≤ down_steps q n s) same (le_refl (down_steps q r s))
+down_steps-more q r (suc more) s h =
+    let next : suc (more + r) ≡ suc more + r = omega arith in
+    subst (λ n. down_steps q r s ≤ down_steps q n s) next (le_trans (down_steps-more q r more s h) (down_steps-rises q (AreChoicesOf-choices_of q.game h.game) (more + r) s))
+
+-- what is within some down steps is within more of them
+pub within-more : (q : Query) (table : ℕ → ℕ) (r n : ℕ) → IsQuery q → r ≤ n → IsBelow q table (down_steps q r) → IsBelow q table (down_steps q n)
+within-more q table r n h few below s inside =
+    let all : n - r + r ≡ n = omega arith in
+    le_trans (below s inside) (subst (λ m. down_steps q r s ≤ down_steps q m s) all (down_steps-more q r (n - r) s h))

@@ -26,10 +26,9 @@ pub record IsBracket (q : Query) (zero : List Bool) (asked : ℕ) (lower upper :
   pub high : High q (slice_index upper)
   -- the upper table is 0 on the zero set and 1 elsewhere
   pub exact : IsUpperOf q zero upper
-  -- the lower table lies between the down steps of the completed rounds and some number of them, and is nowhere below those of the asked rounds
+  -- the lower table lies between the down steps of the completed rounds and those of all their updates, one a state, and is nowhere below those of the asked rounds
   pub few : rounds ≤ asked
-  pub steps : ℕ
-  pub within : IsBelow q (slice_index lower) (down_steps q steps)
+  pub within : IsBelow q (slice_index lower) (down_steps q (rounds * states q))
   pub swept : IsBelow q (down_steps q rounds) (slice_index lower)
   pub swept_asked : IsBelow q (down_steps q asked) (slice_index lower)
   pub near : IsNear q rounds (slice_index lower)

@@ -1,6 +1,6 @@
 -- What a race leaves.
-use Rattle.std.specs.Prelude.{ℕ, ◌<◌, ◌≤◌, List}
-use Rattle.game_model.specs.Query.{Query}
+use Rattle.std.specs.Prelude.{ℕ, ◌*◌, ◌<◌, ◌≤◌, List}
+use Rattle.game_model.specs.Query.{Query, states}
 use Rattle.game_model.specs.Rounded.{down_steps, IsBelow, IsSettled}
 use Rattle.step_core.specs.Word.{value_at}
 use Rattle.step_core.specs.Sound.{Sound}
@@ -9,5 +9,6 @@ use Rattle.step_core.specs.Sound.{Sound}
 pub record IsRaced (q : Query) (asked : ℕ) (words : List ℕ) (rounds : ℕ) : Type 0 where
   pub sound : Sound q words
   pub few : rounds ≤ asked
+  pub within : IsBelow q (value_at words) (down_steps q (rounds * states q))
   pub swept : IsBelow q (down_steps q rounds) (value_at words)
   pub early : rounds < asked → IsSettled q (value_at words)

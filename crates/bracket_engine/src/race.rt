@@ -1,10 +1,10 @@
 //! Rounds of workers on the shared words, until these are settled.
 
-ghost use Rattle.std.specs.Prelude.{◌≡◌, ℕ, ◌<◌, ◌≤◌, true, length, IfOk};
+ghost use Rattle.std.specs.Prelude.{◌≡◌, ℕ, ◌+◌, ◌*◌, ◌<◌, ◌≤◌, true, length, IfOk};
 ghost use Rattle.game_model.specs.Query.{states};
 ghost use Rattle.game_model.specs.Rounded.{down_step, down_steps, IsBelow, IsSettled};
 ghost use Rattle.round_workers.specs.Share.{most_workers};
-ghost use Rattle.value_words.specs.Passes.{IsOf, Grew, seen_by};
+ghost use Rattle.value_words.specs.Passes.{IsOf, Grew, seen_by, won_by, parts_of};
 ghost use Rattle.bracket_engine.specs.Race.{IsRaced};
 
 use fixed_bellman::settled;
@@ -68,6 +68,8 @@ fn run_rounds<R: Threads + Sync, P: Posing + Send + Sync, G: Gate + Sync>(
     requires few { workers ≤ most_workers }
     ensures grew { Grew pass result.0 }
     ensures few { result.1 ≤ most }
+    ensures won { won_by result.0 ≤ won_by pass + result.1 * states P.posed }
+    ensures parts { workers ≤ parts_of pass → parts_of result.0 ≡ parts_of pass }
     ensures swept { IsBelow P.posed (down_steps P.posed result.1) (seen_by result.0) }
     ensures early { result.1 < most → IsSettled P.posed (seen_by result.0) }
 {
@@ -98,6 +100,8 @@ fn one_round<R: Threads + Sync, P: Posing + Send + Sync, G: Gate + Sync>(
     requires few { workers ≤ most_workers }
     ensures grew { Grew pass result.0 }
     ensures step { (s : ℕ) → s < states P.posed → down_step P.posed (seen_by pass) s ≤ seen_by result.0 s }
+    ensures won { won_by result.0 ≤ won_by pass + states P.posed }
+    ensures parts { workers ≤ parts_of pass → parts_of result.0 ≡ parts_of pass }
     ensures settled { result.1 ≡ true → IsSettled P.posed (seen_by result.0) }
 {
     let Rounded { mut pass, raises } = round(rt, table, pass, workers, gate);
@@ -113,6 +117,8 @@ fn is_settled<P: Posing>(table: &ValueTable<'_, P>, pass: &mut Pass<P>, seen: &m
     requires pass { IsOf table.now pass.old }
     requires room { length seen.old ≡ states P.posed }
     ensures grew { Grew pass.old pass.new }
+    ensures won { won_by pass.new ≡ won_by pass.old }
+    ensures parts { parts_of pass.new ≡ parts_of pass.old }
     ensures settled { result ≡ true → IsSettled P.posed (seen_by pass.new) }
 {
     table.read_into(pass, seen);

@@ -26,14 +26,24 @@ pub record IsSwept (q : Query) (low high : ℕ) (old new : Token) (raises : ℕ)
   pub grew : GrewSeat old new
   pub step : (s : ℕ) → low ≤ s → s < high → down_step q (value_at old.me.0.seen) s ≤ value_at new.me.0.seen s
   pub won : new.me.0.won ≡ old.me.0.won + raises
-  pub few : raises ≤ high - low
+  pub few : low + raises ≤ high
+  pub parts : new.me.0.parts ≡ old.me.0.parts
 
--- after the states of the workers from `first` up to and not including `last`
+-- at most as many as the states of the workers from `first` up to and not including `last`
+pub record AreFew (q : Query) (workers first last raises : ℕ) : Type 0 where
+  pub low : ℕ
+  pub high : ℕ
+  pub begins : BeginsBlock q.game workers first low
+  pub ends : BeginsBlock q.game workers last high
+  pub few : low + raises ≤ high
+
+-- after the states of the workers from `first` up to and not including `last`; the pass has all its parts again, where it has one for each worker
 pub record AreSwept (q : Query) (workers first last : ℕ) (old new : Token) (raises : ℕ) : Type 0 where
   pub grew : GrewSeat old new
   pub step : (s : ℕ) → s < states q → first ≤ worker_of q.game workers s → worker_of q.game workers s < last → down_step q (value_at old.me.0.seen) s ≤ value_at new.me.0.seen s
   pub won : new.me.0.won ≡ old.me.0.won + raises
-  pub few : raises ≤ (last - first) * states q
+  pub few : AreFew q workers first last raises
+  pub parts : last - first ≤ old.me.0.parts → new.me.0.parts ≡ old.me.0.parts
 
 abbrev pub IsPart : {P : Type 0} {h : _} → Query → ℕ → ℕ → ℕ → Pass P h → Pass P h → ℕ → Type 0
 IsPart q workers first last old new raises = AreSwept q workers first last old.seat new.seat raises

@@ -3,7 +3,7 @@ ghost use Rattle.std.specs.Prelude.{◌≡◌, ℕ, ◌+◌, ◌-◌, ◌<◌, �
 ghost use Rattle.std.specs.Thread.{IsSend, IsSync};
 ghost use Rattle.game_model.specs.Query.{states};
 ghost use Rattle.game_model.specs.Rounded.{down_step};
-ghost use Rattle.value_words.specs.Passes.{IsOf, Grew, seen_by, won_by};
+ghost use Rattle.value_words.specs.Passes.{IsOf, Grew, seen_by, won_by, parts_of};
 ghost use Rattle.round_workers.specs.Share.{IsPart, most_workers};
 
 use crate::share::first_state;
@@ -29,6 +29,9 @@ pub fn round<R: Threads + Sync, P: Posing + Send + Sync, G: Gate + Sync>(
     // At each state at least the down step of what was seen before is seen now.
     ensures step { (s : ℕ) → s < states P.posed → down_step P.posed (seen_by pass) s ≤ seen_by result.pass s }
     ensures raises { won_by result.pass ≡ won_by pass + result.raises }
+    // An exchange a state at most.
+    ensures few { result.raises ≤ states P.posed }
+    ensures parts { workers ≤ parts_of pass → parts_of result.pass ≡ parts_of pass }
 {
     fork(rt, table, pass, 0, workers, workers, gate)
 }

@@ -1,7 +1,7 @@
 //! One worker's part of a round.
 ghost use Rattle.std.specs.Prelude.{◌≡◌, ℕ, ◌+◌, ◌-◌, ◌^◌, ◌<◌, ◌≤◌};
 ghost use Rattle.game_model.specs.Query.{states};
-ghost use Rattle.value_words.specs.Passes.{IsOf, Grew, seen_by, won_by};
+ghost use Rattle.value_words.specs.Passes.{IsOf, Grew, seen_by, won_by, parts_of};
 ghost use Rattle.round_workers.specs.Share.{IsSwept};
 
 use game_outside::Gate;
@@ -49,6 +49,7 @@ pub fn meet<P: Posing>(table: &ValueTable<'_, P>, left: Rounded<P>, right: Round
     ensures right { (s : ℕ) → seen_by right.pass s ≤ seen_by result.pass s }
     ensures won { won_by result.pass ≡ won_by left.pass + won_by right.pass }
     ensures raises { result.raises ≡ left.raises + right.raises }
+    ensures parts { parts_of result.pass ≡ parts_of left.pass + parts_of right.pass }
 {
     let Rounded { mut pass, raises } = left;
     let Rounded {

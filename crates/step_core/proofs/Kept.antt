@@ -1,17 +1,19 @@
--- Each lawful event keeps the invariant.
-use Rattle.std.proofs.Common.{◌≡◌, ◌≢◌, ℕ, zero, suc, ◌<◌, List, [], ◌∷◌, ◌++◌, length, get_or, set, arith, refl, sym, ap, subst, inl, inr, ◌⊎◌}
+-- Each lawful event keeps the invariant, and adds as many down steps as it wins exchanges.
+use Rattle.std.proofs.Common.{◌≡◌, ◌≢◌, ℕ, zero, suc, ◌+◌, ◌<◌, ◌≤◌, sum_by, add-one, le_refl, ◌∙◌, List, [], ◌∷◌, ◌++◌, length, get_or, set, arith, refl, sym, ap, subst, inl, inr, ◌⊎◌}
 use Rattle.std.specs.Prelude.{slice_index, slice_set, Option, Some, None, IsSome, unwrap_or}
+use Rattle.std.proofs.lemmas.List.Sums.{sum_by-cons}
 use Rattle.std.proofs.lemmas.Option.{none-some}
 use Rattle.std.proofs.lemmas.Bool.{true≢false}
 use Rattle.game_model.specs.Query.{Query, IsQuery, states}
+use Rattle.game_model.specs.Rounded.{down_steps, opening, IsBelow}
 use Rattle.step_core.specs.declared.event.Event.{Event}
 use Rattle.step_core.specs.declared.event.Event.TheVariants.{Load, Won, Lost, Split, Join}
-use Rattle.step_core.specs.Word.{value_in, value_at, greater_words}
+use Rattle.step_core.specs.Word.{value_in, value_at, greater_words, opening_words}
 use Rattle.step_core.specs.Sound.{Sound, Sees}
 use Rattle.step_core.specs.Configuration.{Configuration, view_of, seen_by, opening_configuration, IsWorld}
-use Rattle.step_core.specs.Events.{IsLive, Raises, Lawful, looked, after, Leads}
+use Rattle.step_core.specs.Events.{IsLive, Raises, Lawful, looked, after, wins, Leads}
 use Rattle.step_core.proofs.Sights.{Sees-raised, Sees-looked, Sees-both}
-use Rattle.step_core.proofs.Words.{Sound-goals, Sound-won, Sound-opening, Sees-itself}
+use Rattle.step_core.proofs.Words.{Sound-goals, Sound-won, raised-within, Sound-opening, opening_words-value, Sees-itself}
 
 abbrev Views : Type 0
 Views = List (Option (List ℕ))
@@ -73,7 +75,7 @@ raised-keeps w view state from to k r =
     let mine : Sees q w.words (seen_by w view) = Sees-seen_by w view k r.live in
     let there : state < length w.words = subst (λ n. state < n) (sym k.words.as_many) r.inside in
     let up : value_at w.words state < value_in to = subst (λ n. value_in n < value_in to) (sym r.is_from) r.raised in
-    let sound : Sound q (set w.words state to) = Sound-won q k.question w.words (seen_by w view) state to r.inside r.free k.words mine up r.given in record {
+    let sound : Sound q (set w.words state to) = Sound-won q k.question w.words (seen_by w view) state to r.inside r.free k.words.as_many mine up r.given k.words in record {
       question = k.question;
       words = sound;
       views = views_with q (set w.words state to) w.views view (Some (set (seen_by w view) state (slice_index (set w.words state to) state)))
@@ -119,3 +121,39 @@ opening-keeps q h = record { question = h; words = Sound-opening q h; views = on
 pub Leads-keeps : (w later : Configuration) (events : List Event) → IsWorld w → Leads w events later → IsWorld later
 Leads-keeps w later [] k same = subst IsWorld same k
 Leads-keeps w later (event ∷ events) k leads = Leads-keeps (after w event) later events (after-keeps w event k leads.0) leads.1
+
+within_none : (q : Query) (words : List ℕ) (r : ℕ) → IsBelow q (value_at words) (down_steps q r) → IsBelow q (value_at words) (down_steps q (r + 0))
+within_none q words r below = let same : r ≡ r + 0 = omega arith in subst (λ n. IsBelow q (value_at words) (down_steps q n)) same below
+
+-- a lawful event adds as many down steps as it wins exchanges
+pub after-within : (w : Configuration) (event : Event) (r : ℕ) → IsWorld w → Lawful w event → IsBelow w.question (value_at w.words) (down_steps w.question r) → IsBelow w.question (value_at (after w event).words) (down_steps w.question (r + wins event))
+after-within w (Load view state) r k lawful below = within_none w.question w.words r below
+after-within w (Won view state from to) r k lawful below =
+    let q = w.question in
+    let up : value_at w.words state < value_in to = subst (λ n. value_in n < value_in to) (sym lawful.is_from) lawful.raised in
+    subst (λ n. IsBelow q (value_at (set w.words state to)) (down_steps q n)) (sym (add-one r))
+    (raised-within q k.question w.words (seen_by w view) state to lawful.inside lawful.free k.words.as_many (Sees-seen_by w view k lawful.live) up lawful.given r below)
+after-within w (Lost view state) r k lawful below = within_none w.question w.words r below
+after-within w (Split view) r k lawful below = within_none w.question w.words r below
+after-within w (Join view other) r k lawful below = within_none w.question w.words r below
+
+after-question : (w : Configuration) (event : Event) → (after w event).question ≡ w.question
+after-question w (Load view state) = refl
+after-question w (Won view state from to) = refl
+after-question w (Lost view state) = refl
+after-question w (Split view) = refl
+after-question w (Join view other) = refl
+
+-- and a list of them as many as they win together
+pub Leads-within : (q : Query) (w later : Configuration) (events : List Event) (r : ℕ) → w.question ≡ q → IsWorld w → Leads w events later → IsBelow q (value_at w.words) (down_steps q r) → IsBelow q (value_at later.words) (down_steps q (r + sum_by wins events))
+Leads-within q w later [] r is k same below = within_none q later.words r (subst (λ (v : Configuration). IsBelow q (value_at v.words) (down_steps q r)) same below)
+Leads-within q w later (event ∷ events) r is k leads below =
+    let next : IsBelow q (value_at (after w event).words) (down_steps q (r + wins event)) =
+        subst (λ p. IsBelow p (value_at (after w event).words) (down_steps p (r + wins event))) is (after-within w event r k leads.0 (subst (λ p. IsBelow p (value_at w.words) (down_steps p r)) (sym is) below)) in
+    let sum : r + wins event + sum_by wins events ≡ r + sum_by wins (event ∷ events) = omega (arith, sum_by-cons wins event events) in
+    subst (λ n. IsBelow q (value_at later.words) (down_steps q n)) sum
+    (Leads-within q (after w event) later events (r + wins event) (after-question w event ∙ is) (after-keeps w event k leads.0) leads.1 next)
+
+pub opening-within : (q : Query) → IsBelow q (value_at (opening_words q)) (down_steps q 0)
+unfolding down_steps
+opening-within q s inside = subst (λ n. n ≤ opening q s) (sym (opening_words-value q s)) (le_refl (opening q s))

@@ -62,13 +62,6 @@ Sees-looked q words seen i inside tops h =
       ];
     }
 
--- one's own exchange
-pub Sees-won : (q : Query) (words seen : List ℕ) (i word : ℕ) → i < states q → i < length words → value_at words i < value_in word → ((s : ℕ) → s < states q → is_goal q s ≡ true → value_at (set words i word) s ≡ unit)
-    → Sees q words seen → Sees q (set words i word) (set seen i word)
-Sees-won q words seen i word inside there up tops h =
-    subst (λ n. Sees q (set words i word) (set seen i n)) (get_or-set_same words i word 0 there)
-    (Sees-looked q (set words i word) seen i inside tops (Sees-raised q words seen i word there up h))
-
 -- the greater of two words is one of them, and no smaller than either
 pub record IsGreater (greater x y : ℕ) : Type 0 where
   pub one : (greater ≡ x) ⊎ (greater ≡ y)

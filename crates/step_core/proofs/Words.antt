@@ -6,7 +6,7 @@ use Rattle.std.proofs.lemmas.List.{map-set, length-map, take_more}
 use Rattle.game_model.specs.Game.{choices_of}
 use Rattle.game_model.specs.Query.{Query, IsQuery, states, is_goal, is_dead}
 use Rattle.game_model.specs.Limits.{unit}
-use Rattle.game_model.specs.Rounded.{down_step, down_steps, opening}
+use Rattle.game_model.specs.Rounded.{down_step, down_steps, opening, IsBelow}
 use Rattle.game_model.proofs.Choices.{AreChoicesOf, AreChoicesOf-choices_of}
 use Rattle.game_laws.proofs.Steps.{down_step-le, down_steps-rises}
 use Rattle.step_core.specs.Word.{packed, value_in, choice_in, value_at, values_of, picks_of, opening_words, opening_word}
@@ -33,28 +33,30 @@ Sound-goals q words k s l goal = sym (values_of-at words s) ∙ k.ranked.goals s
 pub Sound-units : (q : Query) (words : List ℕ) → Sound q words → (s : ℕ) → s < states q → value_at words s ≤ unit
 Sound-units q words k s l = subst (λ n. n ≤ unit) (values_of-at words s) (k.ranked.units s l)
 
-module _ (q : Query) (h : IsQuery q) (words seen : List ℕ) (i word : ℕ) (inside : i < states q) (free : IsFree q i) (k : Sound q words) (sees : Sees q words seen) (up : value_at words i < value_in word) (given : Gives q (value_at seen) i (value_in word) (choice_in word)) where
+-- a won exchange
+module _ (q : Query) (h : IsQuery q) (words seen : List ℕ) (i word : ℕ) (inside : i < states q) (free : IsFree q i) (many : length words ≡ states q) (sees : Sees q words seen) (up : value_at words i < value_in word) (given : Gives q (value_at seen) i (value_in word) (choice_in word)) where
   chosen : AreChoicesOf q.game (choices_of q.game)
   chosen = AreChoicesOf-choices_of q.game h.game
 
   there : i < length words
-  there = subst (λ n. i < n) (sym k.as_many) inside
+  there = subst (λ n. i < n) (sym many) inside
 
-  raised_below : value_in word ≤ down_steps q (suc k.rounds) i
+  -- adds one down step at most
+  pub raised-within : (r : ℕ) → IsBelow q (value_at words) (down_steps q r) → IsBelow q (value_at (set words i word)) (down_steps q (suc r))
   unfolding down_steps
-  raised_below =
-      let step : down_step q (value_at seen) i ≤ down_step q (down_steps q k.rounds) i = down_step-le q (value_at seen) (down_steps q k.rounds) chosen (λ t l. omega (arith, Sees-below q words seen sees t, k.below t l)) i in
-      omega (arith, step, Gives-below q (value_at seen) i (value_in word) (choice_in word) h inside free given)
+  raised-within r below s l =
+      let step : down_step q (value_at seen) i ≤ down_step q (down_steps q r) i = down_step-le q (value_at seen) (down_steps q r) chosen (λ t k. omega (arith, Sees-below q words seen sees t, below t k)) i in
+      elim (cases_eq s i) [
+        | inl same ↦ subst (λ n. value_at (set words i word) n ≤ down_steps q (suc r) n) (sym same)
+            (omega (arith, value_at-here words i word there, step, Gives-below q (value_at seen) i (value_in word) (choice_in word) h inside free given))
+        | inr other ↦ omega (arith, value_at-else words i word s other, below s l, down_steps-rises q chosen r s)
+      ]
 
-  -- a won exchange
-  pub Sound-won : Sound q (set words i word)
-  Sound-won = record {
+  pub Sound-won : Sound q words → Sound q (set words i word)
+  Sound-won k = record {
     as_many = length-set words i word ∙ k.as_many;
     rounds = suc k.rounds;
-    below = λ s l. elim (cases_eq s i) [
-      | inl same ↦ subst (λ n. value_at (set words i word) n ≤ down_steps q (suc k.rounds) n) (sym same) (omega (arith, value_at-here words i word there, raised_below))
-      | inr other ↦ omega (arith, value_at-else words i word s other, k.below s l, down_steps-rises q chosen k.rounds s)
-    ];
+    below = raised-within k.rounds k.below;
     ranks = set k.ranks i (next_rank k.ranks);
     ranks_as_many = length-set k.ranks i (next_rank k.ranks) ∙ k.ranks_as_many;
     ranked = rw (map-set value_in words i word, map-set (λ (w : ℕ). Some (choice_in w)) words i word)

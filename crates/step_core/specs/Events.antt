@@ -48,6 +48,14 @@ after w (Lost view state) = looked w view state
 after w (Split view) = record w { views = w.views ++ Some (seen_by w view) ∷ [] }
 after w (Join view other) = with_view (record w { views = slice_set w.views other None }) view (greater_words (seen_by w view) (seen_by w other))
 
+-- how many exchanges an event wins
+abbrev pub wins : Event → ℕ
+wins (Load view state) = 0
+wins (Won view state from to) = 1
+wins (Lost view state) = 0
+wins (Split view) = 0
+wins (Join view other) = 0
+
 -- one for the maximiser, another for the minimiser
 abbrev pub on_side : {X : Type 0} → Side → X → X → X
 on_side Max greatest least = greatest

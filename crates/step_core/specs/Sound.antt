@@ -1,10 +1,8 @@
 -- What holds of the words between any two steps, and of what a view has seen of them.
-use Rattle.std.specs.Prelude.{◌≡◌, ℕ, ◌<◌, ◌≤◌, ◌⊎◌, true, false, List, length, slice_index}
-use Rattle.game_model.specs.declared.game.Side.TheVariants.{Max, Min}
-use Rattle.game_model.specs.Game.{choices_of, choice_of}
-use Rattle.game_model.specs.Query.{Query, states, is_goal, is_dead, side_at}
+use Rattle.std.specs.Prelude.{◌≡◌, ℕ, ◌<◌, ◌⊎◌, true, List, length, slice_index}
+use Rattle.game_model.specs.Query.{Query, states, is_goal}
 use Rattle.game_model.specs.Limits.{unit}
-use Rattle.game_model.specs.Rounded.{down_value, down_steps, IsBelow}
+use Rattle.game_model.specs.Rounded.{down_steps, IsBelow}
 use Rattle.game_model.specs.Ranks.{Ranked}
 use Rattle.step_core.specs.Word.{value_at, values_of, picks_of}
 

@@ -1,10 +1,13 @@
 //! Laws of events. Each function does nothing: its contract is the law.
 
-ghost use Rattle.std.specs.Prelude.{◌≡◌, List, None, ◌↔◌};
+ghost use Rattle.std.specs.Prelude.{◌≡◌, ℕ, ◌+◌, List, None, ◌↔◌};
+ghost use Rattle.std.specs.List.{sum_by};
 ghost use Rattle.game_model.specs.Query.{Query, IsQuery};
+ghost use Rattle.game_model.specs.Rounded.{down_steps, IsBelow};
 ghost use Rattle.step_core.specs.declared.event.Event.{Event};
+ghost use Rattle.step_core.specs.Word.{value_at};
 ghost use Rattle.step_core.specs.Configuration.{Configuration, IsWorld, opening_configuration};
-ghost use Rattle.step_core.specs.Events.{Lawful, after, reasons, first_of, Leads};
+ghost use Rattle.step_core.specs.Events.{Lawful, after, wins, reasons, first_of, Leads};
 
 /// A lawful event keeps the invariant.
 pub fn lawful_events_keep_the_invariant()
@@ -14,6 +17,14 @@ pub fn lawful_events_keep_the_invariant()
 /// The invariant holds after every list of lawful events from the opening configuration.
 pub fn all_worlds_meet_the_invariant()
     ensures { (q : Query) (events : List Event) (w : Configuration) → IsQuery q → Leads (opening_configuration q) events w → IsWorld w }
+{}
+
+/// After every list of lawful events from the opening configuration the words are within as many down steps as
+/// exchanges were won: one event adds as many as it wins.
+pub fn words_are_within_the_won_exchanges()
+    ensures one { (w : Configuration) (event : Event) (r : ℕ) → IsWorld w → Lawful w event → IsBelow w.question (value_at w.words) (down_steps w.question r)
+        → IsBelow w.question (value_at (after w event).words) (down_steps w.question (r + wins event)) }
+    ensures all { (q : Query) (events : List Event) (w : Configuration) → IsQuery q → Leads (opening_configuration q) events w → IsBelow q (value_at w.words) (down_steps q (sum_by wins events)) }
 {}
 
 /// An event is lawful exactly where there is no reason against it.

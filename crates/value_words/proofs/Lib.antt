@@ -1,2 +1,4 @@
+pub mod Parts
+pub mod Events
 pub mod Moves
 pub mod Grown

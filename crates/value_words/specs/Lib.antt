@@ -1,2 +1,4 @@
+pub mod Shown
 pub mod Rule
+pub mod Steps
 pub mod Passes

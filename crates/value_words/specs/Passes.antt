@@ -21,6 +21,10 @@ seen_by pass = value_at pass.seat.me.0.seen
 abbrev pub won_by : {P : Type 0} {h : _} → Pass P h → ℕ
 won_by pass = pass.seat.me.0.won
 
+-- how many of all parts a pass has
+abbrev pub parts_of : {P : Type 0} {h : _} → Pass P h → ℕ
+parts_of pass = pass.seat.me.0.parts
+
 abbrev pub Token : Type 0
 Token = Seat (Unit {0}) Sight
 

@@ -1,44 +1,62 @@
--- The rule of the words, and what each step tells: the events of `step_core`.
-use Rattle.std.specs.Prelude.{◌≡◌, ◌≢◌, ◌⊎◌, ℕ, ◌+◌, ◌<◌, ◌≤◌, true, false, [], slice_index, slice_set}
+-- The rule of the words, and what each step tells its pass.
+use Rattle.std.specs.Prelude.{◌≡◌, ◌≢◌, ◌⊎◌, ℕ, ◌+◌, ◌-◌, ◌/◌, ◌<◌, ◌≤◌, true, false, List, [], slice_index, slice_set, if◌then◌else◌, nat_lt}
+use Rattle.std.specs.List.{sum_by}
 use mathlib.Core.Option.{some}
 use lib.ListN.{get_elem?}
-use Rattle.atomic_table.specs.Table.{State, Me, Step}
+use Rattle.atomic_table.specs.Table.{Step}
 use Rattle.game_model.specs.Query.{Query}
 use Rattle.game_model.specs.Limits.{unit}
-use Rattle.step_core.specs.Word.{value_in, opening_words, greater_words}
-use Rattle.step_core.specs.Sound.{Sound, Sees}
+use Rattle.game_model.specs.Rounded.{down_steps, IsBelow}
+use Rattle.step_core.specs.Word.{value_in, value_at, opening_words, greater_words}
+use Rattle.step_core.specs.Configuration.{IsWorld}
 use Rattle.value_words.specs.declared.rule.Sight.{Sight}
+use Rattle.value_words.specs.Shown.{Shared, Seated, shown, all_won}
 
 abbrev pub no_question : Query
 no_question = record { game = []; sides = []; goals = []; deads = [] }
 
+-- how many parts the passes of a table have together, while none is lost
+abbrev pub all_parts : ℕ
+all_parts = 1024
+
 -- the opening words were seen, and nothing was won
 abbrev pub opening_sight : Query → Sight
-opening_sight q = record { live = true; seen = opening_words q; won = 0 }
+opening_sight q = record { live = true; seen = opening_words q; won = 0; parts = all_parts }
+
+-- what a pass keeps at a split: half of its parts, rounded down
+abbrev pub halved : Sight → Sight
+halved v = record v { parts = v.parts / 2 }
+
+-- the other half, rounded up; a single part is lost
+abbrev pub other_half : ℕ → ℕ
+other_half parts = if nat_lt parts 2 then 0 else parts - parts / 2
 
 -- a split: the new pass has seen the same, and has won nothing
 abbrev pub copied : Sight → Sight
-copied v = record { live = v.live; seen = v.seen; won = 0 }
+copied v = record { live = v.live; seen = v.seen; won = 0; parts = other_half v.parts }
 
--- a join: state by state the seen word of greater value, and the sum of what was won
+-- a join: state by state the seen word of greater value, and the sums of what was won and of the parts
 abbrev pub joined : Sight → Sight → Sight
-joined v w = record { live = v.live; seen = greater_words v.seen w.seen; won = v.won + w.won }
+joined v w = record { live = v.live; seen = greater_words v.seen w.seen; won = v.won + w.won; parts = v.parts + w.parts }
 
 -- what is left of a pass that another took in
 abbrev pub spent : Sight
-spent = record { live = false; seen = []; won = 0 }
+spent = record { live = false; seen = []; won = 0; parts = 0 }
 
--- the invariant of a world, over the words and the views of all live passes
-pub record Kept (q : Query) (s : State (Unit {0}) Sight) : Type 0 where
-  pub words : Sound q s.words
-  pub views : (id : ℕ) (v : Sight) → get_elem? s.views id ≡ some v → v.live ≡ true → Sees q s.words v.seen
+-- at most all parts are with the passes; where they all are, a pass with none is spent, so that one with all of them is alone
+pub record AreParts (views : List Sight) : Type 0 where
+  pub most : sum_by (λ v. v.parts) views ≤ all_parts
+  pub idle : sum_by (λ v. v.parts) views ≡ all_parts → (id : ℕ) (v : Sight) → get_elem? views id ≡ some v → v.parts ≡ 0 → v ≡ spent
 
-abbrev Seated : Type 0
-Seated = Me (Unit {0}) Sight
+-- the table shows a configuration that meets the invariant of the core, and its words are within as many down steps as exchanges were won
+pub record Kept (q : Query) (s : Shared) : Type 0 where
+  pub world : IsWorld (shown q s)
+  pub within : IsBelow q (value_at s.words) (down_steps q (all_won s))
+  pub parts : AreParts s.views
 
 -- the pass has seen this word at a state, and has won so often
 abbrev pub saw : Seated → ℕ → ℕ → ℕ → Seated
-saw m state word won = (record { live = m.0.live; seen = slice_set m.0.seen state word; won = won }, m.1)
+saw m state word won = (record m.0 { seen = slice_set m.0.seen state word; won = won }, m.1)
 
 -- a load: the pass sees the word found, which is the one that it saw or has a greater value
 abbrev pub Loaded : Step (Unit {0}) → Seated → ℕ → Seated → Type 0

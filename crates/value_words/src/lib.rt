@@ -5,9 +5,10 @@
 //! state to its Bellman step over the words, rounded down, from any number of threads, each with a pass
 //! from [`ValueTable::split`]. Passes are put together by [`ValueTable::meet`], and [`ValueTable::close`]
 //! gives the final words. What holds of the words between any two steps, whatever the schedule, is the
-//! invariant of the crate `step_core`, and each step is one of its events. Nothing here waits.
+//! invariant of the crate `step_core`, and each step is one of its events ([`laws`]). Nothing here waits.
 #![tactic(auto)]
 
+pub mod laws;
 mod pass;
 mod rule;
 mod table;

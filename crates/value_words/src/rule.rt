@@ -16,11 +16,13 @@ impl Posing for Brand {
     ghost posed = { no_question };
 }
 
-/// What a pass has seen of each word, and how many exchanges it has won. No value of it is made.
+/// What a pass has seen of each word, how many exchanges it has won, and how many of all parts it has, by
+/// which a pass is known to be the only one. No value of it is made.
 pub struct Sight {
     pub live: bool,
     pub seen: LinkedList<u64>,
     pub won: u64,
+    pub parts: u64,
 }
 
 /// The rule of the words of a question.
@@ -58,9 +60,9 @@ impl Play<(), Sight> for Exchanging {
 pub struct Sharing;
 
 impl Split<Sight> for Sharing {
-    ghost use Rattle.value_words.specs.Rule.{copied};
+    ghost use Rattle.value_words.specs.Rule.{halved, copied};
 
-    ghost left = { λ v. v };
+    ghost left = { halved };
 
     ghost right = { copied };
 }

@@ -1,8 +1,8 @@
 // The table, and its steps.
-ghost use Rattle.std.specs.Prelude.{◌≡◌, ◌≢◌, ℕ, ◌+◌, ◌*◌, ◌<◌, ◌≤◌, ◌⊎◌, true, false, length, slice_index, slice_set, All, IfOk, MatchBool};
+ghost use Rattle.std.specs.Prelude.{◌≡◌, ◌≢◌, ℕ, ◌+◌, ◌*◌, ◌/◌, ◌<◌, ◌≤◌, ◌⊎◌, true, false, length, slice_index, slice_set, All, IfOk, MatchBool};
 ghost use Rattle.game_model.specs.Query.{Query, IsQuery, states, is_goal, is_dead};
 ghost use Rattle.game_model.specs.Limits.{unit};
-ghost use Rattle.game_model.specs.Rounded.{down_step};
+ghost use Rattle.game_model.specs.Rounded.{down_step, down_steps, IsBelow};
 ghost use Rattle.step_core.specs.Word.{choice_space, value_in, choice_in, value_at, opening_words, greater_words};
 ghost use Rattle.step_core.specs.Sound.{Sound, Sees};
 ghost use Rattle.fixed_bellman.specs.Given.{IsFree, Gives};
@@ -57,7 +57,9 @@ impl Words {
 }
 
 impl<'q, P: Posing> ValueTable<'q, P> {
-    ghost use Rattle.value_words.specs.Passes.{IsOf, Grew, seen_by, words_seen, won_by};
+    ghost use Rattle.value_words.specs.Passes.{IsOf, Grew, seen_by, words_seen, won_by, parts_of};
+    ghost use Rattle.value_words.specs.Rule.{all_parts, other_half};
+    ghost use Rattle.value_words.specs.Steps.{IsOffer};
 
     /// The opening words, and the one pass that has seen them.
     pub fn start(
@@ -65,7 +67,7 @@ impl<'q, P: Posing> ValueTable<'q, P> {
         question: &'q Question<'q>,
     ) -> Result<(ValueTable<'q, P>, Pass<P>), OutOfMemory>
         requires { question.now ≡ P.posed }
-        ensures { IfOk result (λ r. IsOf r.0 r.1 × (words_seen r.1 ≡ opening_words P.posed) × (won_by r.1 ≡ 0)) }
+        ensures { IfOk result (λ r. IsOf r.0 r.1 × (words_seen r.1 ≡ opening_words P.posed) × (won_by r.1 ≡ 0) × (parts_of r.1 ≡ all_parts)) }
     {
         question.known();
         let words = opening_words(alloc, question)?;
@@ -101,6 +103,7 @@ impl<'q, P: Posing> ValueTable<'q, P> {
         // What was seen at the state is now at least the down step of what was seen before.
         ensures step { down_step P.posed (seen_by pass.old) state ≤ seen_by pass.new state }
         ensures won { MatchBool result (won_by pass.new ≡ won_by pass.old + 1) (won_by pass.new ≡ won_by pass.old) }
+        ensures parts { parts_of pass.new ≡ parts_of pass.old }
         // At a goal or a dead state nothing is done.
         ensures fixed { (is_goal P.posed state ≡ true) ⊎ (is_dead P.posed state ≡ true) → (result ≡ false) × (words_seen pass.new ≡ words_seen pass.old) }
     {
@@ -116,6 +119,7 @@ impl<'q, P: Posing> ValueTable<'q, P> {
         requires room { length table.old ≡ states P.posed }
         ensures grew { Grew pass.old pass.new }
         ensures won { won_by pass.new ≡ won_by pass.old }
+        ensures parts { parts_of pass.new ≡ parts_of pass.old }
         ensures units { All (λ v. v ≤ unit) table.new }
         ensures read { (s : ℕ) → s < states P.posed → slice_index table.new s ≡ seen_by pass.new s }
     {
@@ -124,12 +128,14 @@ impl<'q, P: Posing> ValueTable<'q, P> {
         }
     }
 
-    /// A second pass, which has seen the same and has won nothing.
+    /// A second pass, which has seen the same and has won nothing. Each of the two has about half of the
+    /// parts; a single part is lost.
     pub fn split(&self, pass: &mut Pass<P>) -> Pass<P>
         requires { IsOf self.now pass.old }
         ensures grew { Grew pass.old pass.new }
         ensures seen { words_seen pass.new ≡ words_seen pass.old }
         ensures won { won_by pass.new ≡ won_by pass.old }
+        ensures parts { (parts_of pass.new ≡ parts_of pass.old / 2) × (parts_of result ≡ other_half (parts_of pass.old)) }
         ensures new { IsOf self.now result × (words_seen result ≡ words_seen pass.old) × (won_by result ≡ 0) }
     {
         let seat = self.table.shared.split_seat::<Sharing>(&mut pass.seat);
@@ -147,6 +153,7 @@ impl<'q, P: Posing> ValueTable<'q, P> {
         ensures other { (s : ℕ) → seen_by other s ≤ seen_by pass.new s }
         ensures seen { words_seen pass.new ≡ greater_words (words_seen pass.old) (words_seen other) }
         ensures won { won_by pass.new ≡ won_by pass.old + won_by other }
+        ensures parts { parts_of pass.new ≡ parts_of pass.old + parts_of other }
     {
         let Pass { seat, of: _ } = other;
         self.table.shared.join_seat::<Sharing>(&mut pass.seat, seat);
@@ -157,6 +164,8 @@ impl<'q, P: Posing> ValueTable<'q, P> {
         requires { IsOf self pass }
         ensures words { IfOk result (λ words. Sound P.posed words) }
         ensures seen { IfOk result (λ words. Sees P.posed words (words_seen pass)) }
+        // A pass with all parts is the only one: the words are within as many down steps as it won exchanges.
+        ensures within { parts_of pass ≡ all_parts → IfOk result (λ words. IsBelow P.posed (value_at words) (down_steps P.posed (won_by pass))) }
     {
         let Ruled {
             table,
@@ -176,6 +185,7 @@ impl<'q, P: Posing> ValueTable<'q, P> {
         requires state { state < states P.posed }
         ensures grew { Grew pass.old pass.new }
         ensures won { won_by pass.new ≡ won_by pass.old }
+        ensures parts { parts_of pass.new ≡ parts_of pass.old }
         ensures seen { words_seen pass.new ≡ slice_set (words_seen pass.old) state result }
         ensures current { result ≡ slice_index (words_seen pass.new) state }
         ensures low { seen_by pass.old state ≤ value_in result }
@@ -190,12 +200,9 @@ impl<'q, P: Posing> ValueTable<'q, P> {
     // Tries to exchange the word that the pass has seen for one of greater value.
     fn exchange(&self, pass: &mut Pass<P>, state: u32, from: u64, to: u64) -> u64
         requires pass { IsOf self.now pass.old }
-        requires state { state < states P.posed }
-        requires free { IsFree P.posed state }
-        requires from { from ≡ slice_index (words_seen pass.old) state }
-        requires raised { value_in from < value_in to }
-        requires given { Gives P.posed (seen_by pass.old) state (value_in to) (choice_in to) }
+        requires offer { IsOffer P.posed (words_seen pass.old) state from to }
         ensures grew { Grew pass.old pass.new }
+        ensures parts { parts_of pass.new ≡ parts_of pass.old }
         ensures hit { result ≡ from → (won_by pass.new ≡ won_by pass.old + 1) × (seen_by pass.new state ≡ value_in to) }
         ensures lost { result ≢ from → (won_by pass.new ≡ won_by pass.old) × (result ≡ slice_index (words_seen pass.new) state) × (value_in from < value_in result) }
     {
@@ -213,6 +220,7 @@ impl<'q, P: Posing> ValueTable<'q, P> {
         ensures grew { Grew pass.old pass.new }
         ensures reached { value_in to ≤ seen_by pass.new state }
         ensures won { MatchBool result (won_by pass.new ≡ won_by pass.old + 1) (won_by pass.new ≡ won_by pass.old) }
+        ensures parts { parts_of pass.new ≡ parts_of pass.old }
     {
         let mut current = self.load(pass, state);
         while value_of(current) < value_of(to) {
@@ -233,6 +241,7 @@ impl<'q, P: Posing> ValueTable<'q, P> {
         ensures grew { Grew pass.old pass.new }
         ensures step { down_step P.posed (seen_by pass.old) state ≤ seen_by pass.new state }
         ensures won { MatchBool result (won_by pass.new ≡ won_by pass.old + 1) (won_by pass.new ≡ won_by pass.old) }
+        ensures parts { parts_of pass.new ≡ parts_of pass.old }
     {
         let least = value_of(self.load(pass, state));
         let (value, choice) = step_above(self.question, self, pass, state, least);
@@ -246,7 +255,7 @@ impl<'q, P: Posing> ValueTable<'q, P> {
 // What a kernel of steps reads: the words as they are loaded.
 impl<'q, P: Posing> Values for ValueTable<'q, P> {
     ghost use Rattle.std.proofs.Common.{refl, ◌∙◌, le_refl, le_trans};
-    ghost use Rattle.value_words.specs.Passes.{IsOf, Grew, seen_by, won_by};
+    ghost use Rattle.value_words.specs.Passes.{IsOf, Grew, seen_by, won_by, parts_of};
 
     type Pass = Pass<P>;
 
@@ -254,15 +263,15 @@ impl<'q, P: Posing> Values for ValueTable<'q, P> {
 
     ghost seen = { λ _ pass. seen_by pass };
 
-    ghost onward = { λ _ old new. Grew old new × (won_by new ≡ won_by old) };
+    ghost onward = { λ _ old new. Grew old new × (won_by new ≡ won_by old) × (parts_of new ≡ parts_of old) };
 
     fn value(&self, pass: &mut Pass<P>, state: u32) -> u64 {
         value_of(self.load(pass, state))
     }
 
-    ghost still = { λ _ a. (record { table = refl; up = λ s. le_refl (seen_by a s) }, refl) };
+    ghost still = { λ _ a. (record { table = refl; up = λ s. le_refl (seen_by a s) }, refl, refl) };
 
-    ghost further = { λ _ a b c h k. (record { table = k.0.table ∙ h.0.table; up = λ s. le_trans (h.0.up s) (k.0.up s) }, k.1 ∙ h.1) };
+    ghost further = { λ _ a b c h k. (record { table = k.0.table ∙ h.0.table; up = λ s. le_trans (h.0.up s) (k.0.up s) }, k.1 ∙ h.1, k.2 ∙ h.2) };
 
     ghost carried = { λ _ _ _ _ h k. (h.0.table ∙ k.0, k.1) };
 

@@ -1,4 +1,4 @@
-use Rattle.std.proofs.Common.{ℕ, ◌+◌, ◌-◌, ◌/◌, arith}
+use Rattle.std.proofs.Common.{refl, ℕ, ◌+◌, ◌-◌, ◌/◌, arith}
 use Rattle.round_workers.proofs.Parts.{parts-meet}
 use Rattle.round_workers.proofs.fork.+fn-fork-join+arg2+fn-fork-join+arg3+fork.Goals as goal
 
@@ -11,4 +11,4 @@ returns g t c =
     let p = c.split-other.ensures in
     let m = c.meet.ensures in
     parts-meet g.P.Posing.posed c.args.workers first middle last c.args.pass.seat c.split-other.new.pass.seat c.split-other.result.seat _ _ c.meet.result.pass.seat _ _ c.meet.result.raises
-    p.grew p.seen p.won p.new.1 p.new.2 c.join-left.ensures.first c.join-left.ensures.second m.left m.right m.won m.raises (omega arith) (omega arith)
+    p.grew p.seen p.won p.new.1 p.new.2 p.parts c.join-left.ensures.first c.join-left.ensures.second m.left m.right m.won m.parts m.raises refl (omega arith)

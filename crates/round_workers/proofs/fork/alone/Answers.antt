@@ -1,6 +1,6 @@
-use Rattle.std.proofs.Common.{◌≡◌, ◌<◌, ℕ, ◌+◌, List, length, ap, ◌∙◌, sym, subst, arith}
+use Rattle.std.proofs.Common.{◌≡◌, ◌+◌, List, ap, ◌∙◌, subst}
 use Rattle.game_model.specs.Game.{Distribution}
-use Rattle.game_model.specs.Query.{Query, states}
+use Rattle.game_model.specs.Query.{Query}
 use Rattle.round_workers.specs.Share.{BeginsBlock}
 use Rattle.round_workers.proofs.Parts.{one-worker}
 use Rattle.round_workers.proofs.fork.alone.Goals as goal

@@ -1,4 +1,4 @@
-use Rattle.std.proofs.Common.{◌<◌, ◌≤◌, ◌+◌, ◌-◌, ◌/◌, ℕ, length, arith}
+use Rattle.std.proofs.Common.{◌+◌, ◌-◌, ◌/◌, ℕ, arith}
 use Rattle.round_workers.proofs.Blocks.{worker_of-rises}
 use Rattle.round_workers.proofs.share.first_state.Goals as goal
 

@@ -1,4 +1,4 @@
-use Rattle.std.proofs.Common.{ℕ, ◌+◌, ◌<◌, ◌≤◌, arith, sym, le_trans, inl, inr, subst}
+use Rattle.std.proofs.Common.{ℕ, ◌+◌, ◌<◌, ◌≤◌, arith, sym, ◌∙◌, le_trans, inl, inr, subst}
 use Rattle.std.proofs.lemmas.Bool.{cases_eq}
 use Rattle.game_model.specs.Rounded.{down_step}
 use Rattle.value_words.specs.Passes.{seen_by}
@@ -23,6 +23,6 @@ loop-state-preserved g c =
     let few = h.few in
     let won = h.won in
     elim c.if-update.branch [
-      | then-update w ↦ (let e = w.raises-is in let more = w.if-update.ensures.won in record { grew = grew; step = step; won = omega arith; few = omega arith })
-      | else-update w ↦ (let e = w.raises-is in let more = w.if-update.ensures.won in record { grew = grew; step = step; won = omega arith; few = omega arith })
+      | then-update w ↦ (let e = w.raises-is in let more = w.if-update.ensures.won in record { grew = grew; step = step; won = omega arith; few = omega arith; parts = u.parts ∙ h.parts })
+      | else-update w ↦ (let e = w.raises-is in let more = w.if-update.ensures.won in record { grew = grew; step = step; won = omega arith; few = omega arith; parts = u.parts ∙ h.parts })
     ]

@@ -10,6 +10,7 @@ loop-pass-init g c =
     let l = c.load-current.ensures in record {
       grew = l.grew;
       won = l.won;
+      parts = l.parts;
       current = l.current;
       given = Gives-rises g.P.Posing.posed (seen_by c.args.pass.now) (seen_by c.load-current.new.pass) c.args.state (value_in c.args.to) (choice_in c.args.to) c.args.self.now.posed c.requires.state (λ t _. l.grew.up t) c.requires.given;
     }
@@ -21,6 +22,7 @@ loop-pass-preserved g c =
     let lost = e.lost c.if-found-current.false in record {
       grew = grew-twice _ _ _ h.grew e.grew;
       won = lost.0 ∙ h.won;
+      parts = e.parts ∙ h.parts;
       current = lost.1;
       given = Gives-rises g.P.Posing.posed (seen_by c.loop-pass.pass) (seen_by c.exchange-found.new.pass) c.args.state (value_in c.args.to) (choice_in c.args.to) c.args.self.now.posed c.requires.state (λ t _. e.grew.up t) h.given;
     }

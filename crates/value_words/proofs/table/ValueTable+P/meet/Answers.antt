@@ -6,7 +6,7 @@ use Rattle.value_words.proofs.Moves.{join-allowed, joined-units}
 use Rattle.value_words.proofs.table.ValueTable+P.meet.Goals as goal
 
 pub join_seat-requires : goal.join_seat-requires
-join_seat-requires g c = (c.requires.pass, c.requires.other, c.args.other.empty, subst (λ n. 0 < n) (sym c.args.self.now.as_many) c.args.self.now.posed.game.some, join-allowed g.P.Posing.posed _ _ _ _ c.args.other.live)
+join_seat-requires g c = (c.requires.pass, c.requires.other, c.args.other.empty, subst (λ n. 0 < n) (sym c.args.self.now.as_many) c.args.self.now.posed.game.some, join-allowed g.P.Posing.posed _ _ _ _ c.args.pass.now.live c.args.other.live)
 
 pub invariant_of-pass : goal.invariant_of-pass
 invariant_of-pass g c =
