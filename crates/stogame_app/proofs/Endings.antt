@@ -1,55 +1,68 @@
 -- How a run ends, from how its loading ended.
-use Rattle.std.proofs.Common.{◌≡◌, ◌<◌, ◌⊎◌, inl, inr, ℕ, List, Option, Some, None, Result, Ok, Err, ◌∙◌, ap, subst, refl}
+use Rattle.std.proofs.Common.{◌≡◌, ◌<◌, ◌⊎◌, inl, inr, ℕ, Bool, true, List, Option, Some, None, Result, Ok, Err, ◌∙◌, ap, subst, sym, refl}
 use Rattle.std.specs.Prelude.{IsErrOf}
-use Rattle.text_lines.specs.declared.TheConstants.{MOST_BYTES}
+use Rattle.text_lines.specs.Limits.{most_bytes}
 use Rattle.game_outside.specs.Outside.{Holding}
 use Rattle.formula_sets.specs.Posing.{Posing}
 use Rattle.formula_sets.specs.declared.fault.PoseFault.{PoseFault}
 use Rattle.formula_sets.specs.declared.fault.PoseFault.TheVariants as fault
 use Rattle.stogame_app.specs.declared.load.End.{End}
-use Rattle.stogame_app.specs.declared.load.End.TheVariants.{Refused, OutOfMemory}
+use Rattle.stogame_app.specs.declared.load.End.TheVariants.{Refused, ReadFault, OutOfMemory}
 use Rattle.stogame_app.specs.declared.model.Loaded.{Loaded}
 use Rattle.stogame_app.specs.declared.refusal.Refusal.{Refusal}
 use Rattle.stogame_app.specs.declared.refusal.Refusal.TheVariants.{OfQuestion}
 use Rattle.stogame_app.specs.declared.status.Status.{Status}
 use Rattle.stogame_app.specs.declared.status.Status.TheVariants as status
 use Rattle.stogame_app.specs.Words.{Check}
-use Rattle.stogame_app.specs.Said.{Said, NotHeld, Refuses, Says, and_then, read_said, WhereTold, Loads, IsTooLong, RefusesCaused}
+use Rattle.stogame_app.specs.Said.{Said, NotHeld, Refuses, Says, and_then, read_said}
+use Rattle.stogame_app.specs.Sources.{Sources, sources_of, WhereTold, AreSources}
+use Rattle.stogame_app.specs.Loading.{Loads, LoadsCheck, IsTooLong, RefusesCaused}
 use Rattle.stogame_app.specs.Posed.{reading_of, reading_said, question_said, posed}
+use Rattle.stogame_app.specs.Asks.{Asks}
 use Rattle.stogame_app.specs.Refusals.{refusal_text}
-use Rattle.stogame_app.specs.Run.{IsLong, IsReportOf, IsRefusalOf, PosesIt, RefusesIt}
+use Rattle.stogame_app.specs.Run.{IsLong, IsReportOf, IsRefusalOf, PosesIt, RefusesIt, MissesIt}
+use Rattle.stogame_app.proofs.Asking.{said_asks, asks_said}
+
+-- what loading the texts of a command answers
+abbrev pub LoadsReading : Option Holding → Bool → Check → Result Loaded End → Type 0
+LoadsReading holding steady check result = LoadsCheck holding steady check reading_of result (λ sources. reading_said sources check)
 
 -- what is said of the question where a reading was loaded
-behind_reading : (holding : Option Holding) (check : Check) (result : Result Loaded End) (loaded : Loaded) (said : Said Posing) → result ≡ Ok loaded
-    → WhereTold holding (λ held. Loads reading_of result (reading_said held check)) → posed (reading_of loaded) ≡ said → WhereTold holding (λ held. question_said held check ≡ said)
-behind_reading None check result loaded said is loads of_reading = tt
-behind_reading (Some held) check result loaded said is loads of_reading =
-    let P : Result Loaded End → Type 0 = λ r. Loads reading_of r (reading_said held check) in
-    let read : reading_said held check ≡ Says (reading_of loaded) = subst P is loads in
+behind_reading : (holding : Option Holding) (steady : Bool) (check : Check) (result : Result Loaded End) (loaded : Loaded) (said : Said Posing) → result ≡ Ok loaded → (loads : LoadsReading holding steady check result)
+    → posed (reading_of loaded) ≡ said → question_said loads.sources check ≡ said
+behind_reading holding steady check result loaded said is loads of_reading =
+    let P : Result Loaded End → Type 0 = λ r. Loads reading_of r (reading_said loads.sources check) in
+    let read : reading_said loads.sources check ≡ Says (reading_of loaded) = subst P is loads.loads in
     ap (λ s. and_then s (λ reading. posed reading)) read ∙ of_reading
 
 -- the report of a reading that was loaded
-pub report_loaded : (holding : Option Holding) (check : Check) (result : Result Loaded End) (loaded : Loaded) (asked : ℕ) (text : List ℕ) → result ≡ Ok loaded
-    → WhereTold holding (λ held. Loads reading_of result (reading_said held check))
+pub report_loaded : (holding : Option Holding) (steady : Bool) (check : Check) (result : Result Loaded End) (loaded : Loaded) (asked : ℕ) (text : List ℕ) → result ≡ Ok loaded → LoadsReading holding steady check result
     → IsReportOf (λ posing. posed (reading_of loaded) ≡ Says posing) asked text → IsReportOf (PosesIt holding check) asked text
-report_loaded holding check result loaded asked text is loads report = record {
+report_loaded holding steady check result loaded asked text is loads report = record {
   posing = report.posing;
-  posed = behind_reading holding check result loaded (Says report.posing) is loads report.posed;
+  posed = record {
+    sources = loads.sources;
+    told = loads.told (λ fault. cc (is, fault));
+    asks = said_asks loads.sources check report.posing (behind_reading holding steady check result loaded (Says report.posing) is loads report.posed);
+  };
   report = report.report;
 }
 
 -- the refusal of a reading that was loaded
-pub refusal_posed : (holding : Option Holding) (check : Check) (result : Result Loaded End) (loaded : Loaded) (taken : ℕ) (text : List ℕ) → result ≡ Ok loaded
-    → WhereTold holding (λ held. Loads reading_of result (reading_said held check))
-    → (MOST_BYTES < taken → IsTooLong result ⊎ IsErrOf result OutOfMemory)
-    → ((t : ℕ) → (MOST_BYTES < t → ⊥) → IsRefusalOf (λ refusal. posed (reading_of loaded) ≡ Refuses refusal) t text)
+pub refusal_posed : (holding : Option Holding) (steady : Bool) (check : Check) (result : Result Loaded End) (loaded : Loaded) (taken : ℕ) (text : List ℕ) → result ≡ Ok loaded → LoadsReading holding steady check result
+    → (most_bytes < taken → IsTooLong result ⊎ IsErrOf result OutOfMemory)
+    → ((t : ℕ) → (most_bytes < t → ⊥) → IsRefusalOf (λ refusal. posed (reading_of loaded) ≡ Refuses refusal) t text)
     → IsRefusalOf (RefusesIt holding check) taken text
-refusal_posed holding check result loaded taken text is loads only_long refusal =
-    let short : MOST_BYTES < taken → ⊥ = λ above. not_ended (subst P is (only_long above)) in
+refusal_posed holding steady check result loaded taken text is loads only_long refusal =
+    let short : most_bytes < taken → ⊥ = λ above. not_ended (subst P is (only_long above)) in
     let r = refusal taken short in
     record {
       refusal = r.refusal;
-      said = behind_reading holding check result loaded (Refuses r.refusal) is loads r.said;
+      said = record {
+        sources = loads.sources;
+        told = loads.told (λ fault. cc (is, fault));
+        refuses = behind_reading holding steady check result loaded (Refuses r.refusal) is loads r.said;
+      };
       caused = r.caused;
       line = r.line;
       long = r.long;
@@ -65,7 +78,7 @@ refusal_posed holding check result loaded taken text is loads only_long refusal 
 
 -- the refusal of a formula that poses no question
 pub refusal_of_question : (said : Result Posing PoseFault) (why : PoseFault) (taken : ℕ) → (why ≡ fault.OutOfMemory) ⊎ (said ≡ Err why) → (why ≡ fault.OutOfMemory → ⊥)
-    → (MOST_BYTES < taken → ⊥) → IsRefusalOf (λ refusal. read_said OfQuestion said ≡ Refuses refusal) taken (refusal_text (OfQuestion why))
+    → (most_bytes < taken → ⊥) → IsRefusalOf (λ refusal. read_said OfQuestion said ≡ Refuses refusal) taken (refusal_text (OfQuestion why))
 refusal_of_question said why taken (inl memory) other short = absurd (other memory)
 refusal_of_question said why taken (inr is) other short = record {
   refusal = OfQuestion why;
@@ -77,26 +90,28 @@ refusal_of_question said why taken (inr is) other short = record {
 }
 
 -- what is said of the question where loading was refused
-refused_reading : (holding : Option Holding) (check : Check) (result : Result Loaded End) (refusal : Refusal) → result ≡ Err (Refused refusal)
-    → WhereTold holding (λ held. Loads reading_of result (reading_said held check)) → RefusesIt holding check refusal
-refused_reading None check result refusal is loads = tt
-refused_reading (Some held) check result refusal is loads =
-    let P : Result Loaded End → Type 0 = λ r. Loads reading_of r (reading_said held check) in
-    let read : reading_said held check ≡ Refuses refusal = subst P is loads in
-    ap (λ s. and_then s (λ reading. posed reading)) read
+refused_reading : (holding : Option Holding) (steady : Bool) (check : Check) (result : Result Loaded End) (refusal : Refusal) → result ≡ Err (Refused refusal) → LoadsReading holding steady check result → RefusesIt holding check refusal
+refused_reading holding steady check result refusal is loads =
+    let P : Result Loaded End → Type 0 = λ r. Loads reading_of r (reading_said loads.sources check) in
+    let read : reading_said loads.sources check ≡ Refuses refusal = subst P is loads.loads in
+    record {
+      sources = loads.sources;
+      told = loads.told (λ fault. cc (is, fault));
+      refuses = ap (λ s. and_then s (λ reading. posed reading)) read;
+    }
 
 -- the refusal with which loading ended
-pub refusal_loaded : (holding : Option Holding) (check : Check) (result : Result Loaded End) (end : End) (refusal : Refusal) (taken : ℕ) → result ≡ Err end → end ≡ Refused refusal
-    → WhereTold holding (λ held. Loads reading_of result (reading_said held check))
+pub refusal_loaded : (holding : Option Holding) (steady : Bool) (check : Check) (result : Result Loaded End) (end : End) (refusal : Refusal) (taken : ℕ) → result ≡ Err end → end ≡ Refused refusal
+    → LoadsReading holding steady check result
     → RefusesCaused result
-    → (IsTooLong result → MOST_BYTES < taken)
-    → (MOST_BYTES < taken → IsTooLong result ⊎ IsErrOf result OutOfMemory)
+    → (IsTooLong result → most_bytes < taken)
+    → (most_bytes < taken → IsTooLong result ⊎ IsErrOf result OutOfMemory)
     → IsRefusalOf (RefusesIt holding check) taken (refusal_text refusal)
-refusal_loaded holding check result end refusal taken is ended loads caused long only_long =
+refusal_loaded holding steady check result end refusal taken is ended loads caused long only_long =
     let same : result ≡ Err (Refused refusal) = is ∙ ap (λ (e : End). Err e) ended in
     record {
       refusal = refusal;
-      said = refused_reading holding check result refusal same loads;
+      said = refused_reading holding steady check result refusal same loads;
       caused = subst (λ (r : Result Loaded End). RefusesCaused r) same caused;
       line = refl;
       long = λ of. long (of.0, same ∙ ap (λ (r : Refusal). Err (Refused r)) of.1);
@@ -110,27 +125,43 @@ refusal_loaded holding check result end refusal taken is ended loads caused long
     which (inl of) = (of.0, cc (of.1))
     which (inr memory) = cc (memory)
 
--- over what is told, a read fault at loading means that some text is not held
-pub missing_loaded : (holding : Option Holding) (check : Check) → WhereTold holding (λ held. reading_said held check ≡ NotHeld) → WhereTold holding (λ held. question_said held check ≡ NotHeld)
-missing_loaded None check missing = tt
-missing_loaded (Some held) check missing = ap (λ s. and_then s (λ reading. posed reading)) missing
+-- what is said of the question where a text could not be read
+unread : (holding : Option Holding) (steady : Bool) (check : Check) (result : Result Loaded End) (end : End) → result ≡ Err end → end ≡ ReadFault → (loads : LoadsReading holding steady check result) → question_said loads.sources check ≡ NotHeld
+unread holding steady check result end is ended loads =
+    let P : Result Loaded End → Type 0 = λ r. Loads reading_of r (reading_said loads.sources check) in
+    let missing : reading_said loads.sources check ≡ NotHeld = subst P (is ∙ ap (λ (e : End). Err e) ended) loads.loads in
+    ap (λ s. and_then s (λ reading. posed reading)) missing
 
--- a question that is posed is not refused
-pub posed_not_refused : (holding : Option Holding) (held : Holding) (check : Check) (posing : Posing) (refusal : Refusal)
-    → holding ≡ Some held → question_said held check ≡ Says posing → RefusesIt holding check refusal → ⊥
-posed_not_refused None held check posing refusal told said refused = cc (told)
-posed_not_refused (Some other) held check posing refusal told said refused =
-    let same : other ≡ held = cc (told) in
-    let alike : question_said other check ≡ question_said held check = ap (λ f. question_said f check) same in
-    cc (alike, said, refused)
+pub misses_loaded : (holding : Option Holding) (steady : Bool) (check : Check) (result : Result Loaded End) (end : End) → result ≡ Err end → end ≡ ReadFault → LoadsReading holding steady check result → MissesIt holding check
+misses_loaded holding steady check result end is ended loads = record { sources = loads.sources; told = loads.told_or_unread; misses = unread holding steady check result end is ended loads }
 
--- for a question that is posed every text is held
-pub posed_is_held : (holding : Option Holding) (held : Holding) (check : Check) (posing : Posing)
-    → holding ≡ Some held → question_said held check ≡ Says posing → WhereTold holding (λ h. question_said h check ≡ NotHeld) → ⊥
-posed_is_held None held check posing told said missing = cc (told)
-posed_is_held (Some other) held check posing told said missing =
+-- on a steady shelf it is not held
+pub steadily_loaded : (holding : Option Holding) (steady : Bool) (check : Check) (result : Result Loaded End) (end : End) → result ≡ Err end → end ≡ ReadFault → LoadsReading holding steady check result → steady ≡ true
+    → WhereTold holding (λ held. question_said (sources_of held check) check ≡ NotHeld)
+steadily_loaded holding steady check result end is ended loads calm = of_holding holding loads.sources (loads.steadily calm) (unread holding steady check result end is ended loads)
+  where
+    of_holding : (h : Option Holding) (sources : Sources) → AreSources h check sources → question_said sources check ≡ NotHeld → WhereTold h (λ held. question_said (sources_of held check) check ≡ NotHeld)
+    of_holding None sources are missing = tt
+    of_holding (Some held) sources are missing = ap (λ s. question_said s check) (sym are) ∙ missing
+
+-- a question that is asked is not refused
+pub asked_not_refused : (holding : Option Holding) (held : Holding) (check : Check) (posing : Posing) (refusal : Refusal) → holding ≡ Some held → Asks (sources_of held check) check posing → RefusesIt holding check refusal → ⊥
+asked_not_refused None held check posing refusal told asks refused = cc (told)
+asked_not_refused (Some other) held check posing refusal told asks refused =
     let same : other ≡ held = cc (told) in
-    let alike : question_said other check ≡ question_said held check = ap (λ f. question_said f check) same in
+    let said = asks_said (sources_of held check) check posing asks in
+    let alike : question_said refused.sources check ≡ question_said (sources_of held check) check = ap (λ s. question_said s check) (refused.told ∙ ap (λ h. sources_of h check) same) in
+    let refuses = refused.refuses in
+    cc (alike, said, refuses)
+
+-- for a question that is asked every text is held
+pub asked_is_held : (holding : Option Holding) (held : Holding) (check : Check) (posing : Posing) → holding ≡ Some held → Asks (sources_of held check) check posing
+    → WhereTold holding (λ h. question_said (sources_of h check) check ≡ NotHeld) → ⊥
+asked_is_held None held check posing told asks missing = cc (told)
+asked_is_held (Some other) held check posing told asks missing =
+    let same : other ≡ held = cc (told) in
+    let said = asks_said (sources_of held check) check posing asks in
+    let alike : question_said (sources_of other check) check ≡ question_said (sources_of held check) check = ap (λ h. question_said (sources_of h check) check) same in
     cc (alike, said, missing)
 
 -- what is left where four ends are ruled out

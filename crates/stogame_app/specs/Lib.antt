@@ -2,7 +2,10 @@ pub mod Words
 pub mod Status
 pub mod Refusals
 pub mod Said
+pub mod Sources
 pub mod Texts
 pub mod Posed
+pub mod Asks
+pub mod Loading
 pub mod Reports
 pub mod Run

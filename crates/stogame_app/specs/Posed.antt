@@ -1,6 +1,5 @@
--- The question that the words and the held texts pose, or their first refusal.
+-- The question that the words and the texts of a command pose, or their first refusal.
 use Rattle.std.specs.Prelude.{◌≡◌, ℕ, Bool, true, false, List, length, if◌then◌else◌}
-use Rattle.game_outside.specs.Outside.{Holding}
 use Rattle.game_model.specs.Game.{Distribution}
 use Rattle.label_reader.specs.Labels.{Labelling}
 use Rattle.label_reader.specs.Owners.{Ownership}
@@ -15,6 +14,7 @@ use Rattle.stogame_app.specs.declared.refusal.Refusal.TheVariants.{OfFormula, Of
 use Rattle.stogame_app.specs.declared.model.Loaded.{Loaded}
 use Rattle.stogame_app.specs.Words.{Check}
 use Rattle.stogame_app.specs.Said.{Said, Refuses, Says, and_then, read_said}
+use Rattle.stogame_app.specs.Sources.{Sources}
 use Rattle.stogame_app.specs.Texts.{game_said, labels_said, owners_said}
 
 -- the bound asks for a value, and sets no threshold
@@ -53,19 +53,19 @@ reading_with game labels owners formula = record { game = game; labels = labels;
 abbrev pub behind_owners : Check → List (List Distribution) → Labelling → Ownership → Said Reading
 behind_owners check game labels owners = and_then (formula_read check.formula) (λ formula. Says (reading_with game labels owners formula))
 
-abbrev pub behind_labels : Holding → Check → List (List Distribution) → Labelling → Said Reading
-behind_labels held check game labels = and_then (owners_said held check.options.own (length game)) (λ owners. behind_owners check game labels owners)
+abbrev pub behind_labels : Sources → Check → List (List Distribution) → Labelling → Said Reading
+behind_labels sources check game labels = and_then (owners_said check.options.own sources.own (length game)) (λ owners. behind_owners check game labels owners)
 
-abbrev pub behind_game : Holding → Check → List (List Distribution) → Said Reading
-behind_game held check game = and_then (labels_said held check.lab (length game)) (λ labels. behind_labels held check game labels)
+abbrev pub behind_game : Sources → Check → List (List Distribution) → Said Reading
+behind_game sources check game = and_then (labels_said sources.lab (length game)) (λ labels. behind_labels sources check game labels)
 
-abbrev pub reading_said : Holding → Check → Said Reading
-reading_said held check = and_then (game_said held check.tra) (λ game. behind_game held check game)
+abbrev pub reading_said : Sources → Check → Said Reading
+reading_said sources check = and_then (game_said sources.tra) (λ game. behind_game sources check game)
 
 -- the question that a reading poses
 abbrev pub posed : Reading → Said Posing
 posed reading = read_said OfQuestion (pose_said reading.game reading.labels reading.owners reading.formula)
 
--- the question that the texts of a command pose, or their first refusal
-abbrev pub question_said : Holding → Check → Said Posing
-question_said held check = and_then (reading_said held check) (λ reading. posed reading)
+-- the question that these texts and words pose, or their first refusal
+abbrev pub question_said : Sources → Check → Said Posing
+question_said sources check = and_then (reading_said sources check) (λ reading. posed reading)

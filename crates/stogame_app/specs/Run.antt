@@ -1,14 +1,16 @@
 -- What a run writes: the usage line, a refusal, or a report.
 use Rattle.std.specs.Prelude.{◌≡◌, ◌<◌, ◌⊎◌, ℕ, List, Option}
-use Rattle.text_lines.specs.declared.TheConstants.{MOST_BYTES}
+use Rattle.text_lines.specs.Limits.{most_bytes}
 use Rattle.game_outside.specs.Outside.{Holding}
 use Rattle.formula_sets.specs.Posing.{Posing}
 use Rattle.stogame_app.specs.declared.refusal.Text.{Text}
 use Rattle.stogame_app.specs.declared.refusal.Refusal.{Refusal}
 use Rattle.stogame_app.specs.declared.refusal.Refusal.TheVariants.{TooLong}
 use Rattle.stogame_app.specs.Words.{Check, AreCheck, AreNoCommand}
-use Rattle.stogame_app.specs.Said.{Refuses, Says, WhereTold, IsCaused}
+use Rattle.stogame_app.specs.Said.{NotHeld, Refuses, IsCaused}
+use Rattle.stogame_app.specs.Sources.{Sources, AreSources, AreSourcesOrUnread}
 use Rattle.stogame_app.specs.Posed.{question_said}
+use Rattle.stogame_app.specs.Asks.{Asks}
 use Rattle.stogame_app.specs.Refusals.{refusal_text, usage_text}
 use Rattle.stogame_app.specs.Reports.{IsReport}
 
@@ -27,16 +29,26 @@ pub record IsRefusalOf (IsSaid : Refusal → Type 0) (taken : ℕ) (text : List 
   pub said : IsSaid refusal
   pub caused : IsCaused refusal
   pub line : text ≡ refusal_text refusal
-  pub long : IsLong refusal → MOST_BYTES < taken
-  pub only_long : MOST_BYTES < taken → IsLong refusal
+  pub long : IsLong refusal → most_bytes < taken
+  pub only_long : most_bytes < taken → IsLong refusal
 
--- where the holding is told, the command's texts pose this question
-abbrev pub PosesIt : Option Holding → Check → Posing → Type 0
-PosesIt holding check posing = WhereTold holding (λ held. question_said held check ≡ Says posing)
+-- there are texts, those that are held where this is told, that ask this question with the command's words
+pub record PosesIt (holding : Option Holding) (check : Check) (posing : Posing) : Type 0 where
+  pub sources : Sources
+  pub told : AreSources holding check sources
+  pub asks : Asks sources check posing
 
--- where the holding is told, this is the first refusal of the command's texts
-abbrev pub RefusesIt : Option Holding → Check → Refusal → Type 0
-RefusesIt holding check refusal = WhereTold holding (λ held. question_said held check ≡ Refuses refusal)
+-- there are such texts of which, with the command's words, this is the first refusal
+pub record RefusesIt (holding : Option Holding) (check : Check) (refusal : Refusal) : Type 0 where
+  pub sources : Sources
+  pub told : AreSources holding check sources
+  pub refuses : question_said sources check ≡ Refuses refusal
+
+-- there are such texts, without those that can't be read, of which one is missing and all before it are accepted
+pub record MissesIt (holding : Option Holding) (check : Check) : Type 0 where
+  pub sources : Sources
+  pub told : AreSourcesOrUnread holding check sources
+  pub misses : question_said sources check ≡ NotHeld
 
 -- the words denote a command, and this is its report
 pub record IsReportOfWords (words : List (List ℕ)) (holding : Option Holding) (text : List ℕ) : Type 0 where
@@ -49,6 +61,12 @@ pub record IsRefusalOfWords (words : List (List ℕ)) (holding : Option Holding)
   pub check : Check
   pub command : AreCheck words check
   pub refusal : IsRefusalOf (RefusesIt holding check) taken text
+
+-- the words denote a command, of which a text is missing
+pub record MissesOfWords (words : List (List ℕ)) (holding : Option Holding) : Type 0 where
+  pub check : Check
+  pub command : AreCheck words check
+  pub misses : MissesIt holding check
 
 -- the words denote no command, and this is the usage line
 pub record IsUsageOfWords (words : List (List ℕ)) (text : List ℕ) : Type 0 where

@@ -1,7 +1,6 @@
--- What is held under the names of a command: bytes, a game, labels, owners.
+-- What each text of a command says: a game, labels, owners; or its first refusal.
 use Rattle.std.specs.Prelude.{ℕ, List, [], ◌∷◌, length, replicate, codes, nat_lt, Option, Some, None, if◌then◌else◌}
-use Rattle.text_lines.specs.declared.TheConstants.{MOST_BYTES}
-use Rattle.game_outside.specs.Outside.{Holding}
+use Rattle.text_lines.specs.Limits.{most_bytes}
 use Rattle.game_model.specs.Game.{Distribution}
 use Rattle.tra_reader.specs.Text.{game_of}
 use Rattle.label_reader.specs.Labels.{Labelling}
@@ -12,27 +11,24 @@ use Rattle.stogame_app.specs.declared.refusal.Text.TheVariants.{Tra, Lab, Own}
 use Rattle.stogame_app.specs.declared.refusal.Refusal.TheVariants.{OfTra, OfLab, OfOwn, TooLong}
 use Rattle.stogame_app.specs.Said.{Said, NotHeld, Refuses, Says, and_then, read_said}
 
-abbrev pub bytes_said : Text → Option (List ℕ) → Said (List ℕ)
-bytes_said text None = NotHeld
-bytes_said text (Some bytes) = if nat_lt MOST_BYTES (length bytes) then Refuses (TooLong text) else Says bytes
+-- the bytes of a text
+abbrev pub text_said : Text → Option (List ℕ) → Said (List ℕ)
+text_said text None = NotHeld
+text_said text (Some bytes) = if nat_lt most_bytes (length bytes) then Refuses (TooLong text) else Says bytes
 
--- the bytes under a name
-abbrev pub text_said : Holding → Text → List ℕ → Said (List ℕ)
-text_said held text name = bytes_said text (held name)
+-- the game of a transition text
+abbrev pub game_said : Option (List ℕ) → Said (List (List Distribution))
+game_said source = and_then (text_said Tra source) (λ bytes. read_said OfTra (game_of bytes))
 
--- the game of the transition file under this name
-abbrev pub game_said : Holding → List ℕ → Said (List (List Distribution))
-game_said held name = and_then (text_said held Tra name) (λ bytes. read_said OfTra (game_of bytes))
-
--- the labels of the label file under this name, for so many states
-abbrev pub labels_said : Holding → List ℕ → ℕ → Said Labelling
-labels_said held name states = and_then (text_said held Lab name) (λ bytes. read_said OfLab (labels_of bytes states))
+-- the labels of a label text, for so many states
+abbrev pub labels_said : Option (List ℕ) → ℕ → Said Labelling
+labels_said source states = and_then (text_said Lab source) (λ bytes. read_said OfLab (labels_of bytes states))
 
 -- one player named `p0` owns all
 abbrev pub single_owner : ℕ → Ownership
 single_owner states = record { players = codes "p0" ∷ []; owners = replicate states 0 }
 
--- the owners of the owner file under this name; without one, one player owns all
-abbrev pub owners_said : Holding → Option (List ℕ) → ℕ → Said Ownership
-owners_said held None states = Says (single_owner states)
-owners_said held (Some name) states = and_then (text_said held Own name) (λ bytes. read_said OfOwn (owners_of bytes states))
+-- the owners of an owner text, where a file is named; without one, one player owns all
+abbrev pub owners_said : Option (List ℕ) → Option (List ℕ) → ℕ → Said Ownership
+owners_said None source states = Says (single_owner states)
+owners_said (Some name) source states = and_then (text_said Own source) (λ bytes. read_said OfOwn (owners_of bytes states))

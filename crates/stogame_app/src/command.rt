@@ -1,18 +1,21 @@
 //! The top call: from the words and the bytes read to the bytes written.
 
-ghost use Rattle.std.specs.Prelude.{◌≡◌, ◌≢◌, ◌<◌, ◌≤◌, ◌⊎◌, ℕ, List, Some, true, All, map};
+ghost use Rattle.std.specs.Prelude.{◌≡◌, ◌≢◌, ◌<◌, ◌≤◌, ◌+◌, ◌⊎◌, ℕ, List, Some, true, All, map};
 ghost use Rattle.std.specs.String.{string_bytes};
-ghost use Rattle.text_lines.specs.declared.TheConstants.{MOST_BYTES};
+ghost use Rattle.text_lines.specs.Limits.{most_bytes};
 ghost use Rattle.stogame_app.specs.declared.refusal.Refusal.{Refusal};
+ghost use Rattle.game_outside.specs.Limits.{piece_size};
 ghost use Rattle.game_outside.specs.Outside.{Holding, Rose, GrowsBy, GrowsByPrefix};
 ghost use Rattle.formula_sets.specs.Posing.{Posing};
 ghost use Rattle.stogame_app.specs.Words.{Check, AreInRange, AreCheck, AreNoCommand, options_of, check_of};
-ghost use Rattle.stogame_app.specs.Said.{Refuses, Says, NotHeld, WhereTold};
+ghost use Rattle.stogame_app.specs.Said.{Refuses, Says, NotHeld};
+ghost use Rattle.stogame_app.specs.Sources.{WhereTold, sources_of};
+ghost use Rattle.stogame_app.specs.Asks.{Asks};
 ghost use Rattle.stogame_app.specs.Posed.{reading_of, posed, question_said, HasSizes};
 ghost use Rattle.stogame_app.specs.Refusals.{refusal_text, usage_text};
 ghost use Rattle.game_model.specs.Query.{states};
 ghost use Rattle.stogame_app.specs.Reports.{IsReport};
-ghost use Rattle.stogame_app.specs.Run.{IsReportOf, IsRefusalOf, PosesIt, RefusesIt, IsReportOfWords, IsRefusalOfWords, IsOutput};
+ghost use Rattle.stogame_app.specs.Run.{IsReportOf, IsRefusalOf, PosesIt, RefusesIt, MissesIt, IsReportOfWords, IsRefusalOfWords, MissesOfWords, IsOutput};
 
 use crate::ends::{end_with_refusal, end_with_usage, say};
 use crate::load::End;
@@ -42,20 +45,24 @@ pub fn run<R: Threads + Sync, H: Shelf, K: Sink, G: Gate + Sync>(
         × GrowsBy (K.written out.old) (K.written out.new) text }
     ensures refused { result ≡ Status.ModelRefused → (text : List ℕ) × IsRefusalOfWords (map string_bytes words.now) (H.held shelf.old) (H.taken shelf.new) text
         × GrowsBy (K.written out.old) (K.written out.new) text }
-    ensures short { result ≡ Status.Fine → H.taken shelf.new ≤ MOST_BYTES }
+    ensures short { result ≡ Status.Fine → H.taken shelf.new ≤ most_bytes }
+    ensures taken { (H.taken shelf.new ≡ H.taken shelf.old) ⊎ (H.taken shelf.new ≤ most_bytes + piece_size) }
+
+    // Words that denote no command are answered before the shelf is asked.
+    ensures untouched { AreNoCommand (map string_bytes words.now) → shelf.new ≡ shelf.old }
     ensures usage { result ≡ Status.Usage → AreNoCommand (map string_bytes words.now) × GrowsBy (K.written out.old) (K.written out.new) usage_text }
 
     // A fault of the outside is answered only where its count rose.
-    ensures read_fault { result ≡ Status.ReadFault → Rose (H.faults shelf.old) (H.faults shelf.new) × (K.written out.new ≡ K.written out.old) }
+    ensures read_fault { result ≡ Status.ReadFault → Rose (H.faults shelf.old) (H.faults shelf.new) × (K.written out.new ≡ K.written out.old) × MissesOfWords (map string_bytes words.now) (H.held shelf.old) }
     ensures steadily { result ≡ Status.ReadFault → H.steady shelf.old ≡ true → (check : Check) × AreCheck (map string_bytes words.now) check
-        × WhereTold (H.held shelf.old) (λ held. question_said held check ≡ NotHeld) }
+        × WhereTold (H.held shelf.old) (λ held. question_said (sources_of held check) check ≡ NotHeld) }
     ensures write_fault { result ≡ Status.WriteFault → Rose (K.faults out.old) (K.faults out.new)
         × ((text : List ℕ) × IsOutput (map string_bytes words.now) (H.held shelf.old) (H.taken shelf.new) text × GrowsByPrefix (K.written out.old) (K.written out.new) text) }
     ensures memory { result ≡ Status.OutOfMemory → K.written out.new ≡ K.written out.old }
 
     // It does not give up by itself.
     ensures complete { (check : Check) (held : Holding) (posing : Posing) → AreCheck (map string_bytes words.now) check → H.held shelf.old ≡ Some held
-        → question_said held check ≡ Says posing → (H.steady shelf.old ≡ true) ⊎ (Rose (H.faults shelf.old) (H.faults shelf.new) → ⊥)
+        → Asks (sources_of held check) check posing → (H.steady shelf.old ≡ true) ⊎ (Rose (H.faults shelf.old) (H.faults shelf.new) → ⊥)
         → (Rose (K.faults out.old) (K.faults out.new) → ⊥) → (result ≡ Status.Fine) ⊎ (result ≡ Status.OutOfMemory) }
 {
     match read_words(words) {
@@ -77,11 +84,12 @@ fn run_check<R: Threads + Sync, H: Shelf, K: Sink, G: Gate + Sync>(
     ensures no_usage { result ≡ Status.Usage → ⊥ }
     ensures fine { result ≡ Status.Fine → (text : List ℕ) × IsReportOf (PosesIt (H.held shelf.old) (check_of check.now)) check.now.options.rounds text
         × GrowsBy (K.written out.old) (K.written out.new) text }
-    ensures short { result ≡ Status.Fine → H.taken shelf.new ≤ MOST_BYTES }
+    ensures short { result ≡ Status.Fine → H.taken shelf.new ≤ most_bytes }
+    ensures taken { H.taken shelf.new ≤ most_bytes + piece_size }
     ensures refused { result ≡ Status.ModelRefused → (text : List ℕ) × IsRefusalOf (RefusesIt (H.held shelf.old) (check_of check.now)) (H.taken shelf.new) text
         × GrowsBy (K.written out.old) (K.written out.new) text }
-    ensures read_fault { result ≡ Status.ReadFault → Rose (H.faults shelf.old) (H.faults shelf.new) × (K.written out.new ≡ K.written out.old) }
-    ensures steadily { result ≡ Status.ReadFault → H.steady shelf.old ≡ true → WhereTold (H.held shelf.old) (λ held. question_said held (check_of check.now) ≡ NotHeld) }
+    ensures read_fault { result ≡ Status.ReadFault → Rose (H.faults shelf.old) (H.faults shelf.new) × (K.written out.new ≡ K.written out.old) × MissesIt (H.held shelf.old) (check_of check.now) }
+    ensures steadily { result ≡ Status.ReadFault → H.steady shelf.old ≡ true → WhereTold (H.held shelf.old) (λ held. question_said (sources_of held (check_of check.now)) (check_of check.now) ≡ NotHeld) }
     ensures write_fault { result ≡ Status.WriteFault → Rose (K.faults out.old) (K.faults out.new)
         × ((text : List ℕ) × (IsReportOf (PosesIt (H.held shelf.old) (check_of check.now)) check.now.options.rounds text ⊎ IsRefusalOf (RefusesIt (H.held shelf.old) (check_of check.now)) (H.taken shelf.new) text)
         × GrowsByPrefix (K.written out.old) (K.written out.new) text) }
@@ -123,10 +131,10 @@ fn answer<R: Threads + Sync, K: Sink, G: Gate + Sync>(
     ensures only { (result ≡ Status.Usage) ⊎ (result ≡ Status.ReadFault) → ⊥ }
     ensures fine { result ≡ Status.Fine → (text : List ℕ) × IsReportOf (λ posing. posed (reading_of loaded.now) ≡ Says posing) asked.now.rounds text
         × GrowsBy (K.written out.old) (K.written out.new) text }
-    ensures refused { result ≡ Status.ModelRefused → (text : List ℕ) × ((taken : ℕ) → (MOST_BYTES < taken → ⊥) → IsRefusalOf (λ refusal. posed (reading_of loaded.now) ≡ Refuses refusal) taken text)
+    ensures refused { result ≡ Status.ModelRefused → (text : List ℕ) × ((taken : ℕ) → (most_bytes < taken → ⊥) → IsRefusalOf (λ refusal. posed (reading_of loaded.now) ≡ Refuses refusal) taken text)
         × GrowsBy (K.written out.old) (K.written out.new) text }
     ensures write_fault { result ≡ Status.WriteFault → Rose (K.faults out.old) (K.faults out.new)
-        × ((text : List ℕ) × (IsReportOf (λ posing. posed (reading_of loaded.now) ≡ Says posing) asked.now.rounds text ⊎ ((taken : ℕ) → (MOST_BYTES < taken → ⊥) → IsRefusalOf (λ refusal. posed (reading_of loaded.now) ≡ Refuses refusal) taken text))
+        × ((text : List ℕ) × (IsReportOf (λ posing. posed (reading_of loaded.now) ≡ Says posing) asked.now.rounds text ⊎ ((taken : ℕ) → (most_bytes < taken → ⊥) → IsRefusalOf (λ refusal. posed (reading_of loaded.now) ≡ Refuses refusal) taken text))
         × GrowsByPrefix (K.written out.old) (K.written out.new) text) }
     ensures memory { result ≡ Status.OutOfMemory → K.written out.new ≡ K.written out.old }
 {

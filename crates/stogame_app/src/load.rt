@@ -1,13 +1,18 @@
 //! The texts of a run, read and judged one after another.
 
-ghost use Rattle.std.specs.Prelude.{◌≡◌, ◌<◌, ◌≤◌, ◌⊎◌, IsErrOf, IsOk, OnOk, IfOk, Some, option_map, true, length};
+ghost use Rattle.std.specs.Prelude.{◌≡◌, ◌<◌, ◌≤◌, ◌+◌, ◌⊎◌, IsErrOf, IsOk, OnOk, IfOk, option_map, length};
+ghost use Rattle.text_lines.specs.Limits.{most_bytes};
 ghost use Rattle.tra_reader.specs.Text.{game_of};
+ghost use Rattle.game_outside.specs.Limits.{piece_size};
 ghost use Rattle.game_outside.specs.Outside.{Rose};
 ghost use Rattle.label_reader.specs.Texts.{labels_of, owners_of};
-ghost use Rattle.stogame_app.specs.Said.{WhereTold, Loads, IsTooLong, RefusesCaused, KeepsShelf, NotHeld, read_said};
+ghost use Rattle.stogame_app.specs.Said.{is_want_of_memory, read_said};
+ghost use Rattle.stogame_app.specs.Sources.{held_own};
+ghost use Rattle.stogame_app.specs.Loading.{Loads, LoadsText, IsTooLong, RefusesCaused, KeepsShelf};
 ghost use Rattle.stogame_app.specs.Texts.{text_said, game_said, labels_said, owners_said, single_owner};
 
 use crate::refusal::{Refusal, Text};
+use distributions::ChoiceFault;
 use game_model::Game;
 use game_outside::{ReadEnd, Shelf, read_all};
 use label_reader::{LabCause, Labels, Owners, read_labels, read_owners};
@@ -30,14 +35,14 @@ pub fn load_text<H: Shelf>(
     text: Text,
     name: &str,
 ) -> Result<Vec<u8>, End>
-    ensures says { WhereTold (H.held shelf.old) (λ held. Loads (λ v. v.items) result (text_said held text name.now)) }
-    ensures within { IfOk result (λ v. length v.items ≤ MOST_BYTES) }
+    ensures says { LoadsText (H.held shelf.old) (H.steady shelf.old) (λ held. held name.now) (λ v. v.items) result (text_said text) }
+    ensures within { IfOk result (λ v. length v.items ≤ most_bytes) }
     ensures read_fault { IsErrOf result End.ReadFault → Rose (H.faults shelf.old) (H.faults shelf.new) }
-    ensures steadily { IsErrOf result End.ReadFault → H.steady shelf.old ≡ true → WhereTold (H.held shelf.old) (λ held. text_said held text name.now ≡ NotHeld) }
     ensures caused { RefusesCaused result }
-    ensures too_long { IsTooLong result → MOST_BYTES < H.taken shelf.new }
-    ensures only_too_long { MOST_BYTES < H.taken shelf.new → IsTooLong result ⊎ IsErrOf result End.OutOfMemory }
-    ensures small { OnOk result (H.taken shelf.new ≤ MOST_BYTES) }
+    ensures too_long { IsTooLong result → most_bytes < H.taken shelf.new }
+    ensures only_too_long { most_bytes < H.taken shelf.new → IsTooLong result ⊎ IsErrOf result End.OutOfMemory }
+    ensures small { OnOk result (H.taken shelf.new ≤ most_bytes) }
+    ensures taken { H.taken shelf.new ≤ most_bytes + piece_size }
     ensures kept { KeepsShelf (H.held shelf.old) (H.held shelf.new) (H.steady shelf.old) (H.steady shelf.new) (H.faults shelf.old) (H.faults shelf.new) }
 {
     match read_all(alloc, shelf, name, MOST_BYTES as u64) {
@@ -50,13 +55,13 @@ pub fn load_text<H: Shelf>(
 
 /// The game of the transition file.
 pub fn load_game<H: Shelf>(alloc: Global, shelf: &mut H, name: &str) -> Result<Game, End>
-    ensures says { WhereTold (H.held shelf.old) (λ held. Loads (λ x. x) result (game_said held name.now)) }
+    ensures says { LoadsText (H.held shelf.old) (H.steady shelf.old) (λ held. held name.now) (λ x. x) result game_said }
     ensures read_fault { IsErrOf result End.ReadFault → Rose (H.faults shelf.old) (H.faults shelf.new) }
-    ensures steadily { IsErrOf result End.ReadFault → H.steady shelf.old ≡ true → WhereTold (H.held shelf.old) (λ held. game_said held name.now ≡ NotHeld) }
     ensures caused { RefusesCaused result }
-    ensures too_long { IsTooLong result → MOST_BYTES < H.taken shelf.new }
-    ensures only_too_long { MOST_BYTES < H.taken shelf.new → IsTooLong result ⊎ IsErrOf result End.OutOfMemory }
-    ensures small { OnOk result (H.taken shelf.new ≤ MOST_BYTES) }
+    ensures too_long { IsTooLong result → most_bytes < H.taken shelf.new }
+    ensures only_too_long { most_bytes < H.taken shelf.new → IsTooLong result ⊎ IsErrOf result End.OutOfMemory }
+    ensures small { OnOk result (H.taken shelf.new ≤ most_bytes) }
+    ensures taken { H.taken shelf.new ≤ most_bytes + piece_size }
     ensures kept { KeepsShelf (H.held shelf.old) (H.held shelf.new) (H.steady shelf.old) (H.steady shelf.new) (H.faults shelf.old) (H.faults shelf.new) }
 {
     let bytes = load_text(alloc, shelf, Text::Tra, name)?;
@@ -64,7 +69,7 @@ pub fn load_game<H: Shelf>(alloc: Global, shelf: &mut H, name: &str) -> Result<G
 }
 
 fn game_in(alloc: Global, bytes: &[u8]) -> Result<Game, End>
-    requires { length bytes.now ≤ MOST_BYTES }
+    requires { length bytes.now ≤ most_bytes }
     ensures says { Loads (λ x. x) result (read_said Refusal.OfTra (game_of bytes.now)) }
     ensures read { IsErrOf result End.ReadFault → ⊥ }
     ensures caused { RefusesCaused result }
@@ -72,10 +77,24 @@ fn game_in(alloc: Global, bytes: &[u8]) -> Result<Game, End>
 {
     match read_tra(alloc, bytes) {
         Ok(game) => Ok(game),
-        Err(fault) => match fault.cause {
-            TraCause::OutOfMemory => Err(End::OutOfMemory),
-            _ => Err(End::Refused(Refusal::OfTra(fault))),
-        },
+        Err(fault) => {
+            if is_want_of_memory(&fault.cause) {
+                Err(End::OutOfMemory)
+            } else {
+                Err(End::Refused(Refusal::OfTra(fault)))
+            }
+        }
+    }
+}
+
+// Whether memory was wanting, for the whole or for a choice.
+fn is_want_of_memory(cause: &TraCause) -> bool
+    ensures { result ≡ is_want_of_memory cause.now }
+{
+    match cause {
+        TraCause::OutOfMemory => true,
+        TraCause::Choice { fault, .. } => matches!(fault, ChoiceFault::OutOfMemory),
+        _ => false,
     }
 }
 
@@ -86,13 +105,13 @@ pub fn load_labels<H: Shelf>(
     name: &str,
     states: u32,
 ) -> Result<Labels, End>
-    ensures says { WhereTold (H.held shelf.old) (λ held. Loads (λ x. x) result (labels_said held name.now states)) }
+    ensures says { LoadsText (H.held shelf.old) (H.steady shelf.old) (λ held. held name.now) (λ x. x) result (λ source. labels_said source states) }
     ensures read_fault { IsErrOf result End.ReadFault → Rose (H.faults shelf.old) (H.faults shelf.new) }
-    ensures steadily { IsErrOf result End.ReadFault → H.steady shelf.old ≡ true → WhereTold (H.held shelf.old) (λ held. labels_said held name.now states ≡ NotHeld) }
     ensures caused { RefusesCaused result }
-    ensures too_long { IsTooLong result → MOST_BYTES < H.taken shelf.new }
-    ensures only_too_long { MOST_BYTES < H.taken shelf.new → IsTooLong result ⊎ IsErrOf result End.OutOfMemory }
-    ensures small { OnOk result (H.taken shelf.new ≤ MOST_BYTES) }
+    ensures too_long { IsTooLong result → most_bytes < H.taken shelf.new }
+    ensures only_too_long { most_bytes < H.taken shelf.new → IsTooLong result ⊎ IsErrOf result End.OutOfMemory }
+    ensures small { OnOk result (H.taken shelf.new ≤ most_bytes) }
+    ensures taken { H.taken shelf.new ≤ most_bytes + piece_size }
     ensures sizes { IfOk result (λ labels. labels.states ≡ states) }
     ensures kept { KeepsShelf (H.held shelf.old) (H.held shelf.new) (H.steady shelf.old) (H.steady shelf.new) (H.faults shelf.old) (H.faults shelf.new) }
 {
@@ -101,7 +120,7 @@ pub fn load_labels<H: Shelf>(
 }
 
 fn labels_in(alloc: Global, bytes: &[u8], states: u32) -> Result<Labels, End>
-    requires { length bytes.now ≤ MOST_BYTES }
+    requires { length bytes.now ≤ most_bytes }
     ensures says { Loads (λ x. x) result (read_said Refusal.OfLab (labels_of bytes.now states)) }
     ensures sizes { IfOk result (λ labels. labels.states ≡ states) }
     ensures read { IsErrOf result End.ReadFault → ⊥ }
@@ -124,13 +143,13 @@ pub fn load_owner_file<H: Shelf>(
     name: &str,
     states: u32,
 ) -> Result<Owners, End>
-    ensures says { WhereTold (H.held shelf.old) (λ held. Loads (λ x. x) result (owners_said held (Some name.now) states)) }
+    ensures says { LoadsText (H.held shelf.old) (H.steady shelf.old) (λ held. held name.now) (λ x. x) result (λ source. owners_said (Some name.now) source states) }
     ensures read_fault { IsErrOf result End.ReadFault → Rose (H.faults shelf.old) (H.faults shelf.new) }
-    ensures steadily { IsErrOf result End.ReadFault → H.steady shelf.old ≡ true → WhereTold (H.held shelf.old) (λ held. owners_said held (Some name.now) states ≡ NotHeld) }
     ensures caused { RefusesCaused result }
-    ensures too_long { IsTooLong result → MOST_BYTES < H.taken shelf.new }
-    ensures only_too_long { MOST_BYTES < H.taken shelf.new → IsTooLong result ⊎ IsErrOf result End.OutOfMemory }
-    ensures small { OnOk result (H.taken shelf.new ≤ MOST_BYTES) }
+    ensures too_long { IsTooLong result → most_bytes < H.taken shelf.new }
+    ensures only_too_long { most_bytes < H.taken shelf.new → IsTooLong result ⊎ IsErrOf result End.OutOfMemory }
+    ensures small { OnOk result (H.taken shelf.new ≤ most_bytes) }
+    ensures taken { H.taken shelf.new ≤ most_bytes + piece_size }
     ensures sizes { IfOk result (λ owners. length owners.owners ≡ states) }
     ensures kept { KeepsShelf (H.held shelf.old) (H.held shelf.new) (H.steady shelf.old) (H.steady shelf.new) (H.faults shelf.old) (H.faults shelf.new) }
 {
@@ -139,7 +158,7 @@ pub fn load_owner_file<H: Shelf>(
 }
 
 fn owners_in(alloc: Global, bytes: &[u8], states: u32) -> Result<Owners, End>
-    requires { length bytes.now ≤ MOST_BYTES }
+    requires { length bytes.now ≤ most_bytes }
     ensures says { Loads (λ x. x) result (read_said Refusal.OfOwn (owners_of bytes.now states)) }
     ensures sizes { IfOk result (λ owners. length owners.owners ≡ states) }
     ensures read { IsErrOf result End.ReadFault → ⊥ }
@@ -174,14 +193,14 @@ pub fn load_owners<H: Shelf>(
     own: Option<&str>,
     states: u32,
 ) -> Result<Owners, End>
-    requires { H.taken shelf.old ≤ MOST_BYTES }
-    ensures says { WhereTold (H.held shelf.old) (λ held. Loads (λ x. x) result (owners_said held (option_map (λ file. file.now) own.entry) states)) }
+    requires { H.taken shelf.old ≤ most_bytes }
+    ensures says { LoadsText (H.held shelf.old) (H.steady shelf.old) (held_own (option_map (λ file. file.now) own.entry)) (λ x. x) result (λ source. owners_said (option_map (λ file. file.now) own.entry) source states) }
     ensures read_fault { IsErrOf result End.ReadFault → Rose (H.faults shelf.old) (H.faults shelf.new) }
-    ensures steadily { IsErrOf result End.ReadFault → H.steady shelf.old ≡ true → WhereTold (H.held shelf.old) (λ held. owners_said held (option_map (λ file. file.now) own.entry) states ≡ NotHeld) }
     ensures caused { RefusesCaused result }
-    ensures too_long { IsTooLong result → MOST_BYTES < H.taken shelf.new }
-    ensures only_too_long { MOST_BYTES < H.taken shelf.new → IsTooLong result ⊎ IsErrOf result End.OutOfMemory }
-    ensures small { OnOk result (H.taken shelf.new ≤ MOST_BYTES) }
+    ensures too_long { IsTooLong result → most_bytes < H.taken shelf.new }
+    ensures only_too_long { most_bytes < H.taken shelf.new → IsTooLong result ⊎ IsErrOf result End.OutOfMemory }
+    ensures small { OnOk result (H.taken shelf.new ≤ most_bytes) }
+    ensures taken { H.taken shelf.new ≤ most_bytes + piece_size }
     ensures sizes { IfOk result (λ owners. length owners.owners ≡ states) }
     ensures kept { KeepsShelf (H.held shelf.old) (H.held shelf.new) (H.steady shelf.old) (H.steady shelf.new) (H.faults shelf.old) (H.faults shelf.new) }
 {

@@ -1,10 +1,12 @@
 //! What a command names, loaded: a game, its labels, its owners and a formula.
 
-ghost use Rattle.std.specs.Prelude.{◌≡◌, ◌<◌, ◌≤◌, ◌⊎◌, IsErrOf, IfOk, OnOk, true, length};
+ghost use Rattle.std.specs.Prelude.{◌≡◌, ◌<◌, ◌≤◌, ◌+◌, ◌⊎◌, IsErrOf, IfOk, OnOk, length};
+ghost use Rattle.text_lines.specs.Limits.{most_bytes};
+ghost use Rattle.game_outside.specs.Limits.{piece_size};
 ghost use Rattle.game_outside.specs.Outside.{Rose};
 ghost use Rattle.rpatl_syntax.specs.Formula.{tree_of};
 ghost use Rattle.stogame_app.specs.Words.{check_of};
-ghost use Rattle.stogame_app.specs.Said.{WhereTold, Loads, IsTooLong, RefusesCaused, KeepsShelf, NotHeld};
+ghost use Rattle.stogame_app.specs.Loading.{Loads, LoadsCheck, IsTooLong, RefusesCaused};
 ghost use Rattle.stogame_app.specs.Posed.{formula_read, reading_of, behind_owners, behind_labels, behind_game, reading_said, asks_for_value, HasSizes};
 
 use crate::load::{End, load_game, load_labels, load_owners};
@@ -15,7 +17,6 @@ use game_outside::Shelf;
 use label_reader::{Labels, Owners};
 use rpatl_syntax::{Bound, Formula, FormulaCause, FormulaFault, read_formula};
 use std::alloc::Global;
-use text_lines::MOST_BYTES;
 
 /// A game, its labels, its owners, and a formula that asks for a value.
 #[derive(Drop)]
@@ -61,13 +62,13 @@ pub fn load_model<H: Shelf>(
     shelf: &mut H,
     check: &CheckWords<'_>,
 ) -> Result<Loaded, End>
-    ensures says { WhereTold (H.held shelf.old) (λ held. Loads reading_of result (reading_said held (check_of check.now))) }
+    ensures says { LoadsCheck (H.held shelf.old) (H.steady shelf.old) (check_of check.now) reading_of result (λ sources. reading_said sources (check_of check.now)) }
     ensures read_fault { IsErrOf result End.ReadFault → Rose (H.faults shelf.old) (H.faults shelf.new) }
-    ensures steadily { IsErrOf result End.ReadFault → H.steady shelf.old ≡ true → WhereTold (H.held shelf.old) (λ held. reading_said held (check_of check.now) ≡ NotHeld) }
     ensures caused { RefusesCaused result }
-    ensures too_long { IsTooLong result → MOST_BYTES < H.taken shelf.new }
-    ensures only_too_long { MOST_BYTES < H.taken shelf.new → IsTooLong result ⊎ IsErrOf result End.OutOfMemory }
-    ensures small { OnOk result (H.taken shelf.new ≤ MOST_BYTES) }
+    ensures too_long { IsTooLong result → most_bytes < H.taken shelf.new }
+    ensures only_too_long { most_bytes < H.taken shelf.new → IsTooLong result ⊎ IsErrOf result End.OutOfMemory }
+    ensures small { OnOk result (H.taken shelf.new ≤ most_bytes) }
+    ensures taken { H.taken shelf.new ≤ most_bytes + piece_size }
     ensures sizes { IfOk result (λ loaded. HasSizes loaded.game loaded.labels loaded.owners) }
 {
     let game = load_game(alloc, shelf, check.tra)?;
@@ -80,13 +81,13 @@ fn load_behind_game<H: Shelf>(
     check: &CheckWords<'_>,
     game: Game,
 ) -> Result<Loaded, End>
-    ensures says { WhereTold (H.held shelf.old) (λ held. Loads reading_of result (behind_game held (check_of check.now) game)) }
+    ensures says { LoadsCheck (H.held shelf.old) (H.steady shelf.old) (check_of check.now) reading_of result (λ sources. behind_game sources (check_of check.now) game) }
     ensures read_fault { IsErrOf result End.ReadFault → Rose (H.faults shelf.old) (H.faults shelf.new) }
-    ensures steadily { IsErrOf result End.ReadFault → H.steady shelf.old ≡ true → WhereTold (H.held shelf.old) (λ held. behind_game held (check_of check.now) game ≡ NotHeld) }
     ensures caused { RefusesCaused result }
-    ensures too_long { IsTooLong result → MOST_BYTES < H.taken shelf.new }
-    ensures only_too_long { MOST_BYTES < H.taken shelf.new → IsTooLong result ⊎ IsErrOf result End.OutOfMemory }
-    ensures small { OnOk result (H.taken shelf.new ≤ MOST_BYTES) }
+    ensures too_long { IsTooLong result → most_bytes < H.taken shelf.new }
+    ensures only_too_long { most_bytes < H.taken shelf.new → IsTooLong result ⊎ IsErrOf result End.OutOfMemory }
+    ensures small { OnOk result (H.taken shelf.new ≤ most_bytes) }
+    ensures taken { H.taken shelf.new ≤ most_bytes + piece_size }
     ensures sizes { IfOk result (λ loaded. HasSizes loaded.game loaded.labels loaded.owners) }
 {
     let labels = load_labels(alloc, shelf, check.lab, game.states())?;
@@ -101,14 +102,14 @@ fn load_behind_labels<H: Shelf>(
     labels: Labels,
 ) -> Result<Loaded, End>
     requires labels { labels.states ≡ length game }
-    requires small { H.taken shelf.old ≤ MOST_BYTES }
-    ensures says { WhereTold (H.held shelf.old) (λ held. Loads reading_of result (behind_labels held (check_of check.now) game labels)) }
+    requires small { H.taken shelf.old ≤ most_bytes }
+    ensures says { LoadsCheck (H.held shelf.old) (H.steady shelf.old) (check_of check.now) reading_of result (λ sources. behind_labels sources (check_of check.now) game labels) }
     ensures read_fault { IsErrOf result End.ReadFault → Rose (H.faults shelf.old) (H.faults shelf.new) }
-    ensures steadily { IsErrOf result End.ReadFault → H.steady shelf.old ≡ true → WhereTold (H.held shelf.old) (λ held. behind_labels held (check_of check.now) game labels ≡ NotHeld) }
     ensures caused { RefusesCaused result }
-    ensures too_long { IsTooLong result → MOST_BYTES < H.taken shelf.new }
-    ensures only_too_long { MOST_BYTES < H.taken shelf.new → IsTooLong result ⊎ IsErrOf result End.OutOfMemory }
-    ensures small { OnOk result (H.taken shelf.new ≤ MOST_BYTES) }
+    ensures too_long { IsTooLong result → most_bytes < H.taken shelf.new }
+    ensures only_too_long { most_bytes < H.taken shelf.new → IsTooLong result ⊎ IsErrOf result End.OutOfMemory }
+    ensures small { OnOk result (H.taken shelf.new ≤ most_bytes) }
+    ensures taken { H.taken shelf.new ≤ most_bytes + piece_size }
     ensures sizes { IfOk result (λ loaded. HasSizes loaded.game loaded.labels loaded.owners) }
 {
     let owners = load_owners(alloc, shelf, check.options.own, game.states())?;

@@ -1,0 +1,51 @@
+-- What loading answers, of the texts that it reads.
+use Rattle.std.specs.Prelude.{◌≡◌, ◌≤◌, ℕ, Bool, true, List, Option, Result, Ok, Err, IsErrOf}
+use Rattle.game_outside.specs.Outside.{Holding}
+use Rattle.stogame_app.specs.declared.load.End.{End}
+use Rattle.stogame_app.specs.declared.load.End.TheVariants.{OutOfMemory, ReadFault, Refused}
+use Rattle.stogame_app.specs.declared.refusal.Text.{Text}
+use Rattle.stogame_app.specs.declared.refusal.Refusal.TheVariants.{TooLong}
+use Rattle.stogame_app.specs.Words.{Check}
+use Rattle.stogame_app.specs.Said.{Said, NotHeld, Refuses, Says, IsCaused}
+use Rattle.stogame_app.specs.Sources.{Sources, WhereTold, AreSources, AreSourcesOrUnread, IsHeldOrUnread}
+
+-- the answer is what is said, or memory was wanting
+abbrev pub Loads : {X Y : Type 0} → (X → Y) → Result X End → Said Y → Type 0
+Loads view (Ok x) said = said ≡ Says (view x)
+Loads view (Err OutOfMemory) said = Unit {0}
+Loads view (Err ReadFault) said = said ≡ NotHeld
+Loads view (Err (Refused refusal)) said = said ≡ Refuses refusal
+
+-- The answer is what is said of some sources. They are as told, unless one can't be read, which counts as not held; on a steady shelf they always are.
+pub record LoadsFrom {S X Y : Type 0} (AreTold AreToldOrUnread : S → Type 0) (steady : Bool) (view : X → Y) (result : Result X End) (said : S → Said Y) : Type 0 where
+  pub sources : S
+  pub told : (IsErrOf result ReadFault → ⊥) → AreTold sources
+  pub told_or_unread : AreToldOrUnread sources
+  pub steadily : steady ≡ true → AreTold sources
+  pub loads : Loads view result (said sources)
+
+-- the same for one text, which is held where this says
+abbrev pub LoadsText : {X Y : Type 0} → Option Holding → Bool → (Holding → Option (List ℕ)) → (X → Y) → Result X End → (Option (List ℕ) → Said Y) → Type 0
+LoadsText holding steady place view result said =
+    LoadsFrom (λ source. WhereTold holding (λ held. source ≡ place held)) (λ source. WhereTold holding (λ held. IsHeldOrUnread (place held) source)) steady view result said
+
+-- the same for the texts of a command
+abbrev pub LoadsCheck : {X Y : Type 0} → Option Holding → Bool → Check → (X → Y) → Result X End → (Sources → Said Y) → Type 0
+LoadsCheck holding steady check view result said = LoadsFrom (AreSources holding check) (AreSourcesOrUnread holding check) steady view result said
+
+-- loading refuses nothing for want of memory
+abbrev pub RefusesCaused : {X : Type 0} → Result X End → Type 0
+RefusesCaused (Ok x) = Unit {0}
+RefusesCaused (Err OutOfMemory) = Unit {0}
+RefusesCaused (Err ReadFault) = Unit {0}
+RefusesCaused (Err (Refused refusal)) = IsCaused refusal
+
+-- a text was too long
+abbrev pub IsTooLong : {X : Type 0} → Result X End → Type 0
+IsTooLong {X} result = (text : Text) × (result ≡ Err (Refused (TooLong text)))
+
+-- a shelf keeps what it holds, and its count does not fall
+pub record KeepsShelf (held_before held_now : Option Holding) (steady_before steady_now : Bool) (faults_before faults_now : ℕ) : Type 0 where
+  pub held : held_now ≡ held_before
+  pub steady : steady_now ≡ steady_before
+  pub later : faults_before ≤ faults_now
