@@ -149,7 +149,7 @@ pub Leads-within : (q : Query) (w later : Configuration) (events : List Event) (
 Leads-within q w later [] r is k same below = within_none q later.words r (subst (λ (v : Configuration). IsBelow q (value_at v.words) (down_steps q r)) same below)
 Leads-within q w later (event ∷ events) r is k leads below =
     let next : IsBelow q (value_at (after w event).words) (down_steps q (r + wins event)) =
-        subst (λ p. IsBelow p (value_at (after w event).words) (down_steps p (r + wins event))) is (after-within w event r k leads.0 (subst (λ p. IsBelow p (value_at w.words) (down_steps p r)) (sym is) below)) in
+    subst (λ p. IsBelow p (value_at (after w event).words) (down_steps p (r + wins event))) is (after-within w event r k leads.0 (subst (λ p. IsBelow p (value_at w.words) (down_steps p r)) (sym is) below)) in
     let sum : r + wins event + sum_by wins events ≡ r + sum_by wins (event ∷ events) = omega (arith, sum_by-cons wins event events) in
     subst (λ n. IsBelow q (value_at later.words) (down_steps q n)) sum
     (Leads-within q (after w event) later events (r + wins event) (after-question w event ∙ is) (after-keeps w event k leads.0) leads.1 next)
