@@ -23,7 +23,7 @@ pub returns : goal.returns
 returns c =
     let game = c.args.question.now.game in
     let count : c.choices_below-choices.result ≡ choices_below game (states c.args.question.now) =
-    c.choices_below-choices.ensures ∙ ap (λ g. choices_below g c.states-states.result) c.game-2.ensures ∙ ap (choices_below game) (c.states-states.ensures ∙ ap length c.game.ensures) in
+    c.choices_below-choices.ensures.value ∙ ap (λ g. choices_below g c.states-states.result) c.game-2.ensures ∙ ap (choices_below game) (c.states-states.ensures ∙ ap length c.game.ensures) in
     let all : c.loop-state.state ≡ states c.args.question.now = omega (arith, c.states-states.ensures, ap length c.game.ensures) in
     let none : c.in_ok-met.met.items ≡ replicate c.choices_below-choices.result false = search rules in
     IsGrowth-goals c.args.question.now c.loop-state.waiting.items c.in_ok-met.met.items c.loop-state.order.items c.choices_below-choices.result c.known.ensures (c.loop-state.invariant.many ∙ all) (λ s l. c.loop-state.invariant.each s (omega arith)) c.loop-state.invariant.ordered none count
