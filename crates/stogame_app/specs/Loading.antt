@@ -1,5 +1,7 @@
 -- What loading answers, of the texts that it reads.
-use Rattle.std.specs.Prelude.{◌≡◌, ◌≤◌, ℕ, Bool, true, List, Option, Result, Ok, Err, IsErrOf}
+use Rattle.std.specs.Prelude.{◌≡◌, ◌<◌, ◌≤◌, ◌+◌, ◌⊎◌, ℕ, Bool, true, List, Option, Result, Ok, Err, IsErrOf}
+use Rattle.text_lines.specs.Limits.{most_bytes}
+use Rattle.game_outside.specs.Limits.{piece_size}
 use Rattle.game_outside.specs.Outside.{Holding}
 use Rattle.stogame_app.specs.declared.load.End.{End}
 use Rattle.stogame_app.specs.declared.load.End.TheVariants.{OutOfMemory, ReadFault, Refused}
@@ -43,6 +45,12 @@ RefusesCaused (Err (Refused refusal)) = IsCaused refusal
 -- a text was too long
 abbrev pub IsTooLong : {X : Type 0} → Result X End → Type 0
 IsTooLong {X} result = (text : Text) × (result ≡ Err (Refused (TooLong text)))
+
+-- how much is taken of the last text that loading reads: it is too long exactly where that is more than the limit
+pub record Takes {X : Type 0} (result : Result X End) (taken : ℕ) : Type 0 where
+  pub most : taken ≤ most_bytes + piece_size
+  pub too_long : IsTooLong result → most_bytes < taken
+  pub only_too_long : most_bytes < taken → IsTooLong result ⊎ IsErrOf result OutOfMemory
 
 -- a shelf keeps what it holds, and its count does not fall
 pub record KeepsShelf (held_before held_now : Option Holding) (steady_before steady_now : Bool) (faults_before faults_now : ℕ) : Type 0 where

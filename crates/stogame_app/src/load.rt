@@ -1,14 +1,13 @@
 //! The texts of a run, read and judged one after another.
 
-ghost use Rattle.std.specs.Prelude.{◌≡◌, ◌<◌, ◌≤◌, ◌+◌, ◌⊎◌, IsErrOf, IsOk, OnOk, IfOk, option_map, length};
+ghost use Rattle.std.specs.Prelude.{◌≡◌, ◌≤◌, ◌⊎◌, IsErrOf, IsOk, OnOk, IfOk, option_map, length};
 ghost use Rattle.text_lines.specs.Limits.{most_bytes};
 ghost use Rattle.tra_reader.specs.Text.{game_of};
-ghost use Rattle.game_outside.specs.Limits.{piece_size};
 ghost use Rattle.game_outside.specs.Outside.{Rose};
 ghost use Rattle.label_reader.specs.Texts.{labels_of, owners_of};
 ghost use Rattle.stogame_app.specs.Said.{is_want_of_memory, read_said};
 ghost use Rattle.stogame_app.specs.Sources.{held_own};
-ghost use Rattle.stogame_app.specs.Loading.{Loads, LoadsText, IsTooLong, RefusesCaused, KeepsShelf};
+ghost use Rattle.stogame_app.specs.Loading.{Loads, LoadsText, IsTooLong, RefusesCaused, Takes, KeepsShelf};
 ghost use Rattle.stogame_app.specs.Texts.{text_said, game_said, labels_said, owners_said, single_owner};
 
 use crate::refusal::{Refusal, Text};
@@ -39,10 +38,8 @@ pub fn load_text<H: Shelf>(
     ensures within { IfOk result (λ v. length v.items ≤ most_bytes) }
     ensures read_fault { IsErrOf result End.ReadFault → Rose (H.faults shelf.old) (H.faults shelf.new) }
     ensures caused { RefusesCaused result }
-    ensures too_long { IsTooLong result → most_bytes < H.taken shelf.new }
-    ensures only_too_long { most_bytes < H.taken shelf.new → IsTooLong result ⊎ IsErrOf result End.OutOfMemory }
+    ensures takes { Takes result (H.taken shelf.new) }
     ensures small { OnOk result (H.taken shelf.new ≤ most_bytes) }
-    ensures taken { H.taken shelf.new ≤ most_bytes + piece_size }
     ensures kept { KeepsShelf (H.held shelf.old) (H.held shelf.new) (H.steady shelf.old) (H.steady shelf.new) (H.faults shelf.old) (H.faults shelf.new) }
 {
     match read_all(alloc, shelf, name, MOST_BYTES as u64) {
@@ -58,10 +55,8 @@ pub fn load_game<H: Shelf>(alloc: Global, shelf: &mut H, name: &str) -> Result<G
     ensures says { LoadsText (H.held shelf.old) (H.steady shelf.old) (λ held. held name.now) (λ x. x) result game_said }
     ensures read_fault { IsErrOf result End.ReadFault → Rose (H.faults shelf.old) (H.faults shelf.new) }
     ensures caused { RefusesCaused result }
-    ensures too_long { IsTooLong result → most_bytes < H.taken shelf.new }
-    ensures only_too_long { most_bytes < H.taken shelf.new → IsTooLong result ⊎ IsErrOf result End.OutOfMemory }
+    ensures takes { Takes result (H.taken shelf.new) }
     ensures small { OnOk result (H.taken shelf.new ≤ most_bytes) }
-    ensures taken { H.taken shelf.new ≤ most_bytes + piece_size }
     ensures kept { KeepsShelf (H.held shelf.old) (H.held shelf.new) (H.steady shelf.old) (H.steady shelf.new) (H.faults shelf.old) (H.faults shelf.new) }
 {
     let bytes = load_text(alloc, shelf, Text::Tra, name)?;
@@ -108,10 +103,8 @@ pub fn load_labels<H: Shelf>(
     ensures says { LoadsText (H.held shelf.old) (H.steady shelf.old) (λ held. held name.now) (λ x. x) result (λ source. labels_said source states) }
     ensures read_fault { IsErrOf result End.ReadFault → Rose (H.faults shelf.old) (H.faults shelf.new) }
     ensures caused { RefusesCaused result }
-    ensures too_long { IsTooLong result → most_bytes < H.taken shelf.new }
-    ensures only_too_long { most_bytes < H.taken shelf.new → IsTooLong result ⊎ IsErrOf result End.OutOfMemory }
+    ensures takes { Takes result (H.taken shelf.new) }
     ensures small { OnOk result (H.taken shelf.new ≤ most_bytes) }
-    ensures taken { H.taken shelf.new ≤ most_bytes + piece_size }
     ensures sizes { IfOk result (λ labels. labels.states ≡ states) }
     ensures kept { KeepsShelf (H.held shelf.old) (H.held shelf.new) (H.steady shelf.old) (H.steady shelf.new) (H.faults shelf.old) (H.faults shelf.new) }
 {
@@ -146,10 +139,8 @@ pub fn load_owner_file<H: Shelf>(
     ensures says { LoadsText (H.held shelf.old) (H.steady shelf.old) (λ held. held name.now) (λ x. x) result (λ source. owners_said (Some name.now) source states) }
     ensures read_fault { IsErrOf result End.ReadFault → Rose (H.faults shelf.old) (H.faults shelf.new) }
     ensures caused { RefusesCaused result }
-    ensures too_long { IsTooLong result → most_bytes < H.taken shelf.new }
-    ensures only_too_long { most_bytes < H.taken shelf.new → IsTooLong result ⊎ IsErrOf result End.OutOfMemory }
+    ensures takes { Takes result (H.taken shelf.new) }
     ensures small { OnOk result (H.taken shelf.new ≤ most_bytes) }
-    ensures taken { H.taken shelf.new ≤ most_bytes + piece_size }
     ensures sizes { IfOk result (λ owners. length owners.owners ≡ states) }
     ensures kept { KeepsShelf (H.held shelf.old) (H.held shelf.new) (H.steady shelf.old) (H.steady shelf.new) (H.faults shelf.old) (H.faults shelf.new) }
 {
@@ -197,10 +188,8 @@ pub fn load_owners<H: Shelf>(
     ensures says { LoadsText (H.held shelf.old) (H.steady shelf.old) (held_own (option_map (λ file. file.now) own.entry)) (λ x. x) result (λ source. owners_said (option_map (λ file. file.now) own.entry) source states) }
     ensures read_fault { IsErrOf result End.ReadFault → Rose (H.faults shelf.old) (H.faults shelf.new) }
     ensures caused { RefusesCaused result }
-    ensures too_long { IsTooLong result → most_bytes < H.taken shelf.new }
-    ensures only_too_long { most_bytes < H.taken shelf.new → IsTooLong result ⊎ IsErrOf result End.OutOfMemory }
+    ensures takes { Takes result (H.taken shelf.new) }
     ensures small { OnOk result (H.taken shelf.new ≤ most_bytes) }
-    ensures taken { H.taken shelf.new ≤ most_bytes + piece_size }
     ensures sizes { IfOk result (λ owners. length owners.owners ≡ states) }
     ensures kept { KeepsShelf (H.held shelf.old) (H.held shelf.new) (H.steady shelf.old) (H.steady shelf.new) (H.faults shelf.old) (H.faults shelf.new) }
 {

@@ -1,12 +1,11 @@
 //! What a command names, loaded: a game, its labels, its owners and a formula.
 
-ghost use Rattle.std.specs.Prelude.{◌≡◌, ◌<◌, ◌≤◌, ◌+◌, ◌⊎◌, IsErrOf, IfOk, OnOk, length};
+ghost use Rattle.std.specs.Prelude.{◌≡◌, ◌≤◌, IsErrOf, IfOk, OnOk, length};
 ghost use Rattle.text_lines.specs.Limits.{most_bytes};
-ghost use Rattle.game_outside.specs.Limits.{piece_size};
 ghost use Rattle.game_outside.specs.Outside.{Rose};
 ghost use Rattle.rpatl_syntax.specs.Formula.{tree_of};
 ghost use Rattle.stogame_app.specs.Words.{check_of};
-ghost use Rattle.stogame_app.specs.Loading.{Loads, LoadsCheck, IsTooLong, RefusesCaused};
+ghost use Rattle.stogame_app.specs.Loading.{Loads, LoadsCheck, IsTooLong, RefusesCaused, Takes};
 ghost use Rattle.stogame_app.specs.Posed.{formula_read, reading_of, behind_owners, behind_labels, behind_game, reading_said, asks_for_value, HasSizes};
 
 use crate::load::{End, load_game, load_labels, load_owners};
@@ -65,10 +64,8 @@ pub fn load_model<H: Shelf>(
     ensures says { LoadsCheck (H.held shelf.old) (H.steady shelf.old) (check_of check.now) reading_of result (λ sources. reading_said sources (check_of check.now)) }
     ensures read_fault { IsErrOf result End.ReadFault → Rose (H.faults shelf.old) (H.faults shelf.new) }
     ensures caused { RefusesCaused result }
-    ensures too_long { IsTooLong result → most_bytes < H.taken shelf.new }
-    ensures only_too_long { most_bytes < H.taken shelf.new → IsTooLong result ⊎ IsErrOf result End.OutOfMemory }
+    ensures takes { Takes result (H.taken shelf.new) }
     ensures small { OnOk result (H.taken shelf.new ≤ most_bytes) }
-    ensures taken { H.taken shelf.new ≤ most_bytes + piece_size }
     ensures sizes { IfOk result (λ loaded. HasSizes loaded.game loaded.labels loaded.owners) }
 {
     let game = load_game(alloc, shelf, check.tra)?;
@@ -84,10 +81,8 @@ fn load_behind_game<H: Shelf>(
     ensures says { LoadsCheck (H.held shelf.old) (H.steady shelf.old) (check_of check.now) reading_of result (λ sources. behind_game sources (check_of check.now) game) }
     ensures read_fault { IsErrOf result End.ReadFault → Rose (H.faults shelf.old) (H.faults shelf.new) }
     ensures caused { RefusesCaused result }
-    ensures too_long { IsTooLong result → most_bytes < H.taken shelf.new }
-    ensures only_too_long { most_bytes < H.taken shelf.new → IsTooLong result ⊎ IsErrOf result End.OutOfMemory }
+    ensures takes { Takes result (H.taken shelf.new) }
     ensures small { OnOk result (H.taken shelf.new ≤ most_bytes) }
-    ensures taken { H.taken shelf.new ≤ most_bytes + piece_size }
     ensures sizes { IfOk result (λ loaded. HasSizes loaded.game loaded.labels loaded.owners) }
 {
     let labels = load_labels(alloc, shelf, check.lab, game.states())?;
@@ -106,10 +101,8 @@ fn load_behind_labels<H: Shelf>(
     ensures says { LoadsCheck (H.held shelf.old) (H.steady shelf.old) (check_of check.now) reading_of result (λ sources. behind_labels sources (check_of check.now) game labels) }
     ensures read_fault { IsErrOf result End.ReadFault → Rose (H.faults shelf.old) (H.faults shelf.new) }
     ensures caused { RefusesCaused result }
-    ensures too_long { IsTooLong result → most_bytes < H.taken shelf.new }
-    ensures only_too_long { most_bytes < H.taken shelf.new → IsTooLong result ⊎ IsErrOf result End.OutOfMemory }
+    ensures takes { Takes result (H.taken shelf.new) }
     ensures small { OnOk result (H.taken shelf.new ≤ most_bytes) }
-    ensures taken { H.taken shelf.new ≤ most_bytes + piece_size }
     ensures sizes { IfOk result (λ loaded. HasSizes loaded.game loaded.labels loaded.owners) }
 {
     let owners = load_owners(alloc, shelf, check.options.own, game.states())?;

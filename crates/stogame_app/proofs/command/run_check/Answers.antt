@@ -15,7 +15,7 @@ returns-in-Ok-clause-refused g c = λ is.
     let r = c.answer.ensures.refused is in (
       r.0,
       refusal_posed (g.H.Shelf.held c.args.shelf.now) (g.H.Shelf.steady c.args.shelf.now) (check_of c.args.check.now) c.load_model.result c.in-Ok.loaded (g.H.Shelf.taken c.load_model.new.shelf) r.0 c.in-Ok.is
-          c.load_model.ensures.says c.load_model.ensures.only_too_long r.1,
+          c.load_model.ensures.says c.load_model.ensures.takes.only_too_long r.1,
       r.2,
     )
 
@@ -28,7 +28,7 @@ returns-in-Ok-clause-write_fault g c = λ is.
         elim r.1.1 [
           | inl report ↦ inl (report_loaded (g.H.Shelf.held c.args.shelf.now) (g.H.Shelf.steady c.args.shelf.now) (check_of c.args.check.now) c.load_model.result c.in-Ok.loaded c.args.check.now.options.rounds r.1.0 c.in-Ok.is c.load_model.ensures.says report)
           | inr refusal ↦ inr (refusal_posed (g.H.Shelf.held c.args.shelf.now) (g.H.Shelf.steady c.args.shelf.now) (check_of c.args.check.now) c.load_model.result c.in-Ok.loaded (g.H.Shelf.taken c.load_model.new.shelf) r.1.0
-              c.in-Ok.is c.load_model.ensures.says c.load_model.ensures.only_too_long refusal)
+              c.in-Ok.is c.load_model.ensures.says c.load_model.ensures.takes.only_too_long refusal)
         ],
         r.1.2,
       ),
@@ -39,7 +39,7 @@ returns-in-Err-clause-refused g c = λ is.
     let r = c.end_run.ensures.refused is in (
       refusal_text r.0,
       refusal_loaded (g.H.Shelf.held c.args.shelf.now) (g.H.Shelf.steady c.args.shelf.now) (check_of c.args.check.now) c.load_model.result c.in-Err.end r.0 (g.H.Shelf.taken c.load_model.new.shelf) c.in-Err.is r.1
-          c.load_model.ensures.says c.load_model.ensures.caused c.load_model.ensures.too_long c.load_model.ensures.only_too_long,
+          c.load_model.ensures.says c.load_model.ensures.caused c.load_model.ensures.takes.too_long c.load_model.ensures.takes.only_too_long,
       r.2,
     )
 
@@ -50,7 +50,7 @@ returns-in-Err-clause-write_fault g c = λ is.
       (
         refusal_text r.0,
         inr (refusal_loaded (g.H.Shelf.held c.args.shelf.now) (g.H.Shelf.steady c.args.shelf.now) (check_of c.args.check.now) c.load_model.result c.in-Err.end r.0 (g.H.Shelf.taken c.load_model.new.shelf) c.in-Err.is r.1
-            c.load_model.ensures.says c.load_model.ensures.caused c.load_model.ensures.too_long c.load_model.ensures.only_too_long),
+            c.load_model.ensures.says c.load_model.ensures.caused c.load_model.ensures.takes.too_long c.load_model.ensures.takes.only_too_long),
         r.3,
       ),
     )
