@@ -32,7 +32,7 @@ pub record IsRefusalOf (IsSaid : Refusal → Type 0) (taken : ℕ) (text : List 
   pub long : IsLong refusal → most_bytes < taken
   pub only_long : most_bytes < taken → IsLong refusal
 
--- there are texts, those that are held where this is told, that ask this question with the command's words
+-- there are texts, which are those that are held where this is told, that ask this question with the command's words
 pub record PosesIt (holding : Option Holding) (check : Check) (posing : Posing) : Type 0 where
   pub sources : Sources
   pub told : AreSources holding check sources
@@ -44,7 +44,7 @@ pub record RefusesIt (holding : Option Holding) (check : Check) (refusal : Refus
   pub told : AreSources holding check sources
   pub refuses : question_said sources check ≡ Refuses refusal
 
--- there are such texts, without those that can't be read, of which one is missing and all before it are accepted
+-- there are such texts, where one that can't be read counts as not held: one that is needed is not held, and those before it are accepted
 pub record MissesIt (holding : Option Holding) (check : Check) : Type 0 where
   pub sources : Sources
   pub told : AreSourcesOrUnread holding check sources
@@ -62,7 +62,7 @@ pub record IsRefusalOfWords (words : List (List ℕ)) (holding : Option Holding)
   pub command : AreCheck words check
   pub refusal : IsRefusalOf (RefusesIt holding check) taken text
 
--- the words denote a command, of which a text is missing
+-- the words denote a command, and a text that it needs is not held or can't be read
 pub record MissesOfWords (words : List (List ℕ)) (holding : Option Holding) : Type 0 where
   pub check : Check
   pub command : AreCheck words check

@@ -53,7 +53,8 @@ pub fn run<R: Threads + Sync, H: Shelf, K: Sink, G: Gate + Sync>(
     ensures usage { result ≡ Status.Usage → AreNoCommand (map string_bytes words.now) × GrowsBy (K.written out.old) (K.written out.new) usage_text }
 
     // A fault of the outside is answered only where its count rose.
-    ensures read_fault { result ≡ Status.ReadFault → Rose (H.faults shelf.old) (H.faults shelf.new) × (K.written out.new ≡ K.written out.old) × MissesOfWords (map string_bytes words.now) (H.held shelf.old) }
+    ensures read_fault { result ≡ Status.ReadFault → Rose (H.faults shelf.old) (H.faults shelf.new)
+        × (K.written out.new ≡ K.written out.old) × MissesOfWords (map string_bytes words.now) (H.held shelf.old) }
     ensures steadily { result ≡ Status.ReadFault → H.steady shelf.old ≡ true → (check : Check) × AreCheck (map string_bytes words.now) check
         × WhereTold (H.held shelf.old) (λ held. question_said (sources_of held check) check ≡ NotHeld) }
     ensures write_fault { result ≡ Status.WriteFault → Rose (K.faults out.old) (K.faults out.new)
@@ -88,7 +89,8 @@ fn run_check<R: Threads + Sync, H: Shelf, K: Sink, G: Gate + Sync>(
     ensures taken { H.taken shelf.new ≤ most_bytes + piece_size }
     ensures refused { result ≡ Status.ModelRefused → (text : List ℕ) × IsRefusalOf (RefusesIt (H.held shelf.old) (check_of check.now)) (H.taken shelf.new) text
         × GrowsBy (K.written out.old) (K.written out.new) text }
-    ensures read_fault { result ≡ Status.ReadFault → Rose (H.faults shelf.old) (H.faults shelf.new) × (K.written out.new ≡ K.written out.old) × MissesIt (H.held shelf.old) (check_of check.now) }
+    ensures read_fault { result ≡ Status.ReadFault → Rose (H.faults shelf.old) (H.faults shelf.new)
+        × (K.written out.new ≡ K.written out.old) × MissesIt (H.held shelf.old) (check_of check.now) }
     ensures steadily { result ≡ Status.ReadFault → H.steady shelf.old ≡ true → WhereTold (H.held shelf.old) (λ held. question_said (sources_of held (check_of check.now)) (check_of check.now) ≡ NotHeld) }
     ensures write_fault { result ≡ Status.WriteFault → Rose (K.faults out.old) (K.faults out.new)
         × ((text : List ℕ) × (IsReportOf (PosesIt (H.held shelf.old) (check_of check.now)) check.now.options.rounds text ⊎ IsRefusalOf (RefusesIt (H.held shelf.old) (check_of check.now)) (H.taken shelf.new) text)

@@ -2,7 +2,8 @@
 //!
 //! `run` is the one call that the program makes, over a shelf of named texts and a sink of bytes; `FileShelf` and
 //! `OutSink` are the real files and the real output. Its contract has one clause for each status, and one that says
-//! that it does not give up by itself.
+//! that it does not give up by itself. What a report is the report of, `Asks` of `specs/Asks.antt` says by relations: of
+//! some texts within the limit, which are those that the shelf holds where it tells them, and the words of the command.
 #![tactic(auto)]
 
 mod adapters;
