@@ -1,8 +1,5 @@
 pub mod Attracting
-pub mod Numbers
-pub mod Counting
-pub mod Drawing
-pub mod Ordering
 pub mod Meeting
+pub mod Ordering
 pub mod Following
 pub mod Closing

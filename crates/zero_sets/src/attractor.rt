@@ -4,7 +4,7 @@ ghost use Rattle.std.specs.Prelude.{◌≡◌, ℕ, ◌+◌, ◌<◌, ◌≤◌,
 ghost use Rattle.game_model.specs.Draft.{IsLonger};
 ghost use Rattle.predecessors.specs.Lists.{ArePredecessors};
 ghost use Rattle.zero_sets.specs.Attractor.{IsAttractor};
-ghost use Rattle.zero_sets.specs.Growing.{joined, moves_into, IsGrowth};
+ghost use Rattle.zero_sets.specs.Growing.{moves_into, IsGrowth};
 
 use crate::growth::Growth;
 use game_model::Question;
@@ -19,7 +19,7 @@ pub fn attractor_of(
     predecessors: &Predecessors,
 ) -> Result<Growth, OutOfMemory>
     requires { ArePredecessors question.now.game predecessors.now }
-    ensures { IfOk result (λ g. IsAttractor question.now (joined g.waiting.items)) }
+    ensures { IfOk result (λ g. IsAttractor question.now g.members.items) }
 {
     question.known();
     let mut growth = Growth::of_goals(alloc, question)?;
@@ -40,9 +40,9 @@ fn go_back(
 ) -> Result<(), OutOfMemory>
     requires lists { ArePredecessors question.now.game predecessors.now }
     requires place { place < length growth.old.order.items }
-    requires grown { IsGrowth question.now (moves_into predecessors.now (take place growth.old.order.items)) growth.old.waiting.items growth.old.met.items growth.old.order.items }
+    requires grown { IsGrowth question.now (moves_into predecessors.now (take place growth.old.order.items)) growth.old.members.items growth.old.awaited.items growth.old.order.items }
     ensures longer { OnOk result (IsLonger growth.old.order.items growth.new.order.items) }
-    ensures grown { OnOk result (IsGrowth question.now (moves_into predecessors.now (take (place + 1) growth.new.order.items)) growth.new.waiting.items growth.new.met.items growth.new.order.items) }
+    ensures grown { OnOk result (IsGrowth question.now (moves_into predecessors.now (take (place + 1) growth.new.order.items)) growth.new.members.items growth.new.awaited.items growth.new.order.items) }
 {
     let member = growth.order[place];
     for step in predecessors.of_state(member) {
