@@ -1,3 +1,4 @@
+pub mod Limits
 pub mod Bracket
 pub mod Choices
 pub mod Race

@@ -2,7 +2,15 @@
 
 ghost use Rattle.std.specs.Prelude.{◌≡◌, ℕ, List, Bool, true};
 ghost use Rattle.game_model.specs.Query.{Query};
+ghost use Rattle.bracket_engine.specs.Limits.{most_rounds};
 ghost use Rattle.bracket_engine.specs.Bracket.{IsBracket};
+
+use crate::run::MOST_ROUNDS;
+
+/// The constant is the number of the definitions.
+pub fn limits()
+    ensures { MOST_ROUNDS ≡ most_rounds }
+{}
 
 /// Two runs of one question that settle have the same lower bounds, whatever their schedules, their numbers of workers
 /// and the rounds that were asked for.

@@ -4,6 +4,7 @@ ghost use Rattle.std.specs.Prelude.{◌≡◌, ◌≤◌, ◌↔◌, true, slice
 ghost use Rattle.game_model.specs.Dual.{IsZeroSet};
 ghost use Rattle.game_model.specs.Rounded.{IsSettled};
 ghost use Rattle.round_workers.specs.Share.{most_workers};
+ghost use Rattle.bracket_engine.specs.Limits.{most_rounds};
 ghost use Rattle.bracket_engine.specs.Bracket.{IsBracket};
 ghost use Rattle.bracket_engine.specs.Choices.{AreChoices};
 ghost use Rattle.bracket_engine.specs.Race.{IsRaced};
@@ -34,7 +35,7 @@ pub fn bracket<R: Threads + Sync, G: Gate + Sync>(
     gate: &G,
 ) -> Result<Bracket, OutOfMemory>
     requires zero { IsZeroSet question.now zero.now }
-    requires rounds { rounds ≤ MOST_ROUNDS }
+    requires rounds { rounds ≤ most_rounds }
     requires some { 1 ≤ workers }
     requires few { workers ≤ most_workers }
     ensures bounds { IfOk result (λ b. IsBracket question.now zero.now rounds b.lower.items b.upper.items b.rounds b.stable) }

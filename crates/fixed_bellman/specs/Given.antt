@@ -15,9 +15,11 @@ pub record Gives (q : Query) (table : ℕ → ℕ) (s value choice : ℕ) : Type
   pub greatest : side_at q s ≡ Max → (choice < length (choices_of q.game s)) × (value ≤ down_value table (choice_of q.game s choice))
   pub least : side_at q s ≡ Min → (choice ≡ 0) × ((c : ℕ) → c < length (choices_of q.game s) → value ≤ down_value table (choice_of q.game s c))
 
--- a value and a choice for it: at least the step over what was seen before, and where it is above a floor, given by what was seen after; no earlier choice had it before
+-- a value, at least a floor, and a choice for it: at least the step over what was seen before, and where it is above the floor, given by what was seen after; no earlier choice had it before. At the floor the choice is 0.
 pub record IsStepAbove (q : Query) (old new : ℕ → ℕ) (s floor value choice : ℕ) : Type 0 where
   pub units : value ≤ unit
+  pub floored : floor ≤ value
+  pub none : value ≡ floor → choice ≡ 0
   pub low : down_step q old s ≤ value
   pub given : floor < value → Gives q new s value choice
   pub inside : choice < length (choices_of q.game s)

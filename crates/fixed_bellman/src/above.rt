@@ -48,6 +48,8 @@ fn greatest_above<V: Values>(
     requires floor { floor ≤ unit }
     ensures onward { V.onward values.now pass.old pass.new }
     ensures units { result.0 ≤ unit }
+    ensures floored { floor ≤ result.0 }
+    ensures none { result.0 ≡ floor → result.1 ≡ 0 }
     ensures inside { result.1 < length (choices_of question.now.game state) }
     ensures low { (c : ℕ) → c < length (choices_of question.now.game state) → down_value (V.seen values.now pass.old) (choice_of question.now.game state c) ≤ result.0 }
     ensures given { floor < result.0 → result.0 ≤ down_value (V.seen values.now pass.new) (choice_of question.now.game state result.1) }
@@ -80,6 +82,7 @@ fn least_above<V: Values>(
     requires floor { floor ≤ unit }
     ensures onward { V.onward values.now pass.old pass.new }
     ensures units { result ≤ unit }
+    ensures floored { floor ≤ result }
     ensures low { (c : ℕ) × (c < length (choices_of question.now.game state)) × (down_value (V.seen values.now pass.old) (choice_of question.now.game state c) ≤ result) }
     ensures given { floor < result → (c : ℕ) → c < length (choices_of question.now.game state) → result ≤ down_value (V.seen values.now pass.new) (choice_of question.now.game state c) }
 {

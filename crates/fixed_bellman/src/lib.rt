@@ -3,8 +3,10 @@
 //!
 //! [`down_state`] and [`up_state`] are a step at one state, [`down_choice`] and [`up_choice`] the value of
 //! one choice. Iteration wants less: [`raised_state`] is the down step where it is above the entry of its
-//! table. It compares before it divides, so a state that does not rise costs one comparison for a choice.
-//! [`settled`] says that no state rises. No call takes memory.
+//! table. It compares before it divides, so a state that does not rise costs a sum and a comparison for a
+//! choice, and no division. [`settled`] says that no state rises. [`step_above`] is the one kernel, over
+//! values that may rise while they are read ([`Values`]): a table, or words that are shared. No call takes
+//! memory.
 #![tactic(auto)]
 
 mod above;

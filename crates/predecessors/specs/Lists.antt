@@ -2,12 +2,13 @@
 use Rattle.std.specs.Prelude.{◌≡◌, ℕ, ◌<◌, ◌≤◌, ◌↔◌, List, [], ◌∷◌, length, slice_index, slice_index_or, slice_range, Contains}
 use Rattle.game_model.specs.Game.{Distribution}
 use Rattle.predecessors.specs.declared.lists.Move.{Move}
-use Rattle.predecessors.specs.Moves.{move, LeadsTo}
+use Rattle.predecessors.specs.Moves.{move, LeadsTo, moves_to}
 
--- a choice stands in the list of a state exactly where it leads there
+-- a choice stands in the list of a state exactly where it leads there; the list is in the order of the game, with each choice as often as it has an edge there
 pub record ArePredecessors (game : List (List Distribution)) (lists : List (List Move)) : Type 0 where
   pub many : length lists ≡ length game
   pub exact : (s c t : ℕ) → t < length game → Contains (slice_index_or lists t []) (move s c) ↔ LeadsTo game s c t
+  pub same : (t : ℕ) → t < length game → slice_index_or lists t [] ≡ moves_to game t
 
 -- the lists that end at these places, of which the first begins at b
 abbrev pub lists_from : ℕ → List ℕ → List Move → List (List Move)

@@ -21,7 +21,7 @@ pub record BeginsBlock (game : List (List Distribution)) (workers worker first :
   pub before : (s : ℕ) → s < first → worker_of game workers s < worker
   pub behind : (s : ℕ) → first ≤ s → s < length game → worker ≤ worker_of game workers s
 
--- after the states from `low` up to and not including `high`: each is seen with at least the down step of what was seen before, and so many exchanges were won, one a state at most
+-- after the states from `low` up to and not including `high`: each is seen with at least the down step of what was seen before, and so many exchanges were won, no more than states
 pub record IsSwept (q : Query) (low high : ℕ) (old new : Token) (raises : ℕ) : Type 0 where
   pub grew : GrewSeat old new
   pub step : (s : ℕ) → low ≤ s → s < high → down_step q (value_at old.me.0.seen) s ≤ value_at new.me.0.seen s

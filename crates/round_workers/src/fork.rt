@@ -13,8 +13,8 @@ use std::thread::{Threads, join};
 use value_words::{Pass, Posing, ValueTable};
 
 /// One round: each worker updates its states, in rising order, and passes the gate before
-/// each. Worker w of W has the states of which the edges below them, times W and over all edges, come to w
-/// when rounded down.
+/// each. Worker w of W has each state s for which E(s) * W / E, rounded down, is w, with E(s) edges below s
+/// and E in all.
 pub fn round<R: Threads + Sync, P: Posing + Send + Sync, G: Gate + Sync>(
     rt: &R,
     table: &ValueTable<'_, P>,
@@ -29,7 +29,7 @@ pub fn round<R: Threads + Sync, P: Posing + Send + Sync, G: Gate + Sync>(
     // At each state at least the down step of what was seen before is seen now.
     ensures step { (s : ℕ) → s < states P.posed → down_step P.posed (seen_by pass) s ≤ seen_by result.pass s }
     ensures raises { won_by result.pass ≡ won_by pass + result.raises }
-    // An exchange a state at most.
+    // No more exchanges than states.
     ensures few { result.raises ≤ states P.posed }
     ensures parts { workers ≤ parts_of pass → parts_of result.pass ≡ parts_of pass }
 {

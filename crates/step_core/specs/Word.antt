@@ -2,11 +2,10 @@
 use Rattle.std.specs.Prelude.{ℕ, ◌+◌, ◌*◌, ◌/◌, ◌%◌, List, [], ◌∷◌, map, slice_index, Option, Some, if◌then◌else◌, nat_lt}
 use Rattle.game_model.specs.Limits.{unit}
 use Rattle.game_model.specs.Query.{Query, is_goal}
-use Rattle.step_core.specs.declared.word.TheConstants.{CHOICE_SPACE}
 
--- how many choices a word can name
+-- how many choices a word can name: its low 24 bits, below a value of at most 40
 abbrev pub choice_space : ℕ
-choice_space = CHOICE_SPACE
+choice_space = 16777216
 
 abbrev pub packed : ℕ → ℕ → ℕ
 packed value choice = value * choice_space + choice

@@ -5,9 +5,16 @@ ghost use Rattle.std.specs.List.{sum_by};
 ghost use Rattle.game_model.specs.Query.{Query, IsQuery};
 ghost use Rattle.game_model.specs.Rounded.{down_steps, IsBelow};
 ghost use Rattle.step_core.specs.declared.event.Event.{Event};
-ghost use Rattle.step_core.specs.Word.{value_at};
+ghost use Rattle.step_core.specs.Word.{choice_space, value_at};
 ghost use Rattle.step_core.specs.Configuration.{Configuration, IsWorld, opening_configuration};
 ghost use Rattle.step_core.specs.Events.{Lawful, after, wins, reasons, first_of, Leads};
+
+use crate::word::CHOICE_SPACE;
+
+/// The constant is the number of the definitions.
+pub fn limits()
+    ensures { CHOICE_SPACE ≡ choice_space }
+{}
 
 /// A lawful event keeps the invariant.
 pub fn lawful_events_keep_the_invariant()

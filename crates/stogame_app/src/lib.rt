@@ -2,8 +2,7 @@
 //!
 //! `run` is the one call that the program makes, over a shelf of named texts and a sink of bytes; `FileShelf` and
 //! `OutSink` are the real files and the real output. Its contract has one clause for each status, and one that says
-//! that it does not give up by itself. What a report is the report of, `Asks` of `specs/Asks.antt` says by relations: of
-//! some texts within the limit, which are those that the shelf holds where it tells them, and the words of the command.
+//! that it does not give up by itself. The question that is reported is said by relations in `specs/Asks.antt`.
 #![tactic(auto)]
 
 mod adapters;

@@ -33,6 +33,8 @@ loop-choice-preserved g c =
           rw (w.best-is, w.first-is) (record {
             onward = laws.further values start middle end h.onward e.onward;
             units = w.down-best.ensures.units;
+            floored = omega (arith, h.floored);
+            none = λ same. absurd (omega (arith, h.floored, same));
             inside = chosen;
             low = low-gains q s i r (seen start) (seen middle) (seen end) c.known.ensures c.requires.state chosen e.between earlier later best w.down-best.result h.low (omega arith) (omega arith);
             given = λ _. rw is (value-new q s i r (seen start) (seen middle) (seen end) c.known.ensures c.requires.state chosen e.between earlier later);
@@ -43,6 +45,8 @@ loop-choice-preserved g c =
           rw (w.best-is, w.first-is) (record {
             onward = laws.further values start middle end h.onward e.onward;
             units = h.units;
+            floored = h.floored;
+            none = h.none;
             inside = h.inside;
             low = low-gains q s i r (seen start) (seen middle) (seen end) c.known.ensures c.requires.state chosen e.between earlier later best best h.low (omega arith) stays;
             given = λ above. given-later q s i r (seen start) (seen middle) (seen end) c.known.ensures c.requires.state chosen e.between earlier later c.loop-choice.first best h.inside (h.given above);

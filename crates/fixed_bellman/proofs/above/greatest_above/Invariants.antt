@@ -1,4 +1,4 @@
-use Rattle.std.proofs.Common.{ℕ, ◌<◌, ◌≤◌, length}
+use Rattle.std.proofs.Common.{◌≡◌, ℕ, ◌<◌, ◌≤◌, length}
 use Rattle.game_model.specs.Game.{choices_of, choice_of}
 use Rattle.game_model.specs.Limits.{unit}
 use Rattle.game_model.specs.Rounded.{down_value}
@@ -10,6 +10,8 @@ invariant-loop-choice g l =
     let seen = g.V.Values.seen l.values in record {
       onward : g.V.Values.onward l.values l.fn.pass l.pass;
       units : l.best ≤ unit;
+      floored : l.floor ≤ l.best;
+      none : l.best ≡ l.floor → l.first ≡ 0;
       inside : l.first < length (choices_of game l.state);
       low : (c : ℕ) → c < l.choice → down_value (seen l.fn.pass) (choice_of game l.state c) ≤ l.best;
       given : l.floor < l.best → l.best ≤ down_value (seen l.pass) (choice_of game l.state l.first);
