@@ -46,9 +46,11 @@ leave false true a other h = refl
 leave false false a other h = h refl
 
 -- a state of the maximiser is drawn in by one choice, and one of the minimiser by all
+pub drawn-by-some : (q : Query) (set : List Bool) (s : ℕ) → is_dead q s ≡ false → side_at q s ≡ Max → list_any (meets set) (choices_of q.game s) ≡ true → is_attracted q set s ≡ true
+drawn-by-some q set s alive is_side some = draw (is_goal q s) (is_dead q s) (attracts (side_at q s) set (choices_of q.game s)) alive (ap (λ side. attracts side set (choices_of q.game s)) is_side ∙ some)
+
 pub drawn-by-one : (q : Query) (set : List Bool) (s c : ℕ) → is_dead q s ≡ false → side_at q s ≡ Max → c < length (choices_of q.game s) → meets set (choice_of q.game s c) ≡ true → is_attracted q set s ≡ true
-drawn-by-one q set s c alive is_side l meet =
-    draw (is_goal q s) (is_dead q s) (attracts (side_at q s) set (choices_of q.game s)) alive (ap (λ side. attracts side set (choices_of q.game s)) is_side ∙ list_any_at (meets set) (choices_of q.game s) c no_distribution l meet)
+drawn-by-one q set s c alive is_side l meet = drawn-by-some q set s alive is_side (list_any_at (meets set) (choices_of q.game s) c no_distribution l meet)
 
 all-meet : (set : List Bool) (choices : List Distribution) → ((c : ℕ) → c < length choices → meets set (get_or choices c no_distribution) ≡ true) → list_all (meets set) choices ≡ true
 all-meet set choices each = elim (either (list_all (meets set) choices)) [

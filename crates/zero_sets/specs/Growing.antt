@@ -1,5 +1,5 @@
 -- A set of states that grows backward from the goals.
-use Rattle.std.specs.Prelude.{◌≡◌, ℕ, ◌<◌, Bool, true, false, List, [], length, flat_map, count_by, slice_index, slice_index_or, Contains}
+use Rattle.std.specs.Prelude.{◌≡◌, ℕ, ◌<◌, ◌≤◌, Bool, true, false, List, [], length, take, flat_map, count_by, slice_index, slice_index_or, Contains}
 use Rattle.game_model.specs.declared.game.Side.TheVariants.{Max, Min}
 use Rattle.game_model.specs.Game.{Distribution, choices_of, choice_of}
 use Rattle.game_model.specs.Query.{Query, states, is_goal, is_dead, side_at}
@@ -44,3 +44,18 @@ pub record IsGrowth (q : Query) (followed : List Move) (members : List Bool) (aw
   pub goals : (s : ℕ) → s < states q → is_goal q s ≡ true → slice_index_or members s false ≡ true
   pub leads : (s c : ℕ) → Contains followed (move s c) → meets members (choice_of q.game s c) ≡ true
   pub left : (s : ℕ) → s < states q → slice_index_or members s false ≡ false → is_dead q s ≡ false → IsLeft q followed members awaited s
+
+-- each state of a set is in another
+abbrev pub IsLarger : List Bool → List Bool → Type 0
+IsLarger set more = (s : ℕ) → slice_index_or set s false ≡ true → slice_index_or more s false ≡ true
+
+-- a state whose choices show that a set does not draw it in: no choice of the maximiser meets the set, nor the one that the minimiser waits for
+pub record IsTested (q : Query) (set : List Bool) (awaited : List ℕ) (s : ℕ) : Type 0 where
+  pub greatest : side_at q s ≡ Max → (c : ℕ) → c < length (choices_of q.game s) → meets set (choice_of q.game s c) ≡ false
+  pub least : side_at q s ≡ Min → meets set (choice_of q.game s (slice_index awaited s)) ≡ false
+
+-- the moves to more members of the order were followed
+pub record IsAdvanced (q : Query) (lists : List (List Move)) (place next : ℕ) (members : List Bool) (awaited order : List ℕ) : Type 0 where
+  pub further : place < next
+  pub within : next ≤ length order
+  pub grown : IsGrowth q (moves_into lists (take next order)) members awaited order

@@ -1,12 +1,14 @@
 //! A set of states that grows backward from the goals.
 
-ghost use Rattle.std.specs.Prelude.{◌≡◌, ℕ, ◌+◌, ◌<◌, ◌≤◌, List, [], ◌∷◌, ◌++◌, true, false, not, length, map, slice_index, slice_index_or, slice_set, IfOk, OnOk};
+ghost use Rattle.std.specs.Prelude.{◌≡◌, ◌≢◌, ℕ, ◌+◌, ◌<◌, ◌≤◌, List, [], ◌∷◌, ◌++◌, true, false, not, length, map, slice_index, slice_index_or, slice_set, IfOk, OnOk};
+ghost use Rattle.std.specs.List.{list_any};
 ghost use Rattle.game_model.specs.Draft.{IsLonger};
 ghost use Rattle.game_model.specs.Game.{choices_of, choice_of};
-ghost use Rattle.game_model.specs.Query.{states};
+ghost use Rattle.game_model.specs.Query.{states, is_dead};
 ghost use Rattle.zero_sets.specs.Attractor.{meets};
-ghost use Rattle.zero_sets.specs.Growing.{LeadsIn, IsGrowth};
+ghost use Rattle.zero_sets.specs.Growing.{LeadsIn, IsGrowth, IsLarger, IsTested};
 
+use crate::membership::{first_unmet, some_meets};
 use game_model::{Question, Side};
 use game_outside::OutOfMemory;
 use predecessors::Move;
@@ -78,6 +80,40 @@ impl Growth {
         Ok(())
     }
 
+    /// Tests a state that is no member: it joins where the members draw it in.
+    pub fn test(&mut self, question: &Question, state: u32) -> Result<(), OutOfMemory>
+        requires state { state < states question.now }
+        requires grown { IsGrowth question.now [] self.old.members.items self.old.awaited.items self.old.order.items }
+        ensures longer { OnOk result (IsLonger self.old.order.items self.new.order.items) }
+        ensures grows { OnOk result (IsGrowth question.now [] self.new.members.items self.new.awaited.items self.new.order.items) }
+        ensures larger { OnOk result (IsLarger self.old.members.items self.new.members.items) }
+        ensures others { OnOk result ((s : ℕ) → s ≢ state → slice_index self.new.awaited.items s ≡ slice_index self.old.awaited.items s) }
+        ensures tested { OnOk result (slice_index_or self.new.members.items state false ≡ false → is_dead question.now state ≡ false → IsTested question.now self.old.members.items self.new.awaited.items state) }
+    {
+        question.known();
+        let place = state as usize;
+        if self.members[place] || question.is_dead(state) {
+            return Ok(());
+        }
+        match question.side(state) {
+            Side::Max => {
+                if !some_meets(question, &self.members, state) {
+                    return Ok(());
+                }
+            }
+            Side::Min => {
+                let next = first_unmet(question, &self.members, state, self.awaited[place]);
+                if next < question.game().choices_of(state) {
+                    self.awaited[place] = next;
+                    return Ok(());
+                }
+            }
+        }
+        self.members[place] = true;
+        self.order.push(state)?;
+        Ok(())
+    }
+
     /// For each state whether it is no member.
     pub fn others(&self, alloc: Global) -> Result<Vec<bool>, AllocError>
         ensures { IfOk result (λ others. others.items ≡ map not self.now.members.items) }
@@ -87,40 +123,4 @@ impl Growth {
             .map(|member| !*member)
             .collect::<Vec<bool>>(alloc)
     }
-}
-
-/// The first choice of a state, from this one on, that has no successor in the set; the number of choices
-/// where there is none.
-fn first_unmet(question: &Question, set: &[bool], state: u32, from: u32) -> u32
-    requires state { state < states question.now }
-    requires from { from ≤ length (choices_of question.now.game state) }
-    requires many { length set.now ≡ states question.now }
-    ensures from { from ≤ result }
-    ensures within { result ≤ length (choices_of question.now.game state) }
-    ensures before { (c : ℕ) → from ≤ c → c < result → meets set.now (choice_of question.now.game state c) ≡ true }
-    ensures first { result < length (choices_of question.now.game state) → meets set.now (choice_of question.now.game state result) ≡ false }
-{
-    let count = question.game().choices_of(state);
-    for choice in from..count {
-        if !meets(question, set, state, choice) {
-            return choice;
-        }
-    }
-    count
-}
-
-/// Whether some successor of the choice is in the set.
-fn meets(question: &Question, set: &[bool], state: u32, choice: u32) -> bool
-    requires state { state < states question.now }
-    requires choice { choice < length (choices_of question.now.game state) }
-    requires many { length set.now ≡ states question.now }
-    ensures { result ≡ meets set.now (choice_of question.now.game state choice) }
-{
-    question.known();
-    for to in question.game().successors(state, choice) {
-        if set[*to as usize] {
-            return true;
-        }
-    }
-    false
 }

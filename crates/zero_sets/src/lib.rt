@@ -4,10 +4,12 @@
 //! [`zero_set`] gives them. [`zero_set_over`] does so over lists of predecessors that the caller has.
 //!
 //! It is the complement of the positive attractor of the goals (attractors: Grädel, Thomas and Wilke,
-//! Automata, Logics, and Infinite Games, 2002, chapter 2). The attractor grows from the goals backward: a
-//! state of the maximiser joins by its first choice that leads to a member, and one of the minimiser by
-//! its last. Each list of predecessors is read once, so the time is linear in the edges. The time is no
-//! part of the contract.
+//! Automata, Logics, and Infinite Games, 2002, chapter 2), which grows from the goals backward. Each member
+//! is taken off an order once, and the choices that lead to it are followed: a state of the maximiser joins
+//! by the first one; a state of the minimiser waits for one choice at a time, and joins when none is left
+//! without a successor in the set. Where many members stand in the order, the states outside are tested
+//! one after another instead (Beamer, Asanović and Patterson, Direction-optimizing breadth-first search,
+//! 2012). The time is linear in the edges, by at most 16 such passes. It is no part of the contract.
 #![tactic(auto)]
 
 ghost use Rattle.std.specs.Prelude.{IfOk};
@@ -16,6 +18,7 @@ ghost use Rattle.predecessors.specs.Lists.{ArePredecessors};
 
 mod attractor;
 mod growth;
+mod membership;
 
 use attractor::attractor_of;
 use game_model::{Marks, Question};

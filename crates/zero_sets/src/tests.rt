@@ -1,8 +1,8 @@
-//! A worked zero set.
+//! Worked zero sets.
 
 use crate::zero_set;
 use game_model::{Question, Side};
-use sample_games::{all_of, goal_or_sink, none_of, only};
+use sample_games::{all_of, chain, goal_or_sink, none_of, only};
 use std::test::Fail;
 
 #[test]
@@ -21,6 +21,21 @@ fn the_minimiser_goes_to_the_sink(rt: HostRuntime) -> Result<(), Fail> {
         for (state, marked) in [(0, want[0]), (1, want[1]), (2, want[2])] {
             assert_eq!(rt; marks.has(state), marked, "at {state}");
         }
+    }
+    Ok(())
+}
+
+#[test]
+fn a_dead_state_cuts_a_chain(rt: HostRuntime) -> Result<(), Fail> {
+    let alloc = rt.alloc();
+    let game = chain(alloc, 40)?;
+    for side in [Side::Min, Side::Max] {
+        let sides = all_of(alloc, side, 40)?;
+        let question = Question::build(&game, sides, only(alloc, 39, 40)?, only(alloc, 20, 40)?);
+        let Ok(marks) = zero_set(alloc, &question) else {
+            return Err(Fail::new("no memory"));
+        };
+        assert_eq!(rt; marks.count(), 21);
     }
     Ok(())
 }

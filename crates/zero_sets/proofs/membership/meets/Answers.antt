@@ -5,7 +5,7 @@ use Rattle.std.proofs.lemmas.List.{take_all}
 use Rattle.std.proofs.lemmas.List.Folds.{list_any_at}
 use Rattle.game_model.specs.Game.{choice_of, destinations}
 use Rattle.zero_sets.proofs.Meeting.{meets-read, successor-within}
-use Rattle.zero_sets.proofs.growth.meets.Goals as goal
+use Rattle.zero_sets.proofs.membership.meets.Goals as goal
 
 pub bounds-set-to : goal.bounds-set-to
 bounds-set-to c =
