@@ -4,7 +4,7 @@ ghost use Rattle.std.specs.Prelude.{◌≡◌, ℕ, ◌+◌, ◌*◌, ◌<◌, �
 ghost use Rattle.game_model.specs.Query.{states};
 ghost use Rattle.game_model.specs.Rounded.{down_step, down_steps, IsBelow, IsSettled};
 ghost use Rattle.round_workers.specs.Share.{most_workers};
-ghost use Rattle.value_words.specs.Passes.{IsOf, Grew, seen_by, won_by, parts_of};
+ghost use Rattle.value_words.specs.Passes.{IsOf, Grew, Looked, seen_by, won_by, parts_of};
 ghost use Rattle.bracket_engine.specs.Race.{IsRaced};
 
 use fixed_bellman::settled;
@@ -116,9 +116,7 @@ fn one_round<R: Threads + Sync, P: Posing + Send + Sync, G: Gate + Sync>(
 fn is_settled<P: Posing>(table: &ValueTable<'_, P>, pass: &mut Pass<P>, seen: &mut [u64]) -> bool
     requires pass { IsOf table.now pass.old }
     requires room { length seen.old ≡ states P.posed }
-    ensures grew { Grew pass.old pass.new }
-    ensures won { won_by pass.new ≡ won_by pass.old }
-    ensures parts { parts_of pass.new ≡ parts_of pass.old }
+    ensures looked { Looked pass.old pass.new }
     ensures settled { result ≡ true → IsSettled P.posed (seen_by pass.new) }
 {
     table.read_into(pass, seen);

@@ -5,10 +5,13 @@ use Rattle.game_model.specs.Rounded.{down_step}
 use Rattle.game_model.proofs.Choices.{AreChoicesOf-choices_of}
 use Rattle.game_laws.proofs.Steps.{down_step-le}
 use Rattle.step_core.specs.Word.{value_at}
-use Rattle.value_words.specs.Passes.{Token, GrewSeat}
+use Rattle.value_words.specs.Passes.{Token, GrewSeat, LookedSeat}
 
 pub grew-twice : (a b c : Token) → GrewSeat a b → GrewSeat b c → GrewSeat a c
 grew-twice a b c h k = record { table = k.table ∙ h.table; up = λ s. le_trans (h.up s) (k.up s) }
+
+pub looked-twice : (a b c : Token) → LookedSeat a b → LookedSeat b c → LookedSeat a c
+looked-twice a b c h k = record { grew = grew-twice a b c h.grew k.grew; won = k.won ∙ h.won; parts = k.parts ∙ h.parts }
 
 -- a step over what was seen later is no smaller than one over what was seen before
 pub step-rises : (q : Query) (a b : Token) (s : ℕ) → IsQuery q → GrewSeat a b → down_step q (value_at a.me.0.seen) s ≤ down_step q (value_at b.me.0.seen) s

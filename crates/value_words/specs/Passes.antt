@@ -33,5 +33,14 @@ pub record GrewSeat (old new : Token) : Type 0 where
   pub table : new.table_id ≡ old.table_id
   pub up : (s : ℕ) → value_at old.me.0.seen s ≤ value_at new.me.0.seen s
 
+-- a pass that has only looked at words: it grew, and has won nothing and kept its parts
+pub record LookedSeat (old new : Token) : Type 0 where
+  pub grew : GrewSeat old new
+  pub won : new.me.0.won ≡ old.me.0.won
+  pub parts : new.me.0.parts ≡ old.me.0.parts
+
+abbrev pub Looked : {P : Type 0} {h : _} → Pass P h → Pass P h → Type 0
+Looked old new = LookedSeat old.seat new.seat
+
 abbrev pub Grew : {P : Type 0} {h : _} → Pass P h → Pass P h → Type 0
 Grew old new = GrewSeat old.seat new.seat

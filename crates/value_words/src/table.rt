@@ -57,7 +57,7 @@ impl Words {
 }
 
 impl<'q, P: Posing> ValueTable<'q, P> {
-    ghost use Rattle.value_words.specs.Passes.{IsOf, Grew, seen_by, words_seen, won_by, parts_of};
+    ghost use Rattle.value_words.specs.Passes.{IsOf, Grew, Looked, seen_by, words_seen, won_by, parts_of};
     ghost use Rattle.value_words.specs.Rule.{all_parts, other_half};
     ghost use Rattle.value_words.specs.Steps.{IsOffer};
 
@@ -117,9 +117,7 @@ impl<'q, P: Posing> ValueTable<'q, P> {
     pub fn read_into(&self, pass: &mut Pass<P>, table: &mut [u64])
         requires pass { IsOf self.now pass.old }
         requires room { length table.old ≡ states P.posed }
-        ensures grew { Grew pass.old pass.new }
-        ensures won { won_by pass.new ≡ won_by pass.old }
-        ensures parts { parts_of pass.new ≡ parts_of pass.old }
+        ensures looked { Looked pass.old pass.new }
         ensures units { All (λ v. v ≤ unit) table.new }
         ensures read { (s : ℕ) → s < states P.posed → slice_index table.new s ≡ seen_by pass.new s }
     {
@@ -183,9 +181,7 @@ impl<'q, P: Posing> ValueTable<'q, P> {
     fn load(&self, pass: &mut Pass<P>, state: u32) -> u64
         requires pass { IsOf self.now pass.old }
         requires state { state < states P.posed }
-        ensures grew { Grew pass.old pass.new }
-        ensures won { won_by pass.new ≡ won_by pass.old }
-        ensures parts { parts_of pass.new ≡ parts_of pass.old }
+        ensures looked { Looked pass.old pass.new }
         ensures seen { words_seen pass.new ≡ slice_set (words_seen pass.old) state result }
         ensures current { result ≡ slice_index (words_seen pass.new) state }
         ensures low { seen_by pass.old state ≤ value_in result }
@@ -255,7 +251,7 @@ impl<'q, P: Posing> ValueTable<'q, P> {
 // What a kernel of steps reads: the words as they are loaded.
 impl<'q, P: Posing> Values for ValueTable<'q, P> {
     ghost use Rattle.std.proofs.Common.{refl, ◌∙◌, le_refl, le_trans};
-    ghost use Rattle.value_words.specs.Passes.{IsOf, Grew, seen_by, won_by, parts_of};
+    ghost use Rattle.value_words.specs.Passes.{IsOf, Looked, seen_by};
 
     type Pass = Pass<P>;
 
@@ -263,19 +259,19 @@ impl<'q, P: Posing> Values for ValueTable<'q, P> {
 
     ghost seen = { λ _ pass. seen_by pass };
 
-    ghost onward = { λ _ old new. Grew old new × (won_by new ≡ won_by old) × (parts_of new ≡ parts_of old) };
+    ghost onward = { λ _ old new. Looked old new };
 
     fn value(&self, pass: &mut Pass<P>, state: u32) -> u64 {
         value_of(self.load(pass, state))
     }
 
-    ghost still = { λ _ a. (record { table = refl; up = λ s. le_refl (seen_by a s) }, refl, refl) };
+    ghost still = { λ _ a. record { grew = record { table = refl; up = λ s. le_refl (seen_by a s) }; won = refl; parts = refl } };
 
-    ghost further = { λ _ a b c h k. (record { table = k.0.table ∙ h.0.table; up = λ s. le_trans (h.0.up s) (k.0.up s) }, k.1 ∙ h.1, k.2 ∙ h.2) };
+    ghost further = { λ _ a b c h k. record { grew = record { table = k.grew.table ∙ h.grew.table; up = λ s. le_trans (h.grew.up s) (k.grew.up s) }; won = k.won ∙ h.won; parts = k.parts ∙ h.parts } };
 
-    ghost carried = { λ _ _ _ _ h k. (h.0.table ∙ k.0, k.1) };
+    ghost carried = { λ _ _ _ _ h k. (h.grew.table ∙ k.0, k.1) };
 
-    ghost rises = { λ _ a b h s. h.0.up s };
+    ghost rises = { λ _ a b h s. h.grew.up s };
 
     ghost units = { λ _ a s k. a.units s k.1 };
 }

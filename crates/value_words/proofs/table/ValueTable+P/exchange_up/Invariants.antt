@@ -1,14 +1,12 @@
 use Rattle.std.proofs.Common.{◌≡◌, ◌-◌, slice_index}
 use Rattle.step_core.specs.Word.{value_in, choice_in}
 use Rattle.fixed_bellman.specs.Given.{Gives}
-use Rattle.value_words.specs.Passes.{Grew, seen_by, words_seen, won_by, parts_of}
+use Rattle.value_words.specs.Passes.{Looked, seen_by, words_seen}
 use Rattle.value_words.proofs.table.ValueTable+P.exchange_up.Given as goal
 
 abbrev pub invariant-loop-pass : goal.invariant-loop-pass
 invariant-loop-pass g l = record {
-  grew : Grew l.fn.pass l.pass;
-  won : won_by l.pass ≡ won_by l.fn.pass;
-  parts : parts_of l.pass ≡ parts_of l.fn.pass;
+  looked : Looked l.fn.pass l.pass;
   current : l.current ≡ slice_index (words_seen l.pass) l.state;
   given : Gives g.P.Posing.posed (seen_by l.pass) l.state (value_in l.to) (choice_in l.to);
 }

@@ -13,13 +13,17 @@ load-requires g c =
 pub returns-clause-low : goal.returns-clause-low
 returns-clause-low g c = found-rises c.args.pass.now.seat.me.0.seen c.args.state c.load.result c.load.ensures.2.1
 
-pub returns-clause-grew : goal.returns-clause-grew
-returns-clause-grew g c =
+pub returns-clause-looked : goal.returns-clause-looked
+returns-clause-looked g c =
     let seen = c.args.pass.now.seat.me.0.seen in
     let inside : c.args.state < length seen = subst (λ n. c.args.state < n) (sym c.args.pass.now.as_many) c.requires.state in
     let now : c.load.new.seat.me.0.seen ≡ set seen c.args.state c.load.result = ap (λ m. m.0.seen) c.load.ensures.2.0 in record {
-      table = c.load.ensures.0;
-      up = λ s. subst (λ l. value_at seen s ≤ value_at l s) (sym now) (value_at-rises seen c.args.state c.load.result inside (found-rises seen c.args.state c.load.result c.load.ensures.2.1) s);
+      grew = record {
+        table = c.load.ensures.0;
+        up = λ s. subst (λ l. value_at seen s ≤ value_at l s) (sym now) (value_at-rises seen c.args.state c.load.result inside (found-rises seen c.args.state c.load.result c.load.ensures.2.1) s);
+      };
+      won = ap (λ m. m.0.won) c.load.ensures.2.0;
+      parts = ap (λ m. m.0.parts) c.load.ensures.2.0;
     }
 
 pub returns-clause-value : goal.returns-clause-value

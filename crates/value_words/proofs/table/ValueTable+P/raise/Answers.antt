@@ -12,12 +12,12 @@ returns-then-value-least-clause-step g c =
     let low : down_step g.P.Posing.posed (seen_by c.load.new.pass) s ≤ c.step_above-value.result.0 = subst (λ (q : Query). down_step q (seen_by c.load.new.pass) s ≤ c.step_above-value.result.0) c.args.self.now.is e.step.low in
     omega (
       arith,
-      step-rises g.P.Posing.posed c.args.pass.now.seat c.load.new.pass.seat s c.args.self.now.posed c.load.ensures.grew,
+      step-rises g.P.Posing.posed c.args.pass.now.seat c.load.new.pass.seat s c.args.self.now.posed c.load.ensures.looked.grew,
       low,
       c.if-value-least.true,
       c.value_of-least.ensures,
       c.load.ensures.value,
-      e.onward.0.up s,
+      e.onward.grew.up s,
     )
 
 pub returns-clause-step : goal.returns-clause-step
@@ -26,7 +26,7 @@ returns-clause-step g c =
     let low : down_step g.P.Posing.posed (seen_by c.load.new.pass) s ≤ c.step_above-value.result.0 = subst (λ (q : Query). down_step q (seen_by c.load.new.pass) s ≤ c.step_above-value.result.0) c.args.self.now.is c.step_above-value.ensures.step.low in
     omega (
       arith,
-      step-rises g.P.Posing.posed c.args.pass.now.seat c.load.new.pass.seat s c.args.self.now.posed c.load.ensures.grew,
+      step-rises g.P.Posing.posed c.args.pass.now.seat c.load.new.pass.seat s c.args.self.now.posed c.load.ensures.looked.grew,
       low,
       c.exchange_up.ensures.reached,
       c.pack.ensures.value,
