@@ -1,5 +1,5 @@
 // Races on the games.
-ghost use Rattle.std.specs.Prelude.{◌≡◌, ◌≤◌, IfSome, vec_len};
+ghost use Rattle.std.specs.Prelude.{◌≡◌, ◌≤◌, IfSome, length, vec_len};
 ghost use Rattle.game_model.specs.Query.{states};
 ghost use Rattle.value_words.specs.Passes.{IsOf, Grew};
 
@@ -10,19 +10,16 @@ use round_workers::{first_state, round, worker_of};
 use std::alloc::Global;
 use std::marker::Brand;
 use std::mem::size_of;
+use std::process::Abort;
 use std::test::Fail;
 use std::thread::{Threads, join};
 use step_core::{Event, Refused, World, pack, value_of};
 use value_words::{Pass, Posing, ValueTable, Words};
 
-#[test]
-fn a_world_takes_lawful_events_and_refuses_others(rt: HostRuntime) -> Result<(), Fail> {
-    let alloc = rt.alloc();
-    let game = coin_game(alloc).ok_or("the game")?;
-    let question = coin_question(alloc, &game).ok_or("the question")?;
-    let Ok(mut world) = World::start(alloc, &question) else {
-        return Err(Fail::new("the world"));
-    };
+// Events on a world of the coin game that has one view.
+fn take_events<R: Abort>(rt: &R, world: &mut World<'_>)
+    requires { length world.old.views ≡ 1 }
+{
     let quarter = pack(250_000_000_000, 0);
     let three_eighths = pack(375_000_000_000, 0);
     let half = pack(500_000_000_000, 0);
@@ -54,6 +51,17 @@ fn a_world_takes_lawful_events_and_refuses_others(rt: HostRuntime) -> Result<(),
         world.apply(Event::Load { view: 1, state: 0 }),
         Err(Refused::NoView)
     );
+}
+
+#[test]
+fn a_world_takes_lawful_events_and_refuses_others(rt: HostRuntime) -> Result<(), Fail> {
+    let alloc = rt.alloc();
+    let game = coin_game(alloc).ok_or("the game")?;
+    let question = coin_question(alloc, &game).ok_or("the question")?;
+    let Ok(mut world) = World::start(alloc, &question) else {
+        return Err(Fail::new("the world"));
+    };
+    take_events(&rt, &mut world);
     Ok(())
 }
 
