@@ -12,23 +12,23 @@ use Rattle.game_model.specs.Limits.{unit}
 use Rattle.game_model.specs.Values.{denominator, numerator}
 use Rattle.game_model.specs.Rounded.{down_steps, opening, IsBelow, IsSettled}
 use Rattle.game_model.specs.Ranks.{Ranked, HasRankedChoice}
-use Rattle.game_model.specs.Bounds.{Low, High}
+use Rattle.game_model.specs.Bounds.{IsLow, IsHigh}
 use Rattle.game_model.specs.Dual.{IsZeroSet}
 use Rattle.game_model.proofs.Choices.{AreChoicesOf, AreChoicesOf-choices_of}
 use Rattle.game_model.proofs.Rises.{numerator_of-most}
 use Rattle.game_laws.proofs.Steps.{down_steps-settled}
 use Rattle.game_laws.proofs.Low.{down_steps-below, down_steps-near}
 use Rattle.step_core.specs.Word.{value_in, choice_in, value_at, values_of, picks_of}
-use Rattle.step_core.specs.Sound.{Sound}
+use Rattle.step_core.specs.Sound.{IsSound}
 use Rattle.step_core.specs.Events.{on_side}
-use Rattle.step_core.proofs.Words.{values_of-at, values_of-is, Sound-goals, Sound-units}
+use Rattle.step_core.proofs.Words.{values_of-at, values_of-is, IsSound-goals, IsSound-units}
 use Rattle.bracket_engine.specs.Bracket.{IsBracket, IsNear}
 use Rattle.bracket_engine.specs.Choices.{choice_of_word, AreChoices}
 use Rattle.bracket_engine.specs.Race.{IsRaced}
 use Rattle.bracket_engine.specs.Upper.{IsUpperOf}
 
--- a table that is nowhere above an r-fold down step is Low
-below-low : (q : Query) (table : ℕ → ℕ) (r : ℕ) → AreChoicesOf q.game (choices_of q.game) → IsBelow q table (down_steps q r) → Low q table
+-- a table that is nowhere above an r-fold down step is low
+below-low : (q : Query) (table : ℕ → ℕ) (r : ℕ) → AreChoicesOf q.game (choices_of q.game) → IsBelow q table (down_steps q r) → IsLow q table
 below-low q table r chosen below = record {
   horizon = r;
   below = λ s inside. omega (arith, mul-le-mul_right (denominator q.game ^ r) (below s inside), down_steps-below q chosen r s);
@@ -38,8 +38,8 @@ zero-or-one : (marked : Bool) (top u n d : ℕ) → (marked ≡ true → n ≡ 0
 zero-or-one true top u n d none whole most = rw (none refl) (omega arith)
 zero-or-one false top u n d none whole most = rw (whole refl) (mul-le-mul_left top most)
 
--- the table that is 0 on the zero set and 1 elsewhere is High
-upper-high : (q : Query) (marks : List Bool) (table : List ℕ) → AreChoicesOf q.game (choices_of q.game) → IsZeroSet q marks → IsUpperOf q marks table → High q (slice_index table)
+-- the table that is 0 on the zero set and 1 elsewhere is high
+upper-high : (q : Query) (marks : List Bool) (table : List ℕ) → AreChoicesOf q.game (choices_of q.game) → IsZeroSet q marks → IsUpperOf q marks table → IsHigh q (slice_index table)
 upper-high q marks table chosen zero_set upper = λ k s inside.
     zero-or-one (slice_index_or marks s false) unit (slice_index table s) (numerator q k s) (denominator q.game ^ k)
     (λ marked. zero_set.marked s inside marked k) (λ unmarked. upper.unmarked s inside unmarked) (numerator_of-most q (choices_of q.game) chosen k s)
@@ -62,7 +62,7 @@ IsBracket-raced q zero_set asked words lower upper rounds stable posed is_zero_s
     let chosen : AreChoicesOf q.game (choices_of q.game) = AreChoicesOf-choices_of q.game posed.game in
     let sound = raced.sound in
     let table : slice_index lower ≡ value_at words = ap slice_index is ∙ values_of-is words in
-    let opened : IsBelow q (opening q) (slice_index lower) = subst (IsBelow q (opening q)) (sym table) (λ s inside. opening-if (is_goal q s) (value_at words s) (λ goal. Sound-goals q words sound s inside goal)) in
+    let opened : IsBelow q (opening q) (slice_index lower) = subst (IsBelow q (opening q)) (sym table) (λ s inside. opening-if (is_goal q s) (value_at words s) (λ goal. IsSound-goals q words sound s inside goal)) in
     let top : IsBelow q (slice_index lower) (down_steps q sound.rounds) = subst (λ (t : ℕ → ℕ). IsBelow q t (down_steps q sound.rounds)) (sym table) sound.below in
     let swept : IsBelow q (down_steps q rounds) (slice_index lower) = subst (IsBelow q (down_steps q rounds)) (sym table) raced.swept in
     let early : rounds < asked → IsSettled q (slice_index lower) = λ less. subst (IsSettled q) (sym table) (raced.early less) in
@@ -73,7 +73,7 @@ IsBracket-raced q zero_set asked words lower upper rounds stable posed is_zero_s
     let many : length lower ≡ states q = ap length is ∙ length-map words value_in ∙ sound.as_many in
     record {
       lower_length = many;
-      lower_units = λ s d inside. omega (arith, get_or_default lower s d 0 inside, ap (λ t. t s) table, Sound-units q words sound s (subst (λ n. s < n) many inside));
+      lower_units = λ s d inside. omega (arith, get_or_default lower s d 0 inside, ap (λ t. t s) table, IsSound-units q words sound s (subst (λ n. s < n) many inside));
       low = below-low q (slice_index lower) sound.rounds chosen top;
       high = upper-high q zero_set upper chosen is_zero_set is_upper;
       exact = is_upper;
@@ -144,7 +144,7 @@ module _ (q : Query) (word s : ℕ) where
       either-side Max b x none = none-if b x none
       either-side Min b x none = none-if b None refl
 
-pub AreChoices-closed : (q : Query) (words lower : List ℕ) (choices : List (Option ℕ)) → Sound q words → lower ≡ values_of words → length choices ≡ states q
+pub AreChoices-closed : (q : Query) (words lower : List ℕ) (choices : List (Option ℕ)) → IsSound q words → lower ≡ values_of words → length choices ≡ states q
     → ((s : ℕ) → s < states q → slice_index_or choices s None ≡ choice_of_word q s (slice_index words s)) → AreChoices q lower choices
 AreChoices-closed q words lower choices sound is many each =
     let ranked : Ranked q (values_of words) choices sound.ranks = record {

@@ -6,7 +6,7 @@ use Rattle.game_model.specs.Rounded.{down_step, down_steps, opening, IsBelow, Is
 use Rattle.game_model.proofs.Choices.{AreChoicesOf, AreChoicesOf-choices_of}
 use Rattle.game_laws.proofs.Steps.{down_step-le, down_steps-rises, down_steps-settled}
 use Rattle.step_core.specs.Word.{value_at, opening_words}
-use Rattle.step_core.specs.Sound.{Sound, Sees}
+use Rattle.step_core.specs.Sound.{IsSound, Sees}
 use Rattle.step_core.proofs.Sights.{Sees-below}
 use Rattle.step_core.proofs.Words.{opening_words-value}
 
@@ -31,7 +31,7 @@ unfolding down_steps
 opening-first q table below = below
 
 -- where what was seen is settled, it is what is closed
-pub closed-settled : (q : Query) (words seen : List ℕ) → IsQuery q → Sound q words → Sees q words seen → IsBelow q (down_steps q 0) (value_at seen) → IsSettled q (value_at seen) → IsSettled q (value_at words)
+pub closed-settled : (q : Query) (words seen : List ℕ) → IsQuery q → IsSound q words → Sees q words seen → IsBelow q (down_steps q 0) (value_at seen) → IsSettled q (value_at seen) → IsSettled q (value_at words)
 closed-settled q words seen h sound sees opens settled =
     let chosen : AreChoicesOf q.game (choices_of q.game) = AreChoicesOf-choices_of q.game h.game in
     let top : IsBelow q (down_steps q sound.rounds) (value_at seen) = down_steps-settled q (value_at seen) chosen (opening-first q (value_at seen) opens) settled sound.rounds in

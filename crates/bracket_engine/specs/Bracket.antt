@@ -4,7 +4,7 @@ use Rattle.game_model.specs.Query.{Query, states}
 use Rattle.game_model.specs.Values.{denominator, numerator}
 use Rattle.game_model.specs.Limits.{unit}
 use Rattle.game_model.specs.Rounded.{down_steps, opening, IsBelow, IsSettled}
-use Rattle.game_model.specs.Bounds.{Low, High}
+use Rattle.game_model.specs.Bounds.{IsLow, IsHigh}
 use Rattle.bracket_engine.specs.Upper.{IsUpperOf}
 
 -- at most r units below the r-step values
@@ -22,8 +22,8 @@ pub record IsBracket (q : Query) (zero : List Bool) (asked : ℕ) (lower upper :
   pub lower_length : length lower ≡ states q
   pub lower_units : All (λ v. v ≤ unit) lower
   -- the bounds are sound
-  pub low : Low q (slice_index lower)
-  pub high : High q (slice_index upper)
+  pub low : IsLow q (slice_index lower)
+  pub high : IsHigh q (slice_index upper)
   -- the upper table is 0 on the zero set and 1 elsewhere
   pub exact : IsUpperOf q zero upper
   -- the lower table lies between the down steps of the completed rounds and those of all their updates, one a state, and is nowhere below those of the asked rounds

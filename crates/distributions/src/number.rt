@@ -1,10 +1,10 @@
 //! Numbers as texts spell them.
 
-ghost use Rattle.std.specs.Prelude.{◌≡◌, ◌≤◌, ◌<◌, ◌+◌, ◌*◌, ◌^◌, ◌++◌, ◌&&◌, not, true, Some, Ok, IfOk, length, option_map};
+ghost use Rattle.std.specs.Prelude.{◌≡◌, ◌≤◌, ◌<◌, ◌+◌, ◌*◌, ◌^◌, ◌&&◌, not, true, Some, Ok, IfOk, length, option_map};
 ghost use Rattle.text_lines.specs.Text.{is_nil, all_digits, value_onto};
 ghost use Rattle.distributions.specs.Limits.{most_digits};
 ghost use Rattle.distributions.specs.Fraction.{Fraction};
-ghost use Rattle.distributions.specs.Number.{number_said, Denotes, leading_digits, behind_digits, digits_len, exponent_digits, exponent_of, decimal_of, behind_front, spelling_of, is_long, quotient_of, spelling_said, Decimal, Quotient};
+ghost use Rattle.distributions.specs.Number.{number_said, Denotes, leading_digits, behind_digits, digits_len, exponent_digits, exponent_of, decimal_of, behind_front, spelling_of, quotient_of, spelling_said, Decimal, Quotient};
 ghost use Rattle.distributions.specs.Written.{exponent_in, spelling_in};
 
 use crate::fraction::Frac;

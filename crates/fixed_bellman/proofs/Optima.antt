@@ -1,9 +1,9 @@
 -- What the loops over the choices of a state find.
-use Rattle.std.proofs.Common.{◌≡◌, ℕ, ◌+◌, ◌-◌, ◌*◌, ◌/◌, ◌<◌, ◌≤◌, List, [], ◌∷◌, length, take, fold, arith, ap, subst, ◌∙◌, max, min}
+use Rattle.std.proofs.Common.{◌≡◌, ℕ, ◌+◌, ◌-◌, ◌*◌, ◌/◌, ◌<◌, ◌≤◌, List, [], ◌∷◌, length, take, fold, arith, ap, subst, ◌∙◌, min}
 use Rattle.std.specs.Prelude.{slice_index, slice_index_or, All}
 use Rattle.std.proofs.lemmas.List.{take_all}
-use Rattle.std.proofs.Math.Nat.{div-lt_iff_lt-mul, min-eq_right, max-eq_right}
-use Rattle.game_model.specs.declared.game.Side.TheVariants.{Max, Min}
+use Rattle.std.proofs.Math.Nat.{div-lt_iff_lt-mul, min-eq_right}
+use Rattle.game_model.specs.declared.game.Side.TheVariants.{Min}
 use Rattle.game_model.specs.Game.{Distribution, IsDistribution, no_distribution, choices_of}
 use Rattle.game_model.specs.Values.{better, optimum, weighted_sum}
 use Rattle.game_model.specs.Limits.{unit}
@@ -31,15 +31,6 @@ least-whole f (x ∷ xs) p best top some past first same =
     let whole : take p (x ∷ xs) ≡ x ∷ xs = take_all p (x ∷ xs) past in
     let start : min top (f x) ≡ f x = min-eq_right first in
     same ∙ ap (λ ys. fold (λ least y. better Min least (f y)) top ys) whole ∙ ap (λ a. fold (λ least y. better Min least (f y)) a xs) start
-
--- the greatest value of all, as the loop finds it from 0
-pub greatest-whole : (f : Distribution → ℕ) (xs : List Distribution) (p best : ℕ) → length xs ≤ p
-    → best ≡ fold (λ most y. better Max most (f y)) 0 (take p xs) → best ≡ optimum Max f xs
-greatest-whole f [] p best past same = same ∙ ap (λ ys. fold (λ most y. better Max most (f y)) 0 ys) (take_all p [] past)
-greatest-whole f (x ∷ xs) p best past same =
-    let whole : take p (x ∷ xs) ≡ x ∷ xs = take_all p (x ∷ xs) past in
-    let start : max 0 (f x) ≡ f x = max-eq_right (omega arith) in
-    same ∙ ap (λ ys. fold (λ most y. better Max most (f y)) 0 ys) whole ∙ ap (λ a. fold (λ most y. better Max most (f y)) a xs) start
 
 -- the loop has gone over all choices
 pub all-choices : (game game' : List (List Distribution)) (s count p : ℕ) → game ≡ game' → count ≡ length (choices_of game s) → count ≤ p → length (choices_of game' s) ≤ p

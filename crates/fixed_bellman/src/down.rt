@@ -1,6 +1,6 @@
 //! The down step of a table.
 
-ghost use Rattle.std.specs.Prelude.{◌≡◌, ℕ, ◌<◌, ◌≤◌, ◌↔◌, ◌⊎◌, length, slice_index, All, IsTrue, MatchOption};
+ghost use Rattle.std.specs.Prelude.{◌≡◌, ◌<◌, ◌≤◌, ◌↔◌, ◌⊎◌, length, slice_index, All, IsTrue, MatchOption};
 ghost use Rattle.game_model.specs.Query.{states};
 ghost use Rattle.game_model.specs.Limits.{unit};
 ghost use Rattle.game_model.specs.Rounded.{DownChoice, IsSettled, down_step};

@@ -1,6 +1,6 @@
 //! The value of a choice before it is rounded.
 
-ghost use Rattle.std.specs.Prelude.{◌≡◌, ℕ, ◌+◌, ◌*◌, ◌^◌, ◌<◌, ◌≤◌, IsTrue, ◌↔◌};
+ghost use Rattle.std.specs.Prelude.{◌≡◌, ◌+◌, ◌*◌, ◌<◌, ◌≤◌, IsTrue, ◌↔◌};
 ghost use Rattle.game_model.specs.Limits.{unit, total_bound};
 
 /// The greatest total whose product with the unit fits 64 bits.

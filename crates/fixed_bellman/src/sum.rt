@@ -1,9 +1,8 @@
 //! The weighted sum of a choice, by the width that its total needs.
 
-ghost use Rattle.std.specs.Prelude.{◌≡◌, ℕ, ◌*◌, ◌^◌, ◌<◌, ◌≤◌, length, slice_index, sum_by, All};
+ghost use Rattle.std.specs.Prelude.{◌≡◌, ℕ, ◌*◌, ◌^◌, ◌<◌, ◌≤◌, length, slice_index, All};
 ghost use Rattle.game_model.specs.Game.{choices_of, choice_of};
 ghost use Rattle.game_model.specs.Query.{states};
-ghost use Rattle.game_model.specs.Values.{weighted_sum};
 ghost use Rattle.game_model.specs.Limits.{unit, total_bound};
 ghost use Rattle.game_model.specs.Rounded.{down_value, up_value};
 ghost use Rattle.fixed_bellman.specs.Quotients.{rounded_down, rounded_up, IsBetween};

@@ -1,6 +1,6 @@
 //! The up step of a table.
 
-ghost use Rattle.std.specs.Prelude.{◌≡◌, ℕ, ◌<◌, ◌≤◌, length, slice_index, All};
+ghost use Rattle.std.specs.Prelude.{◌≡◌, ◌<◌, ◌≤◌, length, slice_index, All};
 ghost use Rattle.game_model.specs.Game.{choices_of};
 ghost use Rattle.game_model.specs.Query.{states};
 ghost use Rattle.game_model.specs.Values.{optimum};

@@ -9,7 +9,7 @@ use Rattle.game_model.specs.Query.{Query, is_goal}
 use Rattle.game_model.specs.Values.{weighted_sum, bellman, denominator, numerator_of}
 use Rattle.game_model.specs.Limits.{unit}
 use Rattle.game_model.specs.Rounded.{up_value, up_step}
-use Rattle.game_model.specs.Bounds.{High}
+use Rattle.game_model.specs.Bounds.{IsHigh}
 use Rattle.game_model.proofs.Each.{AllByRecursion-weaker}
 use Rattle.game_model.proofs.Choices.{IsChoiceOf, AreChoicesOf}
 use Rattle.game_model.proofs.Best.{weighted_sum-le}
@@ -56,6 +56,6 @@ inductive-above q choices table chosen inductive (suc k) s inside =
     bellman-le q choices unit (D ^ suc k) (D ^ suc k) unit _ (up_value table) s (omega arith) each in
     omega (arith, step, mul-le-mul_left (D ^ suc k) (inductive s inside))
 
--- a table whose up step is nowhere above it is High
-pub High-up_step : (q : Query) (table : ℕ → ℕ) → AreChoicesOf q.game (choices_of q.game) → ((s : ℕ) → s < length q.game → up_step q table s ≤ table s) → High q table
-High-up_step q table chosen inductive = λ k s inside. omega (arith, inductive-above q (choices_of q.game) table chosen inductive k s inside)
+-- a table whose up step is nowhere above it is high
+pub IsHigh-up_step : (q : Query) (table : ℕ → ℕ) → AreChoicesOf q.game (choices_of q.game) → ((s : ℕ) → s < length q.game → up_step q table s ≤ table s) → IsHigh q table
+IsHigh-up_step q table chosen inductive = λ k s inside. omega (arith, inductive-above q (choices_of q.game) table chosen inductive k s inside)

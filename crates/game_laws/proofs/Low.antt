@@ -12,7 +12,7 @@ use Rattle.game_model.specs.Query.{Query, is_goal, is_dead, side_at}
 use Rattle.game_model.specs.Values.{optimum, weighted_sum, bellman, denominator, numerator_of, numerator}
 use Rattle.game_model.specs.Limits.{unit}
 use Rattle.game_model.specs.Rounded.{down_value, down_step, down_steps}
-use Rattle.game_model.specs.Bounds.{Low}
+use Rattle.game_model.specs.Bounds.{IsLow}
 use Rattle.game_model.proofs.Each.{AllByRecursion-weaker}
 use Rattle.game_model.proofs.Choices.{IsChoiceOf, AreChoicesOf}
 use Rattle.game_model.proofs.Best.{optimum-plus, weighted_sum-le, weighted_sum-plus}
@@ -48,9 +48,9 @@ down_step-below q table k chosen below s =
     bellman-le q (choices_of q.game) (D ^ suc k) unit unit (D ^ suc k) (down_value table) _ s (omega arith) each in
     omega (arith, step)
 
--- the down step of a Low table is Low
-pub Low-down_step : (q : Query) (table : ℕ → ℕ) → AreChoicesOf q.game (choices_of q.game) → Low q table → Low q (down_step q table)
-Low-down_step q table chosen low = record { horizon = suc low.horizon; below = λ s inside. down_step-below q table low.horizon chosen low.below s }
+-- the down step of a low table is low
+pub IsLow-down_step : (q : Query) (table : ℕ → ℕ) → AreChoicesOf q.game (choices_of q.game) → IsLow q table → IsLow q (down_step q table)
+IsLow-down_step q table chosen low = record { horizon = suc low.horizon; below = λ s inside. down_step-below q table low.horizon chosen low.below s }
 
 opening-below : (goal : Bool) (u d : ℕ) → (if goal then u else 0) * d ^ 0 ≤ u * (if goal then 1 else 0)
 opening-below true u d = let at : u * d ^ 0 ≤ u * 1 = rw (pow-zero d) (omega arith) in at
@@ -120,10 +120,10 @@ down_steps-near q chosen (suc r) s =
 later-below : (next v u d p n m : ℕ) → next ≤ v → v * p ≤ u * n → d * n ≤ 1 * m → next * (p * d) ≤ u * m
 later-below next v u d p n m less below rises = omega (arith, mul-le-mul_right (p * d) less, mul-le-mul_right d below, mul-le-mul_left u rises)
 
--- a table whose entries are each at most that of a Low table or its down value is Low
-pub Low-raised : (q : Query) (table next : ℕ → ℕ) → AreChoicesOf q.game (choices_of q.game) → Low q table
-    → ((s : ℕ) → s < length q.game → (next s ≤ table s) ⊎ (next s ≤ down_step q table s)) → Low q next
-Low-raised q table next chosen low raised =
+-- a table whose entries are each at most that of a low table or its down value is low
+pub IsLow-raised : (q : Query) (table next : ℕ → ℕ) → AreChoicesOf q.game (choices_of q.game) → IsLow q table
+    → ((s : ℕ) → s < length q.game → (next s ≤ table s) ⊎ (next s ≤ down_step q table s)) → IsLow q next
+IsLow-raised q table next chosen low raised =
     let D : ℕ = denominator q.game in
     record {
       horizon = suc low.horizon;

@@ -1,10 +1,10 @@
--- What Low and High tables say of a bound a/b.
+-- What low and high tables say of a bound a/b.
 use Rattle.std.proofs.Common.{ℕ, ◌+◌, ◌*◌, ◌^◌, ◌<◌, ◌≤◌, length, arith, lit<}
 use Rattle.std.proofs.Math.Nat.{mul-le-mul_left, mul-le-mul_right, mul-lt-mul_of_pos_right, le_of_mul-le-mul_left, lt_of_mul-lt-mul_left, one-le-pow}
 use Rattle.game_model.specs.Query.{Query, IsQuery}
 use Rattle.game_model.specs.Values.{denominator, numerator}
 use Rattle.game_model.specs.Limits.{unit}
-use Rattle.game_model.specs.Bounds.{Low, High, Reaches, Exceeds}
+use Rattle.game_model.specs.Bounds.{IsLow, IsHigh, Reaches, Exceeds}
 use Rattle.game_model.proofs.Choices.{denominator-pos}
 
 -- the unit is positive
@@ -18,8 +18,8 @@ reached u a b v n d m positive bound low =
     omega (arith, cut)
 
 -- a lower value that is at least the bound shows that it is reached
-pub Low-reaches : (q : Query) (table : ℕ → ℕ) (a b s : ℕ) → Low q table → s < length q.game → a * unit ≤ table s * b → Reaches q a b s
-Low-reaches q table a b s low inside bound = λ m some. (low.horizon, reached unit a b (table s) (numerator q low.horizon s) (denominator q.game ^ low.horizon) m unit-pos bound (low.below s inside))
+pub IsLow-reaches : (q : Query) (table : ℕ → ℕ) (a b s : ℕ) → IsLow q table → s < length q.game → a * unit ≤ table s * b → Reaches q a b s
+IsLow-reaches q table a b s low inside bound = λ m some. (low.horizon, reached unit a b (table s) (numerator q low.horizon s) (denominator q.game ^ low.horizon) m unit-pos bound (low.below s inside))
 
 exceeded : (u a b v n d : ℕ) → 0 < d → a * u < v * b → v * d ≤ u * n → a * d < b * n
 exceeded u a b v n d positive bound low =
@@ -28,8 +28,8 @@ exceeded u a b v n d positive bound low =
     lt_of_mul-lt-mul_left u whole
 
 -- a lower value that is above the bound shows that it is exceeded
-pub Low-exceeds : (q : Query) (table : ℕ → ℕ) (a b s : ℕ) → IsQuery q → Low q table → s < length q.game → a * unit < table s * b → Exceeds q a b s
-Low-exceeds q table a b s h low inside bound =
+pub IsLow-exceeds : (q : Query) (table : ℕ → ℕ) (a b s : ℕ) → IsQuery q → IsLow q table → s < length q.game → a * unit < table s * b → Exceeds q a b s
+IsLow-exceeds q table a b s h low inside bound =
     (low.horizon, exceeded unit a b (table s) (numerator q low.horizon s) (denominator q.game ^ low.horizon) (one-le-pow low.horizon (denominator q.game) (denominator-pos q.game h.game)) bound (low.below s inside))
 
 not-exceeded : (top a b u n d : ℕ) → 0 < top → u * b ≤ a * top → top * n ≤ u * d → b * n ≤ a * d
@@ -38,8 +38,8 @@ not-exceeded top a b u n d some bound high =
     le_of_mul-le-mul_left whole some
 
 -- an upper value that is at most the bound shows that it is not exceeded
-pub High-not-exceeds : (q : Query) (table : ℕ → ℕ) (a b s : ℕ) → High q table → s < length q.game → table s * b ≤ a * unit → Exceeds q a b s → ⊥
-High-not-exceeds q table a b s high inside bound exceeds =
+pub IsHigh-not-exceeds : (q : Query) (table : ℕ → ℕ) (a b s : ℕ) → IsHigh q table → s < length q.game → table s * b ≤ a * unit → Exceeds q a b s → ⊥
+IsHigh-not-exceeds q table a b s high inside bound exceeds =
     let most : b * numerator q exceeds.0 s ≤ a * denominator q.game ^ exceeds.0 = not-exceeded unit a b (table s) (numerator q exceeds.0 s) (denominator q.game ^ exceeds.0) unit-pos bound (high exceeds.0 s inside) in
     omega (arith, exceeds.1)
 
@@ -49,8 +49,8 @@ not-reached top a b u n d m positive bound high near =
     le_of_mul-le-mul_left whole positive
 
 -- an upper value that is below the bound shows that it is not reached
-pub High-not-reaches : (q : Query) (table : ℕ → ℕ) (a b s : ℕ) → IsQuery q → High q table → s < length q.game → table s * b < a * unit → Reaches q a b s → ⊥
-High-not-reaches q table a b s h high inside bound reaches =
+pub IsHigh-not-reaches : (q : Query) (table : ℕ → ℕ) (a b s : ℕ) → IsQuery q → IsHigh q table → s < length q.game → table s * b < a * unit → Reaches q a b s → ⊥
+IsHigh-not-reaches q table a b s h high inside bound reaches =
     let m : ℕ = b * unit + 1 in
     let at : (k : ℕ) × (a * m * denominator q.game ^ k ≤ b * (m * numerator q k s + denominator q.game ^ k)) = reaches m (omega arith) in
     let most : m ≤ b * unit = not-reached unit a b (table s) (numerator q at.0 s) (denominator q.game ^ at.0) m (one-le-pow at.0 (denominator q.game) (denominator-pos q.game h.game)) (omega (arith, bound)) (high at.0 s inside) at.1 in

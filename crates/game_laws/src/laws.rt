@@ -1,24 +1,24 @@
 //! Laws of rounded steps and of sound bounds, for every question and every table.
 
-ghost use Rattle.std.specs.Prelude.{◌≡◌, ℕ, ◌+◌, ◌*◌, ◌^◌, ◌<◌, ◌≤◌, ◌⊎◌, List, Bool, Option};
+ghost use Rattle.std.specs.Prelude.{ℕ, ◌+◌, ◌*◌, ◌^◌, ◌<◌, ◌≤◌, ◌⊎◌, List, Bool, Option};
 ghost use Rattle.game_model.specs.Query.{Query, IsQuery, states};
 ghost use Rattle.game_model.specs.Values.{denominator, numerator};
 ghost use Rattle.game_model.specs.Limits.{unit};
-ghost use Rattle.game_model.specs.Rounded.{down_step, up_step, down_steps, opening, IsBelow, IsSettled, IsInductive};
-ghost use Rattle.game_model.specs.Bounds.{Low, High, Reaches, Exceeds};
+ghost use Rattle.game_model.specs.Rounded.{down_step, down_steps, opening, IsBelow, IsSettled, IsInductive};
+ghost use Rattle.game_model.specs.Bounds.{IsLow, IsHigh, Reaches, Exceeds};
 ghost use Rattle.game_model.specs.Dual.{open_numerator, swapped, IsZeroSet};
 ghost use Rattle.game_model.specs.Plans.{numerator_under};
 ghost use Rattle.game_model.specs.declared.game.Side.TheVariants.{Max};
 
 /// The down step of a table that is below a k-step value is below the next one.
 pub fn down_steps_stay_low()
-    ensures { (q : Query) (table : ℕ → ℕ) → IsQuery q → Low q table → Low q (down_step q table) }
+    ensures { (q : Query) (table : ℕ → ℕ) → IsQuery q → IsLow q table → IsLow q (down_step q table) }
 {}
 
-/// A table whose entries are each at most that of a Low table or its down value is Low.
+/// A table whose entries are each at most that of a low table or its down value is low.
 pub fn raised_tables_stay_low()
-    ensures { (q : Query) (table next : ℕ → ℕ) → IsQuery q → Low q table →
-        ((s : ℕ) → s < states q → (next s ≤ table s) ⊎ (next s ≤ down_step q table s)) → Low q next }
+    ensures { (q : Query) (table next : ℕ → ℕ) → IsQuery q → IsLow q table →
+        ((s : ℕ) → s < states q → (next s ≤ table s) ⊎ (next s ≤ down_step q table s)) → IsLow q next }
 {}
 
 /// A greater table has a greater down step.
@@ -50,7 +50,7 @@ pub fn settled_tables_are_above_down_steps()
 /// An inductive table is above every k-step value (a fixed-point argument after Park; as a certificate
 /// of an upper bound it is used by Hartmanns and Kaminski, Optimistic value iteration, CAV 2020).
 pub fn inductive_tables_are_high()
-    ensures { (q : Query) (table : ℕ → ℕ) → IsQuery q → IsInductive q table → High q table }
+    ensures { (q : Query) (table : ℕ → ℕ) → IsQuery q → IsInductive q table → IsHigh q table }
 {}
 
 /// An upper entry that is at most the rest of the swapped question's r-fold down step is at most r units
@@ -63,22 +63,22 @@ pub fn dual_bounds_come_near()
 
 /// A lower value that is at least a bound shows that the values reach the bound.
 pub fn low_tables_are_reached()
-    ensures { (q : Query) (table : ℕ → ℕ) (a b s : ℕ) → Low q table → s < states q → a * unit ≤ table s * b → Reaches q a b s }
+    ensures { (q : Query) (table : ℕ → ℕ) (a b s : ℕ) → IsLow q table → s < states q → a * unit ≤ table s * b → Reaches q a b s }
 {}
 
 /// A lower value that is above a bound shows that some value exceeds the bound.
 pub fn low_tables_are_exceeded()
-    ensures { (q : Query) (table : ℕ → ℕ) (a b s : ℕ) → IsQuery q → Low q table → s < states q → a * unit < table s * b → Exceeds q a b s }
+    ensures { (q : Query) (table : ℕ → ℕ) (a b s : ℕ) → IsQuery q → IsLow q table → s < states q → a * unit < table s * b → Exceeds q a b s }
 {}
 
 /// An upper value that is at most a bound shows that no value exceeds the bound.
 pub fn high_tables_are_not_exceeded()
-    ensures { (q : Query) (table : ℕ → ℕ) (a b s : ℕ) → High q table → s < states q → table s * b ≤ a * unit → ¬ Exceeds q a b s }
+    ensures { (q : Query) (table : ℕ → ℕ) (a b s : ℕ) → IsHigh q table → s < states q → table s * b ≤ a * unit → ¬ Exceeds q a b s }
 {}
 
 /// An upper value that is below a bound shows that the values do not reach the bound.
 pub fn high_tables_are_not_reached()
-    ensures { (q : Query) (table : ℕ → ℕ) (a b s : ℕ) → IsQuery q → High q table → s < states q → table s * b < a * unit → ¬ Reaches q a b s }
+    ensures { (q : Query) (table : ℕ → ℕ) (a b s : ℕ) → IsQuery q → IsHigh q table → s < states q → table s * b < a * unit → ¬ Reaches q a b s }
 {}
 
 /// With a plan the maximiser reaches at most the value.

@@ -1,29 +1,29 @@
 //! The laws for a program's own question and tables.
 
-ghost use Rattle.std.specs.Prelude.{◌≡◌, ℕ, ◌+◌, ◌*◌, ◌^◌, ◌<◌, ◌≤◌, ◌⊎◌, List, Bool, length, slice_index, slice_set};
+ghost use Rattle.std.specs.Prelude.{ℕ, ◌+◌, ◌*◌, ◌^◌, ◌<◌, ◌≤◌, ◌⊎◌, slice_index, slice_set};
 ghost use Rattle.game_model.specs.Query.{states};
 ghost use Rattle.game_model.specs.Values.{denominator, numerator};
 ghost use Rattle.game_model.specs.Limits.{unit};
 ghost use Rattle.game_model.specs.Rounded.{down_step, down_steps, opening, IsBelow, IsSettled, IsInductive};
-ghost use Rattle.game_model.specs.Bounds.{Low, High, Reaches, Exceeds};
+ghost use Rattle.game_model.specs.Bounds.{IsLow, IsHigh, Reaches, Exceeds};
 
 use game_model::Question;
 
-/// A table whose entries are each at most that of a Low table or its down value is Low.
+/// A table whose entries are each at most that of a low table or its down value is low.
 pub fn stays_low(question: &Question, table: &[u64], next: &[u64])
-    requires low { Low question.now (slice_index table.now) }
+    requires low { IsLow question.now (slice_index table.now) }
     requires raised { (s : ℕ) → s < states question.now →
         (slice_index next.now s ≤ slice_index table.now s) ⊎ (slice_index next.now s ≤ down_step question.now (slice_index table.now) s) }
-    ensures { Low question.now (slice_index next.now) }
+    ensures { IsLow question.now (slice_index next.now) }
 {
     question.known();
 }
 
-/// A Low table stays Low where one entry is raised to at most its down value.
+/// A low table stays low where one entry is raised to at most its down value.
 pub fn stays_low_when_raised(question: &Question, table: &[u64], state: u32, value: u64)
-    requires low { Low question.now (slice_index table.now) }
+    requires low { IsLow question.now (slice_index table.now) }
     requires raised { value ≤ down_step question.now (slice_index table.now) state }
-    ensures { Low question.now (slice_index (slice_set table.now state value)) }
+    ensures { IsLow question.now (slice_index (slice_set table.now state value)) }
 {
     question.known();
 }
@@ -57,23 +57,23 @@ pub fn settled_is_above_down_steps(question: &Question, table: &[u64])
 /// An inductive table is above every k-step value.
 pub fn inductive_is_high(question: &Question, table: &[u64])
     requires { IsInductive question.now (slice_index table.now) }
-    ensures { High question.now (slice_index table.now) }
+    ensures { IsHigh question.now (slice_index table.now) }
 {
     question.known();
 }
 
-/// What a Low table says of a bound a/b.
+/// What a low table says of a bound a/b.
 pub fn low_and_bounds(question: &Question, table: &[u64])
-    requires { Low question.now (slice_index table.now) }
+    requires { IsLow question.now (slice_index table.now) }
     ensures reached { (a b s : ℕ) → s < states question.now → a * unit ≤ slice_index table.now s * b → Reaches question.now a b s }
     ensures exceeded { (a b s : ℕ) → s < states question.now → a * unit < slice_index table.now s * b → Exceeds question.now a b s }
 {
     question.known();
 }
 
-/// What a High table says of a bound a/b.
+/// What a high table says of a bound a/b.
 pub fn high_and_bounds(question: &Question, table: &[u64])
-    requires { High question.now (slice_index table.now) }
+    requires { IsHigh question.now (slice_index table.now) }
     ensures not_exceeded { (a b s : ℕ) → s < states question.now → slice_index table.now s * b ≤ a * unit → ¬ Exceeds question.now a b s }
     ensures not_reached { (a b s : ℕ) → s < states question.now → slice_index table.now s * b < a * unit → ¬ Reaches question.now a b s }
 {

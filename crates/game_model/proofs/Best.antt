@@ -1,7 +1,7 @@
 -- Laws of optima and of weighted sums.
-use Rattle.std.proofs.Common.{◌≡◌, ℕ, zero, suc, ◌+◌, ◌*◌, ◌<◌, ◌≤◌, List, [], ◌∷◌, length, fold, sum_by, arith, refl, ap, subst, inl, inr, ◌⊎◌, max, min, take, get_or, add-one}
+use Rattle.std.proofs.Common.{◌≡◌, ℕ, zero, suc, ◌+◌, ◌*◌, ◌<◌, ◌≤◌, List, [], ◌∷◌, length, fold, sum_by, arith, refl, ap, inl, inr, ◌⊎◌, max, min, get_or}
 use Rattle.std.specs.List.{AllByRecursion}
-use Rattle.std.proofs.lemmas.List.Sums.{sum_by-cons, fold_more}
+use Rattle.std.proofs.lemmas.List.Sums.{sum_by-cons}
 use Rattle.std.proofs.lemmas.Bool.{cases_lt}
 use Rattle.std.proofs.Math.Nat.{mul-le-mul_left, max-le, add-max-add_right, add-min-add_right, max-eq_left, max-eq_right, min-eq_left, min-eq_right, le-max_left, le-max_right, min-le_left, min-le_right}
 use Rattle.game_model.specs.declared.game.Edge.{Edge}
@@ -71,16 +71,6 @@ weighted_sum-both v w m [] h = omega arith
 weighted_sum-both v w m (e ∷ es) h =
     rw (sum_by-cons (λ (d : Edge). d.weight * v d.to) e es, sum_by-cons (λ (d : Edge). d.weight * w d.to) e es, sum_by-cons (λ (d : Edge). d.weight) e es)
     (omega (arith, weighted_sum-both v w m es h.1, ap (λ n. e.weight * n) h.0))
-
--- the optimum of one more
-pub optimum-take-more : {X : Type 0} (side : Side) (f : X → ℕ) (xs : List X) (i : ℕ) (d : X) → 0 < i → i < length xs → optimum side f (take (i + 1) xs) ≡ better side (optimum side f (take i xs)) (f (get_or xs i d))
-optimum-take-more side f [] i d h l = absurd (omega arith)
-optimum-take-more side f (x ∷ xs) zero d h l = absurd (omega arith)
-optimum-take-more {X} side f (x ∷ xs) (suc j) d h l =
-    let F : ℕ → X → ℕ = λ best y. better side best (f y) in
-    let more : fold F (f x) (take (suc j) xs) ≡ better side (fold F (f x) (take j xs)) (f (get_or xs j d)) =
-    subst (λ n. fold F (f x) (take n xs) ≡ better side (fold F (f x) (take j xs)) (f (get_or xs j d))) (add-one j) (fold_more F (f x) xs j d (omega arith)) in
-    rw add-one more
 
 better-plus : (side : Side) (c x y : ℕ) → better side (x + c) (y + c) ≡ better side x y + c
 better-plus Max c x y = add-max-add_right x y c

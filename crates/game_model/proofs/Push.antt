@@ -7,7 +7,7 @@ use Rattle.game_model.specs.declared.game.Edge.{Edge}
 use Rattle.game_model.specs.Game.{IsDistribution}
 use Rattle.game_model.specs.Span.{span}
 use Rattle.game_model.specs.Flat.{edge_at, distribution_at, game_at, under_way_at, last_of, IsAscending, IsKept}
-use Rattle.game_model.specs.Draft.{Draft, distribution_of, with_choice, IsLonger, IsSameBelow, IsHigh}
+use Rattle.game_model.specs.Draft.{Draft, distribution_of, with_choice, IsLonger, IsSameBelow, HasHighWords}
 use Rattle.game_model.proofs.Span.{span-more}
 use Rattle.game_model.proofs.Longer.{taken-at, taken-length}
 use Rattle.game_model.proofs.Same.{last-push, push-below, ascending-push, distribution-same, game-same, under_way-same, edges-added}
@@ -48,7 +48,7 @@ module _ (fc fe totals to low high totals' to' low' high' : List ℕ) (h : IsKep
 -- one more choice
 module _ (fc fe totals to low high fe' totals' to' low' high' : List ℕ) (edges : List Edge) (h : IsKept fc fe totals to low high)
     (is_fe : fe' ≡ fe ++ (last_of fe + length edges) ∷ []) (is_totals : totals' ≡ take (length fe - 1) totals ++ sum_by (λ e. e.weight) edges ∷ [])
-    (is_to : to' ≡ take (last_of fe) to ++ map (λ e. e.to) edges) (is_low : low' ≡ take (last_of fe) low ++ map (λ e. e.weight % 2 ^ 64) edges) (push_high : IsSameBelow (last_of fe) high high') (is_high : IsHigh (last_of fe) edges high') where
+    (is_to : to' ≡ take (last_of fe) to ++ map (λ e. e.to) edges) (is_low : low' ≡ take (last_of fe) low ++ map (λ e. e.weight % 2 ^ 64) edges) (push_high : IsSameBelow (last_of fe) high high') (is_high : HasHighWords (last_of fe) edges high') where
   some : 0 < length fe
   some = h.laid_out.choices.some
 

@@ -1,11 +1,11 @@
 -- Edges by rising destination are no more than the destinations that there are.
-use Rattle.std.proofs.Common.{◌≡◌, ℕ, zero, suc, ◌<◌, ◌≤◌, List, length, arith, get_or, sum_by, inl, inr}
+use Rattle.std.proofs.Common.{◌≡◌, ℕ, zero, suc, ◌<◌, ◌≤◌, length, arith, get_or, sum_by, inl, inr}
 use Rattle.std.specs.Prelude.{All, slice_index}
 use Rattle.std.proofs.lemmas.List.{get_or-map}
 use Rattle.std.proofs.lemmas.Bool.{cases_lt}
 use Rattle.std.proofs.lemmas.List.Sums.{get_or-le-sum_by}
 use Rattle.game_model.specs.declared.game.Edge.{Edge}
-use Rattle.game_model.specs.Game.{Distribution, IsDistribution, IsGame, destinations, choices_of, choice_of, no_edge}
+use Rattle.game_model.specs.Game.{Distribution, IsDistribution, destinations, no_edge}
 
 -- each place is at most its destination
 pub place-le : (distribution : Distribution) → IsDistribution distribution → (i : ℕ) → i < length distribution.edges → i ≤ slice_index (destinations distribution.edges) i
@@ -26,10 +26,6 @@ length-edges-le distribution n h inside = elim (cases_lt n (length distribution.
       absurd (omega arith)
   | inr less ↦ less
 ]
-
--- a choice of a game has at most as many edges as the game has states
-pub length-edges_of-le : (game : List (List Distribution)) (s c : ℕ) → IsGame game → s < length game → c < length (choices_of game s) → length (choice_of game s c).edges ≤ length game
-length-edges_of-le game s c h ls lc = length-edges-le (choice_of game s c) (length game) (h.distribution s c ls lc) (h.inside s c ls lc)
 
 -- a choice has a positive total
 pub total-pos : (distribution : Distribution) → IsDistribution distribution → 0 < distribution.total

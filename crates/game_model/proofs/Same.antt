@@ -6,7 +6,7 @@ use Rattle.std.proofs.lemmas.List.{get_or_append_left, get_or_push, length_push,
 use Rattle.game_model.specs.declared.game.Edge.{Edge}
 use Rattle.game_model.specs.Game.{no_edge}
 use Rattle.game_model.specs.Span.{span}
-use Rattle.game_model.specs.Draft.{IsHigh}
+use Rattle.game_model.specs.Draft.{HasHighWords}
 use Rattle.game_model.specs.Flat.{edge_at, distribution_at, choices_at, game_at, under_way_at, last_of, IsAscending, IsLaidOut}
 use Rattle.game_model.proofs.Span.{length-span, get_or-span, span-same}
 
@@ -70,7 +70,7 @@ words : (w low high : ℕ) → low ≡ w % 2 ^ 64 → high ≡ w / 2 ^ 64 → lo
 words w low high l h = omega arith
 
 -- edges that were added behind others
-pub edges-added : (to low high : List ℕ) (a : ℕ) (edges : List Edge) → length to ≡ a → length low ≡ a → IsHigh a edges high
+pub edges-added : (to low high : List ℕ) (a : ℕ) (edges : List Edge) → length to ≡ a → length low ≡ a → HasHighWords a edges high
     → span (edge_at (to ++ map (λ e. e.to) edges) (low ++ map (λ e. e.weight % 2 ^ 64) edges) high) a (length edges) ≡ edges
 edges-added to low high a edges same same' is_high =
     same_lists _ _ (length-span _ a (length edges)) (λ i d l.

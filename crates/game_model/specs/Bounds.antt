@@ -5,13 +5,13 @@ use Rattle.game_model.specs.Values.{denominator, numerator}
 use Rattle.game_model.specs.Limits.{unit}
 
 -- every entry is at most some k-step value
-pub record Low (q : Query) (table : ℕ → ℕ) : Type 0 where
+pub record IsLow (q : Query) (table : ℕ → ℕ) : Type 0 where
   pub horizon : ℕ
   pub below : (s : ℕ) → s < length q.game → table s * denominator q.game ^ horizon ≤ unit * numerator q horizon s
 
 -- every k-step value is at most its entry
-abbrev pub High : Query → (ℕ → ℕ) → Type 0
-High q table = (k s : ℕ) → s < length q.game → unit * numerator q k s ≤ table s * denominator q.game ^ k
+abbrev pub IsHigh : Query → (ℕ → ℕ) → Type 0
+IsHigh q table = (k s : ℕ) → s < length q.game → unit * numerator q k s ≤ table s * denominator q.game ^ k
 
 -- k-step values come as near to a/b as one likes
 abbrev pub Reaches : Query → ℕ → ℕ → ℕ → Type 0

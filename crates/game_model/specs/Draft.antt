@@ -37,8 +37,8 @@ abbrev pub IsSameBelow : ℕ → List ℕ → List ℕ → Type 0
 IsSameBelow n xs ys = (i : ℕ) → i < n → slice_index ys i ≡ slice_index xs i
 
 -- from n on the high words of the weights
-abbrev pub IsHigh : ℕ → List Edge → List ℕ → Type 0
-IsHigh n edges xs = (i : ℕ) → i < length edges → slice_index xs (n + i) ≡ (slice_index_or edges i no_edge).weight / 2 ^ 64
+abbrev pub HasHighWords : ℕ → List Edge → List ℕ → Type 0
+HasHighWords n edges xs = (i : ℕ) → i < length edges → slice_index xs (n + i) ≡ (slice_index_or edges i no_edge).weight / 2 ^ 64
 
 -- ys is xs and zeros
 abbrev pub IsPadded : List ℕ → List ℕ → Type 0
@@ -49,7 +49,7 @@ abbrev pub IsPushed : List ℕ → List ℕ → List ℕ → List ℕ → List �
 IsPushed fe totals to low high edges fe' totals' to' low' high' =
     (fe' ≡ fe ++ (last_of fe + length edges) ∷ []) × (totals' ≡ take (length fe - 1) totals ++ sum_by (λ e. e.weight) edges ∷ [])
     × (to' ≡ take (last_of fe) to ++ map (λ e. e.to) edges) × (low' ≡ take (last_of fe) low ++ map (λ e. e.weight % 2 ^ 64) edges)
-    × IsSameBelow (last_of fe) high high' × IsHigh (last_of fe) edges high'
+    × IsSameBelow (last_of fe) high high' × HasHighWords (last_of fe) edges high'
 
 -- the lists are as before where they are in use
 abbrev pub IsStill : List ℕ → List ℕ → List ℕ → List ℕ → List ℕ → List ℕ → List ℕ → List ℕ → List ℕ → List ℕ → Type 0

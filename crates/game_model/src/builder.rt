@@ -1,10 +1,9 @@
 //! A builder of games, choice after choice, and the game of lists of choices.
 
-ghost use Rattle.std.specs.Prelude.{◌≡◌, ℕ, ◌+◌, ◌-◌, ◌/◌, ◌%◌, ◌^◌, ◌<◌, ◌≤◌, List, [], ◌∷◌, ◌++◌, length, slice_index, map, sum_by, All, IfOk, OnErr};
-ghost use Rattle.game_model.specs.Game.{Distribution, IsGame, IsRising};
-ghost use Rattle.game_model.specs.Limits.{most_states, most_choices, total_bound};
+ghost use Rattle.std.specs.Prelude.{◌≡◌, ◌+◌, ◌-◌, ◌/◌, ◌%◌, ◌^◌, ◌<◌, ◌≤◌, [], ◌∷◌, ◌++◌, length, map, sum_by, All, IfOk, OnErr};
+ghost use Rattle.game_model.specs.Limits.{most_states, most_choices};
 ghost use Rattle.game_model.specs.Flat.{last_of};
-ghost use Rattle.game_model.specs.Draft.{no_states, distribution_of, between, with_choice, with_state, IsLonger, IsPadded, IsSameBelow, IsHigh, IsPushed, IsStill};
+ghost use Rattle.game_model.specs.Draft.{no_states, between, with_choice, with_state, IsLonger, IsPadded, IsSameBelow, HasHighWords, IsPushed, IsStill};
 
 use crate::game::{Choice, Edge, Game};
 use game_outside::OutOfMemory;
@@ -172,7 +171,7 @@ fn add_high(
     requires short { length high.old.items ≤ begin }
     requires total { total ≡ sum_by (λ e. e.weight) edges.now }
     ensures below { IsSameBelow begin high.old.items high.new.items }
-    ensures ok { IfOk result (λ _. IsHigh begin edges.now high.new.items) }
+    ensures ok { IfOk result (λ _. HasHighWords begin edges.now high.new.items) }
 {
     if total >= 18_446_744_073_709_551_616 {
         pad(high, begin)?;

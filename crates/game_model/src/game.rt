@@ -2,8 +2,8 @@
 //! distribution over the states. With one side alone they are Markov decision processes (Baier and
 //! Katoen, Principles of Model Checking, 2008, chapter 10).
 
-ghost use Rattle.std.specs.Prelude.{◌≡◌, ℕ, ◌+◌, ◌-◌, ◌*◌, ◌^◌, ◌<◌, ◌≤◌, List, length, sum_by, All, slice_index, slice_index_or, slice_get, map, take, drop, Some};
-ghost use Rattle.game_model.specs.Limits.{most_states, most_choices, total_bound};
+ghost use Rattle.std.specs.Prelude.{◌≡◌, ◌+◌, ◌-◌, ◌*◌, ◌^◌, ◌<◌, ◌≤◌, List, length, sum_by, All, slice_index, map, take, drop};
+ghost use Rattle.game_model.specs.Limits.{total_bound};
 
 use std::marker::Model;
 
@@ -81,15 +81,6 @@ impl Choice {
         let _ = &self.total;
     }
 
-    /// Tells a proof what each of these choices keeps. It does nothing.
-    pub fn known_of_all(choices: &[Choice])
-        ensures { All IsDistribution choices.now }
-    {
-        for choice in choices {
-            choice.known();
-        }
-    }
-
     /// The sum of the weights.
     pub fn total(&self) -> u128
         ensures { result ≡ self.now.total }
@@ -103,14 +94,6 @@ impl Choice {
     {
         &self.edges
     }
-
-    /// The edge at this place.
-    pub fn edge(&self, place: u32) -> Edge
-        requires { place < length self.now.edges }
-        ensures { slice_get self.now.edges place ≡ Some result }
-    {
-        self.edges[place as usize]
-    }
 }
 
 /// A game: for each state a list of at least one choice. The states are numbered from 0, and so are the
@@ -118,7 +101,8 @@ impl Choice {
 ///
 /// It lies in flat lists: where the choices of each state begin, where the edges of each choice begin and
 /// its total, and for each edge its successor and its weight. A weight has a low word, and a high word only
-/// where some total is 2^64 or more; behind the end of the high words each is 0. So an edge takes 12 bytes.
+/// where some total is 2^64 or more; behind the end of the high words each is 0. So an edge takes 12 bytes, and
+/// 8 more up to the last choice whose weights are that wide.
 #[derive(Debug, Drop)]
 pub struct Game {
     pub(crate) first_choice: Vec<u32>,

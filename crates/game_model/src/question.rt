@@ -3,7 +3,7 @@
 //! 1992; with coalitions of players Chen, Forejt, Kwiatkowska, Parker and Simaitis, Automatic
 //! verification of competitive stochastic systems, TACAS 2012)?
 
-ghost use Rattle.std.specs.Prelude.{◌≡◌, ℕ, ◌+◌, ◌^◌, ◌<◌, ◌≤◌, ◌↔◌, List, length, slice_index_or, slice_get, Some, Bool, true, false, count_by};
+ghost use Rattle.std.specs.Prelude.{◌≡◌, ℕ, ◌<◌, ◌≤◌, List, length, slice_index_or, Bool, true, false, count_by};
 ghost use Rattle.game_model.specs.Limits.{most_states};
 
 use crate::game::{Game, Side};

@@ -1,6 +1,6 @@
 //! The common denominator.
 
-ghost use Rattle.std.specs.Prelude.{◌≡◌, ℕ, ◌*◌, ◌^◌, ◌<◌, ◌≤◌, length, MatchOption};
+ghost use Rattle.std.specs.Prelude.{◌≡◌, ◌^◌, ◌<◌, ◌≤◌, length, MatchOption};
 ghost use Rattle.game_model.specs.Game.{choices_of};
 ghost use Rattle.game_model.specs.Values.{total_product, denominator};
 

@@ -1,6 +1,6 @@
 //! k-step numerators.
 
-ghost use Rattle.std.specs.Prelude.{◌≡◌, ℕ, ◌*◌, ◌^◌, ◌<◌, ◌≤◌, length, slice_index, All, IfOk, IsErrOf, OnOk};
+ghost use Rattle.std.specs.Prelude.{◌^◌, ◌<◌, ◌≤◌, All, IfOk, IsErrOf, OnOk};
 ghost use Rattle.game_model.specs.Values.{denominator};
 ghost use Rattle.reference_values.specs.Numerators.{AreNumerators};
 

@@ -1,6 +1,6 @@
 //! The exact value of a choice.
 
-ghost use Rattle.std.specs.Prelude.{◌≡◌, ℕ, ◌*◌, ◌^◌, ◌<◌, ◌≤◌, length, slice_index, sum_by, All};
+ghost use Rattle.std.specs.Prelude.{◌≡◌, ◌*◌, ◌^◌, ◌<◌, ◌≤◌, length, slice_index, sum_by, All};
 ghost use Rattle.game_model.specs.Game.{choices_of, choice_of};
 ghost use Rattle.game_model.specs.Query.{states};
 ghost use Rattle.game_model.specs.Values.{weighted_sum, denominator};

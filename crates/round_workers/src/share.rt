@@ -1,6 +1,6 @@
 //! Which states a worker has: about as many edges as every other.
 
-ghost use Rattle.std.specs.Prelude.{◌≡◌, ℕ, ◌+◌, ◌*◌, ◌/◌, ◌^◌, ◌<◌, ◌≤◌, length};
+ghost use Rattle.std.specs.Prelude.{◌≡◌, ◌+◌, ◌*◌, ◌/◌, ◌<◌, ◌≤◌, length};
 ghost use Rattle.round_workers.specs.Share.{most_workers, worker_of, BeginsBlock};
 
 use game_model::Game;

@@ -1,9 +1,8 @@
 // What stands at the front of a text.
-ghost use Rattle.std.specs.Prelude.{◌≡◌, ◌≤◌, ◌<◌, ◌+◌, ◌∷◌, length};
+ghost use Rattle.std.specs.Prelude.{◌≡◌, ◌≤◌, ◌<◌, ◌+◌, length};
 ghost use Rattle.rpatl_syntax.specs.Cursor.{Fits};
-ghost use Rattle.rpatl_syntax.specs.Limits.{longest, longest_name};
-ghost use Rattle.text_lines.specs.Text.{is_digit};
-ghost use Rattle.rpatl_syntax.specs.Tokens.{begins_word, in_word, in_number, in_name, is_long_sign, is_short_sign, short_sign, word_length, number_length, name_from, sign_from, is_blank, front_from};
+ghost use Rattle.rpatl_syntax.specs.Limits.{longest};
+ghost use Rattle.rpatl_syntax.specs.Tokens.{in_number, is_long_sign, short_sign, word_length, number_length, name_from, sign_from, is_blank, front_from};
 
 use crate::limits::LONGEST_NAME;
 

@@ -1,12 +1,10 @@
 // Formulas.
-ghost use Rattle.std.specs.Prelude.{◌≡◌, ◌<◌, ◌≤◌, ◌+◌, ◌-◌, ◌++◌, ◌∷◌, [], option_map, length, Ok, IfOk, OnOk, IfErr};
-ghost use Rattle.distributions.specs.Number.{number_said};
-ghost use Rattle.rpatl_syntax.specs.Fault.{Gives, Says, fault_at, IsOutOfMemory};
+ghost use Rattle.std.specs.Prelude.{◌≡◌, ◌<◌, ◌+◌, ◌-◌, ◌++◌, ◌∷◌, [], option_map, Ok, IfOk, OnOk, IfErr};
+ghost use Rattle.rpatl_syntax.specs.Fault.{Gives, Says, IsOutOfMemory};
 ghost use Rattle.rpatl_syntax.specs.Formula.{Tree, tree_of, names_of};
 ghost use Rattle.rpatl_syntax.specs.Bounds.{bound_with};
-ghost use Rattle.rpatl_syntax.specs.Grammar.{names, coalition, threshold_of, threshold, comparison, asked, bound, reached, path, finished, compared, behind_bound, formula, formula_said, is_word, is_number};
+ghost use Rattle.rpatl_syntax.specs.Grammar.{names, coalition, threshold, comparison, bound, reached, path, compared, behind_bound, formula, formula_said, is_word, is_number};
 ghost use Rattle.rpatl_syntax.specs.Rules.{Denotes};
-ghost use Rattle.rpatl_syntax.specs.Tokens.{count_of};
 ghost use Rattle.rpatl_syntax.specs.Cursor.{tokens_at, token_of, state_at, names_at, team_at, bound_at, sides_at};
 
 use crate::cursor::Cursor;

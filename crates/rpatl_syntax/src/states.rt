@@ -1,7 +1,7 @@
 // State formulas.
-ghost use Rattle.std.specs.Prelude.{◌≡◌, ◌<◌, ◌≤◌, ◌+◌, MatchResult};
+ghost use Rattle.std.specs.Prelude.{◌≡◌, ◌<◌, ◌+◌, MatchResult};
 ghost use Rattle.rpatl_syntax.specs.Fault.{Gives, IsOutOfMemory};
-ghost use Rattle.rpatl_syntax.specs.Grammar.{plain, unary, nested, state, is_quoted, unquoted, begins_formula, opens};
+ghost use Rattle.rpatl_syntax.specs.Grammar.{plain, unary, nested, state, unquoted};
 ghost use Rattle.rpatl_syntax.specs.Levels.{level_of, operand_of};
 ghost use Rattle.rpatl_syntax.specs.Tokens.{count_of};
 ghost use Rattle.rpatl_syntax.specs.Cursor.{tokens_at, token_of, state_at, Shortens};

@@ -2,7 +2,7 @@
 ghost use Rattle.std.specs.Prelude.{◌≡◌, ◌≤◌, ◌<◌, ◌+◌, length, take, drop, bytes_eq, option_map};
 ghost use Rattle.rpatl_syntax.specs.Fault.{Says, fault_at};
 ghost use Rattle.rpatl_syntax.specs.Grammar.{next, behind, follows};
-ghost use Rattle.rpatl_syntax.specs.Tokens.{Finish, Broken, Then, count_of, tokens_from};
+ghost use Rattle.rpatl_syntax.specs.Tokens.{Finish, Broken, Then, tokens_from};
 ghost use Rattle.rpatl_syntax.specs.Limits.{longest};
 ghost use Rattle.rpatl_syntax.specs.Cursor.{tokens_at, token_of, Leads};
 

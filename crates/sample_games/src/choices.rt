@@ -1,6 +1,6 @@
 //! Choices with one, two and three successors.
 
-ghost use Rattle.std.specs.Prelude.{◌≡◌, ℕ, ◌+◌, ◌^◌, ◌<◌, ◌≤◌, length, All, IfOk};
+ghost use Rattle.std.specs.Prelude.{◌≡◌, ◌<◌, ◌≤◌, All, IfOk};
 
 use game_model::{Choice, Edge};
 use std::alloc::{AllocError, Global};

@@ -1,6 +1,6 @@
 //! The lists of a question.
 
-ghost use Rattle.std.specs.Prelude.{◌≡◌, ℕ, ◌<◌, ◌≤◌, length, All, slice_index_or, true, false, IfOk};
+ghost use Rattle.std.specs.Prelude.{◌≡◌, ℕ, ◌<◌, length, All, slice_index_or, true, false, IfOk};
 
 use game_model::Side;
 use std::alloc::{AllocError, Global};

@@ -10,7 +10,7 @@ use Rattle.game_model.specs.Rounded.{down_step, down_steps, opening, IsBelow}
 use Rattle.game_model.proofs.Choices.{AreChoicesOf, AreChoicesOf-choices_of}
 use Rattle.game_laws.proofs.Steps.{down_step-le, down_steps-rises}
 use Rattle.step_core.specs.Word.{packed, value_in, choice_in, value_at, values_of, picks_of, opening_words, opening_word}
-use Rattle.step_core.specs.Sound.{Sound, Sees}
+use Rattle.step_core.specs.Sound.{IsSound, Sees}
 use Rattle.fixed_bellman.specs.Given.{IsFree, Gives}
 use Rattle.fixed_bellman.proofs.Tables.{Gives-below}
 use Rattle.step_core.proofs.Raised.{next_rank, Ranked-raised}
@@ -26,12 +26,12 @@ pub values_of-is : (words : List ℕ) → slice_index (values_of words) ≡ valu
 values_of-is words = λ k s. values_of-at words s k
 
 -- goals have the unit
-pub Sound-goals : (q : Query) (words : List ℕ) → Sound q words → (s : ℕ) → s < states q → is_goal q s ≡ true → value_at words s ≡ unit
-Sound-goals q words k s l goal = sym (values_of-at words s) ∙ k.ranked.goals s l goal
+pub IsSound-goals : (q : Query) (words : List ℕ) → IsSound q words → (s : ℕ) → s < states q → is_goal q s ≡ true → value_at words s ≡ unit
+IsSound-goals q words k s l goal = sym (values_of-at words s) ∙ k.ranked.goals s l goal
 
 -- no value is above the unit
-pub Sound-units : (q : Query) (words : List ℕ) → Sound q words → (s : ℕ) → s < states q → value_at words s ≤ unit
-Sound-units q words k s l = subst (λ n. n ≤ unit) (values_of-at words s) (k.ranked.units s l)
+pub IsSound-units : (q : Query) (words : List ℕ) → IsSound q words → (s : ℕ) → s < states q → value_at words s ≤ unit
+IsSound-units q words k s l = subst (λ n. n ≤ unit) (values_of-at words s) (k.ranked.units s l)
 
 -- a won exchange
 module _ (q : Query) (h : IsQuery q) (words seen : List ℕ) (i word : ℕ) (inside : i < states q) (free : IsFree q i) (many : length words ≡ states q) (sees : Sees q words seen) (up : value_at words i < value_in word) (given : Gives q (value_at seen) i (value_in word) (choice_in word)) where
@@ -52,8 +52,8 @@ module _ (q : Query) (h : IsQuery q) (words seen : List ℕ) (i word : ℕ) (ins
         | inr other ↦ omega (arith, value_at-else words i word s other, below s l, down_steps-rises q chosen r s)
       ]
 
-  pub Sound-won : Sound q words → Sound q (set words i word)
-  Sound-won k = record {
+  pub IsSound-won : IsSound q words → IsSound q (set words i word)
+  IsSound-won k = record {
     as_many = length-set words i word ∙ k.as_many;
     rounds = suc k.rounds;
     below = raised-within k.rounds k.below;
@@ -92,9 +92,9 @@ unfolding zeros
 length-zeros zero = refl
 length-zeros (suc n) = let rest = length-zeros n in omega arith
 
-pub Sound-opening : (q : Query) → IsQuery q → Sound q (opening_words q)
+pub IsSound-opening : (q : Query) → IsQuery q → IsSound q (opening_words q)
 unfolding down_steps
-Sound-opening q h = record {
+IsSound-opening q h = record {
   as_many = length-map q.goals (λ (goal : Bool). if goal then packed unit 0 else 0) ∙ h.goals;
   rounds = zero;
   below = λ s l. subst (λ n. n ≤ opening q s) (sym (opening_words-value q s)) (le_refl (opening q s));
@@ -119,8 +119,8 @@ Sound-opening q h = record {
     none s goal positive = let zero_at : slice_index (values_of (opening_words q)) s ≡ 0 = is s ∙ ap (λ (g : Bool). if g then unit else 0) goal in omega arith
 
 -- a view that has seen the words
-pub Sees-itself : (q : Query) (words : List ℕ) → Sound q words → Sees q words words
-Sees-itself q words k = record { as_many = k.as_many; each = λ s. inl refl; goals = Sound-goals q words k }
+pub Sees-itself : (q : Query) (words : List ℕ) → IsSound q words → Sees q words words
+Sees-itself q words k = record { as_many = k.as_many; each = λ s. inl refl; goals = IsSound-goals q words k }
 
 -- one more word of the opening table
 pub opening_words-more : (q : Query) (words : List ℕ) (s word : ℕ) → words ≡ take s (opening_words q) → s < length q.goals → word ≡ opening_word q s → words ++ word ∷ [] ≡ take (s + 1) (opening_words q)

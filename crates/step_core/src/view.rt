@@ -1,6 +1,6 @@
 // What one view has seen.
-ghost use Rattle.std.specs.Prelude.{◌≡◌, ℕ, ◌+◌, ◌<◌, ◌≤◌, List, [], length, Some, None, IsSome, IsTrue, is_some, slice_index, slice_set, option_map, unwrap_or, IfOk, map};
-ghost use Rattle.step_core.specs.Word.{value_in, values_of, greater_words};
+ghost use Rattle.std.specs.Prelude.{◌≡◌, ℕ, ◌<◌, List, [], length, Some, None, IsSome, is_some, slice_set, unwrap_or, IfOk, map};
+ghost use Rattle.step_core.specs.Word.{values_of, greater_words};
 
 use crate::word::value_of;
 use game_outside::OutOfMemory;

@@ -1,7 +1,7 @@
 // Worlds, and what each event does to one.
-ghost use Rattle.std.specs.Prelude.{◌≡◌, ◌≢◌, ℕ, ◌+◌, ◌<◌, ◌≤◌, ◌⊎◌, List, Bool, false, length, Some, None, IsSome, IsNone, is_some, slice_index, slice_set, option_map, IfOk, IfErr, OnOk, OnErr};
-ghost use Rattle.game_model.specs.Query.{Query, IsQuery, states};
-ghost use Rattle.step_core.specs.Word.{value_in, choice_in, value_at};
+ghost use Rattle.std.specs.Prelude.{◌≡◌, ◌≢◌, ◌<◌, ◌⊎◌, List, Bool, false, Some, None, is_some, slice_index, slice_set, option_map, IfOk, IfErr, OnOk, OnErr};
+ghost use Rattle.game_model.specs.Query.{states};
+ghost use Rattle.step_core.specs.Word.{choice_in, value_at};
 
 use crate::event::{Event, Refused};
 use crate::opening::opening_words;

@@ -1,6 +1,6 @@
 //! Real files and a real writer, as a shelf and a sink. What they hold, no contract says: they are the trusted edge.
 
-ghost use Rattle.std.specs.Prelude.{◌≡◌, None, false};
+ghost use Rattle.std.specs.Prelude.{None, false};
 
 use game_outside::{Failed, Shelf, Sink};
 use std::fs::File;

@@ -1,10 +1,9 @@
 //! The lines behind the header.
 
-ghost use Rattle.std.specs.Prelude.{◌≡◌, ◌≤◌, ◌<◌, ℕ, IfOk, length, [], nat_eq};
+ghost use Rattle.std.specs.Prelude.{◌≤◌, ◌<◌, IfOk, length, [], nat_eq};
 ghost use Rattle.std.specs.List.{All};
 ghost use Rattle.std.specs.HashMap.{get};
 ghost use Rattle.text_lines.specs.Text.{lines_of, significant};
-ghost use Rattle.game_model.specs.Limits.{most_states};
 ghost use Rattle.text_lines.specs.Limits.{most_bytes};
 ghost use Rattle.tra_reader.specs.Limits.{most_lines};
 ghost use Rattle.tra_reader.specs.Faults.{Gives};

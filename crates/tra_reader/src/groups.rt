@@ -1,6 +1,6 @@
 //! Runs of one choice, and how many choices each state has.
 
-ghost use Rattle.std.specs.Prelude.{◌≡◌, ◌<◌, ◌≤◌, ◌+◌, ℕ, length, [], Result, Ok, Err};
+ghost use Rattle.std.specs.Prelude.{◌≡◌, ◌<◌, ◌≤◌, ◌+◌, length, Result, Ok, Err};
 ghost use Rattle.tra_reader.specs.Limits.{most_lines};
 ghost use Rattle.tra_reader.specs.Order.{transition_place, place_of, InOrder, run_len};
 ghost use Rattle.tra_reader.specs.Answers.{CountAnswer, CountsAnswer};

@@ -1,7 +1,7 @@
 //! Transition lines.
 
-ghost use Rattle.std.specs.Prelude.{◌≡◌, ◌≤◌, ◌<◌, ◌∷◌, [], List, ℕ, Option, Some, Result, Ok, Err, IfOk, option_map};
-ghost use Rattle.text_lines.specs.Text.{fields_of, number_of, saturated};
+ghost use Rattle.std.specs.Prelude.{◌≡◌, ◌<◌, [], ℕ, Option, Some, Result, Ok, Err, IfOk, option_map};
+ghost use Rattle.text_lines.specs.Text.{fields_of, saturated};
 ghost use Rattle.distributions.specs.Number.{number_said};
 ghost use Rattle.tra_reader.specs.Lines.{mdp_parts, dtmc_parts, parts_said, row_said, transition_said, transition_within};
 ghost use Rattle.tra_reader.specs.Order.{IsWithin};

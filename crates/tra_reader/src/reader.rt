@@ -1,6 +1,6 @@
 //! The reader of a whole text.
 
-ghost use Rattle.std.specs.Prelude.{◌≡◌, ◌≤◌, ◌<◌, List, [], Ok, IfOk, length};
+ghost use Rattle.std.specs.Prelude.{◌≤◌, ◌<◌, List, [], Ok, IfOk, length};
 ghost use Rattle.std.specs.List.{All};
 ghost use Rattle.text_lines.specs.Text.{lines_of, significant};
 ghost use Rattle.game_model.specs.Game.{Distribution};

@@ -1,10 +1,10 @@
 // The table, and its steps.
-ghost use Rattle.std.specs.Prelude.{◌≡◌, ◌≢◌, ℕ, ◌+◌, ◌*◌, ◌/◌, ◌<◌, ◌≤◌, ◌⊎◌, true, false, length, slice_index, slice_set, All, IfOk, MatchBool};
+ghost use Rattle.std.specs.Prelude.{◌≡◌, ◌≢◌, ℕ, ◌+◌, ◌/◌, ◌<◌, ◌≤◌, ◌⊎◌, true, false, length, slice_index, slice_set, All, IfOk, MatchBool};
 ghost use Rattle.game_model.specs.Query.{Query, IsQuery, states, is_goal, is_dead};
 ghost use Rattle.game_model.specs.Limits.{unit};
 ghost use Rattle.game_model.specs.Rounded.{down_step, down_steps, IsBelow};
-ghost use Rattle.step_core.specs.Word.{choice_space, value_in, choice_in, value_at, opening_words, greater_words};
-ghost use Rattle.step_core.specs.Sound.{Sound, Sees};
+ghost use Rattle.step_core.specs.Word.{value_in, choice_in, value_at, opening_words, greater_words};
+ghost use Rattle.step_core.specs.Sound.{IsSound, Sees};
 ghost use Rattle.fixed_bellman.specs.Given.{IsFree, Gives};
 ghost use Rattle.std.specs.Mem.Slots.{IsFull, slots_items};
 
@@ -160,7 +160,7 @@ impl<'q, P: Posing> ValueTable<'q, P> {
     /// The final words. Each is the one that the pass has seen, or has a greater value.
     pub fn close(self, alloc: Global, pass: Pass<P>) -> Result<Words, OutOfMemory>
         requires { IsOf self pass }
-        ensures words { IfOk result (λ words. Sound P.posed words) }
+        ensures words { IfOk result (λ words. IsSound P.posed words) }
         ensures seen { IfOk result (λ words. Sees P.posed words (words_seen pass)) }
         // A pass with all parts is the only one: the words are within as many down steps as it won exchanges.
         ensures within { parts_of pass ≡ all_parts → IfOk result (λ words. IsBelow P.posed (value_at words) (down_steps P.posed (won_by pass))) }

@@ -7,14 +7,6 @@ use Rattle.std.proofs.lemmas.List.Sums.{sum_by-set, sum_by-append, count_by-le-l
 use Rattle.std.proofs.lemmas.List.Elements.{Contains-append_left, Contains-append_right}
 use Rattle.zero_sets.specs.Growing.{IsOrder}
 
-pub IsOrder-none : IsOrder [] []
-IsOrder-none = record {
-  inside = λ k l. absurd (omega arith);
-  joined = λ k l. absurd (omega arith);
-  listed = λ s l none. absurd (omega arith);
-  few = refl;
-}
-
 last-contained : (order : List ℕ) (s : ℕ) → Contains (order ++ s ∷ []) s
 last-contained order s = Contains-append_right order (s ∷ []) s (0, omega arith, refl)
 

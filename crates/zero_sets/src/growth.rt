@@ -1,9 +1,8 @@
 //! A set of states that grows backward from the goals.
 
-ghost use Rattle.std.specs.Prelude.{◌≡◌, ◌≢◌, ℕ, ◌+◌, ◌<◌, ◌≤◌, List, [], ◌∷◌, ◌++◌, true, false, not, length, map, slice_index, slice_index_or, slice_set, IfOk, OnOk};
-ghost use Rattle.std.specs.List.{list_any};
+ghost use Rattle.std.specs.Prelude.{◌≡◌, ◌≢◌, ℕ, ◌+◌, ◌<◌, List, [], ◌∷◌, ◌++◌, true, false, not, length, map, slice_index, slice_index_or, IfOk, OnOk};
 ghost use Rattle.game_model.specs.Draft.{IsLonger};
-ghost use Rattle.game_model.specs.Game.{choices_of, choice_of};
+ghost use Rattle.game_model.specs.Game.{choices_of};
 ghost use Rattle.game_model.specs.Query.{states, is_dead};
 ghost use Rattle.zero_sets.specs.Attractor.{meets};
 ghost use Rattle.zero_sets.specs.Growing.{LeadsIn, IsGrowth, IsLarger, IsTested};

@@ -1,5 +1,5 @@
-use Rattle.game_laws.proofs.Truth.{High-not-reaches}
+use Rattle.game_laws.proofs.Truth.{IsHigh-not-reaches}
 use Rattle.game_laws.proofs.laws.high_tables_are_not_reached.Goals as goal
 
 pub returns : goal.returns
-returns c = High-not-reaches
+returns c = IsHigh-not-reaches

@@ -1,5 +1,5 @@
-use Rattle.game_laws.proofs.Truth.{Low-reaches}
+use Rattle.game_laws.proofs.Truth.{IsLow-reaches}
 use Rattle.game_laws.proofs.laws.low_tables_are_reached.Goals as goal
 
 pub returns : goal.returns
-returns c = Low-reaches
+returns c = IsLow-reaches
