@@ -1,2 +1,5 @@
 pub mod Bracketing
+pub mod Marking
+pub mod Quiet
 pub mod Racing
+pub mod Reading

@@ -1,14 +1,12 @@
 -- What a race leaves, from what its passes have seen.
-use Rattle.std.proofs.Common.{◌≡◌, ℕ, zero, suc, ◌+◌, ◌-◌, ◌<◌, ◌≤◌, List, arith, sym, ap, ◌∙◌, subst, le_refl, le_trans, add-one}
+use Rattle.std.proofs.Common.{◌≡◌, ℕ, zero, suc, ◌+◌, ◌-◌, ◌<◌, ◌≤◌, List, arith, sym, subst, le_refl, le_trans, add-one}
 use Rattle.game_model.specs.Game.{choices_of}
 use Rattle.game_model.specs.Query.{Query, IsQuery, states}
 use Rattle.game_model.specs.Rounded.{down_step, down_steps, opening, IsBelow, IsSettled}
 use Rattle.game_model.proofs.Choices.{AreChoicesOf, AreChoicesOf-choices_of}
 use Rattle.game_laws.proofs.Steps.{down_step-le, down_steps-rises, down_steps-settled}
-use Rattle.step_core.specs.Word.{value_at, opening_words}
-use Rattle.step_core.specs.Sound.{IsSound, Sees}
-use Rattle.step_core.proofs.Sights.{Sees-below}
-use Rattle.step_core.proofs.Words.{opening_words-value}
+use Rattle.step_core.specs.Word.{value_at}
+use Rattle.step_core.specs.Sound.{IsSound}
 
 -- one more round
 pub swept-more : (q : Query) (r : ℕ) (old new : ℕ → ℕ) → IsQuery q → IsBelow q (down_steps q r) old → ((s : ℕ) → s < states q → down_step q old s ≤ new s) → IsBelow q (down_steps q (r + 1)) new
@@ -21,25 +19,21 @@ pub settled-same : (q : Query) (table other : ℕ → ℕ) → IsQuery q → ((s
 settled-same q table other h same settled s inside =
     omega (arith, down_step-le q other table (AreChoicesOf-choices_of q.game h.game) (λ t within. omega (arith, same t within)) s, settled s inside, same s inside)
 
--- the opening words are seen
-pub opens-seen : (q : Query) (seen : List ℕ) → seen ≡ opening_words q → IsBelow q (down_steps q 0) (value_at seen)
+-- the opening table is read
+pub opens-read : (q : Query) (read : ℕ → ℕ) → ((s : ℕ) → s < states q → read s ≡ opening q s) → IsBelow q (down_steps q 0) read
 unfolding down_steps
-opens-seen q seen is s inside = subst (λ n. opening q s ≤ n) (sym (ap (λ l. value_at l s) is ∙ opening_words-value q s)) (le_refl (opening q s))
+opens-read q read is s inside = omega (arith, is s inside)
 
 opening-first : (q : Query) (table : ℕ → ℕ) → IsBelow q (down_steps q 0) table → IsBelow q (opening q) table
 unfolding down_steps
 opening-first q table below = below
 
--- where what was seen is settled, it is what is closed
-pub closed-settled : (q : Query) (words seen : List ℕ) → IsQuery q → IsSound q words → Sees q words seen → IsBelow q (down_steps q 0) (value_at seen) → IsSettled q (value_at seen) → IsSettled q (value_at words)
-closed-settled q words seen h sound sees opens settled =
+-- where what was read is settled, it is what is closed
+pub closed-settled : (q : Query) (words : List ℕ) (read : ℕ → ℕ) → IsQuery q → IsSound q words → IsBelow q read (value_at words) → IsBelow q (down_steps q 0) read → IsSettled q read → IsSettled q (value_at words)
+closed-settled q words read h sound below opens settled =
     let chosen : AreChoicesOf q.game (choices_of q.game) = AreChoicesOf-choices_of q.game h.game in
-    let top : IsBelow q (down_steps q sound.rounds) (value_at seen) = down_steps-settled q (value_at seen) chosen (opening-first q (value_at seen) opens) settled sound.rounds in
-    settled-same q (value_at seen) (value_at words) h (λ s inside. omega (arith, Sees-below q words seen sees s, sound.below s inside, top s inside)) settled
-
--- what is closed has at least what was seen
-pub closed-swept : (q : Query) (words seen : List ℕ) (r : ℕ) → Sees q words seen → IsBelow q (down_steps q r) (value_at seen) → IsBelow q (down_steps q r) (value_at words)
-closed-swept q words seen r sees below s inside = le_trans (below s inside) (Sees-below q words seen sees s)
+    let top : IsBelow q (down_steps q sound.rounds) read = down_steps-settled q read chosen (opening-first q read opens) settled sound.rounds in
+    settled-same q read (value_at words) h (λ s inside. omega (arith, below s inside, sound.below s inside, top s inside)) settled
 
 -- down steps rise with their number
 down_steps-more : (q : Query) (r more s : ℕ) → IsQuery q → down_steps q r s ≤ down_steps q (more + r) s
@@ -53,3 +47,9 @@ pub within-more : (q : Query) (table : ℕ → ℕ) (r n : ℕ) → IsQuery q �
 within-more q table r n h few below s inside =
     let all : n - r + r ≡ n = omega arith in
     le_trans (below s inside) (subst (λ m. down_steps q r s ≤ down_steps q m s) all (down_steps-more q r (n - r) s h))
+
+-- what is nowhere below some down steps is nowhere below the opening table
+pub swept-opens : (q : Query) (table : ℕ → ℕ) (r : ℕ) → IsQuery q → IsBelow q (down_steps q r) table → IsBelow q (down_steps q 0) table
+swept-opens q table r h below s inside =
+    let all : r + 0 ≡ r = omega arith in
+    le_trans (subst (λ n. down_steps q 0 s ≤ down_steps q n s) all (down_steps-more q 0 r s h)) (below s inside)

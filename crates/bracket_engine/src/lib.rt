@@ -8,6 +8,7 @@
 //! workers ran at once.
 #![tactic(auto)]
 
+mod agenda;
 mod bounds;
 pub mod laws;
 mod race;

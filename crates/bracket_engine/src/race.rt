@@ -1,15 +1,18 @@
 //! Rounds of workers on the shared words, until these are settled.
 
-ghost use Rattle.std.specs.Prelude.{◌≡◌, ℕ, ◌+◌, ◌*◌, ◌<◌, ◌≤◌, true, length, IfOk};
+ghost use Rattle.std.specs.Prelude.{◌≡◌, ℕ, ◌+◌, ◌*◌, ◌<◌, ◌≤◌, IfOk, IsNone};
 ghost use Rattle.game_model.specs.Query.{states};
 ghost use Rattle.game_model.specs.Rounded.{down_step, down_steps, IsBelow, IsSettled};
 ghost use Rattle.round_workers.specs.Share.{most_workers};
-ghost use Rattle.value_words.specs.Passes.{IsOf, Grew, Looked, seen_by, won_by, parts_of};
+ghost use Rattle.predecessors.specs.Lists.{ArePredecessors};
+ghost use Rattle.value_words.specs.Passes.{IsOf, Grew, seen_by, won_by, parts_of};
+ghost use Rattle.bracket_engine.specs.Agenda.{read_of, IsAgenda};
 ghost use Rattle.bracket_engine.specs.Race.{IsRaced};
 
-use fixed_bellman::settled;
+use crate::agenda::{Agenda, mark_again, read_again};
 use game_model::Question;
 use game_outside::{Gate, OutOfMemory};
+use predecessors::Predecessors;
 use round_workers::{Rounded, round};
 use std::alloc::Global;
 use std::thread::Threads;
@@ -27,7 +30,8 @@ pub struct Raced {
     pub rounds: u32,
 }
 
-/// Runs at most `most` rounds, each of at most so many workers. It ends earlier where the words are settled.
+/// Runs at most `most` rounds, each of at most so many workers. It ends earlier where a round changed nothing: then the
+/// words are settled.
 pub fn race<R: Threads + Sync, P: Posing + Send + Sync, G: Gate + Sync>(
     rt: &R,
     alloc: Global,
@@ -42,98 +46,97 @@ pub fn race<R: Threads + Sync, P: Posing + Send + Sync, G: Gate + Sync>(
     ensures { IfOk result (λ raced. IsRaced P.posed most raced.words raced.rounds) }
 {
     question.known();
-    let Ok(mut seen) = vec![in alloc; 0u64; question.game().states() as usize] else {
-        return Err(OutOfMemory {});
-    };
+    let predecessors = Predecessors::of_game(alloc, question.game())?;
+    let mut agenda = Agenda::open(alloc, question)?;
     let (table, pass) = ValueTable::<P>::start(alloc, question)?;
-    let (pass, rounds) = run_rounds(rt, &table, pass, seen.as_mut_slice(), most, workers, gate);
+    let (pass, rounds) = run_rounds(rt, &table, &predecessors, pass, &mut agenda, most, workers, gate);
     let words = table.close(alloc, pass)?;
     Ok(Raced { words, rounds })
 }
 
-// Rounds until one raises nothing and leaves the words settled, at most this many. How many there were.
+// Rounds until one changes nothing, at most this many. How many there were.
 fn run_rounds<R: Threads + Sync, P: Posing + Send + Sync, G: Gate + Sync>(
     rt: &R,
     table: &ValueTable<'_, P>,
+    predecessors: &Predecessors,
     mut pass: Pass<P>,
-    seen: &mut [u64],
+    agenda: &mut Agenda,
     most: u32,
     workers: u32,
     gate: &G,
 ) -> (Pass<P>, u32)
     requires pass { IsOf table.now pass }
-    requires opens { IsBelow P.posed (down_steps P.posed 0) (seen_by pass) }
-    requires room { length seen.old ≡ states P.posed }
-    requires some { 1 ≤ workers }
-    requires few { workers ≤ most_workers }
-    ensures grew { Grew pass result.0 }
+    requires predecessors { ArePredecessors P.posed.game predecessors.now }
+    requires agenda { IsAgenda P.posed agenda.old (seen_by pass) }
+    requires opens { IsBelow P.posed (down_steps P.posed 0) (read_of agenda.old) }
+    requires workers { (1 ≤ workers) × (workers ≤ most_workers) }
     ensures few { result.1 ≤ most }
+    ensures grew { Grew pass result.0 }
     ensures won { won_by result.0 ≤ won_by pass + result.1 * states P.posed }
     ensures parts { workers ≤ parts_of pass → parts_of result.0 ≡ parts_of pass }
-    ensures swept { IsBelow P.posed (down_steps P.posed result.1) (seen_by result.0) }
-    ensures early { result.1 < most → IsSettled P.posed (seen_by result.0) }
+    ensures below { IsBelow P.posed (read_of agenda.new) (seen_by result.0) }
+    ensures swept { IsBelow P.posed (down_steps P.posed result.1) (read_of agenda.new) }
+    ensures early { result.1 < most → IsSettled P.posed (read_of agenda.new) }
 {
-    let busy = busy_workers(table.question(), workers);
+    let mut due = table.question().game().states();
     for turn in 0..most {
-        let used = if turn == 0 { workers } else { busy };
-        let (next, settled) = one_round(rt, table, pass, seen, used, gate);
+        let used = if turn == 0 { workers } else { busy_workers(table.question(), workers, due) };
+        let (next, marked) = one_round(rt, table, predecessors, pass, agenda, used, gate);
         pass = next;
-        if settled {
-            return (pass, turn + 1);
+        match marked {
+            Some(marked) => due = marked,
+            None => return (pass, turn + 1),
         }
     }
     (pass, most)
 }
 
-// One round, and whether it raised nothing and left the words settled.
+// One round, and about how many states have a mark after it; none where no value changed.
 fn one_round<R: Threads + Sync, P: Posing + Send + Sync, G: Gate + Sync>(
     rt: &R,
     table: &ValueTable<'_, P>,
+    predecessors: &Predecessors,
     pass: Pass<P>,
-    seen: &mut [u64],
+    agenda: &mut Agenda,
     workers: u32,
     gate: &G,
-) -> (Pass<P>, bool)
+) -> (Pass<P>, Option<u32>)
     requires pass { IsOf table.now pass }
-    requires room { length seen.old ≡ states P.posed }
-    requires some { 1 ≤ workers }
-    requires few { workers ≤ most_workers }
+    requires predecessors { ArePredecessors P.posed.game predecessors.now }
+    requires agenda { IsAgenda P.posed agenda.old (seen_by pass) }
+    requires workers { (1 ≤ workers) × (workers ≤ most_workers) }
     ensures grew { Grew pass result.0 }
-    ensures step { (s : ℕ) → s < states P.posed → down_step P.posed (seen_by pass) s ≤ seen_by result.0 s }
     ensures won { won_by result.0 ≤ won_by pass + states P.posed }
     ensures parts { workers ≤ parts_of pass → parts_of result.0 ≡ parts_of pass }
-    ensures settled { result.1 ≡ true → IsSettled P.posed (seen_by result.0) }
+    ensures agenda { IsAgenda P.posed agenda.new (seen_by result.0) }
+    // At each state, marked or not, what is read now is at least the down step of what was read before.
+    ensures step { (s : ℕ) → s < states P.posed → down_step P.posed (read_of agenda.old) s ≤ read_of agenda.new s }
+    ensures settled { IsNone result.1 → IsSettled P.posed (read_of agenda.new) }
 {
-    let Rounded { mut pass, raises } = round(rt, table, pass, workers, gate);
-    if raises > 0 {
-        return (pass, false);
+    let Rounded {
+        mut pass,
+        raises: _,
+    } = round(rt, table, predecessors, pass, &agenda.marks, &mut agenda.more, workers, gate);
+    let changed = read_again(table, &mut pass, agenda);
+    if changed == 0 {
+        return (pass, None);
     }
-    let settled = is_settled(table, &mut pass, seen);
-    (pass, settled)
+    let marked = mark_again(table.question().game(), predecessors, agenda, changed);
+    (pass, Some(marked))
 }
 
-// Whether the words, as they are loaded, are settled.
-fn is_settled<P: Posing>(table: &ValueTable<'_, P>, pass: &mut Pass<P>, seen: &mut [u64]) -> bool
-    requires pass { IsOf table.now pass.old }
-    requires room { length seen.old ≡ states P.posed }
-    ensures looked { Looked pass.old pass.new }
-    ensures settled { result ≡ true → IsSettled P.posed (seen_by pass.new) }
-{
-    table.read_into(pass, seen);
-    settled(table.question(), seen)
-}
-
-// How many workers a round after the first has: one, and one more for each so many edges.
-fn busy_workers(question: &Question<'_>, workers: u32) -> u32
+// How many workers a round after the first has: one, and one more for each so many edges of the states that are
+// updated, as these have about as many edges as the others.
+fn busy_workers(question: &Question<'_>, workers: u32, due: u32) -> u32
     requires { 1 ≤ workers }
     ensures some { 1 ≤ result }
     ensures few { result ≤ workers }
 {
-    if workers == 1 {
-        return 1;
-    }
+    question.known();
     let game = question.game();
-    let worth = game.edges_below(game.states()) / EDGES_FOR_A_WORKER + 1;
+    let states = game.states();
+    let edges = game.edges_below(states).saturating_mul(u64::from(due)) / u64::from(states);
+    let worth = edges / EDGES_FOR_A_WORKER + 1;
     if worth < u64::from(workers) {
         worth as u32
     } else {

@@ -34,7 +34,7 @@ edges_below-all game s h inside =
 pub some-edges : (game : List (List Distribution)) → IsGame game → 0 < edges_below game (length game)
 some-edges game h = let all = edges_below-all game 0 h h.some in omega arith
 
-div-rises : (x y w : ℕ) → 0 < w → x ≤ y → x / w ≤ y / w
+pub div-rises : (x y w : ℕ) → 0 < w → x ≤ y → x / w ≤ y / w
 div-rises x y w positive h =
     let below : x / w * w ≤ x = (le-div_iff_mul-le positive).0 (let same : x / w ≤ x / w = omega arith in same) in
     (le-div_iff_mul-le positive).1 (omega (arith, below, h))

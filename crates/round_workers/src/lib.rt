@@ -10,9 +10,11 @@
 
 mod fork;
 pub mod laws;
+mod marks;
 mod share;
 mod sweep;
 
 pub use fork::round;
+pub use marks::has_mark;
 pub use share::{MOST_WORKERS, first_state, worker_of};
 pub use sweep::Rounded;

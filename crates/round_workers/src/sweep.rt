@@ -1,10 +1,15 @@
 //! One worker's part of a round.
-ghost use Rattle.std.specs.Prelude.{◌≡◌, ℕ, ◌+◌, ◌-◌, ◌^◌, ◌<◌, ◌≤◌};
+
+ghost use Rattle.std.specs.Prelude.{◌≡◌, ℕ, ◌+◌, ◌<◌, ◌≤◌, ◌^◌, length, MatchBool};
 ghost use Rattle.game_model.specs.Query.{states};
+ghost use Rattle.game_model.specs.Rounded.{down_step};
 ghost use Rattle.value_words.specs.Passes.{IsOf, Grew, seen_by, won_by, parts_of};
+ghost use Rattle.round_workers.specs.Marks.{IsMarked};
 ghost use Rattle.round_workers.specs.Share.{IsSwept};
 
+use crate::marks::{has_mark, mark_behind};
 use game_outside::Gate;
+use predecessors::Predecessors;
 use value_words::{Pass, Posing, ValueTable};
 
 /// What is left after a round: the pass, and how many exchanges it won in the round.
@@ -16,28 +21,110 @@ pub struct Rounded<P: Posing> {
     pub raises: u64,
 }
 
-/// Updates the states from `from` up to and not including `to`, in rising order.
+/// How many states in a row are passed over at once, where none of them is to be updated.
+const STRETCH: u32 = 64;
+
+/// Updates the marked states from `from` up to and not including `to`, in rising order, and those that it marks on the
+/// way: the first of `more` is the mark of `from`. The gate is passed before each state, marked or not.
 pub fn sweep<P: Posing, G: Gate>(
     table: &ValueTable<'_, P>,
+    predecessors: &Predecessors,
     mut pass: Pass<P>,
+    marks: &[bool],
+    more: &mut [bool],
     worker: u32,
     from: u32,
     to: u32,
     gate: &G,
 ) -> Rounded<P>
     requires pass { IsOf table.now pass }
-    requires range { from ≤ to }
+    requires predecessors { length predecessors.now ≡ states P.posed }
+    requires marks { length marks.now ≡ states P.posed }
+    requires more { from + length more.old ≡ to }
     requires inside { to ≤ states P.posed }
-    ensures { IsSwept P.posed from to pass.seat result.pass.seat result.raises }
+    ensures { IsSwept P.posed marks.now 1 from to pass.seat result.pass.seat result.raises }
+{
+    let mut raises = 0;
+    let mut state = from;
+    while state < to {
+        let end = to.min(state + STRETCH);
+        if has_mark(marks, state, end) || has_mark(more, state - from, end - from) {
+            raises += walk(table, predecessors, &mut pass, marks, more, worker, from, state, end, gate);
+        } else {
+            pass_over(worker, state, end, gate);
+        }
+        state = end;
+    }
+    Rounded { pass, raises }
+}
+
+/// Passes the gate before each state of a stretch.
+fn pass_over<G: Gate>(worker: u32, from: u32, to: u32, gate: &G) {
+    for state in from..to {
+        gate.arrive(worker, state);
+    }
+}
+
+/// Visits each state of a stretch. How many exchanges were won.
+fn walk<P: Posing, G: Gate>(
+    table: &ValueTable<'_, P>,
+    predecessors: &Predecessors,
+    pass: &mut Pass<P>,
+    marks: &[bool],
+    more: &mut [bool],
+    worker: u32,
+    first: u32,
+    from: u32,
+    to: u32,
+    gate: &G,
+) -> u64
+    requires pass { IsOf table.now pass.old }
+    requires predecessors { length predecessors.now ≡ states P.posed }
+    requires marks { length marks.now ≡ states P.posed }
+    requires first { first ≤ from }
+    requires order { from ≤ to }
+    requires more { to ≤ first + length more.old }
+    requires inside { to ≤ states P.posed }
+    ensures { IsSwept P.posed marks.now 1 from to pass.old.seat pass.new.seat result }
 {
     let mut raises = 0;
     for state in from..to {
         gate.arrive(worker, state);
-        if table.update(&mut pass, state) {
+        if visit(table, predecessors, pass, marks, more, first, state) {
             raises += 1;
         }
     }
-    Rounded { pass, raises }
+    raises
+}
+
+/// Updates a state that has a mark in either list. Whether an exchange won; then its predecessors behind it are marked.
+fn visit<P: Posing>(
+    table: &ValueTable<'_, P>,
+    predecessors: &Predecessors,
+    pass: &mut Pass<P>,
+    marks: &[bool],
+    more: &mut [bool],
+    first: u32,
+    state: u32,
+) -> bool
+    requires pass { IsOf table.now pass.old }
+    requires predecessors { length predecessors.now ≡ states P.posed }
+    requires marks { length marks.now ≡ states P.posed }
+    requires state { state < states P.posed }
+    requires more { (first ≤ state) × (state < first + length more.old) }
+    ensures grew { Grew pass.old pass.new }
+    ensures step { IsMarked marks.now state → down_step P.posed (seen_by pass.old) state ≤ seen_by pass.new state }
+    ensures won { MatchBool result (won_by pass.new ≡ won_by pass.old + 1) (won_by pass.new ≡ won_by pass.old) }
+    ensures parts { parts_of pass.new ≡ parts_of pass.old }
+{
+    if !marks[state as usize] && !more[(state - first) as usize] {
+        return false;
+    }
+    if !table.update(pass, state) {
+        return false;
+    }
+    mark_behind(predecessors, state, first, more);
+    true
 }
 
 /// Puts the halves of a round together.

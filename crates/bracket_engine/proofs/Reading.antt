@@ -1,0 +1,35 @@
+-- States are looked at again, one after another.
+use Rattle.std.proofs.Common.{◌≡◌, ◌≢◌, ℕ, ◌+◌, ◌<◌, ◌≤◌, Bool, true, false, List, length, arith, sym, ◌∙◌, subst, ap, inl, inr, le_trans, slice_index_or}
+use Rattle.std.proofs.lemmas.Bool.{cases_eq}
+use Rattle.game_model.specs.Query.{Query, states}
+use Rattle.round_workers.specs.Marks.{IsMarked}
+use Rattle.bracket_engine.specs.declared.agenda.Agenda.{Agenda}
+use Rattle.bracket_engine.specs.Agenda.{read_of, IsSized, IsStateRead, IsElsewhere}
+
+-- the states below i were looked at again, and the others are as they were
+pub record IsReadBelow (i : ℕ) (old now : Agenda) (before after : ℕ → ℕ) : Type 0 where
+  pub read : (s : ℕ) → s < i → IsStateRead s old now before after
+  pub rest : (s : ℕ) → i ≤ s → read_of now s ≡ read_of old s
+  pub rest_marks : (s : ℕ) → i ≤ s → slice_index_or now.marks.items s false ≡ slice_index_or old.marks.items s false
+
+-- one more
+pub read-more : (i : ℕ) (old now next : Agenda) (before mid after : ℕ → ℕ) → ((s : ℕ) → before s ≤ mid s) → ((s : ℕ) → mid s ≤ after s)
+    → IsReadBelow i old now before mid → IsStateRead i now next mid after → IsElsewhere i now next → IsReadBelow (i + 1) old next before after
+read-more i old now next before mid after rose rises h here elsewhere = record {
+  read = λ s below. elim (cases_eq s i) [
+    | inl same ↦ subst (λ t. IsStateRead t old next before after) (sym same) record {
+        rises = omega (arith, here.rises, h.rest i (omega arith));
+        below = here.below;
+        marked = λ marked. le_trans (rose i) (here.marked (h.rest_marks i (omega arith) ∙ marked));
+        same = λ off. here.same off ∙ h.rest i (omega arith);
+      }
+    | inr other ↦ (let was = h.read s (omega arith) in record {
+        rises = omega (arith, was.rises, elsewhere.read s other);
+        below = omega (arith, was.below, elsewhere.read s other, rises s);
+        marked = λ marked. omega (arith, was.marked marked, elsewhere.read s other);
+        same = λ off. elsewhere.read s other ∙ was.same (sym (elsewhere.more s other) ∙ off);
+      })
+  ];
+  rest = λ s past. elsewhere.read s (λ same. omega arith) ∙ h.rest s (omega arith);
+  rest_marks = λ s past. elsewhere.marks s (λ same. omega arith) ∙ h.rest_marks s (omega arith);
+}

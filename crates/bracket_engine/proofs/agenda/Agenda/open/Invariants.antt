@@ -1,0 +1,10 @@
+use Rattle.std.proofs.Common.{◌≡◌, ℕ, ◌<◌, length, true}
+use Rattle.std.specs.Prelude.{slice_index, replicate}
+use Rattle.game_model.specs.Rounded.{opening}
+use Rattle.bracket_engine.proofs.agenda.Agenda.open.Given as goal
+
+abbrev pub invariant-loop-state : goal.invariant-loop-state
+invariant-loop-state l = record {
+  many : length l.read.items ≡ l.state;
+  each : (s : ℕ) → s < l.state → slice_index l.read.items s ≡ opening l.question s;
+}

@@ -1,0 +1,171 @@
+//! Which states may rise, between two rounds.
+
+ghost use Rattle.std.specs.Prelude.{◌≡◌, ℕ, ◌<◌, ◌≤◌, List, [], false, length, slice_index_or, IfOk};
+ghost use Rattle.game_model.specs.Query.{states};
+ghost use Rattle.game_model.specs.Rounded.{opening};
+ghost use Rattle.predecessors.specs.Lists.{ArePredecessors};
+ghost use Rattle.predecessors.specs.Moves.{LeadsTo};
+ghost use Rattle.round_workers.specs.Marks.{IsMarked};
+ghost use Rattle.value_words.specs.Passes.{IsOf, Looked, seen_by};
+ghost use Rattle.bracket_engine.specs.Agenda.{read_of, IsSized, IsStateRead, IsElsewhere, IsReadAgain, AreMarkedFor};
+
+use fixed_bellman::Values;
+use game_model::{Game, Question, UNIT};
+use game_outside::OutOfMemory;
+use predecessors::Predecessors;
+use std::alloc::Global;
+use value_words::{Pass, Posing, ValueTable};
+
+/// The values that were read last, and the states to update: one without a mark is quiet, that is its down step over
+/// these values is at most its own.
+#[derive(Drop)]
+pub struct Agenda {
+    /// The values, by state.
+    pub read: Vec<u64>,
+    /// The states to update in the next round.
+    pub marks: Vec<bool>,
+    /// Those that workers marked in the last round; once the states are read, those whose values changed.
+    pub more: Vec<bool>,
+}
+
+impl Agenda {
+    /// All states are to be updated, and the values are those of the opening table.
+    pub fn open(alloc: Global, question: &Question) -> Result<Agenda, OutOfMemory>
+        ensures sized { IfOk result (λ agenda. IsSized question.now agenda) }
+        ensures opens { IfOk result (λ agenda. (s : ℕ) → s < states question.now → read_of agenda s ≡ opening question.now s) }
+        ensures marked { IfOk result (λ agenda. (s : ℕ) → s < states question.now → IsMarked agenda.marks.items s) }
+    {
+        let states = question.game().states();
+        let marks = vec![in alloc; true; states as usize]?;
+        let more = vec![in alloc; false; states as usize]?;
+        let mut read = Vec::with_capacity(alloc, states as usize)?;
+        for state in 0..states {
+            read.push(if question.is_goal(state) { UNIT } else { 0 })?;
+        }
+        Ok(Agenda { read, marks, more })
+    }
+}
+
+/// Reads the states that were updated. How many values changed; these states have the second mark then.
+pub fn read_again<P: Posing>(
+    table: &ValueTable<'_, P>,
+    pass: &mut Pass<P>,
+    agenda: &mut Agenda,
+) -> u32
+    requires pass { IsOf table.now pass.old }
+    requires sized { IsSized P.posed agenda.old }
+    requires below { (s : ℕ) → s < states P.posed → read_of agenda.old s ≤ seen_by pass.old s }
+    ensures looked { Looked pass.old pass.new }
+    ensures sized { IsSized P.posed agenda.new }
+    ensures again { IsReadAgain P.posed agenda.old agenda.new (seen_by pass.old) (seen_by pass.new) }
+    ensures none { result ≡ 0 → (s : ℕ) → s < states P.posed → slice_index_or agenda.new.more.items s false ≡ false }
+{
+    let mut changed = 0;
+    for state in 0..table.question().game().states() {
+        if read_state(table, pass, agenda, state) {
+            changed += 1;
+        }
+    }
+    changed
+}
+
+/// Reads a state that was updated. Whether its value changed.
+fn read_state<P: Posing>(
+    table: &ValueTable<'_, P>,
+    pass: &mut Pass<P>,
+    agenda: &mut Agenda,
+    state: u32,
+) -> bool
+    requires pass { IsOf table.now pass.old }
+    requires state { state < states P.posed }
+    requires sized { IsSized P.posed agenda.old }
+    requires below { read_of agenda.old state ≤ seen_by pass.old state }
+    ensures looked { Looked pass.old pass.new }
+    ensures sized { IsSized P.posed agenda.new }
+    ensures read { IsStateRead state agenda.old agenda.new (seen_by pass.old) (seen_by pass.new) }
+    ensures elsewhere { IsElsewhere state agenda.old agenda.new }
+    ensures changed { result ≡ slice_index_or agenda.new.more.items state false }
+{
+    let place = state as usize;
+    if !agenda.marks[place] && !agenda.more[place] {
+        return false;
+    }
+    let value = table.value(pass, state);
+    let changed = value != agenda.read[place];
+    agenda.read[place] = value;
+    agenda.marks[place] = false;
+    agenda.more[place] = changed;
+    changed
+}
+
+/// Marks the predecessors of the states that changed, or all states where most changed. About how many states then have
+/// a mark.
+pub fn mark_again(game: &Game, predecessors: &Predecessors, agenda: &mut Agenda, changed: u32) -> u32
+    requires predecessors { ArePredecessors game.now predecessors.now }
+    requires marks { length agenda.old.marks.items ≡ length game.now }
+    requires more { length agenda.old.more.items ≡ length game.now }
+    ensures read { agenda.new.read.items ≡ agenda.old.read.items }
+    ensures marks { length agenda.new.marks.items ≡ length game.now }
+    ensures more { length agenda.new.more.items ≡ length game.now }
+    ensures marked { AreMarkedFor game.now agenda.old.more.items agenda.new.marks.items }
+{
+    let states = game.states();
+    if changed > states / 2 {
+        mark_all(agenda);
+        return states;
+    }
+    mark_changed(game, predecessors, agenda)
+}
+
+/// Marks all states.
+fn mark_all(agenda: &mut Agenda)
+    ensures read { agenda.new.read.items ≡ agenda.old.read.items }
+    ensures marks { length agenda.new.marks.items ≡ length agenda.old.marks.items }
+    ensures more { length agenda.new.more.items ≡ length agenda.old.more.items }
+    ensures marked { (s : ℕ) → s < length agenda.old.marks.items → IsMarked agenda.new.marks.items s }
+{
+    agenda.marks.fill(true);
+    agenda.more.fill(false);
+}
+
+/// Marks the predecessors of the states that changed. How many states got a mark.
+fn mark_changed(game: &Game, predecessors: &Predecessors, agenda: &mut Agenda) -> u32
+    requires predecessors { ArePredecessors game.now predecessors.now }
+    requires marks { length agenda.old.marks.items ≡ length game.now }
+    requires more { length agenda.old.more.items ≡ length game.now }
+    ensures read { agenda.new.read.items ≡ agenda.old.read.items }
+    ensures marks { length agenda.new.marks.items ≡ length game.now }
+    ensures more { length agenda.new.more.items ≡ length game.now }
+    ensures marked { AreMarkedFor game.now agenda.old.more.items agenda.new.marks.items }
+{
+    let mut due: u32 = 0;
+    for state in 0..game.states() {
+        if agenda.more[state as usize] {
+            agenda.more[state as usize] = false;
+            due = due.saturating_add(mark_predecessors(game, predecessors, state, agenda));
+        }
+    }
+    due
+}
+
+/// Marks the predecessors of a state. How many of them had no mark.
+fn mark_predecessors(game: &Game, predecessors: &Predecessors, state: u32, agenda: &mut Agenda) -> u32
+    requires predecessors { ArePredecessors game.now predecessors.now }
+    requires state { state < length game.now }
+    requires marks { length agenda.old.marks.items ≡ length game.now }
+    ensures read { agenda.new.read.items ≡ agenda.old.read.items }
+    ensures more { agenda.new.more.items ≡ agenda.old.more.items }
+    ensures marks { length agenda.new.marks.items ≡ length game.now }
+    ensures kept { (s : ℕ) → IsMarked agenda.old.marks.items s → IsMarked agenda.new.marks.items s }
+    ensures marked { (s c : ℕ) → LeadsTo game.now s c state → IsMarked agenda.new.marks.items s }
+{
+    let mut due: u32 = 0;
+    for step in predecessors.of_state(state) {
+        let place = step.state as usize;
+        if !agenda.marks[place] {
+            due = due.saturating_add(1);
+        }
+        agenda.marks[place] = true;
+    }
+    due
+}
