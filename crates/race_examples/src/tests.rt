@@ -6,6 +6,7 @@ ghost use Rattle.value_words.specs.Passes.{IsOf, Grew};
 use super::*;
 use game_model::Question;
 use game_outside::HoldGate;
+use predecessors::Predecessors;
 use round_workers::{first_state, round, worker_of};
 use std::alloc::Global;
 use std::marker::Brand;
@@ -145,7 +146,7 @@ fn two_threads_race_over_the_agreement_protocol(rt: HostRuntime) -> Result<(), F
     Ok(())
 }
 
-// So many rounds of two workers. It gives the final words.
+// So many rounds of two workers over all states. It gives the final words.
 fn rounds<P: Posing + Send + Sync, R: Threads + Sync>(
     rt: &R,
     alloc: Global,
@@ -155,23 +156,34 @@ fn rounds<P: Posing + Send + Sync, R: Threads + Sync>(
 ) -> Option<Words>
     requires { question.now ≡ P.posed }
 {
+    question.known();
+    let states = question.game().states();
+    let predecessors = Predecessors::of_game(alloc, question.game()).ok()?;
+    let marks = vec![in alloc; true; states as usize].ok()?;
+    let mut more = vec![in alloc; false; states as usize].ok()?;
     let (table, pass) = ValueTable::<P>::start(alloc, question).ok()?;
-    let pass = repeat(rt, &table, pass, count, gate);
+    let pass = repeat(rt, &table, &predecessors, pass, &marks, &mut more, count, gate);
     table.close(alloc, pass).ok()
 }
 
 fn repeat<P: Posing + Send + Sync, R: Threads + Sync>(
     rt: &R,
     table: &ValueTable<'_, P>,
+    predecessors: &Predecessors,
     mut pass: Pass<P>,
+    marks: &[bool],
+    more: &mut [bool],
     count: u32,
     gate: &HoldGate,
 ) -> Pass<P>
-    requires { IsOf table.now pass }
+    requires pass { IsOf table.now pass }
+    requires predecessors { length predecessors.now ≡ states P.posed }
+    requires marks { length marks.now ≡ states P.posed }
+    requires more { length more.old ≡ states P.posed }
     ensures { Grew pass result }
 {
     for _turn in 0..count {
-        pass = round(rt, table, pass, 2, gate).pass;
+        pass = round(rt, table, predecessors, pass, marks, more, 2, gate).pass;
     }
     pass
 }
