@@ -1,7 +1,8 @@
 -- Predecessors are marked, one after another.
 use Rattle.std.proofs.Common.{◌≡◌, ◌≢◌, ℕ, ◌+◌, ◌<◌, ◌≤◌, Bool, true, false, List, [], length, arith, refl, le_refl, sym, ◌∙◌, subst, ap, inl, inr, slice_index_or, get_or-set_other, get_or-set_same}
 use Rattle.std.specs.Prelude.{Contains, slice_set}
-use Rattle.std.proofs.lemmas.Bool.{cases_eq}
+use Rattle.std.proofs.lemmas.Bool.{cases_eq, cases_lt}
+use Rattle.std.specs.List.{AllWithin}
 use Rattle.std.proofs.lemmas.List.{get_or_default}
 use Rattle.std.proofs.lemmas.List.Elements.{Contains-get_or}
 use Rattle.game_model.specs.Game.{Distribution}
@@ -55,12 +56,12 @@ marked-more game i changed now marks new h kept here = record {
     off-other : (now : List Bool) (i t : ℕ) → t ≢ i → slice_index_or (slice_set now i false) t false ≡ slice_index_or now t false
     off-other now i t other = rw get_or-set_other refl
 
--- one more, which did not
-pub marked-same : (game : List (List Distribution)) (i : ℕ) (changed now marks : List Bool) → AreMarkedBelow game i changed now marks → slice_index_or now i false ≡ false → AreMarkedBelow game (i + 1) changed now marks
-marked-same game i changed now marks h off = record {
+-- those up to the next mark did not change
+pub marked-over : (game : List (List Distribution)) (i j : ℕ) (changed now marks : List Bool) → AreMarkedBelow game i changed now marks → AllWithin (λ m. m ≡ false) now i j → i ≤ j → AreMarkedBelow game j changed now marks
+marked-over game i j changed now marks h off order = record {
   rest = λ t past. h.rest t (omega arith);
-  marked = λ s c t below on leads. elim (cases_eq t i) [
-    | inl same ↦ absurd (let clash : true ≡ false = sym on ∙ subst (λ (u : ℕ). slice_index_or changed u false ≡ false) (sym same) (sym (h.rest i (le_refl i)) ∙ off) in cc)
-    | inr other ↦ h.marked s c t (omega arith) on leads
+  marked = λ s c t below on leads. elim (cases_lt t i) [
+    | inl less ↦ h.marked s c t less on leads
+    | inr past ↦ absurd (let clash : true ≡ false = sym on ∙ sym (h.rest t past) ∙ off t false past below in cc)
   ];
 }

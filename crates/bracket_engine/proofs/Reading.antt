@@ -1,6 +1,7 @@
 -- States are looked at again, one after another.
 use Rattle.std.proofs.Common.{◌≡◌, ◌≢◌, ℕ, ◌+◌, ◌<◌, ◌≤◌, Bool, true, false, List, length, arith, sym, ◌∙◌, subst, ap, inl, inr, le_trans, slice_index_or}
-use Rattle.std.proofs.lemmas.Bool.{cases_eq}
+use Rattle.std.proofs.lemmas.Bool.{cases_eq, cases_lt}
+use Rattle.std.specs.List.{AllWithin}
 use Rattle.game_model.specs.Query.{Query, states}
 use Rattle.round_workers.specs.Marks.{IsMarked}
 use Rattle.bracket_engine.specs.declared.agenda.Agenda.{Agenda}
@@ -10,7 +11,7 @@ use Rattle.bracket_engine.specs.Agenda.{read_of, IsSized, IsStateRead, IsElsewhe
 pub record IsReadBelow (i : ℕ) (old now : Agenda) (before after : ℕ → ℕ) : Type 0 where
   pub read : (s : ℕ) → s < i → IsStateRead s old now before after
   pub rest : (s : ℕ) → i ≤ s → read_of now s ≡ read_of old s
-  pub rest_marks : (s : ℕ) → i ≤ s → slice_index_or now.marks.items s false ≡ slice_index_or old.marks.items s false
+  pub rest_more : (s : ℕ) → i ≤ s → slice_index_or now.more.items s false ≡ slice_index_or old.more.items s false
 
 -- one more
 pub read-more : (i : ℕ) (old now next : Agenda) (before mid after : ℕ → ℕ) → ((s : ℕ) → before s ≤ mid s) → ((s : ℕ) → mid s ≤ after s)
@@ -20,7 +21,7 @@ read-more i old now next before mid after rose rises h here elsewhere = record {
     | inl same ↦ subst (λ t. IsStateRead t old next before after) (sym same) record {
         rises = omega (arith, here.rises, h.rest i (omega arith));
         below = here.below;
-        marked = λ marked. le_trans (rose i) (here.marked (h.rest_marks i (omega arith) ∙ marked));
+        marked = λ marked. le_trans (rose i) (here.marked (h.rest_more i (omega arith) ∙ marked));
         same = λ off. here.same off ∙ h.rest i (omega arith);
       }
     | inr other ↦ (let was = h.read s (omega arith) in record {
@@ -31,5 +32,22 @@ read-more i old now next before mid after rose rises h here elsewhere = record {
       })
   ];
   rest = λ s past. elsewhere.read s (λ same. omega arith) ∙ h.rest s (omega arith);
-  rest_marks = λ s past. elsewhere.marks s (λ same. omega arith) ∙ h.rest_marks s (omega arith);
+  rest_more = λ s past. elsewhere.more s (λ same. omega arith) ∙ h.rest_more s (omega arith);
+}
+
+-- those up to the next mark are as they were
+pub read-over : (n i j : ℕ) (old now : Agenda) (before after : ℕ → ℕ) → ((s : ℕ) → s < n → read_of old s ≤ before s) → ((s : ℕ) → before s ≤ after s) → j ≤ n
+    → IsReadBelow i old now before after → AllWithin (λ m. m ≡ false) now.more.items i j → i ≤ j → IsReadBelow j old now before after
+read-over n i j old now before after under rose inside h off order = record {
+  read = λ s below. elim (cases_lt s i) [
+    | inl less ↦ h.read s less
+    | inr past ↦ (let same = h.rest s past in record {
+        rises = omega arith;
+        below = omega (arith, under s (omega arith), rose s);
+        marked = λ marked. absurd (let clash : true ≡ false = sym marked ∙ sym (h.rest_more s past) ∙ off s false past below in cc);
+        same = λ _. same;
+      })
+  ];
+  rest = λ s past. h.rest s (omega arith);
+  rest_more = λ s past. h.rest_more s (omega arith);
 }

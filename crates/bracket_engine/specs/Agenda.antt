@@ -23,22 +23,24 @@ pub record IsAgenda (q : Query) (agenda : Agenda) (seen : ℕ → ℕ) : Type 0 
   pub below : (s : ℕ) → s < states q → read_of agenda s ≤ seen s
   pub quiet : (s : ℕ) → s < states q → slice_index_or agenda.marks.items s false ≡ false → down_step q (read_of agenda) s ≤ read_of agenda s
 
--- a state was looked at again: its value is no smaller, and at most what is seen now; if it was marked, it is at least what was seen before; where it is another one, the state has the second mark
+-- a state was looked at again: its value is no smaller, and at most what is seen now; if it had the second mark, it is at least what was seen before; where it is another one, the state has the second mark
 pub record IsStateRead (s : ℕ) (old new : Agenda) (before after : ℕ → ℕ) : Type 0 where
   pub rises : read_of old s ≤ read_of new s
   pub below : read_of new s ≤ after s
-  pub marked : IsMarked old.marks.items s → before s ≤ read_of new s
+  pub marked : IsMarked old.more.items s → before s ≤ read_of new s
   pub same : slice_index_or new.more.items s false ≡ false → read_of new s ≡ read_of old s
 
 -- nothing else was touched
 pub record IsElsewhere (s : ℕ) (old new : Agenda) : Type 0 where
   pub read : (t : ℕ) → t ≢ s → read_of new t ≡ read_of old t
-  pub marks : (t : ℕ) → t ≢ s → slice_index_or new.marks.items t false ≡ slice_index_or old.marks.items t false
   pub more : (t : ℕ) → t ≢ s → slice_index_or new.more.items t false ≡ slice_index_or old.more.items t false
 
--- all states were looked at again
-abbrev pub IsReadAgain : Query → Agenda → Agenda → (ℕ → ℕ) → (ℕ → ℕ) → Type 0
-IsReadAgain q old new before after = (s : ℕ) → s < states q → IsStateRead s old new before after
+-- after a round the states were looked at again: each value is no smaller, and at most what is seen now; that of a marked state is at least what was seen before; where it is another one, the state has the second mark
+pub record IsReadAgain (q : Query) (old new : Agenda) (before after : ℕ → ℕ) : Type 0 where
+  pub rises : (s : ℕ) → s < states q → read_of old s ≤ read_of new s
+  pub below : (s : ℕ) → s < states q → read_of new s ≤ after s
+  pub marked : (s : ℕ) → s < states q → IsMarked old.marks.items s → before s ≤ read_of new s
+  pub same : (s : ℕ) → s < states q → slice_index_or new.more.items s false ≡ false → read_of new s ≡ read_of old s
 
 -- each state with an edge to a changed one has a mark
 abbrev pub AreMarkedFor : List (List Distribution) → List Bool → List Bool → Type 0

@@ -13,6 +13,7 @@ use fixed_bellman::Values;
 use game_model::{Game, Question, UNIT};
 use game_outside::OutOfMemory;
 use predecessors::Predecessors;
+use round_workers::next_mark;
 use std::alloc::Global;
 use value_words::{Pass, Posing, ValueTable};
 
@@ -46,7 +47,22 @@ impl Agenda {
     }
 }
 
-/// Reads the states that were updated. How many values changed; these states have the second mark then.
+/// Takes the marks off; those that were updated have the second mark then.
+fn take_marks(agenda: &mut Agenda)
+    requires { length agenda.old.more.items ≡ length agenda.old.marks.items }
+    ensures read { agenda.new.read.items ≡ agenda.old.read.items }
+    ensures marks { length agenda.new.marks.items ≡ length agenda.old.marks.items }
+    ensures more { length agenda.new.more.items ≡ length agenda.old.more.items }
+    ensures marked { (s : ℕ) → IsMarked agenda.old.marks.items s → IsMarked agenda.new.more.items s }
+{
+    for place in 0..agenda.more.len() {
+        agenda.more[place] |= agenda.marks[place];
+    }
+    agenda.marks.fill(false);
+}
+
+/// Reads the states that were updated. How many values changed; these states have the second mark then, and no other
+/// one has a mark.
 pub fn read_again<P: Posing>(
     table: &ValueTable<'_, P>,
     pass: &mut Pass<P>,
@@ -60,16 +76,37 @@ pub fn read_again<P: Posing>(
     ensures again { IsReadAgain P.posed agenda.old agenda.new (seen_by pass.old) (seen_by pass.new) }
     ensures none { result ≡ 0 → (s : ℕ) → s < states P.posed → slice_index_or agenda.new.more.items s false ≡ false }
 {
-    let mut changed = 0;
-    for state in 0..table.question().game().states() {
+    take_marks(agenda);
+    read_marked(table, pass, agenda)
+}
+
+/// Reads the states with a second mark. How many values changed; these states keep it.
+fn read_marked<P: Posing>(
+    table: &ValueTable<'_, P>,
+    pass: &mut Pass<P>,
+    agenda: &mut Agenda,
+) -> u32
+    requires pass { IsOf table.now pass.old }
+    requires sized { IsSized P.posed agenda.old }
+    requires below { (s : ℕ) → s < states P.posed → read_of agenda.old s ≤ seen_by pass.old s }
+    ensures looked { Looked pass.old pass.new }
+    ensures sized { IsSized P.posed agenda.new }
+    ensures again { (s : ℕ) → s < states P.posed → IsStateRead s agenda.old agenda.new (seen_by pass.old) (seen_by pass.new) }
+    ensures none { result ≡ 0 → (s : ℕ) → s < states P.posed → slice_index_or agenda.new.more.items s false ≡ false }
+{
+    let states = table.question().game().states();
+    let mut changed: u32 = 0;
+    let mut state = next_mark(&agenda.more, 0);
+    while state < states {
         if read_state(table, pass, agenda, state) {
-            changed += 1;
+            changed = changed.saturating_add(1);
         }
+        state = next_mark(&agenda.more, state + 1);
     }
     changed
 }
 
-/// Reads a state that was updated. Whether its value changed.
+/// Reads a state. Whether its value changed; else it loses its second mark.
 fn read_state<P: Posing>(
     table: &ValueTable<'_, P>,
     pass: &mut Pass<P>,
@@ -87,13 +124,9 @@ fn read_state<P: Posing>(
     ensures changed { result ≡ slice_index_or agenda.new.more.items state false }
 {
     let place = state as usize;
-    if !agenda.marks[place] && !agenda.more[place] {
-        return false;
-    }
     let value = table.value(pass, state);
     let changed = value != agenda.read[place];
     agenda.read[place] = value;
-    agenda.marks[place] = false;
     agenda.more[place] = changed;
     changed
 }
@@ -138,12 +171,13 @@ fn mark_changed(game: &Game, predecessors: &Predecessors, agenda: &mut Agenda) -
     ensures more { length agenda.new.more.items ≡ length game.now }
     ensures marked { AreMarkedFor game.now agenda.old.more.items agenda.new.marks.items }
 {
+    game.known();
     let mut due: u32 = 0;
-    for state in 0..game.states() {
-        if agenda.more[state as usize] {
-            agenda.more[state as usize] = false;
-            due = due.saturating_add(mark_predecessors(game, predecessors, state, agenda));
-        }
+    let mut state = next_mark(&agenda.more, 0);
+    while state < game.states() {
+        agenda.more[state as usize] = false;
+        due = due.saturating_add(mark_predecessors(game, predecessors, state, agenda));
+        state = next_mark(&agenda.more, state + 1);
     }
     due
 }

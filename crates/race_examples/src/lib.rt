@@ -4,6 +4,8 @@
 mod draft;
 mod games;
 #[cfg(test)]
+mod random;
+#[cfg(test)]
 mod tests;
 
 pub use games::{agreement_game, agreement_question, coin_game, coin_question};

@@ -4,8 +4,10 @@ ghost use Rattle.game_model.specs.Query.{states};
 ghost use Rattle.value_words.specs.Passes.{IsOf, Grew};
 
 use super::*;
+use crate::random::{Draw, opening_table, plain_sweep, random_game, random_question};
+use bracket_engine::bracket;
 use game_model::Question;
-use game_outside::HoldGate;
+use game_outside::{HoldGate, OpenGate};
 use predecessors::Predecessors;
 use round_workers::{first_state, round, worker_of};
 use std::alloc::Global;
@@ -16,6 +18,7 @@ use std::test::Fail;
 use std::thread::{Threads, join};
 use step_core::{Event, Refused, World, pack, value_of};
 use value_words::{Pass, Posing, ValueTable, Words};
+use zero_sets::zero_set;
 
 // Events on a world of the coin game that has one view.
 fn take_events<R: Abort>(rt: &R, world: &mut World<'_>)
@@ -215,5 +218,43 @@ fn two_workers_share_the_agreement_protocol_by_edges(rt: HostRuntime) -> Result<
     assert_eq!(rt; worker_of(&game, 2, 3), 0);
     assert_eq!(rt; worker_of(&game, 2, 4), 1);
     assert_eq!(rt; worker_of(&game, 2, 11), 1);
+    Ok(())
+}
+
+// Compares the brackets of one worker with plain sweeps, after each number of rounds until a sweep raises nothing.
+fn agrees_with_plain_sweeps<R: Abort + Threads + Sync>(
+    rt: &R,
+    alloc: Global,
+    question: &Question<'_>,
+) -> Option<()> {
+    question.known();
+    let zero = zero_set(alloc, question).ok()?;
+    let mut table = opening_table(alloc, question)?;
+    let mut rounds = 0;
+    let mut ended = false;
+    for asked in 0..40 {
+        let found = bracket(rt, alloc, question, &zero, asked, 1, &OpenGate {}).ok()?;
+        assert_eq!(rt; found.lower.as_slice(), table.as_slice(), "after {asked} rounds");
+        assert_eq!(rt; found.rounds, rounds, "of {asked} rounds");
+        if rounds < asked {
+            return Some(());
+        }
+        if !ended {
+            ended = plain_sweep(question, table.as_mut_slice()) == 0;
+            rounds = asked + 1;
+        }
+    }
+    Some(())
+}
+
+#[test]
+fn marked_rounds_of_one_worker_are_plain_sweeps(rt: HostRuntime) -> Result<(), Fail> {
+    let alloc = rt.alloc();
+    let mut draw = Draw::new(7);
+    for _model in 0..2_500 {
+        let game = random_game(alloc, &mut draw).ok_or("the game")?;
+        let question = random_question(alloc, &mut draw, &game).ok_or("the question")?;
+        agrees_with_plain_sweeps(&rt, alloc, &question).ok_or("memory")?;
+    }
     Ok(())
 }

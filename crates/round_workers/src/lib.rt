@@ -15,6 +15,6 @@ mod share;
 mod sweep;
 
 pub use fork::round;
-pub use marks::has_mark;
+pub use marks::next_mark;
 pub use share::{MOST_WORKERS, first_state, worker_of};
 pub use sweep::Rounded;

@@ -2,9 +2,13 @@
 
 ghost use Rattle.std.specs.Prelude.{◌≡◌, ℕ, ◌<◌, ◌≤◌, length, false, MatchBool};
 ghost use Rattle.std.specs.List.{AllWithin};
-ghost use Rattle.round_workers.specs.Marks.{IsMarked, HasMark};
+ghost use Rattle.game_model.specs.Limits.{most_states};
+ghost use Rattle.round_workers.specs.Marks.{IsMarked, HasMark, IsNextMark};
 
 use predecessors::Predecessors;
+
+/// How many marks in a row are looked at together.
+pub const STRETCH: u32 = 64;
 
 /// Whether a mark stands from one place up to and not including another.
 pub fn has_mark(marks: &[bool], from: u32, to: u32) -> bool
@@ -17,6 +21,50 @@ pub fn has_mark(marks: &[bool], from: u32, to: u32) -> bool
         any |= marks[place as usize];
     }
     any
+}
+
+/// The first place from one on that has a mark; the number of marks, where there is none.
+pub fn next_mark(marks: &[bool], from: u32) -> u32
+    requires few { length marks.now ≤ most_states }
+    requires from { from ≤ length marks.now }
+    ensures { IsNextMark marks.now from result }
+{
+    let begin = marked_stretch(marks, from);
+    first_mark(marks, begin)
+}
+
+/// Where the first stretch from a place on begins that has a mark.
+fn marked_stretch(marks: &[bool], from: u32) -> u32
+    requires few { length marks.now ≤ most_states }
+    requires from { from ≤ length marks.now }
+    ensures within { (from ≤ result) × (result ≤ length marks.now) }
+    ensures none { AllWithin (λ m. m ≡ false) marks.now from result }
+{
+    let count = marks.len() as u32;
+    let mut place = from;
+    while place < count {
+        let end = count.min(place + STRETCH);
+        if has_mark(marks, place, end) {
+            return place;
+        }
+        place = end;
+    }
+    place
+}
+
+/// The first place from one on that has a mark, one after another.
+fn first_mark(marks: &[bool], from: u32) -> u32
+    requires few { length marks.now ≤ most_states }
+    requires from { from ≤ length marks.now }
+    ensures { IsNextMark marks.now from result }
+{
+    let count = marks.len() as u32;
+    for place in from..count {
+        if marks[place as usize] {
+            return place;
+        }
+    }
+    count
 }
 
 /// Marks the predecessors of a state that stand behind it. The first of the marks is that of the state `first`;

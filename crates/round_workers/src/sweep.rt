@@ -7,7 +7,7 @@ ghost use Rattle.value_words.specs.Passes.{IsOf, Grew, seen_by, won_by, parts_of
 ghost use Rattle.round_workers.specs.Marks.{IsMarked};
 ghost use Rattle.round_workers.specs.Share.{IsSwept};
 
-use crate::marks::{has_mark, mark_behind};
+use crate::marks::{STRETCH, has_mark, mark_behind};
 use game_outside::Gate;
 use predecessors::Predecessors;
 use value_words::{Pass, Posing, ValueTable};
@@ -20,9 +20,6 @@ pub struct Rounded<P: Posing> {
     /// How many exchanges the workers won.
     pub raises: u64,
 }
-
-/// How many states in a row are passed over at once, where none of them is to be updated.
-const STRETCH: u32 = 64;
 
 /// Updates the marked states from `from` up to and not including `to`, in rising order, and those that it marks on the
 /// way: the first of `more` is the mark of `from`. The gate is passed before each state, marked or not.

@@ -23,7 +23,7 @@ returns-then-changed-eq0-clause-settled g c none =
 pub returns-then-changed-eq0-clause-agenda : goal.returns-then-changed-eq0-clause-agenda
 returns-then-changed-eq0-clause-agenda g c = record {
   sized = c.read_again-changed.ensures.sized;
-  below = λ s inside. (c.read_again-changed.ensures.again s inside).below;
+  below = λ s inside. c.read_again-changed.ensures.again.below s inside;
   quiet = λ s inside off. returns-then-changed-eq0-clause-settled g c refl s inside;
 }
 
@@ -48,7 +48,7 @@ returns-clause-agenda g c =
     let marked : AreMarkedFor q.game read.more.items new.marks.items = subst (λ (l : List (List Distribution)). AreMarkedFor l read.more.items new.marks.items) game m.marked in
     record {
       sized = record { read = ap length m.read ∙ c.read_again-changed.ensures.sized.read; marks = m.marks ∙ ap length game; more = m.more ∙ ap length game };
-      below = λ s inside. subst (λ (l : List ℕ). slice_index_or l s 0 ≤ seen_by c.read_again-changed.new.pass s) (sym m.read) (c.read_again-changed.ensures.again s inside).below;
+      below = λ s inside. subst (λ (l : List ℕ). slice_index_or l s 0 ≤ seen_by c.read_again-changed.new.pass s) (sym m.read) (c.read_again-changed.ensures.again.below s inside);
       quiet = λ s inside off. subst (λ (l : List ℕ). down_step q (λ t. slice_index_or l t 0) s ≤ slice_index_or l s 0) (sym m.read)
           (quiet-again q c.args.agenda.now _ read new.marks.items (seen_by c.round-pass.result.pass) (seen_by c.read_again-changed.new.pass) c.args.table.now.posed refl c.read_again-changed.ensures.again (read-step g c) marked s inside off);
     }
