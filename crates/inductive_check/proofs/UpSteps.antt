@@ -1,7 +1,7 @@
 -- Up values and up steps: what they say of an entry, and that they keep the order of tables.
 use Rattle.std.proofs.Common.{◌≡◌, ℕ, ◌+◌, ◌-◌, ◌*◌, ◌/◌, ◌<◌, ◌≤◌, Bool, true, false, List, length, arith, refl, ap, subst, sym, ◌∙◌, min, inl, inr}
 use Rattle.std.specs.Bool.{if◌then◌else◌}
-use Rattle.std.proofs.Math.Nat.{div-lt_iff_lt-mul, mul-le-mul_right, min-le_left, min-le_right}
+use Rattle.std.proofs.Math.Nat.{div-lt_iff_lt-mul, mul-le-mul_right, min-le_left, min-le_right, le-min}
 use Rattle.game_model.specs.Game.{Distribution, choices_of}
 use Rattle.game_model.specs.Query.{Query, IsQuery, states, is_goal, is_dead, side_at}
 use Rattle.game_model.specs.Values.{weighted_sum, optimum}
@@ -9,7 +9,6 @@ use Rattle.game_model.specs.Limits.{unit}
 use Rattle.game_model.specs.Rounded.{up_value, up_step, IsBelow, IsInductive}
 use Rattle.game_model.proofs.Each.{AllByRecursion-weaker}
 use Rattle.game_model.proofs.Choices.{IsChoiceOf, AreChoicesOf, AreChoicesOf-choices_of}
-use Rattle.game_model.proofs.Best.{min-cases}
 use Rattle.game_model.proofs.Rises.{bellman-le}
 use Rattle.game_laws.proofs.High.{ceil-above}
 use Rattle.fixed_bellman.specs.Given.{IsFree}
@@ -25,13 +24,9 @@ up_value-held table u m positive held =
 pub held-up_value : (table : ℕ → ℕ) (u : ℕ) (m : Distribution) → 0 < m.total → up_value table m ≤ u → IsHeld table u m
 held-up_value table u m positive most = omega (arith, ceil-above (weighted_sum table m.edges) m.total positive, mul-le-mul_right m.total most)
 
--- the up step of a goal, of a dead state, and of a state that is neither
+-- the up step of a goal, and of a state that is neither goal nor dead
 pub up_step-goal : (q : Query) (table : ℕ → ℕ) (s : ℕ) → is_goal q s ≡ true → up_step q table s ≡ unit
 up_step-goal q table s goal = ap (λ mark. if mark then unit else (if is_dead q s then 0 else optimum (side_at q s) (up_value table) (choices_of q.game s))) goal
-
-pub up_step-dead : (q : Query) (table : ℕ → ℕ) (s : ℕ) → is_goal q s ≡ false → is_dead q s ≡ true → up_step q table s ≡ 0
-up_step-dead q table s goal dead = ap (λ mark. if mark then unit else (if is_dead q s then 0 else optimum (side_at q s) (up_value table) (choices_of q.game s))) goal
-    ∙ ap (λ mark. if mark then 0 else optimum (side_at q s) (up_value table) (choices_of q.game s)) dead
 
 pub up_step-free : (q : Query) (table : ℕ → ℕ) (s : ℕ) → IsFree q s → up_step q table s ≡ optimum (side_at q s) (up_value table) (choices_of q.game s)
 up_step-free q table s free = ap (λ mark. if mark then unit else (if is_dead q s then 0 else optimum (side_at q s) (up_value table) (choices_of q.game s))) free.0
@@ -51,14 +46,11 @@ up_step-le q v w chosen h s =
     (AllByRecursion-weaker (IsChoiceOf q.game) _ (λ m fits. omega (arith, up_value-le q.game v w m fits h)) (choices_of q.game s) (chosen.each s)) in
     omega (arith, step)
 
-le-min : (n x y : ℕ) → n ≤ x → n ≤ y → n ≤ min x y
-le-min n x y h k = elim (min-cases x y) [ inl e ↦ rw e h | inr e ↦ rw e k ]
-
 -- the lesser of two inductive tables is inductive
 pub IsInductive-min : (q : Query) (v w : ℕ → ℕ) → IsQuery q → IsInductive q v → IsInductive q w → IsInductive q (λ s. min (v s) (w s))
 IsInductive-min q v w h inductive inductive' s inside =
     let chosen : AreChoicesOf q.game (choices_of q.game) = AreChoicesOf-choices_of q.game h.game in
     let least : ℕ → ℕ = λ t. min (v t) (w t) in
-    le-min (up_step q least s) (v s) (w s)
+    le-min
     (omega (arith, up_step-le q least v chosen (λ t within. min-le_left (v t) (w t)) s, inductive s inside))
     (omega (arith, up_step-le q least w chosen (λ t within. min-le_right (v t) (w t)) s, inductive' s inside))

@@ -20,5 +20,5 @@ loop-state-preserved c =
     record {
       as_many = ap length pushed ∙ length_push c.loop-state.replies.items c.reply_of.result ∙ ap (λ n. n + 1) c.loop-state.invariant.as_many;
       each = subst (λ (xs : List (Option ℕ)). (s : ℕ) → s < c.loop-state.state + 1 → IsFirstReply q v s (slice_index_or xs s None)) (sym pushed)
-      (each-more (λ s reply. IsFirstReply q v s reply) c.loop-state.replies.items c.reply_of.result c.loop-state.state c.loop-state.invariant.as_many c.loop-state.invariant.each c.reply_of.ensures);
+          (each-more (λ s reply. IsFirstReply q v s reply) c.loop-state.replies.items c.reply_of.result c.loop-state.state c.loop-state.invariant.as_many c.loop-state.invariant.each c.reply_of.ensures);
     }
