@@ -1,5 +1,5 @@
 -- Replies to an inductive table hold every opponent to it.
-use Rattle.std.proofs.Common.{◌≡◌, ℕ, zero, suc, ◌*◌, ◌^◌, ◌<◌, ◌≤◌, Bool, true, false, List, [], ◌∷◌, length, get_or, take, drop, arith, refl, ap, subst, sym, ◌∙◌, Option, Some, None, unwrap_or, nat_lt}
+use Rattle.std.proofs.Common.{◌≡◌, ℕ, zero, suc, ◌<◌, ◌≤◌, Bool, true, false, List, [], ◌∷◌, length, get_or, take, drop, arith, refl, ap, subst, sym, ◌∙◌, Option, Some, None, unwrap_or, nat_lt}
 use Rattle.std.specs.Prelude.{slice_index_or}
 use Rattle.std.specs.Bool.{if◌then◌else◌}
 use Rattle.std.proofs.lemmas.Bool.Decides.{nat_tests}
@@ -9,7 +9,7 @@ use Rattle.game_model.specs.Game.{Distribution, no_distribution, choices_of, cho
 use Rattle.game_model.specs.Query.{Query, IsQuery, states, is_goal, is_dead, side_at}
 use Rattle.game_model.specs.Values.{optimum, bellman}
 use Rattle.game_model.specs.Limits.{unit}
-use Rattle.game_model.specs.Rounded.{up_value, up_step, IsInductive}
+use Rattle.game_model.specs.Rounded.{up_value, IsInductive}
 use Rattle.game_model.specs.Plans.{same_side, planned_place, planned}
 use Rattle.game_model.proofs.Choices.{AreChoicesOf-planned}
 use Rattle.game_laws.proofs.High.{inductive-above}

@@ -1,9 +1,9 @@
 -- Up values and up steps: what they say of an entry, and that they keep the order of tables.
-use Rattle.std.proofs.Common.{◌≡◌, ℕ, ◌+◌, ◌-◌, ◌*◌, ◌/◌, ◌<◌, ◌≤◌, Bool, true, false, List, length, arith, refl, ap, subst, sym, ◌∙◌, min, inl, inr}
+use Rattle.std.proofs.Common.{◌≡◌, ℕ, ◌+◌, ◌-◌, ◌*◌, ◌/◌, ◌<◌, ◌≤◌, true, List, length, arith, ap, ◌∙◌, min}
 use Rattle.std.specs.Bool.{if◌then◌else◌}
 use Rattle.std.proofs.Math.Nat.{div-lt_iff_lt-mul, mul-le-mul_right, min-le_left, min-le_right, le-min}
 use Rattle.game_model.specs.Game.{Distribution, choices_of}
-use Rattle.game_model.specs.Query.{Query, IsQuery, states, is_goal, is_dead, side_at}
+use Rattle.game_model.specs.Query.{Query, IsQuery, is_goal, is_dead, side_at}
 use Rattle.game_model.specs.Values.{weighted_sum, optimum}
 use Rattle.game_model.specs.Limits.{unit}
 use Rattle.game_model.specs.Rounded.{up_value, up_step, IsBelow, IsInductive}
