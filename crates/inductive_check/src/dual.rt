@@ -8,8 +8,9 @@ use game_outside::OutOfMemory;
 use std::alloc::Global;
 
 /// The question of the other side, over the same game: the sides are exchanged, the states of the zero set
-/// are its goals, and the goals its dead states (the dual game: Chen, Forejt, Kwiatkowska, Parker and
-/// Simaitis, TACAS 2012). The marks are the question's zero set. The only error is want of memory.
+/// are its goals, and the goals its dead states. Its values and those of staying out of the zero set add up
+/// to 1 (`game_model::laws::swap_law`), so lower bounds of it give upper bounds of the question. The marks are
+/// the question's zero set. The only error is want of memory.
 pub fn swap<'g>(
     alloc: Global,
     question: &Question<'g>,

@@ -4,9 +4,9 @@
 //! [`check_upper`] tests that no state's rounded-up Bellman value is above its entry, and else names the
 //! first fault. Such a table is inductive, so it is above every k-step value (a fixed-point argument after
 //! Park; as a certificate it is used by Hartmanns and Kaminski, Optimistic value iteration, CAV 2020).
-//! [`replies`] gives for such a table a strategy of the minimiser, and [`check_replies`] tests one: whoever
-//! plays it holds every opponent to the table. [`swap`] gives the question of the other side, whose lower
-//! bounds bound the question from above. The checks take no memory.
+//! [`replies`] gives for such a table a memoryless strategy of the minimiser, and [`check_replies`] tests one:
+//! where it is played, every opponent is held to the table at every horizon. [`swap`] gives the question of
+//! the other side, whose lower bounds give upper bounds of the question. The checks take no memory.
 #![tactic(auto)]
 
 mod dual;

@@ -13,10 +13,10 @@ use game_model::{Question, Side};
 use game_outside::OutOfMemory;
 use std::alloc::Global;
 
-/// Checks that each state of the minimiser that is neither goal nor dead has a reply that is held to its
-/// entry of a table that [`crate::check_upper`] passes. Then the minimiser who plays these replies, a choice
-/// by state, holds every opponent to the table at every horizon. Else it names the first state with none. It
-/// takes no memory.
+/// Checks replies, one a state, to a table that [`crate::check_upper`] passes: each state of the minimiser that
+/// is neither goal nor dead has a choice that is held to its entry. The replies of other states are not read.
+/// Then the minimiser who plays them holds every opponent to the table at every horizon. Else the fault names
+/// the first state with no such reply. It takes no memory.
 pub fn check_replies(
     question: &Question,
     upper: &[u64],
@@ -75,9 +75,10 @@ fn needs_reply(question: &Question, state: u32) -> bool
     }
 }
 
-/// For each state of the minimiser that is neither goal nor dead the first choice that is held to its entry
-/// of a table that [`crate::check_upper`] passes; none for each other state. The minimiser who plays these
-/// replies holds every opponent to the table at every horizon. The only error is want of memory.
+/// The first replies to a table that [`crate::check_upper`] passes: for each state of the minimiser that is
+/// neither goal nor dead the first choice that is held to its entry, and none for each other state. The
+/// minimiser who plays them holds every opponent to the table at every horizon. The only error is want of
+/// memory.
 pub fn replies(
     alloc: Global,
     question: &Question,
