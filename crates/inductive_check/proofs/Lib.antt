@@ -1,0 +1,5 @@
+pub mod Apart
+pub mod UpSteps
+pub mod Entries
+pub mod Holding
+pub mod Causes
