@@ -1,0 +1,4 @@
+pub mod Steps
+pub mod Zero
+pub mod Lists
+pub mod Accepting

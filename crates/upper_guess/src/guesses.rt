@@ -1,0 +1,74 @@
+//! The guesses of one excess.
+
+ghost use Rattle.std.specs.Prelude.{◌≡◌, ℕ, ◌^◌, ◌≤◌, length, All};
+ghost use Rattle.game_model.specs.Query.{IsQuery, states};
+ghost use Rattle.game_model.specs.Limits.{unit};
+
+use crate::tables::{first_raised, up_table};
+use game_model::{Marks, Question, UNIT};
+use game_outside::OutOfMemory;
+use std::alloc::Global;
+
+/// The most up steps of one excess.
+pub const MOST_STEPS: u32 = 4;
+
+/// What the guesses of one excess are made from: a question, its zero set, a lower table and the excess.
+#[derive(Drop)]
+pub struct Guesses<'a> {
+    pub question: &'a Question<'a>,
+    pub zero: &'a Marks,
+    pub lower: &'a [u64],
+    pub excess: u64,
+    ghost posed: { IsQuery question.now },
+    ghost marked: { length zero.now ≡ states question.now },
+    ghost many: { length lower.now ≡ states question.now },
+    ghost units: { All (λ v. v ≤ unit) lower.now },
+    ghost small: { excess ≤ 2 ^ 40 },
+}
+
+impl Guesses<'_> {
+    ghost use Rattle.std.specs.Prelude.{◌<◌, IfOk, MatchOption};
+    ghost use Rattle.upper_guess.specs.Guess.{IsTable};
+    ghost use Rattle.upper_guess.specs.OfGuesses.{entry_of, first_entry_of, AreRefusedOf, IsFirstOf};
+
+    /// The first of the tables of this excess that is accepted; none where each is refused.
+    pub fn first_accepted(&self, alloc: Global) -> Result<Option<Vec<u64>>, OutOfMemory>
+        ensures { IfOk result (λ found. MatchOption found (AreRefusedOf self.now) (λ table. IsFirstOf self.now table.items)) }
+    {
+        let mut table = self.first_table(alloc)?;
+        for steps in 0..MOST_STEPS + 1 {
+            let next = up_table(alloc, self.question, &table)?;
+            let Some(_) = first_raised(&table, &next) else {
+                return Ok(Some(table));
+            };
+            table = next;
+        }
+        Ok(None)
+    }
+
+    /// The table before any up step.
+    fn first_table(&self, alloc: Global) -> Result<Vec<u64>, OutOfMemory>
+        ensures { IfOk result (λ table. IsTable self.now.question.now (entry_of self.now 0) table.items) }
+    {
+        let mut table = Vec::new(alloc);
+        for state in 0..self.question.game().states() {
+            table.push(self.first_entry(state))?;
+        }
+        Ok(table)
+    }
+
+    /// The entry of that table at a state.
+    fn first_entry(&self, state: u32) -> u64
+        requires { state < states self.now.question.now }
+        ensures value { result ≡ first_entry_of self.now state }
+        ensures units { result ≤ unit }
+    {
+        if self.zero.has(state) {
+            return 0;
+        }
+        if self.question.is_goal(state) {
+            return UNIT;
+        }
+        UNIT.min(self.lower[state as usize] + self.excess)
+    }
+}
