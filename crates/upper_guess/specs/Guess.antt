@@ -1,5 +1,5 @@
 -- The guesses of an upper table, by excess and then by up steps, and the first that is accepted.
-use Rattle.std.specs.Prelude.{◌≡◌, ℕ, zero, suc, ◌+◌, ◌/◌, ◌^◌, ◌<◌, ◌≤◌, Bool, false, List, length, slice_index, slice_index_or, All, if◌then◌else◌, min}
+use Rattle.std.specs.Prelude.{◌≡◌, ℕ, zero, suc, ◌+◌, ◌-◌, ◌/◌, ◌^◌, ◌<◌, ◌≤◌, Bool, false, List, length, slice_index, slice_index_or, All, if◌then◌else◌, min}
 use Rattle.game_model.specs.Query.{Query, states, is_goal}
 use Rattle.game_model.specs.Limits.{unit}
 use Rattle.game_model.specs.Rounded.{up_step, IsInductive}
@@ -38,6 +38,12 @@ pub record IsTable (q : Query) (entries : ℕ → ℕ) (table : List ℕ) : Type
   pub many : length table ≡ states q
   pub each : (s : ℕ) → s < states q → slice_index table s ≡ entries s
   pub units : All (λ v. v ≤ unit) table
+
+-- the state rises from one table to the next, and no state rises more
+pub record RisesMost (q : Query) (table next : ℕ → ℕ) (s : ℕ) : Type 0 where
+  pub inside : s < states q
+  pub rises : table s < next s
+  pub most : (t : ℕ) → t < states q → next t - table t ≤ next s - table s
 
 -- the first table of one excess that is accepted
 pub record IsFirstAt (q : Query) (marks : List Bool) (lower : ℕ → ℕ) (e : ℕ) (table : List ℕ) : Type 0 where

@@ -4,7 +4,7 @@ ghost use Rattle.std.specs.Prelude.{◌≡◌, ℕ, ◌^◌, ◌≤◌, length, 
 ghost use Rattle.game_model.specs.Query.{IsQuery, states};
 ghost use Rattle.game_model.specs.Limits.{unit};
 
-use crate::tables::{first_raised, up_table};
+use crate::tables::{most_raised, up_table};
 use game_model::{Marks, Question, UNIT};
 use game_outside::OutOfMemory;
 use std::alloc::Global;
@@ -31,19 +31,55 @@ impl Guesses<'_> {
     ghost use Rattle.upper_guess.specs.Guess.{IsTable};
     ghost use Rattle.upper_guess.specs.OfGuesses.{entry_of, first_entry_of, AreRefusedOf, IsFirstOf};
 
-    /// The first of the tables of this excess that is accepted; none where each is refused.
-    pub fn first_accepted(&self, alloc: Global) -> Result<Option<Vec<u64>>, OutOfMemory>
-        ensures { IfOk result (λ found. MatchOption found (AreRefusedOf self.now) (λ table. IsFirstOf self.now table.items)) }
+    /// The first of the tables of this excess that is accepted; none where each is refused. A table that is
+    /// seen to be refused at the witness is not made. The witness becomes the state that rises most from the last table that was made.
+    pub fn first_accepted(
+        &self,
+        alloc: Global,
+        witness: &mut u32,
+    ) -> Result<Option<Vec<u64>>, OutOfMemory>
+        requires { witness.old < states self.now.question.now }
+        ensures witness { witness.new < states self.now.question.now }
+        ensures found { IfOk result (λ found. MatchOption found (AreRefusedOf self.now) (λ table. IsFirstOf self.now table.items)) }
     {
-        let mut table = self.first_table(alloc)?;
+        let mut made = None;
+        let mut at = 0;
         for steps in 0..MOST_STEPS + 1 {
+            if self.refuses_at(steps, *witness) {
+                continue;
+            }
+            let table = self.table_after(alloc, steps, made, at)?;
             let next = up_table(alloc, self.question, &table)?;
-            let Some(_) = first_raised(&table, &next) else {
+            let Some(state) = most_raised(self.question, &table, &next) else {
                 return Ok(Some(table));
             };
-            table = next;
+            *witness = state;
+            made = Some(next);
+            at = steps + 1;
         }
         Ok(None)
+    }
+
+    /// The table after so many up steps, from one after fewer where it was made.
+    fn table_after(
+        &self,
+        alloc: Global,
+        steps: u32,
+        made: Option<Vec<u64>>,
+        at: u32,
+    ) -> Result<Vec<u64>, OutOfMemory>
+        requires made { MatchOption made (at ≡ 0) (λ table. IsTable self.now.question.now (entry_of self.now at) table.items) }
+        requires fewer { at ≤ steps }
+        ensures { IfOk result (λ table. IsTable self.now.question.now (entry_of self.now steps) table.items) }
+    {
+        let mut table = match made {
+            Some(table) => table,
+            None => self.first_table(alloc)?,
+        };
+        for _step in at..steps {
+            table = up_table(alloc, self.question, &table)?;
+        }
+        Ok(table)
     }
 
     /// The table before any up step.
@@ -58,7 +94,7 @@ impl Guesses<'_> {
     }
 
     /// The entry of that table at a state.
-    fn first_entry(&self, state: u32) -> u64
+    pub fn first_entry(&self, state: u32) -> u64
         requires { state < states self.now.question.now }
         ensures value { result ≡ first_entry_of self.now state }
         ensures units { result ≤ unit }

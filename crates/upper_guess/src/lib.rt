@@ -6,8 +6,9 @@
 //! k-step value. The last excess is above the unit, and its first table is always accepted: some table is
 //! found for every lower table.
 //!
-//! How good the guess is follows from the lower table alone, and no clause says it. Nor does one speak of the time:
-//! at most five tables are made for each of 42 excesses, and an up step for each.
+//! A table is made only where it is not seen to be refused at one state, the one that rose most from a table
+//! that was refused before: its entry and the up value there are found by recursion over the choices. How
+//! near the guess comes to the values, and how long it takes, no clause says.
 #![tactic(auto)]
 
 ghost use Rattle.std.specs.Prelude.{◌≡◌, ℕ, ◌≤◌, length, slice_index, All, IfOk};
@@ -21,6 +22,7 @@ ghost use Rattle.upper_guess.specs.Guess.{IsFirstGuess};
 mod excesses;
 mod guesses;
 pub mod laws;
+mod local;
 mod tables;
 
 use excesses::{LAST_PLACE, excess_at};
@@ -48,6 +50,7 @@ pub fn guess<'a>(
     ensures high { IfOk result (λ table. IsHigh question.now (slice_index table.items)) }
 {
     question.known();
+    let mut witness = 0;
     for place in 0..LAST_PLACE + 1 {
         let guesses = Guesses {
             question,
@@ -55,7 +58,7 @@ pub fn guess<'a>(
             lower,
             excess: excess_at(place),
         };
-        if let Some(table) = guesses.first_accepted(alloc)? {
+        if let Some(table) = guesses.first_accepted(alloc, &mut witness)? {
             inductive_is_high(question, &table);
             return Ok(table);
         }

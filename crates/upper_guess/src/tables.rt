@@ -3,8 +3,8 @@
 ghost use Rattle.std.specs.Prelude.{◌≡◌, ℕ, ◌<◌, ◌≤◌, length, slice_index, All, IfOk, MatchOption};
 ghost use Rattle.game_model.specs.Query.{states};
 ghost use Rattle.game_model.specs.Limits.{unit};
-ghost use Rattle.game_model.specs.Rounded.{up_step};
-ghost use Rattle.upper_guess.specs.Guess.{IsTable};
+ghost use Rattle.game_model.specs.Rounded.{up_step, IsBelow};
+ghost use Rattle.upper_guess.specs.Guess.{IsTable, RisesMost};
 
 use fixed_bellman::up_state;
 use game_model::Question;
@@ -24,16 +24,21 @@ pub fn up_table(alloc: Global, question: &Question, table: &[u64]) -> Result<Vec
     Ok(next)
 }
 
-/// The first state that rises from one table to the next; none where no state does.
-pub fn first_raised(table: &[u64], next: &[u64]) -> Option<usize>
-    requires { length next.now ≡ length table.now }
-    ensures { MatchOption result ((s : ℕ) → s < length table.now → slice_index next.now s ≤ slice_index table.now s)
-        (λ s. (s < length table.now) × (slice_index table.now s < slice_index next.now s)) }
+/// The state that rises most from one table to the next; none where no state rises.
+pub fn most_raised(question: &Question, table: &[u64], next: &[u64]) -> Option<u32>
+    requires table { length table.now ≡ states question.now }
+    requires next { length next.now ≡ states question.now }
+    ensures { MatchOption result (IsBelow question.now (slice_index next.now) (slice_index table.now))
+        (λ s. RisesMost question.now (slice_index table.now) (slice_index next.now) s) }
 {
-    for state in 0..table.len() {
-        if table[state] < next[state] {
-            return Some(state);
+    let mut most = 0;
+    let mut found = None;
+    for state in 0..question.game().states() {
+        let rise = next[state as usize].saturating_sub(table[state as usize]);
+        if rise > most {
+            most = rise;
+            found = Some(state);
         }
     }
-    None
+    found
 }

@@ -1,45 +1,54 @@
-use Rattle.std.proofs.Common.{◌≡◌, ℕ, ◌<◌, ◌≤◌, length, arith}
+use Rattle.std.proofs.Common.{◌≡◌, ℕ, ◌<◌, ◌≤◌, arith, le_refl}
 use borrow.Author.Count.{below_more}
 use Rattle.std.specs.Prelude.{slice_index}
-use Rattle.game_model.specs.Query.{states}
-use Rattle.game_model.specs.Rounded.{up_step}
-use Rattle.upper_guess.specs.Guess.{IsRefused, IsTable}
+use Rattle.game_model.specs.Rounded.{up_step, IsBelow}
+use Rattle.upper_guess.specs.Guess.{IsRefused, IsTable, RisesMost}
 use Rattle.upper_guess.specs.OfGuesses.{entry_of}
 use Rattle.upper_guess.proofs.Lists.{IsTable-next, not-raised, is-raised}
 use Rattle.upper_guess.proofs.guesses.Guesses.first_accepted.Goals as goal
 
-pub returns-in_default : goal.returns-in_default
-returns-in_default c =
+pub loop-steps-preserved-then-refuses_at : goal.loop-steps-preserved-then-refuses_at
+loop-steps-preserved-then-refuses_at c =
+    let g = c.args.self.now in
+    let h = c.loop-steps.invariant in record {
+      made = h.made;
+      fewer = omega (arith, h.fewer);
+      witness = h.witness;
+      refused = below_more (λ j. IsRefused g.question.now (entry_of g j)) c.loop-steps.steps h.refused (c.refuses_at.ensures c.if-refuses_at.true);
+    }
+
+pub returns-in_default-clause-found : goal.returns-in_default-clause-found
+returns-in_default-clause-found c =
     let g = c.args.self.now in
     let q = g.question.now in
-    let h = c.loop-steps.invariant in
-    let table = c.loop-steps.table.items in
+    let table = c.in_ok-table.table.items in
     let next = c.in_ok-next.next.items in
     let step : IsTable q (up_step q (slice_index table)) next = rw c.deref.ensures.value at c.in_ok-next.ensures in
-    let below : (s : ℕ) → s < length table → slice_index next s ≤ slice_index table s = rw (c.deref-in-loop-steps.ensures.value, c.deref-in-loop-steps-2.ensures.value) at c.in_default.ensures in
+    let below : IsBelow q (slice_index next) (slice_index table) = rw (c.deref-in-loop-steps.ensures.value, c.deref-in-loop-steps-2.ensures.value) at c.in_default.ensures in
     record {
       steps = c.loop-steps.steps;
       few = omega (arith, c.loop-steps-test.true);
-      entries = h.table;
-      accepted = not-raised q (entry_of g c.loop-steps.steps) table next g.posed h.table step (λ s inside. below s (omega (arith, inside, h.table.many)));
-      refused = h.refused;
+      entries = c.in_ok-table.ensures;
+      accepted = not-raised q (entry_of g c.loop-steps.steps) table next g.posed c.in_ok-table.ensures step below;
+      refused = c.loop-steps.invariant.refused;
     }
 
 pub loop-steps-preserved : goal.loop-steps-preserved
 loop-steps-preserved c =
     let g = c.args.self.now in
     let q = g.question.now in
-    let h = c.loop-steps.invariant in
-    let table = c.loop-steps.table.items in
+    let steps : ℕ = c.loop-steps.steps in
+    let s : ℕ = c.in-Some.state in
+    let table = c.in_ok-table.table.items in
     let next = c.in_ok-next.next.items in
-    let s : ℕ = c.in-Some.field-0 in
     let step : IsTable q (up_step q (slice_index table)) next = rw c.deref.ensures.value at c.in_ok-next.ensures in
-    let raised : (s < length table) × (slice_index table s < slice_index next s) = rw (c.deref-in-loop-steps.ensures.value, c.deref-in-loop-steps-2.ensures.value) at c.in-Some.ensures in
+    let raised : RisesMost q (slice_index table) (slice_index next) s = rw (c.deref-in-loop-steps.ensures.value, c.deref-in-loop-steps-2.ensures.value) at c.in-Some.ensures in
     record {
-      table = IsTable-next q _ _ _ c.loop-steps.steps table next g.posed h.table step;
-      refused = below_more (λ j. IsRefused q (entry_of g j)) c.loop-steps.steps h.refused
-          (is-raised q (entry_of g c.loop-steps.steps) table next g.posed h.table step s (omega (arith, raised.0, h.table.many)) raised.1);
+      made = IsTable-next q _ _ _ steps table next g.posed c.in_ok-table.ensures step;
+      fewer = le_refl _;
+      witness = raised.inside;
+      refused = below_more (λ j. IsRefused q (entry_of g j)) steps c.loop-steps.invariant.refused (is-raised q (entry_of g steps) table next g.posed c.in_ok-table.ensures step s raised.inside raised.rises);
     }
 
-pub returns : goal.returns
-returns c j few = c.loop-steps.invariant.refused j (omega (arith, few, c.loop-steps-test.false))
+pub returns-clause-found : goal.returns-clause-found
+returns-clause-found c j few = c.loop-steps.invariant.refused j (omega (arith, few, c.loop-steps-test.false))
