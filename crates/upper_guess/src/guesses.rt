@@ -27,12 +27,12 @@ pub struct Guesses<'a> {
 }
 
 impl Guesses<'_> {
-    ghost use Rattle.std.specs.Prelude.{◌<◌, IfOk, MatchOption};
-    ghost use Rattle.upper_guess.specs.Guess.{IsTable};
-    ghost use Rattle.upper_guess.specs.OfGuesses.{entry_of, first_entry_of, AreRefusedOf, IsFirstOf};
+    ghost use Rattle.std.specs.Prelude.{◌<◌, IfOk, IfSome, MatchOption};
+    ghost use Rattle.upper_guess.specs.OfGuesses.{first_entry_of, IsTableOf, AreRefusedOf, IsFirstOf};
 
     /// The first of the tables of this excess that is accepted; none where each is refused. A table that is
-    /// seen to be refused at the witness is not made. The witness becomes the state that rises most from the last table that was made.
+    /// seen to be refused at the witness is not made. The witness becomes the state that rises most from the
+    /// last table that was made.
     pub fn first_accepted(
         &self,
         alloc: Global,
@@ -43,38 +43,34 @@ impl Guesses<'_> {
         ensures found { IfOk result (λ found. MatchOption found (AreRefusedOf self.now) (λ table. IsFirstOf self.now table.items)) }
     {
         let mut made = None;
-        let mut at = 0;
         for steps in 0..MOST_STEPS + 1 {
             if self.refuses_at(steps, *witness) {
                 continue;
             }
-            let table = self.table_after(alloc, steps, made, at)?;
+            let table = self.table_after(alloc, steps, made)?;
             let next = up_table(alloc, self.question, &table)?;
             let Some(state) = most_raised(self.question, &table, &next) else {
                 return Ok(Some(table));
             };
             *witness = state;
-            made = Some(next);
-            at = steps + 1;
+            made = Some((next, steps + 1));
         }
         Ok(None)
     }
 
-    /// The table after so many up steps, from one after fewer where it was made.
+    /// The table after so many up steps, from one that was made, if any, after fewer.
     fn table_after(
         &self,
         alloc: Global,
         steps: u32,
-        made: Option<Vec<u64>>,
-        at: u32,
+        made: Option<(Vec<u64>, u32)>,
     ) -> Result<Vec<u64>, OutOfMemory>
-        requires made { MatchOption made (at ≡ 0) (λ table. IsTable self.now.question.now (entry_of self.now at) table.items) }
-        requires fewer { at ≤ steps }
-        ensures { IfOk result (λ table. IsTable self.now.question.now (entry_of self.now steps) table.items) }
+        requires { IfSome made (λ m. IsTableOf self.now m.1 m.0.items × (m.1 ≤ steps)) }
+        ensures { IfOk result (λ table. IsTableOf self.now steps table.items) }
     {
-        let mut table = match made {
-            Some(table) => table,
-            None => self.first_table(alloc)?,
+        let (mut table, at) = match made {
+            Some(made) => made,
+            None => (self.first_table(alloc)?, 0),
         };
         for _step in at..steps {
             table = up_table(alloc, self.question, &table)?;
@@ -84,7 +80,7 @@ impl Guesses<'_> {
 
     /// The table before any up step.
     fn first_table(&self, alloc: Global) -> Result<Vec<u64>, OutOfMemory>
-        ensures { IfOk result (λ table. IsTable self.now.question.now (entry_of self.now 0) table.items) }
+        ensures { IfOk result (λ table. IsTableOf self.now 0 table.items) }
     {
         let mut table = Vec::new(alloc);
         for state in 0..self.question.game().states() {

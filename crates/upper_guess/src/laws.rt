@@ -1,8 +1,9 @@
 //! Laws of the guesses. Each function does nothing; its contract is the law.
 
-ghost use Rattle.std.specs.Prelude.{◌≡◌, ℕ, ◌+◌, ◌^◌, ◌<◌};
+ghost use Rattle.std.specs.Prelude.{◌≡◌, ℕ, ◌+◌, ◌^◌, ◌<◌, List, Bool};
+ghost use Rattle.game_model.specs.Query.{Query};
 ghost use Rattle.game_model.specs.Limits.{unit};
-ghost use Rattle.upper_guess.specs.Guess.{excess, last_place, most_steps};
+ghost use Rattle.upper_guess.specs.Guess.{excess, last_place, most_steps, IsFirstGuess};
 
 use crate::excesses::LAST_PLACE;
 use crate::guesses::MOST_STEPS;
@@ -18,4 +19,10 @@ pub fn excesses()
     ensures none { excess 0 ≡ 0 }
     ensures powers { (place : ℕ) → excess (place + 1) ≡ 2 ^ place }
     ensures last { unit < excess last_place }
+{}
+
+/// There is one first guess: it does not depend on which tables were made, or at which state a table was
+/// seen to be refused.
+pub fn one_first_guess()
+    ensures { (q : Query) (marks : List Bool) (lower : ℕ → ℕ) (table other : List ℕ) → IsFirstGuess q marks lower table → IsFirstGuess q marks lower other → table ≡ other }
 {}

@@ -65,3 +65,6 @@ pub fn guess<'a>(
     }
     unreachable!()
 }
+
+#[cfg(test)]
+mod tests;

@@ -1,13 +1,12 @@
 //! The entry of a guess at one state, without its table: by recursion over the choices.
 
 ghost use Rattle.std.specs.Prelude.{◌≡◌, ◌<◌, ◌≤◌, length, IfSome, IsTrue};
-ghost use Rattle.game_model.specs.Game.{choices_of, choice_of};
-ghost use Rattle.game_model.specs.Query.{states, side_at};
-ghost use Rattle.game_model.specs.Values.{optimum, better};
+ghost use Rattle.game_model.specs.Game.{choices_of};
+ghost use Rattle.game_model.specs.Query.{states};
+ghost use Rattle.game_model.specs.Values.{better};
 ghost use Rattle.game_model.specs.Rounded.{up_value};
-ghost use Rattle.fixed_bellman.specs.Sums.{IsSumBetween};
-ghost use Rattle.upper_guess.specs.Guess.{IsRefused, most_steps};
-ghost use Rattle.upper_guess.specs.OfGuesses.{entry_of};
+ghost use Rattle.upper_guess.specs.Guess.{most_steps};
+ghost use Rattle.upper_guess.specs.OfGuesses.{entry_of, choice_at, best_of, IsSumOf, IsRefusedOf};
 
 use crate::guesses::Guesses;
 use fixed_bellman::Quotient;
@@ -22,7 +21,7 @@ impl Guesses<'_> {
     pub fn refuses_at(&self, steps: u32, state: u32) -> bool
         requires steps { steps ≤ most_steps }
         requires state { state < states self.now.question.now }
-        ensures { IsTrue result → IsRefused self.now.question.now (entry_of self.now steps) }
+        ensures { IsTrue result → IsRefusedOf self.now steps }
     {
         let mut budget = BUDGET;
         let Some(entry) = self.entry(steps, state, &mut budget) else {
@@ -60,7 +59,7 @@ impl Guesses<'_> {
     #[cycle(local)]
     fn best(&self, steps: u32, state: u32, budget: &mut u32) -> Option<u64>
         requires { state < states self.now.question.now }
-        ensures { IfSome result (λ v. v ≡ optimum (side_at self.now.question.now state) (up_value (entry_of self.now steps)) (choices_of self.now.question.now.game state)) }
+        ensures { IfSome result (λ v. v ≡ best_of self.now steps state) }
     {
         let side = self.question.side(state);
         let mut best = self.value(steps, state, 0, budget)?;
@@ -76,7 +75,7 @@ impl Guesses<'_> {
     fn value(&self, steps: u32, state: u32, choice: u32, budget: &mut u32) -> Option<u64>
         requires state { state < states self.now.question.now }
         requires choice { choice < length (choices_of self.now.question.now.game state) }
-        ensures { IfSome result (λ v. v ≡ up_value (entry_of self.now steps) (choice_of self.now.question.now.game state choice)) }
+        ensures { IfSome result (λ v. v ≡ up_value (entry_of self.now steps) (choice_at self.now state choice)) }
     {
         let sum = self.sum(steps, state, choice, budget)?;
         let total = self.question.game().total(state, choice);
@@ -88,7 +87,7 @@ impl Guesses<'_> {
     fn sum(&self, steps: u32, state: u32, choice: u32, budget: &mut u32) -> Option<u128>
         requires state { state < states self.now.question.now }
         requires choice { choice < length (choices_of self.now.question.now.game state) }
-        ensures { IfSome result (λ v. IsSumBetween (choice_of self.now.question.now.game state choice).edges (entry_of self.now steps) (entry_of self.now steps) v) }
+        ensures { IfSome result (λ v. IsSumOf self.now steps (choice_at self.now state choice) v) }
     {
         let game = self.question.game();
         let mut sum: u128 = 0;

@@ -1,7 +1,6 @@
-use Rattle.std.proofs.Common.{◌≡◌, ℕ, ◌*◌, ◌<◌, length, arith, sym, subst, ap, ◌∙◌}
+use Rattle.std.proofs.Common.{◌≡◌, ℕ, ◌+◌, ◌*◌, ◌^◌, ◌<◌, arith, sym, subst, ◌∙◌}
 use Rattle.std.specs.Prelude.{IfSome}
-use Rattle.game_model.specs.Game.{choice_of, edge_of}
-use Rattle.upper_guess.proofs.Entries.{entry-first, entry-goal, entry-dead, entry-free, sum-more, sum-fits-more}
+use Rattle.upper_guess.proofs.Entries.{entry-first, entry-goal, entry-dead, entry-free, sum-more, sum-more-fits}
 use Rattle.upper_guess.proofs.guesses.Guesses.+local.Goals as goal
 
 pub entry-returns-then-steps-eq0 : goal.entry-returns-then-steps-eq0
@@ -21,24 +20,18 @@ entry-returns t c =
 
 pub sum-overflow_mul-sum : goal.sum-overflow_mul-sum
 sum-overflow_mul-sum t c =
-    let g = c.args.self.now in
-    let p : ℕ = c.loop-place.place in
-    let inside : p < length (choice_of g.question.now.game c.args.state c.args.choice).edges = omega (arith, rw c.game-game.ensures at c.edge_count-place-end.ensures, c.loop-place-test.true) in
-    let is : c.edge-edge.result ≡ edge_of g.question.now.game c.args.state c.args.choice p = rw c.game-game.ensures at c.edge-edge.ensures in
-    omega (arith, ap (λ v. c.edge-edge.result.weight * v) c.from.ensures, sum-fits-more g c.args.steps c.args.state c.args.choice p c.loop-place.sum c.in_ok-entry.entry c.edge-edge.result c.requires.state c.requires.choice inside is c.loop-place.invariant c.in_ok-entry.ensures)
+    let fits : c.loop-place.sum + c.edge-edge.result.weight * c.in_ok-entry.entry < 2 ^ 128 =
+    sum-more-fits c.args.self.now c.args.steps c.args.state c.args.choice c.loop-place.place c.edge_count-place-end.result c.loop-place.sum c.in_ok-entry.entry c.edge-edge.result c.game-game.result.now
+    c.game-game.ensures c.edge_count-place-end.ensures c.loop-place-test.true c.edge-edge.ensures c.loop-place.invariant c.in_ok-entry.ensures c.requires.state c.requires.choice in
+    rw c.from.ensures (omega (arith, fits))
 
 pub sum-overflow_add-sum : goal.sum-overflow_add-sum
 sum-overflow_add-sum t c =
-    let g = c.args.self.now in
-    let p : ℕ = c.loop-place.place in
-    let inside : p < length (choice_of g.question.now.game c.args.state c.args.choice).edges = omega (arith, rw c.game-game.ensures at c.edge_count-place-end.ensures, c.loop-place-test.true) in
-    let is : c.edge-edge.result ≡ edge_of g.question.now.game c.args.state c.args.choice p = rw c.game-game.ensures at c.edge-edge.ensures in
-    omega (arith, ap (λ v. c.edge-edge.result.weight * v) c.from.ensures, sum-fits-more g c.args.steps c.args.state c.args.choice p c.loop-place.sum c.in_ok-entry.entry c.edge-edge.result c.requires.state c.requires.choice inside is c.loop-place.invariant c.in_ok-entry.ensures)
+    let fits : c.loop-place.sum + c.edge-edge.result.weight * c.in_ok-entry.entry < 2 ^ 128 =
+    sum-more-fits c.args.self.now c.args.steps c.args.state c.args.choice c.loop-place.place c.edge_count-place-end.result c.loop-place.sum c.in_ok-entry.entry c.edge-edge.result c.game-game.result.now
+    c.game-game.ensures c.edge_count-place-end.ensures c.loop-place-test.true c.edge-edge.ensures c.loop-place.invariant c.in_ok-entry.ensures c.requires.state c.requires.choice in
+    rw c.from.ensures (omega (arith, fits))
 
 pub sum-loop-place-preserved : goal.sum-loop-place-preserved
-sum-loop-place-preserved t c =
-    let g = c.args.self.now in
-    let p : ℕ = c.loop-place.place in
-    let inside : p < length (choice_of g.question.now.game c.args.state c.args.choice).edges = omega (arith, rw c.game-game.ensures at c.edge_count-place-end.ensures, c.loop-place-test.true) in
-    let is : c.edge-edge.result ≡ edge_of g.question.now.game c.args.state c.args.choice p = rw c.game-game.ensures at c.edge-edge.ensures in
-    rw c.from.ensures (sum-more g c.args.steps c.args.state c.args.choice p c.loop-place.sum c.in_ok-entry.entry c.edge-edge.result inside is c.loop-place.invariant c.in_ok-entry.ensures)
+sum-loop-place-preserved t c = rw c.from.ensures (sum-more c.args.self.now c.args.steps c.args.state c.args.choice c.loop-place.place c.edge_count-place-end.result c.loop-place.sum c.in_ok-entry.entry c.edge-edge.result c.game-game.result.now
+    c.game-game.ensures c.edge_count-place-end.ensures c.loop-place-test.true c.edge-edge.ensures c.loop-place.invariant c.in_ok-entry.ensures)

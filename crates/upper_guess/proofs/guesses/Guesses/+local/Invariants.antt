@@ -1,9 +1,9 @@
 use Rattle.std.proofs.Common.{◌≡◌, ◌+◌, ◌*◌, take}
-use Rattle.game_model.specs.Game.{choices_of, choice_of}
+use Rattle.game_model.specs.Game.{choices_of}
 use Rattle.game_model.specs.Values.{optimum}
 use Rattle.game_model.specs.Rounded.{up_value}
 use Rattle.fixed_bellman.specs.Sums.{IsSumBetween}
-use Rattle.upper_guess.specs.OfGuesses.{entry_of}
+use Rattle.upper_guess.specs.OfGuesses.{entry_of, choice_at}
 use Rattle.upper_guess.proofs.guesses.Guesses.+local.Given as goal
 
 abbrev pub decreases-entry : goal.decreases-entry
@@ -22,4 +22,4 @@ abbrev pub invariant-best-loop-choice : goal.invariant-best-loop-choice
 invariant-best-loop-choice l = l.best ≡ optimum l.side (up_value (entry_of l.self l.steps)) (take l.choice (choices_of l.self.question.now.game l.state))
 
 abbrev pub invariant-sum-loop-place : goal.invariant-sum-loop-place
-invariant-sum-loop-place l = IsSumBetween (take l.place (choice_of l.self.question.now.game l.state l.choice).edges) (entry_of l.self l.steps) (entry_of l.self l.steps) l.sum
+invariant-sum-loop-place l = IsSumBetween (take l.place (choice_at l.self l.state l.choice).edges) (entry_of l.self l.steps) (entry_of l.self l.steps) l.sum

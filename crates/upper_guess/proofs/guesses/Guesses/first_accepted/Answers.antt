@@ -1,20 +1,26 @@
-use Rattle.std.proofs.Common.{◌≡◌, ℕ, ◌<◌, ◌≤◌, arith, le_refl}
+use Rattle.std.proofs.Common.{ℕ, ◌+◌, ◌≤◌, arith, le_refl}
 use borrow.Author.Count.{below_more}
-use Rattle.std.specs.Prelude.{slice_index}
+use Rattle.std.specs.Prelude.{slice_index, IfSome, Option, Some, None}
+use Rattle.std.specs.Global.{Vec}
 use Rattle.game_model.specs.Rounded.{up_step, IsBelow}
-use Rattle.upper_guess.specs.Guess.{IsRefused, IsTable, RisesMost}
-use Rattle.upper_guess.specs.OfGuesses.{entry_of}
+use Rattle.upper_guess.specs.declared.guesses.Guesses.{Guesses}
+use Rattle.upper_guess.specs.Guess.{IsTable, RisesMost}
+use Rattle.upper_guess.specs.OfGuesses.{entry_of, IsTableOf, IsRefusedOf}
 use Rattle.upper_guess.proofs.Lists.{IsTable-next, not-raised, is-raised}
 use Rattle.upper_guess.proofs.guesses.Guesses.first_accepted.Goals as goal
+
+-- a table that was made before one step was made before the next
+made-later : (g : Guesses) (steps : ℕ) (made : Option (Vec ℕ × ℕ)) → IfSome made (λ m. IsTableOf g m.1 m.0.items × (m.1 ≤ steps)) → IfSome made (λ m. IsTableOf g m.1 m.0.items × (m.1 ≤ steps + 1))
+made-later g steps None h = h
+made-later g steps (Some m) h = (h.0, omega (arith, h.1))
 
 pub loop-steps-preserved-then-refuses_at : goal.loop-steps-preserved-then-refuses_at
 loop-steps-preserved-then-refuses_at c =
     let g = c.args.self.now in
     let h = c.loop-steps.invariant in record {
-      made = h.made;
-      fewer = omega (arith, h.fewer);
+      made = made-later g c.loop-steps.steps c.loop-steps.made h.made;
       witness = h.witness;
-      refused = below_more (λ j. IsRefused g.question.now (entry_of g j)) c.loop-steps.steps h.refused (c.refuses_at.ensures c.if-refuses_at.true);
+      refused = below_more (IsRefusedOf g) c.loop-steps.steps h.refused (c.refuses_at.ensures c.if-refuses_at.true);
     }
 
 pub returns-in_default-clause-found : goal.returns-in_default-clause-found
@@ -44,10 +50,9 @@ loop-steps-preserved c =
     let step : IsTable q (up_step q (slice_index table)) next = rw c.deref.ensures.value at c.in_ok-next.ensures in
     let raised : RisesMost q (slice_index table) (slice_index next) s = rw (c.deref-in-loop-steps.ensures.value, c.deref-in-loop-steps-2.ensures.value) at c.in-Some.ensures in
     record {
-      made = IsTable-next q _ _ _ steps table next g.posed c.in_ok-table.ensures step;
-      fewer = le_refl _;
+      made = (IsTable-next q _ _ _ steps table next g.posed c.in_ok-table.ensures step, le_refl _);
       witness = raised.inside;
-      refused = below_more (λ j. IsRefused q (entry_of g j)) steps c.loop-steps.invariant.refused (is-raised q (entry_of g steps) table next g.posed c.in_ok-table.ensures step s raised.inside raised.rises);
+      refused = below_more (IsRefusedOf g) steps c.loop-steps.invariant.refused (is-raised q (entry_of g steps) table next g.posed c.in_ok-table.ensures step s raised.inside raised.rises);
     }
 
 pub returns-clause-found : goal.returns-clause-found
