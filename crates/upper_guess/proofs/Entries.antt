@@ -1,7 +1,6 @@
 -- The entries of the guesses of one excess.
 use Rattle.std.proofs.Common.{◌≡◌, ℕ, zero, suc, ◌+◌, ◌-◌, ◌*◌, ◌^◌, ◌<◌, ◌≤◌, true, false, List, length, take, arith, refl, sym, subst, ap, ◌∙◌, le_refl}
 use Rattle.std.specs.Prelude.{slice_index, slice_index_or}
-use Rattle.std.specs.Bool.{if◌then◌else◌}
 use Rattle.game_model.specs.declared.game.Edge.{Edge}
 use Rattle.game_model.specs.Game.{Distribution, IsDistribution, choices_of, choice_of, edge_of}
 use Rattle.game_model.specs.Query.{states, is_goal, is_dead}

@@ -1,6 +1,5 @@
 -- There is one first guess.
 use Rattle.std.proofs.Common.{◌≡◌, ℕ, ◌<◌, ◌≤◌, Bool, List, arith, sym, subst, ◌∙◌, inl, inr}
-use Rattle.std.specs.Prelude.{slice_index}
 use Rattle.std.proofs.lemmas.Bool.{cases_lt}
 use Rattle.std.proofs.lemmas.List.{ext_get_or}
 use Rattle.game_model.specs.Query.{Query, states}

@@ -1,6 +1,6 @@
 //! The excesses over the lower table.
 
-ghost use Rattle.std.specs.Prelude.{◌≡◌, ℕ, ◌^◌, ◌≤◌};
+ghost use Rattle.std.specs.Prelude.{◌≡◌, ◌^◌, ◌≤◌};
 ghost use Rattle.upper_guess.specs.Guess.{excess, last_place};
 
 /// The place of the last excess.

@@ -1,6 +1,6 @@
 //! The guesses of one excess.
 
-ghost use Rattle.std.specs.Prelude.{◌≡◌, ℕ, ◌^◌, ◌≤◌, length, All};
+ghost use Rattle.std.specs.Prelude.{◌≡◌, ◌^◌, ◌≤◌, length, All};
 ghost use Rattle.game_model.specs.Query.{IsQuery, states};
 ghost use Rattle.game_model.specs.Limits.{unit};
 
@@ -82,8 +82,9 @@ impl Guesses<'_> {
     fn first_table(&self, alloc: Global) -> Result<Vec<u64>, OutOfMemory>
         ensures { IfOk result (λ table. IsTableOf self.now 0 table.items) }
     {
-        let mut table = Vec::new(alloc);
-        for state in 0..self.question.game().states() {
+        let states = self.question.game().states();
+        let mut table = Vec::with_capacity(alloc, states as usize)?;
+        for state in 0..states {
             table.push(self.first_entry(state))?;
         }
         Ok(table)

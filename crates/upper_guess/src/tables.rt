@@ -1,6 +1,6 @@
 //! Tables by state, and their up steps.
 
-ghost use Rattle.std.specs.Prelude.{◌≡◌, ℕ, ◌<◌, ◌≤◌, length, slice_index, All, IfOk, MatchOption};
+ghost use Rattle.std.specs.Prelude.{◌≡◌, ◌≤◌, length, slice_index, All, IfOk, MatchOption};
 ghost use Rattle.game_model.specs.Query.{states};
 ghost use Rattle.game_model.specs.Limits.{unit};
 ghost use Rattle.game_model.specs.Rounded.{up_step, IsBelow};
@@ -17,8 +17,9 @@ pub fn up_table(alloc: Global, question: &Question, table: &[u64]) -> Result<Vec
     requires units { All (λ v. v ≤ unit) table.now }
     ensures { IfOk result (λ next. IsTable question.now (up_step question.now (slice_index table.now)) next.items) }
 {
-    let mut next = Vec::new(alloc);
-    for state in 0..question.game().states() {
+    let states = question.game().states();
+    let mut next = Vec::with_capacity(alloc, states as usize)?;
+    for state in 0..states {
         next.push(up_state(question, state, table))?;
     }
     Ok(next)

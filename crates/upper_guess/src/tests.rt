@@ -1,7 +1,7 @@
 //! Worked guesses, computed by hand.
 
 use crate::guess;
-use game_model::{Game, Question, Side, UNIT};
+use game_model::{Question, Side, UNIT};
 use sample_games::{all_of, coin_loop, four_states, none_of, only};
 use std::alloc::Global;
 use std::test::Fail;
@@ -23,7 +23,7 @@ fn the_coin_loop(rt: HostRuntime) -> Result<(), Fail> {
         // It stays at one half, and is raised to it by an up step.
         (500_000_000_000, 500_000_000_000),
         (499_999_999_999, 500_000_000_000),
-        // Half of what is wanting is left by each up step, so four of them are too few, and an excess is needed.
+        // An up step leaves half of what is wanting, so four of them are too few: it takes an excess.
         (499_999_999_900, 500_000_000_028),
         // The first power of 2 that reaches it.
         (400_000_000_000, 537_438_953_472),

@@ -1,4 +1,3 @@
-use Rattle.std.proofs.Common.{arith}
 use Rattle.std.specs.Prelude.{slice_index}
 use Rattle.game_model.specs.Rounded.{up_step}
 use Rattle.upper_guess.specs.Guess.{IsTable}
