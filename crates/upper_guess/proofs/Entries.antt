@@ -19,7 +19,7 @@ unfolding guess_table
 entry-first g j s h = subst (λ n. entry_of g n s ≡ first_entry_of g s) (sym h) refl
 
 -- a later entry is an up step
-pub entry-later : (g : Guesses) (j s : ℕ) → 0 < j → entry_of g j s ≡ up_step g.question.now (entry_of g (j - 1)) s
+entry-later : (g : Guesses) (j s : ℕ) → 0 < j → entry_of g j s ≡ up_step g.question.now (entry_of g (j - 1)) s
 unfolding guess_table
 entry-later g zero s h = absurd (omega arith)
 entry-later g (suc j) s h = subst (λ n. up_step g.question.now (entry_of g j) s ≡ up_step g.question.now (entry_of g n) s) (let same : j ≡ suc j - 1 = omega arith in same) refl
@@ -30,12 +30,11 @@ entry-goal g j s h goal = entry-later g j s h ∙ rw goal refl
 pub entry-dead : (g : Guesses) (j s : ℕ) → 0 < j → is_goal g.question.now s ≡ false → is_dead g.question.now s ≡ true → entry_of g j s ≡ 0
 entry-dead g j s h goal dead = entry-later g j s h ∙ rw (goal, dead) refl
 
-pub entry-free : (g : Guesses) (j s : ℕ) → 0 < j → is_goal g.question.now s ≡ false → is_dead g.question.now s ≡ false
-    → entry_of g j s ≡ best_of g (j - 1) s
+pub entry-free : (g : Guesses) (j s : ℕ) → 0 < j → is_goal g.question.now s ≡ false → is_dead g.question.now s ≡ false → entry_of g j s ≡ best_of g (j - 1) s
 entry-free g j s h goal dead = entry-later g j s h ∙ rw (goal, dead) refl
 
 -- each entry is at most the unit
-pub entry-units : (g : Guesses) (j s : ℕ) → entry_of g j s ≤ unit
+entry-units : (g : Guesses) (j s : ℕ) → entry_of g j s ≤ unit
 unfolding guess_table
 entry-units g zero s = guess-units (slice_index_or g.zero.now s false) (is_goal g.question.now s) (slice_index g.lower.now s + g.excess)
 entry-units g (suc j) s = up_step-units g.question.now (entry_of g j) g.posed (λ t inside. entry-units g j t) s

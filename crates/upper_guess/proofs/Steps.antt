@@ -38,7 +38,7 @@ up_step-same q v w posed same s =
     omega (arith, up_step-le q v w posed (λ t inside. omega (arith, same t inside)) s, up_step-le q w v posed (λ t inside. omega (arith, same t inside)) s)
 
 -- over a table of units each choice has at most the unit
-pub up_value-units : (game : List (List Distribution)) (v : ℕ → ℕ) (m : Distribution) → IsChoiceOf game m → ((t : ℕ) → t < length game → v t ≤ unit) → up_value v m ≤ unit
+up_value-units : (game : List (List Distribution)) (v : ℕ → ℕ) (m : Distribution) → IsChoiceOf game m → ((t : ℕ) → t < length game → v t ≤ unit) → up_value v m ≤ unit
 up_value-units game v m fits units =
     ceil-most (weighted_sum v m.edges) m.total unit fits.positive
     (subst (λ w. weighted_sum v m.edges ≤ w * unit) fits.sums
