@@ -45,6 +45,11 @@ pub record RisesMost (q : Query) (table next : ℕ → ℕ) (s : ℕ) : Type 0 w
   pub rises : table s < next s
   pub most : (t : ℕ) → t < states q → next t - table t ≤ next s - table s
 
+-- a state for each number of up steps
+pub record AreWitnesses (q : Query) (witnesses : List ℕ) : Type 0 where
+  pub many : length witnesses ≡ most_steps + 1
+  pub inside : All (λ s. s < states q) witnesses
+
 -- the first table of one excess that is accepted
 pub record IsFirstAt (q : Query) (marks : List Bool) (lower : ℕ → ℕ) (e : ℕ) (table : List ℕ) : Type 0 where
   pub steps : ℕ

@@ -28,23 +28,24 @@ pub struct Guesses<'a> {
 
 impl Guesses<'_> {
     ghost use Rattle.std.specs.Prelude.{◌<◌, IfOk, IfSome, MatchOption};
+    ghost use Rattle.upper_guess.specs.Guess.{AreWitnesses};
     ghost use Rattle.upper_guess.specs.OfGuesses.{first_entry_of, IsTableOf, AreRefusedOf, IsFirstOf};
 
     /// The first of the tables of this excess that is accepted; none where each is refused. A table that is
-    /// seen to be refused at the witness is not made. The witness becomes the state that rises most from the
-    /// last table that was made.
+    /// seen to be refused at the witness of its steps is not made. Where a table is made and refused, the
+    /// state that rises most from it becomes the witness.
     pub fn first_accepted(
         &self,
         alloc: Global,
-        witness: &mut u32,
+        witnesses: &mut [u32],
     ) -> Result<Option<Vec<u64>>, OutOfMemory>
-        requires { witness.old < states self.now.question.now }
-        ensures witness { witness.new < states self.now.question.now }
+        requires { AreWitnesses self.now.question.now witnesses.old }
+        ensures witnesses { AreWitnesses self.now.question.now witnesses.new }
         ensures found { IfOk result (λ found. MatchOption found (AreRefusedOf self.now) (λ table. IsFirstOf self.now table.items)) }
     {
         let mut made = None;
         for steps in 0..MOST_STEPS + 1 {
-            if self.refuses_at(steps, *witness) {
+            if self.refuses_at(steps, witnesses[steps as usize]) {
                 continue;
             }
             let table = self.table_after(alloc, steps, made)?;
@@ -52,7 +53,7 @@ impl Guesses<'_> {
             let Some(state) = most_raised(self.question, &table, &next) else {
                 return Ok(Some(table));
             };
-            *witness = state;
+            witnesses[steps as usize] = state;
             made = Some((next, steps + 1));
         }
         Ok(None)

@@ -6,9 +6,9 @@
 //! k-step value. The last excess is above the unit, and its first table is always accepted: some table is
 //! found for every lower table.
 //!
-//! A table is made only where it is not seen to be refused at one state, the one that rose most from a table
-//! that was refused before: its entry and the up value there are found by recursion over the choices. How
-//! near the guess comes to the values, and how long it takes, no clause says.
+//! A table is made only where it is not seen to be refused at one state, the one that rose most from the table
+//! of as many up steps that was made last: its entry and the up value there are found by recursion over the
+//! choices. How near the guess comes to the values, and how long it takes, no clause says.
 #![tactic(auto)]
 
 ghost use Rattle.std.specs.Prelude.{◌≡◌, ◌≤◌, length, slice_index, All, IfOk};
@@ -29,7 +29,7 @@ use excesses::{LAST_PLACE, excess_at};
 use game_laws::tables::inductive_is_high;
 use game_model::{Marks, Question};
 use game_outside::OutOfMemory;
-use guesses::Guesses;
+use guesses::{Guesses, MOST_STEPS};
 use std::alloc::Global;
 
 /// The first guess that is accepted: by excess and then by up steps the first table whose up step is nowhere
@@ -50,7 +50,7 @@ pub fn guess<'a>(
     ensures high { IfOk result (λ table. IsHigh question.now (slice_index table.items)) }
 {
     question.known();
-    let mut witness = 0;
+    let mut witnesses = [0; MOST_STEPS as usize + 1];
     for place in 0..LAST_PLACE + 1 {
         let guesses = Guesses {
             question,
@@ -58,7 +58,7 @@ pub fn guess<'a>(
             lower,
             excess: excess_at(place),
         };
-        if let Some(table) = guesses.first_accepted(alloc, &mut witness)? {
+        if let Some(table) = guesses.first_accepted(alloc, &mut witnesses)? {
             inductive_is_high(question, &table);
             return Ok(table);
         }

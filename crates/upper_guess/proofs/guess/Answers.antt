@@ -20,7 +20,7 @@ pub loop-place-preserved : goal.loop-place-preserved
 loop-place-preserved c =
     let refused : AreRefused c.args.question.now c.args.zero.now (slice_index c.args.lower.now) c.excess_at.result = rw c.in_default.is at c.in_ok-table.ensures.found in
     record {
-      witness = c.in_ok-table.ensures.witness;
+      witnesses = c.in_ok-table.ensures.witnesses;
       refused = below_more (λ i. AreRefused c.args.question.now c.args.zero.now (slice_index c.args.lower.now) (excess i)) c.loop-place.place c.loop-place.invariant.refused
           (subst (λ (e : ℕ). AreRefused c.args.question.now c.args.zero.now (slice_index c.args.lower.now) e) c.excess_at.ensures.value refused);
     }

@@ -1,11 +1,10 @@
 use Rattle.std.proofs.Common.{ℕ, ◌<◌}
 use Rattle.std.specs.Prelude.{slice_index}
-use Rattle.game_model.specs.Query.{states}
-use Rattle.upper_guess.specs.Guess.{excess, AreRefused}
+use Rattle.upper_guess.specs.Guess.{excess, AreRefused, AreWitnesses}
 use Rattle.upper_guess.proofs.guess.Given as goal
 
 abbrev pub invariant-loop-place : goal.invariant-loop-place
 invariant-loop-place l = record {
-  witness : l.witness < states l.question;
+  witnesses : AreWitnesses l.question l.witnesses;
   refused : (i : ℕ) → i < l.place → AreRefused l.question l.zero (slice_index l.lower) (excess i);
 }

@@ -1,10 +1,13 @@
-use Rattle.std.proofs.Common.{ℕ, ◌+◌, ◌≤◌, arith, le_refl}
+use Rattle.std.proofs.Common.{ℕ, ◌+◌, ◌<◌, ◌≤◌, arith, le_refl, ◌∙◌}
 use borrow.Author.Count.{below_more}
-use Rattle.std.specs.Prelude.{slice_index, IfSome, Option, Some, None}
+use Rattle.std.specs.Prelude.{slice_index, slice_set, List, IfSome, Option, Some, None}
 use Rattle.std.specs.Global.{Vec}
+use Rattle.std.proofs.Math.ListN.{length-set}
+use Rattle.std.proofs.lemmas.List.Elements.{All-set}
+use Rattle.game_model.specs.Query.{Query, states}
 use Rattle.game_model.specs.Rounded.{up_step, IsBelow}
 use Rattle.upper_guess.specs.declared.guesses.Guesses.{Guesses}
-use Rattle.upper_guess.specs.Guess.{IsTable, RisesMost}
+use Rattle.upper_guess.specs.Guess.{IsTable, RisesMost, AreWitnesses}
 use Rattle.upper_guess.specs.OfGuesses.{entry_of, IsTableOf, IsRefusedOf}
 use Rattle.upper_guess.proofs.Lists.{IsTable-next, not-raised, is-raised}
 use Rattle.upper_guess.proofs.guesses.Guesses.first_accepted.Goals as goal
@@ -14,12 +17,16 @@ made-later : (g : Guesses) (steps : ℕ) (made : Option (Vec ℕ × ℕ)) → If
 made-later g steps None h = h
 made-later g steps (Some m) h = (h.0, omega (arith, h.1))
 
+-- a witness is replaced
+witnesses-set : (q : Query) (witnesses : List ℕ) (i s : ℕ) → AreWitnesses q witnesses → s < states q → AreWitnesses q (slice_set witnesses i s)
+witnesses-set q witnesses i s h inside = record { many = length-set witnesses i s ∙ h.many; inside = All-set (λ s. s < states q) witnesses i s inside h.inside }
+
 pub loop-steps-preserved-then-refuses_at : goal.loop-steps-preserved-then-refuses_at
 loop-steps-preserved-then-refuses_at c =
     let g = c.args.self.now in
     let h = c.loop-steps.invariant in record {
       made = made-later g c.loop-steps.steps c.loop-steps.made h.made;
-      witness = h.witness;
+      witnesses = h.witnesses;
       refused = below_more (IsRefusedOf g) c.loop-steps.steps h.refused (c.refuses_at.ensures c.if-refuses_at.true);
     }
 
@@ -51,7 +58,7 @@ loop-steps-preserved c =
     let raised : RisesMost q (slice_index table) (slice_index next) s = rw (c.deref-in-loop-steps.ensures.value, c.deref-in-loop-steps-2.ensures.value) at c.in-Some.ensures in
     record {
       made = (IsTable-next q _ _ _ steps table next g.posed c.in_ok-table.ensures step, le_refl _);
-      witness = raised.inside;
+      witnesses = witnesses-set q c.loop-steps.witnesses steps s c.loop-steps.invariant.witnesses raised.inside;
       refused = below_more (IsRefusedOf g) steps c.loop-steps.invariant.refused (is-raised q (entry_of g steps) table next g.posed c.in_ok-table.ensures step s raised.inside raised.rises);
     }
 
