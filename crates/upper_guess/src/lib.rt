@@ -6,8 +6,8 @@
 //! k-step value. The last excess is above the unit, and its first table is always accepted: some table is
 //! found for every lower table.
 //!
-//! A table is made only where it is not seen to be refused at one state, the one that rose most from the table
-//! of as many up steps that was made last: its entry and the up value there are found by recursion over the
+//! A table is made only where it is not seen to be refused at one state: the one that rose most from the last
+//! table of as many up steps that was made. Its entry and the up value there are found by recursion over the
 //! choices. How near the guess comes to the values, and how long it takes, no clause says.
 #![tactic(auto)]
 
