@@ -1,0 +1,6 @@
+pub mod Steps
+pub mod Zero
+pub mod Lists
+pub mod Accepting
+pub mod Entries
+pub mod One

@@ -1,0 +1,5 @@
+use Rattle.upper_guess.specs.OfGuesses.{IsTableOf}
+use Rattle.upper_guess.proofs.guesses.Guesses.table_after.Given as goal
+
+abbrev pub invariant-loop-step : goal.invariant-loop-step
+invariant-loop-step l = IsTableOf l.self l._step l.table.items

@@ -1,0 +1,66 @@
+-- The guesses of an upper table, by excess and then by up steps, and the first that is accepted.
+use Rattle.std.specs.Prelude.{◌≡◌, ℕ, zero, suc, ◌+◌, ◌-◌, ◌/◌, ◌^◌, ◌<◌, ◌≤◌, Bool, false, List, length, slice_index, slice_index_or, All, if◌then◌else◌, min}
+use Rattle.game_model.specs.Query.{Query, states, is_goal}
+use Rattle.game_model.specs.Limits.{unit}
+use Rattle.game_model.specs.Rounded.{up_step, IsInductive}
+
+-- the excesses 0, 1, 2, 4, .., by their places
+abbrev pub excess : ℕ → ℕ
+excess place = 2 ^ place / 2
+
+-- the place of the last excess, 2^40, which is above the unit
+abbrev pub last_place : ℕ
+last_place = 41
+
+-- the most up steps of one excess
+abbrev pub most_steps : ℕ
+most_steps = 4
+
+-- 0 on the zero set, the unit on goals, and elsewhere the lower entry and the excess, at most the unit
+abbrev pub first_guess : Query → List Bool → (ℕ → ℕ) → ℕ → ℕ → ℕ
+first_guess q marks lower e s = if slice_index_or marks s false then 0 else (if is_goal q s then unit else min unit (lower s + e))
+
+-- so many up steps of it
+unfoldable pub guess_table : Query → List Bool → (ℕ → ℕ) → ℕ → ℕ → ℕ → ℕ
+guess_table q marks lower e zero s = first_guess q marks lower e s
+guess_table q marks lower e (suc j) s = up_step q (guess_table q marks lower e j) s
+
+-- refused: some state's up value is above its entry
+abbrev pub IsRefused : Query → (ℕ → ℕ) → Type 0
+IsRefused q table = (s : ℕ) × (s < states q) × (table s < up_step q table s)
+
+-- each table of one excess is refused
+abbrev pub AreRefused : Query → List Bool → (ℕ → ℕ) → ℕ → Type 0
+AreRefused q marks lower e = (j : ℕ) → j ≤ most_steps → IsRefused q (guess_table q marks lower e j)
+
+-- the list has these entries, each at most the unit
+pub record IsTable (q : Query) (entries : ℕ → ℕ) (table : List ℕ) : Type 0 where
+  pub many : length table ≡ states q
+  pub each : (s : ℕ) → s < states q → slice_index table s ≡ entries s
+  pub units : All (λ v. v ≤ unit) table
+
+-- the state rises from one table to the next, and no state rises more
+pub record RisesMost (q : Query) (table next : ℕ → ℕ) (s : ℕ) : Type 0 where
+  pub inside : s < states q
+  pub rises : table s < next s
+  pub most : (t : ℕ) → t < states q → next t - table t ≤ next s - table s
+
+-- a state for each number of up steps
+pub record AreWitnesses (q : Query) (witnesses : List ℕ) : Type 0 where
+  pub many : length witnesses ≡ most_steps + 1
+  pub inside : All (λ s. s < states q) witnesses
+
+-- the first table of one excess that is accepted
+pub record IsFirstAt (q : Query) (marks : List Bool) (lower : ℕ → ℕ) (e : ℕ) (table : List ℕ) : Type 0 where
+  pub steps : ℕ
+  pub few : steps ≤ most_steps
+  pub entries : IsTable q (guess_table q marks lower e steps) table
+  pub accepted : IsInductive q (guess_table q marks lower e steps)
+  pub refused : (j : ℕ) → j < steps → IsRefused q (guess_table q marks lower e j)
+
+-- the first of all: each table of an earlier excess is refused
+pub record IsFirstGuess (q : Query) (marks : List Bool) (lower : ℕ → ℕ) (table : List ℕ) : Type 0 where
+  pub place : ℕ
+  pub listed : place ≤ last_place
+  pub here : IsFirstAt q marks lower (excess place) table
+  pub earlier : (i : ℕ) → i < place → AreRefused q marks lower (excess i)

@@ -1,0 +1,111 @@
+//! The entry of a guess at one state, without its table: by recursion over the choices.
+
+ghost use Rattle.std.specs.Prelude.{◌≡◌, ◌<◌, ◌≤◌, length, IfSome, IsTrue};
+ghost use Rattle.game_model.specs.Game.{choices_of};
+ghost use Rattle.game_model.specs.Query.{states};
+ghost use Rattle.game_model.specs.Values.{better};
+ghost use Rattle.game_model.specs.Rounded.{up_value};
+ghost use Rattle.upper_guess.specs.Guess.{most_steps};
+ghost use Rattle.upper_guess.specs.OfGuesses.{entry_of, choice_at, best_of, IsSumOf, IsRefusedOf};
+
+use crate::guesses::Guesses;
+use fixed_bellman::Quotient;
+use game_model::{Side, UNIT};
+
+/// How many states a recursion looks into.
+const BUDGET: u32 = 1000;
+
+impl Guesses<'_> {
+    /// Whether a table is seen to be refused at this state alone. It is not seen where the recursion would
+    /// look into too many states.
+    pub fn refuses_at(&self, steps: u32, state: u32) -> bool
+        requires steps { steps ≤ most_steps }
+        requires state { state < states self.now.question.now }
+        ensures { IsTrue result → IsRefusedOf self.now steps }
+    {
+        let mut budget = BUDGET;
+        let Some(entry) = self.entry(steps, state, &mut budget) else {
+            return false;
+        };
+        let Some(raised) = self.entry(steps + 1, state, &mut budget) else {
+            return false;
+        };
+        entry < raised
+    }
+
+    /// The entry at a state after so many up steps, where the budget suffices.
+    #[cycle(local)]
+    fn entry(&self, steps: u32, state: u32, budget: &mut u32) -> Option<u64>
+        requires { state < states self.now.question.now }
+        ensures { IfSome result (λ v. v ≡ entry_of self.now steps state) }
+    {
+        if steps == 0 {
+            return Some(self.first_entry(state));
+        }
+        if self.question.is_goal(state) {
+            return Some(UNIT);
+        }
+        if self.question.is_dead(state) {
+            return Some(0);
+        }
+        if *budget == 0 {
+            return None;
+        }
+        *budget -= 1;
+        self.best(steps - 1, state, budget)
+    }
+
+    /// The up value of the best choice of a state.
+    #[cycle(local)]
+    fn best(&self, steps: u32, state: u32, budget: &mut u32) -> Option<u64>
+        requires { state < states self.now.question.now }
+        ensures { IfSome result (λ v. v ≡ best_of self.now steps state) }
+    {
+        let side = self.question.side(state);
+        let mut best = self.value(steps, state, 0, budget)?;
+        for choice in 1..self.question.game().choices_of(state) {
+            let value = self.value(steps, state, choice, budget)?;
+            best = better(side, best, value);
+        }
+        Some(best)
+    }
+
+    /// The up value of a choice.
+    #[cycle(local)]
+    fn value(&self, steps: u32, state: u32, choice: u32, budget: &mut u32) -> Option<u64>
+        requires state { state < states self.now.question.now }
+        requires choice { choice < length (choices_of self.now.question.now.game state) }
+        ensures { IfSome result (λ v. v ≡ up_value (entry_of self.now steps) (choice_at self.now state choice)) }
+    {
+        let sum = self.sum(steps, state, choice, budget)?;
+        let total = self.question.game().total(state, choice);
+        Some(Quotient::new(sum, total).up())
+    }
+
+    /// The sum of weight times entry of the successor.
+    #[cycle(local)]
+    fn sum(&self, steps: u32, state: u32, choice: u32, budget: &mut u32) -> Option<u128>
+        requires state { state < states self.now.question.now }
+        requires choice { choice < length (choices_of self.now.question.now.game state) }
+        ensures { IfSome result (λ v. IsSumOf self.now steps (choice_at self.now state choice) v) }
+    {
+        let game = self.question.game();
+        let mut sum: u128 = 0;
+        for place in 0..game.edge_count(state, choice) {
+            let edge = game.edge(state, choice, place);
+            let entry = self.entry(steps, edge.to, budget)?;
+            sum += edge.weight * u128::from(entry);
+        }
+        Some(sum)
+    }
+}
+
+/// The better of two values for a side.
+fn better(side: Side, one: u64, other: u64) -> u64
+    ensures { result ≡ better side one other }
+{
+    match side {
+        Side::Max => one.max(other),
+        Side::Min => one.min(other),
+    }
+}

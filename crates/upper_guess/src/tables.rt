@@ -1,0 +1,45 @@
+//! Tables by state, and their up steps.
+
+ghost use Rattle.std.specs.Prelude.{◌≡◌, ◌≤◌, length, slice_index, All, IfOk, MatchOption};
+ghost use Rattle.game_model.specs.Query.{states};
+ghost use Rattle.game_model.specs.Limits.{unit};
+ghost use Rattle.game_model.specs.Rounded.{up_step, IsBelow};
+ghost use Rattle.upper_guess.specs.Guess.{IsTable, RisesMost};
+
+use fixed_bellman::up_state;
+use game_model::Question;
+use game_outside::OutOfMemory;
+use std::alloc::Global;
+
+/// The up step of a table.
+pub fn up_table(alloc: Global, question: &Question, table: &[u64]) -> Result<Vec<u64>, OutOfMemory>
+    requires length { length table.now ≡ states question.now }
+    requires units { All (λ v. v ≤ unit) table.now }
+    ensures { IfOk result (λ next. IsTable question.now (up_step question.now (slice_index table.now)) next.items) }
+{
+    let states = question.game().states();
+    let mut next = Vec::with_capacity(alloc, states as usize)?;
+    for state in 0..states {
+        next.push(up_state(question, state, table))?;
+    }
+    Ok(next)
+}
+
+/// The state that rises most from one table to the next; none where no state rises.
+pub fn most_raised(question: &Question, table: &[u64], next: &[u64]) -> Option<u32>
+    requires table { length table.now ≡ states question.now }
+    requires next { length next.now ≡ states question.now }
+    ensures { MatchOption result (IsBelow question.now (slice_index next.now) (slice_index table.now))
+        (λ s. RisesMost question.now (slice_index table.now) (slice_index next.now) s) }
+{
+    let mut most = 0;
+    let mut found = None;
+    for state in 0..question.game().states() {
+        let rise = next[state as usize].saturating_sub(table[state as usize]);
+        if rise > most {
+            most = rise;
+            found = Some(state);
+        }
+    }
+    found
+}
