@@ -9,6 +9,7 @@ mod adapters;
 mod causes;
 mod command;
 mod ends;
+pub mod laws;
 mod load;
 mod model;
 mod refusal;
