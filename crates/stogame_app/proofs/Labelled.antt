@@ -4,7 +4,7 @@ use Rattle.std.specs.Prelude.{codes, decimal}
 use Rattle.std.proofs.lemmas.List.{append_cancel_left}
 use Rattle.verdicts.proofs.Numbers.{decimal-one, number-one}
 use Rattle.stogame_app.specs.Refusals.{numbered, choice_place}
-use Rattle.stogame_app.specs.Widths.{IsInFull, AreInFull}
+use Rattle.stogame_app.specs.InFull.{IsInFull, AreInFull}
 
 -- the bytes of equal texts at a place
 pub at : {xs ys : List ℕ} → xs ≡ ys → (i : ℕ) → get_or xs i 0 ≡ get_or ys i 0

@@ -15,7 +15,7 @@ use Rattle.rpatl_syntax.specs.declared.fault.FormulaCause.TheVariants as formula
 use Rattle.formula_sets.specs.declared.fault.PoseFault.{PoseFault}
 use Rattle.formula_sets.specs.declared.fault.PoseFault.TheVariants as question
 use Rattle.stogame_app.specs.Refusals.{number_text, choice_text, tra_text, lab_text, formula_text, question_text}
-use Rattle.stogame_app.specs.Widths.{AreInFull, ChoiceInFull, TraInFull, LabInFull}
+use Rattle.stogame_app.specs.InFull.{AreInFull, ChoiceInFull, TraInFull, LabInFull}
 use Rattle.stogame_app.proofs.Labelled.{at, numbered-one, pair-one, place-onto}
 
 number-one : (a b : NumberFault) → number_text a ≡ number_text b → a ≡ b

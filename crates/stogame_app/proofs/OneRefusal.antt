@@ -13,7 +13,7 @@ use Rattle.stogame_app.specs.declared.refusal.Text.TheVariants.{Tra, Lab, Own}
 use Rattle.stogame_app.specs.declared.refusal.Refusal.{Refusal}
 use Rattle.stogame_app.specs.declared.refusal.Refusal.TheVariants.{OfTra, OfLab, OfOwn, OfFormula, OfQuestion, TooLong}
 use Rattle.stogame_app.specs.Refusals.{refused_line, refusal_text, formula_text, question_text}
-use Rattle.stogame_app.specs.Widths.{IsInFull, RefusalInFull}
+use Rattle.stogame_app.specs.InFull.{IsInFull, RefusalInFull}
 use Rattle.verdicts.proofs.Numbers.{number-one}
 use Rattle.stogame_app.proofs.Labelled.{at}
 use Rattle.stogame_app.proofs.OneCause.{tra-one, lab-one, formula-one, question-one, tra-not_long, lab-not_long}

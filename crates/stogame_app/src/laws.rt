@@ -3,7 +3,7 @@
 ghost use Rattle.std.specs.Prelude.{◌≡◌};
 ghost use Rattle.stogame_app.specs.declared.refusal.Refusal.{Refusal};
 ghost use Rattle.stogame_app.specs.Refusals.{refusal_text};
-ghost use Rattle.stogame_app.specs.Widths.{RefusalInFull};
+ghost use Rattle.stogame_app.specs.InFull.{RefusalInFull};
 
 /// No two refusals have the same line, where their numbers have at most 64 digits, as all that their types hold.
 pub fn refusals_have_one_reading()
