@@ -18,13 +18,13 @@ use Rattle.stogame_app.specs.Refusals.{number_text, choice_text, tra_text, lab_t
 use Rattle.stogame_app.specs.InFull.{AreInFull, ChoiceInFull, TraInFull, LabInFull}
 use Rattle.stogame_app.proofs.Labelled.{at, numbered-one, pair-one, place-onto}
 
-number-one : (a b : NumberFault) → number_text a ≡ number_text b → a ≡ b
-number-one number.NotANumber number.NotANumber e = refl
-number-one number.TooManyDigits number.TooManyDigits e = refl
-number-one number.ZeroDenominator number.ZeroDenominator e = refl
-number-one number.TooFine number.TooFine e = refl
-number-one number.TooLarge number.TooLarge e = refl
-number-one a b e = absurd (omega (arith, at e 3))
+number_fault-one : (a b : NumberFault) → number_text a ≡ number_text b → a ≡ b
+number_fault-one number.NotANumber number.NotANumber e = refl
+number_fault-one number.TooManyDigits number.TooManyDigits e = refl
+number_fault-one number.ZeroDenominator number.ZeroDenominator e = refl
+number_fault-one number.TooFine number.TooFine e = refl
+number_fault-one number.TooLarge number.TooLarge e = refl
+number_fault-one a b e = absurd (omega (arith, at e 3))
 
 pub question-one : (a b : PoseFault) → question_text a ≡ question_text b → a ≡ b
 question-one question.OutOfMemory question.OutOfMemory e = refl
@@ -38,7 +38,7 @@ formula-one formula.OutOfMemory formula.OutOfMemory e = refl
 formula-one formula.Unexpected formula.Unexpected e = refl
 formula-one formula.End formula.End e = refl
 formula-one formula.TooDeep formula.TooDeep e = refl
-formula-one (formula.BadNumber fault) (formula.BadNumber other) e = let same = number-one fault other (append_cancel_left (codes "BadNumber ") _ _ e) in cc
+formula-one (formula.BadNumber fault) (formula.BadNumber other) e = let same = number_fault-one fault other (append_cancel_left (codes "BadNumber ") _ _ e) in cc
 formula-one formula.ThresholdOutOfRange formula.ThresholdOutOfRange e = refl
 formula-one formula.TooLong formula.TooLong e = refl
 formula-one formula.NotYet formula.NotYet e = refl
@@ -94,7 +94,7 @@ tra-one tra.FieldCount tra.FieldCount ha hb e = refl
 tra-one tra.OverLimit tra.OverLimit ha hb e = refl
 tra-one tra.NoStates tra.NoStates ha hb e = refl
 tra-one tra.StateOutOfRange tra.StateOutOfRange ha hb e = refl
-tra-one (tra.Number fault) (tra.Number other) ha hb e = let same = number-one fault other (append_cancel_left (codes "Number ") _ _ e) in cc
+tra-one (tra.Number fault) (tra.Number other) ha hb e = let same = number_fault-one fault other (append_cancel_left (codes "Number ") _ _ e) in cc
 tra-one (tra.ActionClash state k) (tra.ActionClash m n) ha hb e =
     let same = pair-one (codes " state ") (codes "choice ") state k m n ha hb (append_cancel_left (codes "ActionClash") _ _ e) in cc
 tra-one (tra.LineCount read stated) (tra.LineCount m n) ha hb e =

@@ -1,5 +1,5 @@
 -- A line of a refusal says which refusal it is.
-use Rattle.std.proofs.Common.{◌≡◌, ◌∙◌, ◌^◌, ℕ, List, ◌∷◌, ◌++◌, get_or, refl, sym, ap, arith}
+use Rattle.std.proofs.Common.{◌≡◌, ◌∙◌, ℕ, List, ◌∷◌, ◌++◌, get_or, refl, sym, ap, arith}
 use Rattle.std.specs.Prelude.{◌==◌, if◌then◌else◌, codes, decimal}
 use Rattle.std.proofs.lemmas.List.{append_cancel_left, append_cancel_right}
 use Rattle.tra_reader.specs.declared.fault.TraCause.{TraCause}
@@ -12,7 +12,7 @@ use Rattle.stogame_app.specs.declared.refusal.Text.{Text}
 use Rattle.stogame_app.specs.declared.refusal.Text.TheVariants.{Tra, Lab, Own}
 use Rattle.stogame_app.specs.declared.refusal.Refusal.{Refusal}
 use Rattle.stogame_app.specs.declared.refusal.Refusal.TheVariants.{OfTra, OfLab, OfOwn, OfFormula, OfQuestion, TooLong}
-use Rattle.stogame_app.specs.Refusals.{refused_line, refusal_text, formula_text, question_text}
+use Rattle.stogame_app.specs.Refusals.{refused_line, refusal_text, question_text}
 use Rattle.stogame_app.specs.InFull.{IsInFull, RefusalInFull}
 use Rattle.verdicts.proofs.Numbers.{number-one}
 use Rattle.stogame_app.proofs.Labelled.{at}
