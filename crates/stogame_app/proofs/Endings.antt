@@ -20,6 +20,7 @@ use Rattle.stogame_app.specs.Loading.{Loads, LoadsCheck, IsTooLong, RefusesCause
 use Rattle.stogame_app.specs.Posed.{reading_of, reading_said, question_said, posed}
 use Rattle.stogame_app.specs.Asks.{Asks}
 use Rattle.stogame_app.specs.Refusals.{refusal_text}
+use Rattle.stogame_app.specs.InFull.{RefusalInFull}
 use Rattle.stogame_app.specs.Run.{IsLong, IsReportOf, IsRefusalOf, PosesIt, RefusesIt, MissesIt}
 use Rattle.stogame_app.proofs.Asking.{said_asks, asks_said}
 
@@ -64,6 +65,7 @@ refusal_posed holding steady check result loaded taken text is loads only_long r
         refuses = behind_reading holding steady check result loaded (Refuses r.refusal) is loads r.said;
       };
       caused = r.caused;
+      in_full = r.in_full;
       line = r.line;
       long = r.long;
       only_long = r.only_long;
@@ -84,6 +86,7 @@ refusal_of_question said why taken (inr is) other short = record {
   refusal = OfQuestion why;
   said = ap (read_said OfQuestion) is;
   caused = other;
+  in_full = tt;
   line = refl;
   long = λ long. cc (long.1);
   only_long = λ above. absurd (short above);
@@ -104,15 +107,17 @@ refused_reading holding steady check result refusal is loads =
 pub refusal_loaded : (holding : Option Holding) (steady : Bool) (check : Check) (result : Result Loaded End) (end : End) (refusal : Refusal) (taken : ℕ) → result ≡ Err end → end ≡ Refused refusal
     → LoadsReading holding steady check result
     → RefusesCaused result
+    → RefusalInFull refusal
     → (IsTooLong result → most_bytes < taken)
     → (most_bytes < taken → IsTooLong result ⊎ IsErrOf result OutOfMemory)
     → IsRefusalOf (RefusesIt holding check) taken (refusal_text refusal)
-refusal_loaded holding steady check result end refusal taken is ended loads caused long only_long =
+refusal_loaded holding steady check result end refusal taken is ended loads caused in_full long only_long =
     let same : result ≡ Err (Refused refusal) = is ∙ ap (λ (e : End). Err e) ended in
     record {
       refusal = refusal;
       said = refused_reading holding steady check result refusal same loads;
       caused = subst (λ (r : Result Loaded End). RefusesCaused r) same caused;
+      in_full = in_full;
       line = refl;
       long = λ of. long (of.0, same ∙ ap (λ (r : Refusal). Err (Refused r)) of.1);
       only_long = λ above. which (subst P same (only_long above));

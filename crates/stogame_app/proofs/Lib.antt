@@ -1,7 +1,10 @@
 pub mod Asking
 pub mod Endings
+pub mod Labelled
 pub mod Lengths
 pub mod Loading
+pub mod OneCause
 pub mod OneCheck
+pub mod OneRefusal
 pub mod Reported
 pub mod TakenFirst

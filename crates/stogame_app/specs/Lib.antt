@@ -1,6 +1,7 @@
 pub mod Words
 pub mod Status
 pub mod Refusals
+pub mod InFull
 pub mod Said
 pub mod Sources
 pub mod Texts

@@ -12,6 +12,7 @@ use Rattle.stogame_app.specs.Sources.{Sources, AreSources, AreSourcesOrUnread}
 use Rattle.stogame_app.specs.Posed.{question_said}
 use Rattle.stogame_app.specs.Asks.{Asks}
 use Rattle.stogame_app.specs.Refusals.{refusal_text, usage_text}
+use Rattle.stogame_app.specs.InFull.{RefusalInFull}
 use Rattle.stogame_app.specs.Reports.{IsReport}
 
 abbrev pub IsLong : Refusal → Type 0
@@ -23,11 +24,12 @@ pub record IsReportOf (IsPosed : Posing → Type 0) (asked : ℕ) (text : List �
   pub posed : IsPosed posing
   pub report : IsReport posing.question posing.initial asked text
 
--- the text is the line of a refusal that is said, and not for want of memory; it says that a text is too long where this many bytes were taken of the last one
+-- the text is the line of a refusal that is said, and not for want of memory, and its numbers are written in full; it says that a text is too long where this many bytes were taken of the last one
 pub record IsRefusalOf (IsSaid : Refusal → Type 0) (taken : ℕ) (text : List ℕ) : Type 0 where
   pub refusal : Refusal
   pub said : IsSaid refusal
   pub caused : IsCaused refusal
+  pub in_full : RefusalInFull refusal
   pub line : text ≡ refusal_text refusal
   pub long : IsLong refusal → most_bytes < taken
   pub only_long : most_bytes < taken → IsLong refusal

@@ -13,6 +13,7 @@ ghost use Rattle.stogame_app.specs.Sources.{WhereTold, sources_of};
 ghost use Rattle.stogame_app.specs.Asks.{Asks};
 ghost use Rattle.stogame_app.specs.Posed.{reading_of, posed, question_said, HasSizes};
 ghost use Rattle.stogame_app.specs.Refusals.{refusal_text, usage_text};
+ghost use Rattle.stogame_app.specs.InFull.{RefusalInFull};
 ghost use Rattle.game_model.specs.Query.{states};
 ghost use Rattle.stogame_app.specs.Reports.{IsReport};
 ghost use Rattle.stogame_app.specs.Run.{IsReportOf, IsRefusalOf, PosesIt, RefusesIt, MissesIt, IsReportOfWords, IsRefusalOfWords, MissesOfWords, IsOutput};
@@ -106,6 +107,7 @@ fn run_check<R: Threads + Sync, H: Shelf, K: Sink, G: Gate + Sync>(
 // The end of a run whose loading ended with nothing.
 fn end_run<K: Sink>(alloc: Global, out: &mut K, end: End) -> Status
     ensures only { (result ≡ Status.Fine) ⊎ (result ≡ Status.Usage) → ⊥ }
+    ensures in_full { (refusal : Refusal) → end ≡ End.Refused refusal → RefusalInFull refusal }
     ensures read_fault { result ≡ Status.ReadFault → (end ≡ End.ReadFault) × (K.written out.new ≡ K.written out.old) }
     ensures refused { result ≡ Status.ModelRefused → (refusal : Refusal) × (end ≡ End.Refused refusal) × GrowsBy (K.written out.old) (K.written out.new) (refusal_text refusal) }
     ensures write_fault { result ≡ Status.WriteFault → (refusal : Refusal) × (end ≡ End.Refused refusal) × Rose (K.faults out.old) (K.faults out.new)

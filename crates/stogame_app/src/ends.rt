@@ -3,6 +3,7 @@
 ghost use Rattle.std.specs.Prelude.{◌≡◌, ◌≢◌, ◌⊎◌};
 ghost use Rattle.game_outside.specs.Outside.{Rose, GrowsBy, GrowsByPrefix};
 ghost use Rattle.stogame_app.specs.Refusals.{refusal_text, usage_text};
+ghost use Rattle.stogame_app.specs.InFull.{RefusalInFull};
 
 use crate::refusal::{Refusal, refusal_line, usage_line};
 use crate::status::Status;
@@ -38,10 +39,12 @@ pub fn end_with_usage<K: Sink>(alloc: Global, out: &mut K) -> Status
 /// Ends a run with a refusal.
 pub fn end_with_refusal<K: Sink>(alloc: Global, out: &mut K, refusal: &Refusal) -> Status
     ensures only { (result ≡ Status.ModelRefused) ⊎ ((result ≡ Status.WriteFault) ⊎ (result ≡ Status.OutOfMemory)) }
+    ensures in_full { RefusalInFull refusal.now }
     ensures refused { result ≡ Status.ModelRefused → GrowsBy (K.written out.old) (K.written out.new) (refusal_text refusal.now) }
     ensures write_fault { result ≡ Status.WriteFault → Rose (K.faults out.old) (K.faults out.new) × GrowsByPrefix (K.written out.old) (K.written out.new) (refusal_text refusal.now) }
     ensures memory { result ≡ Status.OutOfMemory → K.written out.new ≡ K.written out.old }
 {
+    refusal.known();
     match refusal_line(alloc, refusal) {
         Ok(line) => say(out, &line, Status::ModelRefused),
         Err(_) => Status::OutOfMemory,

@@ -9,6 +9,8 @@ mod adapters;
 mod causes;
 mod command;
 mod ends;
+mod known;
+pub mod laws;
 mod load;
 mod model;
 mod refusal;

@@ -1,7 +1,6 @@
 -- A report is read in one way: each field tells where it ends.
-use Rattle.std.proofs.Common.{◌≡◌, ◌≢◌, ◌∙◌, ◌<◌, ◌≤◌, ◌+◌, ◌/◌, ◌%◌, ◌^◌, ℕ, zero, suc, List, [], ◌∷◌, ◌++◌, length, get_or, Option, Some, refl, sym, ap, append_assoc, arith}
+use Rattle.std.proofs.Common.{◌≡◌, ◌∙◌, ◌≤◌, ◌+◌, ◌/◌, ◌%◌, ℕ, zero, suc, List, [], ◌∷◌, ◌++◌, length, get_or, Option, Some, refl, sym, ap, append_assoc, arith}
 use Rattle.std.specs.Prelude.{◌==◌, if◌then◌else◌, All, codes, decimal}
-use Rattle.std.proofs.lemmas.Fmt.{decimal_by_steps, decimal_injective}
 use Rattle.std.proofs.lemmas.List.{append_cancel_left, length-append}
 use Rattle.std.proofs.lemmas.List.Elements.{All-tail}
 use Rattle.game_model.specs.Limits.{unit}
@@ -12,41 +11,13 @@ use Rattle.verdicts.specs.declared.report.How.{How}
 use Rattle.verdicts.specs.declared.report.How.TheVariants.{Rounds, Audited}
 use Rattle.verdicts.specs.declared.report.ReportLine.{ReportLine}
 use Rattle.verdicts.specs.Report.{HasRounds, IsLine, verdict_text, how_text, line_text, report}
+use Rattle.verdicts.proofs.Numbers.{number-one}
 
 -- no two values have the same text
 abbrev pub FixedOne : Type 0
 FixedOne = (u v : ℕ) → u ≤ unit → v ≤ unit → fixed u ≡ fixed v → u ≡ v
 
--- 1. A number ends at the space behind it.
-
-abbrev NoSpace : List ℕ → Type 0
-NoSpace [] = Unit {0}
-NoSpace (b ∷ bytes) = (b ≢ 32) × NoSpace bytes
-
-NoSpace-snoc : (bytes : List ℕ) (b : ℕ) → NoSpace bytes → b ≢ 32 → NoSpace (bytes ++ b ∷ [])
-NoSpace-snoc [] b h other = (other, tt)
-NoSpace-snoc (c ∷ bytes) b h other = (h.0, NoSpace-snoc bytes b h.1 other)
-
-decimal-NoSpace : (n : ℕ) → n < 2 ^ 64 → NoSpace (decimal n)
-decimal-NoSpace n small = decimal_by_steps (λ m digits. NoSpace digits) (λ m h. (omega arith, tt)) (λ m digits h before. NoSpace-snoc digits (48 + m % 10) before (omega arith)) n small
-
-up_to_space : (xs ys r s : List ℕ) → NoSpace xs → NoSpace ys → xs ++ 32 ∷ r ≡ ys ++ 32 ∷ s → (xs ≡ ys) × (r ≡ s)
-up_to_space [] [] r s hx hy e = (refl, cc)
-up_to_space [] (y ∷ ys) r s hx hy e = let is : y ≡ 32 = cc in absurd (hy.0 is)
-up_to_space (x ∷ xs) [] r s hx hy e = let is : x ≡ 32 = cc in absurd (hx.0 is)
-up_to_space (x ∷ xs) (y ∷ ys) r s hx hy e =
-    let first : x ≡ y = cc in
-    let behind : xs ++ 32 ∷ r ≡ ys ++ 32 ∷ s = cc in
-    let parts = up_to_space xs ys r s hx.1 hy.1 behind in
-    let others : xs ≡ ys = parts.0 in
-    (cc, parts.1)
-
-number-one : (m n : ℕ) (r s : List ℕ) → m < 2 ^ 32 → n < 2 ^ 32 → decimal m ++ 32 ∷ r ≡ decimal n ++ 32 ∷ s → (m ≡ n) × (r ≡ s)
-number-one m n r s hm hn e =
-    let parts = up_to_space (decimal m) (decimal n) r s (decimal-NoSpace m (omega arith)) (decimal-NoSpace n (omega arith)) e in
-    (decimal_injective m n (omega arith) (omega arith) parts.0, parts.1)
-
--- 2. The text of a value has a fixed length.
+-- 1. The text of a value has a fixed length.
 
 up_to_length : (xs ys r s : List ℕ) → length xs ≡ length ys → xs ++ r ≡ ys ++ s → (xs ≡ ys) × (r ≡ s)
 up_to_length [] [] r s h e = (refl, e)
@@ -72,11 +43,11 @@ value-one one u v r s hu hv e =
     let parts = up_to_length (fixed u) (fixed v) r s (length-fixed u ∙ sym (length-fixed v)) e in
     (one u v hu hv parts.0, parts.1)
 
--- 3. The words are told apart by a byte.
+-- 2. The words are told apart by a byte.
 
 how-one : (a b : How) (r s : List ℕ) → HasRounds a → HasRounds b → how_text a ++ 32 ∷ r ≡ how_text b ++ 32 ∷ s → (a ≡ b) × (r ≡ s)
 how-one (Rounds m) (Rounds n) r s hm hn e =
-    let parts = number-one m n r s hm hn (append_cancel_left (codes " rounds ") (decimal m ++ 32 ∷ r) (decimal n ++ 32 ∷ s) e) in
+    let parts = number-one m n r s (omega arith) (omega arith) (append_cancel_left (codes " rounds ") (decimal m ++ 32 ∷ r) (decimal n ++ 32 ∷ s) e) in
     (ap (λ k. Rounds k) parts.0, parts.1)
 how-one (Rounds m) Audited r s hm hn e = let second : ◌≡◌ {A = ℕ} 114 97 = ap (λ (t : List ℕ). get_or t 1 0) e in absurd (omega arith)
 how-one Audited (Rounds n) r s hm hn e = let second : ◌≡◌ {A = ℕ} 97 114 = ap (λ (t : List ℕ). get_or t 1 0) e in absurd (omega arith)
@@ -99,7 +70,7 @@ verdict-one a b r s e =
     let left : verdict_text a ++ r ≡ verdict_text a ++ s = e ∙ ap (λ v. verdict_text v ++ s) (sym same) in
     (same, append_cancel_left (verdict_text a) r s left)
 
--- 4. A line, and what stands behind it.
+-- 3. A line, and what stands behind it.
 
 line_onto : ReportLine → List ℕ → List ℕ
 line_onto line rest =
@@ -124,7 +95,7 @@ same_line a b state lower upper how verdict =
 line-one : FixedOne → (a b : ReportLine) (r s : List ℕ) → IsLine a → IsLine b → line_onto a r ≡ line_onto b s → (a ≡ b) × (r ≡ s)
 unfolding line_onto
 line-one one a b r s ha hb e =
-    let state = number-one a.state b.state _ _ ha.state hb.state (append_cancel_left (codes "state ") _ _ e) in
+    let state = number-one a.state b.state _ _ (omega (arith, ha.state)) (omega (arith, hb.state)) (append_cancel_left (codes "state ") _ _ e) in
     let lower = value-one one a.lower b.lower _ _ ha.values.0 hb.values.0 (append_cancel_left (codes "lower ") _ _ state.1) in
     let upper = value-one one a.upper b.upper _ _ ha.values.1 hb.values.1 (append_cancel_left (codes " upper ") _ _ lower.1) in
     let how = how-one a.how b.how _ _ ha.rounds hb.rounds upper.1 in

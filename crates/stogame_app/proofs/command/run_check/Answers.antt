@@ -39,7 +39,7 @@ returns-in-Err-clause-refused g c = λ is.
     let r = c.end_run.ensures.refused is in (
       refusal_text r.0,
       refusal_loaded (g.H.Shelf.held c.args.shelf.now) (g.H.Shelf.steady c.args.shelf.now) (check_of c.args.check.now) c.load_model.result c.in-Err.end r.0 (g.H.Shelf.taken c.load_model.new.shelf) c.in-Err.is r.1
-          c.load_model.ensures.says c.load_model.ensures.caused c.load_model.ensures.takes.too_long c.load_model.ensures.takes.only_too_long,
+          c.load_model.ensures.says c.load_model.ensures.caused (c.end_run.ensures.in_full r.0 r.1) c.load_model.ensures.takes.too_long c.load_model.ensures.takes.only_too_long,
       r.2,
     )
 
@@ -50,7 +50,7 @@ returns-in-Err-clause-write_fault g c = λ is.
       (
         refusal_text r.0,
         inr (refusal_loaded (g.H.Shelf.held c.args.shelf.now) (g.H.Shelf.steady c.args.shelf.now) (check_of c.args.check.now) c.load_model.result c.in-Err.end r.0 (g.H.Shelf.taken c.load_model.new.shelf) c.in-Err.is r.1
-            c.load_model.ensures.says c.load_model.ensures.caused c.load_model.ensures.takes.too_long c.load_model.ensures.takes.only_too_long),
+            c.load_model.ensures.says c.load_model.ensures.caused (c.end_run.ensures.in_full r.0 r.1) c.load_model.ensures.takes.too_long c.load_model.ensures.takes.only_too_long),
         r.3,
       ),
     )
