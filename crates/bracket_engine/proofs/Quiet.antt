@@ -28,9 +28,9 @@ choice-of-successors q v w s c h inside chosen each =
     let fits : IsChoiceOf q.game (choice_of q.game s c) = IsChoiceOf-choice_of q.game s c h.game inside chosen in
     let one : (p : ℕ) → p < length edges → v (slice_index_or edges p no_edge).to ≤ w (slice_index_or edges p no_edge).to =
     λ p there.
-        let at : slice_index_or (successors q.game s c) p 0 ≡ (slice_index_or edges p no_edge).to = get_or-map (λ (e : Edge). e.to) edges p no_edge 0 there in
-        let found : Contains (successors q.game s c) (slice_index_or edges p no_edge).to = subst (λ (t : ℕ). Contains (successors q.game s c) t) at (Contains-get_or (successors q.game s c) p 0 (omega (arith, there, length-map edges (λ (e : Edge). e.to)))) in
-        each (slice_index_or edges p no_edge).to (AllByRecursion-at (λ (e : Edge). e.to < states q) edges p no_edge there fits.inside) (record { state = inside; choice = chosen; successor = found }) in
+    let at : slice_index_or (successors q.game s c) p 0 ≡ (slice_index_or edges p no_edge).to = get_or-map (λ (e : Edge). e.to) edges p no_edge 0 there in
+    let found : Contains (successors q.game s c) (slice_index_or edges p no_edge).to = subst (λ (t : ℕ). Contains (successors q.game s c) t) at (Contains-get_or (successors q.game s c) p 0 (omega (arith, there, length-map edges (λ (e : Edge). e.to)))) in
+    each (slice_index_or edges p no_edge).to (AllByRecursion-at (λ (e : Edge). e.to < states q) edges p no_edge there fits.inside) (record { state = inside; choice = chosen; successor = found }) in
     let sums : 1 * weighted_sum v edges ≤ 1 * weighted_sum w edges =
     weighted_sum-le v w 1 1 edges (recursion_from_All (λ (e : Edge). 1 * v e.to ≤ 1 * w e.to) edges
     (All-from_get_or (λ (e : Edge). 1 * v e.to ≤ 1 * w e.to) edges no_edge (λ p there. omega (arith, one p there)))) in
@@ -56,7 +56,7 @@ step-everywhere q old mid new before round after h agenda same_read same_marks s
     let kept : read_of mid s ≡ read_of old s = ap (λ (l : List ℕ). slice_index_or l s 0) same_read in
     by-mark (slice_index_or old.marks.items s false) (down_step q (read_of old) s ≤ read_of new s)
     (λ on. le_trans (down_step-le q (read_of old) before (AreChoicesOf-choices_of q.game h.game) agenda.below s)
-      (le_trans (step s inside on) (again.marked s inside (ap (λ (l : List Bool). slice_index_or l s false) same_marks ∙ on))))
+    (le_trans (step s inside on) (again.marked s inside (ap (λ (l : List Bool). slice_index_or l s false) same_marks ∙ on))))
     (λ off. omega (arith, agenda.quiet s inside off, again.rises s inside, kept))
 
 -- where the states with an edge to a changed one are marked, the others are quiet
@@ -64,9 +64,9 @@ pub quiet-again : (q : Query) (old mid new : Agenda) (marks : List Bool) (round 
     → ((s : ℕ) → s < states q → down_step q (read_of old) s ≤ read_of new s) → AreMarkedFor q.game new.more.items marks → (s : ℕ) → s < states q → slice_index_or marks s false ≡ false → down_step q (read_of new) s ≤ read_of new s
 quiet-again q old mid new marks round after h same_read again step marked s inside off =
     le_trans (step-of-successors q (read_of new) (read_of old) s h inside (λ c t within leads.
-      by-mark (slice_index_or new.more.items t false) (read_of new t ≤ read_of old t)
-      (λ on. absurd (let clash : true ≡ false = sym (marked s c t within on leads) ∙ off in cc))
-      (λ kept. omega (arith, again.same t within kept, ap (λ (l : List ℕ). slice_index_or l t 0) same_read))))
+    by-mark (slice_index_or new.more.items t false) (read_of new t ≤ read_of old t)
+    (λ on. absurd (let clash : true ≡ false = sym (marked s c t within on leads) ∙ off in cc))
+    (λ kept. omega (arith, again.same t within kept, ap (λ (l : List ℕ). slice_index_or l t 0) same_read))))
     (step s inside)
 
 -- where nothing changed, all are quiet

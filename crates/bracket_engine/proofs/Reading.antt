@@ -19,17 +19,17 @@ pub read-more : (i : ℕ) (old now next : Agenda) (before mid after : ℕ → �
 read-more i old now next before mid after rose rises h here elsewhere = record {
   read = λ s below. elim (cases_eq s i) [
     | inl same ↦ subst (λ t. IsStateRead t old next before after) (sym same) record {
-        rises = omega (arith, here.rises, h.rest i (omega arith));
-        below = here.below;
-        marked = λ marked. le_trans (rose i) (here.marked (h.rest_more i (omega arith) ∙ marked));
-        same = λ off. here.same off ∙ h.rest i (omega arith);
-      }
+      rises = omega (arith, here.rises, h.rest i (omega arith));
+      below = here.below;
+      marked = λ marked. le_trans (rose i) (here.marked (h.rest_more i (omega arith) ∙ marked));
+      same = λ off. here.same off ∙ h.rest i (omega arith);
+    }
     | inr other ↦ (let was = h.read s (omega arith) in record {
-        rises = omega (arith, was.rises, elsewhere.read s other);
-        below = omega (arith, was.below, elsewhere.read s other, rises s);
-        marked = λ marked. omega (arith, was.marked marked, elsewhere.read s other);
-        same = λ off. elsewhere.read s other ∙ was.same (sym (elsewhere.more s other) ∙ off);
-      })
+      rises = omega (arith, was.rises, elsewhere.read s other);
+      below = omega (arith, was.below, elsewhere.read s other, rises s);
+      marked = λ marked. omega (arith, was.marked marked, elsewhere.read s other);
+      same = λ off. elsewhere.read s other ∙ was.same (sym (elsewhere.more s other) ∙ off);
+    })
   ];
   rest = λ s past. elsewhere.read s (λ same. omega arith) ∙ h.rest s (omega arith);
   rest_more = λ s past. elsewhere.more s (λ same. omega arith) ∙ h.rest_more s (omega arith);
@@ -42,11 +42,11 @@ read-over n i j old now before after under rose inside h off order = record {
   read = λ s below. elim (cases_lt s i) [
     | inl less ↦ h.read s less
     | inr past ↦ (let same = h.rest s past in record {
-        rises = omega arith;
-        below = omega (arith, under s (omega arith), rose s);
-        marked = λ marked. absurd (let clash : true ≡ false = sym marked ∙ sym (h.rest_more s past) ∙ off s false past below in cc);
-        same = λ _. same;
-      })
+      rises = omega arith;
+      below = omega (arith, under s (omega arith), rose s);
+      marked = λ marked. absurd (let clash : true ≡ false = sym marked ∙ sym (h.rest_more s past) ∙ off s false past below in cc);
+      same = λ _. same;
+    })
   ];
   rest = λ s past. h.rest s (omega arith);
   rest_more = λ s past. h.rest_more s (omega arith);

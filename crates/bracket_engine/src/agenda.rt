@@ -81,11 +81,7 @@ pub fn read_again<P: Posing>(
 }
 
 /// Reads the states with a second mark. How many values changed; these states keep it.
-fn read_marked<P: Posing>(
-    table: &ValueTable<'_, P>,
-    pass: &mut Pass<P>,
-    agenda: &mut Agenda,
-) -> u32
+fn read_marked<P: Posing>(table: &ValueTable<'_, P>, pass: &mut Pass<P>, agenda: &mut Agenda) -> u32
     requires pass { IsOf table.now pass.old }
     requires sized { IsSized P.posed agenda.old }
     requires below { (s : ℕ) → s < states P.posed → read_of agenda.old s ≤ seen_by pass.old s }
@@ -133,7 +129,12 @@ fn read_state<P: Posing>(
 
 /// Marks the predecessors of the states that changed, or all states where most changed. About how many states then have
 /// a mark.
-pub fn mark_again(game: &Game, predecessors: &Predecessors, agenda: &mut Agenda, changed: u32) -> u32
+pub fn mark_again(
+    game: &Game,
+    predecessors: &Predecessors,
+    agenda: &mut Agenda,
+    changed: u32,
+) -> u32
     requires predecessors { ArePredecessors game.now predecessors.now }
     requires marks { length agenda.old.marks.items ≡ length game.now }
     requires more { length agenda.old.more.items ≡ length game.now }
@@ -183,7 +184,12 @@ fn mark_changed(game: &Game, predecessors: &Predecessors, agenda: &mut Agenda) -
 }
 
 /// Marks the predecessors of a state. How many of them had no mark.
-fn mark_predecessors(game: &Game, predecessors: &Predecessors, state: u32, agenda: &mut Agenda) -> u32
+fn mark_predecessors(
+    game: &Game,
+    predecessors: &Predecessors,
+    state: u32,
+    agenda: &mut Agenda,
+) -> u32
     requires predecessors { ArePredecessors game.now predecessors.now }
     requires state { state < length game.now }
     requires marks { length agenda.old.marks.items ≡ length game.now }

@@ -49,7 +49,16 @@ pub fn race<R: Threads + Sync, P: Posing + Send + Sync, G: Gate + Sync>(
     let predecessors = Predecessors::of_game(alloc, question.game())?;
     let mut agenda = Agenda::open(alloc, question)?;
     let (table, pass) = ValueTable::<P>::start(alloc, question)?;
-    let (pass, rounds) = run_rounds(rt, &table, &predecessors, pass, &mut agenda, most, workers, gate);
+    let (pass, rounds) = run_rounds(
+        rt,
+        &table,
+        &predecessors,
+        pass,
+        &mut agenda,
+        most,
+        workers,
+        gate,
+    );
     let words = table.close(alloc, pass)?;
     Ok(Raced { words, rounds })
 }
@@ -80,7 +89,11 @@ fn run_rounds<R: Threads + Sync, P: Posing + Send + Sync, G: Gate + Sync>(
 {
     let mut due = table.question().game().states();
     for turn in 0..most {
-        let used = if turn == 0 { workers } else { busy_workers(table.question(), workers, due) };
+        let used = if turn == 0 {
+            workers
+        } else {
+            busy_workers(table.question(), workers, due)
+        };
         let (next, marked) = one_round(rt, table, predecessors, pass, agenda, used, gate);
         pass = next;
         match marked {
@@ -116,7 +129,16 @@ fn one_round<R: Threads + Sync, P: Posing + Send + Sync, G: Gate + Sync>(
     let Rounded {
         mut pass,
         raises: _,
-    } = round(rt, table, predecessors, pass, &agenda.marks, &mut agenda.more, workers, gate);
+    } = round(
+        rt,
+        table,
+        predecessors,
+        pass,
+        &agenda.marks,
+        &mut agenda.more,
+        workers,
+        gate,
+    );
     let changed = read_again(table, &mut pass, agenda);
     if changed == 0 {
         return (pass, None);

@@ -71,7 +71,11 @@ pub fn random_question<'g>(alloc: Global, draw: &mut Draw, game: &'g Game) -> Op
     let mut goals = Vec::new(alloc);
     let mut deads = Vec::new(alloc);
     for state in 0..states {
-        let side = if draw.below(2) == 0 { Side::Max } else { Side::Min };
+        let side = if draw.below(2) == 0 {
+            Side::Max
+        } else {
+            Side::Min
+        };
         sides.push(side).ok()?;
         goals.push(state == goal).ok()?;
         deads.push(state == dead && state != goal).ok()?;

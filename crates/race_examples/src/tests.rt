@@ -165,7 +165,16 @@ fn rounds<P: Posing + Send + Sync, R: Threads + Sync>(
     let marks = vec![in alloc; true; states as usize].ok()?;
     let mut more = vec![in alloc; false; states as usize].ok()?;
     let (table, pass) = ValueTable::<P>::start(alloc, question).ok()?;
-    let pass = repeat(rt, &table, &predecessors, pass, &marks, &mut more, count, gate);
+    let pass = repeat(
+        rt,
+        &table,
+        &predecessors,
+        pass,
+        &marks,
+        &mut more,
+        count,
+        gate,
+    );
     table.close(alloc, pass).ok()
 }
 
@@ -234,7 +243,11 @@ fn agrees_with_plain_sweeps<R: Abort + Threads + Sync>(
     let mut ended = false;
     for asked in 0..40 {
         let found = bracket(rt, alloc, question, &zero, asked, 1, &OpenGate {}).ok()?;
-        assert_eq!(rt; found.lower.as_slice(), table.as_slice(), "after {asked} rounds");
+        assert_eq!(rt;
+            found.lower.as_slice(),
+            table.as_slice(),
+            "after {asked} rounds"
+        );
         assert_eq!(rt; found.rounds, rounds, "of {asked} rounds");
         if rounds < asked {
             return Some(());

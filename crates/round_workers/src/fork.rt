@@ -45,7 +45,20 @@ pub fn round<R: Threads + Sync, P: Posing + Send + Sync, G: Gate + Sync>(
     ensures parts { workers ≤ parts_of pass → parts_of result.pass ≡ parts_of pass }
 {
     let states = table.question().game().states();
-    fork(rt, table, predecessors, pass, marks, more, 0, workers, 0, states, workers, gate)
+    fork(
+        rt,
+        table,
+        predecessors,
+        pass,
+        marks,
+        more,
+        0,
+        workers,
+        0,
+        states,
+        workers,
+        gate,
+    )
 }
 
 /// The part of the workers from `first` up to and not including `last`, whose states stand from `low` up to and not
@@ -73,7 +86,17 @@ fn fork<R: Threads + Sync, P: Posing + Send + Sync, G: Gate + Sync>(
     ensures { IsSwept P.posed marks.now (last - first) low high pass.seat result.pass.seat result.raises }
 {
     if last - first == 1 {
-        return sweep(table, predecessors, pass, marks, more, first, low, high, gate);
+        return sweep(
+            table,
+            predecessors,
+            pass,
+            marks,
+            more,
+            first,
+            low,
+            high,
+            gate,
+        );
     }
     let middle = first + (last - first) / 2;
     let cut = cut_at(table, first, middle, last, low, high, workers);
@@ -84,11 +107,41 @@ fn fork<R: Threads + Sync, P: Posing + Send + Sync, G: Gate + Sync>(
         move || -> Rounded<P>
             requires { IsSync R.row × IsSend P.row × IsSync P.row × IsSync G.row × IsOf table.now pass × (length predecessors.now ≡ states P.posed) × (length marks.now ≡ states P.posed) × (low + length mine.now ≡ cut) × (first < middle) × (middle ≤ workers) × (workers ≤ most_workers) × AreBlocks P.posed.game workers first middle low cut }
             ensures { IsSwept P.posed marks.entry.now (middle - first) low cut pass.seat result.pass.seat result.raises }
-        { fork(rt, table, predecessors, pass, marks, mine, first, middle, low, cut, workers, gate) },
+        {
+            fork(
+                rt,
+                table,
+                predecessors,
+                pass,
+                marks,
+                mine,
+                first,
+                middle,
+                low,
+                cut,
+                workers,
+                gate,
+            )
+        },
         move || -> Rounded<P>
             requires { IsSync R.row × IsSend P.row × IsSync P.row × IsSync G.row × IsOf table.now other × (length predecessors.now ≡ states P.posed) × (length marks.now ≡ states P.posed) × (cut + length others.now ≡ high) × (middle < last) × (last ≤ workers) × (workers ≤ most_workers) × AreBlocks P.posed.game workers middle last cut high }
             ensures { IsSwept P.posed marks.entry.now (last - middle) cut high other.seat result.pass.seat result.raises }
-        { fork(rt, table, predecessors, other, marks, others, middle, last, cut, high, workers, gate) },
+        {
+            fork(
+                rt,
+                table,
+                predecessors,
+                other,
+                marks,
+                others,
+                middle,
+                last,
+                cut,
+                high,
+                workers,
+                gate,
+            )
+        },
     );
     meet(table, left, right)
 }

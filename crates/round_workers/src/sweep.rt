@@ -46,7 +46,18 @@ pub fn sweep<P: Posing, G: Gate>(
     while state < to {
         let end = to.min(state + STRETCH);
         if has_mark(marks, state, end) || has_mark(more, state - from, end - from) {
-            raises += walk(table, predecessors, &mut pass, marks, more, worker, from, state, end, gate);
+            raises += walk(
+                table,
+                predecessors,
+                &mut pass,
+                marks,
+                more,
+                worker,
+                from,
+                state,
+                end,
+                gate,
+            );
         } else {
             pass_over(worker, state, end, gate);
         }
