@@ -1,6 +1,6 @@
 //! Which states may rise, between two rounds.
 
-ghost use Rattle.std.specs.Prelude.{◌≡◌, ℕ, ◌<◌, ◌≤◌, List, [], false, length, slice_index_or, IfOk};
+ghost use Rattle.std.specs.Prelude.{◌≡◌, ℕ, ◌<◌, ◌≤◌, false, length, slice_index_or, IfOk};
 ghost use Rattle.game_model.specs.Query.{states};
 ghost use Rattle.game_model.specs.Rounded.{opening};
 ghost use Rattle.predecessors.specs.Lists.{ArePredecessors};
@@ -127,14 +127,8 @@ fn read_state<P: Posing>(
     changed
 }
 
-/// Marks the predecessors of the states that changed, or all states where most changed. About how many states then have
-/// a mark.
-pub fn mark_again(
-    game: &Game,
-    predecessors: &Predecessors,
-    agenda: &mut Agenda,
-    changed: u32,
-) -> u32
+/// Marks the predecessors of the states that changed; all states, where most of them changed.
+pub fn mark_again(game: &Game, predecessors: &Predecessors, agenda: &mut Agenda, changed: u32)
     requires predecessors { ArePredecessors game.now predecessors.now }
     requires marks { length agenda.old.marks.items ≡ length game.now }
     requires more { length agenda.old.more.items ≡ length game.now }
@@ -143,12 +137,11 @@ pub fn mark_again(
     ensures more { length agenda.new.more.items ≡ length game.now }
     ensures marked { AreMarkedFor game.now agenda.old.more.items agenda.new.marks.items }
 {
-    let states = game.states();
-    if changed > states / 2 {
+    if changed > game.states() / 2 {
         mark_all(agenda);
-        return states;
+    } else {
+        mark_changed(game, predecessors, agenda);
     }
-    mark_changed(game, predecessors, agenda)
 }
 
 /// Marks all states.
@@ -162,8 +155,8 @@ fn mark_all(agenda: &mut Agenda)
     agenda.more.fill(false);
 }
 
-/// Marks the predecessors of the states that changed. How many states got a mark.
-fn mark_changed(game: &Game, predecessors: &Predecessors, agenda: &mut Agenda) -> u32
+/// Marks the predecessors of the states that changed.
+fn mark_changed(game: &Game, predecessors: &Predecessors, agenda: &mut Agenda)
     requires predecessors { ArePredecessors game.now predecessors.now }
     requires marks { length agenda.old.marks.items ≡ length game.now }
     requires more { length agenda.old.more.items ≡ length game.now }
@@ -173,23 +166,16 @@ fn mark_changed(game: &Game, predecessors: &Predecessors, agenda: &mut Agenda) -
     ensures marked { AreMarkedFor game.now agenda.old.more.items agenda.new.marks.items }
 {
     game.known();
-    let mut due: u32 = 0;
     let mut state = next_mark(&agenda.more, 0);
     while state < game.states() {
         agenda.more[state as usize] = false;
-        due = due.saturating_add(mark_predecessors(game, predecessors, state, agenda));
+        mark_predecessors(game, predecessors, state, agenda);
         state = next_mark(&agenda.more, state + 1);
     }
-    due
 }
 
-/// Marks the predecessors of a state. How many of them had no mark.
-fn mark_predecessors(
-    game: &Game,
-    predecessors: &Predecessors,
-    state: u32,
-    agenda: &mut Agenda,
-) -> u32
+/// Marks the predecessors of a state.
+fn mark_predecessors(game: &Game, predecessors: &Predecessors, state: u32, agenda: &mut Agenda)
     requires predecessors { ArePredecessors game.now predecessors.now }
     requires state { state < length game.now }
     requires marks { length agenda.old.marks.items ≡ length game.now }
@@ -199,13 +185,8 @@ fn mark_predecessors(
     ensures kept { (s : ℕ) → IsMarked agenda.old.marks.items s → IsMarked agenda.new.marks.items s }
     ensures marked { (s c : ℕ) → LeadsTo game.now s c state → IsMarked agenda.new.marks.items s }
 {
-    let mut due: u32 = 0;
+    let _ = game;
     for step in predecessors.of_state(state) {
-        let place = step.state as usize;
-        if !agenda.marks[place] {
-            due = due.saturating_add(1);
-        }
-        agenda.marks[place] = true;
+        agenda.marks[step.state as usize] = true;
     }
-    due
 }

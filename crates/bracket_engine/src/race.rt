@@ -1,6 +1,6 @@
 //! Rounds of workers on the shared words, until these are settled.
 
-ghost use Rattle.std.specs.Prelude.{◌≡◌, ℕ, ◌+◌, ◌*◌, ◌<◌, ◌≤◌, IfOk, IsNone};
+ghost use Rattle.std.specs.Prelude.{◌≡◌, ℕ, ◌+◌, ◌*◌, ◌<◌, ◌≤◌, IfOk};
 ghost use Rattle.game_model.specs.Query.{states};
 ghost use Rattle.game_model.specs.Rounded.{down_step, down_steps, IsBelow, IsSettled};
 ghost use Rattle.round_workers.specs.Share.{most_workers};
@@ -87,24 +87,24 @@ fn run_rounds<R: Threads + Sync, P: Posing + Send + Sync, G: Gate + Sync>(
     ensures swept { IsBelow P.posed (down_steps P.posed result.1) (read_of agenda.new) }
     ensures early { result.1 < most → IsSettled P.posed (read_of agenda.new) }
 {
-    let mut due = table.question().game().states();
+    let mut changed = table.question().game().states();
     for turn in 0..most {
         let used = if turn == 0 {
             workers
         } else {
-            busy_workers(table.question(), workers, due)
+            busy_workers(table.question(), workers, changed)
         };
-        let (next, marked) = one_round(rt, table, predecessors, pass, agenda, used, gate);
+        let (next, values) = one_round(rt, table, predecessors, pass, agenda, used, gate);
         pass = next;
-        match marked {
-            Some(marked) => due = marked,
-            None => return (pass, turn + 1),
+        if values == 0 {
+            return (pass, turn + 1);
         }
+        changed = values;
     }
     (pass, most)
 }
 
-// One round, and about how many states have a mark after it; none where no value changed.
+// One round, and how many values changed in it.
 fn one_round<R: Threads + Sync, P: Posing + Send + Sync, G: Gate + Sync>(
     rt: &R,
     table: &ValueTable<'_, P>,
@@ -113,7 +113,7 @@ fn one_round<R: Threads + Sync, P: Posing + Send + Sync, G: Gate + Sync>(
     agenda: &mut Agenda,
     workers: u32,
     gate: &G,
-) -> (Pass<P>, Option<u32>)
+) -> (Pass<P>, u32)
     requires pass { IsOf table.now pass }
     requires predecessors { ArePredecessors P.posed.game predecessors.now }
     requires agenda { IsAgenda P.posed agenda.old (seen_by pass) }
@@ -124,7 +124,7 @@ fn one_round<R: Threads + Sync, P: Posing + Send + Sync, G: Gate + Sync>(
     ensures agenda { IsAgenda P.posed agenda.new (seen_by result.0) }
     // At each state, marked or not, what is read now is at least the down step of what was read before.
     ensures step { (s : ℕ) → s < states P.posed → down_step P.posed (read_of agenda.old) s ≤ read_of agenda.new s }
-    ensures settled { IsNone result.1 → IsSettled P.posed (read_of agenda.new) }
+    ensures settled { result.1 ≡ 0 → IsSettled P.posed (read_of agenda.new) }
 {
     let Rounded {
         mut pass,
@@ -141,24 +141,25 @@ fn one_round<R: Threads + Sync, P: Posing + Send + Sync, G: Gate + Sync>(
     );
     let changed = read_again(table, &mut pass, agenda);
     if changed == 0 {
-        return (pass, None);
+        return (pass, 0);
     }
-    let marked = mark_again(table.question().game(), predecessors, agenda, changed);
-    (pass, Some(marked))
+    mark_again(table.question().game(), predecessors, agenda, changed);
+    (pass, changed)
 }
 
 // How many workers a round after the first has: one, and one more for each so many edges of the states that are
-// updated, as these have about as many edges as the others.
-fn busy_workers(question: &Question<'_>, workers: u32, due: u32) -> u32
+// updated. These are about as many as edges lead to a changed state, and have about as many edges as others.
+fn busy_workers(question: &Question<'_>, workers: u32, changed: u32) -> u32
     requires { 1 ≤ workers }
     ensures some { 1 ≤ result }
     ensures few { result ≤ workers }
 {
     question.known();
     let game = question.game();
-    let states = game.states();
-    let edges = game.edges_below(states).saturating_mul(u64::from(due)) / u64::from(states);
-    let worth = edges / EDGES_FOR_A_WORKER + 1;
+    let states = u64::from(game.states());
+    let edges = game.edges_below(game.states());
+    let updated = (edges.saturating_mul(u64::from(changed)) / states).min(states);
+    let worth = edges.saturating_mul(updated) / states / EDGES_FOR_A_WORKER + 1;
     if worth < u64::from(workers) {
         worth as u32
     } else {

@@ -1,6 +1,6 @@
 -- One stretch of states after another.
-use Rattle.std.proofs.Common.{◌≡◌, ℕ, ◌+◌, ◌<◌, ◌≤◌, Bool, true, false, List, arith, refl, sym, ◌∙◌, le_refl, le_trans, inl, inr, subst}
-use Rattle.std.proofs.lemmas.Bool.{cases_eq, cases_lt}
+use Rattle.std.proofs.Common.{◌≡◌, ℕ, ◌+◌, ◌≤◌, Bool, true, false, List, arith, refl, sym, ◌∙◌, le_refl, le_trans, inl, inr, subst}
+use Rattle.std.proofs.lemmas.Bool.{cases_lt}
 use Rattle.std.specs.List.{AllWithin}
 use Rattle.game_model.specs.Query.{Query, IsQuery}
 use Rattle.game_model.specs.Rounded.{down_step}

@@ -1,5 +1,5 @@
 -- How the states of a round are shared out, and what a part of it leaves.
-use Rattle.std.specs.Prelude.{◌≡◌, ℕ, ◌+◌, ◌-◌, ◌*◌, ◌/◌, ◌<◌, ◌≤◌, Bool, List, length}
+use Rattle.std.specs.Prelude.{◌≡◌, ℕ, ◌+◌, ◌*◌, ◌/◌, ◌<◌, ◌≤◌, Bool, List, length}
 use Rattle.game_model.specs.Game.{Distribution, edges_below}
 use Rattle.game_model.specs.Query.{Query}
 use Rattle.game_model.specs.Rounded.{down_step}
@@ -20,11 +20,6 @@ pub record BeginsBlock (game : List (List Distribution)) (workers worker first :
   pub within : first ≤ length game
   pub before : (s : ℕ) → s < first → worker_of game workers s < worker
   pub behind : (s : ℕ) → first ≤ s → s < length game → worker ≤ worker_of game workers s
-
--- the states of the workers from `first` up to and not including `last` stand from `low` up to and not including `high`
-pub record AreBlocks (game : List (List Distribution)) (workers first last low high : ℕ) : Type 0 where
-  pub begins : BeginsBlock game workers first low
-  pub ends : BeginsBlock game workers last high
 
 -- after the states from `low` up to and not including `high`, by so many workers: each marked one is seen with at least the down step of what was seen before, and so many exchanges were won, no more than states; the pass has all its parts again, where it has one for each worker
 pub record IsSwept (q : Query) (marks : List Bool) (workers low high : ℕ) (old new : Token) (raises : ℕ) : Type 0 where

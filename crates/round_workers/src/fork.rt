@@ -5,10 +5,11 @@ ghost use Rattle.game_model.specs.Query.{states};
 ghost use Rattle.game_model.specs.Rounded.{down_step};
 ghost use Rattle.value_words.specs.Passes.{IsOf, Grew, seen_by, won_by, parts_of};
 ghost use Rattle.round_workers.specs.Marks.{IsMarked};
-ghost use Rattle.round_workers.specs.Share.{IsSwept, AreBlocks, most_workers};
+ghost use Rattle.round_workers.specs.Share.{IsSwept, most_workers};
+ghost use Rattle.round_workers.specs.Teams.{IsTeam, AreHalves};
 
-use crate::share::first_state;
 use crate::sweep::{Rounded, meet, sweep};
+use crate::team::Team;
 use game_outside::Gate;
 use predecessors::Predecessors;
 use std::thread::{Threads, join};
@@ -44,25 +45,11 @@ pub fn round<R: Threads + Sync, P: Posing + Send + Sync, G: Gate + Sync>(
     ensures few { result.raises ≤ states P.posed }
     ensures parts { workers ≤ parts_of pass → parts_of result.pass ≡ parts_of pass }
 {
-    let states = table.question().game().states();
-    fork(
-        rt,
-        table,
-        predecessors,
-        pass,
-        marks,
-        more,
-        0,
-        workers,
-        0,
-        states,
-        workers,
-        gate,
-    )
+    let team = Team::all(table.question().game(), workers);
+    fork(rt, table, predecessors, pass, marks, more, team, gate)
 }
 
-/// The part of the workers from `first` up to and not including `last`, whose states stand from `low` up to and not
-/// including `high`. The first of `more` is the mark of `low`.
+/// The part of a team. The first of `more` is the mark of its first state.
 fn fork<R: Threads + Sync, P: Posing + Send + Sync, G: Gate + Sync>(
     rt: &R,
     table: &ValueTable<'_, P>,
@@ -70,97 +57,51 @@ fn fork<R: Threads + Sync, P: Posing + Send + Sync, G: Gate + Sync>(
     mut pass: Pass<P>,
     marks: &[bool],
     more: &mut [bool],
-    first: u32,
-    last: u32,
-    low: u32,
-    high: u32,
-    workers: u32,
+    team: Team,
     gate: &G,
 ) -> Rounded<P>
     requires pass { IsOf table.now pass }
     requires predecessors { length predecessors.now ≡ states P.posed }
     requires marks { length marks.now ≡ states P.posed }
-    requires more { low + length more.old ≡ high }
-    requires range { (first < last) × (last ≤ workers) × (workers ≤ most_workers) }
-    requires blocks { AreBlocks P.posed.game workers first last low high }
-    ensures { IsSwept P.posed marks.now (last - first) low high pass.seat result.pass.seat result.raises }
+    requires more { team.low + length more.old ≡ team.high }
+    requires team { IsTeam P.posed.game team }
+    ensures { IsSwept P.posed marks.now (team.last - team.first) team.low team.high pass.seat result.pass.seat result.raises }
 {
-    if last - first == 1 {
+    if team.last - team.first == 1 {
         return sweep(
             table,
             predecessors,
             pass,
             marks,
             more,
-            first,
-            low,
-            high,
+            team.first,
+            team.low,
+            team.high,
             gate,
         );
     }
-    let middle = first + (last - first) / 2;
-    let cut = cut_at(table, first, middle, last, low, high, workers);
+    let (front, back) = halves(table, team);
     let other = table.split(&mut pass);
-    let (mine, others) = more.split_at_mut((cut - low) as usize);
+    let (mine, others) = more.split_at_mut((front.high - front.low) as usize);
     let (left, right) = join(
         rt,
         move || -> Rounded<P>
-            requires { IsSync R.row × IsSend P.row × IsSync P.row × IsSync G.row × IsOf table.now pass × (length predecessors.now ≡ states P.posed) × (length marks.now ≡ states P.posed) × (low + length mine.now ≡ cut) × (first < middle) × (middle ≤ workers) × (workers ≤ most_workers) × AreBlocks P.posed.game workers first middle low cut }
-            ensures { IsSwept P.posed marks.entry.now (middle - first) low cut pass.seat result.pass.seat result.raises }
-        {
-            fork(
-                rt,
-                table,
-                predecessors,
-                pass,
-                marks,
-                mine,
-                first,
-                middle,
-                low,
-                cut,
-                workers,
-                gate,
-            )
-        },
+            requires { IsSync R.row × IsSend P.row × IsSync P.row × IsSync G.row × IsOf table.now pass × (length predecessors.now ≡ states P.posed) × (length marks.now ≡ states P.posed) × (front.low + length mine.now ≡ front.high) × IsTeam P.posed.game front }
+            ensures { IsSwept P.posed marks.entry.now (front.last - front.first) front.low front.high pass.seat result.pass.seat result.raises }
+        { fork(rt, table, predecessors, pass, marks, mine, front, gate) },
         move || -> Rounded<P>
-            requires { IsSync R.row × IsSend P.row × IsSync P.row × IsSync G.row × IsOf table.now other × (length predecessors.now ≡ states P.posed) × (length marks.now ≡ states P.posed) × (cut + length others.now ≡ high) × (middle < last) × (last ≤ workers) × (workers ≤ most_workers) × AreBlocks P.posed.game workers middle last cut high }
-            ensures { IsSwept P.posed marks.entry.now (last - middle) cut high other.seat result.pass.seat result.raises }
-        {
-            fork(
-                rt,
-                table,
-                predecessors,
-                other,
-                marks,
-                others,
-                middle,
-                last,
-                cut,
-                high,
-                workers,
-                gate,
-            )
-        },
+            requires { IsSync R.row × IsSend P.row × IsSync P.row × IsSync G.row × IsOf table.now other × (length predecessors.now ≡ states P.posed) × (length marks.now ≡ states P.posed) × (back.low + length others.now ≡ back.high) × IsTeam P.posed.game back }
+            ensures { IsSwept P.posed marks.entry.now (back.last - back.first) back.low back.high other.seat result.pass.seat result.raises }
+        { fork(rt, table, predecessors, other, marks, others, back, gate) },
     );
     meet(table, left, right)
 }
 
-/// Where the states of a worker begin, who is one of those from `first` up to `last`.
-fn cut_at<P: Posing>(
-    table: &ValueTable<'_, P>,
-    first: u32,
-    middle: u32,
-    last: u32,
-    low: u32,
-    high: u32,
-    workers: u32,
-) -> u32
-    requires range { (first ≤ middle) × (middle ≤ last) × (workers ≤ most_workers) }
-    requires blocks { AreBlocks P.posed.game workers first last low high }
-    ensures range { (low ≤ result) × (result ≤ high) }
-    ensures left { AreBlocks P.posed.game workers first middle low result }
-    ensures right { AreBlocks P.posed.game workers middle last result high }
+/// The halves of a team of at least two workers.
+fn halves<P: Posing>(table: &ValueTable<'_, P>, team: Team) -> (Team, Team)
+    requires team { IsTeam P.posed.game team }
+    requires some { 2 ≤ team.last - team.first }
+    ensures { AreHalves P.posed.game team result.0 result.1 }
 {
-    first_state(table.question().game(), workers, middle)
+    team.halves(table.question().game())
 }

@@ -13,6 +13,7 @@ pub mod laws;
 mod marks;
 mod share;
 mod sweep;
+mod team;
 
 pub use fork::round;
 pub use marks::next_mark;

@@ -1,4 +1,4 @@
-use Rattle.std.proofs.Common.{◌≡◌, ℕ, ◌<◌, Bool, List, length, arith, inl, inr, subst, sym, ◌∙◌, true, slice_index_or}
+use Rattle.std.proofs.Common.{ℕ, ◌<◌, Bool, List, length, arith, inl, inr, subst, sym, ◌∙◌, true, slice_index_or}
 use Rattle.std.specs.Prelude.{slice_set}
 use Rattle.std.proofs.lemmas.Bool.{cases_eq}
 use Rattle.std.proofs.lemmas.List.{length-set}
@@ -6,12 +6,6 @@ use Rattle.predecessors.specs.Moves.{move}
 use Rattle.round_workers.specs.Marks.{IsMarked}
 use Rattle.bracket_engine.proofs.Marking.{predecessor-inside, all-marked, mark-kept, mark-set}
 use Rattle.bracket_engine.proofs.agenda.mark_predecessors.Goals as goal
-
-pub index-requires : goal.index-requires
-index-requires c =
-    let within = predecessor-inside c.args.game.now c.args.predecessors.now c.of_state-step-items.result.now c.args.state c.loop-step.step-index c.requires.predecessors c.requires.state c.of_state-step-items.ensures c.loop-step-test.true in
-    let many = c.loop-step.invariant.many in
-    omega arith
 
 pub index_mut-requires : goal.index_mut-requires
 index_mut-requires c =

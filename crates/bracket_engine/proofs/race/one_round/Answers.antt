@@ -28,7 +28,7 @@ returns-then-changed-eq0-clause-agenda g c = record {
 }
 
 -- the same before the marks are set
-read-step : (g : Over) (c : goal.After-mark_again-marked g) → (s : ℕ) → s < states g.P.Posing.posed → down_step g.P.Posing.posed (read_of c.args.agenda.now) s ≤ read_of c.read_again-changed.new.agenda s
+read-step : (g : Over) (c : goal.After-mark_again g) → (s : ℕ) → s < states g.P.Posing.posed → down_step g.P.Posing.posed (read_of c.args.agenda.now) s ≤ read_of c.read_again-changed.new.agenda s
 read-step g c =
     let q = g.P.Posing.posed in
     step-everywhere q c.args.agenda.now _ c.read_again-changed.new.agenda (seen_by c.args.pass) (seen_by c.round-pass.result.pass) (seen_by c.read_again-changed.new.pass)
@@ -36,14 +36,14 @@ read-step g c =
 
 pub returns-clause-step : goal.returns-clause-step
 returns-clause-step g c s inside =
-    subst (λ (l : List ℕ). down_step g.P.Posing.posed (read_of c.args.agenda.now) s ≤ slice_index_or l s 0) (sym c.mark_again-marked.ensures.read) (read-step g c s inside)
+    subst (λ (l : List ℕ). down_step g.P.Posing.posed (read_of c.args.agenda.now) s ≤ slice_index_or l s 0) (sym c.mark_again.ensures.read) (read-step g c s inside)
 
 pub returns-clause-agenda : goal.returns-clause-agenda
 returns-clause-agenda g c =
     let q : Query = g.P.Posing.posed in
-    let m = c.mark_again-marked.ensures in
+    let m = c.mark_again.ensures in
     let read = c.read_again-changed.new.agenda in
-    let new = c.mark_again-marked.new.agenda in
+    let new = c.mark_again.new.agenda in
     let game : c.game.result.now ≡ q.game = c.game.ensures ∙ ap (λ (p : Query). p.game) c.question.ensures in
     let marked : AreMarkedFor q.game read.more.items new.marks.items = subst (λ (l : List (List Distribution)). AreMarkedFor l read.more.items new.marks.items) game m.marked in
     record {

@@ -1,13 +1,12 @@
 use Rattle.std.proofs.Common.{◌≤◌, ◌∙◌, arith}
-use Rattle.value_words.specs.Passes.{seen_by}
 use Rattle.value_words.proofs.Grown.{grew-twice}
 use Rattle.bracket_engine.specs.Agenda.{read_of}
 use Rattle.bracket_engine.proofs.Racing.{swept-more}
 use Rattle.bracket_engine.proofs.race.run_rounds.Goals as goal
 use Rattle.bracket_engine.proofs.race.run_rounds.Goals.{then-turn-eq0, else-turn-eq0}
 
-pub returns-in-None-clause-swept : goal.returns-in-None-clause-swept
-returns-in-None-clause-swept g c =
+pub returns-then-values-eq0-clause-swept : goal.returns-then-values-eq0-clause-swept
+returns-then-values-eq0-clause-swept g c =
     swept-more g.P.Posing.posed c.loop-turn.turn (read_of c.loop-turn.agenda) (read_of c.one_round-next.new.agenda) c.args.table.now.posed c.loop-turn.invariant.swept c.one_round-next.ensures.step
 
 pub loop-turn-preserved : goal.loop-turn-preserved

@@ -1,4 +1,4 @@
-use Rattle.std.proofs.Common.{◌≡◌, ◌<◌, ◌≤◌, ◌^◌, ◌+◌, ℕ, List, length, get_or, sym, subst, arith}
+use Rattle.std.proofs.Common.{◌+◌, get_or, sym, subst, arith}
 use Rattle.game_model.specs.declared.game.Edge.{Edge}
 use Rattle.race_examples.proofs.Drafts.{AreEdges, AreEdges-more}
 use Rattle.race_examples.proofs.draft.choice.Goals as goal

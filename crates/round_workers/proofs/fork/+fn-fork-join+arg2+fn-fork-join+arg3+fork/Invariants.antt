@@ -2,10 +2,10 @@ use Rattle.std.proofs.Common.{◌+◌, ◌-◌, ◌*◌}
 use Rattle.round_workers.proofs.fork.+fn-fork-join+arg2+fn-fork-join+arg3+fork.Given as goal
 
 abbrev pub decreases-join+arg2 : goal.decreases-join+arg2
-decreases-join+arg2 g l = 2 * (l.middle - l.first) + 1
+decreases-join+arg2 g l = 2 * (l.front.last - l.front.first) + 1
 
 abbrev pub decreases-join+arg3 : goal.decreases-join+arg3
-decreases-join+arg3 g l = 2 * (l.last - l.middle) + 1
+decreases-join+arg3 g l = 2 * (l.back.last - l.back.first) + 1
 
 abbrev pub decreases-fork : goal.decreases-fork
-decreases-fork g l = 2 * (l.last - l.first)
+decreases-fork g l = 2 * (l.team.last - l.team.first)

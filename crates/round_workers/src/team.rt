@@ -1,0 +1,76 @@
+//! Workers in a row and their states.
+
+ghost use Rattle.std.specs.Prelude.{◌<◌, ◌≤◌};
+ghost use Rattle.round_workers.specs.Share.{most_workers};
+
+use crate::share::first_state;
+use game_model::Game;
+
+/// Workers of a round in a row, of so many in all: from `first` up to and not including `last`. Their states stand from
+/// `low` up to and not including `high`.
+#[derive(Clone, Copy)]
+pub struct Team {
+    pub workers: u32,
+    pub first: u32,
+    pub last: u32,
+    pub low: u32,
+    pub high: u32,
+    ghost some: { first < last },
+    ghost inside: { last ≤ workers },
+    ghost few: { workers ≤ most_workers },
+}
+
+impl Team {
+    ghost use Rattle.std.specs.Prelude.{◌≡◌, ◌-◌, length};
+    ghost use Rattle.round_workers.specs.Teams.{IsTeam, AreHalves};
+
+    /// All workers of a round.
+    pub fn all(game: &Game, workers: u32) -> Team
+        requires { (1 ≤ workers) × (workers ≤ most_workers) }
+        ensures team { IsTeam game.now result }
+        ensures count { result.last - result.first ≡ workers }
+        ensures low { result.low ≡ 0 }
+        ensures high { result.high ≡ length game.now }
+    {
+        game.known();
+        Team {
+            workers,
+            first: 0,
+            last: workers,
+            low: 0,
+            high: game.states(),
+        }
+    }
+
+    /// The first half of the workers, and the others.
+    pub fn halves(self, game: &Game) -> (Team, Team)
+        requires team { IsTeam game.now self }
+        requires some { 2 ≤ self.last - self.first }
+        ensures { AreHalves game.now self result.0 result.1 }
+    {
+        let middle = self.first + (self.last - self.first) / 2;
+        let cut = first_state(game, self.workers, middle);
+        let Team {
+            workers,
+            first,
+            last,
+            low,
+            high,
+        } = self;
+        let front = Team {
+            workers,
+            first,
+            last: middle,
+            low,
+            high: cut,
+        };
+        let back = Team {
+            workers,
+            first: middle,
+            last,
+            low: cut,
+            high,
+        };
+        (front, back)
+    }
+}
