@@ -3,7 +3,8 @@
 //!
 //! [`bracket`] is value iteration from below with the Bellman operator rounded down, by rounds of workers
 //! that race on shared words (Baier and Katoen 2008, chapter 10; asynchronous iteration after Bertsekas
-//! 1982). What it ensures holds for every schedule and number of workers. It ends after the asked rounds or
+//! 1982). A round updates only states that may rise: an [`agenda::Agenda`] marks the predecessors of those that changed
+//! in the round before. What it ensures holds for every schedule and number of workers. It ends after the asked rounds or
 //! where the words are settled. It says nothing of how near the two tables come to each other, nor that two
 //! workers ran at once.
 #![tactic(auto)]
