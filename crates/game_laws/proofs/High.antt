@@ -2,7 +2,7 @@
 use Rattle.std.proofs.Common.{◌≡◌, ℕ, zero, suc, ◌+◌, ◌-◌, ◌*◌, ◌/◌, ◌^◌, ◌<◌, ◌≤◌, Bool, true, false, List, length, arith}
 use Rattle.std.specs.List.{AllByRecursion}
 use Rattle.std.specs.Bool.{if◌then◌else◌}
-use Rattle.std.proofs.Math.Nat.{mul-le-mul_left, mul-le-mul_right, pow-suc, pow-zero, lt-div-mul-add}
+use Rattle.std.proofs.Math.Nat.{mul-le-mul_left, mul-le-mul_right, pow-suc, pow-zero, lt-div-mul-add, div-lt_iff_lt-mul}
 use Rattle.game_model.specs.declared.game.Edge.{Edge}
 use Rattle.game_model.specs.Game.{Distribution, choices_of}
 use Rattle.game_model.specs.Query.{Query, is_goal}
@@ -18,6 +18,12 @@ use Rattle.game_model.proofs.Rises.{bellman-le}
 -- a quotient that is rounded up
 pub ceil-above : (x w : ℕ) → 0 < w → x ≤ (x + (w - 1)) / w * w
 ceil-above x w positive = omega (arith, lt-div-mul-add {a = x + (w - 1)} positive)
+
+-- a quotient that is rounded up is at most m where what is divided is within the divisor's worth of it
+pub ceil-most : (x w m : ℕ) → 0 < w → x ≤ w * m → (x + (w - 1)) / w ≤ m
+ceil-most x w m positive h =
+    let below : (x + (w - 1)) / w < m + 1 = (div-lt_iff_lt-mul positive).1 (omega (arith, h)) in
+    omega arith
 
 scaled-above : (u w r d p m x y : ℕ) → x ≤ u * w → r * w ≡ d → m * y ≤ p * x → m * (r * y) ≤ p * d * u
 scaled-above u w r d p m x y ceil same above =

@@ -1,7 +1,7 @@
 -- Up steps: they keep the order of tables, and stay within the unit.
 use Rattle.std.proofs.Common.{◌≡◌, ℕ, ◌+◌, ◌-◌, ◌*◌, ◌/◌, ◌<◌, ◌≤◌, List, length, arith, subst}
 use Rattle.std.proofs.lemmas.Nat.{le-div}
-use Rattle.std.proofs.Math.Nat.{div-mul-le_self, div-lt_iff_lt-mul}
+use Rattle.std.proofs.Math.Nat.{div-mul-le_self}
 use Rattle.game_model.specs.declared.game.Edge.{Edge}
 use Rattle.game_model.specs.Game.{Distribution, choices_of}
 use Rattle.game_model.specs.Query.{Query, IsQuery, states}
@@ -12,12 +12,7 @@ use Rattle.game_model.proofs.Each.{AllByRecursion-weaker}
 use Rattle.game_model.proofs.Choices.{IsChoiceOf, AreChoicesOf, AreChoicesOf-choices_of}
 use Rattle.game_model.proofs.Best.{weighted_sum-le, weighted_sum-most}
 use Rattle.game_model.proofs.Rises.{bellman-le, bellman-most}
-
--- a quotient that is rounded up is at most m where what is divided is within the divisor's worth of it
-pub ceil-most : (x w m : ℕ) → 0 < w → x ≤ w * m → (x + (w - 1)) / w ≤ m
-ceil-most x w m positive h =
-    let below : (x + (w - 1)) / w < m + 1 = (div-lt_iff_lt-mul positive).1 (omega (arith, h)) in
-    omega arith
+use Rattle.game_laws.proofs.High.{ceil-most}
 
 up_value-le : (game : List (List Distribution)) (v w : ℕ → ℕ) (m : Distribution) → IsChoiceOf game m → ((t : ℕ) → t < length game → v t ≤ w t) → up_value v m ≤ up_value w m
 up_value-le game v w m fits h =
