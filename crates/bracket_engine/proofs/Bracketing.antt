@@ -1,6 +1,6 @@
--- The tables of a run are a bracket, and its choices are ranked with the lower one.
-use Rattle.std.proofs.Common.{◌≡◌, ℕ, ◌+◌, ◌*◌, ◌^◌, ◌<◌, ◌≤◌, Bool, true, false, List, length, arith, refl, sym, ap, ◌∙◌, subst, inl, inr, le_trans, ne_eqb, eq-eqb}
-use Rattle.std.specs.Prelude.{slice_index, slice_index_or, ◌↔◌, ◌==◌, ◌||◌, Option, Some, None, if◌then◌else◌}
+-- The tables of two races are a bracket, and its choices are ranked with the lower one.
+use Rattle.std.proofs.Common.{◌≡◌, ℕ, ◌+◌, ◌-◌, ◌*◌, ◌^◌, ◌<◌, ◌≤◌, Bool, true, false, List, length, arith, refl, sym, ap, ◌∙◌, subst, inl, inr, le_trans, ne_eqb, eq-eqb}
+use Rattle.std.specs.Prelude.{All, slice_index, slice_index_or, ◌↔◌, ◌==◌, ◌||◌, Option, Some, None, if◌then◌else◌}
 use Rattle.std.proofs.lemmas.Bool.{cases_lt}
 use Rattle.std.proofs.lemmas.List.{length-map, get_or-map, get_or_default, same_lists}
 use Rattle.std.proofs.Math.Nat.{mul-le-mul_left, mul-le-mul_right}
@@ -10,22 +10,25 @@ use Rattle.game_model.specs.Game.{choices_of}
 use Rattle.game_model.specs.Query.{Query, IsQuery, states, is_goal, is_dead, side_at}
 use Rattle.game_model.specs.Limits.{unit}
 use Rattle.game_model.specs.Values.{denominator, numerator}
-use Rattle.game_model.specs.Rounded.{down_steps, opening, IsBelow, IsSettled}
+use Rattle.game_model.specs.Rounded.{down_steps, opening, IsBelow, IsSettled, IsInductive}
 use Rattle.game_model.specs.Ranks.{Ranked, HasRankedChoice}
 use Rattle.game_model.specs.Bounds.{IsLow, IsHigh}
-use Rattle.game_model.specs.Dual.{IsZeroSet}
+use Rattle.game_model.specs.Dual.{IsZeroSet, swapped}
 use Rattle.game_model.proofs.Choices.{AreChoicesOf, AreChoicesOf-choices_of}
-use Rattle.game_model.proofs.Rises.{numerator_of-most}
+use Rattle.game_model.proofs.Marked.{marked-goal}
 use Rattle.game_laws.proofs.Steps.{down_steps-settled}
 use Rattle.game_laws.proofs.Low.{down_steps-below, down_steps-near}
+use Rattle.game_laws.proofs.High.{IsHigh-up_step}
+use Rattle.game_laws.proofs.Near.{co-value-near}
 use Rattle.step_core.specs.Word.{value_in, choice_in, value_at, values_of, picks_of}
 use Rattle.step_core.specs.Sound.{IsSound}
 use Rattle.step_core.specs.Events.{on_side}
 use Rattle.step_core.proofs.Words.{values_of-at, values_of-is, IsSound-goals, IsSound-units}
-use Rattle.bracket_engine.specs.Bracket.{IsBracket, IsNear}
+use Rattle.bracket_engine.specs.Bracket.{rests_of, rest_of, IsBracket, IsNear, IsNearAbove, IsCoswept, IsLeastSettled}
 use Rattle.bracket_engine.specs.Choices.{choice_of_word, AreChoices}
 use Rattle.bracket_engine.specs.Race.{IsRaced}
-use Rattle.bracket_engine.specs.Upper.{IsUpperOf}
+use Rattle.bracket_engine.proofs.Racing.{settled-same}
+use Rattle.bracket_engine.proofs.Rests.{IsInductive-rest}
 
 -- a table that is nowhere above an r-fold down step is low
 below-low : (q : Query) (table : ℕ → ℕ) (r : ℕ) → AreChoicesOf q.game (choices_of q.game) → IsBelow q table (down_steps q r) → IsLow q table
@@ -33,16 +36,6 @@ below-low q table r chosen below = record {
   horizon = r;
   below = λ s inside. omega (arith, mul-le-mul_right (denominator q.game ^ r) (below s inside), down_steps-below q chosen r s);
 }
-
-zero-or-one : (marked : Bool) (top u n d : ℕ) → (marked ≡ true → n ≡ 0) → (marked ≡ false → u ≡ top) → n ≤ d → top * n ≤ u * d
-zero-or-one true top u n d none whole most = rw (none refl) (omega arith)
-zero-or-one false top u n d none whole most = rw (whole refl) (mul-le-mul_left top most)
-
--- the table that is 0 on the zero set and 1 elsewhere is high
-upper-high : (q : Query) (marks : List Bool) (table : List ℕ) → AreChoicesOf q.game (choices_of q.game) → IsZeroSet q marks → IsUpperOf q marks table → IsHigh q (slice_index table)
-upper-high q marks table chosen zero_set upper = λ k s inside.
-    zero-or-one (slice_index_or marks s false) unit (slice_index table s) (numerator q k s) (denominator q.game ^ k)
-    (λ marked. zero_set.marked s inside marked k) (λ unmarked. upper.unmarked s inside unmarked) (numerator_of-most q (choices_of q.game) chosen k s)
 
 near-from : (v w r p x : ℕ) → x ≤ p * (v + r) → v ≤ w → x ≤ (w + r) * p
 near-from v w r p x near below = omega (arith, near, mul-le-mul_left p below)
@@ -56,41 +49,160 @@ opening-if : (goal : Bool) (x : ℕ) → (goal ≡ true → x ≡ unit) → (if 
 opening-if true x h = let at = h refl in omega arith
 opening-if false x h = omega arith
 
-pub IsBracket-raced : (q : Query) (zero_set : List Bool) (asked : ℕ) (words lower upper : List ℕ) (rounds : ℕ) (stable : Bool) → IsQuery q → IsZeroSet q zero_set → IsRaced q asked words rounds → lower ≡ values_of words
-    → IsUpperOf q zero_set upper → (stable ≡ true) ↔ IsSettled q (slice_index lower) → IsBracket q zero_set asked lower upper rounds stable
-IsBracket-raced q zero_set asked words lower upper rounds stable posed is_zero_set raced is is_upper settled =
-    let chosen : AreChoicesOf q.game (choices_of q.game) = AreChoicesOf-choices_of q.game posed.game in
-    let sound = raced.sound in
-    let table : slice_index lower ≡ value_at words = ap slice_index is ∙ values_of-is words in
-    let opened : IsBelow q (opening q) (slice_index lower) = subst (IsBelow q (opening q)) (sym table) (λ s inside. opening-if (is_goal q s) (value_at words s) (λ goal. IsSound-goals q words sound s inside goal)) in
-    let top : IsBelow q (slice_index lower) (down_steps q sound.rounds) = subst (λ (t : ℕ → ℕ). IsBelow q t (down_steps q sound.rounds)) (sym table) sound.below in
-    let swept : IsBelow q (down_steps q rounds) (slice_index lower) = subst (IsBelow q (down_steps q rounds)) (sym table) raced.swept in
-    let early : rounds < asked → IsSettled q (slice_index lower) = λ less. subst (IsSettled q) (sym table) (raced.early less) in
-    let swept_asked : IsBelow q (down_steps q asked) (slice_index lower) = elim (cases_lt rounds asked) [
-      | inl less ↦ down_steps-settled q (slice_index lower) chosen opened (early less) asked
-      | inr past ↦ subst (λ (n : ℕ). IsBelow q (down_steps q n) (slice_index lower)) (let few = raced.few in let same : rounds ≡ asked = omega arith in same) swept
-    ] in
-    let many : length lower ≡ states q = ap length is ∙ length-map words value_in ∙ sound.as_many in
-    record {
-      lower_length = many;
-      lower_units = λ s d inside. omega (arith, get_or_default lower s d 0 inside, ap (λ t. t s) table, IsSound-units q words sound s (subst (λ n. s < n) many inside));
-      low = below-low q (slice_index lower) sound.rounds chosen top;
-      high = upper-high q zero_set upper chosen is_zero_set is_upper;
-      exact = is_upper;
-      few = raced.few;
-      within = subst (λ (t : ℕ → ℕ). IsBelow q t (down_steps q (rounds * states q))) (sym table) raced.within;
-      swept = swept;
-      swept_asked = swept_asked;
-      near = near-down_steps q (slice_index lower) rounds chosen swept;
-      near_asked = near-down_steps q (slice_index lower) asked chosen swept_asked;
-      settled = settled;
-      early = λ less. settled.1 (early less);
-      least = λ is_stable. record {
+-- what a race leaves, as a table
+record IsRun (q : Query) (asked : ℕ) (table : ℕ → ℕ) (rounds : ℕ) : Type 0 where
+  opens : IsBelow q (opening q) table
+  horizon : ℕ
+  top : IsBelow q table (down_steps q horizon)
+  within : IsBelow q table (down_steps q (rounds * states q))
+  swept : IsBelow q (down_steps q rounds) table
+  swept_asked : IsBelow q (down_steps q asked) table
+  early : rounds < asked → IsSettled q table
+
+module _ (q : Query) (asked : ℕ) (words values : List ℕ) (rounds : ℕ) (posed : IsQuery q) (raced : IsRaced q asked words rounds) (is : values ≡ values_of words) where
+  table-is : slice_index values ≡ value_at words
+  table-is = ap slice_index is ∙ values_of-is words
+
+  pub length-raced : length values ≡ states q
+  length-raced = ap length is ∙ length-map words value_in ∙ raced.sound.as_many
+
+  pub units-raced : (s : ℕ) → s < states q → slice_index values s ≤ unit
+  units-raced s inside = omega (arith, ap (λ t. t s) table-is, IsSound-units q words raced.sound s inside)
+
+  IsRun-raced : IsRun q asked (slice_index values) rounds
+  IsRun-raced =
+      let table = slice_index values in
+      let chosen : AreChoicesOf q.game (choices_of q.game) = AreChoicesOf-choices_of q.game posed.game in
+      let opened : IsBelow q (opening q) table = subst (IsBelow q (opening q)) (sym table-is) (λ s inside. opening-if (is_goal q s) (value_at words s) (λ goal. IsSound-goals q words raced.sound s inside goal)) in
+      let early : rounds < asked → IsSettled q table = λ less. subst (IsSettled q) (sym table-is) (raced.early less) in
+      let swept : IsBelow q (down_steps q rounds) table = subst (IsBelow q (down_steps q rounds)) (sym table-is) raced.swept in
+      record {
         opens = opened;
-        settled = settled.0 is_stable;
-        least = λ other over is_settled s inside. le_trans (top s inside) (down_steps-settled q other chosen over is_settled sound.rounds s inside);
-      };
-    }
+        horizon = raced.sound.rounds;
+        top = subst (λ (t : ℕ → ℕ). IsBelow q t (down_steps q raced.sound.rounds)) (sym table-is) raced.sound.below;
+        within = subst (λ (t : ℕ → ℕ). IsBelow q t (down_steps q (rounds * states q))) (sym table-is) raced.within;
+        swept = swept;
+        swept_asked = elim (cases_lt rounds asked) [
+          | inl less ↦ down_steps-settled q table chosen opened (early less) asked
+          | inr past ↦ subst (λ (n : ℕ). IsBelow q (down_steps q n) table) (let few = raced.few in let same : rounds ≡ asked = omega arith in same) swept
+        ];
+        early = early;
+      }
+
+-- where the table of a race is settled it is the least settled one
+IsLeastSettled-run : (q : Query) (asked : ℕ) (table : ℕ → ℕ) (rounds : ℕ) → IsQuery q → IsRun q asked table rounds → IsSettled q table → IsLeastSettled q table
+IsLeastSettled-run q asked table rounds posed run settled = record {
+  opens = run.opens;
+  settled = settled;
+  least = λ other over is_settled s inside. le_trans (run.top s inside) (down_steps-settled q other (AreChoicesOf-choices_of q.game posed.game) over is_settled run.horizon s inside);
+}
+
+IsLeastSettled-same : (q : Query) (table other : ℕ → ℕ) → IsQuery q → ((s : ℕ) → s < states q → table s ≡ other s) → IsLeastSettled q table → IsLeastSettled q other
+IsLeastSettled-same q table other posed same least = record {
+  opens = λ s inside. omega (arith, same s inside, least.opens s inside);
+  settled = settled-same q table other posed same least.settled;
+  least = λ more over is_settled s inside. omega (arith, same s inside, least.least more over is_settled s inside);
+}
+
+-- the upper table and the co-values make the unit
+rest-at : (values upper : List ℕ) (s : ℕ) → upper ≡ rests_of values → s < length values → slice_index upper s ≡ unit - slice_index values s
+rest-at values upper s is inside = ap (λ (l : List ℕ). slice_index l s) is ∙ get_or-map (λ (v : ℕ). unit - v) values s 0 0 inside
+
+-- the tables of the two races
+pub record AreTables (q : Query) (zero_set : List Bool) (asked : ℕ) (words cowords lower covalues upper : List ℕ) (rounds : ℕ) : Type 0 where
+  pub posed : IsQuery q
+  pub coposed : IsQuery (swapped q zero_set)
+  pub is_zero_set : IsZeroSet q zero_set
+  pub raced : IsRaced q asked words rounds
+  pub coraced : IsRaced (swapped q zero_set) asked cowords rounds
+  pub lower_is : lower ≡ values_of words
+  pub covalues_are : covalues ≡ values_of cowords
+  pub upper_is : upper ≡ rests_of covalues
+
+pub AreTables-of : (q other : Query) (zero_set : List Bool) (asked : ℕ) (words cowords lower covalues upper : List ℕ) (rounds : ℕ) → IsQuery q → IsQuery other → IsZeroSet q zero_set → other ≡ swapped q zero_set
+    → IsRaced q asked words rounds → IsRaced other asked cowords rounds → lower ≡ values_of words → covalues ≡ values_of cowords → upper ≡ rests_of covalues → AreTables q zero_set asked words cowords lower covalues upper rounds
+AreTables-of q other zero_set asked words cowords lower covalues upper rounds posed coposed is_zero_set same raced coraced lower_is covalues_are upper_is = record {
+  posed = posed;
+  coposed = subst IsQuery same coposed;
+  is_zero_set = is_zero_set;
+  raced = raced;
+  coraced = subst (λ (p : Query). IsRaced p asked cowords rounds) same coraced;
+  lower_is = lower_is;
+  covalues_are = covalues_are;
+  upper_is = upper_is;
+}
+
+module _ (q : Query) (zero_set : List Bool) (asked : ℕ) (words cowords lower covalues upper : List ℕ) (rounds : ℕ) (h : AreTables q zero_set asked words cowords lower covalues upper rounds) where
+  covalue-unit : (s : ℕ) → s < states q → slice_index covalues s ≤ unit
+  covalue-unit s inside = units-raced (swapped q zero_set) asked cowords covalues rounds h.coposed h.coraced h.covalues_are s inside
+
+  covalues-many : length covalues ≡ states q
+  covalues-many = length-raced (swapped q zero_set) asked cowords covalues rounds h.coposed h.coraced h.covalues_are
+
+  upper-whole : (s : ℕ) → s < states q → slice_index upper s + slice_index covalues s ≡ unit
+  upper-whole s inside = omega (arith, rest-at covalues upper s h.upper_is (subst (λ n. s < n) (sym covalues-many) inside), covalue-unit s inside)
+
+  pub upper-many : length upper ≡ states q
+  upper-many = ap length h.upper_is ∙ length-map covalues (λ (v : ℕ). unit - v) ∙ covalues-many
+
+  pub upper-units : All (λ v. v ≤ unit) upper
+  upper-units = λ s d inside. omega (arith, get_or_default upper s d 0 inside, upper-whole s (subst (λ n. s < n) upper-many inside))
+
+  pub upper-inductive : IsInductive q (slice_index upper)
+  upper-inductive = IsInductive-rest q zero_set covalues (picks_of cowords) h.coraced.sound.ranks (slice_index upper) h.posed h.is_zero_set
+      (subst (λ (l : List ℕ). Ranked (swapped q zero_set) l (picks_of cowords) h.coraced.sound.ranks) (sym h.covalues_are) h.coraced.sound.ranked) upper-whole
+
+  -- where the co-values are nowhere below the down steps of the swapped question
+  coswept-from : (r : ℕ) → IsBelow (swapped q zero_set) (down_steps (swapped q zero_set) r) (slice_index covalues) → IsCoswept q zero_set r (slice_index upper)
+  coswept-from r swept = λ s inside. omega (arith, swept s inside, upper-whole s inside)
+
+  near-from-coswept : (r : ℕ) → IsCoswept q zero_set r (slice_index upper) → IsNearAbove q zero_set r (slice_index upper)
+  near-from-coswept r coswept = λ s inside.
+      co-value-near q zero_set (AreChoicesOf-choices_of q.game h.posed.game) h.posed.sides (marked-goal q zero_set h.is_zero_set) r s (slice_index upper s) inside (omega (arith, coswept s inside))
+
+  covalue-rest : (s : ℕ) → s < states q → slice_index covalues s ≡ rest_of (slice_index upper) s
+  covalue-rest s inside = omega (arith, upper-whole s inside)
+
+  -- both are settled
+  settled-rest : (stable : Bool) → (stable ≡ true) ↔ (IsSettled q (slice_index lower) × IsSettled (swapped q zero_set) (slice_index covalues))
+      → (stable ≡ true) ↔ (IsSettled q (slice_index lower) × IsSettled (swapped q zero_set) (rest_of (slice_index upper)))
+  settled-rest stable settled = (
+    λ is. ((settled.0 is).0, settled-same (swapped q zero_set) (slice_index covalues) (rest_of (slice_index upper)) h.coposed covalue-rest (settled.0 is).1),
+    λ both. settled.1 (both.0, settled-same (swapped q zero_set) (rest_of (slice_index upper)) (slice_index covalues) h.coposed (λ s inside. sym (covalue-rest s inside)) both.1),
+  )
+
+  pub IsBracket-raced : (stable : Bool) → (stable ≡ true) ↔ (IsSettled q (slice_index lower) × IsSettled (swapped q zero_set) (slice_index covalues)) → IsBracket q zero_set asked lower upper rounds stable
+  IsBracket-raced stable settled =
+      let chosen : AreChoicesOf q.game (choices_of q.game) = AreChoicesOf-choices_of q.game h.posed.game in
+      let run : IsRun q asked (slice_index lower) rounds = IsRun-raced q asked words lower rounds h.posed h.raced h.lower_is in
+      let corun : IsRun (swapped q zero_set) asked (slice_index covalues) rounds = IsRun-raced (swapped q zero_set) asked cowords covalues rounds h.coposed h.coraced h.covalues_are in
+      let many : length lower ≡ states q = length-raced q asked words lower rounds h.posed h.raced h.lower_is in
+      let coswept : IsCoswept q zero_set rounds (slice_index upper) = coswept-from rounds corun.swept in
+      let coswept_asked : IsCoswept q zero_set asked (slice_index upper) = coswept-from asked corun.swept_asked in
+      record {
+        lower_length = many;
+        lower_units = λ s d inside. omega (arith, get_or_default lower s d 0 inside, units-raced q asked words lower rounds h.posed h.raced h.lower_is s (subst (λ n. s < n) many inside));
+        upper_length = upper-many;
+        upper_units = upper-units;
+        low = below-low q (slice_index lower) run.horizon chosen run.top;
+        high = IsHigh-up_step q (slice_index upper) chosen upper-inductive;
+        upper_inductive = upper-inductive;
+        few = h.raced.few;
+        within = run.within;
+        swept = run.swept;
+        swept_asked = run.swept_asked;
+        near = near-down_steps q (slice_index lower) rounds chosen run.swept;
+        near_asked = near-down_steps q (slice_index lower) asked chosen run.swept_asked;
+        coswept = coswept;
+        coswept_asked = coswept_asked;
+        upper_near = near-from-coswept rounds coswept;
+        upper_near_asked = near-from-coswept asked coswept_asked;
+        settled = settled-rest stable settled;
+        early = λ less. settled.1 (run.early less, corun.early less);
+        least = λ is. IsLeastSettled-run q asked (slice_index lower) rounds h.posed run (settled.0 is).0;
+        coleast = λ is. IsLeastSettled-same (swapped q zero_set) (slice_index covalues) (rest_of (slice_index upper)) h.coposed covalue-rest
+            (IsLeastSettled-run (swapped q zero_set) asked (slice_index covalues) rounds h.coposed corun (settled.0 is).1);
+      }
 
 -- two lower tables that are settled are both the least
 pub settled-agree : (q : Query) (zero other_zero : List Bool) (asked other_asked : ℕ) (lower upper other other_upper : List ℕ) (rounds other_rounds : ℕ)
@@ -106,6 +218,25 @@ settled-agree q zero other_zero asked other_asked lower upper other other_upper 
       get_or_default other s d 0 (subst (λ n. s < n) (sym two.lower_length) within),
       first.least (slice_index other) second.opens second.settled s within,
       second.least (slice_index lower) first.opens first.settled s within,
+    ))
+
+-- and two upper ones
+pub settled-upper-agree : (q : Query) (zero : List Bool) (asked other_asked : ℕ) (lower upper other_lower other : List ℕ) (rounds other_rounds : ℕ)
+    → IsBracket q zero asked lower upper rounds true → IsBracket q zero other_asked other_lower other other_rounds true → upper ≡ other
+settled-upper-agree q zero asked other_asked lower upper other_lower other rounds other_rounds one two =
+    let first = one.coleast refl in
+    let second = two.coleast refl in
+    same_lists upper other (one.upper_length ∙ sym two.upper_length) (λ s d inside.
+    let within : s < states q = subst (λ n. s < n) one.upper_length inside in
+    let there : s < length other = subst (λ n. s < n) (sym two.upper_length) within in
+    omega (
+      arith,
+      get_or_default upper s d 0 inside,
+      get_or_default other s d 0 there,
+      one.upper_units s 0 inside,
+      two.upper_units s 0 there,
+      first.least (rest_of (slice_index other)) second.opens second.settled s within,
+      second.least (rest_of (slice_index upper)) first.opens first.settled s within,
     ))
 
 -- the choices of the words, where a plan needs them

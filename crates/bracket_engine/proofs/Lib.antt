@@ -3,3 +3,4 @@ pub mod Marking
 pub mod Quiet
 pub mod Racing
 pub mod Reading
+pub mod Rests

@@ -3,4 +3,4 @@ pub mod Agenda
 pub mod Bracket
 pub mod Choices
 pub mod Race
-pub mod Upper
+pub mod Replies

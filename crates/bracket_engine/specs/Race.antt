@@ -1,9 +1,23 @@
--- What a race leaves.
-use Rattle.std.specs.Prelude.{ℕ, ◌*◌, ◌<◌, ◌≤◌, List}
+-- A race under way, and what it leaves.
+use Rattle.std.specs.Prelude.{◌≡◌, ℕ, ◌*◌, ◌<◌, ◌≤◌, List}
 use Rattle.game_model.specs.Query.{Query, states}
 use Rattle.game_model.specs.Rounded.{down_steps, IsBelow, IsSettled}
 use Rattle.step_core.specs.Word.{value_at}
 use Rattle.step_core.specs.Sound.{IsSound}
+use Rattle.value_words.specs.declared.pass.Pass.{Pass}
+use Rattle.value_words.specs.Passes.{Token}
+use Rattle.value_words.specs.Rule.{all_parts}
+use Rattle.bracket_engine.specs.declared.agenda.Agenda.{Agenda}
+use Rattle.bracket_engine.specs.Agenda.{read_of}
+
+-- after this many rounds: the pass is the only one and has won at most one exchange a state and round, and what was read is nowhere below the down steps of the rounds
+pub record IsRacingSeat (q : Query) (rounds : ℕ) (seat : Token) (agenda : Agenda) : Type 0 where
+  pub whole : seat.me.0.parts ≡ all_parts
+  pub won : seat.me.0.won ≤ rounds * states q
+  pub swept : IsBelow q (down_steps q rounds) (read_of agenda)
+
+abbrev pub IsRacing : {P : Type 0} {h : _} → Query → ℕ → Pass P h → Agenda → Type 0
+IsRacing q rounds pass agenda = IsRacingSeat q rounds pass.seat agenda
 
 -- the closed words after this many completed rounds of those that were asked for, whatever the schedule
 pub record IsRaced (q : Query) (asked : ℕ) (words : List ℕ) (rounds : ℕ) : Type 0 where

@@ -1,8 +1,9 @@
 //! What a run gives.
 
 /// A lower and an upper bound in units for each state, choices of the maximiser that are ranked with the lower
-/// bounds, the number of completed rounds, and whether the lower table is settled: no state's down value is
-/// above its entry.
+/// bounds, replies of the minimiser that hold the maximiser to the upper bounds, the number of completed
+/// rounds, and whether the tables are settled: no state's down value is above its entry in the lower table, nor
+/// in the table of co-values, which are the unit less the upper bounds.
 #[derive(Drop)]
 pub struct Bracket {
     /// At most some k-step value, for each state.
@@ -12,8 +13,10 @@ pub struct Bracket {
     /// The maximiser's choice, for each of its states that is neither goal nor dead and has a positive
     /// lower bound.
     pub choices: Vec<Option<u32>>,
-    /// How many rounds were completed.
+    /// The minimiser's choice, for each of its states that is neither goal nor dead.
+    pub replies: Vec<Option<u32>>,
+    /// How many rounds were completed on both tables.
     pub rounds: u32,
-    /// Whether the lower table is settled.
+    /// Whether both tables are settled.
     pub stable: bool,
 }

@@ -18,3 +18,10 @@ pub fn settled_lower_bounds_agree()
     ensures { (q : Query) (zero other_zero : List Bool) (asked other_asked : ℕ) (lower upper other other_upper : List ℕ) (rounds other_rounds : ℕ)
         → IsBracket q zero asked lower upper rounds true → IsBracket q other_zero other_asked other other_upper other_rounds true → lower ≡ other }
 {}
+
+/// Two runs of one question that settle have the same upper bounds, whatever their schedules, their numbers of workers
+/// and the rounds that were asked for.
+pub fn settled_upper_bounds_agree()
+    ensures { (q : Query) (zero : List Bool) (asked other_asked : ℕ) (lower upper other_lower other : List ℕ) (rounds other_rounds : ℕ)
+        → IsBracket q zero asked lower upper rounds true → IsBracket q zero other_asked other_lower other other_rounds true → upper ≡ other }
+{}

@@ -14,6 +14,7 @@ mod bounds;
 pub mod laws;
 mod race;
 mod run;
+mod runner;
 mod tables;
 
 pub use bounds::Bracket;

@@ -7,15 +7,17 @@ ghost use Rattle.round_workers.specs.Share.{most_workers};
 ghost use Rattle.bracket_engine.specs.Limits.{most_rounds};
 ghost use Rattle.bracket_engine.specs.Bracket.{IsBracket};
 ghost use Rattle.bracket_engine.specs.Choices.{AreChoices};
+ghost use Rattle.bracket_engine.specs.Replies.{AreRepliesTo};
 ghost use Rattle.bracket_engine.specs.Race.{IsRaced};
 ghost use Rattle.step_core.specs.Word.{values_of};
 
 use crate::bounds::Bracket;
 use crate::race::{Raced, race};
-use crate::tables::{choices_of_words, upper_table, values_of_words};
+use crate::tables::{choices_of_words, rests, values_of_words};
 use fixed_bellman::settled;
 use game_model::{Marks, Question};
 use game_outside::{Gate, OutOfMemory};
+use inductive_check::{replies, swap};
 use std::alloc::Global;
 use std::marker::Brand;
 use std::thread::Threads;
@@ -24,7 +26,8 @@ use std::thread::Threads;
 pub const MOST_ROUNDS: u32 = 1_000_000;
 
 /// The bracket after at most this many rounds, each of at most so many workers, who pass the gate before each
-/// state. The marks are the question's zero set. The only error is want of memory.
+/// state. A round is one on the lower table and then one on the co-values, which are lower bounds of the
+/// swapped question. The marks are the question's zero set. The only error is want of memory.
 pub fn bracket<R: Threads + Sync, G: Gate + Sync>(
     rt: &R,
     alloc: Global,
@@ -40,27 +43,42 @@ pub fn bracket<R: Threads + Sync, G: Gate + Sync>(
     requires few { workers ≤ most_workers }
     ensures bounds { IfOk result (λ b. IsBracket question.now zero.now rounds b.lower.items b.upper.items b.rounds b.stable) }
     ensures choices { IfOk result (λ b. AreChoices question.now b.lower.items b.choices.items) }
+    ensures replies { IfOk result (λ b. AreRepliesTo question.now b.upper.items b.replies.items) }
 {
     question.known();
-    let raced = race::<R, Brand, G>(rt, alloc, question, rounds, workers, gate)?;
-    let upper = upper_table(alloc, question, zero)?;
+    let other = swap(alloc, question, zero)?;
+    other.known();
+    let raced = race::<R, Brand, Brand, G>(rt, alloc, question, &other, rounds, workers, gate)?;
     let lower = values_of_words(alloc, raced.words.as_slice())?;
+    let covalues = values_of_words(alloc, raced.cowords.as_slice())?;
+    let upper = rests(alloc, &covalues)?;
     let choices = choices_of_words(alloc, question, raced.words.as_slice())?;
-    let stable = is_stable(question, lower.as_slice(), &raced, rounds);
+    let replies = replies(alloc, question, &upper)?;
+    let stable = is_stable(question, &other, &lower, &covalues, &raced, rounds);
     Ok(Bracket {
         lower,
         upper,
         choices,
+        replies,
         rounds: raced.rounds,
         stable,
     })
 }
 
-// Whether the lower table is settled. It is where the race ended before all asked rounds were made.
-fn is_stable(question: &Question, lower: &[u64], raced: &Raced, asked: u32) -> bool
+// Whether both tables are settled. They are where the race ended before all asked rounds were made.
+fn is_stable(
+    question: &Question,
+    other: &Question,
+    lower: &[u64],
+    covalues: &[u64],
+    raced: &Raced,
+    asked: u32,
+) -> bool
     requires raced { IsRaced question.now asked raced.now.words raced.now.rounds }
+    requires coraced { IsRaced other.now asked raced.now.cowords raced.now.rounds }
     requires values { lower.now ≡ values_of raced.now.words }
-    ensures { (result ≡ true) ↔ IsSettled question.now (slice_index lower.now) }
+    requires covalues { covalues.now ≡ values_of raced.now.cowords }
+    ensures { (result ≡ true) ↔ (IsSettled question.now (slice_index lower.now) × IsSettled other.now (slice_index covalues.now)) }
 {
-    raced.rounds < asked || settled(question, lower)
+    raced.rounds < asked || (settled(question, lower) && settled(other, covalues))
 }

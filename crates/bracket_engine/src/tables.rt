@@ -2,33 +2,27 @@
 
 ghost use Rattle.std.specs.Prelude.{◌≡◌, ℕ, ◌<◌, length, slice_index, slice_index_or, IfOk, None};
 ghost use Rattle.game_model.specs.Query.{states};
-ghost use Rattle.game_model.specs.Dual.{IsZeroSet};
 ghost use Rattle.step_core.specs.Word.{values_of};
+ghost use Rattle.bracket_engine.specs.Bracket.{rests_of};
 ghost use Rattle.bracket_engine.specs.Choices.{choice_of_word};
-ghost use Rattle.bracket_engine.specs.Upper.{IsUpperOf};
 
-use game_model::{Marks, Question, Side, UNIT};
+use game_model::{Question, Side, UNIT};
 use game_outside::OutOfMemory;
 use std::alloc::Global;
 use step_core::{choice_of, value_of};
 
-/// The upper table: 0 on the zero set and 1 elsewhere.
-pub fn upper_table(
-    alloc: Global,
-    question: &Question,
-    zero: &Marks,
-) -> Result<Vec<u64>, OutOfMemory>
-    requires { IsZeroSet question.now zero.now }
-    ensures { IfOk result (λ table. IsUpperOf question.now zero.now table.items) }
+/// The unit less each value.
+pub fn rests(alloc: Global, values: &[u64]) -> Result<Vec<u64>, OutOfMemory>
+    ensures { IfOk result (λ rests. rests.items ≡ rests_of values.now) }
 {
-    question.known();
-    let mut table = Vec::new(alloc);
-    for state in 0..question.game().states() {
-        let Ok(()) = table.push(if zero.has(state) { 0 } else { UNIT }) else {
-            return Err(OutOfMemory {});
-        };
+    match values
+        .iter()
+        .map(|value| UNIT.saturating_sub(*value))
+        .collect(alloc)
+    {
+        Ok(rests) => Ok(rests),
+        Err(_) => Err(OutOfMemory {}),
     }
-    Ok(table)
 }
 
 /// The values of words.

@@ -15,11 +15,15 @@ use Rattle.fixed_bellman.specs.Given.{IsFree}
 use Rattle.fixed_bellman.proofs.Tables.{weighted_sum-rises}
 use Rattle.inductive_check.specs.Held.{IsHeld}
 
+-- a quotient that is rounded up is at most m where what is divided is within the divisor's worth of it
+pub ceil-most : (x w m : ℕ) → 0 < w → x ≤ w * m → (x + (w - 1)) / w ≤ m
+ceil-most x w m positive h =
+    let below : (x + (w - 1)) / w < m + 1 = (div-lt_iff_lt-mul positive).1 (omega (arith, h)) in
+    omega arith
+
 -- a choice is held to a number exactly where its up value is at most it
 pub up_value-held : (table : ℕ → ℕ) (u : ℕ) (m : Distribution) → 0 < m.total → IsHeld table u m → up_value table m ≤ u
-up_value-held table u m positive held =
-    let below : (weighted_sum table m.edges + (m.total - 1)) / m.total < u + 1 = (div-lt_iff_lt-mul positive).1 (omega (arith, held)) in
-    omega arith
+up_value-held table u m positive held = ceil-most (weighted_sum table m.edges) m.total u positive (omega (arith, held))
 
 pub held-up_value : (table : ℕ → ℕ) (u : ℕ) (m : Distribution) → 0 < m.total → up_value table m ≤ u → IsHeld table u m
 held-up_value table u m positive most = omega (arith, ceil-above (weighted_sum table m.edges) m.total positive, mul-le-mul_right m.total most)
@@ -40,7 +44,7 @@ up_value-le game v w m fits h =
     up_value-held v (up_value w m) m fits.positive (omega (arith, held, weighted_sum-rises game v w m fits h))
 
 -- a greater table has a greater up step
-up_step-le : (q : Query) (v w : ℕ → ℕ) → AreChoicesOf q.game (choices_of q.game) → IsBelow q v w → (s : ℕ) → up_step q v s ≤ up_step q w s
+pub up_step-le : (q : Query) (v w : ℕ → ℕ) → AreChoicesOf q.game (choices_of q.game) → IsBelow q v w → (s : ℕ) → up_step q v s ≤ up_step q w s
 up_step-le q v w chosen h s =
     let step : 1 * up_step q v s ≤ 1 * up_step q w s = bellman-le q (choices_of q.game) 1 1 unit unit (up_value v) (up_value w) s (omega arith)
     (AllByRecursion-weaker (IsChoiceOf q.game) _ (λ m fits. omega (arith, up_value-le q.game v w m fits h)) (choices_of q.game s) (chosen.each s)) in

@@ -9,7 +9,7 @@ use Rattle.game_model.specs.Rounded.{up_step, IsInductive}
 use Rattle.game_model.specs.Dual.{IsZeroSet}
 use Rattle.upper_guess.specs.Guess.{excess, last_place, first_guess, guess_table, AreRefused}
 use Rattle.upper_guess.proofs.Steps.{up_step-units}
-use Rattle.upper_guess.proofs.Zero.{up_step-zero}
+use Rattle.inductive_check.proofs.Zero.{up_step-zero}
 
 pub guess-units : (mark goal : Bool) (x : ℕ) → (if mark then 0 else (if goal then unit else min unit x)) ≤ unit
 guess-units true goal x = let at : 0 ≤ unit = omega arith in at

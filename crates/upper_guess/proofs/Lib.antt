@@ -1,5 +1,4 @@
 pub mod Steps
-pub mod Zero
 pub mod Lists
 pub mod Accepting
 pub mod Entries

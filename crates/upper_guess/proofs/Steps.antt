@@ -1,7 +1,5 @@
 -- Up steps: they keep the order of tables, and stay within the unit.
-use Rattle.std.proofs.Common.{◌≡◌, ℕ, ◌+◌, ◌-◌, ◌*◌, ◌/◌, ◌<◌, ◌≤◌, List, length, arith, subst}
-use Rattle.std.proofs.lemmas.Nat.{le-div}
-use Rattle.std.proofs.Math.Nat.{div-mul-le_self, div-lt_iff_lt-mul}
+use Rattle.std.proofs.Common.{◌≡◌, ℕ, ◌-◌, ◌*◌, ◌<◌, ◌≤◌, List, length, arith, subst}
 use Rattle.game_model.specs.declared.game.Edge.{Edge}
 use Rattle.game_model.specs.Game.{Distribution, choices_of}
 use Rattle.game_model.specs.Query.{Query, IsQuery, states}
@@ -10,32 +8,15 @@ use Rattle.game_model.specs.Limits.{unit}
 use Rattle.game_model.specs.Rounded.{up_value, up_step}
 use Rattle.game_model.proofs.Each.{AllByRecursion-weaker}
 use Rattle.game_model.proofs.Choices.{IsChoiceOf, AreChoicesOf, AreChoicesOf-choices_of}
-use Rattle.game_model.proofs.Best.{weighted_sum-le, weighted_sum-most}
-use Rattle.game_model.proofs.Rises.{bellman-le, bellman-most}
-
--- a quotient that is rounded up is at most m where what is divided is within the divisor's worth of it
-pub ceil-most : (x w m : ℕ) → 0 < w → x ≤ w * m → (x + (w - 1)) / w ≤ m
-ceil-most x w m positive h =
-    let below : (x + (w - 1)) / w < m + 1 = (div-lt_iff_lt-mul positive).1 (omega (arith, h)) in
-    omega arith
-
-up_value-le : (game : List (List Distribution)) (v w : ℕ → ℕ) (m : Distribution) → IsChoiceOf game m → ((t : ℕ) → t < length game → v t ≤ w t) → up_value v m ≤ up_value w m
-up_value-le game v w m fits h =
-    let sums : 1 * weighted_sum v m.edges ≤ 1 * weighted_sum w m.edges = weighted_sum-le v w 1 1 m.edges (AllByRecursion-weaker (λ (e : Edge). e.to < length game) _ (λ e inside. omega (arith, h e.to inside)) m.edges fits.inside) in
-    le-div (up_value v m) (weighted_sum w m.edges + (m.total - 1)) m.total fits.positive (omega (arith, div-mul-le_self (weighted_sum v m.edges + (m.total - 1)) m.total, sums))
-
--- a greater table has a greater up step
-up_step-le : (q : Query) (v w : ℕ → ℕ) → IsQuery q → ((t : ℕ) → t < states q → v t ≤ w t) → (s : ℕ) → up_step q v s ≤ up_step q w s
-up_step-le q v w posed h s =
-    let chosen : AreChoicesOf q.game (choices_of q.game) = AreChoicesOf-choices_of q.game posed.game in
-    let step : 1 * up_step q v s ≤ 1 * up_step q w s = bellman-le q (choices_of q.game) 1 1 unit unit (up_value v) (up_value w) s (omega arith)
-    (AllByRecursion-weaker (IsChoiceOf q.game) _ (λ m fits. omega (arith, up_value-le q.game v w m fits h)) (choices_of q.game s) (chosen.each s)) in
-    omega (arith, step)
+use Rattle.game_model.proofs.Best.{weighted_sum-most}
+use Rattle.game_model.proofs.Rises.{bellman-most}
+use Rattle.inductive_check.proofs.UpSteps.{ceil-most, up_step-le}
 
 -- tables that agree at the states have one up step
 pub up_step-same : (q : Query) (v w : ℕ → ℕ) → IsQuery q → ((t : ℕ) → t < states q → v t ≡ w t) → (s : ℕ) → up_step q v s ≡ up_step q w s
 up_step-same q v w posed same s =
-    omega (arith, up_step-le q v w posed (λ t inside. omega (arith, same t inside)) s, up_step-le q w v posed (λ t inside. omega (arith, same t inside)) s)
+    let chosen : AreChoicesOf q.game (choices_of q.game) = AreChoicesOf-choices_of q.game posed.game in
+    omega (arith, up_step-le q v w chosen (λ t inside. omega (arith, same t inside)) s, up_step-le q w v chosen (λ t inside. omega (arith, same t inside)) s)
 
 -- over a table of units each choice has at most the unit
 up_value-units : (game : List (List Distribution)) (v : ℕ → ℕ) (m : Distribution) → IsChoiceOf game m → ((t : ℕ) → t < length game → v t ≤ unit) → up_value v m ≤ unit

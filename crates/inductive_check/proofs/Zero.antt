@@ -15,7 +15,7 @@ use Rattle.game_model.proofs.Choices.{IsChoiceOf, AreChoicesOf, AreChoicesOf-cho
 use Rattle.game_model.proofs.Best.{weighted_sum-le}
 use Rattle.game_model.proofs.Rises.{bellman-le, numerator_of-rises}
 use Rattle.game_laws.proofs.Positive.{quotient-pos}
-use Rattle.upper_guess.proofs.Steps.{ceil-most}
+use Rattle.inductive_check.proofs.UpSteps.{ceil-most}
 
 -- a positive value stays positive
 still-positive : (q : Query) (d k s : ℕ) → IsQuery q → 1 ≤ numerator q k s → 1 ≤ numerator q (d + k) s

@@ -6,8 +6,8 @@ use Rattle.value_words.specs.Passes.{seen_by}
 use Rattle.round_workers.specs.Marks.{IsMarked}
 use Rattle.bracket_engine.specs.Agenda.{read_of, AreMarkedFor}
 use Rattle.bracket_engine.proofs.Quiet.{step-everywhere, quiet-again, settled-unchanged}
-use Rattle.bracket_engine.proofs.race.one_round.Given.{Over}
-use Rattle.bracket_engine.proofs.race.one_round.Goals as goal
+use Rattle.bracket_engine.proofs.runner.sweep.Given.{Over}
+use Rattle.bracket_engine.proofs.runner.sweep.Goals as goal
 
 pub returns-then-changed-eq0-clause-step : goal.returns-then-changed-eq0-clause-step
 returns-then-changed-eq0-clause-step g c =
