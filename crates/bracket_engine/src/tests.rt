@@ -35,11 +35,11 @@ fn the_coin_loop_settles_at_round_40(rt: HostRuntime) -> Result<(), Fail> {
     let game = coin_loop(alloc)?;
     let question = coin_question(alloc, &game)?;
     let zero = zeros_of(alloc, &question)?;
-    for (asked, lower, rounds, stable) in [
-        (0, 0, 0, false),
-        (2, UNIT / 8 * 3, 2, false),
-        (39, UNIT / 2 - 1, 39, true),
-        (1_000, UNIT / 2 - 1, 40, true),
+    for (asked, lower, upper, rounds, stable) in [
+        (0, 0, UNIT, 0, false),
+        (2, UNIT / 8 * 3, UNIT / 8 * 5, 2, false),
+        (39, UNIT / 2 - 1, UNIT / 2 + 1, 39, true),
+        (1_000, UNIT / 2 - 1, UNIT / 2 + 1, 40, true),
     ] {
         let Ok(found) = bracket(&rt, alloc, &question, &zero, asked, 1, &OpenGate {}) else {
             return Err(Fail::new("no memory"));
@@ -51,7 +51,7 @@ fn the_coin_loop_settles_at_round_40(rt: HostRuntime) -> Result<(), Fail> {
         );
         assert_eq!(rt;
             found.upper.as_slice(),
-            [UNIT, UNIT, 0].as_slice(),
+            [upper, UNIT, 0].as_slice(),
             "after {asked}"
         );
         assert_eq!(rt; found.rounds, rounds, "after {asked}");
@@ -78,8 +78,18 @@ fn the_first_player_chooses_the_better_lottery(rt: HostRuntime) -> Result<(), Fa
             "{workers} workers"
         );
         assert_eq!(rt;
+            found.upper.as_slice(),
+            [UNIT / 100 * 65, UNIT / 5, UNIT, 0].as_slice(),
+            "{workers} workers"
+        );
+        assert_eq!(rt;
             found.choices.as_slice(),
             [Some(1), None, None, None].as_slice(),
+            "{workers} workers"
+        );
+        assert_eq!(rt;
+            found.replies.as_slice(),
+            [None, Some(1), None, None].as_slice(),
             "{workers} workers"
         );
         assert!(rt; found.stable, "{workers} workers");

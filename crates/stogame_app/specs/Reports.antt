@@ -4,6 +4,7 @@ use Rattle.game_model.specs.Query.{Query}
 use Rattle.game_model.specs.Dual.{IsZeroSet}
 use Rattle.bracket_engine.specs.Bracket.{IsBracket}
 use Rattle.bracket_engine.specs.Choices.{AreChoices}
+use Rattle.bracket_engine.specs.Replies.{AreRepliesTo}
 use Rattle.verdicts.specs.Report.{report}
 use Rattle.verdicts.specs.declared.report.ReportLine.{ReportLine}
 use Rattle.verdicts.specs.declared.report.How.TheVariants.{Rounds}
@@ -24,4 +25,6 @@ pub record IsReport (q : Query) (initial : List ℕ) (asked : ℕ) (text : List 
   pub bracket : IsBracket q zero asked lower upper rounds stable
   pub choices : List (Option ℕ)
   pub ranked : AreChoices q lower choices
+  pub replies : List (Option ℕ)
+  pub held : AreRepliesTo q upper replies
   pub written : text ≡ report (map (line_at lower upper rounds) initial)

@@ -30,7 +30,7 @@ fn the_coin_loop_has_one_half(rt: HostRuntime) -> Result<(), Fail> {
     )?;
     let two = "0=\"init\" 1=\"goal\"\n2: 0\n0: 0\n1: 1\n";
     let lines =
-        "state 0 lower 0.499999999999 upper 1.000000000000 rounds 40 Bracket\nstate 2 lower 0.000000000000 upper 0.000000000000 rounds 40 Bracket\n";
+        "state 0 lower 0.499999999999 upper 0.500000000001 rounds 40 Bracket\nstate 2 lower 0.000000000000 upper 0.000000000000 rounds 40 Bracket\n";
     writes(
         &rt,
         alloc,
@@ -60,7 +60,7 @@ fn decimals_and_fractions_are_exact(rt: HostRuntime) -> Result<(), Fail> {
     let reach = "Pmax=? [ F \"goal\" ]";
     let thirds =
         "4 4 6\n0 0 1 0.33333333333333331\n0 0 2 0.33333333333333331\n0 0 3 0.33333333333333331\n1 0 1 1\n2 0 2 1\n3 0 3 1\n";
-    let third = "state 0 lower 0.333333333333 upper 1.000000000000 rounds 2 Bracket\n";
+    let third = "state 0 lower 0.333333333333 upper 0.333333333334 rounds 2 Bracket\n";
     writes(
         &rt,
         alloc,
@@ -69,7 +69,7 @@ fn decimals_and_fractions_are_exact(rt: HostRuntime) -> Result<(), Fail> {
         Status::Fine,
     )?;
     let chain = "3 4\r\n0 1 0.3\r\n0 2 0.7\r\n1 1 1\r\n2 2 1\r\n\r\n\r\n";
-    let three = "state 0 lower 0.300000000000 upper 1.000000000000 rounds 2 Bracket\n";
+    let three = "state 0 lower 0.300000000000 upper 0.300000000000 rounds 2 Bracket\n";
     writes(
         &rt,
         alloc,
@@ -86,7 +86,7 @@ fn decimals_and_fractions_are_exact(rt: HostRuntime) -> Result<(), Fail> {
         third,
         Status::Fine,
     )?;
-    let small = "state 0 lower 0.000010000000 upper 1.000000000000 rounds 2 Bracket\n";
+    let small = "state 0 lower 0.000010000000 upper 0.000010000000 rounds 2 Bracket\n";
     writes(
         &rt,
         alloc,
@@ -95,7 +95,7 @@ fn decimals_and_fractions_are_exact(rt: HostRuntime) -> Result<(), Fail> {
         Status::Fine,
     )?;
     let rounded = "3 3 4\n0 0 1 0.5\n0 0 2 0.50001\n1 0 1 1\n2 0 2 1\n";
-    let divided = "state 0 lower 0.499995000049 upper 1.000000000000 rounds 2 Bracket\n";
+    let divided = "state 0 lower 0.499995000049 upper 0.499995000050 rounds 2 Bracket\n";
     writes(
         &rt,
         alloc,
@@ -105,7 +105,7 @@ fn decimals_and_fractions_are_exact(rt: HostRuntime) -> Result<(), Fail> {
     )?;
     let fine =
         "3 3 4\n0 0 1 0.000000000000000000000001\n0 0 2 0.999999999999999999999999\n1 0 1 1\n2 0 2 1\n";
-    let less = "state 0 lower 0.000000000000 upper 1.000000000000 rounds 1 Bracket\n";
+    let less = "state 0 lower 0.000000000000 upper 0.000000000001 rounds 2 Bracket\n";
     writes(
         &rt,
         alloc,
@@ -134,7 +134,7 @@ fn coalitions_choose_at_the_states_of_their_players(rt: HostRuntime) -> Result<(
         formula: "<<p1>> Pmax=? [ F \"goal\" ]",
         numbers: ONE_WORKER,
     };
-    let most = "state 0 lower 0.650000000000 upper 1.000000000000 rounds 2 Bracket\n";
+    let most = "state 0 lower 0.650000000000 upper 0.650000000000 rounds 3 Bracket\n";
     writes(&rt, alloc, first, most, Status::Fine)?;
     let agreement = Row {
         tra: AGREEMENT,
@@ -143,6 +143,6 @@ fn coalitions_choose_at_the_states_of_their_players(rt: HostRuntime) -> Result<(
         formula: "<<p1>> Pmax=? [ \"ok\" U \"done\" ]",
         numbers: ONE_WORKER,
     };
-    let agreed = "state 0 lower 0.839999999999 upper 1.000000000000 rounds 20 Bracket\n";
+    let agreed = "state 0 lower 0.839999999999 upper 0.840000000001 rounds 20 Bracket\n";
     writes(&rt, alloc, agreement, agreed, Status::Fine)
 }

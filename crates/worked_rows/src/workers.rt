@@ -15,7 +15,7 @@ use stogame_app::Status;
 const REACH: &str = "Pmax=? [ F \"goal\" ]";
 
 /// What stands before the number of rounds in the agreement's line.
-const AGREED: &str = "state 0 lower 0.839999999999 upper 1.000000000000 rounds ";
+const AGREED: &str = "state 0 lower 0.839999999999 upper 0.840000000001 rounds ";
 
 fn agreement<'a>(numbers: &'a [&'a str]) -> Row<'a> {
     Row {
@@ -87,11 +87,11 @@ fn coin_loop<'a>(numbers: &'a [&'a str]) -> Row<'a> {
     }
 }
 
-// Only the first round of a small model has all workers.
+// Each round updates both tables. Only the first one of a small model has all workers.
 #[test]
 fn each_worker_passes_the_gate_before_each_of_its_states(rt: HostRuntime) -> Result<(), Fail> {
     let alloc = rt.alloc();
-    for (rounds, passed) in [("0", 0), ("1", 3), ("5", 15), ("10000", 120)] {
+    for (rounds, passed) in [("0", 0), ("1", 6), ("5", 30), ("10000", 240)] {
         let gate = CountGate {
             passed: AtomicU32::new(0),
             strayed: AtomicU32::new(0),
@@ -117,11 +117,11 @@ fn at_most_the_asked_rounds_are_made(rt: HostRuntime) -> Result<(), Fail> {
         ),
         (
             "1",
-            "state 0 lower 0.250000000000 upper 1.000000000000 rounds 1 Bracket\n",
+            "state 0 lower 0.250000000000 upper 0.750000000000 rounds 1 Bracket\n",
         ),
         (
             "+002",
-            "state 0 lower 0.375000000000 upper 1.000000000000 rounds 2 Bracket\n",
+            "state 0 lower 0.375000000000 upper 0.625000000000 rounds 2 Bracket\n",
         ),
         ("1000000", COIN_LOOP_REPORT),
     ] {
