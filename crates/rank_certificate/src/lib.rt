@@ -1,0 +1,4 @@
+//! Ranks that vouch for a lower table.
+#![tactic(auto)]
+
+pub mod laws;
