@@ -12,5 +12,7 @@
 mod check;
 mod choice;
 pub mod laws;
+#[cfg(test)]
+mod tests;
 
 pub use check::{RankCause, RankFault, check_ranks};

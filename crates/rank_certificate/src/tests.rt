@@ -1,0 +1,94 @@
+//! Worked values, choices and ranks.
+
+use crate::{RankCause, RankFault, check_ranks};
+use game_model::{Question, Side};
+use sample_games::{all_of, coin_loop, goal_or_sink, none_of, only};
+use std::test::Fail;
+
+const ONE: u64 = 1_000_000_000_000;
+
+const HALF: u64 = 500_000_000_000;
+
+fn fault(state: u32, cause: RankCause) -> RankFault {
+    RankFault { state, cause }
+}
+
+#[test]
+fn a_coin_loop_reaches_one_half(rt: HostRuntime) -> Result<(), Fail> {
+    let alloc = rt.alloc();
+    let game = coin_loop(alloc)?;
+    let sides = all_of(alloc, Side::Max, 3)?;
+    let question = Question::build(&game, sides, only(alloc, 1, 3)?, only(alloc, 2, 3)?);
+    let first = [Some(0), None, None];
+    for (values, choices, want) in [
+        ([HALF, ONE, 0], first, None),
+        ([0, ONE, 0], [None, None, None], None),
+        (
+            [HALF, ONE, 0],
+            [None, None, None],
+            Some(fault(0, RankCause::Choice)),
+        ),
+        (
+            [HALF, ONE, 0],
+            [Some(1), None, None],
+            Some(fault(0, RankCause::Choice)),
+        ),
+        (
+            [HALF + 1, ONE, 0],
+            first,
+            Some(fault(0, RankCause::Short { choice: 0 })),
+        ),
+        (
+            [HALF - 1, ONE - 1, 0],
+            first,
+            Some(fault(1, RankCause::Value)),
+        ),
+        ([HALF, ONE, 1], first, Some(fault(2, RankCause::Value))),
+        (
+            [HALF, ONE - 1, ONE + 1],
+            first,
+            Some(fault(2, RankCause::Value)),
+        ),
+    ] {
+        assert_eq!(rt;
+            check_ranks(&question, &values, &choices, &[0, 0, 0]).err(),
+            want
+        );
+    }
+    Ok(())
+}
+
+#[test]
+fn every_choice_of_the_minimiser_leads_on(rt: HostRuntime) -> Result<(), Fail> {
+    let alloc = rt.alloc();
+    let game = goal_or_sink(alloc)?;
+    let sides = all_of(alloc, Side::Min, 3)?;
+    let question = Question::build(&game, sides, only(alloc, 1, 3)?, none_of(alloc, 3)?);
+    let none = [None, None, None];
+    for (values, ranks, want) in [
+        ([0, ONE, 0], [0, 0, 0], None),
+        (
+            [1, ONE, 0],
+            [0, 0, 0],
+            Some(fault(0, RankCause::Short { choice: 1 })),
+        ),
+        (
+            [ONE, ONE, ONE],
+            [0, 0, 1],
+            Some(fault(0, RankCause::NoStep { choice: 0 })),
+        ),
+        (
+            [ONE, ONE, ONE],
+            [1, 0, 1],
+            Some(fault(0, RankCause::NoStep { choice: 1 })),
+        ),
+        (
+            [ONE, ONE, ONE],
+            [2, 0, 1],
+            Some(fault(2, RankCause::NoStep { choice: 0 })),
+        ),
+    ] {
+        assert_eq!(rt; check_ranks(&question, &values, &none, &ranks).err(), want);
+    }
+    Ok(())
+}
