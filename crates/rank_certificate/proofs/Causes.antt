@@ -32,9 +32,18 @@ lack-unranked value rank s m c (Short d) h ranked = omega (arith, h.1, ranked.en
 lack-unranked value rank s m c (NoStep d) h ranked = h.2 (record { place = ranked.place; inside = ranked.inside; onward = ranked.onward })
 
 -- of the maximiser the given choice has to be ranked
-asked-given : (side : Side) (given : Option ℕ) (c : ℕ) → side ≡ Max → HasToRank side given c → given ≡ Some c
+pub asked-given : (side : Side) (given : Option ℕ) (c : ℕ) → side ≡ Max → HasToRank side given c → given ≡ Some c
 asked-given Max given c max asked = asked
 asked-given Min given c max asked = absurd (cc)
+
+pub given-asked : (side : Side) (given : Option ℕ) (c : ℕ) → side ≡ Max → given ≡ Some c → HasToRank side given c
+given-asked Max given c max is = is
+given-asked Min given c max is = absurd (cc)
+
+-- of the minimiser every one
+pub always-asked : (side : Side) (given : Option ℕ) (c : ℕ) → side ≡ Min → HasToRank side given c
+always-asked Max given c min = absurd (cc)
+always-asked Min given c min = tt
 
 module _ (q : Query) (value rank : ℕ → ℕ) (choices : List (Option ℕ)) (s : ℕ) where
   -- a state whose next choice to rank is not ranked is not

@@ -11,8 +11,12 @@
 
 mod check;
 mod choice;
+mod find;
 pub mod laws;
+mod layers;
+mod met;
 #[cfg(test)]
 mod tests;
 
 pub use check::{RankCause, RankFault, check_ranks};
+pub use find::find_ranks;
