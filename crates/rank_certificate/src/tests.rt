@@ -22,41 +22,37 @@ fn a_coin_loop_reaches_one_half(rt: HostRuntime) -> Result<(), Fail> {
     let sides = all_of(alloc, Side::Max, 3)?;
     let question = Question::build(&game, sides, only(alloc, 1, 3)?, only(alloc, 2, 3)?);
     let first = [Some(0), None, None];
-    for (values, choices, want) in [
-        ([HALF, ONE, 0], first, None),
-        ([0, ONE, 0], [None, None, None], None),
-        (
-            [HALF, ONE, 0],
-            [None, None, None],
-            Some(fault(0, RankCause::Choice)),
-        ),
-        (
-            [HALF, ONE, 0],
-            [Some(1), None, None],
-            Some(fault(0, RankCause::Choice)),
-        ),
-        (
-            [HALF + 1, ONE, 0],
-            first,
-            Some(fault(0, RankCause::Short { choice: 0 })),
-        ),
-        (
-            [HALF - 1, ONE - 1, 0],
-            first,
-            Some(fault(1, RankCause::Value)),
-        ),
-        ([HALF, ONE, 1], first, Some(fault(2, RankCause::Value))),
-        (
-            [HALF, ONE - 1, ONE + 1],
-            first,
-            Some(fault(2, RankCause::Value)),
-        ),
-    ] {
-        assert_eq!(rt;
-            check_ranks(&question, &values, &choices, &[0, 0, 0]).err(),
-            want
-        );
-    }
+    let none = [None, None, None];
+    let ranks = [0, 0, 0];
+    assert_eq!(rt;
+        check_ranks(&question, &[HALF, ONE, 0], &first, &ranks),
+        Ok(())
+    );
+    assert_eq!(rt; check_ranks(&question, &[0, ONE, 0], &none, &ranks), Ok(()));
+    assert_eq!(rt;
+        check_ranks(&question, &[HALF, ONE, 0], &none, &ranks),
+        Err(fault(0, RankCause::Choice))
+    );
+    assert_eq!(rt;
+        check_ranks(&question, &[HALF, ONE, 0], &[Some(1), None, None], &ranks),
+        Err(fault(0, RankCause::Choice))
+    );
+    assert_eq!(rt;
+        check_ranks(&question, &[HALF + 1, ONE, 0], &first, &ranks),
+        Err(fault(0, RankCause::Short { choice: 0 }))
+    );
+    assert_eq!(rt;
+        check_ranks(&question, &[HALF - 1, ONE - 1, 0], &first, &ranks),
+        Err(fault(1, RankCause::Value))
+    );
+    assert_eq!(rt;
+        check_ranks(&question, &[HALF, ONE, 1], &first, &ranks),
+        Err(fault(2, RankCause::Value))
+    );
+    assert_eq!(rt;
+        check_ranks(&question, &[HALF, ONE - 1, ONE + 1], &first, &ranks),
+        Err(fault(2, RankCause::Value))
+    );
     Ok(())
 }
 
@@ -67,31 +63,27 @@ fn every_choice_of_the_minimiser_leads_on(rt: HostRuntime) -> Result<(), Fail> {
     let sides = all_of(alloc, Side::Min, 3)?;
     let question = Question::build(&game, sides, only(alloc, 1, 3)?, none_of(alloc, 3)?);
     let none = [None, None, None];
-    for (values, ranks, want) in [
-        ([0, ONE, 0], [0, 0, 0], None),
-        (
-            [1, ONE, 0],
-            [0, 0, 0],
-            Some(fault(0, RankCause::Short { choice: 1 })),
-        ),
-        (
-            [ONE, ONE, ONE],
-            [0, 0, 1],
-            Some(fault(0, RankCause::NoStep { choice: 0 })),
-        ),
-        (
-            [ONE, ONE, ONE],
-            [1, 0, 1],
-            Some(fault(0, RankCause::NoStep { choice: 1 })),
-        ),
-        (
-            [ONE, ONE, ONE],
-            [2, 0, 1],
-            Some(fault(2, RankCause::NoStep { choice: 0 })),
-        ),
-    ] {
-        assert_eq!(rt; check_ranks(&question, &values, &none, &ranks).err(), want);
-    }
+    let ones = [ONE, ONE, ONE];
+    assert_eq!(rt;
+        check_ranks(&question, &[0, ONE, 0], &none, &[0, 0, 0]),
+        Ok(())
+    );
+    assert_eq!(rt;
+        check_ranks(&question, &[1, ONE, 0], &none, &[0, 0, 0]),
+        Err(fault(0, RankCause::Short { choice: 1 }))
+    );
+    assert_eq!(rt;
+        check_ranks(&question, &ones, &none, &[0, 0, 1]),
+        Err(fault(0, RankCause::NoStep { choice: 0 }))
+    );
+    assert_eq!(rt;
+        check_ranks(&question, &ones, &none, &[1, 0, 1]),
+        Err(fault(0, RankCause::NoStep { choice: 1 }))
+    );
+    assert_eq!(rt;
+        check_ranks(&question, &ones, &none, &[2, 0, 1]),
+        Err(fault(2, RankCause::NoStep { choice: 0 }))
+    );
     Ok(())
 }
 
