@@ -1,17 +1,17 @@
 -- Steps of the search for ranks, as its functions take them.
-use Rattle.std.proofs.Common.{◌≡◌, ℕ, zero, suc, ◌+◌, ◌<◌, ◌≤◌, ◌⊎◌, Bool, cond, List, [], ◌∷◌, ◌++◌, length, arith, refl, sym, ap, ◌∙◌, subst, inl, inr, Option, Some, None, append-nil}
+use Rattle.std.proofs.Common.{◌≡◌, ℕ, ◌+◌, ◌<◌, ◌⊎◌, cond, List, [], ◌∷◌, ◌++◌, length, arith, refl, sym, ap, ◌∙◌, subst, inl, inr, Option, Some, None, append-nil}
 use Rattle.std.specs.Prelude.{slice_index, slice_index_or, Contains, is_some}
 use Rattle.std.proofs.lemmas.Bool.{cases_lt}
 use Rattle.std.proofs.lemmas.List.{get_or_append_left, get_or_push, length_push, get_or_past}
-use Rattle.std.proofs.lemmas.List.Sums.{sum_by-append, count_by-le-length}
+use Rattle.std.proofs.lemmas.List.Sums.{sum_by-append}
 use Rattle.std.proofs.lemmas.List.Elements.{Contains-append_left, Contains-push}
-use Rattle.game_model.specs.Query.{Query, IsQuery, states}
+use Rattle.game_model.specs.Query.{Query, states}
 use Rattle.predecessors.specs.declared.lists.Move.{Move}
 use Rattle.predecessors.specs.Moves.{LeadsTo}
 use Rattle.predecessors.specs.Lists.{ArePredecessors}
 use Rattle.rank_certificate.specs.Ranking.{NeedsRank}
 use Rattle.rank_certificate.specs.Layers.{IsWithin, IsLayer}
-use Rattle.rank_certificate.specs.Growing.{IsLow, IsFollowed, Waits, IsRanking, MovesOn, Advances, IsOpened}
+use Rattle.rank_certificate.specs.Growing.{IsLow, IsRanking, MovesOn, Advances, IsOpened}
 use Rattle.rank_certificate.proofs.States.{Some-one}
 use Rattle.rank_certificate.proofs.Moving.{rank-low, none-counts, Some-none, Ranking-waits, moved, MovesOn-many, MovesOn-low}
 use Rattle.rank_certificate.proofs.Following.{Ranking-noted, Ranking-behind, Ranking-follows, among-low, in-whole}

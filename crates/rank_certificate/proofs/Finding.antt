@@ -1,10 +1,10 @@
 -- The next layer, and the end: every state has its layer as rank.
-use Rattle.std.proofs.Common.{◌≡◌, ℕ, zero, suc, ◌+◌, ◌<◌, ◌≤◌, ◌⊎◌, List, [], ◌∷◌, ◌++◌, length, take, map, arith, refl, sym, ap, ◌∙◌, subst, inl, inr, Option, Some, None, unwrap_or, add-one, append-nil}
+use Rattle.std.proofs.Common.{◌≡◌, ℕ, zero, suc, ◌+◌, ◌<◌, ◌≤◌, List, [], length, take, map, arith, refl, sym, ap, ◌∙◌, subst, inl, inr, Option, Some, None, unwrap_or, add-one, append-nil}
 use Rattle.std.specs.Prelude.{slice_index, slice_index_or, Contains}
 use Rattle.std.proofs.lemmas.List.{take_all, take-append-le, get_or-map, length-map}
 use Rattle.game_model.specs.declared.game.Side.{Side}
 use Rattle.game_model.specs.declared.game.Side.TheVariants.{Max, Min}
-use Rattle.game_model.specs.Game.{choices_of, choice_of, no_edge}
+use Rattle.game_model.specs.Game.{choice_of, no_edge}
 use Rattle.game_model.specs.Query.{Query, IsQuery, states, side_at}
 use Rattle.game_model.specs.Ranks.{IsRankedChoice, HasRankedChoice, Ranked}
 use Rattle.rank_certificate.specs.Ranking.{NeedsRank}

@@ -1,8 +1,8 @@
 -- Moves that are followed, and layers that are done.
-use Rattle.std.proofs.Common.{◌≡◌, ℕ, zero, suc, ◌+◌, ◌<◌, ◌≤◌, ◌⊎◌, List, [], ◌∷◌, ◌++◌, length, take, drop, arith, refl, sym, ap, ◌∙◌, subst, inl, inr, Option, Some, None, add-one, get_or}
+use Rattle.std.proofs.Common.{◌≡◌, ℕ, zero, suc, ◌+◌, ◌<◌, ◌≤◌, ◌⊎◌, List, [], ◌∷◌, ◌++◌, length, take, drop, arith, refl, sym, ap, ◌∙◌, subst, inl, inr, Option, Some, None, get_or}
 use Rattle.std.specs.Prelude.{slice_index, slice_index_or, Contains}
 use Rattle.std.proofs.lemmas.Bool.{cases_lt}
-use Rattle.std.proofs.lemmas.List.{take_all, take_more, take-append-le, take-append-drop, get_or-map, length-map, get_or_past}
+use Rattle.std.proofs.lemmas.List.{take_more, take-append-drop, get_or-map, length-map, get_or_past}
 use Rattle.std.proofs.lemmas.List.Elements.{Contains-push_cases, Contains-append_left}
 use Rattle.game_model.specs.declared.game.Edge.{Edge}
 use Rattle.game_model.specs.Game.{Distribution, choices_of, choice_of, no_edge}
@@ -10,11 +10,9 @@ use Rattle.game_model.specs.Query.{Query, states}
 use Rattle.predecessors.specs.declared.lists.Move.{Move}
 use Rattle.predecessors.specs.Moves.{move, LeadsTo}
 use Rattle.predecessors.specs.Lists.{ArePredecessors}
-use Rattle.rank_certificate.specs.Ranking.{NeedsRank}
 use Rattle.rank_certificate.specs.Layers.{IsAsked, LeadsInto, IsWithin}
 use Rattle.rank_certificate.specs.Growing.{IsLow, IsFollowed, Waits, IsRanking, MovesOn}
-use Rattle.rank_certificate.proofs.Within.{LeadsInto-more, IsWithin-more}
-use Rattle.rank_certificate.proofs.Moving.{low-rank, rank-low, low-within, Ranking-waits, moved, moved-on}
+use Rattle.rank_certificate.proofs.Moving.{low-rank, low-within, Ranking-waits, moved, moved-on}
 
 -- an edge of a choice leads where it says
 edge-leads : (game : List (List Distribution)) (s c p : ℕ) → s < length game → c < length (choices_of game s) → p < length (choice_of game s c).edges → LeadsTo game s c (slice_index_or (choice_of game s c).edges p no_edge).to

@@ -1,18 +1,15 @@
 -- A state that is moved on keeps what was found as it must be.
-use Rattle.std.proofs.Common.{◌≡◌, ◌≢◌, ℕ, zero, suc, ◌+◌, ◌<◌, ◌≤◌, ◌⊎◌, Bool, true, false, cond, List, [], ◌∷◌, ◌++◌, length, take, set, append_assoc, arith, refl, sym, ap, ◌∙◌, subst, inl, inr, Option, Some, None, add-one}
-use Rattle.std.specs.Prelude.{slice_index, slice_index_or, Contains, IsSomeAnd, is_some, count_by}
+use Rattle.std.proofs.Common.{◌≡◌, ◌≢◌, ℕ, ◌+◌, ◌<◌, ◌≤◌, ◌⊎◌, cond, List, [], ◌∷◌, ◌++◌, length, take, set, append_assoc, arith, refl, sym, ap, ◌∙◌, subst, inl, inr, Option, Some, None, add-one}
+use Rattle.std.specs.Prelude.{slice_index, slice_index_or, Contains, IsSomeAnd, is_some}
 use Rattle.std.proofs.lemmas.Bool.{cases_lt, cases_eq}
 use Rattle.std.proofs.lemmas.List.{length-set, get_or-set_same, get_or-set_other, get_or_append_left, get_or_push, length_push}
 use Rattle.std.proofs.lemmas.List.Sums.{sum_by-set}
-use Rattle.std.proofs.lemmas.List.Elements.{Contains-append_left, Contains-append_right, Contains-append_cases}
+use Rattle.std.proofs.lemmas.List.Elements.{Contains-append_left, Contains-append_right}
 use Rattle.game_model.specs.Game.{choice_of, no_edge}
 use Rattle.game_model.specs.Query.{Query, states}
-use Rattle.game_model.specs.Draft.{IsLonger}
 use Rattle.predecessors.specs.declared.lists.Move.{Move}
-use Rattle.predecessors.specs.Moves.{move}
-use Rattle.rank_certificate.specs.Ranking.{NeedsRank}
 use Rattle.rank_certificate.specs.Layers.{IsAsked, LeadsInto, IsWithin, IsLayer}
-use Rattle.rank_certificate.specs.Growing.{IsLow, AreMet, IsUnmet, IsFollowed, Waits, IsRanking, WaitsOn, Joins, MovesOn}
+use Rattle.rank_certificate.specs.Growing.{IsLow, AreMet, IsUnmet, IsFollowed, Waits, IsRanking, MovesOn}
 use Rattle.rank_certificate.proofs.States.{Some-one}
 use Rattle.rank_certificate.proofs.Within.{LeadsInto-more, IsWithin-more}
 

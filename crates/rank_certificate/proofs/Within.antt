@@ -1,9 +1,9 @@
 -- Layers: each has the states of the one before.
-use Rattle.std.proofs.Common.{◌≡◌, ℕ, zero, suc, ◌+◌, ◌-◌, ◌<◌, ◌≤◌, ◌⊎◌, List, length, arith, subst, sym, inl, inr, Option, Some, None}
+use Rattle.std.proofs.Common.{◌≡◌, ℕ, zero, suc, ◌+◌, ◌-◌, ◌<◌, ◌≤◌, List, length, arith, subst, inl, inr, Option}
 use Rattle.std.specs.Prelude.{slice_index_or}
 use Rattle.game_model.specs.Game.{Distribution, choice_of, no_edge}
 use Rattle.game_model.specs.Query.{Query}
-use Rattle.rank_certificate.specs.Layers.{IsAsked, LeadsInto, IsWithin}
+use Rattle.rank_certificate.specs.Layers.{LeadsInto, IsWithin}
 
 -- where it leads into some states it leads into more
 pub LeadsInto-more : (value : ℕ → ℕ) (among more : ℕ → Type 0) (s : ℕ) (m : Distribution)

@@ -6,7 +6,7 @@
 //! to the values as one likes ([`laws::ranked_values_are_reached`]). Such a rank is a ranking function for
 //! probabilistic reachability (as certificates of lower bounds: Chatterjee, Quatmann, Schaeffeler, Weininger,
 //! Winkler and Zilken, Fixed point certificates for reachability and expected rewards in MDPs, TACAS 2025). The
-//! check takes no memory.
+//! check takes no memory. [`find_ranks`] gives the least such ranks, layer by layer, where there are any.
 #![tactic(auto)]
 
 mod check;

@@ -1,4 +1,4 @@
-use Rattle.std.proofs.Common.{◌≡◌, ℕ, ◌+◌, [], length, arith, subst, sym}
+use Rattle.std.proofs.Common.{◌≡◌, ◌+◌, [], length, arith, subst, sym}
 use Rattle.std.specs.Prelude.{slice_index}
 use Rattle.game_model.specs.Query.{states}
 use Rattle.game_model.proofs.Longer.{longer-length}

@@ -1,5 +1,4 @@
-use Rattle.std.proofs.Common.{ℕ, List, map, Option, unwrap_or, subst, sym}
-use Rattle.std.specs.Prelude.{slice_index}
+use Rattle.std.proofs.Common.{subst, sym}
 use Rattle.rank_certificate.specs.Layers.{AreLayered}
 use Rattle.rank_certificate.proofs.Finding.{layered, layered-Ranked}
 use Rattle.rank_certificate.proofs.find.find_ranks.Goals as goal

@@ -1,4 +1,4 @@
-use Rattle.std.proofs.Common.{◌≡◌, ℕ, arith, None}
+use Rattle.std.proofs.Common.{◌≡◌, arith, None}
 use Rattle.std.specs.Prelude.{slice_index, slice_index_or}
 use Rattle.rank_certificate.proofs.Advancing.{Advances-noted, Advances-moves}
 use Rattle.rank_certificate.proofs.layers.Layers.follow.Goals as goal

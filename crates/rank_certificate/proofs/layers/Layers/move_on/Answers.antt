@@ -1,4 +1,4 @@
-use Rattle.std.proofs.Common.{◌≡◌, ◌<◌, List, Option, length, arith, refl, ap, subst, inl, ◌∙◌}
+use Rattle.std.proofs.Common.{◌≡◌, ◌<◌, length, arith, refl, ap, subst, inl, ◌∙◌}
 use Rattle.std.specs.Prelude.{slice_index}
 use Rattle.game_model.specs.Game.{choices_of}
 use Rattle.rank_certificate.specs.Growing.{AreMet, IsUnmet}
