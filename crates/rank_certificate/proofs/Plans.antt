@@ -1,0 +1,61 @@
+-- Ranked lists certify the choices of the Max side's plan.
+use Rattle.std.proofs.Common.{◌≡◌, ℕ, zero, suc, ◌<◌, ◌≤◌, false, List, [], ◌∷◌, length, take, drop, arith, refl, sym, subst, sum, inl, inr, get_or, Option, Some, None}
+use Rattle.std.specs.Prelude.{slice_index, slice_index_or}
+use Rattle.std.specs.List.{AllByRecursion}
+use Rattle.std.specs.Bool.{if◌then◌else◌}
+use Rattle.std.proofs.lemmas.Bool.{cases_lt}
+use Rattle.std.proofs.lemmas.Bool.Decides.{nat_tests}
+use Rattle.std.proofs.lemmas.List.{get_or_past}
+use Rattle.std.proofs.lemmas.List.Elements.{recursion_from_All, All-from_get_or}
+use Rattle.std.proofs.lemmas.List.Sums.{get_or-le-sum_by}
+use Rattle.game_model.specs.declared.game.Side.{Side}
+use Rattle.game_model.specs.declared.game.Side.TheVariants.{Max, Min}
+use Rattle.game_model.specs.Game.{Distribution, no_distribution, choices_of}
+use Rattle.game_model.specs.Query.{Query, IsQuery, is_goal, is_dead, side_at}
+use Rattle.game_model.specs.Plans.{planned, planned_place, same_side}
+use Rattle.game_model.specs.Ranks.{IsRankedChoice, HasRankedChoice, Ranked, ReachesUnder}
+use Rattle.game_model.proofs.Choices.{AreChoicesOf-planned, denominator-pos}
+use Rattle.rank_certificate.proofs.Horizon.{certified-reached}
+
+-- one element that satisfies it, as a list
+one-at : {X : Type 0} (P : X → Type 0) (xs : List X) (i : ℕ) (d : X) → i < length xs → P (get_or xs i d) → AllByRecursion P (take 1 (drop i xs))
+one-at P [] i d l h = absurd (omega arith)
+one-at P (x ∷ xs) zero d l h = (h, tt)
+one-at P (x ∷ xs) (suc i) d l h = one-at P xs i d (omega arith) h
+
+planned_place-given : (plan : List (Option ℕ)) (s count c : ℕ) → slice_index_or plan s None ≡ Some c → c < count → planned_place plan s count ≡ c
+planned_place-given plan s count c given inside = rw given (grind (arith, nat_tests))
+
+rank-most : (ranks : List ℕ) (s : ℕ) → slice_index ranks s ≤ sum ranks
+rank-most ranks s = elim (cases_lt s (length ranks)) [
+  | inl inside ↦ get_or-le-sum_by (λ (x : ℕ). x) ranks s 0 inside
+  | inr past ↦ rw (get_or_past ranks s 0 past) (omega arith)
+]
+
+-- each choice that is left under the plan is ranked
+planned-ranked : (q : Query) (values : List ℕ) (plan : List (Option ℕ)) (ranks : List ℕ) → Ranked q values plan ranks → (s : ℕ) → s < length q.game → is_goal q s ≡ false → is_dead q s ≡ false → 0 < slice_index values s
+    → (side : Side) → side_at q s ≡ side → AllByRecursion (IsRankedChoice (slice_index values) (slice_index ranks) s) (planned q Max plan s)
+planned-ranked q values plan ranks h s inside no_goal alive some Max max =
+    let P : Distribution → Type 0 = IsRankedChoice (slice_index values) (slice_index ranks) s in
+    let choices : List Distribution = choices_of q.game s in
+    let has : HasRankedChoice q (slice_index values) (slice_index ranks) plan s = h.greatest s inside no_goal alive some max in
+    let one : AllByRecursion P (take 1 (drop has.choice choices)) = one-at P choices has.choice no_distribution has.inside has.ranked in
+    let place : planned_place plan s (length choices) ≡ has.choice = planned_place-given plan s (length choices) has.choice has.given has.inside in
+    subst (λ side. AllByRecursion P (if same_side side Max then take 1 (drop (planned_place plan s (length choices)) choices) else choices)) (sym max)
+    (subst (λ p. AllByRecursion P (take 1 (drop p choices))) (sym place) one)
+planned-ranked q values plan ranks h s inside no_goal alive some Min min =
+    let P : Distribution → Type 0 = IsRankedChoice (slice_index values) (slice_index ranks) s in
+    let choices : List Distribution = choices_of q.game s in
+    subst (λ side. AllByRecursion P (if same_side side Max then take 1 (drop (planned_place plan s (length choices)) choices) else choices)) (sym min)
+    (recursion_from_All P choices (All-from_get_or P choices no_distribution (λ c l. h.least s inside no_goal alive some min c l)))
+
+-- ranked values are reached under the plan
+pub Ranked-reached : (q : Query) (values : List ℕ) (plan : List (Option ℕ)) (ranks : List ℕ) → IsQuery q → Ranked q values plan ranks → ReachesUnder q plan (slice_index values)
+Ranked-reached q values plan ranks posed h = λ m some. certified-reached q (planned q Max plan) (slice_index values) (slice_index ranks) (sum ranks) (record {
+  chosen = AreChoicesOf-planned q Max plan posed.game;
+  positive = denominator-pos q.game posed.game;
+  units = h.units;
+  deads = h.deads;
+  ranks = rank-most ranks;
+  ranked = λ s inside no_goal alive some. planned-ranked q values plan ranks h s inside no_goal alive some (side_at q s) refl;
+}) m

@@ -1,0 +1,4 @@
+pub mod Ranking
+pub mod Faults
+pub mod Layers
+pub mod Growing

@@ -1,0 +1,22 @@
+//! Ranks that vouch for a lower table: with a choice and a rank for each state, values of units are shown to
+//! be reached.
+//!
+//! [`check_ranks`] tests that each positive value is paid for by a choice that leads on, to a greater value or
+//! to an equal one of smaller rank, and else names the first fault. Then the plan of the choices comes as near
+//! to the values as one likes ([`laws::ranked_values_are_reached`]). Such a rank is a ranking function for
+//! probabilistic reachability (as certificates of lower bounds: Chatterjee, Quatmann, Schaeffeler, Weininger,
+//! Winkler and Zilken, Fixed point certificates for reachability and expected rewards in MDPs, TACAS 2025). The
+//! check takes no memory. [`find_ranks`] gives the least such ranks, layer by layer, where there are any.
+#![tactic(auto)]
+
+mod check;
+mod choice;
+mod find;
+pub mod laws;
+mod layers;
+mod met;
+#[cfg(test)]
+mod tests;
+
+pub use check::{RankCause, RankFault, check_ranks};
+pub use find::find_ranks;
