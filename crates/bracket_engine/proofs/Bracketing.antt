@@ -1,5 +1,5 @@
 -- The tables of two races are a bracket, and its choices are ranked with the lower one.
-use Rattle.std.proofs.Common.{◌≡◌, ℕ, ◌+◌, ◌-◌, ◌*◌, ◌^◌, ◌<◌, ◌≤◌, Bool, true, false, List, length, arith, refl, sym, ap, ◌∙◌, subst, inl, inr, le_trans, ne_eqb, eq-eqb}
+use Rattle.std.proofs.Common.{◌≡◌, ℕ, ◌+◌, ◌-◌, ◌*◌, ◌^◌, ◌<◌, ◌≤◌, Bool, true, false, List, length, arith, refl, sym, ap, ◌∙◌, subst, inl, inr, le_trans, ne_eqb, eq-eqb, min}
 use Rattle.std.specs.Prelude.{All, slice_index, slice_index_or, ◌↔◌, ◌==◌, ◌||◌, Option, Some, None, if◌then◌else◌}
 use Rattle.std.proofs.lemmas.Bool.{cases_lt}
 use Rattle.std.proofs.lemmas.List.{length-map, get_or-map, get_or_default, same_lists}
@@ -24,7 +24,11 @@ use Rattle.step_core.specs.Word.{value_in, choice_in, value_at, values_of, picks
 use Rattle.step_core.specs.Sound.{IsSound}
 use Rattle.step_core.specs.Events.{on_side}
 use Rattle.step_core.proofs.Words.{values_of-at, values_of-is, IsSound-goals, IsSound-units}
-use Rattle.bracket_engine.specs.Bracket.{rests_of, rest_of, IsBracket, IsNear, IsNearAbove, IsCoswept, IsLeastSettled}
+use Rattle.inductive_check.proofs.UpSteps.{IsInductive-min}
+use Rattle.upper_guess.specs.Guess.{IsFirstGuess}
+use Rattle.upper_guess.proofs.Steps.{up_step-same}
+use Rattle.upper_guess.proofs.One.{one-first-guess}
+use Rattle.bracket_engine.specs.Bracket.{rests_of, AreLesser, IsBracket, IsNear, IsNearAbove, IsCoswept, IsLeastSettled}
 use Rattle.bracket_engine.specs.Choices.{choice_of_word, AreChoices}
 use Rattle.bracket_engine.specs.Race.{IsRaced}
 use Rattle.bracket_engine.proofs.Racing.{settled-same}
@@ -69,6 +73,9 @@ module _ (q : Query) (asked : ℕ) (words values : List ℕ) (rounds : ℕ) (pos
   pub units-raced : (s : ℕ) → s < states q → slice_index values s ≤ unit
   units-raced s inside = omega (arith, ap (λ t. t s) table-is, IsSound-units q words raced.sound s inside)
 
+  pub all-units-raced : All (λ v. v ≤ unit) values
+  all-units-raced = λ s d inside. omega (arith, get_or_default values s d 0 inside, units-raced s (subst (λ n. s < n) length-raced inside))
+
   IsRun-raced : IsRun q asked (slice_index values) rounds
   IsRun-raced =
       let table = slice_index values in
@@ -97,19 +104,12 @@ IsLeastSettled-run q asked table rounds posed run settled = record {
   least = λ other over is_settled s inside. le_trans (run.top s inside) (down_steps-settled q other (AreChoicesOf-choices_of q.game posed.game) over is_settled run.horizon s inside);
 }
 
-IsLeastSettled-same : (q : Query) (table other : ℕ → ℕ) → IsQuery q → ((s : ℕ) → s < states q → table s ≡ other s) → IsLeastSettled q table → IsLeastSettled q other
-IsLeastSettled-same q table other posed same least = record {
-  opens = λ s inside. omega (arith, same s inside, least.opens s inside);
-  settled = settled-same q table other posed same least.settled;
-  least = λ more over is_settled s inside. omega (arith, same s inside, least.least more over is_settled s inside);
-}
-
--- the upper table and the co-values make the unit
-rest-at : (values upper : List ℕ) (s : ℕ) → upper ≡ rests_of values → s < length values → slice_index upper s ≡ unit - slice_index values s
-rest-at values upper s is inside = ap (λ (l : List ℕ). slice_index l s) is ∙ get_or-map (λ (v : ℕ). unit - v) values s 0 0 inside
+-- the unit less the co-values, and these, make the unit
+rest-at : (values unlost : List ℕ) (s : ℕ) → unlost ≡ rests_of values → s < length values → slice_index unlost s ≡ unit - slice_index values s
+rest-at values unlost s is inside = ap (λ (l : List ℕ). slice_index l s) is ∙ get_or-map (λ (v : ℕ). unit - v) values s 0 0 inside
 
 -- the tables of the two races
-pub record AreTables (q : Query) (zero_set : List Bool) (asked : ℕ) (words cowords lower covalues upper : List ℕ) (rounds : ℕ) : Type 0 where
+pub record AreTables (q : Query) (zero_set : List Bool) (asked : ℕ) (words cowords lower covalues unlost : List ℕ) (rounds : ℕ) : Type 0 where
   pub posed : IsQuery q
   pub coposed : IsQuery (swapped q zero_set)
   pub is_zero_set : IsZeroSet q zero_set
@@ -117,11 +117,11 @@ pub record AreTables (q : Query) (zero_set : List Bool) (asked : ℕ) (words cow
   pub coraced : IsRaced (swapped q zero_set) asked cowords rounds
   pub lower_is : lower ≡ values_of words
   pub covalues_are : covalues ≡ values_of cowords
-  pub upper_is : upper ≡ rests_of covalues
+  pub unlost_is : unlost ≡ rests_of covalues
 
-pub AreTables-of : (q other : Query) (zero_set : List Bool) (asked : ℕ) (words cowords lower covalues upper : List ℕ) (rounds : ℕ) → IsQuery q → IsQuery other → IsZeroSet q zero_set → other ≡ swapped q zero_set
-    → IsRaced q asked words rounds → IsRaced other asked cowords rounds → lower ≡ values_of words → covalues ≡ values_of cowords → upper ≡ rests_of covalues → AreTables q zero_set asked words cowords lower covalues upper rounds
-AreTables-of q other zero_set asked words cowords lower covalues upper rounds posed coposed is_zero_set same raced coraced lower_is covalues_are upper_is = record {
+pub AreTables-of : (q other : Query) (zero_set : List Bool) (asked : ℕ) (words cowords lower covalues unlost : List ℕ) (rounds : ℕ) → IsQuery q → IsQuery other → IsZeroSet q zero_set → other ≡ swapped q zero_set
+    → IsRaced q asked words rounds → IsRaced other asked cowords rounds → lower ≡ values_of words → covalues ≡ values_of cowords → unlost ≡ rests_of covalues → AreTables q zero_set asked words cowords lower covalues unlost rounds
+AreTables-of q other zero_set asked words cowords lower covalues unlost rounds posed coposed is_zero_set same raced coraced lower_is covalues_are unlost_is = record {
   posed = posed;
   coposed = subst IsQuery same coposed;
   is_zero_set = is_zero_set;
@@ -129,47 +129,59 @@ AreTables-of q other zero_set asked words cowords lower covalues upper rounds po
   coraced = subst (λ (p : Query). IsRaced p asked cowords rounds) same coraced;
   lower_is = lower_is;
   covalues_are = covalues_are;
-  upper_is = upper_is;
+  unlost_is = unlost_is;
 }
 
-module _ (q : Query) (zero_set : List Bool) (asked : ℕ) (words cowords lower covalues upper : List ℕ) (rounds : ℕ) (h : AreTables q zero_set asked words cowords lower covalues upper rounds) where
+module _ (q : Query) (zero_set : List Bool) (asked : ℕ) (words cowords lower covalues unlost : List ℕ) (rounds : ℕ) (h : AreTables q zero_set asked words cowords lower covalues unlost rounds) where
   covalue-unit : (s : ℕ) → s < states q → slice_index covalues s ≤ unit
   covalue-unit s inside = units-raced (swapped q zero_set) asked cowords covalues rounds h.coposed h.coraced h.covalues_are s inside
 
   covalues-many : length covalues ≡ states q
   covalues-many = length-raced (swapped q zero_set) asked cowords covalues rounds h.coposed h.coraced h.covalues_are
 
-  upper-whole : (s : ℕ) → s < states q → slice_index upper s + slice_index covalues s ≡ unit
-  upper-whole s inside = omega (arith, rest-at covalues upper s h.upper_is (subst (λ n. s < n) (sym covalues-many) inside), covalue-unit s inside)
+  unlost-whole : (s : ℕ) → s < states q → slice_index unlost s + slice_index covalues s ≡ unit
+  unlost-whole s inside = omega (arith, rest-at covalues unlost s h.unlost_is (subst (λ n. s < n) (sym covalues-many) inside), covalue-unit s inside)
 
+  pub unlost-many : length unlost ≡ states q
+  unlost-many = ap length h.unlost_is ∙ length-map covalues (λ (v : ℕ). unit - v) ∙ covalues-many
+
+  pub unlost-units : All (λ v. v ≤ unit) unlost
+  unlost-units = λ s d inside. omega (arith, get_or_default unlost s d 0 inside, unlost-whole s (subst (λ n. s < n) unlost-many inside))
+
+  unlost-inductive : IsInductive q (slice_index unlost)
+  unlost-inductive = IsInductive-rest q zero_set covalues (picks_of cowords) h.coraced.sound.ranks (slice_index unlost) h.posed h.is_zero_set
+      (subst (λ (l : List ℕ). Ranked (swapped q zero_set) l (picks_of cowords) h.coraced.sound.ranks) (sym h.covalues_are) h.coraced.sound.ranked) unlost-whole
+
+module _ (q : Query) (zero_set : List Bool) (asked : ℕ) (words cowords lower covalues unlost guess upper : List ℕ) (rounds : ℕ) (h : AreTables q zero_set asked words cowords lower covalues unlost rounds)
+    (first : IsFirstGuess q zero_set (slice_index lower) guess) (guess_inductive : IsInductive q (slice_index guess)) (lesser : AreLesser unlost guess upper) where
   pub upper-many : length upper ≡ states q
-  upper-many = ap length h.upper_is ∙ length-map covalues (λ (v : ℕ). unit - v) ∙ covalues-many
+  upper-many = lesser.many ∙ unlost-many q zero_set asked words cowords lower covalues unlost rounds h
+
+  upper-at : (s : ℕ) → s < states q → slice_index upper s ≡ min (slice_index unlost s) (slice_index guess s)
+  upper-at s inside = lesser.each s (subst (λ n. s < n) (sym (unlost-many q zero_set asked words cowords lower covalues unlost rounds h)) inside)
+
+  whole : (s : ℕ) → s < states q → slice_index unlost s + slice_index covalues s ≡ unit
+  whole s inside = unlost-whole q zero_set asked words cowords lower covalues unlost rounds h s inside
+
+  -- at most the unit less the co-value
+  upper-within : (s : ℕ) → s < states q → slice_index upper s + slice_index covalues s ≤ unit
+  upper-within s inside = omega (arith, upper-at s inside, whole s inside)
 
   pub upper-units : All (λ v. v ≤ unit) upper
-  upper-units = λ s d inside. omega (arith, get_or_default upper s d 0 inside, upper-whole s (subst (λ n. s < n) upper-many inside))
+  upper-units = λ s d inside. omega (arith, get_or_default upper s d 0 inside, upper-within s (subst (λ n. s < n) upper-many inside))
 
   pub upper-inductive : IsInductive q (slice_index upper)
-  upper-inductive = IsInductive-rest q zero_set covalues (picks_of cowords) h.coraced.sound.ranks (slice_index upper) h.posed h.is_zero_set
-      (subst (λ (l : List ℕ). Ranked (swapped q zero_set) l (picks_of cowords) h.coraced.sound.ranks) (sym h.covalues_are) h.coraced.sound.ranked) upper-whole
+  upper-inductive s inside =
+      let least : IsInductive q (λ t. min (slice_index unlost t) (slice_index guess t)) = IsInductive-min q (slice_index unlost) (slice_index guess) h.posed (unlost-inductive q zero_set asked words cowords lower covalues unlost rounds h) guess_inductive in
+      omega (arith, upper-at s inside, least s inside, up_step-same q (slice_index upper) (λ t. min (slice_index unlost t) (slice_index guess t)) h.posed upper-at s)
 
   -- where the co-values are nowhere below the down steps of the swapped question
   coswept-from : (r : ℕ) → IsBelow (swapped q zero_set) (down_steps (swapped q zero_set) r) (slice_index covalues) → IsCoswept q zero_set r (slice_index upper)
-  coswept-from r swept = λ s inside. omega (arith, swept s inside, upper-whole s inside)
+  coswept-from r swept = λ s inside. omega (arith, swept s inside, upper-within s inside)
 
   near-from-coswept : (r : ℕ) → IsCoswept q zero_set r (slice_index upper) → IsNearAbove q zero_set r (slice_index upper)
   near-from-coswept r coswept = λ s inside.
       co-value-near q zero_set (AreChoicesOf-choices_of q.game h.posed.game) h.posed.sides (marked-goal q zero_set h.is_zero_set) r s (slice_index upper s) inside (omega (arith, coswept s inside))
-
-  covalue-rest : (s : ℕ) → s < states q → slice_index covalues s ≡ rest_of (slice_index upper) s
-  covalue-rest s inside = omega (arith, upper-whole s inside)
-
-  -- both are settled
-  settled-rest : (stable : Bool) → (stable ≡ true) ↔ (IsSettled q (slice_index lower) × IsSettled (swapped q zero_set) (slice_index covalues))
-      → (stable ≡ true) ↔ (IsSettled q (slice_index lower) × IsSettled (swapped q zero_set) (rest_of (slice_index upper)))
-  settled-rest stable settled = (
-    λ is. ((settled.0 is).0, settled-same (swapped q zero_set) (slice_index covalues) (rest_of (slice_index upper)) h.coposed covalue-rest (settled.0 is).1),
-    λ both. settled.1 (both.0, settled-same (swapped q zero_set) (rest_of (slice_index upper)) (slice_index covalues) h.coposed (λ s inside. sym (covalue-rest s inside)) both.1),
-  )
 
   pub IsBracket-raced : (stable : Bool) → (stable ≡ true) ↔ (IsSettled q (slice_index lower) × IsSettled (swapped q zero_set) (slice_index covalues)) → IsBracket q zero_set asked lower upper rounds stable
   IsBracket-raced stable settled =
@@ -181,9 +193,14 @@ module _ (q : Query) (zero_set : List Bool) (asked : ℕ) (words cowords lower c
       let coswept_asked : IsCoswept q zero_set asked (slice_index upper) = coswept-from asked corun.swept_asked in
       record {
         lower_length = many;
-        lower_units = λ s d inside. omega (arith, get_or_default lower s d 0 inside, units-raced q asked words lower rounds h.posed h.raced h.lower_is s (subst (λ n. s < n) many inside));
+        lower_units = all-units-raced q asked words lower rounds h.posed h.raced h.lower_is;
         upper_length = upper-many;
         upper_units = upper-units;
+        covalues = covalues;
+        covalue_units = λ s inside. omega (arith, whole s inside);
+        guess = guess;
+        guessed = first;
+        lesser = λ s inside. omega (arith, upper-at s inside, whole s inside);
         low = below-low q (slice_index lower) run.horizon chosen run.top;
         high = IsHigh-up_step q (slice_index upper) chosen upper-inductive;
         upper_inductive = upper-inductive;
@@ -197,11 +214,10 @@ module _ (q : Query) (zero_set : List Bool) (asked : ℕ) (words cowords lower c
         coswept_asked = coswept_asked;
         upper_near = near-from-coswept rounds coswept;
         upper_near_asked = near-from-coswept asked coswept_asked;
-        settled = settled-rest stable settled;
+        settled = settled;
         early = λ less. settled.1 (run.early less, corun.early less);
         least = λ is. IsLeastSettled-run q asked (slice_index lower) rounds h.posed run (settled.0 is).0;
-        coleast = λ is. IsLeastSettled-same (swapped q zero_set) (slice_index covalues) (rest_of (slice_index upper)) h.coposed covalue-rest
-            (IsLeastSettled-run (swapped q zero_set) asked (slice_index covalues) rounds h.coposed corun (settled.0 is).1);
+        coleast = λ is. IsLeastSettled-run (swapped q zero_set) asked (slice_index covalues) rounds h.coposed corun (settled.0 is).1;
       }
 
 -- two lower tables that are settled are both the least
@@ -220,24 +236,24 @@ settled-agree q zero other_zero asked other_asked lower upper other other_upper 
       second.least (slice_index lower) first.opens first.settled s within,
     ))
 
--- and two upper ones
+-- and two upper ones: the guesses are over the same lower table, and the co-values are both the least
 pub settled-upper-agree : (q : Query) (zero : List Bool) (asked other_asked : ℕ) (lower upper other_lower other : List ℕ) (rounds other_rounds : ℕ)
     → IsBracket q zero asked lower upper rounds true → IsBracket q zero other_asked other_lower other other_rounds true → upper ≡ other
 settled-upper-agree q zero asked other_asked lower upper other_lower other rounds other_rounds one two =
     let first = one.coleast refl in
     let second = two.coleast refl in
+    let lowers : lower ≡ other_lower = settled-agree q zero zero asked other_asked lower upper other_lower other rounds other_rounds one two in
+    let guesses : one.guess ≡ two.guess = one-first-guess q zero (slice_index other_lower) one.guess two.guess (subst (λ (l : List ℕ). IsFirstGuess q zero (slice_index l) one.guess) lowers one.guessed) two.guessed in
     same_lists upper other (one.upper_length ∙ sym two.upper_length) (λ s d inside.
     let within : s < states q = subst (λ n. s < n) one.upper_length inside in
     let there : s < length other = subst (λ n. s < n) (sym two.upper_length) within in
-    omega (
-      arith,
-      get_or_default upper s d 0 inside,
-      get_or_default other s d 0 there,
-      one.upper_units s 0 inside,
-      two.upper_units s 0 there,
-      first.least (rest_of (slice_index other)) second.opens second.settled s within,
-      second.least (rest_of (slice_index upper)) first.opens first.settled s within,
-    ))
+    let guess : slice_index one.guess s ≡ slice_index two.guess s = ap (λ (l : List ℕ). slice_index l s) guesses in
+    let over = first.least (slice_index two.covalues) second.opens second.settled s within in
+    let under = second.least (slice_index one.covalues) first.opens first.settled s within in
+    let covalue : slice_index one.covalues s ≡ slice_index two.covalues s = omega arith in
+    let same : min (unit - slice_index one.covalues s) (slice_index one.guess s) ≡ min (unit - slice_index two.covalues s) (slice_index two.guess s) =
+    ap (λ n. min (unit - n) (slice_index one.guess s)) covalue ∙ ap (λ n. min (unit - slice_index two.covalues s) n) guess in
+    get_or_default upper s d 0 inside ∙ one.lesser s within ∙ same ∙ sym (two.lesser s within) ∙ sym (get_or_default other s d 0 there))
 
 -- the choices of the words, where a plan needs them
 picks-at : (words : List ℕ) (s : ℕ) → s < length words → slice_index_or (picks_of words) s None ≡ Some (choice_in (slice_index words s))

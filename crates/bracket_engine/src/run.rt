@@ -13,7 +13,7 @@ ghost use Rattle.step_core.specs.Word.{values_of};
 
 use crate::bounds::Bracket;
 use crate::race::{Raced, race};
-use crate::tables::{choices_of_words, rests, values_of_words};
+use crate::tables::{choices_of_words, lesser, rests, values_of_words};
 use fixed_bellman::settled;
 use game_model::{Marks, Question};
 use game_outside::{Gate, OutOfMemory};
@@ -21,13 +21,15 @@ use inductive_check::{replies, swap};
 use std::alloc::Global;
 use std::marker::Brand;
 use std::thread::Threads;
+use upper_guess::guess;
 
 /// The most rounds that may be asked for.
 pub const MOST_ROUNDS: u32 = 1_000_000;
 
 /// The bracket after at most this many rounds, each of at most so many workers, who pass the gate before each
 /// state. A round is one on the lower table and then one on the co-values, which are lower bounds of the
-/// swapped question. The marks are the question's zero set. The only error is want of memory.
+/// swapped question. The upper table is the lesser of the unit less these and of the guess over the lower table. The
+/// marks are the question's zero set. The only error is want of memory.
 pub fn bracket<R: Threads + Sync, G: Gate + Sync>(
     rt: &R,
     alloc: Global,
@@ -51,7 +53,9 @@ pub fn bracket<R: Threads + Sync, G: Gate + Sync>(
     let raced = race::<R, Brand, Brand, G>(rt, alloc, question, &other, rounds, workers, gate)?;
     let lower = values_of_words(alloc, raced.words.as_slice())?;
     let covalues = values_of_words(alloc, raced.cowords.as_slice())?;
-    let upper = rests(alloc, &covalues)?;
+    let unlost = rests(alloc, &covalues)?;
+    let guessed = guess(alloc, &*question, &*zero, &lower)?;
+    let upper = lesser(alloc, &unlost, &guessed)?;
     let choices = choices_of_words(alloc, question, raced.words.as_slice())?;
     let replies = replies(alloc, question, &upper)?;
     let stable = is_stable(question, &other, &lower, &covalues, &raced, rounds);

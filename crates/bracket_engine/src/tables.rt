@@ -3,7 +3,7 @@
 ghost use Rattle.std.specs.Prelude.{◌≡◌, ℕ, ◌<◌, length, slice_index, slice_index_or, IfOk, None};
 ghost use Rattle.game_model.specs.Query.{states};
 ghost use Rattle.step_core.specs.Word.{values_of};
-ghost use Rattle.bracket_engine.specs.Bracket.{rests_of};
+ghost use Rattle.bracket_engine.specs.Bracket.{rests_of, AreLesser};
 ghost use Rattle.bracket_engine.specs.Choices.{choice_of_word};
 
 use game_model::{Question, Side, UNIT};
@@ -23,6 +23,18 @@ pub fn rests(alloc: Global, values: &[u64]) -> Result<Vec<u64>, OutOfMemory>
         Ok(rests) => Ok(rests),
         Err(_) => Err(OutOfMemory {}),
     }
+}
+
+/// The lesser of two tables, state by state.
+pub fn lesser(alloc: Global, one: &[u64], other: &[u64]) -> Result<Vec<u64>, OutOfMemory>
+    requires { length other.now ≡ length one.now }
+    ensures { IfOk result (λ table. AreLesser one.now other.now table.items) }
+{
+    let mut table = Vec::with_capacity(alloc, one.len())?;
+    for place in 0..one.len() {
+        table.push(one[place].min(other[place]))?;
+    }
+    Ok(table)
 }
 
 /// The values of words.

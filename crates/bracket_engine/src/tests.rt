@@ -36,10 +36,10 @@ fn the_coin_loop_settles_at_round_40(rt: HostRuntime) -> Result<(), Fail> {
     let question = coin_question(alloc, &game)?;
     let zero = zeros_of(alloc, &question)?;
     for (asked, lower, upper, rounds, stable) in [
-        (0, 0, UNIT, 0, false),
-        (2, UNIT / 8 * 3, UNIT / 8 * 5, 2, false),
-        (39, UNIT / 2 - 1, UNIT / 2 + 1, 39, true),
-        (1_000, UNIT / 2 - 1, UNIT / 2 + 1, 40, true),
+        (0, 0, 549_755_813_888, 0, false),
+        (2, UNIT / 8 * 3, 512_438_953_472, 2, false),
+        (39, UNIT / 2 - 1, UNIT / 2, 39, true),
+        (1_000, UNIT / 2 - 1, UNIT / 2, 40, true),
     ] {
         let Ok(found) = bracket(&rt, alloc, &question, &zero, asked, 1, &OpenGate {}) else {
             return Err(Fail::new("no memory"));

@@ -30,7 +30,7 @@ pub const AGREEMENT_OWNERS: &str = "0=\"p1\" 1=\"p2\"\n1: 1\n2: 1\n8: 1\n9: 1\n"
 
 /// What the coin loop reports.
 pub const COIN_LOOP_REPORT: &str =
-    "state 0 lower 0.499999999999 upper 0.500000000001 rounds 40 Bracket\n";
+    "state 0 lower 0.499999999999 upper 0.500000000000 rounds 40 Bracket\n";
 
 /// What words that denote no command report.
 pub const USAGE: &str =

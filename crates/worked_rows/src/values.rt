@@ -30,7 +30,7 @@ fn the_coin_loop_has_one_half(rt: HostRuntime) -> Result<(), Fail> {
     )?;
     let two = "0=\"init\" 1=\"goal\"\n2: 0\n0: 0\n1: 1\n";
     let lines =
-        "state 0 lower 0.499999999999 upper 0.500000000001 rounds 40 Bracket\nstate 2 lower 0.000000000000 upper 0.000000000000 rounds 40 Bracket\n";
+        "state 0 lower 0.499999999999 upper 0.500000000000 rounds 40 Bracket\nstate 2 lower 0.000000000000 upper 0.000000000000 rounds 40 Bracket\n";
     writes(
         &rt,
         alloc,
@@ -143,6 +143,6 @@ fn coalitions_choose_at_the_states_of_their_players(rt: HostRuntime) -> Result<(
         formula: "<<p1>> Pmax=? [ \"ok\" U \"done\" ]",
         numbers: ONE_WORKER,
     };
-    let agreed = "state 0 lower 0.839999999999 upper 0.840000000001 rounds 20 Bracket\n";
+    let agreed = "state 0 lower 0.839999999999 upper 0.840000000000 rounds 20 Bracket\n";
     writes(&rt, alloc, agreement, agreed, Status::Fine)
 }

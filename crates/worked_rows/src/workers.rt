@@ -15,7 +15,7 @@ use stogame_app::Status;
 const REACH: &str = "Pmax=? [ F \"goal\" ]";
 
 /// What stands before the number of rounds in the agreement's line.
-const AGREED: &str = "state 0 lower 0.839999999999 upper 0.840000000001 rounds ";
+const AGREED: &str = "state 0 lower 0.839999999999 upper 0.840000000000 rounds ";
 
 fn agreement<'a>(numbers: &'a [&'a str]) -> Row<'a> {
     Row {
@@ -113,15 +113,15 @@ fn at_most_the_asked_rounds_are_made(rt: HostRuntime) -> Result<(), Fail> {
     for (rounds, line) in [
         (
             "0",
-            "state 0 lower 0.000000000000 upper 1.000000000000 rounds 0 Bracket\n",
+            "state 0 lower 0.000000000000 upper 0.549755813888 rounds 0 Bracket\n",
         ),
         (
             "1",
-            "state 0 lower 0.250000000000 upper 0.750000000000 rounds 1 Bracket\n",
+            "state 0 lower 0.250000000000 upper 0.524877906944 rounds 1 Bracket\n",
         ),
         (
             "+002",
-            "state 0 lower 0.375000000000 upper 0.625000000000 rounds 2 Bracket\n",
+            "state 0 lower 0.375000000000 upper 0.512438953472 rounds 2 Bracket\n",
         ),
         ("1000000", COIN_LOOP_REPORT),
     ] {
