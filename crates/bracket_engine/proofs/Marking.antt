@@ -1,5 +1,5 @@
 -- Predecessors are marked, one after another.
-use Rattle.std.proofs.Common.{◌≡◌, ◌≢◌, ℕ, ◌+◌, ◌<◌, ◌≤◌, Bool, true, false, List, [], length, arith, refl, le_refl, sym, ◌∙◌, subst, ap, inl, inr, slice_index_or, get_or-set_other, get_or-set_same}
+use Rattle.std.proofs.Common.{◌≡◌, ◌≢◌, ℕ, ◌+◌, ◌<◌, ◌≤◌, Bool, true, false, List, [], length, arith, refl, sym, ◌∙◌, subst, inl, inr, slice_index_or, get_or-set_other, get_or-set_same}
 use Rattle.std.specs.Prelude.{Contains, slice_set}
 use Rattle.std.proofs.lemmas.Bool.{cases_eq, cases_lt}
 use Rattle.std.specs.List.{AllWithin}

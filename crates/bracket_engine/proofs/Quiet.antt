@@ -1,5 +1,5 @@
 -- What marks promise, kept from round to round.
-use Rattle.std.proofs.Common.{◌≡◌, ◌≢◌, ℕ, ◌*◌, ◌/◌, ◌<◌, ◌≤◌, Bool, true, false, List, length, arith, refl, sym, ap, ◌∙◌, subst, inl, inr, le_trans, slice_index_or}
+use Rattle.std.proofs.Common.{◌≡◌, ℕ, ◌*◌, ◌<◌, ◌≤◌, Bool, true, false, List, length, arith, refl, sym, ap, ◌∙◌, subst, le_trans, slice_index_or}
 use Rattle.std.proofs.lemmas.List.{get_or-map, length-map}
 use Rattle.std.proofs.lemmas.List.Elements.{recursion_from_All, All-from_get_or, Contains-get_or}
 use Rattle.std.specs.Prelude.{Contains}
@@ -18,7 +18,7 @@ use Rattle.round_workers.proofs.Blocks.{div-rises}
 use Rattle.predecessors.specs.Moves.{successors, LeadsTo}
 use Rattle.round_workers.specs.Marks.{IsMarked}
 use Rattle.bracket_engine.specs.declared.agenda.Agenda.{Agenda}
-use Rattle.bracket_engine.specs.Agenda.{read_of, IsSized, IsAgenda, IsReadAgain, AreMarkedFor}
+use Rattle.bracket_engine.specs.Agenda.{read_of, IsAgenda, IsReadAgain, AreMarkedFor}
 
 -- the value of a choice looks only at its successors
 choice-of-successors : (q : Query) (v w : ℕ → ℕ) (s c : ℕ) → IsQuery q → s < states q → c < length (choices_of q.game s) → ((t : ℕ) → t < states q → LeadsTo q.game s c t → v t ≤ w t)

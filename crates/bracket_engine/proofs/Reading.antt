@@ -1,11 +1,9 @@
 -- States are looked at again, one after another.
-use Rattle.std.proofs.Common.{◌≡◌, ◌≢◌, ℕ, ◌+◌, ◌<◌, ◌≤◌, Bool, true, false, List, length, arith, sym, ◌∙◌, subst, ap, inl, inr, le_trans, slice_index_or}
+use Rattle.std.proofs.Common.{◌≡◌, ℕ, ◌+◌, ◌<◌, ◌≤◌, true, false, arith, sym, ◌∙◌, subst, inl, inr, le_trans, slice_index_or}
 use Rattle.std.proofs.lemmas.Bool.{cases_eq, cases_lt}
 use Rattle.std.specs.List.{AllWithin}
-use Rattle.game_model.specs.Query.{Query, states}
-use Rattle.round_workers.specs.Marks.{IsMarked}
 use Rattle.bracket_engine.specs.declared.agenda.Agenda.{Agenda}
-use Rattle.bracket_engine.specs.Agenda.{read_of, IsSized, IsStateRead, IsElsewhere}
+use Rattle.bracket_engine.specs.Agenda.{read_of, IsStateRead, IsElsewhere}
 
 -- the states below i were looked at again, and the others are as they were
 pub record IsReadBelow (i : ℕ) (old now : Agenda) (before after : ℕ → ℕ) : Type 0 where

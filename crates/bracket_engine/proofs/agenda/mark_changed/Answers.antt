@@ -1,5 +1,4 @@
 use Rattle.std.proofs.Common.{◌≡◌, ◌+◌, Bool, false, List, length, arith, sym, ◌∙◌, ap, subst}
-use Rattle.std.specs.Prelude.{slice_set}
 use Rattle.std.proofs.lemmas.List.{length-set}
 use Rattle.round_workers.specs.Marks.{IsNextMark}
 use Rattle.bracket_engine.proofs.Marking.{AreMarkedBelow, marked-more, marked-over}

@@ -1,4 +1,4 @@
-use Rattle.std.proofs.Common.{◌≡◌, ℕ, ◌<◌, Bool, List, length, arith, inl, inr, subst, sym, ◌∙◌, true, slice_index_or}
+use Rattle.std.proofs.Common.{ℕ, ◌<◌, Bool, List, length, arith, inl, inr, subst, sym, ◌∙◌, true, slice_index_or}
 use Rattle.std.specs.Prelude.{slice_set}
 use Rattle.std.proofs.lemmas.Bool.{cases_eq}
 use Rattle.std.proofs.lemmas.List.{length-set}

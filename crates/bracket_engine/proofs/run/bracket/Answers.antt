@@ -3,7 +3,6 @@ use Rattle.std.specs.Prelude.{All, ◌↔◌, slice_index, slice_index_or, None}
 use Rattle.game_model.specs.Query.{Query, states}
 use Rattle.game_model.specs.Limits.{unit}
 use Rattle.game_model.specs.Rounded.{IsSettled, IsInductive}
-use Rattle.game_model.specs.Dual.{swapped}
 use Rattle.step_core.specs.Word.{values_of}
 use Rattle.inductive_check.specs.Replies.{AreReplies, AreFirstReplies, HoldsUnder}
 use Rattle.bracket_engine.specs.Bracket.{rests_of}

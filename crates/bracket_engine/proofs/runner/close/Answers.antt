@@ -1,4 +1,4 @@
-use Rattle.std.proofs.Common.{ℕ, ◌*◌, ◌≤◌, List, le_trans}
+use Rattle.std.proofs.Common.{ℕ, ◌*◌, List, le_trans}
 use Rattle.game_model.specs.Query.{IsQuery, states}
 use Rattle.game_model.specs.Rounded.{IsBelow}
 use Rattle.step_core.specs.Word.{value_at}

@@ -1,4 +1,4 @@
-use Rattle.std.proofs.Common.{ℕ, ◌+◌, ◌≤◌, ◌∙◌, arith}
+use Rattle.std.proofs.Common.{◌≤◌, ◌∙◌, arith}
 use Rattle.bracket_engine.specs.Agenda.{read_of}
 use Rattle.bracket_engine.proofs.Racing.{swept-more}
 use Rattle.bracket_engine.proofs.runner.one_round.Goals as goal
