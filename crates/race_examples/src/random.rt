@@ -10,6 +10,7 @@ use std::alloc::Global;
 
 /// Numbers that are drawn one after another (a linear congruential generator: Knuth, The Art of Computer Programming, volume 2,
 /// section 3.2.1).
+#[derive(Drop)]
 pub struct Draw {
     state: u64,
 }
@@ -97,17 +98,17 @@ pub fn opening_table(alloc: Global, question: &Question) -> Option<Vec<u64>>
     Some(table)
 }
 
-/// One sweep over all states in rising order. How many entries it raised.
-pub fn plain_sweep(question: &Question, table: &mut [u64]) -> u32
+/// One sweep over all states in rising order. Whether it raised an entry.
+pub fn plain_sweep(question: &Question, table: &mut [u64]) -> bool
     requires many { length table.old ≡ states question.now }
     requires units { All (λ v. v ≤ unit) table.old }
     ensures units { All (λ v. v ≤ unit) table.new }
 {
-    let mut raised = 0;
+    let mut raised = false;
     for state in 0..question.game().states() {
         if let Some((value, _)) = raised_state(question, state, table) {
             table[state as usize] = value;
-            raised += 1;
+            raised = true;
         }
     }
     raised

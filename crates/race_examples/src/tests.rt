@@ -253,7 +253,7 @@ fn agrees_with_plain_sweeps<R: Abort + Threads + Sync>(
             return Some(());
         }
         if !ended {
-            ended = plain_sweep(question, table.as_mut_slice()) == 0;
+            ended = !plain_sweep(question, table.as_mut_slice());
             rounds = asked + 1;
         }
     }
