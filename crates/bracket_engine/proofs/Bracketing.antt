@@ -12,7 +12,7 @@ use Rattle.game_model.specs.Limits.{unit}
 use Rattle.game_model.specs.Values.{denominator, numerator}
 use Rattle.game_model.specs.Rounded.{down_steps, opening, IsBelow, IsSettled, IsInductive}
 use Rattle.game_model.specs.Ranks.{Ranked, HasRankedChoice}
-use Rattle.game_model.specs.Bounds.{IsLow, IsHigh}
+use Rattle.game_model.specs.Bounds.{IsLow}
 use Rattle.game_model.specs.Dual.{IsZeroSet, swapped}
 use Rattle.game_model.proofs.Choices.{AreChoicesOf, AreChoicesOf-choices_of}
 use Rattle.game_model.proofs.Marked.{marked-goal}

@@ -1,13 +1,15 @@
 // Races on the games.
 ghost use Rattle.std.specs.Prelude.{◌≡◌, ◌≤◌, IfSome, length, vec_len};
 ghost use Rattle.game_model.specs.Query.{states};
+ghost use Rattle.game_model.specs.Dual.{IsZeroSet};
 ghost use Rattle.value_words.specs.Passes.{IsOf, Grew};
 
 use super::*;
 use crate::random::{Draw, opening_table, plain_sweep, random_game, random_question};
 use bracket_engine::bracket;
-use game_model::Question;
+use game_model::{Marks, Question, UNIT};
 use game_outside::{HoldGate, OpenGate};
+use inductive_check::swap;
 use predecessors::Predecessors;
 use round_workers::{first_state, round, worker_of};
 use std::alloc::Global;
@@ -17,6 +19,7 @@ use std::process::Abort;
 use std::test::Fail;
 use std::thread::{Threads, join};
 use step_core::{Event, Refused, World, pack, value_of};
+use upper_guess::guess;
 use value_words::{Pass, Posing, ValueTable, Words};
 use zero_sets::zero_set;
 
@@ -230,34 +233,80 @@ fn two_workers_share_the_agreement_protocol_by_edges(rt: HostRuntime) -> Result<
     Ok(())
 }
 
-// Compares the brackets of one worker with plain sweeps, after each number of rounds until a sweep raises nothing.
+// Whether each upper bound is the lesser of the unit less the co-value and of the guess.
+fn are_least(uppers: &[u64], covalues: &[u64], guessed: &[u64]) -> bool {
+    if uppers.len() != covalues.len() || uppers.len() != guessed.len() {
+        return false;
+    }
+    for place in 0..uppers.len() {
+        let rest = UNIT.saturating_sub(covalues[place]);
+        if uppers[place] != rest.min(guessed[place]) {
+            return false;
+        }
+    }
+    true
+}
+
+// Compares the brackets of one worker with plain sweeps on the question and on the swapped one, after each number of
+// rounds until both sweeps raise nothing.
 fn agrees_with_plain_sweeps<R: Abort + Threads + Sync>(
     rt: &R,
     alloc: Global,
     question: &Question<'_>,
-) -> Option<()> {
-    question.known();
-    let zero = zero_set(alloc, question).ok()?;
+    other: &Question<'_>,
+    zero: &Marks,
+) -> Option<()>
+    requires { IsZeroSet question.now zero.now }
+{
     let mut table = opening_table(alloc, question)?;
+    let mut covalues = opening_table(alloc, other)?;
     let mut rounds = 0;
     let mut ended = false;
     for asked in 0..40 {
-        let found = bracket(rt, alloc, question, &zero, asked, 1, &OpenGate {}).ok()?;
+        let found = bracket(rt, alloc, question, zero, asked, 1, &OpenGate {}).ok()?;
         assert_eq!(rt;
             found.lower.as_slice(),
             table.as_slice(),
             "after {asked} rounds"
         );
+        let guessed = guess(alloc, &*question, &*zero, &table).ok()?;
+        let least = are_least(&found.upper, &covalues, &guessed);
+        assert!(rt; least, "the upper table after {asked} rounds");
         assert_eq!(rt; found.rounds, rounds, "of {asked} rounds");
         if rounds < asked {
             return Some(());
         }
         if !ended {
-            ended = !plain_sweep(question, table.as_mut_slice());
+            let raised = plain_sweep(question, table.as_mut_slice());
+            let coraised = plain_sweep(other, covalues.as_mut_slice());
+            ended = !raised && !coraised;
             rounds = asked + 1;
         }
     }
     Some(())
+}
+
+// The zero set of a question.
+fn zero_set_of(alloc: Global, question: &Question<'_>) -> Option<Marks>
+    ensures { IfSome result (λ zero. IsZeroSet question.now zero) }
+{
+    match zero_set(alloc, question) {
+        Ok(zero) => Some(zero),
+        Err(_) => None,
+    }
+}
+
+// The same for a random game and question.
+fn agrees_on_a_random_question<R: Abort + Threads + Sync>(
+    rt: &R,
+    alloc: Global,
+    draw: &mut Draw,
+) -> Option<()> {
+    let game = random_game(alloc, draw)?;
+    let question = random_question(alloc, draw, &game)?;
+    let zero = zero_set_of(alloc, &question)?;
+    let other = swap(alloc, &question, &zero).ok()?;
+    agrees_with_plain_sweeps(rt, alloc, &question, &other, &zero)
 }
 
 #[test]
@@ -265,9 +314,7 @@ fn marked_rounds_of_one_worker_are_plain_sweeps(rt: HostRuntime) -> Result<(), F
     let alloc = rt.alloc();
     let mut draw = Draw::new(7);
     for _model in 0..2_500 {
-        let game = random_game(alloc, &mut draw).ok_or("the game")?;
-        let question = random_question(alloc, &mut draw, &game).ok_or("the question")?;
-        agrees_with_plain_sweeps(&rt, alloc, &question).ok_or("memory")?;
+        agrees_on_a_random_question(&rt, alloc, &mut draw).ok_or("no game, question or memory")?;
     }
     Ok(())
 }
