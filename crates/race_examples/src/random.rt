@@ -1,11 +1,11 @@
-// Random small games, and plain sweeps over them.
+// Random small games, and plain sweeps and guesses over them.
 ghost use Rattle.std.specs.Prelude.{◌≡◌, ◌<◌, ◌≤◌, All, IfSome, length};
 ghost use Rattle.game_model.specs.Query.{states};
 ghost use Rattle.game_model.specs.Limits.{unit};
 
 use crate::draft::{Draft, question};
-use fixed_bellman::raised_state;
-use game_model::{Game, Question, Side, UNIT};
+use fixed_bellman::{raised_state, up_state};
+use game_model::{Game, Marks, Question, Side, UNIT};
 use std::alloc::Global;
 
 /// Numbers that are drawn one after another (a linear congruential generator: Knuth, The Art of Computer Programming, volume 2,
@@ -46,9 +46,9 @@ fn random_edges(alloc: Global, draw: &mut Draw, states: u32) -> Option<Vec<(u32,
     Some(edges)
 }
 
-/// A game of two to eight states with one or two choices each.
+/// A game of two to five states with one or two choices each.
 pub fn random_game(alloc: Global, draw: &mut Draw) -> Option<Game> {
-    let states = 2 + draw.below(7);
+    let states = 2 + draw.below(4);
     let mut draft = Draft::new(alloc, states);
     for _state in 0..states {
         let first = random_edges(alloc, draw, states)?;
@@ -112,4 +112,85 @@ pub fn plain_sweep(question: &Question, table: &mut [u64]) -> bool
         }
     }
     raised
+}
+
+/// The first guess of an excess over a lower table: 0 on the zero set and the unit on goals.
+fn guess_of_excess(
+    alloc: Global,
+    question: &Question,
+    zero: &Marks,
+    lower: &[u64],
+    excess: u64,
+) -> Option<Vec<u64>>
+    requires zero { length zero.now ≡ states question.now }
+    requires many { length lower.now ≡ states question.now }
+    ensures many { IfSome result (λ table. length table.items ≡ states question.now) }
+    ensures units { IfSome result (λ table. All (λ v. v ≤ unit) table.items) }
+{
+    let mut table = Vec::new(alloc);
+    for state in 0..question.game().states() {
+        let entry = if zero.has(state) {
+            0
+        } else if question.is_goal(state) {
+            UNIT
+        } else {
+            UNIT.min(lower[state as usize].saturating_add(excess))
+        };
+        table.push(entry).ok()?;
+    }
+    Some(table)
+}
+
+/// The up step of a table.
+fn plain_up_step(alloc: Global, question: &Question, table: &[u64]) -> Option<Vec<u64>>
+    requires many { length table.now ≡ states question.now }
+    requires units { All (λ v. v ≤ unit) table.now }
+    ensures many { IfSome result (λ next. length next.items ≡ states question.now) }
+    ensures units { IfSome result (λ next. All (λ v. v ≤ unit) next.items) }
+{
+    let mut next = Vec::new(alloc);
+    for state in 0..question.game().states() {
+        next.push(up_state(question, state, table)).ok()?;
+    }
+    Some(next)
+}
+
+// Whether one table is nowhere above another.
+fn is_below(one: &[u64], other: &[u64]) -> bool {
+    one.iter().zip(other.iter()).all(|(a, b)| a <= b)
+}
+
+// The first table of one excess whose up step is nowhere above it.
+fn first_of_excess(alloc: Global, question: &Question, first: Vec<u64>) -> Option<Option<Vec<u64>>>
+    requires many { length first.items ≡ states question.now }
+    requires units { All (λ v. v ≤ unit) first.items }
+{
+    let mut table = first;
+    for _step in 0..5 {
+        let next = plain_up_step(alloc, question, &table)?;
+        if is_below(&next, &table) {
+            return Some(Some(table));
+        }
+        table = next;
+    }
+    Some(None)
+}
+
+/// The guess over a lower table, from the plain list of full tables.
+pub fn plain_guess(
+    alloc: Global,
+    question: &Question,
+    zero: &Marks,
+    lower: &[u64],
+) -> Option<Vec<u64>>
+    requires zero { length zero.now ≡ states question.now }
+    requires many { length lower.now ≡ states question.now }
+{
+    for place in 0..42u32 {
+        let first = guess_of_excess(alloc, question, zero, lower, (1u64 << place) / 2)?;
+        if let Some(table) = first_of_excess(alloc, question, first)? {
+            return Some(table);
+        }
+    }
+    None
 }

@@ -1,11 +1,12 @@
 // Races on the games.
-ghost use Rattle.std.specs.Prelude.{◌≡◌, ◌≤◌, IfSome, length, vec_len};
+ghost use Rattle.std.specs.Prelude.{◌≡◌, ◌≤◌, All, IfSome, length, vec_len};
+ghost use Rattle.game_model.specs.Limits.{unit};
 ghost use Rattle.game_model.specs.Query.{states};
 ghost use Rattle.game_model.specs.Dual.{IsZeroSet};
 ghost use Rattle.value_words.specs.Passes.{IsOf, Grew};
 
 use super::*;
-use crate::random::{Draw, opening_table, plain_sweep, random_game, random_question};
+use crate::random::{Draw, opening_table, plain_guess, plain_sweep, random_game, random_question};
 use bracket_engine::bracket;
 use game_model::{Marks, Question, UNIT};
 use game_outside::{HoldGate, OpenGate};
@@ -233,22 +234,45 @@ fn two_workers_share_the_agreement_protocol_by_edges(rt: HostRuntime) -> Result<
     Ok(())
 }
 
-// Whether each upper bound is the lesser of the unit less the co-value and of the guess.
-fn are_least(uppers: &[u64], covalues: &[u64], guessed: &[u64]) -> bool {
-    if uppers.len() != covalues.len() || uppers.len() != guessed.len() {
-        return false;
+// Whether no upper bound is above the unit less the co-value.
+fn are_within(uppers: &[u64], covalues: &[u64]) -> bool {
+    uppers.len() == covalues.len()
+        && uppers
+            .iter()
+            .zip(covalues.iter())
+            .all(|(upper, covalue)| *upper <= UNIT.saturating_sub(*covalue))
+}
+
+// Compares the guess over a table with the first of all full tables, and an upper table with the lesser of it and of the
+// unit less the co-values.
+fn agrees_with_the_plain_guess<R: Abort>(
+    rt: &R,
+    alloc: Global,
+    question: &Question<'_>,
+    zero: &Marks,
+    table: &[u64],
+    covalues: &[u64],
+    uppers: &[u64],
+) -> Option<()>
+    requires zero { IsZeroSet question.now zero.now }
+    requires many { length table.now ≡ states question.now }
+    requires units { All (λ v. v ≤ unit) table.now }
+{
+    let guessed = guess(alloc, &*question, &*zero, &*table).ok()?;
+    let plain = plain_guess(alloc, question, zero, table)?;
+    assert_eq!(rt; guessed.as_slice(), plain.as_slice(), "the guess");
+    for ((upper, covalue), entry) in uppers.iter().zip(covalues.iter()).zip(plain.iter()) {
+        assert_eq!(rt;
+            *upper,
+            UNIT.saturating_sub(*covalue).min(*entry),
+            "an upper bound"
+        );
     }
-    for place in 0..uppers.len() {
-        let rest = UNIT.saturating_sub(covalues[place]);
-        if uppers[place] != rest.min(guessed[place]) {
-            return false;
-        }
-    }
-    true
+    Some(())
 }
 
 // Compares the brackets of one worker with plain sweeps on the question and on the swapped one, after each number of
-// rounds until both sweeps raise nothing.
+// rounds up to eleven or until both sweeps raise nothing.
 fn agrees_with_plain_sweeps<R: Abort + Threads + Sync>(
     rt: &R,
     alloc: Global,
@@ -262,16 +286,26 @@ fn agrees_with_plain_sweeps<R: Abort + Threads + Sync>(
     let mut covalues = opening_table(alloc, other)?;
     let mut rounds = 0;
     let mut ended = false;
-    for asked in 0..40 {
+    for asked in 0..12 {
         let found = bracket(rt, alloc, question, zero, asked, 1, &OpenGate {}).ok()?;
         assert_eq!(rt;
             found.lower.as_slice(),
             table.as_slice(),
             "after {asked} rounds"
         );
-        let guessed = guess(alloc, &*question, &*zero, &table).ok()?;
-        let least = are_least(&found.upper, &covalues, &guessed);
-        assert!(rt; least, "the upper table after {asked} rounds");
+        let within = are_within(&found.upper, &covalues);
+        assert!(rt; within, "the upper table after {asked} rounds");
+        if asked == 2 {
+            agrees_with_the_plain_guess(
+                rt,
+                alloc,
+                question,
+                zero,
+                &table,
+                &covalues,
+                &found.upper,
+            )?;
+        }
         assert_eq!(rt; found.rounds, rounds, "of {asked} rounds");
         if rounds < asked {
             return Some(());
@@ -313,7 +347,7 @@ fn agrees_on_a_random_question<R: Abort + Threads + Sync>(
 fn marked_rounds_of_one_worker_are_plain_sweeps(rt: HostRuntime) -> Result<(), Fail> {
     let alloc = rt.alloc();
     let mut draw = Draw::new(7);
-    for _model in 0..2_500 {
+    for _model in 0..2_000 {
         agrees_on_a_random_question(&rt, alloc, &mut draw).ok_or("no game, question or memory")?;
     }
     Ok(())
