@@ -12,18 +12,15 @@ use crate::guesses::Guesses;
 use fixed_bellman::Quotient;
 use game_model::{Side, UNIT};
 
-/// How many states a recursion looks into.
-const BUDGET: u32 = 1000;
-
 impl Guesses<'_> {
     /// Whether a table is seen to be refused at this state alone. It is not seen where the recursion would
-    /// look into too many states.
+    /// look into more states than the question has: then the table costs no more.
     pub fn refuses_at(&self, steps: u32, state: u32) -> bool
         requires steps { steps ≤ most_steps }
         requires state { state < states self.now.question.now }
         ensures { IsTrue result → IsRefusedOf self.now steps }
     {
-        let mut budget = BUDGET;
+        let mut budget = self.question.game().states();
         let Some(entry) = self.entry(steps, state, &mut budget) else {
             return false;
         };
