@@ -1,1 +1,6 @@
 pub mod Fixed
+pub mod Entries
+pub mod Written
+pub mod Said
+pub mod Read
+pub mod Laws

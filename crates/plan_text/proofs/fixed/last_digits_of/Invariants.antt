@@ -1,6 +1,6 @@
 use Rattle.std.proofs.Common.{◌≡◌, ◌≤◌, ◌++◌, drop, length}
 use Rattle.plan_text.specs.Fixed.{last_digits, unit_digits}
-use Rattle.plan_text.proofs.last_digits_of.Given as goal
+use Rattle.plan_text.proofs.fixed.last_digits_of.Given as goal
 
 abbrev pub invariant-loop-place : goal.invariant-loop-place
 invariant-loop-place l = record {

@@ -1,6 +1,6 @@
 use Rattle.std.proofs.Common.{◌∙◌, arith, rules}
 use Rattle.plan_text.proofs.Digits.{digit_more, nothing_left}
-use Rattle.plan_text.proofs.last_digits_of.Goals as goal
+use Rattle.plan_text.proofs.fixed.last_digits_of.Goals as goal
 
 pub loop-place-preserved : goal.loop-place-preserved
 loop-place-preserved c = record {

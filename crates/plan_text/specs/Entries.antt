@@ -1,0 +1,54 @@
+-- What a certificate says: an entry for each state.
+use Rattle.std.specs.Prelude.{◌≡◌, ℕ, ◌≤◌, List, length, map, slice_index, slice_index_or, Option, Some, None}
+use Rattle.std.specs.List.{range_with_len}
+use Rattle.game_model.specs.Limits.{unit}
+use Rattle.plan_text.specs.declared.plan.Plan.{Plan}
+
+-- the bounds of a state, the choices of both sides, where they are given, and the rank
+pub record Entry : Type 0 where
+  pub lower : ℕ
+  pub choice : Option ℕ
+  pub rank : ℕ
+  pub upper : ℕ
+  pub reply : Option ℕ
+
+-- the greatest number of a choice: a word keeps it in 24 bits
+abbrev pub greatest_choice : ℕ
+greatest_choice = 16777215
+
+abbrev pub greatest_rank : ℕ
+greatest_rank = 4294967295
+
+abbrev pub IsSmall : Option ℕ → Type 0
+IsSmall None = Unit {0}
+IsSmall (Some choice) = choice ≤ greatest_choice
+
+-- the bounds are values, and choices and the rank have their limits
+pub record IsInRange (entry : Entry) : Type 0 where
+  pub lower : entry.lower ≤ unit
+  pub choice : IsSmall entry.choice
+  pub rank : entry.rank ≤ greatest_rank
+  pub upper : entry.upper ≤ unit
+  pub reply : IsSmall entry.reply
+
+-- the five lists of a plan have this length
+pub record HasStates (plan : Plan) (states : ℕ) : Type 0 where
+  pub lower : length plan.lower.items ≡ states
+  pub choices : length plan.choices.items ≡ states
+  pub ranks : length plan.ranks.items ≡ states
+  pub upper : length plan.upper.items ≡ states
+  pub replies : length plan.replies.items ≡ states
+
+-- what the plan says of a state
+abbrev pub entry_at : Plan → ℕ → Entry
+entry_at plan s = record {
+  lower = slice_index plan.lower.items s;
+  choice = slice_index_or plan.choices.items s None;
+  rank = slice_index plan.ranks.items s;
+  upper = slice_index plan.upper.items s;
+  reply = slice_index_or plan.replies.items s None;
+}
+
+-- what the plan says of each state
+abbrev pub entries_of : Plan → List Entry
+entries_of plan = map (entry_at plan) (range_with_len 0 (length plan.lower.items))

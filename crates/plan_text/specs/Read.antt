@@ -1,0 +1,27 @@
+-- The parts of a certificate, as they are read one after another.
+use Rattle.std.specs.Prelude.{ℕ, ◌+◌, List, [], ◌∷◌, option_map, if◌then◌else◌, Result, Ok, Err}
+use Rattle.text_lines.specs.Text.{fields_of, is_nil, saturated}
+use Rattle.plan_text.specs.declared.fault.PlanFault.{PlanFault}
+use Rattle.plan_text.specs.declared.fault.PlanCause.TheVariants.{BadLine, MissingLine}
+use Rattle.plan_text.specs.Entries.{Entry}
+use Rattle.plan_text.specs.Said.{fault_at, then_at, line_said}
+
+-- an entry with its numbers as far as 64 bits go
+abbrev pub saturated_entry : Entry → Entry
+saturated_entry entry = record {
+  lower = entry.lower;
+  choice = option_map saturated entry.choice;
+  rank = saturated entry.rank;
+  upper = entry.upper;
+  reply = option_map saturated entry.reply;
+}
+
+-- what the first of these lines says of this state, and the lines behind it
+abbrev pub first_said : ℕ → ℕ → List (List ℕ) → Result (Entry × List (List ℕ)) PlanFault
+first_said s number [] = Err (fault_at number MissingLine)
+first_said s number (line ∷ lines) = then_at number (line_said s line) (λ entry. Ok (entry, lines))
+
+-- all of these lines are blank, or the first that is not is at fault
+abbrev pub end_said : ℕ → List (List ℕ) → Result (Unit {0}) PlanFault
+end_said number [] = Ok tt
+end_said number (line ∷ lines) = if is_nil (fields_of line) then end_said (number + 1) lines else Err (fault_at number BadLine)

@@ -1,0 +1,99 @@
+-- What the text of a certificate says of so many states: an entry for each, or its first fault.
+use Rattle.std.specs.Prelude.{◌≡◌, ℕ, ◌+◌, ◌-◌, ◌*◌, ◌==◌, ◌&&◌, ◌⊎◌, nat_le, bytes_eq, Bool, true, false, List, [], ◌∷◌, ◌++◌, length, Option, Some, None, option_map, codes, if◌then◌else◌, Result, Ok, Err}
+use Rattle.game_model.specs.Limits.{unit}
+use Rattle.text_lines.specs.Text.{lines_of, fields_of, number_of, significant, is_digit, all_digits, is_nil, value_onto}
+use Rattle.plan_text.specs.declared.plan.Plan.{Plan}
+use Rattle.plan_text.specs.declared.fault.PlanFault.{PlanFault}
+use Rattle.plan_text.specs.declared.fault.PlanCause.{PlanCause}
+use Rattle.plan_text.specs.declared.fault.PlanCause.TheVariants.{OutOfMemory, NoCertificate, Version, StateCount, BadLine, NumberOutOfRange, MissingLine}
+use Rattle.plan_text.specs.Fixed.{unit_digits}
+use Rattle.plan_text.specs.Entries.{Entry, greatest_choice, greatest_rank, entries_of}
+
+-- the units of a value: a digit, a point and twelve digits
+abbrev pub units_of : List ℕ → Option ℕ
+units_of [] = None
+units_of (whole ∷ []) = None
+units_of (whole ∷ point ∷ digits) =
+    if is_digit whole && point == 46 && length digits == unit_digits && all_digits digits then Some ((whole - 48) * unit + value_onto 0 digits) else None
+
+-- a choice, or `-` for none
+abbrev pub choice_in : List ℕ → Option (Option ℕ)
+choice_in field = if bytes_eq field (codes "-") then Some None else option_map Some (number_of field)
+
+abbrev pub spells : ℕ → Option ℕ → Bool
+spells n None = false
+spells n (Some number) = number == n
+
+abbrev pub entry_from : Option ℕ → Option (Option ℕ) → Option ℕ → Option ℕ → Option (Option ℕ) → Option Entry
+entry_from (Some lower) (Some choice) (Some rank) (Some upper) (Some reply) =
+    Some (record { lower = lower; choice = choice; rank = rank; upper = upper; reply = reply })
+entry_from lower choice rank upper reply = None
+
+-- the entry of this state, where a line has six fields of the right form, and the first spells the state
+abbrev pub entry_in : ℕ → List (List ℕ) → Option Entry
+entry_in s (state ∷ lower ∷ choice ∷ rank ∷ upper ∷ reply ∷ []) =
+    if spells s (number_of state) then entry_from (units_of lower) (choice_in choice) (number_of rank) (units_of upper) (choice_in reply) else None
+entry_in s fields = None
+
+abbrev pub is_small : Option ℕ → Bool
+is_small None = true
+is_small (Some choice) = nat_le choice greatest_choice
+
+abbrev pub is_in_range : Entry → Bool
+is_in_range entry = nat_le entry.lower unit && nat_le entry.upper unit && is_small entry.choice && is_small entry.reply && nat_le entry.rank greatest_rank
+
+abbrev pub judged : Option Entry → Result Entry PlanCause
+judged None = Err BadLine
+judged (Some entry) = if is_in_range entry then Ok entry else Err NumberOutOfRange
+
+-- what a line says of this state
+abbrev pub line_said : ℕ → List ℕ → Result Entry PlanCause
+line_said s line = judged (entry_in s (fields_of line))
+
+abbrev pub fault_at : ℕ → PlanCause → PlanFault
+fault_at line cause = record { line = line; cause = cause }
+
+-- what comes of a line of this number that has no fault
+abbrev pub then_at : {X Y : Type 0} → ℕ → Result X PlanCause → (X → Result Y PlanFault) → Result Y PlanFault
+then_at number (Ok x) next = next x
+then_at number (Err cause) next = Err (fault_at number cause)
+
+-- the entries before these lines, of which the first has this number, and those of the lines; behind the last state's line all is blank
+abbrev pub entries_from : ℕ → List Entry → ℕ → List (List ℕ) → Result (List Entry) PlanFault
+entries_from states before number [] = if length before == states then Ok before else Err (fault_at number MissingLine)
+entries_from states before number (line ∷ lines) =
+    if length before == states
+    then (if is_nil (fields_of line) then entries_from states before (number + 1) lines else Err (fault_at number BadLine))
+    else then_at number (line_said (length before) line) (λ entry. entries_from states (before ++ entry ∷ []) (number + 1) lines)
+
+-- the first line's version and number of states, of which the number's form is looked at first
+abbrev pub heading_said : ℕ → List ℕ → Option ℕ → Result (Unit {0}) PlanCause
+heading_said states version None = Err BadLine
+heading_said states version (Some count) = if bytes_eq version (codes "1") then (if count == states then Ok tt else Err StateCount) else Err Version
+
+-- the first line of a certificate: three fields
+abbrev pub header_said : ℕ → List (List ℕ) → Result (Unit {0}) PlanCause
+header_said states (name ∷ version ∷ count ∷ []) = heading_said states version (number_of count)
+header_said states fields = Err BadLine
+
+-- the first field is `certificate`
+abbrev pub is_heading : List (List ℕ) → Bool
+is_heading [] = false
+is_heading (name ∷ fields) = bytes_eq name (codes "certificate")
+
+-- the certificate among these lines, of which the first has this number: it begins at the first line of that name
+abbrev pub certificate_from : ℕ → ℕ → List (List ℕ) → Result (List Entry) PlanFault
+certificate_from states number [] = Err (fault_at 0 NoCertificate)
+certificate_from states number (line ∷ lines) =
+    if is_heading (fields_of line)
+    then then_at number (header_said states (fields_of line)) (λ good. entries_from states [] (number + 1) lines)
+    else certificate_from states (number + 1) lines
+
+-- The entries that a text has for so many states, or its first fault.
+abbrev pub entries_said : List ℕ → ℕ → Result (List Entry) PlanFault
+entries_said text states = certificate_from states 1 (significant (lines_of text))
+
+-- What a reader answers: what is said, or that memory was wanting.
+abbrev pub GivesPlan : Result Plan PlanFault → Result (List Entry) PlanFault → Type 0
+GivesPlan (Ok plan) said = said ≡ Ok (entries_of plan)
+GivesPlan (Err fault) said = (fault ≡ fault_at 0 OutOfMemory) ⊎ (said ≡ Err fault)

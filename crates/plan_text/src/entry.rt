@@ -1,0 +1,124 @@
+//! The line of a state: its number, the lower bound, the maximiser's choice, the rank, the upper bound and the minimiser's
+//! choice.
+
+ghost use Rattle.std.specs.Prelude.{◌≡◌, option_map, IfOk};
+ghost use Rattle.text_lines.specs.Text.{fields_of, saturated};
+ghost use Rattle.plan_text.specs.Entries.{IsInRange};
+ghost use Rattle.plan_text.specs.Said.{line_said, entry_in, units_of, choice_in, is_small, is_in_range};
+ghost use Rattle.plan_text.specs.Read.{saturated_entry};
+
+use crate::fault::PlanCause;
+use game_model::UNIT;
+use std::marker::Model;
+use text_lines::{first_field, whole};
+
+/// The digits of a value behind its point.
+const UNIT_DIGITS: usize = 12;
+
+/// The greatest number of a choice.
+const GREATEST_CHOICE: u64 = 16_777_215;
+
+/// What a line says of its state. Contracts see it as an entry.
+#[derive(Drop)]
+pub struct StateLine {
+    /// The lower bound in units.
+    pub lower: u64,
+    /// The maximiser's choice.
+    pub choice: Option<u64>,
+    /// The rank.
+    pub rank: u64,
+    /// The upper bound in units.
+    pub upper: u64,
+    /// The minimiser's choice.
+    pub reply: Option<u64>,
+}
+
+impl Model for StateLine {
+    ghost use Rattle.plan_text.specs.Entries.{Entry};
+
+    ghost Value = { Entry };
+
+    ghost view = { λ l. record { lower = l.lower; choice = l.choice; rank = l.rank; upper = l.upper; reply = l.reply } };
+}
+
+impl StateLine {
+    // What a line spells of this state, if it has the form.
+    fn spelled(state: u32, line: &[u8]) -> Option<StateLine>
+        ensures { result ≡ option_map saturated_entry (entry_in state (fields_of line.now)) }
+    {
+        let (number, rest) = first_field(line)?;
+        let (lower, rest) = first_field(rest)?;
+        let (choice, rest) = first_field(rest)?;
+        let (rank, rest) = first_field(rest)?;
+        let (upper, rest) = first_field(rest)?;
+        let (reply, rest) = first_field(rest)?;
+        if first_field(rest).is_some() || whole(number)? != u64::from(state) {
+            return None;
+        }
+        Some(StateLine {
+            lower: units_in(lower)?,
+            choice: choice_in(choice)?,
+            rank: whole(rank)?,
+            upper: units_in(upper)?,
+            reply: choice_in(reply)?,
+        })
+    }
+
+    // Whether the bounds are values, and the choices and the rank within their limits.
+    fn is_in_range(&self) -> bool
+        ensures { result ≡ is_in_range self.now }
+    {
+        self.lower <= UNIT
+            && self.upper <= UNIT
+            && is_small(self.choice)
+            && is_small(self.reply)
+            && self.rank <= u64::from(u32::MAX)
+    }
+
+    /// What a line says of this state, or its fault.
+    pub fn read(state: u32, line: &[u8]) -> Result<StateLine, PlanCause>
+        ensures said { result ≡ line_said state line.now }
+        ensures range { IfOk result IsInRange }
+    {
+        let Some(entry) = StateLine::spelled(state, line) else {
+            return Err(PlanCause::BadLine);
+        };
+        if entry.is_in_range() {
+            Ok(entry)
+        } else {
+            Err(PlanCause::NumberOutOfRange)
+        }
+    }
+}
+
+// The units of a value: a digit, a point and twelve digits.
+fn units_in(field: &[u8]) -> Option<u64>
+    ensures { result ≡ units_of field.now }
+{
+    let [ones, b'.', digits @ ..] = field else {
+        return None;
+    };
+    if !ones.is_ascii_digit() || digits.len() != UNIT_DIGITS {
+        return None;
+    }
+    Some(u64::from(*ones - b'0') * UNIT + whole(digits)?)
+}
+
+// A choice, or `-` for none.
+fn choice_in(field: &[u8]) -> Option<Option<u64>>
+    ensures { result ≡ option_map (option_map saturated) (choice_in field.now) }
+{
+    match field {
+        [b'-'] => Some(None),
+        _ => Some(Some(whole(field)?)),
+    }
+}
+
+fn is_small(choice: Option<u64>) -> bool
+    ensures { result ≡ is_small choice }
+{
+    match choice {
+        None => true,
+        Some(choice) => choice <= GREATEST_CHOICE,
+    }
+}

@@ -1,0 +1,67 @@
+//! A value as text.
+
+ghost use Rattle.std.specs.Prelude.{◌≡◌, ◌≤◌, ◌∷◌, ◌++◌, IfOk, OnOk};
+ghost use Rattle.game_model.specs.Limits.{unit};
+ghost use Rattle.plan_text.specs.Fixed.{fixed, last_digits, unit_digits};
+
+use crate::onto::append;
+use game_model::UNIT;
+use game_outside::OutOfMemory;
+use std::alloc::Global;
+
+/// The unit is ten to this power.
+const UNIT_DIGITS: usize = 12;
+
+/// A value of so many units in decimal: one digit, a point and twelve digits.
+pub fn fixed_text(alloc: Global, units: u64) -> Result<Vec<u8>, OutOfMemory>
+    requires { units ≤ unit }
+    ensures { IfOk result (λ text. text.items ≡ fixed units) }
+{
+    let mut text = Vec::new(alloc);
+    append_fixed(&mut text, units)?;
+    Ok(text)
+}
+
+/// Appends a value of so many units in decimal.
+pub fn append_fixed(text: &mut Vec<u8>, units: u64) -> Result<(), OutOfMemory>
+    requires { units ≤ unit }
+    ensures { OnOk result (text.new.items ≡ text.old.items ++ fixed units) }
+{
+    let whole = b'0' + (units / UNIT) as u8;
+    append(text, &[whole, b'.'])?;
+    append(text, &last_digits_of(units % UNIT))
+}
+
+// The last twelve digits of a number.
+fn last_digits_of(number: u64) -> [u8; UNIT_DIGITS]
+    ensures { result ≡ last_digits unit_digits number }
+{
+    let mut digits = [b'0'; UNIT_DIGITS];
+    let mut rest = number;
+    let mut place = UNIT_DIGITS;
+    while place > 0 {
+        place -= 1;
+        digits[place] = b'0' + (rest % 10) as u8;
+        rest /= 10;
+    }
+    digits
+}
+
+#[cfg(test)]
+mod tests {
+    use super::*;
+    use std::test::Fail;
+
+    #[test]
+    fn values_have_twelve_digits_behind_the_point(rt: HostRuntime) -> Result<(), Fail> {
+        let Ok(most) = fixed_text(rt.alloc(), 1_000_000_000_000) else {
+            return Err(Fail::new("no memory"));
+        };
+        assert_eq!(rt; most.as_slice(), b"1.000000000000".as_slice());
+        let Ok(small) = fixed_text(rt.alloc(), 20_003) else {
+            return Err(Fail::new("no memory"));
+        };
+        assert_eq!(rt; small.as_slice(), b"0.000000020003".as_slice());
+        Ok(())
+    }
+}

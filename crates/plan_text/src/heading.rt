@@ -1,0 +1,82 @@
+//! The first line of a certificate: `certificate 1 N`, for N states.
+
+ghost use Rattle.std.specs.Prelude.{◌≡◌, ◌≤◌, ◌+◌, ℕ, [], Err, IfOk, MatchOption, MatchResult, length};
+ghost use Rattle.text_lines.specs.Limits.{most_bytes};
+ghost use Rattle.text_lines.specs.Text.{lines_of, fields_of, number_of, significant};
+ghost use Rattle.plan_text.specs.Said.{entries_said, entries_from, header_said, heading_said, is_heading};
+
+use crate::fault::{PlanCause, PlanFault};
+use text_lines::{first_field, first_line, whole};
+
+/// What stands behind the first line of the certificate, and the number of the line that follows; or the first fault.
+pub fn read_heading(text: &[u8], states: u32) -> Result<(&[u8], u32), PlanFault>
+    requires { length text.now ≤ most_bytes }
+    ensures said { MatchResult result
+        (λ behind. entries_said text.now states ≡ entries_from states [] behind.1 (significant (lines_of behind.0.now)))
+        (λ fault. entries_said text.now states ≡ Err fault) }
+    ensures number { IfOk result (λ behind. behind.1 + length behind.0.now ≤ 1 + length text.now) }
+{
+    let mut rest = text;
+    let mut number = 1u32;
+    while let Some((line, after)) = first_line(rest) {
+        if is_heading(line) {
+            return match check_heading(states, line) {
+                Ok(()) => Ok((after, number + 1)),
+                Err(cause) => Err(PlanFault {
+                    line: number,
+                    cause,
+                }),
+            };
+        }
+        rest = after;
+        number += 1;
+    }
+    Err(PlanFault {
+        line: 0,
+        cause: PlanCause::NoCertificate,
+    })
+}
+
+// Whether the first field of a line is `certificate`.
+fn is_heading(line: &[u8]) -> bool
+    ensures { result ≡ is_heading (fields_of line.now) }
+{
+    match first_field(line) {
+        Some((name, _)) => name == b"certificate".as_slice(),
+        None => false,
+    }
+}
+
+// The version and the number of states that a line has behind its first field, and nothing more.
+fn last_fields(line: &[u8]) -> Option<(&[u8], &[u8])>
+    ensures { MatchOption result
+        ((n : ℕ) → header_said n (fields_of line.now) ≡ Err PlanCause.BadLine)
+        (λ r. (n : ℕ) → header_said n (fields_of line.now) ≡ heading_said n r.0.now (number_of r.1.now)) }
+{
+    let (_, rest) = first_field(line)?;
+    let (version, rest) = first_field(rest)?;
+    let (count, rest) = first_field(rest)?;
+    match first_field(rest) {
+        None => Some((version, count)),
+        Some(_) => None,
+    }
+}
+
+// The first line of a certificate of so many states, or its fault.
+fn check_heading(states: u32, line: &[u8]) -> Result<(), PlanCause>
+    ensures { result ≡ header_said states (fields_of line.now) }
+{
+    let Some((version, count)) = last_fields(line) else {
+        return Err(PlanCause::BadLine);
+    };
+    let Some(count) = whole(count) else {
+        return Err(PlanCause::BadLine);
+    };
+    if version != b"1".as_slice() {
+        return Err(PlanCause::Version);
+    }
+    if count != u64::from(states) {
+        return Err(PlanCause::StateCount);
+    }
+    Ok(())
+}

@@ -1,0 +1,26 @@
+//! Laws of certificates. Each function does nothing; its contract is the law.
+
+ghost use Rattle.std.specs.Prelude.{◌≡◌, ◌≤◌, ◌++◌, List, ℕ, All, Ok, length};
+ghost use Rattle.game_model.specs.Limits.{unit, most_states};
+ghost use Rattle.plan_text.specs.Fixed.{fixed};
+ghost use Rattle.plan_text.specs.Entries.{Entry, IsInRange};
+ghost use Rattle.plan_text.specs.Written.{certificate_text};
+ghost use Rattle.plan_text.specs.Said.{entries_said};
+ghost use Rattle.plan_text.specs.Laws.{IsPassedOver, as_lines};
+
+/// No two values have the same text.
+pub fn fixed_text_has_one_reading()
+    ensures { (u v : ℕ) → u ≤ unit → v ≤ unit → fixed u ≡ fixed v → u ≡ v }
+{}
+
+/// A certificate that was written is read back, also behind lines that begin with another word.
+pub fn certificates_are_read_back()
+    ensures { (lines : List (List ℕ)) (entries : List Entry) → All IsPassedOver lines → length entries ≤ most_states → All IsInRange entries
+        → entries_said (as_lines lines ++ certificate_text entries) (length entries) ≡ Ok entries }
+{}
+
+/// No two certificates have the same text.
+pub fn certificates_have_one_reading()
+    ensures { (entries others : List Entry) → length entries ≤ most_states → length others ≤ most_states → All IsInRange entries → All IsInRange others
+        → certificate_text entries ≡ certificate_text others → entries ≡ others }
+{}

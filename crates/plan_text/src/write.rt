@@ -1,0 +1,129 @@
+//! The text of a certificate.
+
+ghost use Rattle.std.specs.Prelude.{◌≡◌, ◌≤◌, ◌<◌, ◌++◌, All, IfOk, OnOk, codes, decimal, length};
+ghost use Rattle.game_model.specs.Limits.{unit};
+ghost use Rattle.plan_text.specs.Entries.{HasStates, entries_of, entry_at};
+ghost use Rattle.plan_text.specs.Fixed.{fixed};
+ghost use Rattle.plan_text.specs.Written.{behind_space, certificate_text, choice_text, entry_text};
+
+use crate::fixed::append_fixed;
+use crate::onto::{append, append_count, append_number};
+use crate::plan::Plan;
+use game_outside::OutOfMemory;
+use std::alloc::Global;
+
+/// The text of a certificate: the line `certificate 1 N`, and for each of the N states, by rising number, the state,
+/// the lower bound, the maximiser's choice, the rank, the upper bound and the minimiser's choice, with one space between
+/// them. The only error is want of memory.
+pub fn write_plan(alloc: Global, plan: &Plan) -> Result<Vec<u8>, OutOfMemory>
+    requires lists { HasStates plan.now (length plan.now.lower.items) }
+    requires some { 1 ≤ length plan.now.lower.items }
+    requires lower { All (λ v. v ≤ unit) plan.now.lower.items }
+    requires upper { All (λ v. v ≤ unit) plan.now.upper.items }
+    ensures { IfOk result (λ text. text.items ≡ certificate_text (entries_of plan.now)) }
+{
+    let states = plan.lower.len();
+    let mut text = Vec::new(alloc);
+    append_heading(&mut text, states)?;
+    for state in 0..states {
+        append_entry(&mut text, plan, state)?;
+    }
+    Ok(text)
+}
+
+// The first line, which says how many states there are.
+fn append_heading(text: &mut Vec<u8>, states: usize) -> Result<(), OutOfMemory>
+    ensures { OnOk result (text.new.items ≡ text.old.items ++ (codes "certificate 1 " ++ (decimal states ++ codes "\n"))) }
+{
+    append(text, b"certificate 1 ")?;
+    append_count(text, states)?;
+    append(text, b"\n")
+}
+
+// The line of a state.
+fn append_entry(text: &mut Vec<u8>, plan: &Plan, state: usize) -> Result<(), OutOfMemory>
+    requires lists { HasStates plan.now (length plan.now.lower.items) }
+    requires within { state < length plan.now.lower.items }
+    requires lower { All (λ v. v ≤ unit) plan.now.lower.items }
+    requires upper { All (λ v. v ≤ unit) plan.now.upper.items }
+    ensures { OnOk result (text.new.items ≡ text.old.items ++ entry_text state (entry_at plan.now state)) }
+{
+    append_count(text, state)?;
+    append_value(text, plan.lower[state])?;
+    append_choice(text, plan.choices[state])?;
+    append_rank(text, plan.ranks[state])?;
+    append_value(text, plan.upper[state])?;
+    append_choice(text, plan.replies[state])?;
+    append(text, b"\n")
+}
+
+// A value behind a space.
+fn append_value(text: &mut Vec<u8>, units: u64) -> Result<(), OutOfMemory>
+    requires { units ≤ unit }
+    ensures { OnOk result (text.new.items ≡ text.old.items ++ behind_space (fixed units)) }
+{
+    append(text, b" ")?;
+    append_fixed(text, units)
+}
+
+// A choice behind a space.
+fn append_choice(text: &mut Vec<u8>, choice: Option<u32>) -> Result<(), OutOfMemory>
+    ensures { OnOk result (text.new.items ≡ text.old.items ++ behind_space (choice_text choice)) }
+{
+    append(text, b" ")?;
+    match choice {
+        Some(choice) => append_number(text, choice),
+        None => append(text, b"-"),
+    }
+}
+
+// A rank behind a space.
+fn append_rank(text: &mut Vec<u8>, rank: u32) -> Result<(), OutOfMemory>
+    ensures { OnOk result (text.new.items ≡ text.old.items ++ behind_space (decimal rank)) }
+{
+    append(text, b" ")?;
+    append_number(text, rank)
+}
+
+#[cfg(test)]
+mod tests {
+    use super::*;
+    use std::test::Fail;
+
+    // The value of state 0 is one half; state 1 is the goal, and state 2 is lost.
+    #[test]
+    fn a_certificate_has_a_line_for_each_state(rt: HostRuntime) -> Result<(), Fail> {
+        let plan = Plan {
+            lower: vec![in rt.alloc(); 500_000_000_000, 1_000_000_000_000, 0]?,
+            choices: vec![in rt.alloc(); Some(1), None, None]?,
+            ranks: vec![in rt.alloc(); 1, 0, 0]?,
+            upper: vec![in rt.alloc(); 500_000_000_000, 1_000_000_000_000, 0]?,
+            replies: vec![in rt.alloc(); None, None, None]?,
+        };
+        let Ok(text) = write_plan(rt.alloc(), &plan) else {
+            return Err(Fail::new("no memory"));
+        };
+        let expected =
+            b"certificate 1 3\n0 0.500000000000 1 1 0.500000000000 -\n1 1.000000000000 - 0 1.000000000000 -\n2 0.000000000000 - 0 0.000000000000 -\n";
+        assert_eq!(rt; text.as_slice(), expected.as_slice());
+        Ok(())
+    }
+
+    #[test]
+    fn the_greatest_numbers_are_written_in_full(rt: HostRuntime) -> Result<(), Fail> {
+        let plan = Plan {
+            lower: vec![in rt.alloc(); 123_456_789_012]?,
+            choices: vec![in rt.alloc(); Some(16_777_215)]?,
+            ranks: vec![in rt.alloc(); 4_294_967_295]?,
+            upper: vec![in rt.alloc(); 999_999_999_999]?,
+            replies: vec![in rt.alloc(); Some(16_777_215)]?,
+        };
+        let Ok(text) = write_plan(rt.alloc(), &plan) else {
+            return Err(Fail::new("no memory"));
+        };
+        let expected =
+            b"certificate 1 1\n0 0.123456789012 16777215 4294967295 0.999999999999 16777215\n";
+        assert_eq!(rt; text.as_slice(), expected.as_slice());
+        Ok(())
+    }
+}
