@@ -1,2 +1,5 @@
 pub mod Numbers
+pub mod Opening
 pub mod Reading
+pub mod Settled
+pub mod Staying

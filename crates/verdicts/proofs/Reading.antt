@@ -5,8 +5,8 @@ use Rattle.std.proofs.lemmas.List.{append_cancel_left, length-append}
 use Rattle.std.proofs.lemmas.List.Elements.{All-tail}
 use Rattle.game_model.specs.Limits.{unit}
 use Rattle.plan_text.specs.Fixed.{fixed, last_digits}
-use Rattle.verdicts.specs.declared.report.Verdict.{Verdict}
-use Rattle.verdicts.specs.declared.report.Verdict.TheVariants.{Yes, No, Undecided, Bracket}
+use Rattle.verdicts.specs.declared.verdict.Verdict.{Verdict}
+use Rattle.verdicts.specs.declared.verdict.Verdict.TheVariants.{Yes, No, Undecided, Bracket}
 use Rattle.verdicts.specs.declared.report.How.{How}
 use Rattle.verdicts.specs.declared.report.How.TheVariants.{Rounds, Audited}
 use Rattle.verdicts.specs.declared.report.ReportLine.{ReportLine}

@@ -1,1 +1,5 @@
 pub mod Report
+pub mod Stop
+pub mod Truth
+pub mod Verdict
+pub mod Open

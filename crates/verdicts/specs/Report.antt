@@ -2,8 +2,8 @@
 use Rattle.std.specs.Prelude.{ℕ, List, [], ◌∷◌, ◌++◌, ◌≤◌, ◌<◌, ◌^◌, codes, decimal}
 use Rattle.game_model.specs.Limits.{unit}
 use Rattle.plan_text.specs.Fixed.{fixed}
-use Rattle.verdicts.specs.declared.report.Verdict.{Verdict}
-use Rattle.verdicts.specs.declared.report.Verdict.TheVariants.{Yes, No, Undecided, Bracket}
+use Rattle.verdicts.specs.declared.verdict.Verdict.{Verdict}
+use Rattle.verdicts.specs.declared.verdict.Verdict.TheVariants.{Yes, No, Undecided, Bracket}
 use Rattle.verdicts.specs.declared.report.How.{How}
 use Rattle.verdicts.specs.declared.report.How.TheVariants.{Rounds, Audited}
 use Rattle.verdicts.specs.declared.report.ReportLine.{ReportLine}

@@ -1,12 +1,47 @@
-//! Laws of reports. Each function does nothing; its contract is the law.
+//! Laws of verdicts and reports. Each function does nothing of its own; its contract is the law.
 
-ghost use Rattle.std.specs.Prelude.{◌≡◌, List, All};
+ghost use Rattle.std.specs.Prelude.{◌≡◌, ◌<◌, ◌≤◌, ◌+◌, ◌*◌, ℕ, true, List, All};
+ghost use Rattle.game_model.specs.Query.{Query, IsQuery, states};
+ghost use Rattle.game_model.specs.Bounds.{IsLow, IsHigh};
+ghost use Rattle.rpatl_syntax.specs.declared.formula.Bound.{Bound};
 ghost use Rattle.verdicts.specs.declared.report.ReportLine.{ReportLine};
+ghost use Rattle.verdicts.specs.declared.verdict.Verdict.TheVariants.{Yes, No, Undecided};
+ghost use Rattle.verdicts.specs.Open.{LeavesOpen};
 ghost use Rattle.verdicts.specs.Report.{IsLine, report};
+ghost use Rattle.verdicts.specs.Truth.{IsTrueOf, IsFalseOf};
+ghost use Rattle.verdicts.specs.Verdict.{verdict_of, is_settling};
+
+use game_laws::laws;
+
+/// A verdict over sound bounds is true: where it is yes the bound holds of the value at the state, where it is no it fails.
+pub fn verdicts_are_true()
+    ensures yes { (q : Query) (lower upper : ℕ → ℕ) (bound : Bound) (s : ℕ) → IsQuery q → IsLow q lower → IsHigh q upper → s < states q →
+        verdict_of bound (lower s) (upper s) ≡ Yes → IsTrueOf q bound s }
+    ensures no { (q : Query) (lower upper : ℕ → ℕ) (bound : Bound) (s : ℕ) → IsQuery q → IsLow q lower → IsHigh q upper → s < states q →
+        verdict_of bound (lower s) (upper s) ≡ No → IsFalseOf q bound s }
+{
+    laws::low_tables_are_reached();
+    laws::low_tables_are_exceeded();
+    laws::high_tables_are_not_exceeded();
+    laws::high_tables_are_not_reached();
+}
 
 /// No two lists of lines have the same report.
 pub fn reports_have_one_reading()
     ensures { (lines others : List ReportLine) → All IsLine lines → All IsLine others → report lines ≡ report others → lines ≡ others }
 {
-    plan_text::fixed_text_has_one_reading();
+    plan_text::laws::fixed_text_has_one_reading();
 }
+
+/// A threshold is undecided only where its bounds leave it open, and then wider ones do so, too.
+pub fn undecided_thresholds_are_left_open()
+    ensures here { (bound : Bound) (lower upper : ℕ) → verdict_of bound lower upper ≡ Undecided → LeavesOpen bound lower upper 1 0 }
+    ensures wider { (bound : Bound) (lower upper n m d r : ℕ) → 1 ≤ d → n ≤ (lower + r) * d → upper * d ≤ m + r * d
+        → LeavesOpen bound lower upper 1 0 → LeavesOpen bound n m d r }
+{}
+
+/// Where bounds settle a threshold, so do nearer ones.
+pub fn settled_thresholds_stay_settled()
+    ensures { (bound : Bound) (lower higher upper less : ℕ) → lower ≤ higher → less ≤ upper
+        → is_settling (verdict_of bound lower upper) ≡ true → is_settling (verdict_of bound higher less) ≡ true }
+{}

@@ -1,26 +1,13 @@
 //! The report: one line for each initial state.
 
-ghost use Rattle.std.specs.Prelude.{◌≡◌, ◌++◌, ◌≤◌, All, IfOk, OnOk, decimal};
+ghost use Rattle.std.specs.Prelude.{◌≡◌, ◌++◌, ◌≤◌, All, IfOk, OnOk};
 ghost use Rattle.game_model.specs.Limits.{unit};
 ghost use Rattle.verdicts.specs.Report.{HasValues, labelled, report};
 
+use crate::verdict::Verdict;
 use game_outside::OutOfMemory;
-use itoa::Buffer;
-use plan_text::fixed_text;
+use plan_text::{append, append_fixed, append_number};
 use std::alloc::Global;
-
-/// What the bounds say of a formula at a state.
-#[derive(Clone, Copy, Debug, PartialEq, Eq)]
-pub enum Verdict {
-    /// The bound on the probability holds; printed `True`.
-    Yes,
-    /// It fails; printed `False`.
-    No,
-    /// The bracket does not settle it.
-    Undecided,
-    /// The formula asks for a value, and the bracket is the answer.
-    Bracket,
-}
 
 /// Where the bounds of a line come from.
 #[derive(Clone, Copy, Debug, PartialEq, Eq)]
@@ -45,14 +32,14 @@ impl ReportLine {
     ghost use Rattle.verdicts.specs.Report.{line_text};
 
     /// Appends the line to a text.
-    fn append_to(&self, alloc: Global, text: &mut Vec<u8>) -> Result<(), OutOfMemory>
+    fn append_to(&self, text: &mut Vec<u8>) -> Result<(), OutOfMemory>
         requires { HasValues self.now }
         ensures { OnOk result (text.new.items ≡ text.old.items ++ line_text self.now) }
     {
         append(text, b"state ")?;
         append_number(text, self.state)?;
-        append_value(alloc, text, b" lower ", self.lower)?;
-        append_value(alloc, text, b" upper ", self.upper)?;
+        append_value(text, b" lower ", self.lower)?;
+        append_value(text, b" upper ", self.upper)?;
         self.how.append_to(text)?;
         self.verdict.end_line(text)
     }
@@ -98,33 +85,12 @@ impl Verdict {
     }
 }
 
-fn append(text: &mut Vec<u8>, bytes: &[u8]) -> Result<(), OutOfMemory>
-    ensures { OnOk result (text.new.items ≡ text.old.items ++ bytes.now) }
-{
-    match text.extend_from_slice(bytes) {
-        Ok(()) => Ok(()),
-        Err(_) => Err(OutOfMemory {}),
-    }
-}
-
-fn append_number(text: &mut Vec<u8>, number: u32) -> Result<(), OutOfMemory>
-    ensures { OnOk result (text.new.items ≡ text.old.items ++ decimal number) }
-{
-    let mut buffer = Buffer::new();
-    append(text, buffer.format(number).as_bytes())
-}
-
-fn append_value(
-    alloc: Global,
-    text: &mut Vec<u8>,
-    label: &[u8],
-    units: u64,
-) -> Result<(), OutOfMemory>
+fn append_value(text: &mut Vec<u8>, label: &[u8], units: u64) -> Result<(), OutOfMemory>
     requires { units ≤ unit }
     ensures { OnOk result (text.new.items ≡ text.old.items ++ labelled label.now units) }
 {
     append(text, label)?;
-    append(text, &fixed_text(alloc, units)?)
+    append_fixed(text, units)
 }
 
 /// The report of these lines, in their order. Each bound is at most the unit.
@@ -134,7 +100,7 @@ pub fn report_text(alloc: Global, lines: &[ReportLine]) -> Result<Vec<u8>, OutOf
 {
     let mut text = Vec::new(alloc);
     for line in lines {
-        line.append_to(alloc, &mut text)?;
+        line.append_to(&mut text)?;
     }
     Ok(text)
 }

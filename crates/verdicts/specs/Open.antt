@@ -1,0 +1,29 @@
+-- When bounds of a value leave a threshold open.
+use Rattle.std.specs.Prelude.{ℕ, ◌+◌, ◌*◌, ◌<◌, ◌≤◌}
+use Rattle.game_model.specs.Limits.{unit}
+use Rattle.distributions.specs.Fraction.{Fraction}
+use Rattle.rpatl_syntax.specs.declared.formula.Bound.{Bound}
+use Rattle.rpatl_syntax.specs.declared.formula.Bound.TheVariants.{AtLeast, Above, AtMost, Below, AskMax, AskMin}
+
+-- n/d units, less r units, are below p, or at most p
+abbrev pub IsBelowLess : Fraction → ℕ → ℕ → ℕ → Type 0
+IsBelowLess p n d r = n * p.den < (p.num * unit + r * p.den) * d
+
+abbrev pub IsAtMostLess : Fraction → ℕ → ℕ → ℕ → Type 0
+IsAtMostLess p n d r = n * p.den ≤ (p.num * unit + r * p.den) * d
+
+-- n/d units, and r units more, are at least p, or above p
+abbrev pub IsAtLeastMore : Fraction → ℕ → ℕ → ℕ → Type 0
+IsAtLeastMore p n d r = p.num * unit * d ≤ (n + r * d) * p.den
+
+abbrev pub IsAboveMore : Fraction → ℕ → ℕ → ℕ → Type 0
+IsAboveMore p n d r = p.num * unit * d < (n + r * d) * p.den
+
+-- a lower bound of n/d units less r, and an upper bound of m/d units and r more, leave the threshold of the bound open
+abbrev pub LeavesOpen : Bound → ℕ → ℕ → ℕ → ℕ → Type 0
+LeavesOpen (AtLeast p) n m d r = IsBelowLess p n d r × IsAtLeastMore p m d r
+LeavesOpen (Above p) n m d r = IsAtMostLess p n d r × IsAboveMore p m d r
+LeavesOpen (AtMost p) n m d r = IsAtMostLess p n d r × IsAboveMore p m d r
+LeavesOpen (Below p) n m d r = IsBelowLess p n d r × IsAtLeastMore p m d r
+LeavesOpen AskMax n m d r = ⊥
+LeavesOpen AskMin n m d r = ⊥

@@ -1,0 +1,28 @@
+-- When a bound on the value of a state is true.
+use Rattle.std.specs.Prelude.{ℕ}
+use Rattle.game_model.specs.Query.{Query}
+use Rattle.game_model.specs.Bounds.{Reaches, Exceeds}
+use Rattle.rpatl_syntax.specs.declared.formula.Bound.{Bound}
+use Rattle.rpatl_syntax.specs.declared.formula.Bound.TheVariants.{AtLeast, Above, AtMost, Below, AskMax, AskMin}
+use Rattle.verdicts.specs.declared.verdict.Verdict.{Verdict}
+use Rattle.verdicts.specs.declared.verdict.Verdict.TheVariants.{Yes, No, Undecided, Bracket}
+
+-- the bound holds of the value at a state; one that asks for a value has no truth
+abbrev pub IsTrueOf : Query → Bound → ℕ → Type 0
+IsTrueOf q (AtLeast p) s = Reaches q p.num p.den s
+IsTrueOf q (Above p) s = Exceeds q p.num p.den s
+IsTrueOf q (AtMost p) s = ¬ Exceeds q p.num p.den s
+IsTrueOf q (Below p) s = ¬ Reaches q p.num p.den s
+IsTrueOf q AskMax s = Unit {0}
+IsTrueOf q AskMin s = Unit {0}
+
+-- it does not hold
+abbrev pub IsFalseOf : Query → Bound → ℕ → Type 0
+IsFalseOf q bound s = ¬ IsTrueOf q bound s
+
+-- what a verdict says of the value at a state is so
+abbrev pub IsTold : Query → Bound → ℕ → Verdict → Type 0
+IsTold q bound s Yes = IsTrueOf q bound s
+IsTold q bound s No = IsFalseOf q bound s
+IsTold q bound s Undecided = Unit {0}
+IsTold q bound s Bracket = Unit {0}

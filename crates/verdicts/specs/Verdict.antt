@@ -1,0 +1,45 @@
+-- What the bounds of a value, in units, say of a threshold.
+use Rattle.std.specs.Prelude.{ℕ, ◌*◌, Bool, true, false, not, nat_lt, nat_le, if◌then◌else◌}
+use Rattle.game_model.specs.Limits.{unit}
+use Rattle.distributions.specs.Fraction.{Fraction}
+use Rattle.rpatl_syntax.specs.declared.formula.Bound.{Bound}
+use Rattle.rpatl_syntax.specs.declared.formula.Bound.TheVariants.{AtLeast, Above, AtMost, Below, AskMax, AskMin}
+use Rattle.verdicts.specs.declared.verdict.Verdict.{Verdict}
+use Rattle.verdicts.specs.declared.verdict.Verdict.TheVariants.{Yes, No, Undecided, Bracket}
+
+-- so many units are at least p
+abbrev pub reaches : Fraction → ℕ → Bool
+reaches p units = nat_le (p.num * unit) (units * p.den)
+
+-- so many units are above p
+abbrev pub exceeds : Fraction → ℕ → Bool
+exceeds p units = nat_lt (p.num * unit) (units * p.den)
+
+-- what two tests say: the first one that holds counts
+abbrev pub verdict_by : Bool → Bool → Verdict
+verdict_by holds fails = if holds then Yes else (if fails then No else Undecided)
+
+-- what a lower and an upper bound say of a bound on the value between them
+abbrev pub verdict_of : Bound → ℕ → ℕ → Verdict
+verdict_of (AtLeast p) lower upper = verdict_by (reaches p lower) (not (reaches p upper))
+verdict_of (Above p) lower upper = verdict_by (exceeds p lower) (not (exceeds p upper))
+verdict_of (AtMost p) lower upper = verdict_by (not (exceeds p upper)) (exceeds p lower)
+verdict_of (Below p) lower upper = verdict_by (not (reaches p upper)) (reaches p lower)
+verdict_of AskMax lower upper = Bracket
+verdict_of AskMin lower upper = Bracket
+
+-- the threshold is settled, one way or the other
+abbrev pub is_settling : Verdict → Bool
+is_settling Yes = true
+is_settling No = true
+is_settling Undecided = false
+is_settling Bracket = false
+
+-- the bound asks for a value, and sets no threshold
+abbrev pub is_asking : Bound → Bool
+is_asking AskMax = true
+is_asking AskMin = true
+is_asking (AtLeast p) = false
+is_asking (Above p) = false
+is_asking (AtMost p) = false
+is_asking (Below p) = false

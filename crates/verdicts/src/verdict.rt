@@ -1,0 +1,127 @@
+//! What the bounds of a value say of a threshold.
+
+ghost use Rattle.std.specs.Prelude.{◌≡◌, ◌≤◌};
+ghost use Rattle.game_model.specs.Limits.{unit};
+ghost use Rattle.verdicts.specs.Verdict.{reaches, exceeds, verdict_by, verdict_of};
+
+use distributions::Frac;
+use game_model::UNIT;
+use rpatl_syntax::Bound;
+
+/// What the bounds say of a formula at a state.
+#[derive(Clone, Copy, Debug, PartialEq, Eq)]
+pub enum Verdict {
+    /// The bound on the probability holds; printed `True`.
+    Yes,
+    /// It fails; printed `False`.
+    No,
+    /// The bracket does not settle it.
+    Undecided,
+    /// The formula asks for a value, and the bracket is the answer.
+    Bracket,
+}
+
+impl Verdict {
+    ghost use Rattle.verdicts.specs.Verdict.{is_settling};
+
+    /// Whether a threshold is settled, one way or the other.
+    pub fn is_settling(self) -> bool
+        ensures { result ≡ is_settling self }
+    {
+        matches!(self, Verdict::Yes | Verdict::No)
+    }
+}
+
+/// What a lower and an upper bound, in units, say of the bound on the value between them.
+///
+/// | Bound | `Yes` where | `No` where |
+/// |---|---|---|
+/// | `>= p` | the lower one is at least `p` | the upper one is below `p` |
+/// | `> p` | the lower one is above `p` | the upper one is at most `p` |
+/// | `<= p` | the upper one is at most `p` | the lower one is above `p` |
+/// | `< p` | the upper one is below `p` | the lower one is at least `p` |
+///
+/// The first of these that holds counts, and where neither does it is `Undecided`. A bound that asks for a value is
+/// answered by the `Bracket`.
+pub fn settle(bound: &Bound, lower: u64, upper: u64) -> Verdict
+    requires lower { lower ≤ unit }
+    requires upper { upper ≤ unit }
+    ensures { result ≡ verdict_of bound.now lower upper }
+{
+    match bound {
+        Bound::AtLeast(p) => verdict_by(reaches(p, lower), !reaches(p, upper)),
+        Bound::Above(p) => verdict_by(exceeds(p, lower), !exceeds(p, upper)),
+        Bound::AtMost(p) => verdict_by(!exceeds(p, upper), exceeds(p, lower)),
+        Bound::Below(p) => verdict_by(!reaches(p, upper), reaches(p, lower)),
+        Bound::AskMax | Bound::AskMin => Verdict::Bracket,
+    }
+}
+
+// The first test that holds counts.
+fn verdict_by(holds: bool, fails: bool) -> Verdict
+    ensures { result ≡ verdict_by holds fails }
+{
+    if holds {
+        Verdict::Yes
+    } else if fails {
+        Verdict::No
+    } else {
+        Verdict::Undecided
+    }
+}
+
+// Whether so many units are at least the threshold.
+fn reaches(threshold: &Frac, units: u64) -> bool
+    requires { units ≤ unit }
+    ensures { result ≡ reaches threshold.now units }
+{
+    threshold.num() * u128::from(UNIT) <= u128::from(units) * threshold.den()
+}
+
+// Whether so many units are above the threshold.
+fn exceeds(threshold: &Frac, units: u64) -> bool
+    requires { units ≤ unit }
+    ensures { result ≡ exceeds threshold.now units }
+{
+    threshold.num() * u128::from(UNIT) < u128::from(units) * threshold.den()
+}
+
+#[cfg(test)]
+mod tests {
+    use super::*;
+    use distributions::read_number;
+    use std::test::Fail;
+
+    #[test]
+    fn worked_bounds_have_their_verdicts(rt: HostRuntime) -> Result<(), Fail> {
+        let (Ok(share), Ok(half), Ok(third)) = (
+            read_number(b"3/5"),
+            read_number(b"1/2"),
+            read_number(b"1/3"),
+        ) else {
+            return Err(Fail::new("no number"));
+        };
+        let near = (499_999_999_999, 500_000_000_000);
+        let around = (333_333_333_333, 333_333_333_334);
+        let rows = [
+            (
+                Bound::AtLeast(share),
+                (650_000_000_000, 650_000_000_000),
+                Verdict::Yes,
+            ),
+            (Bound::AtLeast(share), (0, 500_000_000_000), Verdict::No),
+            (Bound::AtLeast(half), near, Verdict::Undecided),
+            (Bound::AtMost(half), near, Verdict::Yes),
+            (Bound::Above(half), near, Verdict::No),
+            (Bound::Below(half), near, Verdict::Undecided),
+            (Bound::AtLeast(third), around, Verdict::Undecided),
+            (Bound::AskMax, near, Verdict::Bracket),
+            (Bound::AskMin, near, Verdict::Bracket),
+        ];
+        for (bound, (lower, upper), expected) in &rows {
+            assert!(rt; *lower <= UNIT && *upper <= UNIT);
+            assert_eq!(rt; settle(bound, *lower, *upper), *expected, "{bound:?}");
+        }
+        Ok(())
+    }
+}
