@@ -5,6 +5,7 @@ ghost use Rattle.game_model.specs.Query.{IsQuery, states};
 ghost use Rattle.game_model.specs.Limits.{unit};
 
 use crate::tables::{most_raised, up_table};
+use crate::witnesses::Witnesses;
 use game_model::{Marks, Question, UNIT};
 use game_outside::OutOfMemory;
 use std::alloc::Global;
@@ -37,34 +38,36 @@ impl Guesses<'_> {
     pub fn first_accepted(
         &self,
         alloc: Global,
-        witnesses: &mut [u32],
+        witnesses: &mut Witnesses,
     ) -> Result<Option<Vec<u64>>, OutOfMemory>
-        requires { AreWitnesses self.now.question.now witnesses.old }
-        ensures witnesses { AreWitnesses self.now.question.now witnesses.new }
+        requires { AreWitnesses self.now.question.now witnesses.old.states }
+        ensures witnesses { AreWitnesses self.now.question.now witnesses.new.states }
         ensures found { IfOk result (λ found. MatchOption found (AreRefusedOf self.now) (λ table. IsFirstOf self.now table.items)) }
     {
         let mut made = None;
         for steps in 0..MOST_STEPS + 1 {
-            if self.refuses_at(steps, witnesses[steps as usize]) {
+            if self.refuses_at(steps, witnesses.states[steps as usize]) {
                 continue;
             }
-            let table = self.table_after(alloc, steps, made)?;
+            let table = self.table_after(alloc, steps, made, &mut witnesses.up_steps)?;
             let next = up_table(alloc, self.question, &table)?;
+            witnesses.up_steps = witnesses.up_steps.saturating_add(1);
             let Some(state) = most_raised(self.question, &table, &next) else {
                 return Ok(Some(table));
             };
-            witnesses[steps as usize] = state;
+            witnesses.states[steps as usize] = state;
             made = Some((next, steps + 1));
         }
         Ok(None)
     }
 
-    /// The table after so many up steps, from one that was made, if any, after fewer.
+    /// The table after so many up steps, from one that was made, if any, after fewer. The up steps are counted.
     fn table_after(
         &self,
         alloc: Global,
         steps: u32,
         made: Option<(Vec<u64>, u32)>,
+        up_steps: &mut u64,
     ) -> Result<Vec<u64>, OutOfMemory>
         requires { IfSome made (λ m. IsTableOf self.now m.1 m.0.items × (m.1 ≤ steps)) }
         ensures { IfOk result (λ table. IsTableOf self.now steps table.items) }
@@ -75,6 +78,7 @@ impl Guesses<'_> {
         };
         for _step in at..steps {
             table = up_table(alloc, self.question, &table)?;
+            *up_steps = up_steps.saturating_add(1);
         }
         Ok(table)
     }

@@ -17,20 +17,22 @@ ghost use Rattle.game_model.specs.Limits.{unit};
 ghost use Rattle.game_model.specs.Rounded.{IsInductive};
 ghost use Rattle.game_model.specs.Bounds.{IsHigh};
 ghost use Rattle.game_model.specs.Dual.{IsZeroSet};
-ghost use Rattle.upper_guess.specs.Guess.{IsFirstGuess};
+ghost use Rattle.upper_guess.specs.Guess.{IsFirstGuess, AreWitnesses};
 
 mod excesses;
 mod guesses;
 pub mod laws;
 mod local;
 mod tables;
+mod witnesses;
 
 use excesses::{LAST_PLACE, excess_at};
 use game_laws::tables::inductive_is_high;
 use game_model::{Marks, Question};
 use game_outside::OutOfMemory;
-use guesses::{Guesses, MOST_STEPS};
+use guesses::Guesses;
 use std::alloc::Global;
+pub use witnesses::Witnesses;
 
 /// The first guess that is accepted: by excess and then by up steps the first table whose up step is nowhere
 /// above it. The only error is want of memory.
@@ -50,7 +52,30 @@ pub fn guess<'a>(
     ensures high { IfOk result (λ table. IsHigh question.now (slice_index table.items)) }
 {
     question.known();
-    let mut witnesses = [0; MOST_STEPS as usize + 1];
+    guess_with(alloc, question, zero, lower, &mut Witnesses::none())
+}
+
+/// The same guess, where the states that refused the last one of this question are looked at first. Those that refuse
+/// this one take their places.
+pub fn guess_with<'a>(
+    alloc: Global,
+    question: &'a Question<'a>,
+    zero: &'a Marks,
+    lower: &'a [u64],
+    witnesses: &mut Witnesses,
+) -> Result<Vec<u64>, OutOfMemory>
+    requires zero { IsZeroSet question.now zero.now }
+    requires length { length lower.now ≡ states question.now }
+    requires units { All (λ v. v ≤ unit) lower.now }
+    requires witnesses { AreWitnesses question.now witnesses.old.states }
+    ensures witnesses { AreWitnesses question.now witnesses.new.states }
+    ensures first { IfOk result (λ table. IsFirstGuess question.now zero.now (slice_index lower.now) table.items) }
+    ensures length { IfOk result (λ table. length table.items ≡ states question.now) }
+    ensures units { IfOk result (λ table. All (λ v. v ≤ unit) table.items) }
+    ensures inductive { IfOk result (λ table. IsInductive question.now (slice_index table.items)) }
+    ensures high { IfOk result (λ table. IsHigh question.now (slice_index table.items)) }
+{
+    question.known();
     for place in 0..LAST_PLACE + 1 {
         let guesses = Guesses {
             question,
@@ -58,7 +83,7 @@ pub fn guess<'a>(
             lower,
             excess: excess_at(place),
         };
-        if let Some(table) = guesses.first_accepted(alloc, &mut witnesses)? {
+        if let Some(table) = guesses.first_accepted(alloc, witnesses)? {
             inductive_is_high(question, &table);
             return Ok(table);
         }

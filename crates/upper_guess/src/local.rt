@@ -12,15 +12,18 @@ use crate::guesses::Guesses;
 use fixed_bellman::Quotient;
 use game_model::{Side, UNIT};
 
+/// A test at one state may look into as many states as this, where the question has fewer.
+const LEAST_BUDGET: u32 = 1_000;
+
 impl Guesses<'_> {
     /// Whether a table is seen to be refused at this state alone. It is not seen where the recursion would
-    /// look into more states than the question has: then the table costs no more.
+    /// look into more states than the question has, then the table costs no more, and into more than a few.
     pub fn refuses_at(&self, steps: u32, state: u32) -> bool
         requires steps { steps ≤ most_steps }
         requires state { state < states self.now.question.now }
         ensures { IsTrue result → IsRefusedOf self.now steps }
     {
-        let mut budget = self.question.game().states();
+        let mut budget = self.question.game().states().max(LEAST_BUDGET);
         let Some(entry) = self.entry(steps, state, &mut budget) else {
             return false;
         };

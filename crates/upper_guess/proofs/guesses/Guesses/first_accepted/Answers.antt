@@ -58,7 +58,7 @@ loop-steps-preserved c =
     let raised : RisesMost q (slice_index table) (slice_index next) s = rw (c.deref-in-loop-steps.ensures.value, c.deref-in-loop-steps-2.ensures.value) at c.in-Some.ensures in
     record {
       made = (IsTable-next q _ _ _ steps table next g.posed c.in_ok-table.ensures step, le_refl _);
-      witnesses = witnesses-set q c.loop-steps.witnesses steps s c.loop-steps.invariant.witnesses raised.inside;
+      witnesses = witnesses-set q c.loop-steps.witnesses.states steps s c.loop-steps.invariant.witnesses raised.inside;
       refused = below_more (IsRefusedOf g) steps c.loop-steps.invariant.refused (is-raised q (entry_of g steps) table next g.posed c.in_ok-table.ensures step s raised.inside raised.rises);
     }
 

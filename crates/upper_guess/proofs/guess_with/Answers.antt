@@ -4,7 +4,7 @@ use Rattle.std.specs.Prelude.{slice_index}
 use Rattle.upper_guess.specs.Guess.{excess, last_place, AreRefused, IsFirstAt}
 use Rattle.upper_guess.proofs.Lists.{IsInductive-list}
 use Rattle.upper_guess.proofs.Accepting.{not-all-refused}
-use Rattle.upper_guess.proofs.guess.Goals as goal
+use Rattle.upper_guess.proofs.guess_with.Goals as goal
 
 pub inductive_is_high-requires : goal.inductive_is_high-requires
 inductive_is_high-requires c =
