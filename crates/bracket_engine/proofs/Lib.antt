@@ -1,6 +1,9 @@
+pub mod Agreeing
 pub mod Bracketing
+pub mod ClosedChoices
 pub mod Marking
 pub mod Quiet
 pub mod Racing
 pub mod Reading
 pub mod Rests
+pub mod Uppers

@@ -1,7 +1,8 @@
 -- Which states may rise, between two rounds.
-use Rattle.std.specs.Prelude.{◌≡◌, ◌≢◌, ℕ, ◌<◌, ◌≤◌, Bool, false, List, length, slice_index, slice_index_or}
+use Rattle.std.specs.Prelude.{◌≡◌, ◌≢◌, ℕ, ◌<◌, ◌≤◌, Bool, false, List, length, All, slice_index, slice_index_or}
 use Rattle.game_model.specs.Game.{Distribution}
 use Rattle.game_model.specs.Query.{Query, states}
+use Rattle.game_model.specs.Limits.{unit}
 use Rattle.game_model.specs.Rounded.{down_step}
 use Rattle.predecessors.specs.Moves.{LeadsTo}
 use Rattle.round_workers.specs.Marks.{IsMarked}
@@ -11,9 +12,10 @@ use Rattle.bracket_engine.specs.declared.agenda.Agenda.{Agenda}
 abbrev pub read_of : Agenda → ℕ → ℕ
 read_of agenda = slice_index agenda.read.items
 
--- one value and two marks for each state
+-- one value, at most the unit, and two marks for each state
 pub record IsSized (q : Query) (agenda : Agenda) : Type 0 where
   pub read : length agenda.read.items ≡ states q
+  pub units : All (λ v. v ≤ unit) agenda.read.items
   pub marks : length agenda.marks.items ≡ states q
   pub more : length agenda.more.items ≡ states q
 

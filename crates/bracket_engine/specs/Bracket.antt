@@ -1,5 +1,5 @@
--- What a run of rounds gives: a sound lower and a sound upper table, and how near they are to the values of r steps. The co-values are lower bounds of the swapped question; the upper table is the lesser of the unit less them and of a guess.
-use Rattle.std.specs.Prelude.{◌≡◌, ℕ, ◌+◌, ◌-◌, ◌*◌, ◌^◌, ◌<◌, ◌≤◌, ◌↔◌, Bool, true, List, length, All, map, min, slice_index}
+-- What a run of rounds gives: a sound lower and a sound upper table, and how near they are to the values of r steps. The co-values are lower bounds of the swapped question.
+use Rattle.std.specs.Prelude.{◌≡◌, ℕ, ◌+◌, ◌-◌, ◌*◌, ◌^◌, ◌<◌, ◌≤◌, ◌↔◌, ◌⊎◌, Bool, true, List, length, All, map, min, slice_index, Option, None, IfSome}
 use Rattle.game_model.specs.Query.{Query, states}
 use Rattle.game_model.specs.Values.{denominator, numerator}
 use Rattle.game_model.specs.Limits.{unit}
@@ -7,6 +7,10 @@ use Rattle.game_model.specs.Rounded.{down_steps, opening, IsBelow, IsSettled, Is
 use Rattle.game_model.specs.Dual.{open_numerator, swapped}
 use Rattle.game_model.specs.Bounds.{IsLow, IsHigh}
 use Rattle.upper_guess.specs.Guess.{IsFirstGuess}
+use Rattle.rpatl_syntax.specs.declared.formula.Bound.{Bound}
+use Rattle.verdicts.specs.Verdict.{is_asking}
+use Rattle.bracket_engine.specs.declared.stopping.Kept.{Kept}
+use Rattle.bracket_engine.specs.Stop.{AreSettledAt, upper_from, with_kept, IsKept}
 
 -- at most r units below the r-step values
 abbrev pub IsNear : Query → ℕ → (ℕ → ℕ) → Type 0
@@ -35,8 +39,15 @@ pub record IsLeastSettled (q : Query) (table : ℕ → ℕ) : Type 0 where
   pub settled : IsSettled q table
   pub least : (other : ℕ → ℕ) → IsBelow q (opening q) other → IsSettled q other → IsBelow q table other
 
--- a bracket of a question with this zero set, after this many completed rounds of those that were asked for
-pub record IsBracket (q : Query) (zero : List Bool) (asked : ℕ) (lower upper : List ℕ) (rounds : ℕ) (stable : Bool) : Type 0 where
+-- how near tables of bounds are to the values: the lower one is nowhere below r down steps, and the upper one at most the unit less those of the swapped question
+pub record IsNarrow (q : Query) (zero : List Bool) (r : ℕ) (lower upper : ℕ → ℕ) : Type 0 where
+  pub swept : IsBelow q (down_steps q r) lower
+  pub near : IsNear q r lower
+  pub coswept : IsCoswept q zero r upper
+  pub near_above : IsNearAbove q zero r upper
+
+-- a bracket of a question with this zero set, after this many completed rounds of those that were asked for, unless the threshold was settled at the initial states before
+pub record IsBracket (q : Query) (zero : List Bool) (bound : Bound) (initial : List ℕ) (asked : ℕ) (lower upper : List ℕ) (rounds : ℕ) (stable : Bool) : Type 0 where
   pub lower_length : length lower ≡ states q
   pub lower_units : All (λ v. v ≤ unit) lower
   -- the bounds are sound
@@ -44,28 +55,31 @@ pub record IsBracket (q : Query) (zero : List Bool) (asked : ℕ) (lower upper :
   pub high : IsHigh q (slice_index upper)
   pub upper_length : length upper ≡ states q
   pub upper_units : All (λ v. v ≤ unit) upper
-  -- it is the lesser of the unit less the co-values and of the first guess over the lower table
+  -- the co-values are sound lower bounds of the swapped question, between the down steps of the completed rounds and those of all their updates
   pub covalues : List ℕ
   pub covalue_units : (s : ℕ) → s < states q → slice_index covalues s ≤ unit
+  pub colow : IsLow (swapped q zero) (slice_index covalues)
+  pub coswept : IsBelow (swapped q zero) (down_steps (swapped q zero) rounds) (slice_index covalues)
+  pub cowithin : IsBelow (swapped q zero) (slice_index covalues) (down_steps (swapped q zero) (rounds * states q))
+  -- the upper table is the least of the unit less the co-values, of the first guess over the lower table, and of a guess that was kept, if any
+  pub kept : Option Kept
   pub guess : List ℕ
   pub guessed : IsFirstGuess q zero (slice_index lower) guess
-  pub lesser : (s : ℕ) → s < states q → slice_index upper s ≡ min (unit - slice_index covalues s) (slice_index guess s)
+  pub least_upper : (s : ℕ) → s < states q → slice_index upper s ≡ upper_from (slice_index covalues) (with_kept kept (slice_index guess)) s
+  -- one that is kept settles the threshold at each initial state, with the lower bounds and the co-values
+  pub kept_over : IfSome kept (IsKept q zero bound initial (slice_index lower) (slice_index covalues))
+  pub none_kept : is_asking bound ≡ true → kept ≡ None
   -- no state's up value is above its upper bound
   pub upper_inductive : IsInductive q (slice_index upper)
-  -- the lower table lies between the down steps of the completed rounds and those of all their updates, one a state, and is nowhere below those of the asked rounds
+  -- the lower table is within the down steps of all updates of the completed rounds, one a state
   pub few : rounds ≤ asked
   pub within : IsBelow q (slice_index lower) (down_steps q (rounds * states q))
-  pub swept : IsBelow q (down_steps q rounds) (slice_index lower)
-  pub swept_asked : IsBelow q (down_steps q asked) (slice_index lower)
-  pub near : IsNear q rounds (slice_index lower)
-  pub near_asked : IsNear q asked (slice_index lower)
-  -- the upper table is at most the unit less the down steps of the swapped question, those of the completed rounds and of the asked ones
-  pub coswept : IsCoswept q zero rounds (slice_index upper)
-  pub coswept_asked : IsCoswept q zero asked (slice_index upper)
-  pub upper_near : IsNearAbove q zero rounds (slice_index upper)
-  pub upper_near_asked : IsNearAbove q zero asked (slice_index upper)
-  -- the run ends early only where the lower table and the co-values are settled, and then they are the least settled ones
+  -- the tables are as near as the completed rounds make them, and as the asked ones, unless each initial state is settled
+  pub narrow : IsNarrow q zero rounds (slice_index lower) (slice_index upper)
+  pub narrow_asked : AreSettledAt bound initial (slice_index lower) (slice_index upper) ⊎ IsNarrow q zero asked (slice_index lower) (slice_index upper)
+  -- the run ends early only where both tables are settled, or each initial state is
+  pub early : rounds < asked → (stable ≡ true) ⊎ AreSettledAt bound initial (slice_index lower) (slice_index upper)
   pub settled : (stable ≡ true) ↔ (IsSettled q (slice_index lower) × IsSettled (swapped q zero) (slice_index covalues))
-  pub early : rounds < asked → stable ≡ true
+  -- tables that are settled are the least settled ones
   pub least : stable ≡ true → IsLeastSettled q (slice_index lower)
   pub coleast : stable ≡ true → IsLeastSettled (swapped q zero) (slice_index covalues)

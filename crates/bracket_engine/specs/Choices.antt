@@ -1,8 +1,9 @@
--- The choices of a bracket.
+-- The choices and the ranks of a bracket.
 use Rattle.std.specs.Prelude.{◌≡◌, ℕ, ◌<◌, ◌==◌, ◌||◌, true, List, length, slice_index, slice_index_or, Option, Some, None, if◌then◌else◌}
 use Rattle.game_model.specs.declared.game.Side.TheVariants.{Min}
 use Rattle.game_model.specs.Query.{Query, states, is_goal, is_dead, side_at}
-use Rattle.game_model.specs.Ranks.{Ranked}
+use Rattle.game_model.specs.Ranks.{Ranked, ReachesUnder}
+use Rattle.rank_certificate.specs.Layers.{AreLayered}
 use Rattle.step_core.specs.Word.{value_in, choice_in}
 use Rattle.step_core.specs.Events.{on_side}
 
@@ -11,13 +12,16 @@ abbrev pub choice_of_word : Query → ℕ → ℕ → Option ℕ
 choice_of_word q s word =
     if is_goal q s || is_dead q s then None else on_side (side_at q s) (if value_in word == 0 then None else Some (choice_in word)) None
 
--- the choices and some ranks go with the lower table; a goal, a dead state, a state of the minimiser and one of value 0 have none
+-- a choice for each state, and none at a goal, a dead state, a state of the minimiser and one of value 0
 pub record AreChoices (q : Query) (lower : List ℕ) (choices : List (Option ℕ)) : Type 0 where
   pub as_many : length choices ≡ states q
-  pub ranks : List ℕ
-  pub ranks_as_many : length ranks ≡ states q
-  pub ranked : Ranked q lower choices ranks
   pub none_at_goals : (s : ℕ) → s < states q → is_goal q s ≡ true → slice_index_or choices s None ≡ None
   pub none_at_deads : (s : ℕ) → s < states q → is_dead q s ≡ true → slice_index_or choices s None ≡ None
   pub none_at_least : (s : ℕ) → s < states q → side_at q s ≡ Min → slice_index_or choices s None ≡ None
   pub none_at_zero : (s : ℕ) → s < states q → slice_index lower s ≡ 0 → slice_index_or choices s None ≡ None
+
+-- the layered ranks of a lower table and choices; the maximiser who plays these reaches it, less any 1/m, within some horizon
+pub record AreRanks (q : Query) (lower : List ℕ) (choices : List (Option ℕ)) (ranks : List ℕ) : Type 0 where
+  pub ranked : Ranked q lower choices ranks
+  pub layered : AreLayered q lower choices ranks
+  pub reached : ReachesUnder q choices (slice_index lower)

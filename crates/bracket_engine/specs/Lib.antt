@@ -4,3 +4,4 @@ pub mod Bracket
 pub mod Choices
 pub mod Race
 pub mod Replies
+pub mod Stop

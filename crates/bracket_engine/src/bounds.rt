@@ -1,9 +1,9 @@
 //! What a run gives.
 
-/// A lower and an upper bound in units for each state, choices of the maximiser that are ranked with the lower
+/// A lower and an upper bound in units for each state, choices of the maximiser with ranks that vouch for the lower
 /// bounds, replies of the minimiser that hold the maximiser to the upper bounds, the number of completed
 /// rounds, and whether the tables are settled: no state's down value is above its entry in the lower table, nor
-/// in the table of co-values, which are the unit less the upper bounds.
+/// in the table of co-values, the lower bounds of the swapped question.
 #[derive(Drop)]
 pub struct Bracket {
     /// At most some k-step value, for each state.
@@ -13,6 +13,8 @@ pub struct Bracket {
     /// The maximiser's choice, for each of its states that is neither goal nor dead and has a positive
     /// lower bound.
     pub choices: Vec<Option<u32>>,
+    /// The rank of each state: they vouch for the lower bounds and the choices.
+    pub ranks: Vec<u32>,
     /// The minimiser's choice, for each of its states that is neither goal nor dead.
     pub replies: Vec<Option<u32>>,
     /// How many rounds were completed on both tables.

@@ -1,100 +1,176 @@
 //! Two races at once: rounds on the words of a question, and on those of the swapped one.
 
-ghost use Rattle.std.specs.Prelude.{◌≡◌, ◌+◌, ◌<◌, ◌≤◌, IfOk};
+ghost use Rattle.std.specs.Prelude.{◌≡◌, ◌+◌, ◌<◌, ◌≤◌, ◌⊎◌, true, All, IfOk, IfSome, is_some, Option, None};
 ghost use Rattle.game_model.specs.Rounded.{IsSettled};
 ghost use Rattle.round_workers.specs.Share.{most_workers};
 ghost use Rattle.predecessors.specs.Lists.{ArePredecessors};
+ghost use Rattle.verdicts.specs.Verdict.{is_asking};
+ghost use Rattle.verdicts.specs.Stop.{bound_of, IsStopRule};
+ghost use Rattle.game_model.specs.Query.{states};
+ghost use Rattle.game_model.specs.Dual.{IsZeroSet};
 ghost use Rattle.bracket_engine.specs.Agenda.{read_of};
-ghost use Rattle.bracket_engine.specs.Race.{IsRacing, IsRaced};
+ghost use Rattle.bracket_engine.specs.Race.{IsRacing, AreOver};
+ghost use Rattle.bracket_engine.specs.Stop.{IsKept};
 
 use crate::runner::{Runner, close, one_round, open};
+use crate::stopping::{Ending, Kept};
 use game_model::Question;
 use game_outside::{Gate, OutOfMemory};
 use predecessors::Predecessors;
 use std::alloc::Global;
 use std::thread::Threads;
+use upper_guess::Witnesses;
 use value_words::{Posing, Words};
 
-/// The closed words of two races, and the number of completed rounds.
+/// The closed words of two races, and how they ended.
 #[derive(Drop)]
 pub struct Raced {
     /// The words of the question.
     pub words: Words,
     /// The words of the swapped question.
     pub cowords: Words,
+    /// How the rounds ended.
+    pub ended: Ended,
+}
+
+/// How the rounds of two races ended.
+#[derive(Drop)]
+pub struct Ended {
     /// How many rounds were completed on each.
     pub rounds: u32,
+    /// Whether the last one changed nothing on either.
+    pub rests: bool,
+    /// The guess that settled the threshold, where one did.
+    pub kept: Option<Kept>,
 }
 
 /// Runs at most `most` rounds on the words of both questions, each of at most so many workers. It ends earlier where a
-/// round changed nothing on either: then the words of both are settled.
-pub fn race<R: Threads + Sync, P: Posing + Send + Sync, C: Posing + Send + Sync, G: Gate + Sync>(
+/// round changed nothing on either: then the words of both are settled; or where a guess settles the threshold at each
+/// initial state.
+pub fn race<
+    R: Threads + Sync,
+    P: Posing + Send + Sync,
+    C: Posing + Send + Sync,
+    F: Fn(u64, u64) -> bool,
+    G: Gate + Sync,
+>(
     rt: &R,
     alloc: Global,
-    question: &Question<'_>,
+    ending: &Ending<'_, F>,
     swapped: &Question<'_>,
     most: u32,
     workers: u32,
     gate: &G,
 ) -> Result<Raced, OutOfMemory>
-    requires posed { question.now ≡ P.posed }
+    requires rule { IsStopRule F.Fn ending.now.rule.now }
+    requires zero { IsZeroSet ending.now.question.now ending.now.zero.now }
+    requires initial { All (λ s. s < states ending.now.question.now) ending.now.initial.now }
+    requires posed { ending.now.question.now ≡ P.posed }
     requires coposed { swapped.now ≡ C.posed }
     requires game { C.posed.game ≡ P.posed.game }
     requires some { 1 ≤ workers }
     requires few { workers ≤ most_workers }
-    ensures lower { IfOk result (λ raced. IsRaced P.posed most raced.words raced.rounds) }
-    ensures co { IfOk result (λ raced. IsRaced C.posed most raced.cowords raced.rounds) }
+    ensures { IfOk result (λ raced. AreOver P.posed C.posed ending.now.zero.now (bound_of ending.now.rule.now) ending.now.initial.now most raced.words raced.cowords raced.ended) }
 {
+    let question = ending.question;
     question.known();
     let predecessors = Predecessors::of_game(alloc, question.game())?;
     let lower = open::<P>(alloc, question)?;
     let co = open::<C>(alloc, swapped)?;
-    let (lower, co, rounds) = run_rounds(rt, &predecessors, lower, co, most, workers, gate);
+    let (lower, co, ended) = run_rounds(
+        rt,
+        alloc,
+        ending,
+        &predecessors,
+        lower,
+        co,
+        most,
+        workers,
+        gate,
+    )?;
     let words = close(alloc, lower)?;
     let cowords = close(alloc, co)?;
     Ok(Raced {
         words,
         cowords,
-        rounds,
+        ended,
     })
 }
 
-// Rounds on both until one changes nothing on either, at most this many. How many there were.
+// Rounds on both until one changes nothing on either or the threshold is settled, at most this many.
 fn run_rounds<
     'q,
     's,
     R: Threads + Sync,
     P: Posing + Send + Sync,
     C: Posing + Send + Sync,
+    F: Fn(u64, u64) -> bool,
     G: Gate + Sync,
 >(
     rt: &R,
+    alloc: Global,
+    ending: &Ending<'_, F>,
     predecessors: &Predecessors,
     mut lower: Runner<'q, P>,
     mut co: Runner<'s, C>,
     most: u32,
     workers: u32,
     gate: &G,
-) -> (Runner<'q, P>, Runner<'s, C>, u32)
+) -> Result<(Runner<'q, P>, Runner<'s, C>, Ended), OutOfMemory>
+    requires rule { IsStopRule F.Fn ending.now.rule.now }
+    requires zero { IsZeroSet ending.now.question.now ending.now.zero.now }
+    requires initial { All (λ s. s < states ending.now.question.now) ending.now.initial.now }
+    requires posed { ending.now.question.now ≡ P.posed }
+    requires game { C.posed.game ≡ P.posed.game }
     requires predecessors { ArePredecessors P.posed.game predecessors.now }
     requires copredecessors { ArePredecessors C.posed.game predecessors.now }
     requires lower { IsRacing P.posed 0 lower.pass lower.agenda }
     requires co { IsRacing C.posed 0 co.pass co.agenda }
     requires workers { (1 ≤ workers) × (workers ≤ most_workers) }
-    ensures few { result.2 ≤ most }
-    ensures lower { IsRacing P.posed result.2 result.0.pass result.0.agenda }
-    ensures co { IsRacing C.posed result.2 result.1.pass result.1.agenda }
-    ensures early { result.2 < most → IsSettled P.posed (read_of result.0.agenda) }
-    ensures coearly { result.2 < most → IsSettled C.posed (read_of result.1.agenda) }
+    ensures few { IfOk result (λ r. r.2.rounds ≤ most) }
+    ensures lower { IfOk result (λ r. IsRacing P.posed r.2.rounds r.0.pass r.0.agenda) }
+    ensures co { IfOk result (λ r. IsRacing C.posed r.2.rounds r.1.pass r.1.agenda) }
+    ensures rests { IfOk result (λ r. r.2.rests ≡ true → IsSettled P.posed (read_of r.0.agenda) × IsSettled C.posed (read_of r.1.agenda)) }
+    ensures kept { IfOk result (λ r. IfSome r.2.kept (IsKept P.posed ending.now.zero.now (bound_of ending.now.rule.now) ending.now.initial.now (read_of r.0.agenda) (read_of r.1.agenda))) }
+    ensures none { is_asking (bound_of ending.now.rule.now) ≡ true → IfOk result (λ r. r.2.kept ≡ None) }
+    ensures early { IfOk result (λ r. r.2.rounds < most → (r.2.rests ≡ true) ⊎ (is_some r.2.kept ≡ true)) }
 {
+    ending.question.known();
+    let mut witnesses = Witnesses::none();
     for turn in 0..most {
         let (next, changed) = one_round(rt, predecessors, lower, workers, gate);
         lower = next;
         let (next, cochanged) = one_round(rt, predecessors, co, workers, gate);
         co = next;
+        let rounds = turn + 1;
         if !changed && !cochanged {
-            return (lower, co, turn + 1);
+            let ended = Ended {
+                rounds,
+                rests: true,
+                kept: None,
+            };
+            return Ok((lower, co, ended));
+        }
+        let kept = ending.asked_after(
+            alloc,
+            rounds,
+            &lower.agenda.read,
+            &co.agenda.read,
+            &mut witnesses,
+        )?;
+        if kept.is_some() {
+            let ended = Ended {
+                rounds,
+                rests: false,
+                kept,
+            };
+            return Ok((lower, co, ended));
         }
     }
-    (lower, co, most)
+    let ended = Ended {
+        rounds: most,
+        rests: false,
+        kept: None,
+    };
+    Ok((lower, co, ended))
 }

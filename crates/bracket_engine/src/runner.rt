@@ -7,7 +7,7 @@ ghost use Rattle.round_workers.specs.Share.{most_workers};
 ghost use Rattle.predecessors.specs.Lists.{ArePredecessors};
 ghost use Rattle.value_words.specs.Passes.{IsOf, Grew, seen_by, won_by, parts_of};
 ghost use Rattle.bracket_engine.specs.Agenda.{read_of, IsAgenda};
-ghost use Rattle.bracket_engine.specs.Race.{IsRacing, IsRaced};
+ghost use Rattle.bracket_engine.specs.Race.{IsRacing, IsClosed};
 
 use crate::agenda::{Agenda, mark_again, read_again};
 use game_model::Question;
@@ -87,10 +87,10 @@ pub fn one_round<'q, R: Threads + Sync, P: Posing + Send + Sync, G: Gate + Sync>
     (runner, changed > 0)
 }
 
-/// The closed words. They are those of a race of as many rounds, where it was settled if it ended early.
+/// The closed words: those of a race of as many rounds, settled where what was read is.
 pub fn close<P: Posing>(alloc: Global, runner: Runner<'_, P>) -> Result<Words, OutOfMemory>
-    ensures { (asked r : ℕ) → r ≤ asked → IsRacing P.posed r runner.entry.pass runner.entry.agenda → (r < asked → IsSettled P.posed (read_of runner.entry.agenda))
-        → IfOk result (λ words. IsRaced P.posed asked words r) }
+    ensures { (r : ℕ) → IsRacing P.posed r runner.entry.pass runner.entry.agenda
+        → IfOk result (λ words. IsClosed P.posed words r (read_of runner.entry.agenda)) }
 {
     let Runner {
         table,

@@ -1,15 +1,20 @@
 //! Worked brackets.
 
-ghost use Rattle.std.specs.Prelude.{◌≡◌, IfOk, length};
+ghost use Rattle.std.specs.Prelude.{◌≡◌, ◌≤◌, IfOk, length};
 ghost use Rattle.game_model.specs.Dual.{IsZeroSet};
+ghost use Rattle.round_workers.specs.Share.{most_workers};
+ghost use Rattle.bracket_engine.specs.Limits.{most_rounds};
 
-use crate::bracket;
+use crate::{Bracket, bracket};
 use game_model::{Game, Marks, Question, Side, UNIT};
-use game_outside::{HoldGate, OpenGate};
+use game_outside::{Gate, HoldGate, OpenGate};
 use reference_values::numerators;
+use rpatl_syntax::Bound;
 use sample_games::{all_of, coin_loop, four_states, none_of, only};
 use std::alloc::Global;
 use std::test::Fail;
+use std::thread::Threads;
+use verdicts::{StopRule, settle};
 use zero_sets::zero_set;
 
 // How likely does the coin loop end at state 1?
@@ -29,6 +34,41 @@ fn zeros_of(alloc: Global, question: &Question) -> Result<Marks, Fail>
     }
 }
 
+// The bracket of a question that asks for the value at state 0.
+fn value_bracket<R: Threads + Sync, G: Gate + Sync>(
+    rt: &R,
+    alloc: Global,
+    question: &Question<'_>,
+    zero: &Marks,
+    rounds: u32,
+    workers: u32,
+    gate: &G,
+) -> Result<Bracket, Fail>
+    requires zero { IsZeroSet question.now zero.now }
+    requires rounds { rounds ≤ most_rounds }
+    requires some { 1 ≤ workers }
+    requires few { workers ≤ most_workers }
+{
+    question.known();
+    let stop = StopRule::of_bound(Bound::AskMax, |lower, upper| {
+        settle(&Bound::AskMax, lower, upper).is_settling()
+    });
+    match bracket(
+        rt,
+        alloc,
+        question,
+        zero,
+        rounds,
+        workers,
+        &stop,
+        &[0],
+        gate,
+    ) {
+        Ok(found) => Ok(found),
+        Err(_) => Err(Fail::new("no memory")),
+    }
+}
+
 #[test]
 fn the_coin_loop_settles_at_round_40(rt: HostRuntime) -> Result<(), Fail> {
     let alloc = rt.alloc();
@@ -41,9 +81,7 @@ fn the_coin_loop_settles_at_round_40(rt: HostRuntime) -> Result<(), Fail> {
         (39, UNIT / 2 - 1, UNIT / 2, 39, true),
         (1_000, UNIT / 2 - 1, UNIT / 2, 40, true),
     ] {
-        let Ok(found) = bracket(&rt, alloc, &question, &zero, asked, 1, &OpenGate {}) else {
-            return Err(Fail::new("no memory"));
-        };
+        let found = value_bracket(&rt, alloc, &question, &zero, asked, 1, &OpenGate {})?;
         assert_eq!(rt;
             found.lower.as_slice(),
             [lower, UNIT, 0].as_slice(),
@@ -69,9 +107,7 @@ fn the_first_player_chooses_the_better_lottery(rt: HostRuntime) -> Result<(), Fa
     let question = Question::build(&game, sides, only(alloc, 2, 4)?, none_of(alloc, 4)?);
     let zero = zeros_of(alloc, &question)?;
     for workers in [1, 2, 3, 64] {
-        let Ok(found) = bracket(&rt, alloc, &question, &zero, 1_000, workers, &OpenGate {}) else {
-            return Err(Fail::new("no memory"));
-        };
+        let found = value_bracket(&rt, alloc, &question, &zero, 1_000, workers, &OpenGate {})?;
         assert_eq!(rt;
             found.lower.as_slice(),
             [UNIT / 100 * 65, UNIT / 5, UNIT, 0].as_slice(),
@@ -105,9 +141,7 @@ fn after_r_rounds_r_units_at_most_are_missing(rt: HostRuntime) -> Result<(), Fai
     let zero = zeros_of(alloc, &question)?;
     let mut power: u128 = 1;
     for rounds in 0..20u32 {
-        let Ok(found) = bracket(&rt, alloc, &question, &zero, rounds, 1, &OpenGate {}) else {
-            return Err(Fail::new("no memory"));
-        };
+        let found = value_bracket(&rt, alloc, &question, &zero, rounds, 1, &OpenGate {})?;
         let Ok(exact) = numerators(alloc, &question, rounds) else {
             return Err(Fail::new("no numerators"));
         };
@@ -128,9 +162,7 @@ fn two_workers_run_at_once(rt: HostRuntime) -> Result<(), Fail> {
     let question = coin_question(alloc, &game)?;
     let zero = zeros_of(alloc, &question)?;
     let gate = HoldGate::new();
-    let Ok(found) = bracket(&rt, alloc, &question, &zero, 10, 2, &gate) else {
-        return Err(Fail::new("no memory"));
-    };
+    let found = value_bracket(&rt, alloc, &question, &zero, 10, 2, &gate)?;
     assert!(rt; found.rounds == 10, "a round is missing");
     assert!(rt; !gate.gave_up(), "the workers ran one after another");
     Ok(())

@@ -1,3 +1,4 @@
+use Rattle.upper_guess.specs.Guess.{AreWitnesses}
 use Rattle.bracket_engine.specs.Race.{IsRacing}
 use Rattle.bracket_engine.proofs.race.run_rounds.Given as goal
 
@@ -5,4 +6,5 @@ abbrev pub invariant-loop-turn : goal.invariant-loop-turn
 invariant-loop-turn g l = record {
   lower : IsRacing g.P.Posing.posed l.turn l.lower.pass l.lower.agenda;
   co : IsRacing g.C.Posing.posed l.turn l.co.pass l.co.agenda;
+  witnesses : AreWitnesses g.P.Posing.posed l.witnesses.states;
 }

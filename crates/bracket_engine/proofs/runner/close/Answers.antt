@@ -9,7 +9,7 @@ use Rattle.bracket_engine.proofs.Racing.{swept-opens, within-more, closed-settle
 use Rattle.bracket_engine.proofs.runner.close.Goals as goal
 
 pub returns : goal.returns
-returns g c asked r few racing settled =
+returns g c r racing =
     let q = g.P.Posing.posed in
     let h : IsQuery q = c.args.runner.table.posed in
     let words : List ℕ = c.in_ok-words.words in
@@ -17,9 +17,11 @@ returns g c asked r few racing settled =
     let seen : List ℕ = c.args.runner.pass.seat.me.0.seen in
     let closed = c.in_ok-words.ensures in
     let below : IsBelow q read (value_at words) = λ s inside. le_trans (c.args.runner.ready.below s inside) (Sees-below q words seen closed.seen s) in record {
-      sound = closed.words;
-      few = few;
-      within = within-more q (value_at words) (won_by c.args.runner.pass) (r * states q) h racing.won (closed.within racing.whole);
-      swept = λ s inside. le_trans (racing.swept s inside) (below s inside);
-      early = λ less. closed-settled q words read h closed.words below (swept-opens q read r h racing.swept) (settled less);
+      raced = record {
+        sound = closed.words;
+        within = within-more q (value_at words) (won_by c.args.runner.pass) (r * states q) h racing.won (closed.within racing.whole);
+        swept = λ s inside. le_trans (racing.swept s inside) (below s inside);
+      };
+      below = below;
+      settled = closed-settled q words read h closed.words below (swept-opens q read r h racing.swept);
     }

@@ -1,6 +1,7 @@
-use Rattle.std.proofs.Common.{◌≡◌, ℕ, ◌<◌, ◌≤◌, Bool, List, length, refl, ap, sym, ◌∙◌, subst, slice_index_or}
+use Rattle.std.proofs.Common.{◌≡◌, ℕ, ◌<◌, ◌≤◌, All, Bool, List, length, refl, ap, sym, ◌∙◌, subst, slice_index_or}
 use Rattle.game_model.specs.Game.{Distribution}
 use Rattle.game_model.specs.Query.{Query, states}
+use Rattle.game_model.specs.Limits.{unit}
 use Rattle.game_model.specs.Rounded.{down_step}
 use Rattle.value_words.specs.Passes.{seen_by}
 use Rattle.round_workers.specs.Marks.{IsMarked}
@@ -47,7 +48,7 @@ returns-clause-agenda g c =
     let game : c.game.result.now ≡ q.game = c.game.ensures ∙ ap (λ (p : Query). p.game) c.question.ensures in
     let marked : AreMarkedFor q.game read.more.items new.marks.items = subst (λ (l : List (List Distribution)). AreMarkedFor l read.more.items new.marks.items) game m.marked in
     record {
-      sized = record { read = ap length m.read ∙ c.read_again-changed.ensures.sized.read; marks = m.marks ∙ ap length game; more = m.more ∙ ap length game };
+      sized = record { read = ap length m.read ∙ c.read_again-changed.ensures.sized.read; units = subst (λ (l : List ℕ). All (λ v. v ≤ unit) l) (sym m.read) c.read_again-changed.ensures.sized.units; marks = m.marks ∙ ap length game; more = m.more ∙ ap length game };
       below = λ s inside. subst (λ (l : List ℕ). slice_index_or l s 0 ≤ seen_by c.read_again-changed.new.pass s) (sym m.read) (c.read_again-changed.ensures.again.below s inside);
       quiet = λ s inside off. subst (λ (l : List ℕ). down_step q (λ t. slice_index_or l t 0) s ≤ slice_index_or l s 0) (sym m.read)
           (quiet-again q c.args.agenda.now _ read new.marks.items (seen_by c.round-pass.result.pass) (seen_by c.read_again-changed.new.pass) c.args.table.now.posed refl c.read_again-changed.ensures.again (read-step g c) marked s inside off);

@@ -1,0 +1,31 @@
+use Rattle.std.proofs.Common.{◌<◌, All, ap, sym, subst}
+use Rattle.std.specs.Prelude.{length}
+use Rattle.game_model.specs.Query.{Query, states}
+use Rattle.game_model.specs.Rounded.{IsBelow}
+use Rattle.step_core.specs.Word.{value_at}
+use Rattle.verdicts.specs.Stop.{bound_of}
+use Rattle.bracket_engine.specs.Agenda.{read_of}
+use Rattle.bracket_engine.specs.Race.{IsClosed}
+use Rattle.bracket_engine.proofs.Uppers.{IsKept-raised}
+use Rattle.bracket_engine.proofs.race.race.Goals as goal
+
+pub returns : goal.returns
+returns g c =
+    let q : Query = g.P.Posing.posed in
+    let ended = c.in_ok-lower-2.ended in
+    let rounds = c.in_ok-lower-2.ensures in
+    let read = read_of c.in_ok-lower-2.lower.agenda in
+    let coread = read_of c.in_ok-lower-2.co.agenda in
+    let one : IsClosed q c.in_ok-words.words ended.rounds read = c.in_ok-words.ensures ended.rounds rounds.lower in
+    let two : IsClosed g.C.Posing.posed c.in_ok-cowords.cowords ended.rounds coread = c.in_ok-cowords.ensures ended.rounds rounds.co in
+    let inside : All (λ s. s < states q) c.args.ending.now.initial.now = subst (λ (p : Query). All (λ s. s < states p) c.args.ending.now.initial.now) c.requires.posed c.requires.initial in
+    let corise : IsBelow q coread (value_at c.in_ok-cowords.cowords) = λ s there. two.below s (subst (λ n. s < n) (sym (ap length c.requires.game)) there) in
+    record {
+      raced = one.raced;
+      coraced = two.raced;
+      few = rounds.few;
+      rests = λ is. (one.settled (rounds.rests is).0, two.settled (rounds.rests is).1);
+      kept = IsKept-raised q c.args.ending.now.zero.now (bound_of c.args.ending.now.rule.now) c.args.ending.now.initial.now read (value_at c.in_ok-words.words) coread (value_at c.in_ok-cowords.cowords) ended.kept inside one.below corise rounds.kept;
+      none = rounds.none;
+      early = rounds.early;
+    }

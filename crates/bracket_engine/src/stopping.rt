@@ -1,0 +1,111 @@
+//! What may end a run before its rounds.
+
+ghost use Rattle.std.specs.Prelude.{◌≡◌, ◌≤◌, ◌<◌, length, All};
+ghost use Rattle.game_model.specs.Query.{states};
+ghost use Rattle.game_model.specs.Limits.{unit};
+ghost use Rattle.game_model.specs.Dual.{IsZeroSet};
+
+use game_model::{Marks, Question, UNIT};
+use game_outside::OutOfMemory;
+use std::alloc::Global;
+use upper_guess::{Witnesses, guess_with};
+use verdicts::StopRule;
+
+/// The guess that ended a run, and the lower bounds that it is over.
+#[derive(Drop)]
+pub struct Kept {
+    /// The lower bounds, by state.
+    pub lower: Vec<u64>,
+    /// The guess, by state.
+    pub guess: Vec<u64>,
+}
+
+/// What may end the run of a question: a rule that is asked at its initial states.
+#[derive(Drop)]
+pub struct Ending<'a, F: Fn(u64, u64) -> bool> {
+    pub question: &'a Question<'a>,
+    pub zero: &'a Marks,
+    pub rule: &'a StopRule<F>,
+    pub initial: &'a [u32],
+}
+
+impl<F: Fn(u64, u64) -> bool> Ending<'_, F> {
+    ghost use Rattle.std.specs.Prelude.{◌↔◌, true, slice_index, IfOk, IfSome, None};
+    ghost use Rattle.upper_guess.specs.Guess.{AreWitnesses};
+    ghost use Rattle.verdicts.specs.Verdict.{is_asking};
+    ghost use Rattle.verdicts.specs.Stop.{bound_of, IsStopRule};
+    ghost use Rattle.bracket_engine.specs.Stop.{AreSettledAt, upper_from, IsKept};
+
+    /// The guess over lower bounds, after 1, 2, 4, 8 and so on rounds, where with the co-values it settles the threshold
+    /// at each initial state. None is made where the bound asks for a value, since no rule could use it.
+    pub fn asked_after(
+        &self,
+        alloc: Global,
+        rounds: u32,
+        lower: &[u64],
+        covalues: &[u64],
+        witnesses: &mut Witnesses,
+    ) -> Result<Option<Kept>, OutOfMemory>
+        requires rule { IsStopRule F.Fn self.now.rule.now }
+        requires zero { IsZeroSet self.now.question.now self.now.zero.now }
+        requires initial { All (λ s. s < states self.now.question.now) self.now.initial.now }
+        requires lower { length lower.now ≡ states self.now.question.now }
+        requires lower_units { All (λ v. v ≤ unit) lower.now }
+        requires covalues { length covalues.now ≡ states self.now.question.now }
+        requires witnesses { AreWitnesses self.now.question.now witnesses.old.states }
+        ensures witnesses { AreWitnesses self.now.question.now witnesses.new.states }
+        ensures kept { IfOk result (λ found. IfSome found (IsKept self.now.question.now self.now.zero.now (bound_of self.now.rule.now) self.now.initial.now (slice_index lower.now) (slice_index covalues.now))) }
+        ensures asking { is_asking (bound_of self.now.rule.now) ≡ true → IfOk result (λ found. found ≡ None) }
+    {
+        if !self.rule.may_settle() || !rounds.is_power_of_two() {
+            return Ok(None);
+        }
+        self.settling_guess(alloc, lower, covalues, witnesses)
+    }
+
+    /// The guess over lower bounds, where with the co-values it settles the threshold at each initial state.
+    fn settling_guess(
+        &self,
+        alloc: Global,
+        lower: &[u64],
+        covalues: &[u64],
+        witnesses: &mut Witnesses,
+    ) -> Result<Option<Kept>, OutOfMemory>
+        requires rule { IsStopRule F.Fn self.now.rule.now }
+        requires zero { IsZeroSet self.now.question.now self.now.zero.now }
+        requires initial { All (λ s. s < states self.now.question.now) self.now.initial.now }
+        requires lower { length lower.now ≡ states self.now.question.now }
+        requires lower_units { All (λ v. v ≤ unit) lower.now }
+        requires covalues { length covalues.now ≡ states self.now.question.now }
+        requires witnesses { AreWitnesses self.now.question.now witnesses.old.states }
+        ensures witnesses { AreWitnesses self.now.question.now witnesses.new.states }
+        ensures kept { IfOk result (λ found. IfSome found (IsKept self.now.question.now self.now.zero.now (bound_of self.now.rule.now) self.now.initial.now (slice_index lower.now) (slice_index covalues.now))) }
+    {
+        let guess = guess_with(alloc, self.question, self.zero, lower, witnesses)?;
+        if !self.settles(lower, covalues, &guess) {
+            return Ok(None);
+        }
+        let lower = lower.to_vec(alloc)?;
+        Ok(Some(Kept { lower, guess }))
+    }
+
+    /// Whether the rule says yes at each initial state, to the lower bound and to the lesser of the two upper ones.
+    fn settles(&self, lower: &[u64], covalues: &[u64], guess: &[u64]) -> bool
+        requires rule { IsStopRule F.Fn self.now.rule.now }
+        requires initial { All (λ s. s < states self.now.question.now) self.now.initial.now }
+        requires lower { length lower.now ≡ states self.now.question.now }
+        requires lower_units { All (λ v. v ≤ unit) lower.now }
+        requires covalues { length covalues.now ≡ states self.now.question.now }
+        requires guess { length guess.now ≡ states self.now.question.now }
+        ensures { (result ≡ true) ↔ AreSettledAt (bound_of self.now.rule.now) self.now.initial.now (slice_index lower.now) (upper_from (slice_index covalues.now) (slice_index guess.now)) }
+    {
+        for state in self.initial {
+            let place = *state as usize;
+            let upper = UNIT.saturating_sub(covalues[place]).min(guess[place]);
+            if !self.rule.asks(lower[place], upper) {
+                return false;
+            }
+        }
+        true
+    }
+}

@@ -1,0 +1,71 @@
+//! The upper table of a run.
+
+ghost use Rattle.std.specs.Prelude.{◌≡◌, ◌≤◌, ◌-◌, length, slice_index, All, IfOk, IfSome};
+ghost use Rattle.game_model.specs.Query.{states};
+ghost use Rattle.game_model.specs.Limits.{unit};
+ghost use Rattle.game_model.specs.Dual.{IsZeroSet};
+ghost use Rattle.game_model.specs.Rounded.{IsInductive};
+ghost use Rattle.upper_guess.specs.Guess.{IsFirstGuess};
+ghost use Rattle.bracket_engine.specs.Stop.{IsUpper, IsLeastGuess, IsUpperFrom};
+
+use crate::stopping::Kept;
+use crate::tables::{lesser, rests};
+use game_model::{Marks, Question};
+use game_outside::OutOfMemory;
+use std::alloc::Global;
+use upper_guess::guess;
+
+/// The least of the unit less the co-values, of the guess over the lower bounds, and of the one that was kept, if any.
+pub fn upper_table(
+    alloc: Global,
+    question: &Question,
+    zero: &Marks,
+    lower: &[u64],
+    covalues: &[u64],
+    kept: Option<Kept>,
+) -> Result<Vec<u64>, OutOfMemory>
+    requires zero { IsZeroSet question.now zero.now }
+    requires length { length lower.now ≡ states question.now }
+    requires units { All (λ v. v ≤ unit) lower.now }
+    requires covalues { length covalues.now ≡ states question.now }
+    requires unlost { IsInductive question.now (λ s. unit - slice_index covalues.now s) }
+    requires kept { IfSome kept (λ kept. IsFirstGuess question.now zero.now (slice_index kept.lower.items) kept.guess.items × IsUpper question.now kept.guess.items) }
+    ensures { IfOk result (λ upper. IsUpperFrom question.now zero.now (slice_index lower.now) (slice_index covalues.now) kept upper.items) }
+{
+    question.known();
+    let unlost = rests(alloc, covalues)?;
+    let guessed = least_guess(alloc, question, zero, lower, kept)?;
+    lesser(alloc, &unlost, &guessed)
+}
+
+// The guess over the lower bounds; where another one was kept, the lesser of the two. Over the same lower bounds that
+// one is the guess.
+fn least_guess(
+    alloc: Global,
+    question: &Question,
+    zero: &Marks,
+    lower: &[u64],
+    kept: Option<Kept>,
+) -> Result<Vec<u64>, OutOfMemory>
+    requires zero { IsZeroSet question.now zero.now }
+    requires length { length lower.now ≡ states question.now }
+    requires units { All (λ v. v ≤ unit) lower.now }
+    requires kept { IfSome kept (λ kept. IsFirstGuess question.now zero.now (slice_index kept.lower.items) kept.guess.items × IsUpper question.now kept.guess.items) }
+    ensures { IfOk result (λ least. IsLeastGuess question.now zero.now (slice_index lower.now) kept least.items) }
+{
+    question.known();
+    let Some(
+        Kept {
+            lower: over,
+            guess: earlier,
+        },
+    ) = kept
+    else {
+        return guess(alloc, &*question, &*zero, &*lower);
+    };
+    if over.as_slice() == lower {
+        return Ok(earlier);
+    }
+    let guessed = guess(alloc, &*question, &*zero, &*lower)?;
+    lesser(alloc, &guessed, &earlier)
+}
