@@ -1,5 +1,5 @@
 -- What texts and words say by cases is what they ask.
-use Rattle.std.proofs.Common.{◌≡◌, ℕ, Bool, true, false, cond, List, length, Option, Some, None, Result, Ok, Err, refl, sym, ap, subst, ◌∙◌}
+use Rattle.std.proofs.Common.{◌≡◌, ℕ, List, length, Option, Some, None, Result, Ok, Err, refl, sym, ap, subst, ◌∙◌}
 use Rattle.game_model.specs.Game.{Distribution}
 use Rattle.distributions.proofs.Said.{number-found, number-again}
 use Rattle.distributions.proofs.Chosen.{choice-found, choice-again}
@@ -11,8 +11,6 @@ use Rattle.label_reader.specs.Owners.{Ownership}
 use Rattle.label_reader.specs.Texts.{labels_of, owners_of}
 use Rattle.label_reader.proofs.LabelLaws.{labels_of-found, labels_of-again}
 use Rattle.label_reader.proofs.OwnerLaws.{owners_of-found, owners_of-again}
-use Rattle.rpatl_syntax.specs.declared.fault.FormulaCause.TheVariants.{NotYet}
-use Rattle.rpatl_syntax.specs.Fault.{fault_at}
 use Rattle.rpatl_syntax.specs.Formula.{Tree}
 use Rattle.rpatl_syntax.specs.Grammar.{formula_said}
 use Rattle.rpatl_syntax.specs.Rules.{Denotes as DenotesFormula}
@@ -28,7 +26,7 @@ use Rattle.stogame_app.specs.Words.{Check}
 use Rattle.stogame_app.specs.Said.{Said, NotHeld, Refuses, Says, and_then, read_said}
 use Rattle.stogame_app.specs.Sources.{Sources}
 use Rattle.stogame_app.specs.Texts.{text_said, game_said, labels_said, owners_said}
-use Rattle.stogame_app.specs.Posed.{asks_for_value, asking, formula_read, Reading, reading_with, behind_owners, behind_labels, behind_game, reading_said, posed, question_said}
+use Rattle.stogame_app.specs.Posed.{formula_read, Reading, reading_with, behind_owners, behind_labels, behind_game, reading_said, posed, question_said}
 use Rattle.stogame_app.specs.Asks.{IsText, AreOwners, Asks}
 use Rattle.stogame_app.proofs.Lengths.{short_says, says_short}
 
@@ -70,23 +68,11 @@ are_owners (Some name) source states owners is = is_text Own OfOwn (λ bytes. ow
 
 -- 2. The formula.
 
-asked : (tree other : Tree) → asking tree ≡ Says other → (tree ≡ other) × (asks_for_value tree.bound ≡ true)
-asked tree other is = by_test (asks_for_value tree.bound) refl is
-  where
-    by_test : (b : Bool) → asks_for_value tree.bound ≡ b → cond b (Says tree) (Refuses (OfFormula (fault_at 0 NotYet))) ≡ Says other → (tree ≡ other) × (asks_for_value tree.bound ≡ true)
-    by_test true value is = (cc (is), value)
-    by_test false value is = cc (is)
+formula_is : (text : List ℕ) (tree : Tree) → formula_read text ≡ Says tree → DenotesFormula text tree
+formula_is text tree is = formula_denoted text tree (was_read OfFormula (formula_said text) tree is)
 
-formula_is : (text : List ℕ) (tree : Tree) → formula_read text ≡ Says tree → DenotesFormula text tree × (asks_for_value tree.bound ≡ true)
-formula_is text tree is =
-    let r = behind (read_said OfFormula (formula_said text)) asking tree is in
-    let a = asked r.0 tree r.2 in
-    let P : Tree → Type 0 = λ f. DenotesFormula text f × (asks_for_value f.bound ≡ true) in
-    subst P a.0 (formula_denoted text r.0 (was_read OfFormula (formula_said text) r.0 r.1), a.1)
-
-is_formula : (text : List ℕ) (tree : Tree) → DenotesFormula text tree → asks_for_value tree.bound ≡ true → formula_read text ≡ Says tree
-is_formula text tree denotes value =
-    ap (λ r. and_then (read_said OfFormula r) asking) (formula_said_again text tree denotes) ∙ ap (λ b. cond b (Says tree) (Refuses (OfFormula (fault_at 0 NotYet)))) value
+is_formula : (text : List ℕ) (tree : Tree) → DenotesFormula text tree → formula_read text ≡ Says tree
+is_formula text tree denotes = ap (read_said OfFormula) (formula_said_again text tree denotes)
 
 -- 3. The question.
 
@@ -98,7 +84,6 @@ asks_read sources check posing game labels owners formula reading of_tra of_lab 
     let is : reading_with game labels owners formula ≡ reading = cc (whole) in
     let P : Reading → Type 0 = λ r. posed r ≡ Says posing in
     let said : posed (reading_with game labels owners formula) ≡ Says posing = subst P (sym is) poses in
-    let spelled = formula_is check.formula formula of_formula in
     record {
       game = game;
       labels = labels;
@@ -107,8 +92,7 @@ asks_read sources check posing game labels owners formula reading of_tra of_lab 
       tra = text_is Tra OfTra game_of (λ bytes g. DenotesGame bytes g) sources.tra game (λ bytes. text_found number-found choice-found bytes game) of_tra;
       lab = text_is Lab OfLab (λ bytes. labels_of bytes (length game)) (λ bytes l. DenotesLabels bytes (length game) l) sources.lab labels (λ bytes. labels_of-found bytes (length game) labels) of_lab;
       own = owners_are check.options.own sources.own (length game) owners of_own;
-      spelled = spelled.0;
-      value = spelled.1;
+      spelled = formula_is check.formula formula of_formula;
       poses = pose-found game labels owners formula posing (was_read OfQuestion (pose_said game labels owners formula) posing said);
     }
 
@@ -128,9 +112,21 @@ asks_said sources check posing asks =
     let of_tra = is_text Tra OfTra game_of (λ bytes g. DenotesGame bytes g) sources.tra asks.game (λ bytes. text_again number-again choice-again bytes asks.game) asks.tra in
     let of_lab = is_text Lab OfLab (λ bytes. labels_of bytes (length asks.game)) (λ bytes l. DenotesLabels bytes (length asks.game) l) sources.lab asks.labels (λ bytes. labels_of-again bytes (length asks.game) asks.labels) asks.lab in
     let of_own = are_owners check.options.own sources.own (length asks.game) asks.owners asks.own in
-    let of_formula = is_formula check.formula asks.formula asks.spelled asks.value in
+    let of_formula = is_formula check.formula asks.formula asks.spelled in
     let read : reading_said sources check ≡ Says (reading_with asks.game asks.labels asks.owners asks.formula) =
     ap (λ s. and_then s (λ game. behind_game sources check game)) of_tra ∙ ap (λ s. and_then s (λ labels. behind_labels sources check asks.game labels)) of_lab
     ∙ ap (λ s. and_then s (λ owners. behind_owners check asks.game asks.labels owners)) of_own ∙ ap (λ s. and_then s (λ formula. Says (reading_with asks.game asks.labels asks.owners formula))) of_formula
     in
     ap (λ s. and_then s (λ reading. posed reading)) read ∙ ap (read_said OfQuestion) (pose-again asks.game asks.labels asks.owners asks.formula posing asks.poses)
+
+-- the formula of what was read is the one that the words spell
+pub formula_spelled : (sources : Sources) (check : Check) (reading : Reading) → reading_said sources check ≡ Says reading → DenotesFormula check.formula reading.formula
+formula_spelled sources check reading is =
+    let of_tra = behind (game_said sources.tra) (λ game. behind_game sources check game) reading is in
+    let of_lab = behind (labels_said sources.lab (length of_tra.0)) (λ labels. behind_labels sources check of_tra.0 labels) reading of_tra.2 in
+    let of_own = behind (owners_said check.options.own sources.own (length of_tra.0)) (λ owners. behind_owners check of_tra.0 of_lab.0 owners) reading of_lab.2 in
+    let of_formula = behind (formula_read check.formula) (λ formula. Says (reading_with of_tra.0 of_lab.0 of_own.0 formula)) reading of_own.2 in
+    let whole = of_formula.2 in
+    let alike : reading_with of_tra.0 of_lab.0 of_own.0 of_formula.0 ≡ reading = cc (whole) in
+    let same : of_formula.0 ≡ reading.formula = ap (λ (r : Reading). r.formula) alike in
+    subst (λ (f : Tree). DenotesFormula check.formula f) same (formula_is check.formula of_formula.0 of_formula.1)

@@ -13,7 +13,10 @@ use Rattle.stogame_app.specs.declared.refusal.Refusal.{Refusal}
 use Rattle.stogame_app.specs.declared.refusal.Refusal.TheVariants.{OfQuestion}
 use Rattle.stogame_app.specs.declared.status.Status.{Status}
 use Rattle.stogame_app.specs.declared.status.Status.TheVariants as status
-use Rattle.stogame_app.specs.Words.{Check}
+use Rattle.rpatl_syntax.specs.Formula.{Tree, tree_of}
+use Rattle.rpatl_syntax.specs.Rules.{Denotes}
+use Rattle.stogame_app.specs.Status.{IsAnswer}
+use Rattle.stogame_app.specs.Words.{Check, Options}
 use Rattle.stogame_app.specs.Said.{Said, NotHeld, Refuses, Says, and_then, read_said}
 use Rattle.stogame_app.specs.Sources.{Sources, sources_of, WhereTold, AreSources}
 use Rattle.stogame_app.specs.Loading.{Loads, LoadsCheck, IsTooLong, RefusesCaused}
@@ -22,32 +25,46 @@ use Rattle.stogame_app.specs.Asks.{Asks}
 use Rattle.stogame_app.specs.Refusals.{refusal_text}
 use Rattle.stogame_app.specs.InFull.{RefusalInFull}
 use Rattle.stogame_app.specs.Run.{IsLong, IsReportOf, IsRefusalOf, PosesIt, RefusesIt, MissesIt}
-use Rattle.stogame_app.proofs.Asking.{said_asks, asks_said}
+use Rattle.stogame_app.proofs.Asking.{said_asks, asks_said, formula_spelled}
 
 -- what loading the texts of a command answers
 abbrev pub LoadsReading : Option Holding → Bool → Check → Result Loaded End → Type 0
 LoadsReading holding steady check result = LoadsCheck holding steady check reading_of result (λ sources. reading_said sources check)
 
+-- what was loaded is read
+was_loaded : (holding : Option Holding) (steady : Bool) (check : Check) (result : Result Loaded End) (loaded : Loaded) → result ≡ Ok loaded → (loads : LoadsReading holding steady check result)
+    → reading_said loads.sources check ≡ Says (reading_of loaded)
+was_loaded holding steady check result loaded is loads =
+    let P : Result Loaded End → Type 0 = λ r. Loads reading_of r (reading_said loads.sources check) in
+    subst P is loads.loads
+
 -- what is said of the question where a reading was loaded
 behind_reading : (holding : Option Holding) (steady : Bool) (check : Check) (result : Result Loaded End) (loaded : Loaded) (said : Said Posing) → result ≡ Ok loaded → (loads : LoadsReading holding steady check result)
     → posed (reading_of loaded) ≡ said → question_said loads.sources check ≡ said
 behind_reading holding steady check result loaded said is loads of_reading =
-    let P : Result Loaded End → Type 0 = λ r. Loads reading_of r (reading_said loads.sources check) in
-    let read : reading_said loads.sources check ≡ Says (reading_of loaded) = subst P is loads.loads in
-    ap (λ s. and_then s (λ reading. posed reading)) read ∙ of_reading
+    ap (λ s. and_then s (λ reading. posed reading)) (was_loaded holding steady check result loaded is loads) ∙ of_reading
+
+-- the report of the question of what was loaded
+abbrev pub IsReportOfLoaded : Loaded → Options → List ℕ → Status → Type 0
+IsReportOfLoaded loaded options text status =
+    IsReportOf (λ posing. posed (reading_of loaded) ≡ Says posing) (λ formula. formula ≡ tree_of loaded.formula) options text status
 
 -- the report of a reading that was loaded
-pub report_loaded : (holding : Option Holding) (steady : Bool) (check : Check) (result : Result Loaded End) (loaded : Loaded) (asked : ℕ) (text : List ℕ) → result ≡ Ok loaded → LoadsReading holding steady check result
-    → IsReportOf (λ posing. posed (reading_of loaded) ≡ Says posing) asked text → IsReportOf (PosesIt holding check) asked text
-report_loaded holding steady check result loaded asked text is loads report = record {
-  posing = report.posing;
-  posed = record {
-    sources = loads.sources;
-    told = loads.told (λ fault. cc (is, fault));
-    asks = said_asks loads.sources check report.posing (behind_reading holding steady check result loaded (Says report.posing) is loads report.posed);
-  };
-  report = report.report;
-}
+pub report_loaded : (holding : Option Holding) (steady : Bool) (check : Check) (result : Result Loaded End) (loaded : Loaded) (text : List ℕ) (ends : Status) → result ≡ Ok loaded → LoadsReading holding steady check result
+    → IsReportOfLoaded loaded check.options text ends → IsReportOf (PosesIt holding check) (Denotes check.formula) check.options text ends
+report_loaded holding steady check result loaded text ends is loads report =
+    let P : Tree → Type 0 = λ formula. Denotes check.formula formula in
+    record {
+      posing = report.posing;
+      posed = record {
+        sources = loads.sources;
+        told = loads.told (λ fault. cc (is, fault));
+        asks = said_asks loads.sources check report.posing (behind_reading holding steady check result loaded (Says report.posing) is loads report.posed);
+      };
+      formula = report.formula;
+      spelled = subst P (sym report.spelled) (formula_spelled loads.sources check (reading_of loaded) (was_loaded holding steady check result loaded is loads));
+      report = report.report;
+    }
 
 -- the refusal of a reading that was loaded
 pub refusal_posed : (holding : Option Holding) (steady : Bool) (check : Check) (result : Result Loaded End) (loaded : Loaded) (taken : ℕ) (text : List ℕ) → result ≡ Ok loaded → LoadsReading holding steady check result
@@ -170,11 +187,13 @@ asked_is_held (Some other) held check posing told asks missing =
     cc (alike, said, missing)
 
 -- what is left where four ends are ruled out
-pub fine_or_memory : (s : Status) → (s ≡ status.Usage → ⊥) → (s ≡ status.ModelRefused → ⊥) → (s ≡ status.ReadFault → ⊥) → (s ≡ status.WriteFault → ⊥)
-    → (s ≡ status.Fine) ⊎ (s ≡ status.OutOfMemory)
-fine_or_memory status.Fine usage refused read write = inl refl
-fine_or_memory status.Usage usage refused read write = absurd (usage refl)
-fine_or_memory status.ModelRefused usage refused read write = absurd (refused refl)
-fine_or_memory status.ReadFault usage refused read write = absurd (read refl)
-fine_or_memory status.WriteFault usage refused read write = absurd (write refl)
-fine_or_memory status.OutOfMemory usage refused read write = inr refl
+pub answered_or_memory : (s : Status) → (s ≡ status.Usage → ⊥) → (s ≡ status.ModelRefused → ⊥) → (s ≡ status.ReadFault → ⊥) → (s ≡ status.WriteFault → ⊥)
+    → IsAnswer s ⊎ (s ≡ status.OutOfMemory)
+answered_or_memory status.Fine usage refused read write = inl tt
+answered_or_memory status.SomeFalse usage refused read write = inl tt
+answered_or_memory status.SomeUndecided usage refused read write = inl tt
+answered_or_memory status.Usage usage refused read write = absurd (usage refl)
+answered_or_memory status.ModelRefused usage refused read write = absurd (refused refl)
+answered_or_memory status.ReadFault usage refused read write = absurd (read refl)
+answered_or_memory status.WriteFault usage refused read write = absurd (write refl)
+answered_or_memory status.OutOfMemory usage refused read write = inr refl

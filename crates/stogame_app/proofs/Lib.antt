@@ -1,10 +1,16 @@
 pub mod Asking
+pub mod Denoting
 pub mod Endings
+pub mod FirstWord
 pub mod Labelled
 pub mod Lengths
+pub mod Limits
 pub mod Loading
+pub mod NoLineFeed
 pub mod OneCause
 pub mod OneCheck
+pub mod OneOutput
 pub mod OneRefusal
+pub mod Ranges
 pub mod Reported
-pub mod TakenFirst
+pub mod Simple

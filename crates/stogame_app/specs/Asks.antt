@@ -1,5 +1,5 @@
 -- The question that texts and words ask, as a relation.
-use Rattle.std.specs.Prelude.{◌≡◌, ◌≤◌, ℕ, true, List, length, Option, Some, None}
+use Rattle.std.specs.Prelude.{◌≡◌, ◌≤◌, ℕ, List, length, Option, Some, None}
 use Rattle.text_lines.specs.Limits.{most_bytes}
 use Rattle.game_model.specs.Game.{Distribution}
 use Rattle.tra_reader.specs.Text.{Denotes as DenotesGame}
@@ -12,7 +12,6 @@ use Rattle.formula_sets.specs.Posing.{Posing, Poses}
 use Rattle.stogame_app.specs.Words.{Check}
 use Rattle.stogame_app.specs.Sources.{Sources}
 use Rattle.stogame_app.specs.Texts.{single_owner}
-use Rattle.stogame_app.specs.Posed.{asks_for_value}
 
 -- there is a text, within the limit, and this is true of it
 pub record IsText (source : Option (List ℕ)) (IsSo : List ℕ → Type 0) : Type 0 where
@@ -26,7 +25,7 @@ abbrev pub AreOwners : Option (List ℕ) → Option (List ℕ) → ℕ → Owner
 AreOwners None source states owners = owners ≡ single_owner states
 AreOwners (Some name) source states owners = IsText source (λ text. DenotesOwners text states owners)
 
--- The transition text denotes a game, the label text labels of its states, and the owner text owners of them; the formula, which asks for a value, poses the question of these.
+-- The transition text denotes a game, the label text labels of its states, and the owner text owners of them; the formula poses the question of these.
 pub record Asks (sources : Sources) (check : Check) (posing : Posing) : Type 0 where
   pub game : List (List Distribution)
   pub labels : Labelling
@@ -36,5 +35,4 @@ pub record Asks (sources : Sources) (check : Check) (posing : Posing) : Type 0 w
   pub lab : IsText sources.lab (λ text. DenotesLabels text (length game) labels)
   pub own : AreOwners check.options.own sources.own (length game) owners
   pub spelled : DenotesFormula check.formula formula
-  pub value : asks_for_value formula.bound ≡ true
   pub poses : Poses game labels owners formula posing

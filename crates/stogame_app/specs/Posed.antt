@@ -1,34 +1,21 @@
 -- The question that the words and the texts of a command pose, or their first refusal.
-use Rattle.std.specs.Prelude.{◌≡◌, ℕ, Bool, true, false, List, length, if◌then◌else◌}
+use Rattle.std.specs.Prelude.{◌≡◌, ℕ, List, length}
 use Rattle.game_model.specs.Game.{Distribution}
 use Rattle.label_reader.specs.Labels.{Labelling}
 use Rattle.label_reader.specs.Owners.{Ownership}
-use Rattle.rpatl_syntax.specs.declared.formula.Bound.{Bound}
-use Rattle.rpatl_syntax.specs.declared.formula.Bound.TheVariants.{AskMax, AskMin}
-use Rattle.rpatl_syntax.specs.declared.fault.FormulaCause.TheVariants.{NotYet}
-use Rattle.rpatl_syntax.specs.Fault.{fault_at}
 use Rattle.rpatl_syntax.specs.Formula.{Tree, tree_of}
 use Rattle.rpatl_syntax.specs.Grammar.{formula_said}
 use Rattle.formula_sets.specs.Posing.{Posing, pose_said}
 use Rattle.stogame_app.specs.declared.refusal.Refusal.TheVariants.{OfFormula, OfQuestion}
 use Rattle.stogame_app.specs.declared.model.Loaded.{Loaded}
 use Rattle.stogame_app.specs.Words.{Check}
-use Rattle.stogame_app.specs.Said.{Said, Refuses, Says, and_then, read_said}
+use Rattle.stogame_app.specs.Said.{Said, Says, and_then, read_said}
 use Rattle.stogame_app.specs.Sources.{Sources}
 use Rattle.stogame_app.specs.Texts.{game_said, labels_said, owners_said}
 
--- the bound asks for a value, and sets no threshold
-abbrev pub asks_for_value : Bound → Bool
-asks_for_value AskMax = true
-asks_for_value AskMin = true
-asks_for_value bound = false
-
--- a formula that asks for a value; a threshold has no verdict yet
-abbrev pub asking : Tree → Said Tree
-asking tree = if asks_for_value tree.bound then Says tree else Refuses (OfFormula (fault_at 0 NotYet))
-
+-- the formula of a text
 abbrev pub formula_read : List ℕ → Said Tree
-formula_read text = and_then (read_said OfFormula (formula_said text)) asking
+formula_read text = read_said OfFormula (formula_said text)
 
 -- what a command names, read: a game, its labels, its owners, a formula
 pub record Reading : Type 0 where

@@ -6,7 +6,10 @@ use Rattle.formula_sets.specs.Posing.{Posing}
 use Rattle.stogame_app.specs.declared.refusal.Text.{Text}
 use Rattle.stogame_app.specs.declared.refusal.Refusal.{Refusal}
 use Rattle.stogame_app.specs.declared.refusal.Refusal.TheVariants.{TooLong}
-use Rattle.stogame_app.specs.Words.{Check, AreCheck, AreNoCommand}
+use Rattle.rpatl_syntax.specs.Formula.{Tree}
+use Rattle.rpatl_syntax.specs.Rules.{Denotes}
+use Rattle.stogame_app.specs.declared.status.Status.{Status}
+use Rattle.stogame_app.specs.Words.{Check, Options, AreCheck, AreNoCommand}
 use Rattle.stogame_app.specs.Said.{NotHeld, Refuses, IsCaused}
 use Rattle.stogame_app.specs.Sources.{Sources, AreSources, AreSourcesOrUnread}
 use Rattle.stogame_app.specs.Posed.{question_said}
@@ -18,11 +21,13 @@ use Rattle.stogame_app.specs.Reports.{IsReport}
 abbrev pub IsLong : Refusal → Type 0
 IsLong refusal = (text : Text) × (refusal ≡ TooLong text)
 
--- the text is the report of a question that is posed, after at most the asked rounds
-pub record IsReportOf (IsPosed : Posing → Type 0) (asked : ℕ) (text : List ℕ) : Type 0 where
+-- the text and the status are the answer to a question that is posed, by a formula that is this one, with a certificate where one is asked for
+pub record IsReportOf (IsPosed : Posing → Type 0) (IsFormula : Tree → Type 0) (options : Options) (text : List ℕ) (status : Status) : Type 0 where
   pub posing : Posing
   pub posed : IsPosed posing
-  pub report : IsReport posing.question posing.initial asked text
+  pub formula : Tree
+  pub spelled : IsFormula formula
+  pub report : IsReport posing.question posing.initial formula options.rounds options.plan text status
 
 -- the text is the line of a refusal that is said, and not for want of memory, and its numbers are written in full; it says that a text is too long where this many bytes were taken of the last one
 pub record IsRefusalOf (IsSaid : Refusal → Type 0) (taken : ℕ) (text : List ℕ) : Type 0 where
@@ -53,10 +58,10 @@ pub record MissesIt (holding : Option Holding) (check : Check) : Type 0 where
   pub misses : question_said sources check ≡ NotHeld
 
 -- the words denote a command, and this is its report
-pub record IsReportOfWords (words : List (List ℕ)) (holding : Option Holding) (text : List ℕ) : Type 0 where
+pub record IsReportOfWords (words : List (List ℕ)) (holding : Option Holding) (text : List ℕ) (status : Status) : Type 0 where
   pub check : Check
   pub command : AreCheck words check
-  pub report : IsReportOf (PosesIt holding check) check.options.rounds text
+  pub report : IsReportOf (PosesIt holding check) (Denotes check.formula) check.options text status
 
 -- the words denote a command, and this is its refusal
 pub record IsRefusalOfWords (words : List (List ℕ)) (holding : Option Holding) (taken : ℕ) (text : List ℕ) : Type 0 where
@@ -77,4 +82,4 @@ pub record IsUsageOfWords (words : List (List ℕ)) (text : List ℕ) : Type 0 w
 
 -- the text that a run with these words makes
 abbrev pub IsOutput : List (List ℕ) → Option Holding → ℕ → List ℕ → Type 0
-IsOutput words holding taken text = IsReportOfWords words holding text ⊎ (IsRefusalOfWords words holding taken text ⊎ IsUsageOfWords words text)
+IsOutput words holding taken text = ((status : Status) × IsReportOfWords words holding text status) ⊎ (IsRefusalOfWords words holding taken text ⊎ IsUsageOfWords words text)

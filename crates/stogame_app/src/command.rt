@@ -16,6 +16,9 @@ ghost use Rattle.stogame_app.specs.Refusals.{refusal_text, usage_text};
 ghost use Rattle.stogame_app.specs.InFull.{RefusalInFull};
 ghost use Rattle.game_model.specs.Query.{states};
 ghost use Rattle.stogame_app.specs.Reports.{IsReport};
+ghost use Rattle.stogame_app.specs.Status.{IsAnswer};
+ghost use Rattle.rpatl_syntax.specs.Formula.{tree_of};
+ghost use Rattle.rpatl_syntax.specs.Rules.{Denotes};
 ghost use Rattle.stogame_app.specs.Run.{IsReportOf, IsRefusalOf, PosesIt, RefusesIt, MissesIt, IsReportOfWords, IsRefusalOfWords, MissesOfWords, IsOutput};
 
 use crate::ends::{end_with_refusal, end_with_usage, say};
@@ -27,13 +30,17 @@ use crate::status::Status;
 use crate::words::{CheckWords, OptionWords, read_words};
 use formula_sets::{PoseFault, Posed, pose};
 use game_outside::{Gate, Shelf, Sink};
+use rpatl_syntax::Formula;
 use std::alloc::Global;
 use std::thread::Threads;
 
 /// Reads the words and the texts that they name, and writes the report of the question that they pose: one line for
-/// each initial state, rising. Each printed lower bound is at most some k-step value, and each upper bound at least
-/// every one, whatever the schedule of the workers, who pass the gate before each state. What is not accepted is refused
-/// by one line that names the cause and its place. The whole output is made in memory first and written once.
+/// each initial state, rising, and the certificate where the words ask for it. Each printed lower bound is at most some
+/// k-step value, and each upper bound at least every one; the printed choices of the minimiser hold every opponent to the
+/// upper bounds, and those of the maximiser reach the lower ones, less any 1/m, within some horizon; True and False are
+/// printed exactly where the bracket settles the threshold, and are then true and false, whatever the schedule of the workers,
+/// who pass the gate before each state. What is not accepted is refused by one line that names the cause and its place. The
+/// whole output is made in memory first and written once.
 pub fn run<R: Threads + Sync, H: Shelf, K: Sink, G: Gate + Sync>(
     rt: &R,
     alloc: Global,
@@ -42,11 +49,11 @@ pub fn run<R: Threads + Sync, H: Shelf, K: Sink, G: Gate + Sync>(
     out: &mut K,
     gate: &G,
 ) -> Status
-    ensures fine { result ≡ Status.Fine → (text : List ℕ) × IsReportOfWords (map string_bytes words.now) (H.held shelf.old) text
+    ensures answered { IsAnswer result → (text : List ℕ) × IsReportOfWords (map string_bytes words.now) (H.held shelf.old) text result
         × GrowsBy (K.written out.old) (K.written out.new) text }
     ensures refused { result ≡ Status.ModelRefused → (text : List ℕ) × IsRefusalOfWords (map string_bytes words.now) (H.held shelf.old) (H.taken shelf.new) text
         × GrowsBy (K.written out.old) (K.written out.new) text }
-    ensures short { result ≡ Status.Fine → H.taken shelf.new ≤ most_bytes }
+    ensures short { IsAnswer result → H.taken shelf.new ≤ most_bytes }
     ensures taken { (H.taken shelf.new ≡ H.taken shelf.old) ⊎ (H.taken shelf.new ≤ most_bytes + piece_size) }
 
     // Words that denote no command are answered before the shelf is asked.
@@ -65,11 +72,12 @@ pub fn run<R: Threads + Sync, H: Shelf, K: Sink, G: Gate + Sync>(
     // It does not give up by itself.
     ensures complete { (check : Check) (held : Holding) (posing : Posing) → AreCheck (map string_bytes words.now) check → H.held shelf.old ≡ Some held
         → Asks (sources_of held check) check posing → (H.steady shelf.old ≡ true) ⊎ (Rose (H.faults shelf.old) (H.faults shelf.new) → ⊥)
-        → (Rose (K.faults out.old) (K.faults out.new) → ⊥) → (result ≡ Status.Fine) ⊎ (result ≡ Status.OutOfMemory) }
+        → (Rose (K.faults out.old) (K.faults out.new) → ⊥) → IsAnswer result ⊎ (result ≡ Status.OutOfMemory) }
 {
-    match read_words(words) {
-        Some(check) => run_check(rt, alloc, &check, shelf, out, gate),
-        None => end_with_usage(alloc, out),
+    match read_words(alloc, words) {
+        Ok(Some(check)) => run_check(rt, alloc, &check, shelf, out, gate),
+        Ok(None) => end_with_usage(alloc, out),
+        Err(_) => Status::OutOfMemory,
     }
 }
 
@@ -84,9 +92,9 @@ fn run_check<R: Threads + Sync, H: Shelf, K: Sink, G: Gate + Sync>(
 ) -> Status
     requires { AreInRange (options_of check.now.options) }
     ensures no_usage { result ≡ Status.Usage → ⊥ }
-    ensures fine { result ≡ Status.Fine → (text : List ℕ) × IsReportOf (PosesIt (H.held shelf.old) (check_of check.now)) check.now.options.rounds text
+    ensures answered { IsAnswer result → (text : List ℕ) × IsReportOf (PosesIt (H.held shelf.old) (check_of check.now)) (Denotes check.now.formula.now) (options_of check.now.options) text result
         × GrowsBy (K.written out.old) (K.written out.new) text }
-    ensures short { result ≡ Status.Fine → H.taken shelf.new ≤ most_bytes }
+    ensures short { IsAnswer result → H.taken shelf.new ≤ most_bytes }
     ensures taken { H.taken shelf.new ≤ most_bytes + piece_size }
     ensures refused { result ≡ Status.ModelRefused → (text : List ℕ) × IsRefusalOf (RefusesIt (H.held shelf.old) (check_of check.now)) (H.taken shelf.new) text
         × GrowsBy (K.written out.old) (K.written out.new) text }
@@ -94,7 +102,7 @@ fn run_check<R: Threads + Sync, H: Shelf, K: Sink, G: Gate + Sync>(
         × (K.written out.new ≡ K.written out.old) × MissesIt (H.held shelf.old) (check_of check.now) }
     ensures steadily { result ≡ Status.ReadFault → H.steady shelf.old ≡ true → WhereTold (H.held shelf.old) (λ held. question_said (sources_of held (check_of check.now)) (check_of check.now) ≡ NotHeld) }
     ensures write_fault { result ≡ Status.WriteFault → Rose (K.faults out.old) (K.faults out.new)
-        × ((text : List ℕ) × (IsReportOf (PosesIt (H.held shelf.old) (check_of check.now)) check.now.options.rounds text ⊎ IsRefusalOf (RefusesIt (H.held shelf.old) (check_of check.now)) (H.taken shelf.new) text)
+        × ((text : List ℕ) × (((status : Status) × IsReportOf (PosesIt (H.held shelf.old) (check_of check.now)) (Denotes check.now.formula.now) (options_of check.now.options) text status) ⊎ IsRefusalOf (RefusesIt (H.held shelf.old) (check_of check.now)) (H.taken shelf.new) text)
         × GrowsByPrefix (K.written out.old) (K.written out.new) text) }
     ensures memory { result ≡ Status.OutOfMemory → K.written out.new ≡ K.written out.old }
 {
@@ -106,7 +114,7 @@ fn run_check<R: Threads + Sync, H: Shelf, K: Sink, G: Gate + Sync>(
 
 // The end of a run whose loading ended with nothing.
 fn end_run<K: Sink>(alloc: Global, out: &mut K, end: End) -> Status
-    ensures only { (result ≡ Status.Fine) ⊎ (result ≡ Status.Usage) → ⊥ }
+    ensures only { IsAnswer result ⊎ (result ≡ Status.Usage) → ⊥ }
     ensures in_full { (refusal : Refusal) → end ≡ End.Refused refusal → RefusalInFull refusal }
     ensures read_fault { result ≡ Status.ReadFault → (end ≡ End.ReadFault) × (K.written out.new ≡ K.written out.old) }
     ensures refused { result ≡ Status.ModelRefused → (refusal : Refusal) × (end ≡ End.Refused refusal) × GrowsBy (K.written out.old) (K.written out.new) (refusal_text refusal) }
@@ -133,12 +141,12 @@ fn answer<R: Threads + Sync, K: Sink, G: Gate + Sync>(
     requires sizes { HasSizes loaded.now.game loaded.now.labels loaded.now.owners }
     requires in_range { AreInRange (options_of asked.now) }
     ensures only { (result ≡ Status.Usage) ⊎ (result ≡ Status.ReadFault) → ⊥ }
-    ensures fine { result ≡ Status.Fine → (text : List ℕ) × IsReportOf (λ posing. posed (reading_of loaded.now) ≡ Says posing) asked.now.rounds text
+    ensures answered { IsAnswer result → (text : List ℕ) × IsReportOf (λ posing. posed (reading_of loaded.now) ≡ Says posing) (λ formula. formula ≡ tree_of loaded.now.formula) (options_of asked.now) text result
         × GrowsBy (K.written out.old) (K.written out.new) text }
     ensures refused { result ≡ Status.ModelRefused → (text : List ℕ) × ((taken : ℕ) → (most_bytes < taken → ⊥) → IsRefusalOf (λ refusal. posed (reading_of loaded.now) ≡ Refuses refusal) taken text)
         × GrowsBy (K.written out.old) (K.written out.new) text }
     ensures write_fault { result ≡ Status.WriteFault → Rose (K.faults out.old) (K.faults out.new)
-        × ((text : List ℕ) × (IsReportOf (λ posing. posed (reading_of loaded.now) ≡ Says posing) asked.now.rounds text ⊎ ((taken : ℕ) → (most_bytes < taken → ⊥) → IsRefusalOf (λ refusal. posed (reading_of loaded.now) ≡ Refuses refusal) taken text))
+        × ((text : List ℕ) × (((status : Status) × IsReportOf (λ posing. posed (reading_of loaded.now) ≡ Says posing) (λ formula. formula ≡ tree_of loaded.now.formula) (options_of asked.now) text status) ⊎ ((taken : ℕ) → (most_bytes < taken → ⊥) → IsRefusalOf (λ refusal. posed (reading_of loaded.now) ≡ Refuses refusal) taken text))
         × GrowsByPrefix (K.written out.old) (K.written out.new) text) }
     ensures memory { result ≡ Status.OutOfMemory → K.written out.new ≡ K.written out.old }
 {
@@ -149,7 +157,7 @@ fn answer<R: Threads + Sync, K: Sink, G: Gate + Sync>(
         &loaded.owners,
         &loaded.formula,
     ) {
-        Ok(posed) => answer_question(rt, alloc, &posed, asked, out, gate),
+        Ok(posed) => answer_question(rt, alloc, &posed, &loaded.formula, asked, out, gate),
         Err(fault) => refuse_question(alloc, out, fault),
     }
 }
@@ -189,21 +197,30 @@ fn answer_question<R: Threads + Sync, K: Sink, G: Gate + Sync>(
     rt: &R,
     alloc: Global,
     posed: &Posed<'_>,
+    formula: &Formula,
     asked: &OptionWords<'_>,
     out: &mut K,
     gate: &G,
 ) -> Status
     requires initial { All (λ s. s < states posed.now.question) posed.now.initial.items }
     requires in_range { AreInRange (options_of asked.now) }
-    ensures only { (result ≡ Status.Fine) ⊎ ((result ≡ Status.WriteFault) ⊎ (result ≡ Status.OutOfMemory)) }
-    ensures fine { result ≡ Status.Fine → (text : List ℕ) × IsReport posed.now.question posed.now.initial.items asked.now.rounds text
+    ensures only { IsAnswer result ⊎ ((result ≡ Status.WriteFault) ⊎ (result ≡ Status.OutOfMemory)) }
+    ensures answered { IsAnswer result → (text : List ℕ) × IsReport posed.now.question posed.now.initial.items (tree_of formula.now) asked.now.rounds asked.now.plan text result
         × GrowsBy (K.written out.old) (K.written out.new) text }
     ensures write_fault { result ≡ Status.WriteFault → Rose (K.faults out.old) (K.faults out.new)
-        × ((text : List ℕ) × IsReport posed.now.question posed.now.initial.items asked.now.rounds text × GrowsByPrefix (K.written out.old) (K.written out.new) text) }
+        × ((text : List ℕ) × ((status : Status) × IsReport posed.now.question posed.now.initial.items (tree_of formula.now) asked.now.rounds asked.now.plan text status) × GrowsByPrefix (K.written out.old) (K.written out.new) text) }
     ensures memory { result ≡ Status.OutOfMemory → K.written out.new ≡ K.written out.old }
 {
-    match report(rt, alloc, &posed.question, &posed.initial, asked, gate) {
-        Ok(text) => say(out, &text, Status::Fine),
+    match report(
+        rt,
+        alloc,
+        &posed.question,
+        &posed.initial,
+        formula,
+        asked,
+        gate,
+    ) {
+        Ok(answer) => say(out, &answer.text, answer.status),
         Err(_) => Status::OutOfMemory,
     }
 }

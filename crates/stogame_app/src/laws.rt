@@ -1,11 +1,23 @@
-//! Laws of refusals. Each function does nothing; its contract is the law.
+//! Laws of what is written. Each function does nothing; its contract is the law.
 
 ghost use Rattle.std.specs.Prelude.{◌≡◌};
 ghost use Rattle.stogame_app.specs.declared.refusal.Refusal.{Refusal};
 ghost use Rattle.stogame_app.specs.Refusals.{refusal_text};
 ghost use Rattle.stogame_app.specs.InFull.{RefusalInFull};
+ghost use Rattle.stogame_app.specs.Outputs.{Output, output_text, IsWholeOutput};
+
+use plan_text::laws::certificates_have_one_reading;
+use verdicts::laws::reports_have_one_reading;
 
 /// No two refusals have the same line, where their numbers have at most 64 digits. All that their types hold have at most 39.
 pub fn refusals_have_one_reading()
     ensures { (refusal other : Refusal) → RefusalInFull refusal → RefusalInFull other → refusal_text refusal ≡ refusal_text other → refusal ≡ other }
 {}
+
+/// No two outputs have the same text: it tells each line, and the formula and each entry of the certificate.
+pub fn outputs_have_one_reading()
+    ensures { (output other : Output) → IsWholeOutput output → IsWholeOutput other → output_text output ≡ output_text other → output ≡ other }
+{
+    reports_have_one_reading();
+    certificates_have_one_reading();
+}

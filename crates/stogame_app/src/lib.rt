@@ -9,6 +9,7 @@ mod adapters;
 mod causes;
 mod command;
 mod ends;
+mod grammar;
 mod known;
 pub mod laws;
 mod load;

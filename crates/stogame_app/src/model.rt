@@ -6,7 +6,7 @@ ghost use Rattle.game_outside.specs.Outside.{Rose};
 ghost use Rattle.rpatl_syntax.specs.Formula.{tree_of};
 ghost use Rattle.stogame_app.specs.Words.{check_of};
 ghost use Rattle.stogame_app.specs.Loading.{Loads, LoadsCheck, IsTooLong, RefusesCaused, Takes};
-ghost use Rattle.stogame_app.specs.Posed.{formula_read, reading_of, behind_owners, behind_labels, behind_game, reading_said, asks_for_value, HasSizes};
+ghost use Rattle.stogame_app.specs.Posed.{formula_read, reading_of, behind_owners, behind_labels, behind_game, reading_said, HasSizes};
 
 use crate::load::{End, load_game, load_labels, load_owners};
 use crate::refusal::Refusal;
@@ -14,10 +14,10 @@ use crate::words::CheckWords;
 use game_model::Game;
 use game_outside::Shelf;
 use label_reader::{Labels, Owners};
-use rpatl_syntax::{Bound, Formula, FormulaCause, FormulaFault, read_formula};
+use rpatl_syntax::{Formula, FormulaCause, read_formula};
 use std::alloc::Global;
 
-/// A game, its labels, its owners, and a formula that asks for a value.
+/// A game, its labels, its owners, and a formula.
 #[derive(Drop)]
 pub struct Loaded {
     pub game: Game,
@@ -26,7 +26,7 @@ pub struct Loaded {
     pub formula: Formula,
 }
 
-/// The formula of a command. One with a threshold is refused, until there are verdicts.
+/// The formula of a command.
 fn load_formula(alloc: Global, text: &str) -> Result<Formula, End>
     ensures says { Loads tree_of result (formula_read text.now) }
     ensures read { IsErrOf result End.ReadFault → ⊥ }
@@ -34,25 +34,12 @@ fn load_formula(alloc: Global, text: &str) -> Result<Formula, End>
     ensures short { IsTooLong result → ⊥ }
 {
     match read_formula(alloc, text) {
-        Ok(formula) => {
-            if asks(&formula.bound) {
-                Ok(formula)
-            } else {
-                Err(End::Refused(Refusal::OfFormula(FormulaFault::new(0, FormulaCause::NotYet))))
-            }
-        }
+        Ok(formula) => Ok(formula),
         Err(fault) => match fault.cause {
             FormulaCause::OutOfMemory => Err(End::OutOfMemory),
             _ => Err(End::Refused(Refusal::OfFormula(fault))),
         },
     }
-}
-
-// Whether the bound asks for a value.
-fn asks(bound: &Bound) -> bool
-    ensures { result ≡ asks_for_value bound.now }
-{
-    matches!(bound, Bound::AskMax | Bound::AskMin)
 }
 
 /// What a command names, loaded.

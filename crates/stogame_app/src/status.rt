@@ -5,8 +5,12 @@ ghost use Rattle.std.specs.Prelude.{◌≡◌};
 /// How a run ends. The program's exit status is its number.
 #[derive(Clone, Copy, Debug, PartialEq, Eq)]
 pub enum Status {
-    /// Every initial state has its line, and none is undecided.
+    /// Every initial state has its line, and none is false or undecided.
     Fine,
+    /// Some initial state's line is false.
+    SomeFalse,
+    /// None is false, and some is undecided.
+    SomeUndecided,
     /// The words denote no command.
     Usage,
     /// A text, the formula or the question is refused.
@@ -28,6 +32,8 @@ impl Status {
     {
         match self {
             Status::Fine => 0,
+            Status::SomeFalse => 1,
+            Status::SomeUndecided => 2,
             Status::Usage => 3,
             Status::ModelRefused => 4,
             Status::ReadFault => 5,

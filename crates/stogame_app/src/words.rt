@@ -1,11 +1,15 @@
-//! The words of the command line, read by hand.
+//! The words of the command line: the first names the command, and `clap` reads the others.
 
-ghost use Rattle.std.specs.Prelude.{◌≡◌, ◌<◌, ◌≤◌, ◌^◌, ◌↔◌, ℕ, Option, None, IsTrue, MatchOption, map, codes, option_map};
+ghost use Rattle.std.specs.Prelude.{◌≡◌, ◌<◌, ◌≤◌, ◌^◌, ◌↔◌, ℕ, List, Some, IsTrue, IfOk, MatchOption, length, map, codes, option_map};
 ghost use Rattle.std.specs.String.{string_bytes};
-ghost use Rattle.stogame_app.specs.Words.{IsPlain, IsNumber, AreInRange, Options, AreOptions, AreCheck, AreNoCommand, IsTaken, options_of, check_of};
+ghost use Rattle.clap.specs.Words.{found_of, first_value};
+ghost use Rattle.stogame_app.specs.Words.{Check, Options, IsOwnerFile, IsNumber, AreInRange, SayOptions, SayCheck, AreCheckWords, AreCheck, AreNoCommand, options_of, check_of};
 
-use bracket_engine::MOST_ROUNDS;
-use round_workers::MOST_WORKERS;
+use crate::grammar::check_command;
+use clap::ArgMatches;
+use clap::error::ErrorKind;
+use game_outside::OutOfMemory;
+use std::alloc::Global;
 
 /// How many rounds are made at most where the words do not say.
 const DEFAULT_ROUNDS: u32 = 10_000;
@@ -26,7 +30,7 @@ pub struct CheckWords<'a> {
     pub options: OptionWords<'a>,
 }
 
-/// The words `[--own FILE] [--rounds R] [--workers W]`, read.
+/// The words `[--own FILE] [--rounds R] [--workers W] [--plan]`, read.
 #[derive(Clone, Copy, Debug)]
 pub struct OptionWords<'a> {
     /// The owner file.
@@ -35,81 +39,91 @@ pub struct OptionWords<'a> {
     pub rounds: u32,
     /// How many workers a round has at most.
     pub workers: u32,
+    /// Whether the certificate is to be written.
+    pub plan: bool,
 }
 
 /// The command that the words denote, or none where they denote no command.
-pub fn read_words(words: &[String]) -> Option<CheckWords<'_>>
-    ensures { MatchOption result (AreNoCommand (map string_bytes words.now)) (λ read. AreCheck (map string_bytes words.now) (check_of read)) }
+pub fn read_words(alloc: Global, words: &[String]) -> Result<Option<CheckWords<'_>>, OutOfMemory>
+    ensures { IfOk result (λ read. MatchOption read (AreNoCommand (map string_bytes words.now)) (λ check. AreCheck (map string_bytes words.now) (check_of check))) }
 {
     match words {
-        [command, tra, lab, formula, options @ ..] if is_check(command, tra, lab, formula) => {
-            let options = read_options(options)?;
-            Some(CheckWords {
-                tra: tra.as_str(),
-                lab: lab.as_str(),
-                formula: formula.as_str(),
-                options,
-            })
-        }
+        [command, rest @ ..] if command.as_str() == "check" => read_check(alloc, rest),
+        _ => Ok(None),
+    }
+}
+
+// What the words behind `check` say, or none where they denote no command.
+fn read_check(alloc: Global, words: &[String]) -> Result<Option<CheckWords<'_>>, OutOfMemory>
+    ensures { IfOk result (λ read. MatchOption read ((check : Check) → AreCheckWords (map string_bytes words.now) check → ⊥) (λ check. AreCheckWords (map string_bytes words.now) (check_of check))) }
+{
+    let Ok(command) = check_command(alloc) else {
+        return Err(OutOfMemory {});
+    };
+    match command.try_get_matches_from(words) {
+        Ok(matches) => Ok(check_words(&matches)),
+        Err(error) => match error.kind() {
+            ErrorKind::OutOfMemory => Err(OutOfMemory {}),
+            _ => Ok(None),
+        },
+    }
+}
+
+// What the values that were found say, or none where they say no command.
+fn check_words<'a>(matches: &ArgMatches<'a>) -> Option<CheckWords<'a>>
+    ensures { MatchOption result ((check : Check) → SayCheck (λ name. first_value (found_of matches.now) name) check → AreInRange check.options → ⊥) (λ check. SayCheck (λ name. first_value (found_of matches.now) name) (check_of check)) }
+{
+    Some(CheckWords {
+        tra: file_word(matches.get_str("tra"))?,
+        lab: file_word(matches.get_str("lab"))?,
+        formula: matches.get_str("formula")?,
+        options: option_words(matches)?,
+    })
+}
+
+// The word of a file, where it is not empty.
+fn file_word(word: Option<&str>) -> Option<&str>
+    ensures { MatchOption result ((name : List ℕ) → option_map (λ w. w.now) word.entry ≡ Some name → 0 < length name → ⊥) (λ file. (option_map (λ w. w.now) word.entry ≡ Some file.now) × (0 < length file.now)) }
+{
+    match word {
+        Some(file) if !file.is_empty() => Some(file),
         _ => None,
     }
 }
 
-fn is_check(command: &str, tra: &str, lab: &str, formula: &str) -> bool
-    ensures { IsTrue result ↔ ((command.now ≡ codes "check") × IsPlain tra.now × IsPlain lab.now × IsPlain formula.now) }
+// What the values of the options say, or none where they say none.
+fn option_words<'a>(matches: &ArgMatches<'a>) -> Option<OptionWords<'a>>
+    ensures { MatchOption result ((options : Options) → SayOptions (λ name. first_value (found_of matches.now) name) options → AreInRange options → ⊥) (λ options. SayOptions (λ name. first_value (found_of matches.now) name) (options_of options)) }
 {
-    command == "check" && is_plain(tra) && is_plain(lab) && is_plain(formula)
-}
-
-// Whether a word is not empty and does not begin with `-`.
-fn is_plain(word: &str) -> bool
-    ensures { IsTrue result ↔ IsPlain word.now }
-{
-    match word.as_bytes() {
-        [] => false,
-        [first, ..] => *first != b'-',
+    let own = matches.get_str("own");
+    if !is_owner_file(own) {
+        return None;
     }
-}
-
-// The options that the words spell, or none where they spell none.
-fn read_options(words: &[String]) -> Option<OptionWords<'_>>
-    ensures { MatchOption result ((options : Options) → AreOptions (map string_bytes words.now) options → ⊥) (λ read. AreOptions (map string_bytes words.now) (options_of read)) }
-{
-    let (own, words) = take_option("--own", words);
-    let (rounds, words) = take_option("--rounds", words);
-    let (workers, words) = take_option("--workers", words);
-    let options = OptionWords {
+    Some(OptionWords {
         own,
-        rounds: read_number(rounds, DEFAULT_ROUNDS)?,
-        workers: read_number(workers, DEFAULT_WORKERS)?,
-    };
-    if words.is_empty() && are_in_range(&options) {
-        Some(options)
-    } else {
-        None
-    }
+        rounds: read_number(matches.get_str("rounds"), DEFAULT_ROUNDS)?,
+        workers: read_number(matches.get_str("workers"), DEFAULT_WORKERS)?,
+        plan: is_given(matches.get_str("plan")),
+    })
 }
 
-fn are_in_range(options: &OptionWords<'_>) -> bool
-    ensures { IsTrue result ↔ AreInRange (options_of options.now) }
+// Whether an owner file that is given has a name.
+fn is_owner_file(own: Option<&str>) -> bool
+    ensures { IsTrue result ↔ IsOwnerFile (option_map (λ w. w.now) own.entry) }
 {
-    let named = match options.own {
+    match own {
         Some(file) => !file.is_empty(),
         None => true,
-    };
-    named
-        && options.rounds <= MOST_ROUNDS
-        && 1 <= options.workers
-        && options.workers <= MOST_WORKERS
+    }
 }
 
-// The value of an option where it is given first, and the words behind it.
-fn take_option<'a>(name: &str, words: &'a [String]) -> (Option<&'a str>, &'a [String])
-    ensures { IsTaken name.now (map string_bytes words.now) (option_map (λ value. value.now) result.0) (map string_bytes result.1.now) }
+// Whether a flag is given, by the value that stands for it.
+fn is_given(value: Option<&str>) -> bool
+    ensures { IsTrue result ↔ (option_map (λ w. w.now) value.entry ≡ Some (codes "true")) }
 {
-    match words {
-        [first, value, rest @ ..] if first.as_str() == name => (Some(value.as_str()), rest),
-        _ => (None, words),
+    match value {
+        Some(value) => value == "true",
+        None => false,
     }
 }
 

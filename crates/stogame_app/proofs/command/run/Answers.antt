@@ -1,20 +1,22 @@
 use Rattle.std.proofs.Common.{inl, inr, subst, map}
 use Rattle.std.specs.String.{string_bytes}
+use Rattle.std.proofs.lemmas.Option.{MatchOption-at_none, MatchOption-at_some}
 use Rattle.stogame_app.specs.Words.{Check, check_of}
 use Rattle.stogame_app.specs.Sources.{sources_of}
 use Rattle.stogame_app.specs.Asks.{Asks}
-use Rattle.stogame_app.proofs.Endings.{asked_not_refused, asked_is_held, fine_or_memory}
+use Rattle.stogame_app.proofs.Endings.{asked_not_refused, asked_is_held, answered_or_memory}
 use Rattle.stogame_app.proofs.OneCheck.{one_check}
 use Rattle.stogame_app.proofs.command.run.Goals as goal
 
-pub returns-in-Some-clause-complete : goal.returns-in-Some-clause-complete
-returns-in-Some-clause-complete g c = λ check held posing words told asks calm quiet.
-    let read = check_of c.in-Some.check in
-    let same = one_check (map string_bytes c.args.words.now) check read words c.in-Some.ensures in
+pub returns-in-Ok-Some-clause-complete : goal.returns-in-Ok-Some-clause-complete
+returns-in-Ok-Some-clause-complete g c = λ check held posing words told asks calm quiet.
+    let read = check_of c.in-Ok-Some.check in
+    let denoted = MatchOption-at_some _ _ c.in-Ok-Some.check c.in-Ok-Some.field-0-is c.in-Ok-Some.ensures in
+    let same = one_check (map string_bytes c.args.words.now) check read words denoted in
     let P : Check → Type 0 = λ k. Asks (sources_of held k) k posing in
     let asked = subst P same asks in
     let holding = g.H.Shelf.held c.args.shelf.now in
-    fine_or_memory c.run_check.result
+    answered_or_memory c.run_check.result
     c.run_check.ensures.no_usage
     (λ is. let r = c.run_check.ensures.refused is in asked_not_refused holding held read posing r.1.refusal told asked r.1.said)
     (λ is. elim calm [
@@ -23,19 +25,21 @@ returns-in-Some-clause-complete g c = λ check held posing words told asks calm 
     ])
     (λ is. quiet (c.run_check.ensures.write_fault is).0)
 
-pub returns-in-Some-clause-steadily : goal.returns-in-Some-clause-steadily
-returns-in-Some-clause-steadily g c = λ is steady. (check_of c.in-Some.check, c.in-Some.ensures, c.run_check.ensures.steadily is steady)
+pub returns-in-Ok-None-clause-complete : goal.returns-in-Ok-None-clause-complete
+returns-in-Ok-None-clause-complete g c = λ check held posing words told asks calm quiet. absurd (MatchOption-at_none _ _ c.in-Ok-None.field-0-is c.in-Ok-None.ensures check words)
 
-pub returns-in-Some-clause-read_fault : goal.returns-in-Some-clause-read_fault
-returns-in-Some-clause-read_fault g c = λ is.
-    let r = c.run_check.ensures.read_fault is in
-    (r.0, r.1, record { check = check_of c.in-Some.check; command = c.in-Some.ensures; misses = r.2 })
-
-pub returns-in-Some-clause-untouched : goal.returns-in-Some-clause-untouched
-returns-in-Some-clause-untouched g c = λ none. absurd (none (check_of c.in-Some.check) c.in-Some.ensures)
-
-pub returns-in-Some-clause-taken : goal.returns-in-Some-clause-taken
-returns-in-Some-clause-taken g c = inr c.run_check.ensures.taken
-
-pub returns-in-None-clause-complete : goal.returns-in-None-clause-complete
-returns-in-None-clause-complete g c = λ check held posing words told asks calm quiet. absurd (c.in-None.ensures check words)
+pub returns-in-Ok-Some-clause-write_fault : goal.returns-in-Ok-Some-clause-write_fault
+returns-in-Ok-Some-clause-write_fault g c = λ is.
+    let r = c.run_check.ensures.write_fault is in
+    let denoted = MatchOption-at_some _ _ c.in-Ok-Some.check c.in-Ok-Some.field-0-is c.in-Ok-Some.ensures in
+    let check = check_of c.in-Ok-Some.check in (
+      r.0,
+      (
+        r.1.0,
+        elim r.1.1 [
+          | inl report ↦ inl (report.0, record { check = check; command = denoted; report = report.1 })
+          | inr refusal ↦ inr (inl (record { check = check; command = denoted; refusal = refusal }))
+        ],
+        r.1.2,
+      ),
+    )

@@ -5,10 +5,10 @@ use Rattle.stogame_app.specs.Refusals.{refusal_text}
 use Rattle.stogame_app.proofs.Endings.{report_loaded, refusal_posed, refusal_loaded, misses_loaded, steadily_loaded}
 use Rattle.stogame_app.proofs.command.run_check.Goals as goal
 
-pub returns-in-Ok-clause-fine : goal.returns-in-Ok-clause-fine
-returns-in-Ok-clause-fine g c = λ is.
-    let r = c.answer.ensures.fine is in
-    (r.0, report_loaded (g.H.Shelf.held c.args.shelf.now) (g.H.Shelf.steady c.args.shelf.now) (check_of c.args.check.now) c.load_model.result c.in-Ok.loaded c.args.check.now.options.rounds r.0 c.in-Ok.is c.load_model.ensures.says r.1, r.2)
+pub returns-in-Ok-clause-answered : goal.returns-in-Ok-clause-answered
+returns-in-Ok-clause-answered g c = λ is.
+    let r = c.answer.ensures.answered is in
+    (r.0, report_loaded (g.H.Shelf.held c.args.shelf.now) (g.H.Shelf.steady c.args.shelf.now) (check_of c.args.check.now) c.load_model.result c.in-Ok.loaded r.0 c.answer.result c.in-Ok.is c.load_model.ensures.says r.1, r.2)
 
 pub returns-in-Ok-clause-refused : goal.returns-in-Ok-clause-refused
 returns-in-Ok-clause-refused g c = λ is.
@@ -26,7 +26,7 @@ returns-in-Ok-clause-write_fault g c = λ is.
       (
         r.1.0,
         elim r.1.1 [
-          | inl report ↦ inl (report_loaded (g.H.Shelf.held c.args.shelf.now) (g.H.Shelf.steady c.args.shelf.now) (check_of c.args.check.now) c.load_model.result c.in-Ok.loaded c.args.check.now.options.rounds r.1.0 c.in-Ok.is c.load_model.ensures.says report)
+          | inl report ↦ inl (report.0, report_loaded (g.H.Shelf.held c.args.shelf.now) (g.H.Shelf.steady c.args.shelf.now) (check_of c.args.check.now) c.load_model.result c.in-Ok.loaded r.1.0 report.0 c.in-Ok.is c.load_model.ensures.says report.1)
           | inr refusal ↦ inr (refusal_posed (g.H.Shelf.held c.args.shelf.now) (g.H.Shelf.steady c.args.shelf.now) (check_of c.args.check.now) c.load_model.result c.in-Ok.loaded (g.H.Shelf.taken c.load_model.new.shelf) r.1.0
               c.in-Ok.is c.load_model.ensures.says c.load_model.ensures.takes.only_too_long refusal)
         ],

@@ -5,6 +5,6 @@ use Rattle.stogame_app.proofs.reports.lines_of.Given as goal
 
 abbrev pub invariant-loop-state : goal.invariant-loop-state
 invariant-loop-state l = record {
-  lines : l.lines.items ≡ map (line_at l.bracket.lower.items l.bracket.upper.items l.bracket.rounds) (take l.state-index l.states);
+  lines : l.lines.items ≡ map (line_at l.bound l.found) (take l.state-index l.states);
   values : All HasValues l.lines.items;
 }

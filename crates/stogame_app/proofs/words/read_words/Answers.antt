@@ -1,15 +1,16 @@
-use Rattle.std.proofs.Common.{List, ℕ, Option, map, subst, sym}
-use Rattle.std.specs.Prelude.{MatchOption}
+use Rattle.std.proofs.Common.{◌∙◌, List, map, sym}
+use Rattle.std.specs.Cmp.Lexicographic.{bytes_decides}
 use Rattle.std.specs.String.{string_bytes}
-use Rattle.stogame_app.specs.declared.words.CheckWords.{CheckWords}
-use Rattle.stogame_app.specs.Words.{AreOptions, AreCheck, AreNoCommand, check_of}
-use Rattle.stogame_app.proofs.TakenFirst.{behind_four}
+use Rattle.std.specs.Prelude.{codes}
+use Rattle.std.proofs.lemmas.Result.{IfOk-weaker}
+use Rattle.clap.specs.Words.{Text}
+use Rattle.stogame_app.proofs.FirstWord.{first_and_rest}
+use Rattle.stogame_app.proofs.Denoting.{words_denoted}
 use Rattle.stogame_app.proofs.words.read_words.Goals as goal
 
-pub returns-in_err-options-in-len4-up : goal.returns-in_err-options-in-len4-up
-returns-in_err-options-in-len4-up c =
-    let words : List (List ℕ) = map string_bytes c.args.words.now in
-    let Answers : Option CheckWords → Type 0 = λ r. MatchOption r (AreNoCommand words) (λ read. AreCheck words (check_of read)) in
-    subst Answers (sym c.from_residual.ensures) (λ check are.
-    let rest = behind_four string_bytes c.args.words.now _ check.tra check.lab check.formula are.rest are.words_are in
-    c.in_err-options-in-len4-up.ensures check.options (subst (λ (ws : List (List ℕ)). AreOptions ws check.options) rest are.options))
+pub returns-in-len1-up : goal.returns-in-len1-up
+returns-in-len1-up c =
+    let words : List Text = map string_bytes c.args.words.now in
+    let named = sym c.as_str.ensures.value ∙ (bytes_decides c.as_str.result.now (codes "check")).0 (sym c.if-eq.ensures) in
+    let parts = first_and_rest string_bytes c.args.words.now c.command-item.result c.in-len1-up.len_at_least c.command-item.is in
+    IfOk-weaker c.read_check.result _ _ (λ read said. words_denoted words _ _ read parts named said) c.read_check.ensures
