@@ -6,6 +6,9 @@ ghost use Rattle.std.specs.Bool.{OnTrue};
 use game_model::{Choice, Edge, Game, MOST_STATES, Question, Side};
 use std::alloc::Global;
 
+/// The most choices of a state of a draft.
+const MOST_CHOICES: usize = 8;
+
 /// The most edges of a choice of a draft.
 const MOST_EDGES: usize = 8;
 
@@ -33,9 +36,7 @@ impl Draft {
 
     /// The next state, with one choice.
     pub fn one(&mut self, alloc: Global, edges: &[(u32, u64)]) -> Option<()> {
-        let mut choices = Vec::new(alloc);
-        choices.push(choice(alloc, self.states, edges)?).ok()?;
-        self.all.push(choices).ok()
+        self.with(alloc, &[edges])
     }
 
     /// The next state, with two choices.
@@ -45,10 +46,13 @@ impl Draft {
         first: &[(u32, u64)],
         second: &[(u32, u64)],
     ) -> Option<()> {
-        let mut choices = Vec::new(alloc);
-        choices.push(choice(alloc, self.states, first)?).ok()?;
-        choices.push(choice(alloc, self.states, second)?).ok()?;
-        self.all.push(choices).ok()
+        self.with(alloc, &[first, second])
+    }
+
+    /// The next state, with these choices.
+    pub fn with(&mut self, alloc: Global, choices: &[&[(u32, u64)]]) -> Option<()> {
+        let made = choices_with(alloc, self.states, choices)?;
+        self.all.push(made).ok()
     }
 
     /// The game, where all its states are made.
@@ -59,6 +63,22 @@ impl Draft {
         }
         Game::from_choices(alloc, all).ok()
     }
+}
+
+// The choices with these edges, where there are some, but not too many.
+fn choices_with(alloc: Global, states: u32, lists: &[&[(u32, u64)]]) -> Option<Vec<Choice>>
+    ensures some { IfSome result (λ choices. 0 < length choices.items) }
+    ensures few { IfSome result (λ choices. length choices.items ≤ most_choices) }
+    ensures inside { IfSome result (λ choices. All (λ m. All (λ e. e.to < states) m.edges) choices.items) }
+{
+    if lists.is_empty() || lists.len() > MOST_CHOICES {
+        return None;
+    }
+    let mut made = Vec::new(alloc);
+    for edges in lists {
+        made.push(choice(alloc, states, *edges)?).ok()?;
+    }
+    Some(made)
 }
 
 // The choice with these edges, where there are some, but not too many, and they rise.

@@ -1,10 +1,14 @@
 //! Small games, and races on them: tests of the crates below that no clause covers.
 #![tactic(auto)]
 
+#[cfg(test)]
+mod brackets;
 mod draft;
 mod games;
 #[cfg(test)]
 mod random;
+#[cfg(test)]
+mod structured;
 #[cfg(test)]
 mod tests;
 

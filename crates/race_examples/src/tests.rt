@@ -5,11 +5,15 @@ ghost use Rattle.game_model.specs.Query.{states};
 ghost use Rattle.game_model.specs.Dual.{IsZeroSet};
 ghost use Rattle.value_words.specs.Passes.{IsOf, Grew};
 
+mod certificates;
+mod thresholds;
+mod up_steps;
+
 use super::*;
+use crate::brackets::{value_bracket, zero_set_of};
 use crate::random::{Draw, opening_table, plain_guess, plain_sweep, random_game, random_question};
-use bracket_engine::bracket;
 use game_model::{Marks, Question, UNIT};
-use game_outside::{HoldGate, OpenGate};
+use game_outside::HoldGate;
 use inductive_check::swap;
 use predecessors::Predecessors;
 use round_workers::{first_state, round, worker_of};
@@ -22,7 +26,6 @@ use std::thread::{Threads, join};
 use step_core::{Event, Refused, World, pack, value_of};
 use upper_guess::guess;
 use value_words::{Pass, Posing, ValueTable, Words};
-use zero_sets::zero_set;
 
 // Events on a world of the coin game that has one view.
 fn take_events<R: Abort>(rt: &R, world: &mut World<'_>)
@@ -287,7 +290,7 @@ fn agrees_with_plain_sweeps<R: Abort + Threads + Sync>(
     let mut rounds = 0;
     let mut ended = false;
     for asked in 0..12 {
-        let found = bracket(rt, alloc, question, zero, asked, 1, &OpenGate {}).ok()?;
+        let found = value_bracket(rt, alloc, question, zero, asked, 1)?;
         assert_eq!(rt;
             found.lower.as_slice(),
             table.as_slice(),
@@ -318,16 +321,6 @@ fn agrees_with_plain_sweeps<R: Abort + Threads + Sync>(
         }
     }
     Some(())
-}
-
-// The zero set of a question.
-fn zero_set_of(alloc: Global, question: &Question<'_>) -> Option<Marks>
-    ensures { IfSome result (λ zero. IsZeroSet question.now zero) }
-{
-    match zero_set(alloc, question) {
-        Ok(zero) => Some(zero),
-        Err(_) => None,
-    }
 }
 
 // The same for a random game and question.

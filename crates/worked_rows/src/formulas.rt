@@ -52,8 +52,14 @@ fn formulas_are_refused_at_their_place(rt: HostRuntime) -> Result<(), Fail> {
     refused(
         &rt,
         alloc,
-        "P>=0.5 [ F \"goal\" ]",
-        "refused formula place 0 NotYet\n",
+        "P>=0.5 [ F<=3 \"goal\" ]",
+        "refused formula place 10 NotYet\n",
+    )?;
+    refused(
+        &rt,
+        alloc,
+        "P>=0.5 [ F P>=0.5 [ F \"goal\" ] ]",
+        "refused formula place 11 NotYet\n",
     )
 }
 

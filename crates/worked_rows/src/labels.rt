@@ -102,6 +102,13 @@ fn questions_are_refused(rt: HostRuntime) -> Result<(), Fail> {
         player,
         "refused question line 0 UnknownPlayer q\n",
     )?;
+    let bounded = plain_row(COIN_LOOP, GOAL_AT_1, "<<q>> P>=0.5 [ F \"goal\" ]");
+    refuses(
+        &rt,
+        alloc,
+        bounded,
+        "refused question line 0 UnknownPlayer q\n",
+    )?;
     let init = plain_row(COIN_LOOP, "0=\"init\" 1=\"goal\"\n1: 1\n", REACH);
     refuses(&rt, alloc, init, "refused question line 0 NoInit\n")
 }

@@ -7,6 +7,10 @@
 #[cfg(test)]
 mod adapters;
 #[cfg(test)]
+mod certificates;
+#[cfg(test)]
+mod drawn_words;
+#[cfg(test)]
 mod faults;
 #[cfg(test)]
 mod formulas;
@@ -15,10 +19,16 @@ mod labels;
 #[cfg(test)]
 mod models;
 #[cfg(test)]
+mod plain_reading;
+#[cfg(test)]
 mod rows;
+#[cfg(test)]
+mod thresholds;
 #[cfg(test)]
 mod transitions;
 #[cfg(test)]
 mod values;
+#[cfg(test)]
+mod words;
 #[cfg(test)]
 mod workers;

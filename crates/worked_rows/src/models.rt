@@ -28,6 +28,9 @@ pub const AGREEMENT_LABELS: &str =
 
 pub const AGREEMENT_OWNERS: &str = "0=\"p1\" 1=\"p2\"\n1: 1\n2: 1\n8: 1\n9: 1\n";
 
+/// State 0 stays where it is, or goes to the goal and to a trap with one half each.
+pub const LOOP_OR_COIN: &str = "3 4 5\n0 0 0 1\n0 1 1 0.5\n0 1 2 0.5\n1 0 1 1\n2 0 2 1\n";
+
 /// What the coin loop reports.
 pub const COIN_LOOP_REPORT: &str =
     "state 0 lower 0.499999999999 upper 0.500000000000 rounds 40 Bracket\n";

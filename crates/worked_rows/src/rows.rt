@@ -31,7 +31,8 @@ pub fn plain_row<'a>(tra: &'a str, lab: &'a str, formula: &'a str) -> Row<'a> {
     }
 }
 
-fn file(alloc: Global, name: &str, text: &str) -> Result<HeldFile, Fail> {
+/// A file of this name.
+pub fn file(alloc: Global, name: &str, text: &str) -> Result<HeldFile, Fail> {
     let Ok(name) = Name::from_bytes(alloc, name.as_bytes()) else {
         return Err(Fail::new("no memory"));
     };

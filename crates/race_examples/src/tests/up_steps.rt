@@ -1,0 +1,86 @@
+// How many up steps of whole tables a guess makes.
+ghost use Rattle.std.specs.Prelude.{◌≤◌};
+ghost use Rattle.bracket_engine.specs.Limits.{most_rounds};
+
+use crate::brackets::{value_bracket, zero_set_of};
+use crate::structured::Model;
+use crate::structured::coin::coin;
+use crate::structured::contract::contract;
+use crate::structured::retransmission::retransmission;
+use crate::structured::robot::robot;
+use crate::{agreement_game, agreement_question, coin_game, coin_question};
+use game_model::{Question, Side};
+use std::alloc::Global;
+use std::process::Abort;
+use std::test::Fail;
+use std::thread::Threads;
+use upper_guess::{Witnesses, guess_with};
+
+/// The most up steps of whole tables that a guess is to make.
+const FEW: u64 = 60;
+
+// The up steps of the guess over the lower table after so many rounds.
+fn up_steps<R: Threads + Sync>(
+    rt: &R,
+    alloc: Global,
+    question: &Question<'_>,
+    rounds: u32,
+) -> Option<u64>
+    requires { rounds ≤ most_rounds }
+{
+    question.known();
+    let zero = zero_set_of(alloc, question)?;
+    let found = value_bracket(rt, alloc, question, &zero, rounds, 1)?;
+    let mut witnesses = Witnesses::none();
+    let _guess = guess_with(alloc, &*question, &zero, &found.lower, &mut witnesses).ok()?;
+    Some(witnesses.up_steps())
+}
+
+// The guess makes few up steps, after few rounds and after many.
+fn are_few<R: Abort + Threads + Sync>(
+    rt: &R,
+    alloc: Global,
+    name: &str,
+    question: &Question<'_>,
+) -> Option<()> {
+    for rounds in [3, 1_000] {
+        let count = up_steps(rt, alloc, question, rounds)?;
+        assert!(rt; count <= FEW, "{name}: {count} after {rounds} rounds");
+    }
+    Some(())
+}
+
+// The same of a structured model, for a player of either side.
+fn are_few_of<R: Abort + Threads + Sync>(
+    rt: &R,
+    alloc: Global,
+    name: &str,
+    model: &Model,
+) -> Option<()> {
+    for side in [Side::Max, Side::Min] {
+        let question = model.question(alloc, side)?;
+        are_few(rt, alloc, name, &question)?;
+    }
+    Some(())
+}
+
+#[test]
+fn guesses_make_few_up_steps(rt: HostRuntime) -> Result<(), Fail> {
+    let alloc = rt.alloc();
+    let game = coin_game(alloc).ok_or("the game")?;
+    let question = coin_question(alloc, &game).ok_or("the question")?;
+    are_few(&rt, alloc, "the coin loop", &question).ok_or("memory")?;
+    let game = agreement_game(alloc).ok_or("the game")?;
+    let question = agreement_question(alloc, &game).ok_or("the question")?;
+    are_few(&rt, alloc, "the agreement protocol", &question).ok_or("memory")?;
+    for (name, model) in [
+        ("the robot", robot(alloc)),
+        ("bounded retransmission", retransmission(alloc)),
+        ("contract signing", contract(alloc)),
+        ("the shared coin", coin(alloc)),
+    ] {
+        let model = model.ok_or("the model")?;
+        are_few_of(&rt, alloc, name, &model).ok_or("memory")?;
+    }
+    Ok(())
+}

@@ -1,0 +1,54 @@
+//! Certificates, as they are printed.
+
+use crate::models::{GOAL_AT_1, GOAL_AT_2, LOOP_OR_COIN, SECOND_OWNS_1, TWO_PLAYERS};
+use crate::rows::{Row, writes};
+use plan_text::read_plan;
+use std::test::Fail;
+use stogame_app::Status;
+
+/// One worker, and the certificate.
+const PLAN: &[&str] = &["--workers", "1", "--plan"];
+
+/// What is printed of the loop or coin.
+const LOOP_OR_COIN_PLAN: &str =
+    "state 0 lower 0.500000000000 upper 0.500000000000 rounds 2 Bracket\nformula Pmax=? [ F \"goal\" ]\ncertificate 1 3\n0 0.500000000000 1 1 0.500000000000 -\n1 1.000000000000 - 0 1.000000000000 -\n2 0.000000000000 - 0 0.000000000000 -\n";
+
+#[test]
+fn a_plan_leaves_the_loop(rt: HostRuntime) -> Result<(), Fail> {
+    let row = Row {
+        tra: LOOP_OR_COIN,
+        lab: GOAL_AT_1,
+        own: None,
+        formula: "Pmax=? [ F \"goal\" ]",
+        numbers: PLAN,
+    };
+    writes(&rt, rt.alloc(), row, LOOP_OR_COIN_PLAN, Status::Fine)
+}
+
+#[test]
+fn a_printed_plan_is_read_back(rt: HostRuntime) -> Result<(), Fail> {
+    let Ok(plan) = read_plan(rt.alloc(), LOOP_OR_COIN_PLAN.as_bytes(), 3) else {
+        return Err(Fail::new("the certificate is refused"));
+    };
+    let table = [500_000_000_000, 1_000_000_000_000, 0];
+    assert_eq!(rt; plan.lower.as_slice(), table.as_slice());
+    assert_eq!(rt; plan.upper.as_slice(), table.as_slice());
+    assert_eq!(rt; plan.choices.as_slice(), [Some(1), None, None].as_slice());
+    assert_eq!(rt; plan.ranks.as_slice(), [1, 0, 0].as_slice());
+    assert_eq!(rt; plan.replies.as_slice(), [None, None, None].as_slice());
+    Ok(())
+}
+
+#[test]
+fn both_players_have_their_choices(rt: HostRuntime) -> Result<(), Fail> {
+    let row = Row {
+        tra: TWO_PLAYERS,
+        lab: GOAL_AT_2,
+        own: Some(SECOND_OWNS_1),
+        formula: "<<p1>> P>=0.6 [ F \"goal\" ]",
+        numbers: PLAN,
+    };
+    let text =
+        "state 0 lower 0.650000000000 upper 0.650000000000 rounds 1 True\nformula <<p1>> P>=3/5 [ F \"goal\" ]\ncertificate 1 4\n0 0.650000000000 1 1 0.650000000000 -\n1 0.200000000000 - 1 0.200000000000 1\n2 1.000000000000 - 0 1.000000000000 -\n3 0.000000000000 - 0 0.000000000000 -\n";
+    writes(&rt, rt.alloc(), row, text, Status::Fine)
+}

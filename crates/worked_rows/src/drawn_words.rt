@@ -1,0 +1,127 @@
+//! Words that are drawn: the program reads them as a plain reading does.
+
+ghost use Rattle.std.specs.Prelude.{◌<◌};
+
+use crate::plain_reading::is_command;
+use crate::rows::words;
+use crate::words::coin_loop_files;
+use game_outside::{OpenGate, SteadyShelf, SteadySink};
+use std::alloc::Global;
+use std::process::Abort;
+use std::test::Fail;
+use std::thread::Threads;
+use stogame_app::{Status, run};
+
+const REACH: &str = "Pmax=? [ F \"goal\" ]";
+
+const DRAWN: [&str; 36] = [
+    "m.tra",
+    "m.lab",
+    REACH,
+    "m.own",
+    "-",
+    "",
+    "5",
+    "+7",
+    "007",
+    "65",
+    "-0",
+    "+x",
+    "--",
+    "--",
+    "--own",
+    "--own",
+    "--own=m.own",
+    "--own=",
+    "--own=-",
+    "--rounds",
+    "--rounds",
+    "--rounds=3",
+    "--rounds=1000001",
+    "--rounds=-0",
+    "--rounds=",
+    "--workers",
+    "--workers=2",
+    "--workers=0",
+    "--workers=065",
+    "--plan",
+    "--plan",
+    "--plan=yes",
+    "--help",
+    "-h",
+    "--pla",
+    "--=",
+];
+
+// Numbers that look as if drawn by lot, the same in each run.
+#[derive(Drop)]
+struct Draws {
+    state: usize,
+}
+
+impl Draws {
+    fn below(&mut self, limit: usize) -> usize
+        requires { 0 < limit }
+        ensures { result < limit }
+    {
+        self.state = self
+            .state
+            .wrapping_mul(6_364_136_223_846_793_005)
+            .wrapping_add(1_442_695_040_888_963_407);
+        (self.state >> 33) % limit
+    }
+
+    fn word(&mut self) -> &'static str {
+        DRAWN[self.below(DRAWN.len())]
+    }
+
+    // The words of a command with up to five words put between them, and one changed at times.
+    fn list(&mut self, alloc: Global) -> Result<Vec<&'static str>, Fail> {
+        let mut command = ["check", "m.tra", "m.lab", REACH];
+        if self.below(4) == 0 {
+            command[self.below(4)] = self.word();
+        }
+        let mut list = command.to_vec(alloc)?;
+        for _ in 0..self.below(6) {
+            let place = self.below(list.len() + 1);
+            list.insert(place, self.word())?;
+        }
+        Ok(list)
+    }
+}
+
+// Whether a run with these words ends with the usage line.
+fn ends_with_usage<R: Threads + Sync + Abort>(
+    rt: &R,
+    alloc: Global,
+    given: &[&str],
+) -> Result<bool, Fail> {
+    let words = words(alloc, given)?;
+    let mut shelf = SteadyShelf::new(coin_loop_files(alloc)?);
+    let mut out = SteadySink::new(alloc);
+    if out.reserve(1000).is_err() {
+        return Err(Fail::new("no memory"));
+    }
+    Ok(run(rt, alloc, &words, &mut shelf, &mut out, &OpenGate {}) == Status::Usage)
+}
+
+#[test]
+fn drawn_words_are_read_as_a_plain_reading_says(rt: HostRuntime) -> Result<(), Fail> {
+    let alloc = rt.alloc();
+    let mut draws = Draws { state: 1 };
+    let mut commands = 0_u32;
+    for _ in 0..2500 {
+        let list = draws.list(alloc)?;
+        let command = is_command(alloc, &list)?;
+        let usage = ends_with_usage(&rt, alloc, &list)?;
+        assert!(rt; command != usage, "{:?} is read otherwise", list.as_slice());
+        if command {
+            commands = commands.saturating_add(1);
+        }
+    }
+    assert!(rt;
+        300 < commands && commands < 2000,
+        "{commands} are commands"
+    );
+    Ok(())
+}

@@ -1,0 +1,326 @@
+//! Words of the command line.
+
+use crate::models::{COIN_LOOP, COIN_LOOP_REPORT, GOAL_AT_1, SECOND_OWNS_1, USAGE};
+use crate::rows::{file, words};
+use game_outside::{HeldFile, OpenGate, SteadyShelf, SteadySink};
+use std::alloc::Global;
+use std::process::Abort;
+use std::test::Fail;
+use std::thread::Threads;
+use stogame_app::{Status, run};
+
+const REACH: &str = "Pmax=? [ F \"goal\" ]";
+
+/// The files of the coin loop; a single minus is the name of one as well.
+pub fn coin_loop_files(alloc: Global) -> Result<Vec<HeldFile>, Fail> {
+    let mut files = Vec::new(alloc);
+    files.push(file(alloc, "m.tra", COIN_LOOP)?)?;
+    files.push(file(alloc, "m.lab", GOAL_AT_1)?)?;
+    files.push(file(alloc, "m.own", SECOND_OWNS_1)?)?;
+    files.push(file(alloc, "-", COIN_LOOP)?)?;
+    Ok(files)
+}
+
+// How a run with these words ends, and what it writes.
+fn ends<R: Threads + Sync + Abort>(
+    rt: &R,
+    alloc: Global,
+    given: &[&str],
+) -> Result<(Status, Vec<u8>), Fail> {
+    let words = words(alloc, given)?;
+    let mut shelf = SteadyShelf::new(coin_loop_files(alloc)?);
+    let mut out = SteadySink::new(alloc);
+    if out.reserve(1000).is_err() {
+        return Err(Fail::new("no memory"));
+    }
+    let ended = run(rt, alloc, &words, &mut shelf, &mut out, &OpenGate {});
+    match out.bytes() {
+        Some(written) => Ok((ended, written.to_vec(alloc)?)),
+        None => Err(Fail::new("the text is lost")),
+    }
+}
+
+fn writes<R: Threads + Sync + Abort>(
+    rt: &R,
+    alloc: Global,
+    given: &[&str],
+    text: &str,
+    status: Status,
+) -> Result<(), Fail> {
+    let (ended, written) = ends(rt, alloc, given)?;
+    let last = given.last().copied().unwrap_or("");
+    assert!(rt;
+        ended == status,
+        "words that end with {last} give {ended:?}"
+    );
+    assert_eq!(rt; written.as_slice(), text.as_bytes());
+    Ok(())
+}
+
+// Words that denote no command.
+fn usage<R: Threads + Sync + Abort>(rt: &R, alloc: Global, given: &[&str]) -> Result<(), Fail> {
+    writes(rt, alloc, given, USAGE, Status::Usage)
+}
+
+// `check` with the files, the formula and these words behind them is no command.
+fn usage_behind<R: Threads + Sync + Abort>(
+    rt: &R,
+    alloc: Global,
+    behind: &[&str],
+) -> Result<(), Fail> {
+    let mut given = Vec::new(alloc);
+    for word in ["check", "m.tra", "m.lab", REACH] {
+        given.push(word)?;
+    }
+    given.extend_from_slice(behind)?;
+    usage(rt, alloc, &given)
+}
+
+#[test]
+fn a_missing_or_surplus_word_gives_the_usage_line(rt: HostRuntime) -> Result<(), Fail> {
+    let alloc = rt.alloc();
+    usage(&rt, alloc, &[])?;
+    usage(&rt, alloc, &[""])?;
+    usage(&rt, alloc, &["check"])?;
+    usage(&rt, alloc, &["m.tra", "m.lab", REACH])?;
+    usage(&rt, alloc, &["audit", "m.tra", "m.lab", REACH])?;
+    usage(&rt, alloc, &["--plan", "check", "m.tra", "m.lab", REACH])?;
+    usage(&rt, alloc, &["check", "m.tra", "m.lab"])?;
+    usage(&rt, alloc, &["check", "m.tra", "m.lab", "--plan", "--"])?;
+    usage(&rt, alloc, &["check", "", "m.lab", REACH])?;
+    usage(&rt, alloc, &["check", "m.tra", "", REACH])?;
+    usage(&rt, alloc, &["check", "--", "m.tra", "", REACH])?;
+    usage_behind(&rt, alloc, &["more"])?;
+    usage_behind(&rt, alloc, &[""])?;
+    usage_behind(&rt, alloc, &["--", "--plan"])
+}
+
+#[test]
+fn an_unknown_option_gives_the_usage_line(rt: HostRuntime) -> Result<(), Fail> {
+    let alloc = rt.alloc();
+    for word in [
+        "--help",
+        "-h",
+        "--version",
+        "-p",
+        "--pla",
+        "--plans",
+        "--Plan",
+        "-plan",
+        "--=",
+        "---",
+        "-=",
+        "-1",
+    ] {
+        usage_behind(&rt, alloc, &[word])?;
+    }
+    usage(&rt, alloc, &["check", "-m.tra", "m.lab", REACH])?;
+    usage(&rt, alloc, &["check", "--help"])
+}
+
+#[test]
+fn an_option_given_twice_gives_the_usage_line(rt: HostRuntime) -> Result<(), Fail> {
+    let alloc = rt.alloc();
+    usage_behind(&rt, alloc, &["--rounds", "1", "--rounds", "2"])?;
+    usage_behind(&rt, alloc, &["--rounds=1", "--rounds=1"])?;
+    usage_behind(&rt, alloc, &["--workers", "1", "--workers=1"])?;
+    usage_behind(&rt, alloc, &["--own", "m.own", "--own", "m.own"])?;
+    usage_behind(&rt, alloc, &["--plan", "--plan"])
+}
+
+#[test]
+fn a_value_that_is_missing_or_too_many_gives_the_usage_line(rt: HostRuntime) -> Result<(), Fail> {
+    let alloc = rt.alloc();
+    usage_behind(&rt, alloc, &["--plan=yes"])?;
+    usage_behind(&rt, alloc, &["--plan=true"])?;
+    usage_behind(&rt, alloc, &["--plan="])?;
+    usage_behind(&rt, alloc, &["--plan", "true"])?;
+    usage_behind(&rt, alloc, &["--rounds"])?;
+    usage_behind(&rt, alloc, &["--own"])?;
+    usage_behind(&rt, alloc, &["--own", ""])?;
+    usage_behind(&rt, alloc, &["--own="])?;
+    usage_behind(&rt, alloc, &["--own", "--plan"])?;
+    usage_behind(&rt, alloc, &["--own", "--"])?;
+    usage(
+        &rt,
+        alloc,
+        &["check", "m.tra", "m.lab", "--own", "--", REACH],
+    )?;
+    usage_behind(&rt, alloc, &["--own", "m.own", "m.own"])
+}
+
+#[test]
+fn a_number_out_of_range_gives_the_usage_line(rt: HostRuntime) -> Result<(), Fail> {
+    let alloc = rt.alloc();
+    for number in [
+        "1000001",
+        "4294967296",
+        "99999999999999999999",
+        "-0",
+        "-5",
+        "",
+        "-",
+        "+",
+        "+x",
+        "++1",
+        "1.0",
+        "1 ",
+        " 1",
+        "0x1",
+        "1e3",
+    ] {
+        usage_behind(&rt, alloc, &["--rounds", number])?;
+    }
+    for word in [
+        "--rounds=1000001",
+        "--rounds=-0",
+        "--rounds=-1",
+        "--rounds=",
+        "--rounds==1",
+        "--workers=0",
+        "--workers=65",
+        "--workers=-0",
+    ] {
+        usage_behind(&rt, alloc, &[word])?;
+    }
+    for number in ["0", "65", "+", "000", "4294967297"] {
+        usage_behind(&rt, alloc, &["--workers", number])?;
+    }
+    Ok(())
+}
+
+#[test]
+fn options_stand_anywhere(rt: HostRuntime) -> Result<(), Fail> {
+    let alloc = rt.alloc();
+    let report = COIN_LOOP_REPORT;
+    let fine = Status::Fine;
+    for given in [
+        [
+            "check",
+            "m.tra",
+            "m.lab",
+            REACH,
+            "--workers",
+            "1",
+            "--rounds",
+            "99",
+        ],
+        [
+            "check",
+            "--rounds",
+            "99",
+            "m.tra",
+            "--workers",
+            "1",
+            "m.lab",
+            REACH,
+        ],
+        [
+            "check",
+            "m.tra",
+            "--workers=1",
+            "m.lab",
+            REACH,
+            "--rounds=+099",
+            "--own",
+            "m.own",
+        ],
+        [
+            "check",
+            "--own=m.own",
+            "--rounds=1000000",
+            "--workers=64",
+            "--",
+            "m.tra",
+            "m.lab",
+            REACH,
+        ],
+        [
+            "check",
+            "m.tra",
+            "m.lab",
+            "--workers",
+            "007",
+            "--rounds",
+            "+50",
+            REACH,
+        ],
+    ] {
+        writes(&rt, alloc, &given, report, fine)?;
+    }
+    Ok(())
+}
+
+#[test]
+fn a_single_minus_is_a_plain_word(rt: HostRuntime) -> Result<(), Fail> {
+    let alloc = rt.alloc();
+    let refused = Status::ModelRefused;
+    writes(
+        &rt,
+        alloc,
+        &["check", "-", "m.lab", REACH],
+        COIN_LOOP_REPORT,
+        Status::Fine,
+    )?;
+    writes(
+        &rt,
+        alloc,
+        &["check", "m.tra", "--own", "-", "m.lab", REACH],
+        "refused own line 1 BadHeader\n",
+        refused,
+    )?;
+    writes(
+        &rt,
+        alloc,
+        &["check", "m.tra", "m.lab", "-"],
+        "refused formula place 0 Unexpected\n",
+        refused,
+    )
+}
+
+#[test]
+fn behind_two_minus_no_word_is_an_option(rt: HostRuntime) -> Result<(), Fail> {
+    let alloc = rt.alloc();
+    let refused = Status::ModelRefused;
+    writes(
+        &rt,
+        alloc,
+        &["check", "m.tra", "m.lab", "--", "--plan"],
+        "refused formula place 0 Unexpected\n",
+        refused,
+    )?;
+    writes(
+        &rt,
+        alloc,
+        &["check", "--", "m.tra", "--", REACH],
+        "refused lab line 1 NoHeader\n",
+        refused,
+    )
+}
+
+#[test]
+fn an_empty_formula_is_refused_by_the_run(rt: HostRuntime) -> Result<(), Fail> {
+    writes(
+        &rt,
+        rt.alloc(),
+        &["check", "m.tra", "m.lab", ""],
+        "refused formula place 0 End\n",
+        Status::ModelRefused,
+    )
+}
+
+#[test]
+fn a_run_of_no_rounds_has_its_certificate(rt: HostRuntime) -> Result<(), Fail> {
+    let given = [
+        "check",
+        "--plan",
+        "--rounds=0",
+        "m.tra",
+        "m.lab",
+        "--",
+        REACH,
+    ];
+    let text =
+        "state 0 lower 0.000000000000 upper 0.549755813888 rounds 0 Bracket\nformula Pmax=? [ F \"goal\" ]\ncertificate 1 3\n0 0.000000000000 - 0 0.549755813888 -\n1 1.000000000000 - 0 1.000000000000 -\n2 0.000000000000 - 0 0.000000000000 -\n";
+    writes(&rt, rt.alloc(), &given, text, Status::Fine)
+}
