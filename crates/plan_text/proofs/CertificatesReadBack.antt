@@ -18,7 +18,7 @@ use Rattle.plan_text.proofs.EntriesReadBack.{entry_line, line_said-written, not_
 
 -- 1. Lines of a text that aren't blank are significant, and so are those before them.
 
-keep_line-some : (line : List ℕ) (lines : List (List ℕ)) → is_nil (fields_of line) ≡ false → keep_line line lines ≡ line ∷ lines
+pub keep_line-some : (line : List ℕ) (lines : List (List ℕ)) → is_nil (fields_of line) ≡ false → keep_line line lines ≡ line ∷ lines
 keep_line-some line [] some = rw some refl
 keep_line-some line (next ∷ lines) some = refl
 

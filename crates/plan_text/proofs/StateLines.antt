@@ -10,7 +10,7 @@ use Rattle.plan_text.specs.Said.{fault_at, then_at, line_said, entries_from}
 use Rattle.plan_text.specs.Read.{first_said, end_said}
 
 -- one more entry is read
-abbrev more_from : ℕ → List Entry → ℕ → List (List ℕ) → Entry → Result (List Entry) PlanFault
+abbrev pub more_from : ℕ → List Entry → ℕ → List (List ℕ) → Entry → Result (List Entry) PlanFault
 more_from states before number lines entry = entries_from states (before ++ entry ∷ []) (number + 1) lines
 
 -- an entry, and what stands behind it

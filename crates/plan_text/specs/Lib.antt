@@ -2,5 +2,6 @@ pub mod Fixed
 pub mod Entries
 pub mod Written
 pub mod Said
+pub mod Certificate
 pub mod Read
 pub mod Laws

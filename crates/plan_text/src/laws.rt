@@ -1,11 +1,12 @@
 //! Laws of certificates. Each function does nothing; its contract is the law.
 
-ghost use Rattle.std.specs.Prelude.{◌≡◌, ◌≤◌, ◌++◌, List, ℕ, All, Ok, length};
+ghost use Rattle.std.specs.Prelude.{◌≡◌, ◌≤◌, ◌++◌, ◌↔◌, List, ℕ, All, Ok, length};
 ghost use Rattle.game_model.specs.Limits.{unit, most_states};
 ghost use Rattle.plan_text.specs.Fixed.{fixed};
 ghost use Rattle.plan_text.specs.Entries.{Entry, IsInRange};
 ghost use Rattle.plan_text.specs.Written.{certificate_text};
 ghost use Rattle.plan_text.specs.Said.{entries_said};
+ghost use Rattle.plan_text.specs.Certificate.{IsCertificate};
 ghost use Rattle.plan_text.specs.Laws.{IsPassedOver, as_lines};
 
 /// No two values have the same text.
@@ -23,4 +24,11 @@ pub fn certificates_are_read_back()
 pub fn certificates_have_one_reading()
     ensures { (entries others : List Entry) → length entries ≤ most_states → length others ≤ most_states → All IsInRange entries → All IsInRange others
         → certificate_text entries ≡ certificate_text others → entries ≡ others }
+{}
+
+/// For so many states the entries that are read are those of a certificate in the text, and those of each certificate
+/// in the text are read.
+pub fn certificates_are_what_is_read()
+    ensures { (text : List ℕ) (states : ℕ) (entries : List Entry)
+        → (entries_said text states ≡ Ok entries) ↔ ((length entries ≡ states) × IsCertificate text entries) }
 {}

@@ -1,9 +1,9 @@
 //! A certificate that is read.
 
-ghost use Rattle.std.specs.Prelude.{◌≡◌, ◌≤◌, ◌<◌, ◌+◌, ◌&&◌, [], Ok, Err, IfOk, MatchResult, length, if◌then◌else◌};
+ghost use Rattle.std.specs.Prelude.{◌≡◌, ◌≤◌, ◌<◌, ◌+◌, ◌&&◌, [], Ok, Err, All, IfOk, MatchResult, length, if◌then◌else◌};
 ghost use Rattle.text_lines.specs.Limits.{most_bytes};
 ghost use Rattle.text_lines.specs.Text.{lines_of, fields_of, is_nil, significant};
-ghost use Rattle.plan_text.specs.Entries.{HasStates, IsInRange};
+ghost use Rattle.plan_text.specs.Entries.{HasStates, IsInRange, entries_of};
 ghost use Rattle.plan_text.specs.Said.{GivesPlan, entries_said, entries_from};
 ghost use Rattle.plan_text.specs.Read.{first_said, end_said};
 
@@ -20,6 +20,7 @@ pub fn read_plan(alloc: Global, bytes: &[u8], states: u32) -> Result<Plan, PlanF
     requires { length bytes.now ≤ most_bytes }
     ensures lists { IfOk result (λ plan. HasStates plan states) }
     ensures said { GivesPlan result (entries_said bytes.now states) }
+    ensures in_range { IfOk result (λ plan. All IsInRange (entries_of plan)) }
 {
     let (text, number) = read_heading(bytes, states)?;
     read_states(alloc, text, number, states)
