@@ -52,7 +52,7 @@ module _ (q : Query) (value rank : ℕ → ℕ) (choices : List (Option ℕ)) (s
       unranked (ranked-given q value rank choices s next.needs max at c (asked-given (side_at q s) (slice_index_or choices s None) c max next.asked))
   next-unranked Min min c next unranked at = unranked (at.least next.needs min c next.inside)
 
-  cause-unranked : (cause : RankCause) → IsCauseAt q value rank choices s cause → ¬ IsRankedAt q value rank choices s
+  pub cause-unranked : (cause : RankCause) → IsCauseAt q value rank choices s cause → ¬ IsRankedAt q value rank choices s
   cause-unranked Value h = misvalued-unranked q value rank choices s h
   cause-unranked Choice h = no_choice-unranked q value rank choices s h.0 h.1 h.2
   cause-unranked (Short c) h = next-unranked (side_at q s) refl c h.0 (lack-unranked value rank s (choice_of q.game s c) c (Short c) h.1)

@@ -271,7 +271,7 @@ spans_all us (Broken fault) a = absurd a
 spans_all [] (Then place spelling rest) a = absurd a
 spans_all (u ∷ us) (Then place spelling rest) a = let more = spans_all us rest a.1 in (more.0, (place, rest, ap (λ s. Then place s rest) a.0, more.1))
 
-formula_again : (us : List (List ℕ)) (f : Tree) → IsFormula us f → (ts : Tokens) → AreTokens ts us → formula ts ≡ Ok f
+pub formula_again : (us : List (List ℕ)) (f : Tree) → IsFormula us f → (ts : Tokens) → AreTokens ts us → formula ts ≡ Ok f
 formula_again us f d ts a =
     let all = spans_all us ts a in
     let P : List (List ℕ) → Type 0 = λ vs. Spans ts vs (Finish all.0) in

@@ -8,17 +8,17 @@ use Rattle.distributions.specs.Fraction.{Fraction}
 use Rattle.rpatl_syntax.specs.declared.formula.Bound.{Bound}
 use Rattle.rpatl_syntax.specs.declared.formula.Bound.TheVariants.{AtLeast, Above, AtMost, Below, AskMax, AskMin}
 use Rattle.rpatl_syntax.specs.Formula.{State, True, False, Label, Not, And, Or, Implies, Tree}
-use Rattle.rpatl_syntax.specs.Grammar.{formula_said, is_number}
+use Rattle.rpatl_syntax.specs.Grammar.{formula, formula_said, is_number}
 use Rattle.rpatl_syntax.specs.Laws.{AreTokens}
 use Rattle.rpatl_syntax.specs.TokenRules.{IsSpelling}
 use Rattle.rpatl_syntax.specs.Limits.{longest, most_nested}
-use Rattle.rpatl_syntax.specs.Rules.{between, IsState, with_commas, IsWord, IsCoalition, IsComparison, IsBound, IsPath, reach, until as until_path, Denotes}
+use Rattle.rpatl_syntax.specs.Rules.{between, IsState, with_commas, IsWord, IsCoalition, IsComparison, IsBound, IsPath, reach, until as until_path, IsFormula, Denotes}
 use Rattle.rpatl_syntax.specs.Spellable.{IsWholeWord, HasWords, IsShare, HasShare, need, IsSide, IsSpellable}
 use Rattle.rpatl_syntax.specs.Spelling.{state_spelling, path_spelling, names_spelling, coalition_spelling, fraction_spelling, bound_spelling, spelling}
 use Rattle.text_lines.specs.Text.{is_digit}
 use Rattle.rpatl_syntax.specs.Tokens.{tokens_from, tokens_of}
 use Rattle.rpatl_syntax.proofs.Denoted.{ends_with}
-use Rattle.rpatl_syntax.proofs.Again.{formula_said_again}
+use Rattle.rpatl_syntax.proofs.Again.{formula_again, formula_said_again}
 use Rattle.rpatl_syntax.proofs.Cutting.{tokens_cut, cut_spelled}
 use Rattle.rpatl_syntax.proofs.Needs.{Suits, state_suits, all_left, all_right, need-below, word_kept}
 use Rattle.rpatl_syntax.proofs.Printing.{state_tokens, printed_state}
@@ -192,23 +192,39 @@ path_derived (And x z) y a b = until_path (state_tokens (And x z)) (state_tokens
 path_derived (Or x z) y a b = until_path (state_tokens (Or x z)) (state_tokens y) (Or x z) y (state_derived (Or x z) a) (state_derived y b)
 path_derived (Implies x z) y a b = until_path (state_tokens (Implies x z)) (state_tokens y) (Implies x z) y (state_derived (Implies x z) a) (state_derived y b)
 
-spelling_denotes : (f : Tree) → IsSpellable f → length (spelling f) ≤ longest → Denotes (spelling f) f
-spelling_denotes f is short =
+tokens_spelled : (f : Tree) → IsSpellable f → AreTokens (tokens_of (spelling f)) (formula_tokens f)
+tokens_spelled f is =
     let P : List ℕ → Type 0 = λ text. AreTokens (tokens_of text) (formula_tokens f) in
-    record {
-      short = short;
-      tokens = formula_tokens f;
-      cut = tokens_cut (spelling f) (formula_tokens f) (subst P (append-nil (spelling f)) (ends_with (formula_tokens f) (tokens_of (spelling f ++ [])) (0 + length (spelling f)) (lays_formula f is 0)));
-      formula = record {
-        team = team_tokens f.coalition;
-        asks = bound_tokens f.bound;
-        sides = path_tokens f.left f.right;
-        whole = refl;
-        coalition = team_derived f.coalition is.words;
-        bound = bound_derived f.bound is.share;
-        path = path_derived f.left f.right is.left is.right;
-      };
-    }
+    subst P (append-nil (spelling f)) (ends_with (formula_tokens f) (tokens_of (spelling f ++ [])) (0 + length (spelling f)) (lays_formula f is 0))
+
+tokens_derived : (f : Tree) → IsSpellable f → IsFormula (formula_tokens f) f
+tokens_derived f is = record {
+  team = team_tokens f.coalition;
+  asks = bound_tokens f.bound;
+  sides = path_tokens f.left f.right;
+  whole = refl;
+  coalition = team_derived f.coalition is.words;
+  bound = bound_derived f.bound is.share;
+  path = path_derived f.left f.right is.left is.right;
+}
+
+-- 4. What is read from a spelling.
+
+spelling_denotes : (f : Tree) → IsSpellable f → length (spelling f) ≤ longest → Denotes (spelling f) f
+spelling_denotes f is short = record {
+  short = short;
+  tokens = formula_tokens f;
+  cut = tokens_cut (spelling f) (formula_tokens f) (tokens_spelled f is);
+  formula = tokens_derived f is;
+}
+
+-- no two formulas have the same spelling, of whatever length
+pub spelling_one : (f g : Tree) → IsSpellable f → IsSpellable g → spelling f ≡ spelling g → f ≡ g
+spelling_one f g of_f of_g e =
+    let said : Ok f ≡ Ok g = sym (formula_again (formula_tokens f) f (tokens_derived f of_f) (tokens_of (spelling f)) (tokens_spelled f of_f))
+    ∙ ap (λ text. formula (tokens_of text)) e
+    ∙ formula_again (formula_tokens g) g (tokens_derived g of_g) (tokens_of (spelling g)) (tokens_spelled g of_g) in
+    cc (said)
 
 -- A formula that can be spelled is read from its spelling again, unless that is too long.
 read_again : (f : Tree) → IsSpellable f → length (spelling f) ≤ longest → formula_said (spelling f) ≡ Ok f

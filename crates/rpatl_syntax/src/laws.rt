@@ -6,6 +6,7 @@ ghost use Rattle.rpatl_syntax.specs.Laws.{AreTokens, AreAlike, IsBlank, StandsAt
 ghost use Rattle.rpatl_syntax.specs.Limits.{longest, most_nested, longest_name};
 ghost use Rattle.rpatl_syntax.specs.Rules.{Denotes};
 ghost use Rattle.rpatl_syntax.specs.Spellable.{IsSpellable};
+ghost use Rattle.rpatl_syntax.specs.Spelling.{spelling};
 ghost use Rattle.rpatl_syntax.specs.TokenRules.{AreCut};
 ghost use Rattle.rpatl_syntax.specs.Tokens.{tokens_of};
 
@@ -53,4 +54,9 @@ pub fn formulas_are_those_that_a_text_denotes()
 /// What a text denotes can be spelled, so `print_formula` says of it that it is read again.
 pub fn formulas_of_texts_are_spellable()
     ensures { (text : List ℕ) (tree : Tree) → Denotes text tree → IsSpellable tree }
+{}
+
+/// No two formulas that can be spelled have the same spelling.
+pub fn spellings_have_one_reading()
+    ensures { (tree other : Tree) → IsSpellable tree → IsSpellable other → spelling tree ≡ spelling other → tree ≡ other }
 {}

@@ -1,5 +1,6 @@
 pub mod Numbers
 pub mod Opening
+pub mod Reached
 pub mod Reading
 pub mod Settled
 pub mod Staying

@@ -1,8 +1,10 @@
 //! Laws of verdicts and reports. Each function does nothing of its own; its contract is the law.
 
-ghost use Rattle.std.specs.Prelude.{◌≡◌, ◌<◌, ◌≤◌, ◌+◌, ◌*◌, ℕ, true, List, All};
+ghost use Rattle.std.specs.Prelude.{◌≡◌, ◌<◌, ◌≤◌, ◌+◌, ◌*◌, ℕ, true, List, All, Option};
 ghost use Rattle.game_model.specs.Query.{Query, IsQuery, states};
-ghost use Rattle.game_model.specs.Bounds.{IsLow, IsHigh};
+ghost use Rattle.game_model.specs.Limits.{unit};
+ghost use Rattle.game_model.specs.Bounds.{IsHigh, Reaches};
+ghost use Rattle.game_model.specs.Ranks.{ReachesUnder};
 ghost use Rattle.rpatl_syntax.specs.declared.formula.Bound.{Bound};
 ghost use Rattle.verdicts.specs.declared.report.ReportLine.{ReportLine};
 ghost use Rattle.verdicts.specs.declared.verdict.Verdict.TheVariants.{Yes, No, Undecided};
@@ -13,17 +15,23 @@ ghost use Rattle.verdicts.specs.Verdict.{verdict_of, is_settling};
 
 use game_laws::laws;
 
-/// A verdict over sound bounds is true: where it is yes the bound holds of the value at the state, where it is no it fails.
+/// A verdict over sound bounds is true: where the values of a state reach the lower one, and no k-step value is above the upper
+/// one, the bound holds of the value where the verdict is yes, and fails where it is no.
 pub fn verdicts_are_true()
-    ensures yes { (q : Query) (lower upper : ℕ → ℕ) (bound : Bound) (s : ℕ) → IsQuery q → IsLow q lower → IsHigh q upper → s < states q →
-        verdict_of bound (lower s) (upper s) ≡ Yes → IsTrueOf q bound s }
-    ensures no { (q : Query) (lower upper : ℕ → ℕ) (bound : Bound) (s : ℕ) → IsQuery q → IsLow q lower → IsHigh q upper → s < states q →
-        verdict_of bound (lower s) (upper s) ≡ No → IsFalseOf q bound s }
+    ensures yes { (q : Query) (lower : ℕ) (upper : ℕ → ℕ) (bound : Bound) (s : ℕ) → IsQuery q → Reaches q lower unit s → IsHigh q upper → s < states q →
+        verdict_of bound lower (upper s) ≡ Yes → IsTrueOf q bound s }
+    ensures no { (q : Query) (lower : ℕ) (upper : ℕ → ℕ) (bound : Bound) (s : ℕ) → IsQuery q → Reaches q lower unit s → IsHigh q upper → s < states q →
+        verdict_of bound lower (upper s) ≡ No → IsFalseOf q bound s }
 {
-    laws::low_tables_are_reached();
-    laws::low_tables_are_exceeded();
     laws::high_tables_are_not_exceeded();
     laws::high_tables_are_not_reached();
+}
+
+/// A value that the maximiser reaches with a plan, less any 1/m, is one that the values of its state reach.
+pub fn planned_values_are_reached()
+    ensures { (q : Query) (plan : List (Option ℕ)) (value : ℕ → ℕ) (s : ℕ) → ReachesUnder q plan value → s < states q → Reaches q (value s) unit s }
+{
+    laws::plans_reach_at_most_the_value();
 }
 
 /// No two lists of lines have the same report.
