@@ -1,0 +1,5 @@
+pub mod Soundness
+pub mod Saying
+pub mod SamePlans
+pub mod OneFault
+pub mod OneAnswer

@@ -1,0 +1,34 @@
+-- Which certificates are accepted for a question, and what they vouch for.
+use Rattle.std.specs.Prelude.{ℕ, ◌≤◌, List, slice_index, All}
+use Rattle.game_model.specs.Query.{Query, states}
+use Rattle.game_model.specs.Limits.{unit}
+use Rattle.game_model.specs.Bounds.{IsHigh}
+use Rattle.game_model.specs.Rounded.{IsInductive}
+use Rattle.game_model.specs.Ranks.{Ranked, ReachesUnder}
+use Rattle.inductive_check.specs.Replies.{AreReplies, HoldsUnder}
+use Rattle.plan_text.specs.declared.plan.Plan.{Plan}
+use Rattle.plan_text.specs.Entries.{HasStates, entries_of}
+use Rattle.plan_text.specs.Certificate.{IsCertificate}
+
+-- the text has a certificate for the states of the question, and these are its entries
+pub record IsSaid (q : Query) (text : List ℕ) (plan : Plan) : Type 0 where
+  pub lists : HasStates plan (states q)
+  pub said : IsCertificate text (entries_of plan)
+
+-- the upper table is inductive, the replies are held to it, and the lower table, choices and ranks go together
+pub record Passes (q : Query) (plan : Plan) : Type 0 where
+  pub units : All (λ v. v ≤ unit) plan.upper.items
+  pub inductive : IsInductive q (slice_index plan.upper.items)
+  pub replies : AreReplies q (slice_index plan.upper.items) plan.replies.items
+  pub ranked : Ranked q plan.lower.items plan.choices.items plan.ranks.items
+
+-- the plan of a certificate in the text, and it passes
+pub record IsAccepted (q : Query) (text : List ℕ) (plan : Plan) : Type 0 where
+  pub read : IsSaid q text plan
+  pub passes : Passes q plan
+
+-- what a plan vouches for: its upper table is above every k-step value, its replies hold every opponent to it, and its choices reach its lower table, less any 1/m
+pub record IsSound (q : Query) (plan : Plan) : Type 0 where
+  pub high : IsHigh q (slice_index plan.upper.items)
+  pub held : HoldsUnder q plan.replies.items (slice_index plan.upper.items)
+  pub reached : ReachesUnder q plan.choices.items (slice_index plan.lower.items)
