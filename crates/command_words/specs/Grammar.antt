@@ -1,0 +1,61 @@
+-- The words behind `check`, `audit` and `make`, as `clap` reads them: `TRA LAB FORMULA [--own FILE] [--rounds R] [--workers W] [--plan]`,
+-- `TRA LAB FORMULA CERT [--own FILE]` and `SEED STATES [--rounds R] [--workers W]`.
+use Rattle.std.specs.Prelude.{◌≡◌, ℕ, List, [], codes, pos, true, Option, Some}
+use Rattle.clap.specs.Words.{App, IsParsedFrom, Rule, Text, app_of, fault_of, first_of, first_value, found_of, matches_of, new_app, new_rule, rows_of, with_rule}
+use Rattle.clap.specs.declared.builder.ArgAction.TheVariants.{SetTrue}
+use Rattle.clap.specs.declared.builder.command.Command.{Command}
+use Rattle.clap.specs.declared.builder.value_parser.ValueParser.TheVariants as vp
+use Rattle.clap.specs.declared.parser.matches.ArgMatches.{ArgMatches}
+
+-- a word that must be given, by its place
+abbrev pub positional : Text → Rule
+positional name = record (new_rule name) { required = true }
+
+-- an option with a value
+abbrev pub option : Text → Rule
+option name = record (new_rule name) { long = Some name }
+
+-- the value is a number in a range
+abbrev pub with_range : Rule → ℕ → ℕ → Rule
+with_range rule low high = record rule { parser = Some (vp.Signed (pos low) (pos high)) }
+
+-- an option without a value
+abbrev pub flag : Text → Rule
+flag name = record (option name) { action = Some SetTrue }
+
+-- a command whose name is read already and that knows no `--help`
+abbrev pub bare_app : Text → App
+bare_app name = let a = new_app name in record a { top = record a.top { no_binary_name = true; disable_help_flag = true } }
+
+-- a command that asks a question
+abbrev pub asked_app : Text → App
+asked_app name = with_rule (with_rule (with_rule (with_rule (bare_app name)
+    (positional (codes "tra"))) (positional (codes "lab"))) (positional (codes "formula"))) (option (codes "own"))
+
+-- a command that also says how far a run goes: its rounds, and the workers of a round
+abbrev pub with_run_limits : App → App
+with_run_limits app = with_rule (with_rule app (with_range (option (codes "rounds")) 0 1000000)) (with_range (option (codes "workers")) 1 64)
+
+abbrev pub check_app : App
+check_app = with_rule (with_run_limits (asked_app (codes "check"))) (flag (codes "plan"))
+
+abbrev pub audit_app : App
+audit_app = with_rule (asked_app (codes "audit")) (positional (codes "certificate"))
+
+abbrev pub make_app : App
+make_app = with_run_limits (with_rule (with_rule (bare_app (codes "make"))
+    (with_range (positional (codes "seed")) 1 2147483646)) (with_range (positional (codes "states")) 3 1000000))
+
+-- the value that words give to a name, where they give one; of a flag it is `true` where it is given
+abbrev pub value_of : App → List Text → Text → Option Text
+value_of app words name = first_of name (matches_of app words)
+
+-- the value that was found under a name
+abbrev pub value_in : ArgMatches → Text → Option Text
+value_in matches name = first_value (found_of matches) name
+
+-- a command has no fault to find in words, and finds this in them
+pub record FindsIn (command : Command) (words : List Text) (matches : ArgMatches) : Type 0 where
+  pub no_fault : fault_of (app_of command) words ≡ []
+  pub rows : rows_of (found_of matches) ≡ matches_of (app_of command) words
+  pub parsed : IsParsedFrom command matches

@@ -1,0 +1,181 @@
+-- The words of a command line.
+use Rattle.std.specs.Prelude.{◌≡◌, ◌<◌, ◌≤◌, ◌↔◌, ℕ, Bool, IsTrue, List, [], ◌∷◌, length, codes, Option, Some, None, option_map}
+use Rattle.std.specs.Str.Parse.{IsNumeral, digits_value, without_leading_plus}
+use Rattle.clap.specs.Words.{Text, fault_of}
+use Rattle.command_words.specs.Grammar.{check_app, audit_app, make_app, value_of}
+use Rattle.command_words.specs.declared.words.AskedWords.{AskedWords}
+use Rattle.command_words.specs.declared.words.CheckWords.{CheckWords}
+use Rattle.command_words.specs.declared.words.AuditWords.{AuditWords}
+use Rattle.command_words.specs.declared.words.MakeWords.{MakeWords}
+use Rattle.command_words.specs.declared.words.CommandWords.{CommandWords}
+use Rattle.command_words.specs.declared.words.CommandWords.TheVariants as variant
+
+-- What words say, by name.
+
+-- the words that ask a question: its files and its formula
+pub record Asked : Type 0 where
+  pub tra : List ℕ
+  pub lab : List ℕ
+  pub formula : List ℕ
+  pub own : Option (List ℕ)
+
+-- the words of `check`
+pub record Check : Type 0 where
+  pub asked : Asked
+  pub rounds : ℕ
+  pub workers : ℕ
+  pub plan : Bool
+
+-- the words of `audit`
+pub record Audit : Type 0 where
+  pub asked : Asked
+  pub certificate : List ℕ
+
+-- the words of `make`: the seed of a game, and how many states it is to have
+pub record Make : Type 0 where
+  pub seed : ℕ
+  pub states : ℕ
+  pub rounds : ℕ
+  pub workers : ℕ
+
+pub data Command : Type 0 where
+  OfCheck : (check : Check) → Command
+  OfAudit : (audit : Audit) → Command
+  OfMake : (make : Make) → Command
+
+-- 0 to 1,000,000 rounds and 1 to 64 workers
+pub record AreRunLimits (rounds workers : ℕ) : Type 0 where
+  pub few_rounds : rounds ≤ 1000000
+  pub some_workers : 1 ≤ workers
+  pub few_workers : workers ≤ 64
+
+-- the numbers of `check` are in their ranges
+abbrev pub AreInRange : Check → Type 0
+AreInRange check = AreRunLimits check.rounds check.workers
+
+-- the numbers of `make` are in their ranges: a seed from 1 to 2147483646, and 3 to 1,000,000 states
+pub record IsMakeInRange (make : Make) : Type 0 where
+  pub some_seed : 1 ≤ make.seed
+  pub low_seed : make.seed ≤ 2147483646
+  pub some_states : 3 ≤ make.states
+  pub few_states : make.states ≤ 1000000
+  pub limits : AreRunLimits make.rounds make.workers
+
+-- What the values of names say.
+
+-- a value is given, and it is the name of a file: it is not empty
+pub record NamesFile (value : Option Text) (file : List ℕ) : Type 0 where
+  pub given : value ≡ Some file
+  pub named : 0 < length file
+
+-- an owner file that is given has a name
+abbrev pub IsOwnerFile : Option (List ℕ) → Type 0
+IsOwnerFile None = Unit {0}
+IsOwnerFile (Some file) = 0 < length file
+
+-- the word spells the number as Rust reads one: digits, with a plus sign before them or none
+pub record Spells (word : List ℕ) (n : ℕ) : Type 0 where
+  pub digits : IsNumeral 10 (without_leading_plus word)
+  pub value : n ≡ digits_value 10 (without_leading_plus word)
+
+-- a value is given, and its word spells the number
+pub record GivesNumber (value : Option Text) (n : ℕ) : Type 0 where
+  pub word : List ℕ
+  pub given : value ≡ Some word
+  pub spelled : Spells word n
+
+-- what the word of an option spells, or the default where it is not given
+abbrev pub IsNumber : ℕ → Option (List ℕ) → ℕ → Type 0
+IsNumber default None n = n ≡ default
+IsNumber default (Some word) n = Spells word n
+
+-- the values of the names ask this; an empty formula is one, too
+pub record SayAsked (value : Text → Option Text) (asked : Asked) : Type 0 where
+  pub tra : NamesFile (value (codes "tra")) asked.tra
+  pub lab : NamesFile (value (codes "lab")) asked.lab
+  pub formula : value (codes "formula") ≡ Some asked.formula
+  pub own : asked.own ≡ value (codes "own")
+  pub own_named : IsOwnerFile asked.own
+
+-- the values of the names say how far a run goes: 10,000 rounds and 4 workers where no word says them
+pub record SayRunLimits (value : Text → Option Text) (rounds workers : ℕ) : Type 0 where
+  pub of_rounds : IsNumber 10000 (value (codes "rounds")) rounds
+  pub of_workers : IsNumber 4 (value (codes "workers")) workers
+
+-- the values of the names say this of `check`
+pub record SayCheck (value : Text → Option Text) (check : Check) : Type 0 where
+  pub asked : SayAsked value check.asked
+  pub limits : SayRunLimits value check.rounds check.workers
+  pub plan : IsTrue check.plan ↔ (value (codes "plan") ≡ Some (codes "true"))
+
+-- the values of the names say this of `audit`
+pub record SayAudit (value : Text → Option Text) (audit : Audit) : Type 0 where
+  pub asked : SayAsked value audit.asked
+  pub certificate : NamesFile (value (codes "certificate")) audit.certificate
+
+-- the values of the names say this of `make`
+pub record SayMake (value : Text → Option Text) (make : Make) : Type 0 where
+  pub seed : GivesNumber (value (codes "seed")) make.seed
+  pub states : GivesNumber (value (codes "states")) make.states
+  pub limits : SayRunLimits value make.rounds make.workers
+
+-- What words denote.
+
+-- the words behind `check` denote this: `clap` has no fault to find in them, and the values that it gives them say it. So
+-- options may stand anywhere, each once at most, with the value in the next word or behind `=`; behind `--` no word is an
+-- option; three words are left; and each number is one of 32 bits, in its range
+pub record AreCheckWords (words : List Text) (check : Check) : Type 0 where
+  pub taken : fault_of check_app words ≡ []
+  pub said : SayCheck (value_of check_app words) check
+  pub in_range : AreInRange check
+
+-- the words behind `audit` denote this, in the same way; four words are left, and the owner file is the only option
+pub record AreAuditWords (words : List Text) (audit : Audit) : Type 0 where
+  pub taken : fault_of audit_app words ≡ []
+  pub said : SayAudit (value_of audit_app words) audit
+
+-- the words behind `make` denote this, in the same way; two words are left, which are numbers in their ranges as well
+pub record AreMakeWords (words : List Text) (make : Make) : Type 0 where
+  pub taken : fault_of make_app words ≡ []
+  pub said : SayMake (value_of make_app words) make
+  pub in_range : IsMakeInRange make
+
+-- the word that names a command
+abbrev pub name_of : Command → Text
+name_of (OfCheck check) = codes "check"
+name_of (OfAudit audit) = codes "audit"
+name_of (OfMake make) = codes "make"
+
+-- the words behind the name of a command denote it
+abbrev pub AreWordsOf : Command → List Text → Type 0
+AreWordsOf (OfCheck check) words = AreCheckWords words check
+AreWordsOf (OfAudit audit) words = AreAuditWords words audit
+AreWordsOf (OfMake make) words = AreMakeWords words make
+
+-- these words denote this command: the first names it, and the others are its words
+pub record AreCommand (words : List Text) (command : Command) : Type 0 where
+  pub rest : List Text
+  pub words_are : words ≡ name_of command ∷ rest
+  pub behind : AreWordsOf command rest
+
+abbrev pub AreNoCommand : List Text → Type 0
+AreNoCommand words = (command : Command) → AreCommand words command → ⊥
+
+-- What contracts see of words that were read.
+
+abbrev pub asked_of_words : AskedWords → Asked
+asked_of_words words = record { tra = words.tra.now; lab = words.lab.now; formula = words.formula.now; own = option_map (λ file. file.now) words.own }
+
+abbrev pub check_of : CheckWords → Check
+check_of words = record { asked = asked_of_words words.asked; rounds = words.rounds; workers = words.workers; plan = words.plan }
+
+abbrev pub audit_of : AuditWords → Audit
+audit_of words = record { asked = asked_of_words words.asked; certificate = words.certificate.now }
+
+abbrev pub make_of : MakeWords → Make
+make_of words = record { seed = words.seed; states = words.states; rounds = words.rounds; workers = words.workers }
+
+abbrev pub command_of : CommandWords → Command
+command_of (variant.Check check) = OfCheck (check_of check)
+command_of (variant.Audit audit) = OfAudit (audit_of audit)
+command_of (variant.Make make) = OfMake (make_of make)

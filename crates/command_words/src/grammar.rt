@@ -1,0 +1,108 @@
+//! The words behind the name of a command, as `clap` reads them.
+
+ghost use Rattle.std.specs.Prelude.{◌≡◌, false, IfOk, codes};
+ghost use Rattle.clap.specs.Words.{app_of, rule_of};
+ghost use Rattle.command_words.specs.Grammar.{bare_app, asked_app, check_app, audit_app, make_app, with_run_limits as app_with_run_limits, with_range, option as option_rule, flag as flag_rule, positional as positional_rule};
+
+use clap::{Arg, ArgAction, Command};
+use std::alloc::{AllocError, Global};
+
+/// The command `check`, whose first word is read already.
+pub fn check_command<'a>(alloc: Global) -> Result<Command<'a>, AllocError>
+    ensures { IfOk result (λ command. app_of command ≡ check_app) }
+{
+    with_run_limits(alloc, asked_command(alloc, "check")?)?.arg(flag(alloc, "plan"))
+}
+
+/// The command `audit`, whose first word is read already.
+pub fn audit_command<'a>(alloc: Global) -> Result<Command<'a>, AllocError>
+    ensures { IfOk result (λ command. app_of command ≡ audit_app) }
+{
+    asked_command(alloc, "audit")?.arg(positional(alloc, "certificate"))
+}
+
+/// The command `make`, whose first word is read already.
+pub fn make_command<'a>(alloc: Global) -> Result<Command<'a>, AllocError>
+    ensures { IfOk result (λ command. app_of command ≡ make_app) }
+{
+    let command = bare_command(alloc, "make")
+        .arg(seed(alloc))?
+        .arg(states(alloc))?;
+    with_run_limits(alloc, command)
+}
+
+// A command of this name that asks a question.
+fn asked_command<'a>(alloc: Global, name: &'a str) -> Result<Command<'a>, AllocError>
+    ensures { IfOk result (λ command. app_of command ≡ asked_app name.entry.now) }
+{
+    bare_command(alloc, name)
+        .arg(positional(alloc, "tra"))?
+        .arg(positional(alloc, "lab"))?
+        .arg(positional(alloc, "formula"))?
+        .arg(option(alloc, "own"))
+}
+
+// A command of this name, whose name is read already, and that knows no `--help`.
+fn bare_command<'a>(alloc: Global, name: &'a str) -> Command<'a>
+    ensures { app_of result ≡ bare_app name.entry.now }
+{
+    Command::new(alloc, name)
+        .no_binary_name(true)
+        .disable_help_flag(true)
+}
+
+// The command with the options that say how far a run goes.
+fn with_run_limits<'a>(alloc: Global, command: Command<'a>) -> Result<Command<'a>, AllocError>
+    ensures { IfOk result (λ limited. app_of limited ≡ app_with_run_limits (app_of command.entry)) }
+{
+    command.arg(rounds(alloc))?.arg(workers(alloc))
+}
+
+fn positional<'a>(alloc: Global, name: &'a str) -> Arg<'a>
+    ensures rule { rule_of result ≡ positional_rule name.entry.now }
+    ensures local { result.global ≡ false }
+{
+    Arg::new(alloc, name).required(true)
+}
+
+fn option<'a>(alloc: Global, name: &'a str) -> Arg<'a>
+    ensures rule { rule_of result ≡ option_rule name.entry.now }
+    ensures local { result.global ≡ false }
+{
+    Arg::new(alloc, name).long(name)
+}
+
+fn seed<'a>(alloc: Global) -> Arg<'a>
+    ensures rule { rule_of result ≡ with_range (positional_rule (codes "seed")) 1 2147483646 }
+    ensures local { result.global ≡ false }
+{
+    positional(alloc, "seed").value_parser(clap::value_parser!(u32).range(1..=2_147_483_646))
+}
+
+fn states<'a>(alloc: Global) -> Arg<'a>
+    ensures rule { rule_of result ≡ with_range (positional_rule (codes "states")) 3 1000000 }
+    ensures local { result.global ≡ false }
+{
+    positional(alloc, "states").value_parser(clap::value_parser!(u32).range(3..=1_000_000))
+}
+
+fn rounds<'a>(alloc: Global) -> Arg<'a>
+    ensures rule { rule_of result ≡ with_range (option_rule (codes "rounds")) 0 1000000 }
+    ensures local { result.global ≡ false }
+{
+    option(alloc, "rounds").value_parser(clap::value_parser!(u32).range(0..=1_000_000))
+}
+
+fn workers<'a>(alloc: Global) -> Arg<'a>
+    ensures rule { rule_of result ≡ with_range (option_rule (codes "workers")) 1 64 }
+    ensures local { result.global ≡ false }
+{
+    option(alloc, "workers").value_parser(clap::value_parser!(u32).range(1..=64))
+}
+
+fn flag<'a>(alloc: Global, name: &'a str) -> Arg<'a>
+    ensures rule { rule_of result ≡ flag_rule name.entry.now }
+    ensures local { result.global ≡ false }
+{
+    option(alloc, name).action(ArgAction::SetTrue)
+}

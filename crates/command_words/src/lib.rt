@@ -1,0 +1,14 @@
+//! The words of the command line: what `check`, `audit` and `make` take, and nothing else.
+//!
+//! [`read_words`] gives the command that the words denote. The first word names it, and the words behind it are as
+//! `clap` reads them, by the definitions of `specs/Grammar.antt`; numbers are in their ranges, and files have names.
+#![tactic(auto)]
+
+mod grammar;
+pub mod laws;
+mod said;
+#[cfg(test)]
+mod tests;
+mod words;
+
+pub use words::{AskedWords, AuditWords, CheckWords, CommandWords, MakeWords, read_words};

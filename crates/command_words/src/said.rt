@@ -1,0 +1,131 @@
+//! What the values that were found in words say.
+
+ghost use Rattle.std.specs.Prelude.{◌≡◌, ◌≤◌, ◌^◌, ◌↔◌, ℕ, List, Some, IsTrue, MatchOption, codes, option_map};
+ghost use Rattle.command_words.specs.Grammar.{value_in};
+ghost use Rattle.command_words.specs.Words.{Asked, Check, Audit, Make, IsOwnerFile, IsNumber, NamesFile, GivesNumber, AreRunLimits, AreInRange, IsMakeInRange, SayAsked, SayRunLimits, SayCheck, SayAudit, SayMake, asked_of_words, check_of, audit_of, make_of};
+
+use crate::words::{AskedWords, AuditWords, CheckWords, MakeWords};
+use clap::ArgMatches;
+
+/// How many rounds are made at most where the words do not say.
+const DEFAULT_ROUNDS: u32 = 10_000;
+
+/// How many workers a round has at most where the words do not say.
+const DEFAULT_WORKERS: u32 = 4;
+
+// How far a run goes.
+#[derive(Clone, Copy)]
+struct RunLimits {
+    rounds: u32,
+    workers: u32,
+}
+
+/// What the values say of `check`, or none where they say no command.
+pub fn check_words<'a>(matches: &ArgMatches<'a>) -> Option<CheckWords<'a>>
+    ensures { MatchOption result ((check : Check) → SayCheck (value_in matches.now) check → AreInRange check → ⊥) (λ check. SayCheck (value_in matches.now) (check_of check)) }
+{
+    let limits = run_limits(matches)?;
+    Some(CheckWords {
+        asked: asked_words(matches)?,
+        rounds: limits.rounds,
+        workers: limits.workers,
+        plan: is_given(matches.get_str("plan")),
+    })
+}
+
+/// What the values say of `audit`, or none where they say no command.
+pub fn audit_words<'a>(matches: &ArgMatches<'a>) -> Option<AuditWords<'a>>
+    ensures { MatchOption result ((audit : Audit) → SayAudit (value_in matches.now) audit → ⊥) (λ audit. SayAudit (value_in matches.now) (audit_of audit)) }
+{
+    Some(AuditWords {
+        asked: asked_words(matches)?,
+        certificate: file_word(matches.get_str("certificate"))?,
+    })
+}
+
+/// What the values say of `make`, or none where they say no command.
+pub fn make_words<'a>(matches: &ArgMatches<'a>) -> Option<MakeWords>
+    ensures { MatchOption result ((make : Make) → SayMake (value_in matches.now) make → IsMakeInRange make → ⊥) (λ make. SayMake (value_in matches.now) (make_of make)) }
+{
+    let limits = run_limits(matches)?;
+    Some(MakeWords {
+        seed: given_number(matches.get_str("seed"))?,
+        states: given_number(matches.get_str("states"))?,
+        rounds: limits.rounds,
+        workers: limits.workers,
+    })
+}
+
+// What the values ask, or none where they ask nothing.
+fn asked_words<'a>(matches: &ArgMatches<'a>) -> Option<AskedWords<'a>>
+    ensures { MatchOption result ((asked : Asked) → SayAsked (value_in matches.now) asked → ⊥) (λ asked. SayAsked (value_in matches.now) (asked_of_words asked)) }
+{
+    let own = matches.get_str("own");
+    if !is_owner_file(own) {
+        return None;
+    }
+    Some(AskedWords {
+        tra: file_word(matches.get_str("tra"))?,
+        lab: file_word(matches.get_str("lab"))?,
+        formula: matches.get_str("formula")?,
+        own,
+    })
+}
+
+// How far a run goes by what the values say, or none where they say no such limits.
+fn run_limits<'a>(matches: &ArgMatches<'a>) -> Option<RunLimits>
+    ensures { MatchOption result ((rounds workers : ℕ) → SayRunLimits (value_in matches.now) rounds workers → AreRunLimits rounds workers → ⊥) (λ limits. SayRunLimits (value_in matches.now) limits.rounds limits.workers) }
+{
+    Some(RunLimits {
+        rounds: read_number(matches.get_str("rounds"), DEFAULT_ROUNDS)?,
+        workers: read_number(matches.get_str("workers"), DEFAULT_WORKERS)?,
+    })
+}
+
+// The word of a file, where it is not empty.
+fn file_word(word: Option<&str>) -> Option<&str>
+    ensures { MatchOption result ((file : List ℕ) → NamesFile (option_map (λ w. w.now) word.entry) file → ⊥) (λ file. NamesFile (option_map (λ w. w.now) word.entry) file.now) }
+{
+    match word {
+        Some(file) if !file.is_empty() => Some(file),
+        _ => None,
+    }
+}
+
+// Whether an owner file that is given has a name.
+fn is_owner_file(own: Option<&str>) -> bool
+    ensures { IsTrue result ↔ IsOwnerFile (option_map (λ w. w.now) own.entry) }
+{
+    match own {
+        Some(file) => !file.is_empty(),
+        None => true,
+    }
+}
+
+// Whether a flag is given, by the value that stands for it.
+fn is_given(value: Option<&str>) -> bool
+    ensures { IsTrue result ↔ (option_map (λ w. w.now) value.entry ≡ Some (codes "true")) }
+{
+    match value {
+        Some(value) => value == "true",
+        None => false,
+    }
+}
+
+// The number that the word of an option spells, or the default where it is not given. None where it is no number of
+// 32 bits.
+fn read_number(word: Option<&str>, default: u32) -> Option<u32>
+    ensures { MatchOption result ((n : ℕ) → IsNumber default (option_map (λ w. w.now) word.entry) n → 2 ^ 32 ≤ n) (λ n. IsNumber default (option_map (λ w. w.now) word.entry) n) }
+{
+    match word {
+        None => Some(default),
+        Some(word) => word.parse::<u32>().ok(),
+    }
+}
+
+// The number that a word spells, which must be given. None where it is no number of 32 bits.
+fn given_number(word: Option<&str>) -> Option<u32>
+    ensures { MatchOption result ((n : ℕ) → GivesNumber (option_map (λ w. w.now) word.entry) n → 2 ^ 32 ≤ n) (λ n. GivesNumber (option_map (λ w. w.now) word.entry) n) }
+{
+    word?.parse::<u32>().ok()
+}
