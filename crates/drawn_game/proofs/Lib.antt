@@ -1,0 +1,5 @@
+pub mod Adding
+pub mod Rising
+pub mod Repeating
+pub mod Games
+pub mod Reaching

@@ -1,0 +1,8 @@
+pub mod Limits
+pub mod Drawings
+pub mod Parts
+pub mod Rules
+pub mod Asked
+pub mod Adding
+pub mod Ends
+pub mod Worked
