@@ -22,7 +22,7 @@ use Rattle.stogame_app.specs.declared.refusal.Refusal.{Refusal}
 use Rattle.stogame_app.specs.declared.refusal.Refusal.TheVariants.{OfTra, OfLab, OfOwn, OfFormula, OfQuestion}
 use Rattle.stogame_app.specs.declared.refusal.Text.{Text}
 use Rattle.stogame_app.specs.declared.refusal.Text.TheVariants.{Tra, Lab, Own}
-use Rattle.stogame_app.specs.Words.{Check}
+use Rattle.command_words.specs.Words.{Asked}
 use Rattle.stogame_app.specs.Said.{Said, NotHeld, Refuses, Says, and_then, read_said}
 use Rattle.stogame_app.specs.Sources.{Sources}
 use Rattle.stogame_app.specs.Texts.{text_said, game_said, labels_said, owners_said}
@@ -77,10 +77,10 @@ is_formula text tree denotes = ap (read_said OfFormula) (formula_said_again text
 -- 3. The question.
 
 -- texts and a formula that are read, and pose the question, ask it
-asks_read : (sources : Sources) (check : Check) (posing : Posing) (game : List (List Distribution)) (labels : Labelling) (owners : Ownership) (formula : Tree) (reading : Reading) → game_said sources.tra ≡ Says game
-    → labels_said sources.lab (length game) ≡ Says labels → owners_said check.options.own sources.own (length game) ≡ Says owners → formula_read check.formula ≡ Says formula
-    → Says (reading_with game labels owners formula) ≡ Says reading → posed reading ≡ Says posing → Asks sources check posing
-asks_read sources check posing game labels owners formula reading of_tra of_lab of_own of_formula whole poses =
+asks_read : (sources : Sources) (asked : Asked) (posing : Posing) (game : List (List Distribution)) (labels : Labelling) (owners : Ownership) (formula : Tree) (reading : Reading) → game_said sources.tra ≡ Says game
+    → labels_said sources.lab (length game) ≡ Says labels → owners_said asked.own sources.own (length game) ≡ Says owners → formula_read asked.formula ≡ Says formula
+    → Says (reading_with game labels owners formula) ≡ Says reading → posed reading ≡ Says posing → Asks sources asked posing
+asks_read sources asked posing game labels owners formula reading of_tra of_lab of_own of_formula whole poses =
     let is : reading_with game labels owners formula ≡ reading = cc (whole) in
     let P : Reading → Type 0 = λ r. posed r ≡ Says posing in
     let said : posed (reading_with game labels owners formula) ≡ Says posing = subst P (sym is) poses in
@@ -91,42 +91,42 @@ asks_read sources check posing game labels owners formula reading of_tra of_lab 
       formula = formula;
       tra = text_is Tra OfTra game_of (λ bytes g. DenotesGame bytes g) sources.tra game (λ bytes. text_found number-found choice-found bytes game) of_tra;
       lab = text_is Lab OfLab (λ bytes. labels_of bytes (length game)) (λ bytes l. DenotesLabels bytes (length game) l) sources.lab labels (λ bytes. labels_of-found bytes (length game) labels) of_lab;
-      own = owners_are check.options.own sources.own (length game) owners of_own;
-      spelled = formula_is check.formula formula of_formula;
+      own = owners_are asked.own sources.own (length game) owners of_own;
+      spelled = formula_is asked.formula formula of_formula;
       poses = pose-found game labels owners formula posing (was_read OfQuestion (pose_said game labels owners formula) posing said);
     }
 
 -- the question that is said is asked
-pub said_asks : (sources : Sources) (check : Check) (posing : Posing) → question_said sources check ≡ Says posing → Asks sources check posing
-said_asks sources check posing is =
-    let whole = behind (reading_said sources check) (λ reading. posed reading) posing is in
-    let of_tra = behind (game_said sources.tra) (λ game. behind_game sources check game) whole.0 whole.1 in
-    let of_lab = behind (labels_said sources.lab (length of_tra.0)) (λ labels. behind_labels sources check of_tra.0 labels) whole.0 of_tra.2 in
-    let of_own = behind (owners_said check.options.own sources.own (length of_tra.0)) (λ owners. behind_owners check of_tra.0 of_lab.0 owners) whole.0 of_lab.2 in
-    let of_formula = behind (formula_read check.formula) (λ formula. Says (reading_with of_tra.0 of_lab.0 of_own.0 formula)) whole.0 of_own.2 in
-    asks_read sources check posing of_tra.0 of_lab.0 of_own.0 of_formula.0 whole.0 of_tra.1 of_lab.1 of_own.1 of_formula.1 of_formula.2 whole.2
+pub said_asks : (sources : Sources) (asked : Asked) (posing : Posing) → question_said sources asked ≡ Says posing → Asks sources asked posing
+said_asks sources asked posing is =
+    let whole = behind (reading_said sources asked) (λ reading. posed reading) posing is in
+    let of_tra = behind (game_said sources.tra) (λ game. behind_game sources asked game) whole.0 whole.1 in
+    let of_lab = behind (labels_said sources.lab (length of_tra.0)) (λ labels. behind_labels sources asked of_tra.0 labels) whole.0 of_tra.2 in
+    let of_own = behind (owners_said asked.own sources.own (length of_tra.0)) (λ owners. behind_owners asked of_tra.0 of_lab.0 owners) whole.0 of_lab.2 in
+    let of_formula = behind (formula_read asked.formula) (λ formula. Says (reading_with of_tra.0 of_lab.0 of_own.0 formula)) whole.0 of_own.2 in
+    asks_read sources asked posing of_tra.0 of_lab.0 of_own.0 of_formula.0 whole.0 of_tra.1 of_lab.1 of_own.1 of_formula.1 of_formula.2 whole.2
 
 -- and the question that is asked is said
-pub asks_said : (sources : Sources) (check : Check) (posing : Posing) → Asks sources check posing → question_said sources check ≡ Says posing
-asks_said sources check posing asks =
+pub asks_said : (sources : Sources) (asked : Asked) (posing : Posing) → Asks sources asked posing → question_said sources asked ≡ Says posing
+asks_said sources asked posing asks =
     let of_tra = is_text Tra OfTra game_of (λ bytes g. DenotesGame bytes g) sources.tra asks.game (λ bytes. text_again number-again choice-again bytes asks.game) asks.tra in
     let of_lab = is_text Lab OfLab (λ bytes. labels_of bytes (length asks.game)) (λ bytes l. DenotesLabels bytes (length asks.game) l) sources.lab asks.labels (λ bytes. labels_of-again bytes (length asks.game) asks.labels) asks.lab in
-    let of_own = are_owners check.options.own sources.own (length asks.game) asks.owners asks.own in
-    let of_formula = is_formula check.formula asks.formula asks.spelled in
-    let read : reading_said sources check ≡ Says (reading_with asks.game asks.labels asks.owners asks.formula) =
-    ap (λ s. and_then s (λ game. behind_game sources check game)) of_tra ∙ ap (λ s. and_then s (λ labels. behind_labels sources check asks.game labels)) of_lab
-    ∙ ap (λ s. and_then s (λ owners. behind_owners check asks.game asks.labels owners)) of_own ∙ ap (λ s. and_then s (λ formula. Says (reading_with asks.game asks.labels asks.owners formula))) of_formula
+    let of_own = are_owners asked.own sources.own (length asks.game) asks.owners asks.own in
+    let of_formula = is_formula asked.formula asks.formula asks.spelled in
+    let read : reading_said sources asked ≡ Says (reading_with asks.game asks.labels asks.owners asks.formula) =
+    ap (λ s. and_then s (λ game. behind_game sources asked game)) of_tra ∙ ap (λ s. and_then s (λ labels. behind_labels sources asked asks.game labels)) of_lab
+    ∙ ap (λ s. and_then s (λ owners. behind_owners asked asks.game asks.labels owners)) of_own ∙ ap (λ s. and_then s (λ formula. Says (reading_with asks.game asks.labels asks.owners formula))) of_formula
     in
     ap (λ s. and_then s (λ reading. posed reading)) read ∙ ap (read_said OfQuestion) (pose-again asks.game asks.labels asks.owners asks.formula posing asks.poses)
 
 -- the formula of what was read is the one that the words spell
-pub formula_spelled : (sources : Sources) (check : Check) (reading : Reading) → reading_said sources check ≡ Says reading → DenotesFormula check.formula reading.formula
-formula_spelled sources check reading is =
-    let of_tra = behind (game_said sources.tra) (λ game. behind_game sources check game) reading is in
-    let of_lab = behind (labels_said sources.lab (length of_tra.0)) (λ labels. behind_labels sources check of_tra.0 labels) reading of_tra.2 in
-    let of_own = behind (owners_said check.options.own sources.own (length of_tra.0)) (λ owners. behind_owners check of_tra.0 of_lab.0 owners) reading of_lab.2 in
-    let of_formula = behind (formula_read check.formula) (λ formula. Says (reading_with of_tra.0 of_lab.0 of_own.0 formula)) reading of_own.2 in
+pub formula_spelled : (sources : Sources) (asked : Asked) (reading : Reading) → reading_said sources asked ≡ Says reading → DenotesFormula asked.formula reading.formula
+formula_spelled sources asked reading is =
+    let of_tra = behind (game_said sources.tra) (λ game. behind_game sources asked game) reading is in
+    let of_lab = behind (labels_said sources.lab (length of_tra.0)) (λ labels. behind_labels sources asked of_tra.0 labels) reading of_tra.2 in
+    let of_own = behind (owners_said asked.own sources.own (length of_tra.0)) (λ owners. behind_owners asked of_tra.0 of_lab.0 owners) reading of_lab.2 in
+    let of_formula = behind (formula_read asked.formula) (λ formula. Says (reading_with of_tra.0 of_lab.0 of_own.0 formula)) reading of_own.2 in
     let whole = of_formula.2 in
     let alike : reading_with of_tra.0 of_lab.0 of_own.0 of_formula.0 ≡ reading = cc (whole) in
     let same : of_formula.0 ≡ reading.formula = ap (λ (r : Reading). r.formula) alike in
-    subst (λ (f : Tree). DenotesFormula check.formula f) same (formula_is check.formula of_formula.0 of_formula.1)
+    subst (λ (f : Tree). DenotesFormula asked.formula f) same (formula_is asked.formula of_formula.0 of_formula.1)

@@ -1,199 +1,274 @@
--- How a run ends, from how its loading ended.
-use Rattle.std.proofs.Common.{◌≡◌, ◌<◌, ◌⊎◌, inl, inr, ℕ, Bool, true, List, Option, Some, None, Result, Ok, Err, ◌∙◌, ap, subst, sym, refl}
+-- How the answer to a command ends, from how its loading ended.
+use Rattle.std.proofs.Common.{◌≡◌, ◌<◌, ◌≤◌, ◌⊎◌, inl, inr, ℕ, Bool, true, List, length, Option, Some, None, Result, Ok, Err, ◌∙◌, ap, subst, sym, refl, arith}
 use Rattle.std.specs.Prelude.{IsErrOf}
 use Rattle.text_lines.specs.Limits.{most_bytes}
 use Rattle.game_outside.specs.Outside.{Holding}
+use Rattle.game_model.specs.Query.{Query}
 use Rattle.formula_sets.specs.Posing.{Posing}
-use Rattle.formula_sets.specs.declared.fault.PoseFault.{PoseFault}
-use Rattle.formula_sets.specs.declared.fault.PoseFault.TheVariants as fault
+use Rattle.rpatl_syntax.specs.Formula.{Tree, tree_of}
+use Rattle.rpatl_syntax.specs.Rules.{Denotes}
+use Rattle.plan_text.specs.declared.plan.Plan.{Plan}
+use Rattle.certificate_audit.specs.declared.fault.AuditFault.{AuditFault}
+use Rattle.certificate_audit.specs.Accepted.{IsAccepted}
+use Rattle.certificate_audit.specs.Refused.{IsRefused}
+use Rattle.command_words.specs.Words.{Asked, Command, OfCheck, OfAudit, OfMake}
 use Rattle.stogame_app.specs.declared.load.End.{End}
 use Rattle.stogame_app.specs.declared.load.End.TheVariants.{Refused, ReadFault, OutOfMemory}
 use Rattle.stogame_app.specs.declared.model.Loaded.{Loaded}
+use Rattle.stogame_app.specs.declared.refusal.Text.TheVariants.{Tra, Lab, Own, Cert}
 use Rattle.stogame_app.specs.declared.refusal.Refusal.{Refusal}
-use Rattle.stogame_app.specs.declared.refusal.Refusal.TheVariants.{OfQuestion}
+use Rattle.stogame_app.specs.declared.refusal.Refusal.TheVariants.{OfTra, OfLab, OfOwn, OfFormula, OfQuestion, OfCertificate, TooLong}
 use Rattle.stogame_app.specs.declared.status.Status.{Status}
 use Rattle.stogame_app.specs.declared.status.Status.TheVariants as status
-use Rattle.rpatl_syntax.specs.Formula.{Tree, tree_of}
-use Rattle.rpatl_syntax.specs.Rules.{Denotes}
-use Rattle.stogame_app.specs.Status.{IsAnswer}
-use Rattle.stogame_app.specs.Words.{Check, Options}
-use Rattle.stogame_app.specs.Said.{Said, NotHeld, Refuses, Says, and_then, read_said}
+use Rattle.stogame_app.specs.Status.{IsAnswer, IsRefusal}
+use Rattle.stogame_app.specs.Said.{Said, NotHeld, Refuses, Says, and_then}
 use Rattle.stogame_app.specs.Sources.{Sources, sources_of, WhereTold, AreSources}
-use Rattle.stogame_app.specs.Loading.{Loads, LoadsCheck, IsTooLong, RefusesCaused}
+use Rattle.stogame_app.specs.Loading.{Loads, LoadsAsked, IsTooLong, RefusesCaused, Takes}
 use Rattle.stogame_app.specs.Posed.{reading_of, reading_said, question_said, posed}
-use Rattle.stogame_app.specs.Asks.{Asks}
-use Rattle.stogame_app.specs.Refusals.{refusal_text}
+use Rattle.stogame_app.specs.Asks.{IsText, Asks}
 use Rattle.stogame_app.specs.InFull.{RefusalInFull}
-use Rattle.stogame_app.specs.Run.{IsLong, IsReportOf, IsRefusalOf, PosesIt, RefusesIt, MissesIt}
+use Rattle.stogame_app.specs.Run.{IsLong, IsReportOfCheck, IsReportOfAudit, IsRefusalOf, PosesIt, RefusesQuestion, RefusesCertificate, RefusesBehind, RefusesIt, ReadsFiles, IsMissing, IsAcceptedOf}
 use Rattle.stogame_app.proofs.Asking.{said_asks, asks_said, formula_spelled}
 
+-- 1. The question of what was loaded.
+
 -- what loading the texts of a command answers
-abbrev pub LoadsReading : Option Holding → Bool → Check → Result Loaded End → Type 0
-LoadsReading holding steady check result = LoadsCheck holding steady check reading_of result (λ sources. reading_said sources check)
+abbrev pub LoadsReading : Option Holding → Bool → Asked → Result Loaded End → Type 0
+LoadsReading holding steady asked result = LoadsAsked holding steady asked reading_of result (λ sources. reading_said sources asked)
 
--- what was loaded is read
-was_loaded : (holding : Option Holding) (steady : Bool) (check : Check) (result : Result Loaded End) (loaded : Loaded) → result ≡ Ok loaded → (loads : LoadsReading holding steady check result)
-    → reading_said loads.sources check ≡ Says (reading_of loaded)
-was_loaded holding steady check result loaded is loads =
-    let P : Result Loaded End → Type 0 = λ r. Loads reading_of r (reading_said loads.sources check) in
-    subst P is loads.loads
+module _ (holding : Option Holding) (steady : Bool) (asked : Asked) (result : Result Loaded End) (loads : LoadsReading holding steady asked result) where
+  module _ (loaded : Loaded) (is : result ≡ Ok loaded) where
+    was_loaded : reading_said loads.sources asked ≡ Says (reading_of loaded)
+    was_loaded =
+        let P : Result Loaded End → Type 0 = λ r. Loads reading_of r (reading_said loads.sources asked) in
+        subst P is loads.loads
 
--- what is said of the question where a reading was loaded
-behind_reading : (holding : Option Holding) (steady : Bool) (check : Check) (result : Result Loaded End) (loaded : Loaded) (said : Said Posing) → result ≡ Ok loaded → (loads : LoadsReading holding steady check result)
-    → posed (reading_of loaded) ≡ said → question_said loads.sources check ≡ said
-behind_reading holding steady check result loaded said is loads of_reading =
-    ap (λ s. and_then s (λ reading. posed reading)) (was_loaded holding steady check result loaded is loads) ∙ of_reading
+    told : AreSources holding asked loads.sources
+    told = loads.told (λ fault. cc (is, fault))
 
--- the report of the question of what was loaded
-abbrev pub IsReportOfLoaded : Loaded → Options → List ℕ → Status → Type 0
-IsReportOfLoaded loaded options text status =
-    IsReportOf (λ posing. posed (reading_of loaded) ≡ Says posing) (λ formula. formula ≡ tree_of loaded.formula) options text status
+    -- what is said of the question
+    behind_reading : (said : Said Posing) → posed (reading_of loaded) ≡ said → question_said loads.sources asked ≡ said
+    behind_reading said of_reading = ap (λ s. and_then s (λ reading. posed reading)) was_loaded ∙ of_reading
 
--- the report of a reading that was loaded
-pub report_loaded : (holding : Option Holding) (steady : Bool) (check : Check) (result : Result Loaded End) (loaded : Loaded) (text : List ℕ) (ends : Status) → result ≡ Ok loaded → LoadsReading holding steady check result
-    → IsReportOfLoaded loaded check.options text ends → IsReportOf (PosesIt holding check) (Denotes check.formula) check.options text ends
-report_loaded holding steady check result loaded text ends is loads report =
-    let P : Tree → Type 0 = λ formula. Denotes check.formula formula in
-    record {
-      posing = report.posing;
-      posed = record {
-        sources = loads.sources;
-        told = loads.told (λ fault. cc (is, fault));
-        asks = said_asks loads.sources check report.posing (behind_reading holding steady check result loaded (Says report.posing) is loads report.posed);
-      };
-      formula = report.formula;
-      spelled = subst P (sym report.spelled) (formula_spelled loads.sources check (reading_of loaded) (was_loaded holding steady check result loaded is loads));
-      report = report.report;
+    pub question_posed : (posing : Posing) → posed (reading_of loaded) ≡ Says posing → PosesIt holding asked posing
+    question_posed posing of_reading = record { sources = loads.sources; told = told; asks = said_asks loads.sources asked posing (behind_reading (Says posing) of_reading) }
+
+    pub question_refused : (refusal : Refusal) → posed (reading_of loaded) ≡ Refuses refusal → RefusesQuestion holding asked refusal
+    question_refused refusal of_reading = record { sources = loads.sources; told = told; refuses = behind_reading (Refuses refusal) of_reading }
+
+    spelled : (formula : Tree) → formula ≡ tree_of loaded.formula → Denotes asked.formula formula
+    spelled formula same = subst (λ (f : Tree). Denotes asked.formula f) (sym same) (formula_spelled loads.sources asked (reading_of loaded) was_loaded)
+
+    -- the report of `check`
+    pub check_reported : (rounds : ℕ) (plan : Bool) (text : List ℕ) (ends : Status)
+        → IsReportOfCheck (λ posing. posed (reading_of loaded) ≡ Says posing) (λ formula. formula ≡ tree_of loaded.formula) rounds plan text ends
+        → IsReportOfCheck (PosesIt holding asked) (Denotes asked.formula) rounds plan text ends
+    check_reported rounds plan text ends r = record {
+      posing = r.posing;
+      posed = question_posed r.posing r.posed;
+      formula = r.formula;
+      spelled = spelled r.formula r.spelled;
+      report = r.report;
     }
 
--- the refusal of a reading that was loaded
-pub refusal_posed : (holding : Option Holding) (steady : Bool) (check : Check) (result : Result Loaded End) (loaded : Loaded) (taken : ℕ) (text : List ℕ) → result ≡ Ok loaded → LoadsReading holding steady check result
-    → (most_bytes < taken → IsTooLong result ⊎ IsErrOf result OutOfMemory)
-    → ((t : ℕ) → (most_bytes < t → ⊥) → IsRefusalOf (λ refusal. posed (reading_of loaded) ≡ Refuses refusal) t text)
-    → IsRefusalOf (RefusesIt holding check) taken text
-refusal_posed holding steady check result loaded taken text is loads only_long refusal =
-    let short : most_bytes < taken → ⊥ = λ above. not_ended (subst P is (only_long above)) in
-    let r = refusal taken short in
-    record {
-      refusal = r.refusal;
-      said = record {
+    -- the report of `audit`
+    pub audit_reported : (name text : List ℕ) (ends : Status)
+        → IsReportOfAudit (λ posing. posed (reading_of loaded) ≡ Says posing) (λ formula. formula ≡ tree_of loaded.formula) holding name text ends
+        → IsReportOfAudit (PosesIt holding asked) (Denotes asked.formula) holding name text ends
+    audit_reported name text ends r = record {
+      posing = r.posing;
+      posed = question_posed r.posing r.posed;
+      formula = r.formula;
+      spelled = spelled r.formula r.spelled;
+      certificate = r.certificate;
+    }
+
+    -- the refusal of a certificate
+    pub behind_refused : (name : List ℕ) (refusal : Refusal) → RefusesBehind (λ posing. posed (reading_of loaded) ≡ Says posing) holding name refusal → RefusesBehind (PosesIt holding asked) holding name refusal
+    behind_refused name refusal r = record { posing = r.posing; posed = question_posed r.posing r.posed; certificate = r.certificate }
+
+  -- what is said of the question where loading was refused
+  pub loading_refused : (refusal : Refusal) → result ≡ Err (Refused refusal) → RefusesQuestion holding asked refusal
+  loading_refused refusal is =
+      let P : Result Loaded End → Type 0 = λ r. Loads reading_of r (reading_said loads.sources asked) in
+      let read : reading_said loads.sources asked ≡ Refuses refusal = subst P is loads.loads in
+      record {
         sources = loads.sources;
         told = loads.told (λ fault. cc (is, fault));
-        refuses = behind_reading holding steady check result loaded (Refuses r.refusal) is loads r.said;
-      };
-      caused = r.caused;
-      in_full = r.in_full;
-      line = r.line;
-      long = r.long;
-      only_long = r.only_long;
-    }
-  where
-    P : Result Loaded End → Type 0
-    P r = IsTooLong r ⊎ IsErrOf r OutOfMemory
+        refuses = ap (λ s. and_then s (λ reading. posed reading)) read;
+      }
 
-    not_ended : IsTooLong {X = Loaded} (Ok loaded) ⊎ IsErrOf {T = Loaded} (Ok loaded) OutOfMemory → ⊥
-    not_ended (inl long) = cc (long.1)
-    not_ended (inr memory) = cc (memory)
+  -- what is said of it where a text could not be read
+  unread : result ≡ Err ReadFault → question_said loads.sources asked ≡ NotHeld
+  unread is =
+      let P : Result Loaded End → Type 0 = λ r. Loads reading_of r (reading_said loads.sources asked) in
+      let missing : reading_said loads.sources asked ≡ NotHeld = subst P is loads.loads in
+      ap (λ s. and_then s (λ reading. posed reading)) missing
 
--- the refusal of a formula that poses no question
-pub refusal_of_question : (said : Result Posing PoseFault) (why : PoseFault) (taken : ℕ) → (why ≡ fault.OutOfMemory) ⊎ (said ≡ Err why) → (why ≡ fault.OutOfMemory → ⊥)
-    → (most_bytes < taken → ⊥) → IsRefusalOf (λ refusal. read_said OfQuestion said ≡ Refuses refusal) taken (refusal_text (OfQuestion why))
-refusal_of_question said why taken (inl memory) other short = absurd (other memory)
-refusal_of_question said why taken (inr is) other short = record {
-  refusal = OfQuestion why;
-  said = ap (read_said OfQuestion) is;
-  caused = other;
-  in_full = tt;
-  line = refl;
-  long = λ long. cc (long.1);
-  only_long = λ above. absurd (short above);
+  -- on a steady shelf the question that is posed is asked by the texts that are held
+  pub steadily_asked : (loaded : Loaded) → result ≡ Ok loaded → (posing : Posing) → posed (reading_of loaded) ≡ Says posing → WhereTold holding (λ held. Asks (sources_of held asked) asked posing)
+  steadily_asked loaded is posing of_reading = of_holding holding (question_posed loaded is posing of_reading)
+    where
+      of_holding : (h : Option Holding) → PosesIt h asked posing → WhereTold h (λ held. Asks (sources_of held asked) asked posing)
+      of_holding None poses = tt
+      of_holding (Some held) poses = subst (λ (s : Sources). Asks s asked posing) poses.told poses.asks
+
+  -- on a steady shelf it is not held
+  pub loading_steadily : result ≡ Err ReadFault → steady ≡ true → WhereTold holding (λ held. question_said (sources_of held asked) asked ≡ NotHeld)
+  loading_steadily is calm = of_holding holding loads.sources (loads.steadily calm) (unread is)
+    where
+      of_holding : (h : Option Holding) (sources : Sources) → AreSources h asked sources → question_said sources asked ≡ NotHeld → WhereTold h (λ held. question_said (sources_of held asked) asked ≡ NotHeld)
+      of_holding None sources are missing = tt
+      of_holding (Some held) sources are missing = ap (λ s. question_said s asked) (sym are) ∙ missing
+
+-- what is true of what is held, where that is told
+pub where_told : (holding : Option Holding) (P Q : Holding → Type 0) → ((held : Holding) → P held → Q held) → WhereTold holding P → WhereTold holding Q
+where_told None P Q weaker is = tt
+where_told (Some held) P Q weaker is = weaker held is
+
+-- two things of what is held
+pub both_told : (holding : Option Holding) (P Q R : Holding → Type 0) → ((held : Holding) → P held → Q held → R held) → WhereTold holding P → WhereTold holding Q → WhereTold holding R
+both_told None P Q R weaker is so = tt
+both_told (Some held) P Q R weaker is so = weaker held is so
+
+-- the end with which another result ended
+pub same_end : {X Y : Type 0} (first : Result X End) (result : Result Y End) (end other : End) → first ≡ Err end → result ≡ Err end → result ≡ Err other → first ≡ Err other
+same_end first result end other is ended so = let same : end ≡ other = cc (ended, so) in is ∙ ap (λ (e : End). Err e) same
+
+-- how much is taken is the same where another result ends so
+pub takes_end : {X Y : Type 0} (first : Result X End) (result : Result Y End) (end : End) (taken : ℕ) → first ≡ Err end → result ≡ Err end → Takes first taken → Takes result taken
+takes_end {X} {Y} first result end taken is ended takes = record {
+  most = takes.most;
+  too_long = λ long. takes.too_long (long.0, same_end first result end (Refused (TooLong long.0)) is ended long.1);
+  only_too_long = λ above. elim (takes.only_too_long above) [
+    | inl long ↦ inl (long.0, same_end result first end (Refused (TooLong long.0)) ended is long.1)
+    | inr memory ↦ inr (same_end result first end OutOfMemory ended is memory)
+  ];
 }
 
--- what is said of the question where loading was refused
-refused_reading : (holding : Option Holding) (steady : Bool) (check : Check) (result : Result Loaded End) (refusal : Refusal) → result ≡ Err (Refused refusal) → LoadsReading holding steady check result → RefusesIt holding check refusal
-refused_reading holding steady check result refusal is loads =
-    let P : Result Loaded End → Type 0 = λ r. Loads reading_of r (reading_said loads.sources check) in
-    let read : reading_said loads.sources check ≡ Refuses refusal = subst P is loads.loads in
-    record {
-      sources = loads.sources;
-      told = loads.told (λ fault. cc (is, fault));
-      refuses = ap (λ s. and_then s (λ reading. posed reading)) read;
-    }
+-- what is answered over texts that are no longer than the limit
+pub takes_short : {X : Type 0} (result : Result X End) (taken : ℕ) → taken ≤ most_bytes → (IsTooLong result → ⊥) → Takes result taken
+takes_short result taken small short = record { most = omega (arith, small); too_long = λ long. absurd (short long); only_too_long = λ above. absurd (omega (arith, small, above)) }
 
--- the refusal with which loading ended
-pub refusal_loaded : (holding : Option Holding) (steady : Bool) (check : Check) (result : Result Loaded End) (end : End) (refusal : Refusal) (taken : ℕ) → result ≡ Err end → end ≡ Refused refusal
-    → LoadsReading holding steady check result
-    → RefusesCaused result
-    → RefusalInFull refusal
-    → (IsTooLong result → most_bytes < taken)
-    → (most_bytes < taken → IsTooLong result ⊎ IsErrOf result OutOfMemory)
-    → IsRefusalOf (RefusesIt holding check) taken (refusal_text refusal)
-refusal_loaded holding steady check result end refusal taken is ended loads caused in_full long only_long =
-    let same : result ≡ Err (Refused refusal) = is ∙ ap (λ (e : End). Err e) ended in
-    record {
-      refusal = refusal;
-      said = refused_reading holding steady check result refusal same loads;
-      caused = subst (λ (r : Result Loaded End). RefusesCaused r) same caused;
-      in_full = in_full;
-      line = refl;
-      long = λ of. long (of.0, same ∙ ap (λ (r : Refusal). Err (Refused r)) of.1);
-      only_long = λ above. which (subst P same (only_long above));
-    }
+-- 2. A refusal.
+
+-- how a refusal comes about
+pub made_refusal : {X : Type 0} (IsSaid : Refusal → Type 0) (result : Result X End) (refusal : Refusal) (taken : ℕ) → result ≡ Err (Refused refusal) → IsSaid refusal → RefusesCaused result → Takes result taken → RefusalInFull refusal → IsRefusalOf IsSaid taken refusal
+made_refusal {X} IsSaid result refusal taken is said caused takes in_full = record {
+  said = said;
+  caused = subst (λ (r : Result X End). RefusesCaused r) is caused;
+  in_full = in_full;
+  long = λ of. takes.too_long (of.0, is ∙ ap (λ (r : Refusal). Err (Refused r)) of.1);
+  only_long = λ above. which (subst P is (takes.only_too_long above));
+}
   where
-    P : Result Loaded End → Type 0
+    P : Result X End → Type 0
     P r = IsTooLong r ⊎ IsErrOf r OutOfMemory
 
-    which : IsTooLong {X = Loaded} (Err (Refused refusal)) ⊎ IsErrOf {T = Loaded} (Err (Refused refusal)) OutOfMemory → IsLong refusal
+    which : IsTooLong {X = X} (Err (Refused refusal)) ⊎ IsErrOf {T = X} (Err (Refused refusal)) OutOfMemory → IsLong refusal
     which (inl of) = (of.0, cc (of.1))
     which (inr memory) = cc (memory)
 
--- what is said of the question where a text could not be read
-unread : (holding : Option Holding) (steady : Bool) (check : Check) (result : Result Loaded End) (end : End) → result ≡ Err end → end ≡ ReadFault → (loads : LoadsReading holding steady check result) → question_said loads.sources check ≡ NotHeld
-unread holding steady check result end is ended loads =
-    let P : Result Loaded End → Type 0 = λ r. Loads reading_of r (reading_said loads.sources check) in
-    let missing : reading_said loads.sources check ≡ NotHeld = subst P (is ∙ ap (λ (e : End). Err e) ended) loads.loads in
-    ap (λ s. and_then s (λ reading. posed reading)) missing
+-- a command that is refused reads files
+pub refused_reads : (holding : Option Holding) (command : Command) (refusal : Refusal) → RefusesIt holding command refusal → ReadsFiles command
+refused_reads holding (OfCheck check) refusal refused = tt
+refused_reads holding (OfAudit audit) refusal refused = tt
+refused_reads holding (OfMake make) refusal refused = absurd refused
 
-pub misses_loaded : (holding : Option Holding) (steady : Bool) (check : Check) (result : Result Loaded End) (end : End) → result ≡ Err end → end ≡ ReadFault → LoadsReading holding steady check result → MissesIt holding check
-misses_loaded holding steady check result end is ended loads = record { sources = loads.sources; told = loads.told_or_unread; misses = unread holding steady check result end is ended loads }
-
--- on a steady shelf it is not held
-pub steadily_loaded : (holding : Option Holding) (steady : Bool) (check : Check) (result : Result Loaded End) (end : End) → result ≡ Err end → end ≡ ReadFault → LoadsReading holding steady check result → steady ≡ true
-    → WhereTold holding (λ held. question_said (sources_of held check) check ≡ NotHeld)
-steadily_loaded holding steady check result end is ended loads calm = of_holding holding loads.sources (loads.steadily calm) (unread holding steady check result end is ended loads)
-  where
-    of_holding : (h : Option Holding) (sources : Sources) → AreSources h check sources → question_said sources check ≡ NotHeld → WhereTold h (λ held. question_said (sources_of held check) check ≡ NotHeld)
-    of_holding None sources are missing = tt
-    of_holding (Some held) sources are missing = ap (λ s. question_said s check) (sym are) ∙ missing
+-- 3. What is accepted is answered.
 
 -- a question that is asked is not refused
-pub asked_not_refused : (holding : Option Holding) (held : Holding) (check : Check) (posing : Posing) (refusal : Refusal) → holding ≡ Some held → Asks (sources_of held check) check posing → RefusesIt holding check refusal → ⊥
-asked_not_refused None held check posing refusal told asks refused = cc (told)
-asked_not_refused (Some other) held check posing refusal told asks refused =
+asked_not_refused : (holding : Option Holding) (held : Holding) (asked : Asked) (posing : Posing) (refusal : Refusal) → holding ≡ Some held → Asks (sources_of held asked) asked posing → RefusesQuestion holding asked refusal → ⊥
+asked_not_refused None held asked posing refusal told asks refused = cc (told)
+asked_not_refused (Some other) held asked posing refusal told asks refused =
     let same : other ≡ held = cc (told) in
-    let said = asks_said (sources_of held check) check posing asks in
-    let alike : question_said refused.sources check ≡ question_said (sources_of held check) check = ap (λ s. question_said s check) (refused.told ∙ ap (λ h. sources_of h check) same) in
+    let said = asks_said (sources_of held asked) asked posing asks in
+    let alike : question_said refused.sources asked ≡ question_said (sources_of held asked) asked = ap (λ s. question_said s asked) (refused.told ∙ ap (λ h. sources_of h asked) same) in
     let refuses = refused.refuses in
     cc (alike, said, refuses)
 
+-- it is the only one
+asked_once : (held : Holding) (asked : Asked) (posing other : Posing) → Asks (sources_of held asked) asked posing → PosesIt (Some held) asked other → other ≡ posing
+asked_once held asked posing other asks poses =
+    let first = asks_said (sources_of held asked) asked posing asks in
+    let second = asks_said poses.sources asked other poses.asks in
+    let alike : question_said poses.sources asked ≡ question_said (sources_of held asked) asked = ap (λ s. question_said s asked) poses.told in
+    let said : Says other ≡ Says posing = sym second ∙ alike ∙ first in
+    cc (said)
+
 -- for a question that is asked every text is held
-pub asked_is_held : (holding : Option Holding) (held : Holding) (check : Check) (posing : Posing) → holding ≡ Some held → Asks (sources_of held check) check posing
-    → WhereTold holding (λ h. question_said (sources_of h check) check ≡ NotHeld) → ⊥
-asked_is_held None held check posing told asks missing = cc (told)
-asked_is_held (Some other) held check posing told asks missing =
-    let same : other ≡ held = cc (told) in
-    let said = asks_said (sources_of held check) check posing asks in
-    let alike : question_said (sources_of other check) check ≡ question_said (sources_of held check) check = ap (λ h. question_said (sources_of h check) check) same in
-    cc (alike, said, missing)
+asked_is_held : (held : Holding) (asked : Asked) (posing : Posing) → Asks (sources_of held asked) asked posing → question_said (sources_of held asked) asked ≡ NotHeld → ⊥
+asked_is_held held asked posing asks missing =
+    let said = asks_said (sources_of held asked) asked posing asks in
+    cc (said, missing)
+
+-- the text of a source is one
+one_text : (source : Option (List ℕ)) (text other : List ℕ) → source ≡ Some text → source ≡ Some other → text ≡ other
+one_text source text other is so = let said : Some text ≡ Some other = sym is ∙ so in cc (said)
+
+-- no text is both accepted and refused
+abbrev pub AreApart : Type 0
+AreApart = (q : Query) (text : List ℕ) (plan : Plan) (fault : AuditFault) → IsAccepted q text plan → IsRefused q text fault → ⊥
+
+accepted_not_refused : AreApart → (q : Query) (source : Option (List ℕ)) (plan : Plan) (refusal : Refusal) → IsText source (λ text. IsAccepted q text plan) → RefusesCertificate q source refusal → ⊥
+accepted_not_refused apart q source plan (OfCertificate fault) accepted refused =
+    let same = one_text source refused.text accepted.text refused.given accepted.given in
+    apart q accepted.text plan fault accepted.is_so (subst (λ (t : List ℕ). IsRefused q t fault) same refused.is_so)
+accepted_not_refused apart q source plan (TooLong Cert) accepted refused =
+    let same = one_text source refused.0 accepted.text refused.1 accepted.given in
+    let short : length accepted.text ≤ most_bytes = accepted.short in
+    let long : most_bytes < length accepted.text = subst (λ (t : List ℕ). most_bytes < length t) same refused.2 in
+    omega (arith, short, long)
+accepted_not_refused apart q source plan (TooLong Tra) accepted refused = refused
+accepted_not_refused apart q source plan (TooLong Lab) accepted refused = refused
+accepted_not_refused apart q source plan (TooLong Own) accepted refused = refused
+accepted_not_refused apart q source plan (OfTra fault) accepted refused = refused
+accepted_not_refused apart q source plan (OfLab fault) accepted refused = refused
+accepted_not_refused apart q source plan (OfOwn fault) accepted refused = refused
+accepted_not_refused apart q source plan (OfFormula fault) accepted refused = refused
+accepted_not_refused apart q source plan (OfQuestion fault) accepted refused = refused
+
+pub command_not_refused : AreApart → (holding : Option Holding) (held : Holding) (command : Command) (refusal : Refusal) → holding ≡ Some held → IsAcceptedOf held command → RefusesIt holding command refusal → ⊥
+command_not_refused apart holding held (OfMake make) refusal _ accepted refused = absurd refused
+command_not_refused apart holding held (OfCheck check) refusal told accepted refused = asked_not_refused holding held check.asked accepted.0 refusal told accepted.1 refused
+command_not_refused apart holding held (OfAudit audit) refusal told accepted refused = elim refused [
+  | inl question ↦ asked_not_refused holding held audit.asked accepted.0 refusal told accepted.2 question
+  | inr behind ↦ by_behind (subst (λ (h : Option Holding). RefusesBehind (PosesIt h audit.asked) h audit.certificate refusal) told behind)
+]
+  where
+    by_behind : RefusesBehind (PosesIt (Some held) audit.asked) (Some held) audit.certificate refusal → ⊥
+    by_behind behind =
+        let same = asked_once held audit.asked accepted.0 behind.posing accepted.2 behind.posed in
+        let c = behind.certificate in
+        let P : Posing → Type 0 = λ posing. RefusesCertificate posing.question c.source refusal in
+        let Q : Option (List ℕ) → Type 0 = λ source. RefusesCertificate accepted.0.question source refusal in
+        let so : RefusesCertificate accepted.0.question (held audit.certificate) refusal = subst Q c.told (subst P same c.is_so) in
+        accepted_not_refused apart accepted.0.question (held audit.certificate) accepted.1 refusal accepted.3 so
+
+pub command_is_held : (holding : Option Holding) (held : Holding) (command : Command) → holding ≡ Some held → IsAcceptedOf held command → WhereTold holding (λ h. IsMissing h command) → ⊥
+command_is_held None held command told accepted missing = cc (told)
+command_is_held (Some other) held command told accepted missing = of_held command accepted (subst (λ (h : Holding). IsMissing h command) same missing)
+  where
+    same : other ≡ held
+    same = cc (told)
+
+    of_held : (k : Command) → IsAcceptedOf held k → IsMissing held k → ⊥
+    of_held (OfMake make) accepted missing = absurd missing
+    of_held (OfCheck check) accepted missing = asked_is_held held check.asked accepted.0 accepted.1 missing
+    of_held (OfAudit audit) accepted missing = elim missing [
+      | inl question ↦ asked_is_held held audit.asked accepted.0 accepted.2 question
+      | inr behind ↦ let given = accepted.3.given in let certificate = behind.1 in cc (given, certificate)
+    ]
 
 -- what is left where four ends are ruled out
-pub answered_or_memory : (s : Status) → (s ≡ status.Usage → ⊥) → (s ≡ status.ModelRefused → ⊥) → (s ≡ status.ReadFault → ⊥) → (s ≡ status.WriteFault → ⊥)
+pub answered_or_memory : (s : Status) → (s ≡ status.Usage → ⊥) → (IsRefusal s → ⊥) → (s ≡ status.ReadFault → ⊥) → (s ≡ status.WriteFault → ⊥)
     → IsAnswer s ⊎ (s ≡ status.OutOfMemory)
 answered_or_memory status.Fine usage refused read write = inl tt
 answered_or_memory status.SomeFalse usage refused read write = inl tt
 answered_or_memory status.SomeUndecided usage refused read write = inl tt
 answered_or_memory status.Usage usage refused read write = absurd (usage refl)
-answered_or_memory status.ModelRefused usage refused read write = absurd (refused refl)
+answered_or_memory status.ModelRefused usage refused read write = absurd (refused (inl refl))
 answered_or_memory status.ReadFault usage refused read write = absurd (read refl)
 answered_or_memory status.WriteFault usage refused read write = absurd (write refl)
 answered_or_memory status.OutOfMemory usage refused read write = inr refl
+answered_or_memory status.CertificateRefused usage refused read write = absurd (refused (inr refl))

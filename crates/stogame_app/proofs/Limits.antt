@@ -1,18 +1,17 @@
 -- What a bracket gives is within the limits of a report and of a certificate.
-use Rattle.std.proofs.Common.{◌≡◌, ◌≤◌, ◌<◌, ◌+◌, ◌^◌, inl, inr, ℕ, Bool, true, false, List, length, All, map, get_or, arith, refl, sym, ap, ◌∙◌, subst}
+use Rattle.std.proofs.Common.{◌≡◌, ◌≤◌, ◌<◌, ◌+◌, ◌^◌, inl, inr, ℕ, Bool, true, false, List, length, All, arith, refl, sym, subst}
 use Rattle.std.specs.Prelude.{slice_index, slice_index_or, Option, Some, None, IsSomeAnd}
 use Rattle.std.specs.List.{range_with_len}
 use Rattle.std.proofs.lemmas.Bool.{cases_lt}
-use Rattle.std.proofs.lemmas.List.{get_or_default}
 use Rattle.std.proofs.lemmas.List.Elements.{All-map, All-weaker}
 use Rattle.std.proofs.lemmas.List.FromFn.{length-range_with_len, length-map-range_with_len, get_or-range_with_len}
 use Rattle.game_model.specs.declared.game.Side.{Side}
 use Rattle.game_model.specs.declared.game.Side.TheVariants.{Max, Min}
 use Rattle.game_model.specs.Game.{choices_of}
 use Rattle.game_model.specs.Query.{Query, IsQuery, states, is_goal, is_dead, side_at}
-use Rattle.game_model.specs.Limits.{unit, most_states}
+use Rattle.game_model.specs.Limits.{unit}
 use Rattle.game_model.specs.Ranks.{Ranked, HasRankedChoice}
-use Rattle.inductive_check.specs.Replies.{NeedsReply, IsFirstReply, AreFirstReplies}
+use Rattle.inductive_check.specs.Replies.{IsFirstReply}
 use Rattle.inductive_check.specs.Held.{IsFirstHeld}
 use Rattle.rpatl_syntax.specs.Formula.{Tree}
 use Rattle.rpatl_syntax.specs.declared.formula.Bound.{Bound}
@@ -23,7 +22,7 @@ use Rattle.bracket_engine.specs.Bracket.{IsBracket}
 use Rattle.bracket_engine.specs.Choices.{AreChoices, AreRanks}
 use Rattle.bracket_engine.specs.Replies.{AreRepliesTo}
 use Rattle.stogame_app.specs.Outputs.{AreEntriesInLimits, IsInLimits}
-use Rattle.stogame_app.specs.Reports.{line_at, plan_of, certificate_of, output_of}
+use Rattle.stogame_app.specs.Reports.{line_in, plan_of, certificate_of, output_of}
 
 -- 1. Choices.
 
@@ -69,7 +68,7 @@ module _ (q : Query) (posed : IsQuery q) (s : ℕ) (inside : s < states q) where
 
 -- 2. Entries and lines.
 
-at-most : (P : ℕ → Type 0) (xs : List ℕ) (s : ℕ) → All P xs → s < length xs → P (slice_index xs s)
+pub at-most : (P : ℕ → Type 0) (xs : List ℕ) (s : ℕ) → All P xs → s < length xs → P (slice_index xs s)
 at-most P xs s all inside = all s 0 inside
 
 module _ (q : Query) (zero : List Bool) (bound : Bound) (initial : List ℕ) (asked : ℕ) (found : Bracket) (posed : IsQuery q) (few : asked ≤ 1000000)
@@ -85,7 +84,7 @@ module _ (q : Query) (zero : List Bool) (bound : Bound) (initial : List ℕ) (as
     reply = reply-small q posed s within (slice_index found.upper.items) _ (replies.first.each s within);
   }
 
-  line-in_range : (s : ℕ) → s < states q → IsLine (line_at bound found s)
+  line-in_range : (s : ℕ) → s < states q → IsLine (line_in bound found s)
   line-in_range s within = record {
     state = omega (arith, within, posed.game.few);
     rounds = omega (arith, bounds.few, few);
@@ -104,6 +103,6 @@ module _ (q : Query) (zero : List Bool) (bound : Bound) (initial : List ℕ) (as
 
   pub found-in_limits : (plan : Bool) (formula : Tree) → formula.bound ≡ bound → IsInLimits (output_of plan formula initial found)
   found-in_limits plan formula same = record {
-    lines = All-map IsLine (line_at formula.bound found) initial (subst (λ b. All (λ s. IsLine (line_at b found s)) initial) (sym same) (All-weaker (λ s. s < states q) (λ s. IsLine (line_at bound found s)) line-in_range initial inside));
+    lines = All-map IsLine (line_in formula.bound found) initial (subst (λ b. All (λ s. IsLine (line_in b found s)) initial) (sym same) (All-weaker (λ s. s < states q) (λ s. IsLine (line_in bound found s)) line-in_range initial inside));
     entries = entries-in_limits plan formula;
   }

@@ -14,8 +14,14 @@ use Rattle.rpatl_syntax.specs.declared.fault.FormulaCause.{FormulaCause}
 use Rattle.rpatl_syntax.specs.declared.fault.FormulaCause.TheVariants as formula
 use Rattle.formula_sets.specs.declared.fault.PoseFault.{PoseFault}
 use Rattle.formula_sets.specs.declared.fault.PoseFault.TheVariants as question
-use Rattle.stogame_app.specs.Refusals.{number_text, choice_text, tra_text, lab_text, formula_text, question_text}
-use Rattle.stogame_app.specs.InFull.{AreInFull, ChoiceInFull, TraInFull, LabInFull}
+use Rattle.plan_text.specs.declared.fault.PlanCause.{PlanCause}
+use Rattle.plan_text.specs.declared.fault.PlanCause.TheVariants as plan
+use Rattle.inductive_check.specs.declared.upper.UpperCause.{UpperCause}
+use Rattle.inductive_check.specs.declared.upper.UpperCause.TheVariants as upper
+use Rattle.rank_certificate.specs.declared.check.RankCause.{RankCause}
+use Rattle.rank_certificate.specs.declared.check.RankCause.TheVariants as ranks
+use Rattle.stogame_app.specs.Refusals.{number_text, choice_text, tra_text, lab_text, formula_text, question_text, plan_cause_text, upper_text, ranks_text}
+use Rattle.stogame_app.specs.InFull.{IsInFull, AreInFull, ChoiceInFull, TraInFull, LabInFull, UpperInFull, RanksInFull}
 use Rattle.stogame_app.proofs.Labelled.{at, numbered-one, pair-one, place-onto}
 
 number_fault-one : (a b : NumberFault) → number_text a ≡ number_text b → a ≡ b
@@ -113,3 +119,77 @@ tra-not_long cause e = omega (arith, at e 0, at e 3)
 pub lab-not_long : (cause : LabCause) → lab_text cause ≡ codes "TooLong" → ⊥
 lab-not_long lab.OutOfMemory e = omega (arith, at e 0)
 lab-not_long cause e = omega (arith, at e 0, at e 3)
+
+-- The causes of a certificate.
+
+pub plan_cause-one : (a b : PlanCause) → plan_cause_text a ≡ plan_cause_text b → a ≡ b
+plan_cause-one plan.OutOfMemory plan.OutOfMemory e = refl
+plan_cause-one plan.NoCertificate plan.NoCertificate e = refl
+plan_cause-one plan.Version plan.Version e = refl
+plan_cause-one plan.StateCount plan.StateCount e = refl
+plan_cause-one plan.BadLine plan.BadLine e = refl
+plan_cause-one plan.NumberOutOfRange plan.NumberOutOfRange e = refl
+plan_cause-one plan.MissingLine plan.MissingLine e = refl
+plan_cause-one a b e = absurd (omega (arith, at e 0, at e 1))
+
+pub upper-one : (m n : ℕ) (a b : UpperCause) → IsInFull m → IsInFull n → UpperInFull a → UpperInFull b → upper_text m a ≡ upper_text n b → (m ≡ n) × (a ≡ b)
+upper-one m n upper.OverOne upper.OverOne hm hn ha hb e = (numbered-one (codes "OverOne state ") m n hm hn e, refl)
+upper-one m n upper.Goal upper.Goal hm hn ha hb e = (numbered-one (codes "Goal state ") m n hm hn e, refl)
+upper-one m n (upper.Above k) (upper.Above j) hm hn ha hb e =
+    let same = pair-one (codes " state ") (codes "choice ") m k n j (hm, ha) (hn, hb) (append_cancel_left (codes "Above") _ _ e) in
+    (same.0, let alike : k ≡ j = same.1 in cc (alike))
+upper-one m n upper.NoReply upper.NoReply hm hn ha hb e = (numbered-one (codes "NoReply state ") m n hm hn e, refl)
+upper-one m n upper.Reply upper.Reply hm hn ha hb e = (numbered-one (codes "Reply state ") m n hm hn e, refl)
+upper-one m n a b hm hn ha hb e = absurd (omega (arith, at e 0))
+
+pub ranks-one : (m n : ℕ) (a b : RankCause) → IsInFull m → IsInFull n → RanksInFull a → RanksInFull b → ranks_text m a ≡ ranks_text n b → (m ≡ n) × (a ≡ b)
+ranks-one m n ranks.Value ranks.Value hm hn ha hb e = (numbered-one (codes "Value state ") m n hm hn e, refl)
+ranks-one m n ranks.Choice ranks.Choice hm hn ha hb e = (numbered-one (codes "Choice state ") m n hm hn e, refl)
+ranks-one m n (ranks.Short k) (ranks.Short j) hm hn ha hb e =
+    let same = pair-one (codes " state ") (codes "choice ") m k n j (hm, ha) (hn, hb) (append_cancel_left (codes "Short") _ _ e) in
+    (same.0, let alike : k ≡ j = same.1 in cc (alike))
+ranks-one m n (ranks.NoStep k) (ranks.NoStep j) hm hn ha hb e =
+    let same = pair-one (codes " state ") (codes "choice ") m k n j (hm, ha) (hn, hb) (append_cancel_left (codes "NoStep") _ _ e) in
+    (same.0, let alike : k ≡ j = same.1 in cc (alike))
+ranks-one m n a b hm hn ha hb e = absurd (omega (arith, at e 0))
+
+-- no cause is of two kinds, and none reads as that the text is too long
+pub plan_cause-not_upper : (cause : PlanCause) (m : ℕ) (other : UpperCause) → plan_cause_text cause ≡ upper_text m other → ⊥
+plan_cause-not_upper plan.OutOfMemory m upper.OverOne e = omega (arith, at e 0, at e 1)
+plan_cause-not_upper plan.NoCertificate m upper.OverOne e = omega (arith, at e 0, at e 1)
+plan_cause-not_upper plan.Version m upper.OverOne e = omega (arith, at e 0, at e 1)
+plan_cause-not_upper plan.StateCount m upper.OverOne e = omega (arith, at e 0, at e 1)
+plan_cause-not_upper plan.BadLine m upper.OverOne e = omega (arith, at e 0, at e 1)
+plan_cause-not_upper plan.NumberOutOfRange m upper.OverOne e = omega (arith, at e 0, at e 1)
+plan_cause-not_upper plan.MissingLine m upper.OverOne e = omega (arith, at e 0, at e 1)
+plan_cause-not_upper cause m other e = omega (arith, at e 0, at e 1, at e 2)
+
+pub plan_cause-not_ranks : (cause : PlanCause) (m : ℕ) (other : RankCause) → plan_cause_text cause ≡ ranks_text m other → ⊥
+plan_cause-not_ranks plan.OutOfMemory m ranks.Value e = omega (arith, at e 0, at e 1)
+plan_cause-not_ranks plan.NoCertificate m ranks.Value e = omega (arith, at e 0, at e 1)
+plan_cause-not_ranks plan.Version m ranks.Value e = omega (arith, at e 0, at e 1)
+plan_cause-not_ranks plan.StateCount m ranks.Value e = omega (arith, at e 0, at e 1)
+plan_cause-not_ranks plan.BadLine m ranks.Value e = omega (arith, at e 0, at e 1)
+plan_cause-not_ranks plan.NumberOutOfRange m ranks.Value e = omega (arith, at e 0, at e 1)
+plan_cause-not_ranks plan.MissingLine m ranks.Value e = omega (arith, at e 0, at e 1)
+plan_cause-not_ranks cause m other e = omega (arith, at e 0, at e 1, at e 2)
+
+pub upper-not_ranks : (m n : ℕ) (cause : UpperCause) (other : RankCause) → upper_text m cause ≡ ranks_text n other → ⊥
+upper-not_ranks m n upper.OverOne ranks.Value e = omega (arith, at e 0)
+upper-not_ranks m n upper.Goal ranks.Value e = omega (arith, at e 0)
+upper-not_ranks m n (upper.Above k) ranks.Value e = omega (arith, at e 0)
+upper-not_ranks m n upper.NoReply ranks.Value e = omega (arith, at e 0)
+upper-not_ranks m n upper.Reply ranks.Value e = omega (arith, at e 0)
+upper-not_ranks m n cause other e = omega (arith, at e 0, at e 2)
+
+pub plan_cause-not_long : (cause : PlanCause) → plan_cause_text cause ≡ codes "TooLong" → ⊥
+plan_cause-not_long plan.OutOfMemory e = omega (arith, at e 0)
+plan_cause-not_long cause e = omega (arith, at e 0)
+
+pub upper-not_long : (m : ℕ) (cause : UpperCause) → upper_text m cause ≡ codes "TooLong" → ⊥
+upper-not_long m upper.OverOne e = omega (arith, at e 0)
+upper-not_long m cause e = omega (arith, at e 0)
+
+pub ranks-not_long : (m : ℕ) (cause : RankCause) → ranks_text m cause ≡ codes "TooLong" → ⊥
+ranks-not_long m ranks.Value e = omega (arith, at e 0)
+ranks-not_long m cause e = omega (arith, at e 0)

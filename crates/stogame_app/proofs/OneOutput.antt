@@ -1,15 +1,12 @@
 -- A text says which output it is.
-use Rattle.std.proofs.Common.{◌≡◌, ◌≢◌, ◌∙◌, ◌≤◌, ℕ, List, [], ◌∷◌, ◌++◌, length, get_or, Option, Some, None, Ok, refl, sym, ap, append_assoc, arith}
+use Rattle.std.proofs.Common.{◌≡◌, ◌≢◌, ◌∙◌, ◌≤◌, ℕ, List, [], ◌∷◌, ◌++◌, length, get_or, Option, Some, None, refl, sym, ap, append_assoc, arith}
 use Rattle.std.specs.Prelude.{All, codes}
 use Rattle.std.proofs.lemmas.List.{append_cancel_left, append_cancel_right}
 use Rattle.std.proofs.lemmas.List.Elements.{All-nil, All-cons, All-head, All-tail}
 use Rattle.game_model.specs.Limits.{most_states}
 use Rattle.rpatl_syntax.specs.Formula.{Tree}
-use Rattle.rpatl_syntax.specs.Grammar.{formula_said}
-use Rattle.rpatl_syntax.specs.Rules.{Denotes}
 use Rattle.rpatl_syntax.specs.Spelling.{spelling}
-use Rattle.rpatl_syntax.proofs.Again.{formula_said_again}
-use Rattle.rpatl_syntax.proofs.Reread.{spellable}
+use Rattle.rpatl_syntax.specs.Spellable.{IsSpellable}
 use Rattle.plan_text.specs.Entries.{Entry, IsInRange}
 use Rattle.plan_text.specs.Written.{certificate_text}
 use Rattle.verdicts.specs.declared.report.ReportLine.{ReportLine}
@@ -18,12 +15,15 @@ use Rattle.stogame_app.specs.Outputs.{Certificate, Output, certificate_part, out
 use Rattle.stogame_app.proofs.Labelled.{at}
 use Rattle.stogame_app.proofs.NoLineFeed.{ended-one, line-ended, formula-ended}
 
--- no two reports have the same text, and no two certificates
+-- no two reports have the same text, no two certificates, and no two formulas
 abbrev pub ReportsOne : Type 0
 ReportsOne = (lines others : List ReportLine) → All IsLine lines → All IsLine others → report lines ≡ report others → lines ≡ others
 
 abbrev pub CertificatesOne : Type 0
 CertificatesOne = (entries others : List Entry) → length entries ≤ most_states → length others ≤ most_states → All IsInRange entries → All IsInRange others → certificate_text entries ≡ certificate_text others → entries ≡ others
+
+abbrev pub SpellingsOne : Type 0
+SpellingsOne = (tree other : Tree) → IsSpellable tree → IsSpellable other → spelling tree ≡ spelling other → tree ≡ other
 
 -- 1. The lines of a report, with text behind them that begins otherwise.
 
@@ -46,25 +46,20 @@ lines-one one (a ∷ lines) (b ∷ others) r s ha hb hr hs e =
 
 -- 2. The formula and the certificate.
 
-formula-one : (a b : Tree) → Denotes (spelling a) a → Denotes (spelling b) b → spelling a ≡ spelling b → a ≡ b
-formula-one a b of_a of_b e =
-    let said : Ok a ≡ Ok b = sym (formula_said_again (spelling a) a of_a) ∙ ap formula_said e ∙ formula_said_again (spelling b) b of_b in
-    cc (said)
-
-certificate-one : CertificatesOne → (a b : Certificate) → AreEntriesInLimits (Some a) → AreEntriesInLimits (Some b) → IsSpelledOut (Some a) → IsSpelledOut (Some b) → certificate_part (Some a) ≡ certificate_part (Some b) → a ≡ b
-certificate-one one a b of_a of_b spell_a spell_b e =
+certificate-one : CertificatesOne → SpellingsOne → (a b : Certificate) → AreEntriesInLimits (Some a) → AreEntriesInLimits (Some b) → IsSpelledOut (Some a) → IsSpelledOut (Some b) → certificate_part (Some a) ≡ certificate_part (Some b) → a ≡ b
+certificate-one one spelled_one a b of_a of_b spell_a spell_b e =
     let parts = ended-one (codes "formula " ++ (spelling a.formula ++ codes "\n")) (codes "formula " ++ (spelling b.formula ++ codes "\n")) (certificate_text a.entries) (certificate_text b.entries)
-    (formula-ended a.formula (spellable (spelling a.formula) a.formula spell_a)) (formula-ended b.formula (spellable (spelling b.formula) b.formula spell_b)) e in
+    (formula-ended a.formula spell_a) (formula-ended b.formula spell_b) e in
     let spelled = append_cancel_right (spelling a.formula) (spelling b.formula) (codes "\n") (append_cancel_left (codes "formula ") _ _ parts.0) in
     let made : Tree → List Entry → Certificate = λ f entries. record { formula = f; entries = entries } in
-    ap (λ f. made f a.entries) (formula-one a.formula b.formula spell_a spell_b spelled)
+    ap (λ f. made f a.entries) (spelled_one a.formula b.formula spell_a spell_b spelled)
     ∙ ap (λ entries. made b.formula entries) (one a.entries b.entries of_a.0 of_b.0 of_a.1 of_b.1 parts.1)
 
-plan-one : CertificatesOne → (a b : Option Certificate) → AreEntriesInLimits a → AreEntriesInLimits b → IsSpelledOut a → IsSpelledOut b → certificate_part a ≡ certificate_part b → a ≡ b
-plan-one one None None of_a of_b spell_a spell_b e = refl
-plan-one one None (Some b) of_a of_b spell_a spell_b e = absurd (omega (arith, at e 0))
-plan-one one (Some a) None of_a of_b spell_a spell_b e = absurd (omega (arith, at e 0))
-plan-one one (Some a) (Some b) of_a of_b spell_a spell_b e = ap (λ (c : Certificate). Some c) (certificate-one one a b of_a of_b spell_a spell_b e)
+plan-one : CertificatesOne → SpellingsOne → (a b : Option Certificate) → AreEntriesInLimits a → AreEntriesInLimits b → IsSpelledOut a → IsSpelledOut b → certificate_part a ≡ certificate_part b → a ≡ b
+plan-one one spelled_one None None of_a of_b spell_a spell_b e = refl
+plan-one one spelled_one None (Some b) of_a of_b spell_a spell_b e = absurd (omega (arith, at e 0))
+plan-one one spelled_one (Some a) None of_a of_b spell_a spell_b e = absurd (omega (arith, at e 0))
+plan-one one spelled_one (Some a) (Some b) of_a of_b spell_a spell_b e = ap (λ (c : Certificate). Some c) (certificate-one one spelled_one a b of_a of_b spell_a spell_b e)
 
 plan-otherwise : (certificate : Option Certificate) → BeginsOtherwise (certificate_part certificate)
 plan-otherwise None = omega arith
@@ -72,8 +67,8 @@ plan-otherwise (Some certificate) = omega arith
 
 -- 3. The output.
 
-pub output-one : ReportsOne → CertificatesOne → (a b : Output) → IsWholeOutput a → IsWholeOutput b → output_text a ≡ output_text b → a ≡ b
-output-one reports certificates a b of_a of_b e =
+pub output-one : ReportsOne → CertificatesOne → SpellingsOne → (a b : Output) → IsWholeOutput a → IsWholeOutput b → output_text a ≡ output_text b → a ≡ b
+output-one reports certificates spellings a b of_a of_b e =
     let parts = lines-one reports a.lines b.lines (certificate_part a.certificate) (certificate_part b.certificate) of_a.limits.lines of_b.limits.lines (plan-otherwise a.certificate) (plan-otherwise b.certificate) e in
     let made : List ReportLine → Option Certificate → Output = λ lines certificate. record { lines = lines; certificate = certificate } in
-    ap (λ lines. made lines a.certificate) parts.0 ∙ ap (λ certificate. made b.lines certificate) (plan-one certificates a.certificate b.certificate of_a.limits.entries of_b.limits.entries of_a.formula of_b.formula parts.1)
+    ap (λ lines. made lines a.certificate) parts.0 ∙ ap (λ certificate. made b.lines certificate) (plan-one certificates spellings a.certificate b.certificate of_a.limits.entries of_b.limits.entries of_a.formula of_b.formula parts.1)

@@ -23,7 +23,7 @@ use Rattle.bracket_engine.specs.Replies.{AreRepliesTo}
 use Rattle.stogame_app.specs.declared.status.Status.{Status}
 use Rattle.verdicts.specs.declared.report.ReportLine.{ReportLine}
 use Rattle.stogame_app.specs.declared.status.Status.TheVariants.{Fine, SomeFalse, SomeUndecided}
-use Rattle.stogame_app.specs.Reports.{verdict_at, line_at, is_no, is_undecided, status_of, output_of, IsLeftOpen, IsReport}
+use Rattle.stogame_app.specs.Reports.{verdict_in, is_no, is_undecided, status_of, output_of, IsLeftOpen, IsReport}
 use Rattle.stogame_app.specs.Outputs.{output_text, IsInLimits}
 
 -- 1. What verdicts say is so.
@@ -34,11 +34,11 @@ is-told q bound s No if_yes if_no = if_no refl
 is-told q bound s Undecided if_yes if_no = tt
 is-told q bound s Value if_yes if_no = tt
 
-pub all-told : (q : Query) (bound : Bound) (found : Bracket) (initial : List ℕ) → ((s : ℕ) → s < states q → verdict_at bound found s ≡ Yes → IsTrueOf q bound s)
-    → ((s : ℕ) → s < states q → verdict_at bound found s ≡ No → IsFalseOf q bound s)
-    → All (λ s. s < states q) initial → All (λ s. IsTold q bound s (verdict_at bound found s)) initial
-all-told q bound found initial if_yes if_no inside =
-    All-weaker (λ s. s < states q) (λ s. IsTold q bound s (verdict_at bound found s)) (λ s within. is-told q bound s (verdict_at bound found s) (if_yes s within) (if_no s within)) initial inside
+pub all-told : (q : Query) (bound : Bound) (verdict : ℕ → Verdict) (initial : List ℕ) → ((s : ℕ) → s < states q → verdict s ≡ Yes → IsTrueOf q bound s)
+    → ((s : ℕ) → s < states q → verdict s ≡ No → IsFalseOf q bound s)
+    → All (λ s. s < states q) initial → All (λ s. IsTold q bound s (verdict s)) initial
+all-told q bound verdict initial if_yes if_no inside =
+    All-weaker (λ s. s < states q) (λ s. IsTold q bound s (verdict s)) (λ s within. is-told q bound s (verdict s) (if_yes s within) (if_no s within)) initial inside
 
 -- 2. What is undecided is left open.
 
@@ -51,7 +51,7 @@ OpensWider = (bound : Bound) (lower upper n m d r : ℕ) → 1 ≤ d → n ≤ (
 
 module _ (here : OpensHere) (wider : OpensWider) (q : Query) (zero : List Bool) (bound : Bound) (initial : List ℕ) (asked : ℕ) (found : Bracket) where
   narrow-open : 1 ≤ denominator q.game ^ asked → IsNarrow q zero asked (slice_index found.lower.items) (slice_index found.upper.items)
-      → (s : ℕ) → s < states q → verdict_at bound found s ≡ Undecided → IsLeftOpen q zero bound asked found s
+      → (s : ℕ) → s < states q → verdict_in bound found s ≡ Undecided → IsLeftOpen q zero bound asked found s
   narrow-open some narrow s inside undecided =
       let lower = slice_index found.lower.items s in
       let upper = slice_index found.upper.items s in
@@ -63,14 +63,14 @@ module _ (here : OpensHere) (wider : OpensWider) (q : Query) (zero : List Bool) 
       }
 
   pub all-left_open : 1 ≤ denominator q.game ^ asked → IsBracket q zero bound initial asked found.lower.items found.upper.items found.rounds found.stable → All (λ s. s < states q) initial
-      → All (λ s. verdict_at bound found s ≡ Undecided → IsLeftOpen q zero bound asked found s) initial
+      → All (λ s. verdict_in bound found s ≡ Undecided → IsLeftOpen q zero bound asked found s) initial
   all-left_open some bounds inside = elim bounds.narrow_asked [
-    | inl settled ↦ All-weaker (λ s. is_settling (verdict_at bound found s) ≡ true) Q (λ s is undecided. let same : is_settling (verdict_at bound found s) ≡ is_settling Undecided = ap is_settling undecided in absurd (cc (same, is))) initial settled
+    | inl settled ↦ All-weaker (λ s. is_settling (verdict_in bound found s) ≡ true) Q (λ s is undecided. let same : is_settling (verdict_in bound found s) ≡ is_settling Undecided = ap is_settling undecided in absurd (cc (same, is))) initial settled
     | inr narrow ↦ All-weaker (λ s. s < states q) Q (λ s within. narrow-open some narrow s within) initial inside
   ]
     where
       Q : ℕ → Type 0
-      Q s = verdict_at bound found s ≡ Undecided → IsLeftOpen q zero bound asked found s
+      Q s = verdict_in bound found s ≡ Undecided → IsLeftOpen q zero bound asked found s
 
 -- 3. The status of lines is that of their verdicts.
 
@@ -85,10 +85,10 @@ status-lines lines b u is_b is_u =
     let of_u : u ≡ list_any is_undecided (map (λ line. line.verdict) lines) = is_u ∙ sym (list_any-map is_undecided (λ (line : ReportLine). line.verdict) lines) in
     ap (λ x. if x then SomeFalse else (if u then SomeUndecided else Fine)) of_b ∙ ap (λ x. if list_any is_no (map (λ line. line.verdict) lines) then SomeFalse else (if x then SomeUndecided else Fine)) of_u
 
--- the verdicts of the lines of a bracket
-pub verdicts-lines : (bound : Bound) (found : Bracket) (initial : List ℕ) (lines : List ReportLine) → lines ≡ map (line_at bound found) initial → status_of (map (λ line. line.verdict) lines) ≡ status_of (map (verdict_at bound found) initial)
-verdicts-lines bound found initial lines are =
-    ap (λ (ls : List ReportLine). status_of (map (λ line. line.verdict) ls)) are ∙ ap status_of (map-map (λ (line : ReportLine). line.verdict) (line_at bound found) initial)
+-- the verdicts of lines
+pub verdicts-lines : (line_at : ℕ → ReportLine) (initial : List ℕ) (lines : List ReportLine) → lines ≡ map line_at initial → status_of (map (λ line. line.verdict) lines) ≡ status_of (map (λ s. (line_at s).verdict) initial)
+verdicts-lines line_at initial lines are =
+    ap (λ (ls : List ReportLine). status_of (map (λ line. line.verdict) ls)) are ∙ ap status_of (map-map (λ (line : ReportLine). line.verdict) line_at initial)
 
 -- 4. The whole answer.
 
@@ -98,12 +98,12 @@ pub reported : {X E : Type 0} (text : X → List ℕ) (ends : X → Status) (q :
     → AreChoices q found.lower.items found.choices.items
     → AreRanks q found.lower.items found.choices.items found.ranks.items
     → AreRepliesTo q found.upper.items found.replies.items
-    → All (λ s. IsTold q formula.bound s (verdict_at formula.bound found s)) initial
-    → All (λ s. verdict_at formula.bound found s ≡ Undecided → IsLeftOpen q zero formula.bound asked found s) initial
+    → All (λ s. IsTold q formula.bound s (verdict_in formula.bound found s)) initial
+    → All (λ s. verdict_in formula.bound found s ≡ Undecided → IsLeftOpen q zero formula.bound asked found s) initial
     → IsInLimits (output_of plan formula initial found)
     → (result : Result X E)
     → IfOk result (λ answer. text answer ≡ output_text (output_of plan formula initial found))
-    → IfOk result (λ answer. ends answer ≡ status_of (map (verdict_at formula.bound found) initial))
+    → IfOk result (λ answer. ends answer ≡ status_of (map (verdict_in formula.bound found) initial))
     → IfOk result (λ answer. IsReport q initial formula asked plan (text answer) (ends answer))
 reported text ends q zero initial formula asked plan found is_zero bounds choices ranks replies told left_open limits (Ok answer) written ended = record {
   zero = zero;

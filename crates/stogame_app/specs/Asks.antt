@@ -9,7 +9,7 @@ use Rattle.label_reader.specs.Owners.{Ownership}
 use Rattle.rpatl_syntax.specs.Formula.{Tree}
 use Rattle.rpatl_syntax.specs.Rules.{Denotes as DenotesFormula}
 use Rattle.formula_sets.specs.Posing.{Posing, Poses}
-use Rattle.stogame_app.specs.Words.{Check}
+use Rattle.command_words.specs.Words.{Asked}
 use Rattle.stogame_app.specs.Sources.{Sources}
 use Rattle.stogame_app.specs.Texts.{single_owner}
 
@@ -26,13 +26,13 @@ AreOwners None source states owners = owners ≡ single_owner states
 AreOwners (Some name) source states owners = IsText source (λ text. DenotesOwners text states owners)
 
 -- The transition text denotes a game, the label text labels of its states, and the owner text owners of them; the formula poses the question of these.
-pub record Asks (sources : Sources) (check : Check) (posing : Posing) : Type 0 where
+pub record Asks (sources : Sources) (asked : Asked) (posing : Posing) : Type 0 where
   pub game : List (List Distribution)
   pub labels : Labelling
   pub owners : Ownership
   pub formula : Tree
   pub tra : IsText sources.tra (λ text. DenotesGame text game)
   pub lab : IsText sources.lab (λ text. DenotesLabels text (length game) labels)
-  pub own : AreOwners check.options.own sources.own (length game) owners
-  pub spelled : DenotesFormula check.formula formula
+  pub own : AreOwners asked.own sources.own (length game) owners
+  pub spelled : DenotesFormula asked.formula formula
   pub poses : Poses game labels owners formula posing

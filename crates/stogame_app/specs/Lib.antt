@@ -1,7 +1,9 @@
+pub mod Answers
 pub mod Asks
-pub mod Grammar
+pub mod Audits
 pub mod InFull
 pub mod Loading
+pub mod Made
 pub mod Outputs
 pub mod Posed
 pub mod Refusals
@@ -11,4 +13,3 @@ pub mod Said
 pub mod Sources
 pub mod Status
 pub mod Texts
-pub mod Words

@@ -7,9 +7,9 @@ use Rattle.stogame_app.specs.declared.load.End.{End}
 use Rattle.stogame_app.specs.declared.load.End.TheVariants.{OutOfMemory, ReadFault, Refused}
 use Rattle.stogame_app.specs.declared.refusal.Text.{Text}
 use Rattle.stogame_app.specs.declared.refusal.Refusal.TheVariants.{TooLong}
-use Rattle.stogame_app.specs.Words.{Check}
+use Rattle.command_words.specs.Words.{Asked}
 use Rattle.stogame_app.specs.Said.{Said, NotHeld, Refuses, Says, IsCaused}
-use Rattle.stogame_app.specs.Sources.{Sources, WhereTold, AreSources, AreSourcesOrUnread, IsHeldOrUnread}
+use Rattle.stogame_app.specs.Sources.{Sources, WhereTold, AreSources}
 
 -- the answer is what is said, or memory was wanting
 abbrev pub Loads : {X Y : Type 0} → (X → Y) → Result X End → Said Y → Type 0
@@ -18,22 +18,21 @@ Loads view (Err OutOfMemory) said = Unit {0}
 Loads view (Err ReadFault) said = said ≡ NotHeld
 Loads view (Err (Refused refusal)) said = said ≡ Refuses refusal
 
--- The answer is what is said of some sources. They are as told, unless one can't be read, which counts as not held; on a steady shelf they always are.
-pub record LoadsFrom {S X Y : Type 0} (AreTold AreToldOrUnread : S → Type 0) (steady : Bool) (view : X → Y) (result : Result X End) (said : S → Said Y) : Type 0 where
+-- The answer is what is said of some sources. They are as told, unless one can't be read; on a steady shelf they always are.
+pub record LoadsFrom {S X Y : Type 0} (AreTold : S → Type 0) (steady : Bool) (view : X → Y) (result : Result X End) (said : S → Said Y) : Type 0 where
   pub sources : S
   pub told : (IsErrOf result ReadFault → ⊥) → AreTold sources
-  pub told_or_unread : AreToldOrUnread sources
   pub steadily : steady ≡ true → AreTold sources
   pub loads : Loads view result (said sources)
 
 -- the same for one text, which is held where this says
 abbrev pub LoadsText : {X Y : Type 0} → Option Holding → Bool → (Holding → Option (List ℕ)) → (X → Y) → Result X End → (Option (List ℕ) → Said Y) → Type 0
 LoadsText holding steady place view result said =
-    LoadsFrom (λ source. WhereTold holding (λ held. source ≡ place held)) (λ source. WhereTold holding (λ held. IsHeldOrUnread (place held) source)) steady view result said
+    LoadsFrom (λ source. WhereTold holding (λ held. source ≡ place held)) steady view result said
 
 -- the same for the texts of a command
-abbrev pub LoadsCheck : {X Y : Type 0} → Option Holding → Bool → Check → (X → Y) → Result X End → (Sources → Said Y) → Type 0
-LoadsCheck holding steady check view result said = LoadsFrom (AreSources holding check) (AreSourcesOrUnread holding check) steady view result said
+abbrev pub LoadsAsked : {X Y : Type 0} → Option Holding → Bool → Asked → (X → Y) → Result X End → (Sources → Said Y) → Type 0
+LoadsAsked holding steady asked view result said = LoadsFrom (AreSources holding asked) steady view result said
 
 -- loading refuses nothing for want of memory
 abbrev pub RefusesCaused : {X : Type 0} → Result X End → Type 0

@@ -2,7 +2,7 @@
 use Rattle.std.specs.Prelude.{◌≤◌, List, ℕ, [], ◌++◌, length, Option, Some, None, All, codes}
 use Rattle.game_model.specs.Limits.{most_states}
 use Rattle.rpatl_syntax.specs.Formula.{Tree}
-use Rattle.rpatl_syntax.specs.Rules.{Denotes}
+use Rattle.rpatl_syntax.specs.Spellable.{IsSpellable}
 use Rattle.rpatl_syntax.specs.Spelling.{spelling}
 use Rattle.plan_text.specs.Entries.{Entry, IsInRange}
 use Rattle.plan_text.specs.Written.{certificate_text}
@@ -36,10 +36,10 @@ pub record IsInLimits (output : Output) : Type 0 where
   pub lines : All IsLine output.lines
   pub entries : AreEntriesInLimits output.certificate
 
--- the formula is what its spelling denotes, so the grammar can spell it, and not at too great length
+-- the grammar can spell the formula
 abbrev pub IsSpelledOut : Option Certificate → Type 0
 IsSpelledOut None = Unit {0}
-IsSpelledOut (Some certificate) = Denotes (spelling certificate.formula) certificate.formula
+IsSpelledOut (Some certificate) = IsSpellable certificate.formula
 
 -- its text has one reading
 pub record IsWholeOutput (output : Output) : Type 0 where

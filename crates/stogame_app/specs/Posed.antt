@@ -8,7 +8,7 @@ use Rattle.rpatl_syntax.specs.Grammar.{formula_said}
 use Rattle.formula_sets.specs.Posing.{Posing, pose_said}
 use Rattle.stogame_app.specs.declared.refusal.Refusal.TheVariants.{OfFormula, OfQuestion}
 use Rattle.stogame_app.specs.declared.model.Loaded.{Loaded}
-use Rattle.stogame_app.specs.Words.{Check}
+use Rattle.command_words.specs.Words.{Asked}
 use Rattle.stogame_app.specs.Said.{Said, Says, and_then, read_said}
 use Rattle.stogame_app.specs.Sources.{Sources}
 use Rattle.stogame_app.specs.Texts.{game_said, labels_said, owners_said}
@@ -37,22 +37,22 @@ abbrev pub reading_with : List (List Distribution) → Labelling → Ownership �
 reading_with game labels owners formula = record { game = game; labels = labels; owners = owners; formula = formula }
 
 -- the reading behind the owners, behind the labels, behind the game, and the whole
-abbrev pub behind_owners : Check → List (List Distribution) → Labelling → Ownership → Said Reading
-behind_owners check game labels owners = and_then (formula_read check.formula) (λ formula. Says (reading_with game labels owners formula))
+abbrev pub behind_owners : Asked → List (List Distribution) → Labelling → Ownership → Said Reading
+behind_owners asked game labels owners = and_then (formula_read asked.formula) (λ formula. Says (reading_with game labels owners formula))
 
-abbrev pub behind_labels : Sources → Check → List (List Distribution) → Labelling → Said Reading
-behind_labels sources check game labels = and_then (owners_said check.options.own sources.own (length game)) (λ owners. behind_owners check game labels owners)
+abbrev pub behind_labels : Sources → Asked → List (List Distribution) → Labelling → Said Reading
+behind_labels sources asked game labels = and_then (owners_said asked.own sources.own (length game)) (λ owners. behind_owners asked game labels owners)
 
-abbrev pub behind_game : Sources → Check → List (List Distribution) → Said Reading
-behind_game sources check game = and_then (labels_said sources.lab (length game)) (λ labels. behind_labels sources check game labels)
+abbrev pub behind_game : Sources → Asked → List (List Distribution) → Said Reading
+behind_game sources asked game = and_then (labels_said sources.lab (length game)) (λ labels. behind_labels sources asked game labels)
 
-abbrev pub reading_said : Sources → Check → Said Reading
-reading_said sources check = and_then (game_said sources.tra) (λ game. behind_game sources check game)
+abbrev pub reading_said : Sources → Asked → Said Reading
+reading_said sources asked = and_then (game_said sources.tra) (λ game. behind_game sources asked game)
 
 -- the question that a reading poses
 abbrev pub posed : Reading → Said Posing
 posed reading = read_said OfQuestion (pose_said reading.game reading.labels reading.owners reading.formula)
 
 -- the question that these texts and words pose, or their first refusal
-abbrev pub question_said : Sources → Check → Said Posing
-question_said sources check = and_then (reading_said sources check) (λ reading. posed reading)
+abbrev pub question_said : Sources → Asked → Said Posing
+question_said sources asked = and_then (reading_said sources asked) (λ reading. posed reading)

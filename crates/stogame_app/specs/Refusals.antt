@@ -13,10 +13,18 @@ use Rattle.rpatl_syntax.specs.declared.fault.FormulaCause.TheVariants as formula
 use Rattle.rpatl_syntax.specs.declared.fault.FormulaFault.{FormulaFault}
 use Rattle.formula_sets.specs.declared.fault.PoseFault.{PoseFault}
 use Rattle.formula_sets.specs.declared.fault.PoseFault.TheVariants as question
+use Rattle.plan_text.specs.declared.fault.PlanCause.{PlanCause}
+use Rattle.plan_text.specs.declared.fault.PlanCause.TheVariants as plan
+use Rattle.inductive_check.specs.declared.upper.UpperCause.{UpperCause}
+use Rattle.inductive_check.specs.declared.upper.UpperCause.TheVariants as upper
+use Rattle.rank_certificate.specs.declared.check.RankCause.{RankCause}
+use Rattle.rank_certificate.specs.declared.check.RankCause.TheVariants as ranks
+use Rattle.certificate_audit.specs.declared.fault.AuditFault.{AuditFault}
+use Rattle.certificate_audit.specs.declared.fault.AuditFault.TheVariants as audit
 use Rattle.stogame_app.specs.declared.refusal.Text.{Text}
-use Rattle.stogame_app.specs.declared.refusal.Text.TheVariants.{Tra, Lab, Own}
+use Rattle.stogame_app.specs.declared.refusal.Text.TheVariants.{Tra, Lab, Own, Cert}
 use Rattle.stogame_app.specs.declared.refusal.Refusal.{Refusal}
-use Rattle.stogame_app.specs.declared.refusal.Refusal.TheVariants.{OfTra, OfLab, OfOwn, OfFormula, OfQuestion, TooLong}
+use Rattle.stogame_app.specs.declared.refusal.Refusal.TheVariants.{OfTra, OfLab, OfOwn, OfFormula, OfQuestion, OfCertificate, TooLong}
 
 -- a name and a number behind it
 abbrev pub numbered : List ℕ → ℕ → List ℕ
@@ -87,10 +95,35 @@ question_text (question.UnknownLabel name) = codes "UnknownLabel " ++ name
 question_text (question.UnknownPlayer name) = codes "UnknownPlayer " ++ name
 question_text question.NoInit = codes "NoInit"
 
+abbrev pub plan_cause_text : PlanCause → List ℕ
+plan_cause_text plan.OutOfMemory = codes "OutOfMemory"
+plan_cause_text plan.NoCertificate = codes "NoCertificate"
+plan_cause_text plan.Version = codes "Version"
+plan_cause_text plan.StateCount = codes "StateCount"
+plan_cause_text plan.BadLine = codes "BadLine"
+plan_cause_text plan.NumberOutOfRange = codes "NumberOutOfRange"
+plan_cause_text plan.MissingLine = codes "MissingLine"
+
+-- why the upper table of a certificate, or a reply to it, is refused at a state
+abbrev pub upper_text : ℕ → UpperCause → List ℕ
+upper_text state upper.OverOne = numbered (codes "OverOne state ") state
+upper_text state upper.Goal = numbered (codes "Goal state ") state
+upper_text state (upper.Above k) = codes "Above" ++ choice_place state k
+upper_text state upper.NoReply = numbered (codes "NoReply state ") state
+upper_text state upper.Reply = numbered (codes "Reply state ") state
+
+-- why its lower table, choices and ranks are
+abbrev pub ranks_text : ℕ → RankCause → List ℕ
+ranks_text state ranks.Value = numbered (codes "Value state ") state
+ranks_text state ranks.Choice = numbered (codes "Choice state ") state
+ranks_text state (ranks.Short k) = codes "Short" ++ choice_place state k
+ranks_text state (ranks.NoStep k) = codes "NoStep" ++ choice_place state k
+
 abbrev pub name_of_text : Text → List ℕ
 name_of_text Tra = codes "tra"
 name_of_text Lab = codes "lab"
 name_of_text Own = codes "own"
+name_of_text Cert = codes "cert"
 
 -- a fault of a file, with its line
 abbrev pub refused_line : Text → ℕ → List ℕ → List ℕ
@@ -104,12 +137,19 @@ formula_refused fault = codes "refused formula place " ++ (decimal fault.place +
 abbrev pub question_refused : PoseFault → List ℕ
 question_refused fault = codes "refused question line 0 " ++ (question_text fault ++ codes "\n")
 
+-- a fault of a certificate: of its text, with the line, or of what it says, with the state
+abbrev pub certificate_refused : AuditFault → List ℕ
+certificate_refused (audit.Text fault) = refused_line Cert fault.line (plan_cause_text fault.cause)
+certificate_refused (audit.Upper fault) = refused_line Cert 0 (upper_text fault.state fault.cause)
+certificate_refused (audit.Ranks fault) = refused_line Cert 0 (ranks_text fault.state fault.cause)
+
 abbrev pub refusal_text : Refusal → List ℕ
 refusal_text (OfTra fault) = refused_line Tra fault.line (tra_text fault.cause)
 refusal_text (OfLab fault) = refused_line Lab fault.line (lab_text fault.cause)
 refusal_text (OfOwn fault) = refused_line Own fault.line (lab_text fault.cause)
 refusal_text (OfFormula fault) = formula_refused fault
 refusal_text (OfQuestion fault) = question_refused fault
+refusal_text (OfCertificate fault) = certificate_refused fault
 refusal_text (TooLong text) = refused_line text 0 (codes "TooLong")
 
 abbrev pub usage_text : List ℕ

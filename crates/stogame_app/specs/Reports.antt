@@ -1,5 +1,5 @@
 -- The answer to a question: a report of its initial states, and its certificate where that is asked for.
-use Rattle.std.specs.Prelude.{◌≡◌, ℕ, ◌-◌, ◌*◌, ◌^◌, Bool, true, false, List, [], ◌++◌, map, slice_index, Option, Some, None, codes, if◌then◌else◌, All}
+use Rattle.std.specs.Prelude.{◌≡◌, ℕ, ◌-◌, ◌*◌, ◌^◌, Bool, true, false, List, map, slice_index, Option, Some, None, if◌then◌else◌, All}
 use Rattle.std.specs.List.{list_any}
 use Rattle.game_model.specs.Limits.{unit}
 use Rattle.game_model.specs.Query.{Query}
@@ -14,6 +14,7 @@ use Rattle.verdicts.specs.Verdict.{verdict_of}
 use Rattle.verdicts.specs.Truth.{IsTold}
 use Rattle.verdicts.specs.Open.{LeavesOpen}
 use Rattle.verdicts.specs.declared.report.ReportLine.{ReportLine}
+use Rattle.verdicts.specs.declared.report.How.{How}
 use Rattle.verdicts.specs.declared.report.How.TheVariants.{Rounds}
 use Rattle.verdicts.specs.declared.verdict.Verdict.{Verdict}
 use Rattle.verdicts.specs.declared.verdict.Verdict.TheVariants.{Yes, No, Undecided, Bracket as Value}
@@ -25,14 +26,20 @@ use Rattle.stogame_app.specs.Outputs.{Certificate, Output, output_text, IsInLimi
 use Rattle.stogame_app.specs.declared.status.Status.{Status}
 use Rattle.stogame_app.specs.declared.status.Status.TheVariants.{Fine, SomeFalse, SomeUndecided}
 
--- what the bounds of a bracket say of a state
-abbrev pub verdict_at : Bound → Bracket → ℕ → Verdict
-verdict_at bound found s = verdict_of bound (slice_index found.lower.items s) (slice_index found.upper.items s)
+-- what a lower and an upper table say of a state
+abbrev pub verdict_at : Bound → List ℕ → List ℕ → ℕ → Verdict
+verdict_at bound lower upper s = verdict_of bound (slice_index lower s) (slice_index upper s)
 
 -- the line of a state
-abbrev pub line_at : Bound → Bracket → ℕ → ReportLine
-line_at bound found s =
-    record { state = s; lower = slice_index found.lower.items s; upper = slice_index found.upper.items s; how = Rounds found.rounds; verdict = verdict_at bound found s }
+abbrev pub line_at : Bound → How → List ℕ → List ℕ → ℕ → ReportLine
+line_at bound how lower upper s = record { state = s; lower = slice_index lower s; upper = slice_index upper s; how = how; verdict = verdict_at bound lower upper s }
+
+-- the same of the tables of a bracket
+abbrev pub verdict_in : Bound → Bracket → ℕ → Verdict
+verdict_in bound found s = verdict_at bound found.lower.items found.upper.items s
+
+abbrev pub line_in : Bound → Bracket → ℕ → ReportLine
+line_in bound found s = line_at bound (Rounds found.rounds) found.lower.items found.upper.items s
 
 -- the plan of a bracket: the choices of both sides, the ranks, both tables
 abbrev pub plan_of : Bracket → Plan
@@ -43,7 +50,7 @@ certificate_of asked formula found = if asked then Some (record { formula = form
 
 -- one line for each initial state, and the certificate where it is asked for
 abbrev pub output_of : Bool → Tree → List ℕ → Bracket → Output
-output_of asked formula initial found = record { lines = map (line_at formula.bound found) initial; certificate = certificate_of asked formula found }
+output_of asked formula initial found = record { lines = map (line_in formula.bound found) initial; certificate = certificate_of asked formula found }
 
 abbrev pub is_no : Verdict → Bool
 is_no No = true
@@ -78,8 +85,8 @@ pub record IsReport (q : Query) (initial : List ℕ) (formula : Tree) (asked : �
   pub replies : AreRepliesTo q found.upper.items found.replies.items
   pub written : text ≡ output_text (output_of plan formula initial found)
   pub limits : IsInLimits (output_of plan formula initial found)
-  pub ends : status ≡ status_of (map (verdict_at formula.bound found) initial)
+  pub ends : status ≡ status_of (map (verdict_in formula.bound found) initial)
   -- True is true and False is false
-  pub told : All (λ s. IsTold q formula.bound s (verdict_at formula.bound found s)) initial
+  pub told : All (λ s. IsTold q formula.bound s (verdict_in formula.bound found s)) initial
   -- Undecided is said only where no bracket that the asked rounds promise settles the threshold
-  pub left_open : All (λ s. verdict_at formula.bound found s ≡ Undecided → IsLeftOpen q zero formula.bound asked found s) initial
+  pub left_open : All (λ s. verdict_in formula.bound found s ≡ Undecided → IsLeftOpen q zero formula.bound asked found s) initial

@@ -6,8 +6,9 @@ use Rattle.tra_reader.specs.declared.fault.TraCause.TheVariants as tra
 use Rattle.label_reader.specs.declared.faults.LabCause.TheVariants as lab
 use Rattle.rpatl_syntax.specs.declared.fault.FormulaCause.TheVariants as formula
 use Rattle.formula_sets.specs.declared.fault.PoseFault.TheVariants as question
+use Rattle.certificate_audit.specs.Refused.{IsWant}
 use Rattle.stogame_app.specs.declared.refusal.Refusal.{Refusal}
-use Rattle.stogame_app.specs.declared.refusal.Refusal.TheVariants.{OfTra, OfLab, OfOwn, OfFormula, OfQuestion, TooLong}
+use Rattle.stogame_app.specs.declared.refusal.Refusal.TheVariants.{OfTra, OfLab, OfOwn, OfFormula, OfQuestion, OfCertificate, TooLong}
 
 -- what texts say: one that is needed is not held, or there is a first refusal, or they say something
 pub data Said (X : Type 0) : Type 0 where
@@ -38,4 +39,5 @@ IsCaused (OfLab fault) = fault.cause ≢ lab.OutOfMemory
 IsCaused (OfOwn fault) = fault.cause ≢ lab.OutOfMemory
 IsCaused (OfFormula fault) = fault.cause ≢ formula.OutOfMemory
 IsCaused (OfQuestion fault) = fault ≢ question.OutOfMemory
+IsCaused (OfCertificate fault) = ¬ IsWant fault
 IsCaused (TooLong text) = Unit {0}

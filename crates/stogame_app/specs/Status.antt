@@ -1,7 +1,10 @@
 -- The exit status of each end of a run.
-use Rattle.std.specs.Prelude.{ℕ}
+use Rattle.std.specs.Prelude.{◌≡◌, ◌⊎◌, ℕ}
+use Rattle.stogame_app.specs.declared.refusal.Refusal.{Refusal}
+use Rattle.stogame_app.specs.declared.refusal.Refusal.TheVariants.{OfCertificate, TooLong}
+use Rattle.stogame_app.specs.declared.refusal.Text.TheVariants.{Cert}
 use Rattle.stogame_app.specs.declared.status.Status.{Status}
-use Rattle.stogame_app.specs.declared.status.Status.TheVariants.{Fine, SomeFalse, SomeUndecided, Usage, ModelRefused, ReadFault, WriteFault, OutOfMemory}
+use Rattle.stogame_app.specs.declared.status.Status.TheVariants.{Fine, SomeFalse, SomeUndecided, Usage, ModelRefused, ReadFault, WriteFault, OutOfMemory, CertificateRefused}
 
 abbrev pub status_number : Status → ℕ
 status_number Fine = 0
@@ -12,6 +15,7 @@ status_number ModelRefused = 4
 status_number ReadFault = 5
 status_number WriteFault = 6
 status_number OutOfMemory = 7
+status_number CertificateRefused = 8
 
 -- a report was written
 abbrev pub IsAnswer : Status → Type 0
@@ -23,3 +27,14 @@ IsAnswer ModelRefused = ⊥
 IsAnswer ReadFault = ⊥
 IsAnswer WriteFault = ⊥
 IsAnswer OutOfMemory = ⊥
+IsAnswer CertificateRefused = ⊥
+
+-- the status of a refusal: a certificate has one of its own
+abbrev pub refused_status : Refusal → Status
+refused_status (OfCertificate fault) = CertificateRefused
+refused_status (TooLong Cert) = CertificateRefused
+refused_status refusal = ModelRefused
+
+-- the line of a refusal was written
+abbrev pub IsRefusal : Status → Type 0
+IsRefusal status = (status ≡ ModelRefused) ⊎ (status ≡ CertificateRefused)

@@ -2,10 +2,13 @@
 
 ghost use Rattle.std.specs.Prelude.{◌≡◌, IfOk};
 ghost use Rattle.std.specs.String.{string_bytes};
-ghost use Rattle.stogame_app.specs.Refusals.{number_text, choice_text, choice_place as choice_place_text, tra_text, lab_text, formula_text};
+ghost use Rattle.stogame_app.specs.Refusals.{number_text, choice_text, choice_place as choice_place_text, tra_text, lab_text, formula_text, plan_cause_text, upper_text, ranks_text};
 
 use distributions::{ChoiceFault, NumberFault};
+use inductive_check::UpperCause;
 use label_reader::LabCause;
+use plan_text::PlanCause;
+use rank_certificate::RankCause;
 use rpatl_syntax::FormulaCause;
 use std::alloc::{AllocError, Global};
 use tra_reader::TraCause;
@@ -120,5 +123,45 @@ pub fn formula_cause(alloc: Global, cause: FormulaCause) -> Result<String, Alloc
         FormulaCause::ThresholdOutOfRange => String::from_str(alloc, "ThresholdOutOfRange"),
         FormulaCause::TooLong => String::from_str(alloc, "TooLong"),
         FormulaCause::NotYet => String::from_str(alloc, "NotYet"),
+    }
+}
+
+/// Why a text has no certificate.
+pub fn plan_cause(cause: PlanCause) -> &'static str
+    ensures { result.now ≡ plan_cause_text cause }
+{
+    match cause {
+        PlanCause::OutOfMemory => "OutOfMemory",
+        PlanCause::NoCertificate => "NoCertificate",
+        PlanCause::Version => "Version",
+        PlanCause::StateCount => "StateCount",
+        PlanCause::BadLine => "BadLine",
+        PlanCause::NumberOutOfRange => "NumberOutOfRange",
+        PlanCause::MissingLine => "MissingLine",
+    }
+}
+
+/// Why an upper table, or a reply to it, is refused at a state.
+pub fn upper_cause(alloc: Global, state: u32, cause: UpperCause) -> Result<String, AllocError>
+    ensures { IfOk result (λ said. string_bytes said ≡ upper_text state cause) }
+{
+    match cause {
+        UpperCause::OverOne => format!(in alloc; "OverOne state {state}"),
+        UpperCause::Goal => format!(in alloc; "Goal state {state}"),
+        UpperCause::Above { choice } => format!(in alloc; "Above state {state} choice {choice}"),
+        UpperCause::NoReply => format!(in alloc; "NoReply state {state}"),
+        UpperCause::Reply => format!(in alloc; "Reply state {state}"),
+    }
+}
+
+/// Why values, choices and ranks are refused at a state.
+pub fn ranks_cause(alloc: Global, state: u32, cause: RankCause) -> Result<String, AllocError>
+    ensures { IfOk result (λ said. string_bytes said ≡ ranks_text state cause) }
+{
+    match cause {
+        RankCause::Value => format!(in alloc; "Value state {state}"),
+        RankCause::Choice => format!(in alloc; "Choice state {state}"),
+        RankCause::Short { choice } => format!(in alloc; "Short state {state} choice {choice}"),
+        RankCause::NoStep { choice } => format!(in alloc; "NoStep state {state} choice {choice}"),
     }
 }

@@ -1,8 +1,9 @@
 //! What every refusal keeps, since its types hold its numbers.
 
-ghost use Rattle.stogame_app.specs.InFull.{IsInFull, ChoiceInFull, TraInFull, LabInFull};
+ghost use Rattle.stogame_app.specs.InFull.{IsInFull, ChoiceInFull, TraInFull, LabInFull, CertificateInFull};
 
 use crate::refusal::Refusal;
+use certificate_audit::AuditFault;
 use distributions::ChoiceFault;
 use label_reader::LabCause;
 use tra_reader::TraCause;
@@ -23,6 +24,10 @@ fn known_of_lab(cause: LabCause)
     ensures { LabInFull cause }
 {}
 
+fn known_of_certificate(fault: AuditFault)
+    ensures { CertificateInFull fault }
+{}
+
 impl Refusal {
     ghost use Rattle.stogame_app.specs.InFull.{RefusalInFull};
 
@@ -40,6 +45,7 @@ impl Refusal {
                 known_of_lab(fault.cause);
             }
             Refusal::OfFormula(fault) => known_of_number(fault.place),
+            Refusal::OfCertificate(fault) => known_of_certificate(*fault),
             Refusal::OfQuestion(_) | Refusal::TooLong(_) => {}
         }
     }

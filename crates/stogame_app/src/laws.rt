@@ -1,12 +1,24 @@
 //! Laws of what is written. Each function does nothing; its contract is the law.
 
-ghost use Rattle.std.specs.Prelude.{◌≡◌};
+ghost use Rattle.std.specs.Prelude.{◌≡◌, ◌≤◌, ℕ, List, length, true, Option, Some};
+ghost use Rattle.text_lines.specs.Limits.{most_bytes};
+ghost use Rattle.game_outside.specs.Outside.{Holding};
+ghost use Rattle.command_words.specs.Words.{Check, Audit, OfCheck, OfAudit};
+ghost use Rattle.stogame_app.specs.Sources.{sources_of};
+ghost use Rattle.stogame_app.specs.Run.{IsReportOf, IsAcceptedOf};
+ghost use Rattle.stogame_app.specs.declared.status.Status.{Status};
+ghost use Rattle.stogame_app.specs.declared.status.Status.TheVariants.{Fine};
 ghost use Rattle.stogame_app.specs.declared.refusal.Refusal.{Refusal};
 ghost use Rattle.stogame_app.specs.Refusals.{refusal_text};
 ghost use Rattle.stogame_app.specs.InFull.{RefusalInFull};
+ghost use Rattle.stogame_app.specs.Made.{IsMade};
 ghost use Rattle.stogame_app.specs.Outputs.{Output, output_text, IsWholeOutput};
 
-use plan_text::laws::certificates_have_one_reading;
+use bracket_engine::laws::{settled_lower_bounds_agree, settled_upper_bounds_agree};
+use plan_text::laws::{
+    certificates_are_read_back, certificates_are_what_is_read, certificates_have_one_reading,
+};
+use rpatl_syntax::laws::{formulas_of_texts_are_spellable, spellings_have_one_reading};
 use verdicts::laws::reports_have_one_reading;
 
 /// No two refusals have the same line, where their numbers have at most 64 digits. All that their types hold have at most 39.
@@ -20,4 +32,30 @@ pub fn outputs_have_one_reading()
 {
     reports_have_one_reading();
     certificates_have_one_reading();
+    spellings_have_one_reading();
+}
+
+/// What `check` writes is no longer than a text may be, with a certificate and without: so `audit` does not refuse it as too long.
+pub fn printed_certificates_are_short()
+    ensures { (holding : Option Holding) (check : Check) (text : List ℕ) (status : Status) → IsReportOf holding (OfCheck check) text status → length text ≤ most_bytes }
+{}
+
+/// What `check` writes with `--plan` is accepted by an audit of the same question, in the whole output as it stands, over a shelf
+/// that holds it and the same texts for the question. So `complete` of `run` says that the audit answers.
+pub fn what_check_writes_is_accepted()
+    ensures { (held later : Holding) (check : Check) (audit : Audit) (text : List ℕ) (status : Status) → IsReportOf (Some held) (OfCheck check) text status → check.plan ≡ true
+        → audit.asked ≡ check.asked → sources_of later check.asked ≡ sources_of held check.asked → later audit.certificate ≡ Some text → IsAcceptedOf later (OfAudit audit) }
+{
+    certificates_are_read_back();
+    certificates_are_what_is_read();
+    formulas_of_texts_are_spellable();
+}
+
+/// With status 0 the line of `make` is the same for the same seed and number of states, whatever the rounds that were asked for,
+/// the workers and their schedules.
+pub fn settled_games_agree()
+    ensures { (seed states asked other_asked : ℕ) (text other : List ℕ) → IsMade seed states asked text Fine → IsMade seed states other_asked other Fine → text ≡ other }
+{
+    settled_lower_bounds_agree();
+    settled_upper_bounds_agree();
 }

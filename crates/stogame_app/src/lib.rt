@@ -6,18 +6,21 @@
 #![tactic(auto)]
 
 mod adapters;
+mod answer;
+mod audit;
 mod causes;
+mod certificate;
+mod check;
 mod command;
 mod ends;
-mod grammar;
 mod known;
 pub mod laws;
 mod load;
+mod make;
 mod model;
 mod refusal;
 mod reports;
 mod status;
-mod words;
 
 pub use adapters::{FileShelf, OutSink};
 pub use command::run;

@@ -2,9 +2,10 @@
 
 ghost use Rattle.std.specs.Prelude.{◌≡◌, ◌++◌, IfOk, codes};
 ghost use Rattle.std.specs.String.{string_bytes};
-ghost use Rattle.stogame_app.specs.Refusals.{refusal_text, refused_line, formula_refused, question_refused, usage_text};
+ghost use Rattle.stogame_app.specs.Refusals.{refusal_text, refused_line, formula_refused, question_refused, certificate_refused, usage_text};
 
-use crate::causes::{formula_cause, lab_cause, tra_cause};
+use crate::causes::{formula_cause, lab_cause, plan_cause, ranks_cause, tra_cause, upper_cause};
+use certificate_audit::AuditFault;
 use formula_sets::PoseFault;
 use label_reader::LabFault;
 use rpatl_syntax::FormulaFault;
@@ -17,6 +18,7 @@ pub enum Text {
     Tra,
     Lab,
     Own,
+    Cert,
 }
 
 impl Text {
@@ -30,6 +32,7 @@ impl Text {
             Text::Tra => "tra",
             Text::Lab => "lab",
             Text::Own => "own",
+            Text::Cert => "cert",
         }
     }
 }
@@ -47,6 +50,8 @@ pub enum Refusal {
     OfFormula(FormulaFault),
     /// The formula poses no question.
     OfQuestion(PoseFault),
+    /// A fault of the certificate.
+    OfCertificate(AuditFault),
     /// A file has more bytes than are read.
     TooLong(Text),
 }
@@ -70,6 +75,7 @@ pub fn refusal_line(alloc: Global, refusal: &Refusal) -> Result<Vec<u8>, AllocEr
         }
         Refusal::OfFormula(fault) => formula_line(alloc, fault),
         Refusal::OfQuestion(fault) => question_line(alloc, fault),
+        Refusal::OfCertificate(fault) => certificate_line(alloc, *fault),
         Refusal::TooLong(text) => refused(alloc, *text, 0, "TooLong"),
     }
 }
@@ -104,6 +110,23 @@ fn question_cause(alloc: Global, cause: &[u8], name: &[u8]) -> Result<Vec<u8>, A
     line.extend_from_slice(name)?;
     line.extend_from_slice(b"\n")?;
     Ok(line)
+}
+
+// The line of a fault of the certificate: of its text, with the line, or of what it says, with the state.
+fn certificate_line(alloc: Global, fault: AuditFault) -> Result<Vec<u8>, AllocError>
+    ensures { IfOk result (λ line. line.items ≡ certificate_refused fault) }
+{
+    match fault {
+        AuditFault::Text(fault) => refused(alloc, Text::Cert, fault.line, plan_cause(fault.cause)),
+        AuditFault::Upper(fault) => {
+            let cause = upper_cause(alloc, fault.state, fault.cause)?;
+            refused(alloc, Text::Cert, 0, cause.as_str())
+        }
+        AuditFault::Ranks(fault) => {
+            let cause = ranks_cause(alloc, fault.state, fault.cause)?;
+            refused(alloc, Text::Cert, 0, cause.as_str())
+        }
+    }
 }
 
 // The line of a fault of a file.

@@ -5,11 +5,11 @@ ghost use Rattle.std.specs.Prelude.{◌≡◌};
 /// How a run ends. The program's exit status is its number.
 #[derive(Clone, Copy, Debug, PartialEq, Eq)]
 pub enum Status {
-    /// Every initial state has its line, and none is false or undecided.
+    /// Every initial state has its line, and none is false or undecided; or both tables of a made game are settled.
     Fine,
     /// Some initial state's line is false.
     SomeFalse,
-    /// None is false, and some is undecided.
+    /// None is false, and some is undecided; or a made game is not settled.
     SomeUndecided,
     /// The words denote no command.
     Usage,
@@ -21,6 +21,8 @@ pub enum Status {
     WriteFault,
     /// Memory was wanting. Nothing was written.
     OutOfMemory,
+    /// The certificate is refused.
+    CertificateRefused,
 }
 
 impl Status {
@@ -39,6 +41,7 @@ impl Status {
             Status::ReadFault => 5,
             Status::WriteFault => 6,
             Status::OutOfMemory => 7,
+            Status::CertificateRefused => 8,
         }
     }
 }

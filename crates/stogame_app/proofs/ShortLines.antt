@@ -1,0 +1,92 @@
+-- How long the lines of a report and of a certificate are at most.
+use Rattle.std.proofs.Common.{◌≡◌, ◌<◌, ◌≤◌, ◌+◌, ◌*◌, ◌^◌, ◌/◌, ◌%◌, ℕ, zero, suc, List, [], ◌∷◌, ◌++◌, length, All, Option, Some, None, refl, arith}
+use Rattle.std.specs.Prelude.{codes, decimal}
+use Rattle.std.proofs.lemmas.List.{length-append}
+use Rattle.std.proofs.lemmas.List.Elements.{All-head, All-tail}
+use Rattle.std.proofs.lemmas.Fmt.{length-decimal-le_wide}
+use Rattle.game_model.specs.Limits.{unit, most_states}
+use Rattle.plan_text.specs.Fixed.{fixed, last_digits, unit_digits}
+use Rattle.plan_text.specs.Entries.{Entry, IsSmall, IsInRange}
+use Rattle.plan_text.specs.Written.{choice_text, behind_space, entry_text, entry_lines, certificate_text}
+use Rattle.verdicts.specs.declared.verdict.Verdict.{Verdict}
+use Rattle.verdicts.specs.declared.verdict.Verdict.TheVariants.{Yes, No, Undecided, Bracket}
+use Rattle.verdicts.specs.declared.report.How.{How}
+use Rattle.verdicts.specs.declared.report.How.TheVariants.{Rounds, Audited}
+use Rattle.verdicts.specs.declared.report.ReportLine.{ReportLine}
+use Rattle.verdicts.specs.Report.{HasRounds, IsLine, labelled, how_text, ending, line_text, report}
+
+-- 1. Parts of lines.
+
+-- two texts, one behind another
+pub joined-short : (m n : ℕ) (front back : List ℕ) → length front ≤ m → length back ≤ n → length (front ++ back) ≤ m + n
+joined-short m n front back a b = omega (arith, length-append front back, a, b)
+
+-- a number of at most ten digits
+decimal-short : (n : ℕ) → n < 10 ^ 10 → length (decimal n) ≤ 10
+decimal-short n small = length-decimal-le_wide 10 n (omega arith) small (omega (arith, small))
+
+length-last_digits : (k n : ℕ) → length (last_digits k n) ≡ k
+unfolding last_digits
+length-last_digits zero n = refl
+length-last_digits (suc k) n = omega (arith, length-append (last_digits k (n / 10)) ((48 + n % 10) ∷ []), length-last_digits k (n / 10))
+
+-- a value: one digit, a point and twelve digits
+fixed-short : (units : ℕ) → length (fixed units) ≤ 14
+fixed-short units = omega (arith, length-last_digits unit_digits (units % unit))
+
+-- 2. The line of a state in a report.
+
+how-short : (how : How) → HasRounds how → length (how_text how) ≤ 18
+how-short (Rounds rounds) small = joined-short 8 10 (codes " rounds ") (decimal rounds) (omega arith) (decimal-short rounds (omega arith))
+how-short Audited small = omega arith
+
+ending-short : (verdict : Verdict) → length (ending verdict) ≤ 11
+ending-short Yes = omega arith
+ending-short No = omega arith
+ending-short Undecided = omega arith
+ending-short Bracket = omega arith
+
+line-short : (line : ReportLine) → IsLine line → length (line_text line) ≤ 87
+line-short line is =
+    joined-short 16 71 (codes "state " ++ decimal line.state) _ (joined-short 6 10 (codes "state ") (decimal line.state) (omega arith) (decimal-short line.state (omega (arith, is.state))))
+    (joined-short 21 50 (labelled (codes " lower ") line.lower) _ (joined-short 7 14 (codes " lower ") (fixed line.lower) (omega arith) (fixed-short line.lower))
+    (joined-short 21 29 (labelled (codes " upper ") line.upper) _ (joined-short 7 14 (codes " upper ") (fixed line.upper) (omega arith) (fixed-short line.upper))
+    (joined-short 18 11 (how_text line.how) (ending line.verdict) (how-short line.how is.rounds) (ending-short line.verdict))))
+
+-- a report has at most 87 bytes for each line
+pub report-short : (lines : List ReportLine) → All IsLine lines → length (report lines) ≤ 87 * length lines
+report-short [] are = omega arith
+report-short (line ∷ lines) are =
+    omega (arith, joined-short 87 (87 * length lines) (line_text line) (report lines) (line-short line (All-head IsLine line lines are)) (report-short lines (All-tail IsLine line lines are)))
+
+-- 3. The line of a state in a certificate.
+
+choice-short : (choice : Option ℕ) → IsSmall choice → length (choice_text choice) ≤ 10
+choice-short None small = omega arith
+choice-short (Some choice) small = decimal-short choice (omega (arith, small))
+
+-- a field behind a space, and more behind it
+spaced : (m n : ℕ) (field more : List ℕ) → length field ≤ m → length more ≤ n → length (behind_space field ++ more) ≤ 1 + m + n
+spaced m n field more a b = joined-short (1 + m) n (behind_space field) more (omega (arith, a)) b
+
+entry-short : (s : ℕ) (entry : Entry) → s < 10 ^ 10 → IsInRange entry → length (entry_text s entry) ≤ 74
+entry-short s entry small is =
+    joined-short 10 64 (decimal s) _ (decimal-short s small)
+    (spaced 14 49 (fixed entry.lower) _ (fixed-short entry.lower)
+    (spaced 10 38 (choice_text entry.choice) _ (choice-short entry.choice is.choice)
+    (spaced 10 27 (decimal entry.rank) _ (decimal-short entry.rank (omega (arith, is.rank)))
+    (spaced 14 12 (fixed entry.upper) _ (fixed-short entry.upper)
+    (spaced 10 1 (choice_text entry.reply) (codes "\n") (choice-short entry.reply is.reply) (omega arith))))))
+
+-- the lines of so many states, of which the first is s
+lines-short : (s : ℕ) (entries : List Entry) → s + length entries ≤ 10 ^ 10 → All IsInRange entries → length (entry_lines s entries) ≤ 74 * length entries
+lines-short s [] few are = omega arith
+lines-short s (entry ∷ entries) few are =
+    omega (arith, joined-short 74 (74 * length entries) (entry_text s entry) (entry_lines (s + 1) entries) (entry-short s entry (omega (arith, few)) (All-head IsInRange entry entries are)) (lines-short (s + 1) entries (omega (arith, few)) (All-tail IsInRange entry entries are)))
+
+-- a certificate has at most 74 bytes for each state of a game, and a first line
+pub certificate-short : (entries : List Entry) → length entries ≤ most_states → All IsInRange entries → length (certificate_text entries) ≤ 25 + 74 * most_states
+certificate-short entries few are =
+    joined-short 25 (74 * most_states) (codes "certificate 1 " ++ (decimal (length entries) ++ codes "\n")) (entry_lines 0 entries)
+    (joined-short 14 11 (codes "certificate 1 ") (decimal (length entries) ++ codes "\n") (omega arith) (joined-short 10 1 (decimal (length entries)) (codes "\n") (decimal-short (length entries) (omega (arith, few))) (omega arith)))
+    (omega (arith, few, lines-short 0 entries (omega (arith, few)) are))

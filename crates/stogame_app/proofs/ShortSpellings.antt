@@ -1,0 +1,157 @@
+-- How long the spelling of a formula is at most: ten bytes for each byte of the text that denotes it, and some for its threshold.
+use Rattle.std.proofs.Common.{◌≡◌, ◌<◌, ◌≤◌, ◌+◌, ◌-◌, ◌*◌, ◌^◌, ℕ, Bool, true, false, List, [], ◌∷◌, ◌++◌, length, drop, Option, Some, None, ap, arith}
+use Rattle.std.specs.Prelude.{◌==◌, nat_lt, codes, decimal, if◌then◌else◌}
+use Rattle.std.proofs.lemmas.List.{length-append, length-take}
+use Rattle.std.proofs.lemmas.Fmt.{length-decimal-le_wide}
+use Rattle.distributions.specs.Fraction.{Fraction}
+use Rattle.rpatl_syntax.specs.declared.formula.Bound.{Bound}
+use Rattle.rpatl_syntax.specs.declared.formula.Bound.TheVariants.{AtLeast, Above, AtMost, Below, AskMax, AskMin}
+use Rattle.rpatl_syntax.specs.Formula.{State, True, False, Label, Not, And, Or, Implies, Tree}
+use Rattle.rpatl_syntax.specs.Grammar.{is_quoted, unquoted}
+use Rattle.rpatl_syntax.specs.Limits.{longest}
+use Rattle.rpatl_syntax.specs.Rules.{between, IsState, IsEither, IsBoth, IsUnary, plain_state, implies, plain_either, or, plain_both, and, negation, brackets, everywhere, nowhere, label, with_commas, IsCoalition, IsComparison, IsBound, IsPath, reach, until, IsFormula, Denotes}
+use Rattle.rpatl_syntax.specs.Spelling.{strength_of, in_place, state_spelling, path_spelling, names_spelling, coalition_spelling, fraction_spelling, bound_spelling, spelling}
+use Rattle.rpatl_syntax.specs.TokenRules.{AreCut, nothing, blank, token}
+use Rattle.stogame_app.proofs.ShortLines.{joined-short}
+
+-- 1. Tokens are together no longer than the text that is cut into them.
+
+abbrev bytes_in : List (List ℕ) → ℕ
+bytes_in [] = 0
+bytes_in (t ∷ ts) = length t + bytes_in ts
+
+bytes_in-append : (ts us : List (List ℕ)) → bytes_in (ts ++ us) ≡ bytes_in ts + bytes_in us
+bytes_in-append [] us = omega arith
+bytes_in-append (t ∷ ts) us = omega (arith, bytes_in-append ts us)
+
+cut-short : (text : List ℕ) (tokens : List (List ℕ)) → AreCut text tokens → bytes_in tokens ≤ length text
+cut-short _ _ nothing = omega arith
+cut-short _ _ (blank b rest tokens is cut) = omega (arith, cut-short rest tokens cut)
+cut-short _ _ (token spelling rest tokens is cut) = omega (arith, cut-short rest tokens cut, length-append spelling rest)
+
+-- 2. The spelling of a state formula.
+
+in_place-short : (least : ℕ) (x : State) (text : List ℕ) → length (in_place least x text) ≤ length text + 2
+in_place-short least x text = by (nat_lt (strength_of x) least)
+  where
+    by : (b : Bool) → length (if b then codes "(" ++ (text ++ codes ")") else text) ≤ length text + 2
+    by true = omega (arith, length-append text (codes ")"))
+    by false = omega arith
+
+-- two operands in their places, and the sign between them
+operands-short : (least other : ℕ) (x y : State) (sign : List ℕ) → length sign ≤ 4
+    → length (in_place least x (state_spelling x) ++ (sign ++ in_place other y (state_spelling y))) ≤ length (state_spelling x) + (8 + length (state_spelling y))
+operands-short least other x y sign small =
+    let left = in_place least x (state_spelling x) in
+    let right = in_place other y (state_spelling y) in
+    omega (arith, small, length-append left (sign ++ right), length-append sign right, in_place-short least x (state_spelling x), in_place-short other y (state_spelling y))
+
+-- a quoted name in its quotes
+named-short : (token : List ℕ) → is_quoted token ≡ true → length (unquoted token) + 1 ≤ length token
+named-short [] quoted = cc (quoted)
+named-short (b ∷ bytes) quoted = omega (arith, length-take (length (b ∷ bytes) - 2) (drop 1 (b ∷ bytes)))
+
+-- ten bytes for each byte of the tokens are enough, even with eight more: a sign has four at most, and the brackets of each side two
+abbrev Fits : List (List ℕ) → State → Type 0
+Fits ts x = length (state_spelling x) + 8 ≤ 10 * bytes_in ts
+
+both-fit : (least other : ℕ) (ts us : List (List ℕ)) (x y : State) (sign mark : List ℕ) → length sign ≤ 4 → Fits ts x → Fits us y
+    → length (in_place least x (state_spelling x) ++ (sign ++ in_place other y (state_spelling y))) + 8 ≤ 10 * bytes_in (between ts mark us)
+both-fit least other ts us x y sign mark small a b = omega (arith, operands-short least other x y sign small, bytes_in-append ts (mark ∷ us), a, b)
+
+mutual
+  unary-fits : (room : ℕ) (ts : List (List ℕ)) (x : State) → IsUnary room ts x → Fits ts x
+  unary-fits _ _ _ (negation room ts x d) = omega (arith, unary-fits room ts x d, in_place-short 3 x (state_spelling x))
+  unary-fits _ _ _ (brackets room ts x d) = omega (arith, state-fits room ts x d, bytes_in-append ts (codes ")" ∷ []))
+  unary-fits _ _ _ (everywhere room) = omega arith
+  unary-fits _ _ _ (nowhere room) = omega arith
+  unary-fits _ _ _ (label room quote quoted) = omega (arith, named-short quote quoted, length-append (unquoted quote) (codes "\""))
+
+  both-fits : (room : ℕ) (ts : List (List ℕ)) (x : State) → IsBoth room ts x → Fits ts x
+  both-fits _ _ _ (plain_both room ts x d) = unary-fits room ts x d
+  both-fits _ _ _ (and room ts us x y d e) = both-fit 2 3 ts us x y (codes " & ") (codes "&") (omega arith) (both-fits room ts x d) (unary-fits room us y e)
+
+  either-fits : (room : ℕ) (ts : List (List ℕ)) (x : State) → IsEither room ts x → Fits ts x
+  either-fits _ _ _ (plain_either room ts x d) = both-fits room ts x d
+  either-fits _ _ _ (or room ts us x y d e) = both-fit 1 2 ts us x y (codes " | ") (codes "|") (omega arith) (either-fits room ts x d) (both-fits room us y e)
+
+  state-fits : (room : ℕ) (ts : List (List ℕ)) (x : State) → IsState room ts x → Fits ts x
+  state-fits _ _ _ (plain_state room ts x d) = either-fits room ts x d
+  state-fits _ _ _ (implies room ts us x y d e) = both-fit 0 1 ts us x y (codes " => ") (codes "=>") (omega arith) (state-fits room ts x d) (either-fits room us y e)
+
+-- 3. The parts of a formula.
+
+sides-short : (left : State) (right : List ℕ) → length (path_spelling left right) ≤ length (state_spelling left) + (3 + length right)
+sides-short True right = omega arith
+sides-short False right = omega (arith, length-append (state_spelling False) (codes " U " ++ right))
+sides-short (Label name) right = omega (arith, length-append (state_spelling (Label name)) (codes " U " ++ right))
+sides-short (Not x) right = omega (arith, length-append (state_spelling (Not x)) (codes " U " ++ right))
+sides-short (And x y) right = omega (arith, length-append (state_spelling (And x y)) (codes " U " ++ right))
+sides-short (Or x y) right = omega (arith, length-append (state_spelling (Or x y)) (codes " U " ++ right))
+sides-short (Implies x y) right = omega (arith, length-append (state_spelling (Implies x y)) (codes " U " ++ right))
+
+path-short : (ts : List (List ℕ)) (left right : State) → IsPath ts left right → length (path_spelling left (state_spelling right)) ≤ 10 * bytes_in ts
+path-short _ _ _ (reach ts y d) = omega (arith, state-fits _ ts y d)
+path-short _ _ _ (until ts us x y d e) = omega (arith, sides-short x (state_spelling y), state-fits _ ts x d, state-fits _ us y e, bytes_in-append ts (codes "U" ∷ us))
+
+names-short : (names : List (List ℕ)) → length (names_spelling names) ≤ bytes_in (with_commas names)
+names-short [] = omega arith
+names-short (name ∷ []) = omega arith
+names-short (name ∷ other ∷ names) = omega (arith, names-short (other ∷ names), length-append name (codes "," ++ names_spelling (other ∷ names)))
+
+-- a blank stands behind the coalition
+coalition-short : (ts : List (List ℕ)) (coalition : Option (List (List ℕ))) → IsCoalition ts coalition → length (coalition_spelling coalition) ≤ bytes_in ts + 1
+coalition-short ts None is = omega arith
+coalition-short ts (Some names) is =
+    omega (arith, ap bytes_in is.0, names-short names, bytes_in-append (with_commas names) (codes ">>" ∷ []), length-append (names_spelling names) (codes ">> "))
+
+decimal-short : (n : ℕ) → n < 10 ^ 64 → length (decimal n) ≤ 64
+decimal-short n small = length-decimal-le_wide 64 n (omega arith) small small
+
+fraction-short : (p : Fraction) → p.num < 10 ^ 64 → p.den < 10 ^ 64 → length (fraction_spelling p) ≤ 129
+fraction-short p num den = by (p.den == 1)
+  where
+    by : (b : Bool) → length (if b then decimal p.num else decimal p.num ++ (codes "/" ++ decimal p.den)) ≤ 129
+    by true = omega (arith, decimal-short p.num num)
+    by false = joined-short 64 65 (decimal p.num) (codes "/" ++ decimal p.den) (decimal-short p.num num) (joined-short 1 64 (codes "/") (decimal p.den) (omega arith) (decimal-short p.den den))
+
+compared-short : (word sign : List ℕ) (ts : List (List ℕ)) (p : Fraction) → length word ≤ 3 → IsComparison sign ts p → length (word ++ fraction_spelling p) ≤ 132
+compared-short word sign ts p small is =
+    let threshold = is.2 in
+    let fine = threshold.value.fraction.fine in
+    joined-short 3 129 word (fraction_spelling p) small (fraction-short p (omega (arith, threshold.small, fine)) (omega (arith, fine)))
+
+bound-short : (ts : List (List ℕ)) (bound : Bound) → IsBound ts bound → length (bound_spelling bound) ≤ 132
+bound-short ts (AtLeast p) is = compared-short (codes "P>=") (codes ">=") ts p (omega arith) is
+bound-short ts (Above p) is = compared-short (codes "P>") (codes ">") ts p (omega arith) is
+bound-short ts (AtMost p) is = compared-short (codes "P<=") (codes "<=") ts p (omega arith) is
+bound-short ts (Below p) is = compared-short (codes "P<") (codes "<") ts p (omega arith) is
+bound-short ts AskMax is = omega arith
+bound-short ts AskMin is = omega arith
+
+-- 4. The whole formula.
+
+parts-short : (ts : List (List ℕ)) (f : Tree) → IsFormula ts f → length (spelling f) ≤ 10 * bytes_in ts + 138
+parts-short ts f is =
+    let path = path_spelling f.left (state_spelling f.right) in
+    let behind_bound = codes " [ " ++ (path ++ codes " ]") in
+    omega (
+      arith,
+      ap bytes_in is.whole,
+      bytes_in-append is.team (is.asks ++ codes "[" ∷ (is.sides ++ codes "]" ∷ [])),
+      bytes_in-append is.asks (codes "[" ∷ (is.sides ++ codes "]" ∷ [])),
+      bytes_in-append is.sides (codes "]" ∷ []),
+      length-append (coalition_spelling f.coalition) (bound_spelling f.bound ++ behind_bound),
+      length-append (bound_spelling f.bound) behind_bound,
+      length-append path (codes " ]"),
+      coalition-short is.team f.coalition is.coalition,
+      bound-short is.asks f.bound is.bound,
+      path-short is.sides f.left f.right is.path,
+    )
+
+-- the most bytes of the spelling of a formula that was read
+abbrev pub most_spelled : ℕ
+most_spelled = 10 * longest + 138
+
+pub spelling-short : (text : List ℕ) (f : Tree) → Denotes text f → length (spelling f) ≤ most_spelled
+spelling-short text f denotes = omega (arith, denotes.short, cut-short text denotes.tokens denotes.cut, parts-short denotes.tokens f denotes.formula)

@@ -1,0 +1,5 @@
+use Rattle.stogame_app.proofs.ShortOutputs.{printed-short}
+use Rattle.stogame_app.proofs.laws.printed_certificates_are_short.Goals as goal
+
+pub returns : goal.returns
+returns c = printed-short
