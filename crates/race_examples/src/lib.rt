@@ -4,7 +4,13 @@
 #[cfg(test)]
 mod brackets;
 mod draft;
+#[cfg(test)]
+mod exact;
 mod games;
+#[cfg(test)]
+mod mutants;
+#[cfg(test)]
+mod planned;
 #[cfg(test)]
 mod random;
 #[cfg(test)]

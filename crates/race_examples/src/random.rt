@@ -62,6 +62,38 @@ pub fn random_game(alloc: Global, draw: &mut Draw) -> Option<Game> {
     draft.game(alloc)
 }
 
+// The edges of a choice: to one state, or to two with probability 1/2 each.
+fn coin_edges(alloc: Global, draw: &mut Draw, states: u32, toss: bool) -> Option<Vec<(u32, u64)>>
+    requires { 0 < states }
+{
+    let one = draw.below(states);
+    let other = draw.below(states);
+    let mut edges = Vec::new(alloc);
+    edges.push((one.min(other), 1)).ok()?;
+    if toss && one != other {
+        edges.push((one.max(other), 1)).ok()?;
+    }
+    Some(edges)
+}
+
+/// A game of two to five states with two choices each, of which two at most toss a coin, and the others lead to one
+/// state. So the common denominator is 4 at most.
+pub fn random_coins(alloc: Global, draw: &mut Draw) -> Option<Game> {
+    let states = 2 + draw.below(4);
+    let mut draft = Draft::new(alloc, states);
+    let mut coins: u32 = 2;
+    for _state in 0..states {
+        let toss = coins > 0 && draw.below(2) == 0;
+        if toss {
+            coins -= 1;
+        }
+        let first = coin_edges(alloc, draw, states, toss)?;
+        let second = coin_edges(alloc, draw, states, false)?;
+        draft.two(alloc, &first, &second)?;
+    }
+    draft.game(alloc)
+}
+
 /// A question over a game: sides at random, one goal, and perhaps a dead state.
 pub fn random_question<'g>(alloc: Global, draw: &mut Draw, game: &'g Game) -> Option<Question<'g>> {
     game.known();

@@ -6,6 +6,7 @@ ghost use Rattle.game_model.specs.Dual.{IsZeroSet};
 ghost use Rattle.value_words.specs.Passes.{IsOf, Grew};
 
 mod certificates;
+mod mutants;
 mod thresholds;
 mod up_steps;
 

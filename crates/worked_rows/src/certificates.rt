@@ -7,7 +7,25 @@ use std::test::Fail;
 use stogame_app::Status;
 
 /// One worker, and the certificate.
-const PLAN: &[&str] = &["--workers", "1", "--plan"];
+pub const PLAN: &[&str] = &["--workers", "1", "--plan"];
+
+/// The loop or coin, asked for the most, with its certificate.
+pub const MOST_OF_LOOP_OR_COIN: Row<'static> = Row {
+    tra: LOOP_OR_COIN,
+    lab: GOAL_AT_1,
+    own: None,
+    formula: "Pmax=? [ F \"goal\" ]",
+    numbers: PLAN,
+};
+
+/// The first player's threshold in the game of two players, with its certificate.
+pub const FIRST_OF_TWO_PLAYERS: Row<'static> = Row {
+    tra: TWO_PLAYERS,
+    lab: GOAL_AT_2,
+    own: Some(SECOND_OWNS_1),
+    formula: "<<p1>> P>=0.6 [ F \"goal\" ]",
+    numbers: PLAN,
+};
 
 /// What is printed of the loop or coin.
 const LOOP_OR_COIN_PLAN: &str =
@@ -15,14 +33,13 @@ const LOOP_OR_COIN_PLAN: &str =
 
 #[test]
 fn a_plan_leaves_the_loop(rt: HostRuntime) -> Result<(), Fail> {
-    let row = Row {
-        tra: LOOP_OR_COIN,
-        lab: GOAL_AT_1,
-        own: None,
-        formula: "Pmax=? [ F \"goal\" ]",
-        numbers: PLAN,
-    };
-    writes(&rt, rt.alloc(), row, LOOP_OR_COIN_PLAN, Status::Fine)
+    writes(
+        &rt,
+        rt.alloc(),
+        MOST_OF_LOOP_OR_COIN,
+        LOOP_OR_COIN_PLAN,
+        Status::Fine,
+    )
 }
 
 #[test]
@@ -41,14 +58,7 @@ fn a_printed_plan_is_read_back(rt: HostRuntime) -> Result<(), Fail> {
 
 #[test]
 fn both_players_have_their_choices(rt: HostRuntime) -> Result<(), Fail> {
-    let row = Row {
-        tra: TWO_PLAYERS,
-        lab: GOAL_AT_2,
-        own: Some(SECOND_OWNS_1),
-        formula: "<<p1>> P>=0.6 [ F \"goal\" ]",
-        numbers: PLAN,
-    };
     let text =
         "state 0 lower 0.650000000000 upper 0.650000000000 rounds 1 True\nformula <<p1>> P>=3/5 [ F \"goal\" ]\ncertificate 1 4\n0 0.650000000000 1 1 0.650000000000 -\n1 0.200000000000 - 1 0.200000000000 1\n2 1.000000000000 - 0 1.000000000000 -\n3 0.000000000000 - 0 0.000000000000 -\n";
-    writes(&rt, rt.alloc(), row, text, Status::Fine)
+    writes(&rt, rt.alloc(), FIRST_OF_TWO_PLAYERS, text, Status::Fine)
 }

@@ -14,11 +14,17 @@ use stogame_app::{Status, run};
 
 const REACH: &str = "Pmax=? [ F \"goal\" ]";
 
-const DRAWN: [&str; 36] = [
+// The words of a command of each kind.
+const CHECK: &[&str] = &["check", "m.tra", "m.lab", REACH];
+
+const AUDIT: &[&str] = &["audit", "m.tra", "m.lab", REACH, "c"];
+
+const DRAWN: [&str; 37] = [
     "m.tra",
     "m.lab",
     REACH,
     "m.own",
+    "c",
     "-",
     "",
     "5",
@@ -75,13 +81,13 @@ impl Draws {
         DRAWN[self.below(DRAWN.len())]
     }
 
-    // The words of a command with up to five words put between them, and one changed at times.
-    fn list(&mut self, alloc: Global) -> Result<Vec<&'static str>, Fail> {
-        let mut command = ["check", "m.tra", "m.lab", REACH];
-        if self.below(4) == 0 {
-            command[self.below(4)] = self.word();
-        }
+    // These words with up to five words put between them, and one changed at times.
+    fn list(&mut self, alloc: Global, command: &[&'static str]) -> Result<Vec<&'static str>, Fail> {
         let mut list = command.to_vec(alloc)?;
+        if self.below(4) == 0 && !list.is_empty() {
+            let place = self.below(list.len());
+            list[place] = self.word();
+        }
         for _ in 0..self.below(6) {
             let place = self.below(list.len() + 1);
             list.insert(place, self.word())?;
@@ -105,23 +111,36 @@ fn ends_with_usage<R: Threads + Sync + Abort>(
     Ok(run(rt, alloc, &words, &mut shelf, &mut out, &OpenGate {}) == Status::Usage)
 }
 
-#[test]
-fn drawn_words_are_read_as_a_plain_reading_says(rt: HostRuntime) -> Result<(), Fail> {
-    let alloc = rt.alloc();
-    let mut draws = Draws { state: 1 };
+// Reads lists that are drawn around the words of a command in both ways. It gives how many of them denote a command.
+fn read_drawn<R: Threads + Sync + Abort>(
+    rt: &R,
+    alloc: Global,
+    draws: &mut Draws,
+    words: &[&'static str],
+) -> Result<u32, Fail> {
     let mut commands = 0_u32;
     for _ in 0..2500 {
-        let list = draws.list(alloc)?;
+        let list = draws.list(alloc, words)?;
         let command = is_command(alloc, &list)?;
-        let usage = ends_with_usage(&rt, alloc, &list)?;
+        let usage = ends_with_usage(rt, alloc, &list)?;
         assert!(rt; command != usage, "{:?} is read otherwise", list.as_slice());
         if command {
             commands = commands.saturating_add(1);
         }
     }
-    assert!(rt;
-        300 < commands && commands < 2000,
-        "{commands} are commands"
-    );
+    Ok(commands)
+}
+
+#[test]
+fn drawn_words_are_read_as_a_plain_reading_says(rt: HostRuntime) -> Result<(), Fail> {
+    let alloc = rt.alloc();
+    let mut draws = Draws { state: 1 };
+    for words in [CHECK, AUDIT] {
+        let commands = read_drawn(&rt, alloc, &mut draws, words)?;
+        assert!(rt;
+            300 < commands && commands < 2000,
+            "{commands} are commands"
+        );
+    }
     Ok(())
 }

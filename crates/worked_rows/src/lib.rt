@@ -7,6 +7,10 @@
 #[cfg(test)]
 mod adapters;
 #[cfg(test)]
+mod audit_faults;
+#[cfg(test)]
+mod audits;
+#[cfg(test)]
 mod certificates;
 #[cfg(test)]
 mod drawn_words;
@@ -17,7 +21,11 @@ mod formulas;
 #[cfg(test)]
 mod labels;
 #[cfg(test)]
+mod made;
+#[cfg(test)]
 mod models;
+#[cfg(test)]
+mod other_certificates;
 #[cfg(test)]
 mod plain_reading;
 #[cfg(test)]

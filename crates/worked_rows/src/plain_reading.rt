@@ -3,9 +3,30 @@
 use std::alloc::Global;
 use std::test::Fail;
 
+// Which of a command's words is the formula, counted from 0; it may be empty.
+const FORMULA: usize = 2;
+
+// What a command takes.
+#[derive(Clone, Copy)]
+struct Taken {
+    places: usize,
+    options: &'static [&'static str],
+}
+
+const CHECK: Taken = Taken {
+    places: 3,
+    options: &["--own", "--rounds", "--workers", "--plan"],
+};
+
+const AUDIT: Taken = Taken {
+    places: 4,
+    options: &["--own"],
+};
+
 // What the words so far say.
 #[derive(Drop)]
 struct Reading<'a> {
+    taken: Taken,
     places: usize,
     given: Vec<&'a str>,
     waiting: Option<&'a str>,
@@ -15,20 +36,27 @@ struct Reading<'a> {
 
 /// Whether the words denote a command.
 pub fn is_command(alloc: Global, words: &[&str]) -> Result<bool, Fail> {
-    let Some((command, rest)) = words.split_first() else {
-        return Ok(false);
-    };
+    match words.split_first() {
+        Some((name, rest)) if *name == "check" => is_taken(alloc, CHECK, rest),
+        Some((name, rest)) if *name == "audit" => is_taken(alloc, AUDIT, rest),
+        _ => Ok(false),
+    }
+}
+
+// Whether a command takes the words behind its name.
+fn is_taken(alloc: Global, taken: Taken, words: &[&str]) -> Result<bool, Fail> {
     let mut reading = Reading {
+        taken,
         places: 0,
         given: Vec::new(alloc),
         waiting: None,
         only_places: false,
-        wrong: *command != "check",
+        wrong: false,
     };
-    for word in rest {
+    for word in words {
         reading.read(word)?;
     }
-    Ok(!reading.wrong && reading.waiting.is_none() && reading.places == 3)
+    Ok(!reading.wrong && reading.waiting.is_none() && reading.places == taken.places)
 }
 
 impl<'a> Reading<'a> {
@@ -51,7 +79,7 @@ impl<'a> Reading<'a> {
     }
 
     fn read_option(&mut self, name: &'a str, value: Option<&str>) -> Result<(), Fail> {
-        if self.given.contains(&name) || !is_known(name) {
+        if self.given.contains(&name) || !self.taken.options.contains(&name) {
             self.wrong = true;
         }
         self.given.push(name)?;
@@ -70,15 +98,11 @@ impl<'a> Reading<'a> {
                 self.wrong = self.wrong || !takes(name, word);
             }
             None => {
-                self.wrong = self.wrong || word.is_empty() && self.places < 2;
+                self.wrong = self.wrong || word.is_empty() && self.places != FORMULA;
                 self.places = self.places.saturating_add(1);
             }
         }
     }
-}
-
-fn is_known(name: &str) -> bool {
-    ["--own", "--rounds", "--workers", "--plan"].contains(&name)
 }
 
 fn takes(name: &str, value: &str) -> bool {

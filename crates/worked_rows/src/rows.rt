@@ -1,6 +1,8 @@
 //! Rows: files in memory and words, run, and what is written.
 
-use game_outside::{Gate, HeldFile, MemShelf, MemSink, Name, OpenGate, SteadyShelf, SteadySink};
+use game_outside::{
+    Gate, HeldFile, MemShelf, MemSink, Name, OpenGate, Shelf, SteadyShelf, SteadySink,
+};
 use std::alloc::Global;
 use std::process::Abort;
 use std::test::Fail;
@@ -33,12 +35,17 @@ pub fn plain_row<'a>(tra: &'a str, lab: &'a str, formula: &'a str) -> Row<'a> {
 
 /// A file of this name.
 pub fn file(alloc: Global, name: &str, text: &str) -> Result<HeldFile, Fail> {
+    file_of_bytes(alloc, name, text.as_bytes())
+}
+
+/// A file of this name with these bytes.
+pub fn file_of_bytes(alloc: Global, name: &str, bytes: &[u8]) -> Result<HeldFile, Fail> {
     let Ok(name) = Name::from_bytes(alloc, name.as_bytes()) else {
         return Err(Fail::new("no memory"));
     };
     Ok(HeldFile {
         name,
-        bytes: text.as_bytes().to_vec(alloc)?,
+        bytes: bytes.to_vec(alloc)?,
     })
 }
 
@@ -60,7 +67,8 @@ pub fn words(alloc: Global, words: &[&str]) -> Result<Vec<String>, Fail> {
     Ok(owned)
 }
 
-fn add_words(alloc: Global, owned: &mut Vec<String>, words: &[&str]) -> Result<(), Fail> {
+/// Adds these words.
+pub fn add_words(alloc: Global, owned: &mut Vec<String>, words: &[&str]) -> Result<(), Fail> {
     for word in words {
         owned.push(String::from_str(alloc, word)?)?;
     }
@@ -100,11 +108,22 @@ pub fn runs<R: Threads + Sync + Abort, G: Gate + Sync>(
 ) -> Result<(Status, Vec<u8>), Fail> {
     let words = row_words(alloc, row)?;
     let mut shelf = SteadyShelf::new(files(alloc, row)?);
+    ends(rt, alloc, &words, &mut shelf, gate)
+}
+
+/// How a run with these words ends over a shelf, and what it writes to a sink that never fails.
+pub fn ends<R: Threads + Sync + Abort, H: Shelf, G: Gate + Sync>(
+    rt: &R,
+    alloc: Global,
+    words: &[String],
+    shelf: &mut H,
+    gate: &G,
+) -> Result<(Status, Vec<u8>), Fail> {
     let mut out = SteadySink::new(alloc);
     if out.reserve(1000).is_err() {
         return Err(Fail::new("no memory"));
     }
-    let ended = run(rt, alloc, &words, &mut shelf, &mut out, gate);
+    let ended = run(rt, alloc, words, shelf, &mut out, gate);
     match out.bytes() {
         Some(written) => Ok((ended, written.to_vec(alloc)?)),
         None => Err(Fail::new("the text is lost")),

@@ -1,43 +1,40 @@
 //! Words of the command line.
 
 use crate::models::{COIN_LOOP, COIN_LOOP_REPORT, GOAL_AT_1, SECOND_OWNS_1, USAGE};
-use crate::rows::{file, words};
-use game_outside::{HeldFile, OpenGate, SteadyShelf, SteadySink};
+use crate::rows::{ends, file, words};
+use game_outside::{HeldFile, OpenGate, SteadyShelf};
 use std::alloc::Global;
 use std::process::Abort;
 use std::test::Fail;
 use std::thread::Threads;
-use stogame_app::{Status, run};
+use stogame_app::Status;
 
 const REACH: &str = "Pmax=? [ F \"goal\" ]";
 
-/// The files of the coin loop; a single minus is the name of one as well.
+/// A certificate of the coin loop's value.
+const COIN_LOOP_CERTIFICATE: &str =
+    "certificate 1 3\n0 0.500000000000 0 1 0.500000000000 -\n1 1.000000000000 - 0 1.000000000000 -\n2 0.000000000000 - 0 0.000000000000 -\n";
+
+/// The files of the coin loop, and a certificate; a single minus is the name of the transition file as well.
 pub fn coin_loop_files(alloc: Global) -> Result<Vec<HeldFile>, Fail> {
     let mut files = Vec::new(alloc);
     files.push(file(alloc, "m.tra", COIN_LOOP)?)?;
     files.push(file(alloc, "m.lab", GOAL_AT_1)?)?;
     files.push(file(alloc, "m.own", SECOND_OWNS_1)?)?;
     files.push(file(alloc, "-", COIN_LOOP)?)?;
+    files.push(file(alloc, "c", COIN_LOOP_CERTIFICATE)?)?;
     Ok(files)
 }
 
 // How a run with these words ends, and what it writes.
-fn ends<R: Threads + Sync + Abort>(
+fn ends_with<R: Threads + Sync + Abort>(
     rt: &R,
     alloc: Global,
     given: &[&str],
 ) -> Result<(Status, Vec<u8>), Fail> {
     let words = words(alloc, given)?;
     let mut shelf = SteadyShelf::new(coin_loop_files(alloc)?);
-    let mut out = SteadySink::new(alloc);
-    if out.reserve(1000).is_err() {
-        return Err(Fail::new("no memory"));
-    }
-    let ended = run(rt, alloc, &words, &mut shelf, &mut out, &OpenGate {});
-    match out.bytes() {
-        Some(written) => Ok((ended, written.to_vec(alloc)?)),
-        None => Err(Fail::new("the text is lost")),
-    }
+    ends(rt, alloc, &words, &mut shelf, &OpenGate {})
 }
 
 fn writes<R: Threads + Sync + Abort>(
@@ -47,7 +44,7 @@ fn writes<R: Threads + Sync + Abort>(
     text: &str,
     status: Status,
 ) -> Result<(), Fail> {
-    let (ended, written) = ends(rt, alloc, given)?;
+    let (ended, written) = ends_with(rt, alloc, given)?;
     let last = given.last().copied().unwrap_or("");
     assert!(rt;
         ended == status,
@@ -323,4 +320,81 @@ fn a_run_of_no_rounds_has_its_certificate(rt: HostRuntime) -> Result<(), Fail> {
     let text =
         "state 0 lower 0.000000000000 upper 0.549755813888 rounds 0 Bracket\nformula Pmax=? [ F \"goal\" ]\ncertificate 1 3\n0 0.000000000000 - 0 0.549755813888 -\n1 1.000000000000 - 0 1.000000000000 -\n2 0.000000000000 - 0 0.000000000000 -\n";
     writes(&rt, rt.alloc(), &given, text, Status::Fine)
+}
+
+#[test]
+fn an_audit_with_other_words_gives_the_usage_line(rt: HostRuntime) -> Result<(), Fail> {
+    let alloc = rt.alloc();
+    let lists: [&[&str]; 25] = [
+        &["audit"],
+        &["audit", "m.tra", "m.lab", REACH],
+        &["audit", "m.tra", "m.lab", REACH, ""],
+        &["audit", "m.tra", "m.lab", REACH, "c", "more"],
+        &["audit", "m.tra", "m.lab", REACH, "c", ""],
+        &["audit", "", "m.lab", REACH, "c"],
+        &["audit", "m.tra", "", REACH, "c"],
+        &["audit", "m.tra", "m.lab", REACH, "-c"],
+        &["audit", "m.tra", "m.lab", REACH, "c", "--rounds", "5"],
+        &["audit", "m.tra", "m.lab", REACH, "c", "--rounds=5"],
+        &["audit", "m.tra", "m.lab", REACH, "c", "--workers", "1"],
+        &["audit", "m.tra", "m.lab", REACH, "c", "--workers=1"],
+        &["audit", "m.tra", "m.lab", REACH, "c", "--plan"],
+        &["audit", "m.tra", "m.lab", REACH, "--plan"],
+        &["audit", "m.tra", "m.lab", REACH, "--certificate", "c"],
+        &[
+            "audit", "m.tra", "m.lab", REACH, "c", "--own", "m.own", "--own", "m.own",
+        ],
+        &[
+            "audit",
+            "m.tra",
+            "m.lab",
+            REACH,
+            "c",
+            "--own=m.own",
+            "--own=m.own",
+        ],
+        &["audit", "m.tra", "m.lab", REACH, "c", "--own"],
+        &["audit", "m.tra", "m.lab", REACH, "c", "--own", ""],
+        &["audit", "m.tra", "m.lab", REACH, "c", "--own="],
+        &["audit", "m.tra", "m.lab", REACH, "--own", "c"],
+        &[
+            "audit", "m.tra", "m.lab", REACH, "c", "--", "--own", "m.own",
+        ],
+        &["audit", "m.tra", "m.lab", REACH, "c", "--help"],
+        &["audit", "m.tra", "m.lab", REACH, "c", "-h"],
+        &["--own", "m.own", "audit", "m.tra", "m.lab", REACH, "c"],
+    ];
+    for given in lists {
+        usage(&rt, alloc, given)?;
+    }
+    Ok(())
+}
+
+#[test]
+fn an_audit_takes_four_words_and_an_owner_file(rt: HostRuntime) -> Result<(), Fail> {
+    let alloc = rt.alloc();
+    let lists: [&[&str]; 6] = [
+        &["audit", "m.tra", "m.lab", REACH, "c"],
+        &["audit", "--own", "m.own", "m.tra", "m.lab", REACH, "c"],
+        &["audit", "m.tra", "m.lab", "--own=m.own", REACH, "c"],
+        &["audit", "m.tra", "m.lab", REACH, "c", "--own", "m.own"],
+        &["audit", "m.tra", "m.lab", "--", REACH, "c"],
+        &["audit", "--own=m.own", "--", "-", "m.lab", REACH, "c"],
+    ];
+    let report = "state 0 lower 0.500000000000 upper 0.500000000000 audited Bracket\n";
+    for given in lists {
+        writes(&rt, alloc, given, report, Status::Fine)?;
+    }
+    Ok(())
+}
+
+#[test]
+fn an_empty_formula_of_an_audit_is_refused_by_the_run(rt: HostRuntime) -> Result<(), Fail> {
+    writes(
+        &rt,
+        rt.alloc(),
+        &["audit", "m.tra", "m.lab", "", "c"],
+        "refused formula place 0 End\n",
+        Status::ModelRefused,
+    )
 }

@@ -1,0 +1,178 @@
+//! Certificates that are audited.
+
+use crate::certificates::{FIRST_OF_TWO_PLAYERS, MOST_OF_LOOP_OR_COIN};
+use crate::models::{COIN_LOOP, GOAL_AT_1};
+use crate::rows::{Row, add_words, ends, file_of_bytes, files, plain_row, runs, words};
+use game_outside::{OpenGate, SteadyShelf};
+use std::alloc::Global;
+use std::process::Abort;
+use std::test::Fail;
+use std::thread::Threads;
+use stogame_app::Status;
+
+/// The name of the certificate's file.
+pub const CERTIFICATE: &str = "c";
+
+/// The words that audit a certificate for the model and the formula of a row.
+pub fn audit_words(alloc: Global, row: Row<'_>) -> Result<Vec<String>, Fail> {
+    let mut owned = words(
+        alloc,
+        &["audit", "m.tra", "m.lab", row.formula, CERTIFICATE],
+    )?;
+    if row.own.is_some() {
+        add_words(alloc, &mut owned, &["--own", "m.own"])?;
+    }
+    Ok(owned)
+}
+
+// How the audit of a certificate for the model and the formula of a row ends, and what it writes.
+fn audits<R: Threads + Sync + Abort>(
+    rt: &R,
+    alloc: Global,
+    row: Row<'_>,
+    certificate: &[u8],
+) -> Result<(Status, Vec<u8>), Fail> {
+    let words = audit_words(alloc, row)?;
+    let mut held = files(alloc, row)?;
+    held.push(file_of_bytes(alloc, CERTIFICATE, certificate)?)?;
+    ends(rt, alloc, &words, &mut SteadyShelf::new(held), &OpenGate {})
+}
+
+/// The audit of a certificate writes this text and ends with this status.
+pub fn audit_writes<R: Threads + Sync + Abort>(
+    rt: &R,
+    alloc: Global,
+    row: Row<'_>,
+    certificate: &[u8],
+    text: &str,
+    status: Status,
+) -> Result<(), Fail> {
+    let (ended, written) = audits(rt, alloc, row, certificate)?;
+    assert_eq!(rt; written.as_slice(), text.as_bytes());
+    assert!(rt; ended == status, "{text} ends with {ended:?}");
+    Ok(())
+}
+
+/// The certificate is refused with this line and cause.
+pub fn audit_refuses<R: Threads + Sync + Abort>(
+    rt: &R,
+    alloc: Global,
+    row: Row<'_>,
+    certificate: &[u8],
+    cause: &str,
+) -> Result<(), Fail> {
+    let text = format!(in alloc; "refused cert line {cause}\n")?;
+    audit_writes(
+        rt,
+        alloc,
+        row,
+        certificate,
+        text.as_str(),
+        Status::CertificateRefused,
+    )
+}
+
+#[test]
+fn what_a_check_prints_is_accepted(rt: HostRuntime) -> Result<(), Fail> {
+    let alloc = rt.alloc();
+    for (row, text) in [
+        (
+            MOST_OF_LOOP_OR_COIN,
+            "state 0 lower 0.500000000000 upper 0.500000000000 audited Bracket\n",
+        ),
+        (
+            FIRST_OF_TWO_PLAYERS,
+            "state 0 lower 0.650000000000 upper 0.650000000000 audited True\n",
+        ),
+    ] {
+        let (_, printed) = runs(&rt, alloc, row, &OpenGate {})?;
+        audit_writes(&rt, alloc, row, &printed, text, Status::Fine)?;
+    }
+    Ok(())
+}
+
+// What a check prints of the loop or coin, with another line of state 0.
+fn with_line(alloc: Global, line: &str) -> Result<String, Fail> {
+    Ok(format!(in alloc;
+        "state 0 lower 0.500000000000 upper 0.500000000000 rounds 2 Bracket\nformula Pmax=? [ F \"goal\" ]\ncertificate 1 3\n{line}\n1 1.000000000000 - 0 1.000000000000 -\n2 0.000000000000 - 0 0.000000000000 -\n"
+    )?)
+}
+
+#[test]
+fn one_change_in_a_line_is_refused(rt: HostRuntime) -> Result<(), Fail> {
+    let alloc = rt.alloc();
+    let row = MOST_OF_LOOP_OR_COIN;
+    let (_, printed) = runs(&rt, alloc, row, &OpenGate {})?;
+    let unchanged = with_line(alloc, "0 0.500000000000 1 1 0.500000000000 -")?;
+    assert_eq!(rt; unchanged.as_bytes(), printed.as_slice());
+    for (line, cause) in [
+        (
+            "0 0.500000000000 0 1 0.500000000000 -",
+            "0 NoStep state 0 choice 0",
+        ),
+        (
+            "0 0.500000000001 1 1 0.500000000000 -",
+            "0 Short state 0 choice 1",
+        ),
+        (
+            "0 0.500000000000 1 1 0.499999999999 -",
+            "0 Above state 0 choice 1",
+        ),
+    ] {
+        let changed = with_line(alloc, line)?;
+        audit_refuses(&rt, alloc, row, changed.as_bytes(), cause)?;
+    }
+    Ok(())
+}
+
+#[test]
+fn a_printed_text_without_its_last_line_is_refused(rt: HostRuntime) -> Result<(), Fail> {
+    let text =
+        "state 0 lower 0.500000000000 upper 0.500000000000 rounds 2 Bracket\nformula Pmax=? [ F \"goal\" ]\ncertificate 1 3\n0 0.500000000000 1 1 0.500000000000 -\n1 1.000000000000 - 0 1.000000000000 -\n";
+    audit_refuses(
+        &rt,
+        rt.alloc(),
+        MOST_OF_LOOP_OR_COIN,
+        text.as_bytes(),
+        "6 MissingLine",
+    )
+}
+
+// The value of the coin loop is one half. A check comes near from below only, and leaves open what needs the value itself.
+#[test]
+fn a_nearer_certificate_settles_what_a_check_leaves_open(rt: HostRuntime) -> Result<(), Fail> {
+    let alloc = rt.alloc();
+    let certificate =
+        "certificate 1 3\n0 0.500000000000 0 1 0.500000000000 0\n1 1.000000000000 - 0 1.000000000000 -\n2 0.000000000000 - 0 0.000000000000 0\n";
+    let bounds = "state 0 lower 0.500000000000 upper 0.500000000000 audited";
+    for (formula, verdict, status) in [
+        ("Pmax=? [ F \"goal\" ]", "Bracket", Status::Fine),
+        ("P>=0.5 [ F \"goal\" ]", "True", Status::Fine),
+        ("P<0.5 [ F \"goal\" ]", "False", Status::SomeFalse),
+    ] {
+        let text = format!(in alloc; "{bounds} {verdict}\n")?;
+        audit_writes(
+            &rt,
+            alloc,
+            plain_row(COIN_LOOP, GOAL_AT_1, formula),
+            certificate.as_bytes(),
+            text.as_str(),
+            status,
+        )?;
+    }
+    Ok(())
+}
+
+#[test]
+fn a_wide_certificate_leaves_a_threshold_open(rt: HostRuntime) -> Result<(), Fail> {
+    let certificate =
+        "certificate 1 3\n0 0.000000000000 - 0 1.000000000000 0\n1 1.000000000000 - 0 1.000000000000 -\n2 0.000000000000 - 0 1.000000000000 0\n";
+    audit_writes(
+        &rt,
+        rt.alloc(),
+        plain_row(COIN_LOOP, GOAL_AT_1, "P>=0.5 [ F \"goal\" ]"),
+        certificate.as_bytes(),
+        "state 0 lower 0.000000000000 upper 1.000000000000 audited Undecided\n",
+        Status::SomeUndecided,
+    )
+}
