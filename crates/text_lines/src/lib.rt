@@ -1,14 +1,17 @@
 //! Texts as lines, lines as fields, and fields as whole numbers. All is read from front to end over `&[u8]`, with no
-//! `str`, no copy and no memory of its own.
+//! `str` and no copy.
 //!
-//! A reader is a loop over `first_line`, which cuts the first line off a text, with one or more calls of `first_field`
-//! in each line and of `whole` at each field that must be a number:
+//! A reader of a format is a [`LineReader`]: it takes the lines that are not blank, one after another, or says the first
+//! fault, and at the end it makes its value. [`read_lines`] feeds it the lines of a text that is held, and [`Feed`] feeds it
+//! lines from wherever they come. What it says of a text does not hang on how the lines come.
+//!
+//! Within a line, `first_field` cuts the first field off, and `whole` reads a field that must be a number:
 //!
 //! ```text
-//! while let Some((line, after)) = first_line(rest) {
-//!     let Some((field, more)) = first_field(line) else { .. a blank line .. };
-//!     let Some(number) = whole(field) else { .. no number .. };
-//!     rest = after;
+//! fn take(&mut self, number: u32, line: &[u8]) -> Result<(), Fault> {
+//!     let Some((field, rest)) = first_field(line) else { .. no field is left .. };
+//!     let Some(value) = whole(field) else { .. no number .. };
+//!     ..
 //! }
 //! ```
 //!
@@ -25,10 +28,12 @@ mod fields;
 pub mod laws;
 mod lines;
 mod numbers;
+mod reader;
 
 pub use fields::first_field;
 pub use lines::{first_line, only_blank};
 pub use numbers::whole;
+pub use reader::{Feed, LineReader, read_lines};
 
 /// The most bytes of a text that is read.
 pub const MOST_BYTES: usize = 268_435_456;

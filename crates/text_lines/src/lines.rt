@@ -1,4 +1,5 @@
-// The first line of a text.
+//! The first line of a text.
+
 ghost use Rattle.std.specs.Prelude.{◌≡◌, ◌<◌, ◌≤◌, ◌∷◌, [], length, MatchOption, drop, true, ◌++◌, take};
 ghost use Rattle.text_lines.specs.Text.{lines_of, line_len, begins_ending, after_ending, is_nil, significant};
 
