@@ -1,4 +1,5 @@
-// A gate that shows that two workers work at once.
+//! A gate that shows that two workers work at once.
+
 use crate::gate::Gate;
 use std::sync::atomic::{AtomicBool, Ordering};
 use std::thread;

@@ -1,4 +1,5 @@
-// A place with named texts, which are read from front to end.
+//! A place with named texts, which are read from front to end.
+
 ghost use Rattle.std.specs.Prelude.{◌≡◌, ◌↔◌, ◌<◌, ◌≤◌, ℕ, Bool, true, List, length, IfOk, OnOk, OnErr, IsOk, IsErrOf, Option, min, ◌+◌, ◌^◌, MatchResult, ◌⊎◌};
 ghost use Rattle.std.specs.Io.{ReadsAtMost};
 ghost use Rattle.std.specs.Io.KnownBytes.{ReadConsumes};

@@ -1,4 +1,5 @@
-// Whole texts over shelves and sinks in memory.
+//! Whole texts over shelves and sinks in memory.
+
 use super::*;
 use std::alloc::{AllocError, Global};
 use std::test::Fail;

@@ -1,0 +1,100 @@
+-- A text that is being read by lines, a piece at a time.
+use Rattle.std.specs.Prelude.{◌≡◌, ◌<◌, ◌≤◌, ◌+◌, ◌-◌, ◌^◌, ℕ, Bool, true, false, List, [], ◌∷◌, ◌++◌, length, take, drop, Option, Result, is_err}
+use Rattle.std.specs.Io.KnownBytes.{Consumes, IsAtEnd}
+use Rattle.text_lines.specs.Text.{lines_of}
+use Rattle.text_lines.specs.Laws.{HasNo}
+use Rattle.game_outside.specs.declared.line_text.LineText.TheInside.{Inside}
+use Rattle.game_outside.specs.declared.shelf.ReadEnd.{ReadEnd}
+use Rattle.game_outside.specs.Limits.{piece_size}
+
+-- the bytes that were taken off the shelf and are not given yet, how many were taken, the limit, whether a call was refused, and whether the end was met
+pub record TextUnderWay : Type 0 where
+  pub held : List ℕ
+  pub taken : ℕ
+  pub limit : ℕ
+  pub closed : Bool
+  pub ended : Bool
+
+abbrev pub under_way : Inside → TextUnderWay
+under_way t = record { held = take (t.end - t.begin) (drop t.begin t.piece.items); taken = t.taken; limit = t.limit; closed = t.closed; ended = t.ended }
+
+-- what a text under way keeps: at most one piece is held and none behind the end, and as long as no call was refused the limit is not passed
+pub record IsUnderWay (t : Inside) : Type 0 where
+  pub piece : length t.piece.items ≡ piece_size
+  pub begins : t.begin ≤ t.end
+  pub ends : t.end ≤ piece_size
+  pub bounded : t.limit < 2 ^ 64 - 1
+  pub within : t.closed ≡ false → t.taken ≤ t.limit
+  pub over : t.ended ≡ true → t.begin ≡ t.end
+
+-- in a call these bytes came off the shelf; at the end of the text none is left there
+pub record Takes (old new : TextUnderWay) (rest rest' : Option (List ℕ)) (more : List ℕ) : Type 0 where
+  pub consumed : Consumes rest rest' more
+  pub count : new.taken ≡ old.taken + length more
+  pub end : old.ended ≡ false → new.ended ≡ true → IsAtEnd rest'
+
+-- where the text has ended, nothing stands behind it
+abbrev pub MayFollow : TextUnderWay → List ℕ → Type 0
+MayFollow text behind = text.ended ≡ true → behind ≡ []
+
+-- A call gave the next line: whatever stands behind what is held, the line is the first of the bytes that were held and came, and the others follow. At least one byte is given.
+pub record GivesLine (old new : TextUnderWay) (rest rest' : Option (List ℕ)) (line : List ℕ) : Type 0 where
+  pub going : old.ended ≡ false
+  pub more : List ℕ
+  pub takes : Takes old new rest rest' more
+  pub first : (behind : List ℕ) → MayFollow new behind → lines_of ((old.held ++ more) ++ behind) ≡ line ∷ lines_of (new.held ++ behind)
+  pub further : old.taken + length new.held < new.taken + length old.held
+
+-- A call met the end of the text: nothing was held, and nothing came.
+pub record MeetsEnd (old new : TextUnderWay) (rest rest' : Option (List ℕ)) (line : List ℕ) : Type 0 where
+  pub takes : Takes old new rest rest' []
+  pub held : old.held ≡ []
+  pub none : new.held ≡ []
+  pub ended : new.ended ≡ true
+  pub empty : line ≡ []
+
+-- A call took what was left of the text, and dropped it.
+pub record Drops (old new : TextUnderWay) (rest rest' : Option (List ℕ)) : Type 0 where
+  pub more : List ℕ
+  pub takes : Takes old new rest rest' more
+  pub ended : new.ended ≡ true
+
+-- More bytes came than the limit allows.
+pub record PassesLimit (old : TextUnderWay) (rest rest' : Option (List ℕ)) : Type 0 where
+  pub more : List ℕ
+  pub consumed : Consumes rest rest' more
+  pub over : old.limit < old.taken + length more
+
+-- What is known of the counts behind each call: the number taken is the shelf's, at most the limit and one piece, and a refusal closes the text.
+pub record Counts {X : Type 0} (old new : TextUnderWay) (taken : ℕ) (result : Result X ReadEnd) : Type 0 where
+  pub taken_is : new.taken ≡ taken
+  pub most : taken ≤ old.limit + piece_size
+  pub limit : new.limit ≡ old.limit
+  pub closed : new.closed ≡ is_err result
+
+-- the same between two pieces: the text is open, and the limit is not passed
+pub record CountsOn (old now : TextUnderWay) (taken : ℕ) : Type 0 where
+  pub taken_is : now.taken ≡ taken
+  pub within : taken ≤ old.limit
+  pub limit : now.limit ≡ old.limit
+  pub closed : now.closed ≡ false
+
+-- the bytes held before the first LF went behind a line, and what stands behind the LF is held
+pub record IsCut (line line' held held' : List ℕ) : Type 0 where
+  pub front : List ℕ
+  pub no_lf : HasNo 10 front
+  pub parts : held ≡ front ++ 10 ∷ held'
+  pub grown : line' ≡ line ++ front
+
+-- no LF was held, and all went behind the line
+pub record IsUncut (line line' held held' : List ℕ) : Type 0 where
+  pub no_lf : HasNo 10 held
+  pub grown : line' ≡ line ++ held
+  pub none : held' ≡ []
+
+-- A line is on its way: the bytes that were held and those that came are its bytes so far, which have no LF, and those that are held.
+pub record IsOnTheWay (old now : TextUnderWay) (rest rest' : Option (List ℕ)) (line : List ℕ) : Type 0 where
+  pub more : List ℕ
+  pub takes : Takes old now rest rest' more
+  pub parts : old.held ++ more ≡ line ++ now.held
+  pub no_lf : HasNo 10 line

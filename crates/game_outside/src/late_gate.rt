@@ -1,0 +1,69 @@
+//! A gate that shows that a worker reads what others have just raised.
+
+use crate::gate::Gate;
+use std::sync::atomic::{AtomicBool, AtomicU32, Ordering};
+use std::thread;
+
+/// How many turns a worker is held.
+const TURNS: u32 = 10_000_000;
+
+/// A gate that holds the first arrival of one worker until the others have arrived so often in all, for a number of turns.
+/// Where they don't, it gives up. It promises nothing.
+#[derive(Drop)]
+pub struct LateGate {
+    held: u32,
+    others: u32,
+    arrived: AtomicBool,
+    arrivals: AtomicU32,
+    gave_up: AtomicBool,
+}
+
+impl LateGate {
+    /// A gate that holds this worker until the others have arrived so often.
+    pub fn new(held: u32, others: u32) -> LateGate {
+        LateGate {
+            held,
+            others,
+            arrived: AtomicBool::new(false),
+            arrivals: AtomicU32::new(0),
+            gave_up: AtomicBool::new(false),
+        }
+    }
+
+    /// Whether the worker's turns ran out before the others had arrived so often.
+    pub fn gave_up(&self) -> bool {
+        self.gave_up.load(Ordering::SeqCst)
+    }
+
+    // Holds the worker for the others where it arrives for the first time.
+    fn hold(&self) {
+        if self.arrived.swap(true, Ordering::SeqCst) {
+            return;
+        }
+        for _ in 0..TURNS {
+            if self.arrivals.load(Ordering::SeqCst) >= self.others {
+                return;
+            }
+            thread::yield_now();
+        }
+        self.gave_up.store(true, Ordering::SeqCst);
+    }
+}
+
+impl Gate for LateGate {
+    fn arrive(&self, worker: u32, state: u32) {
+        let _ = state;
+        if worker == self.held {
+            self.hold();
+        } else {
+            self.arrivals.fetch_add(1, Ordering::SeqCst);
+        }
+    }
+}
+
+// The workers share one gate.
+fn shared<T: Sync>(_: &T) {}
+
+fn late_gate_is_shared(gate: &LateGate) {
+    shared(gate);
+}
