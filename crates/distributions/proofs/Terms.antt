@@ -19,7 +19,7 @@ use Rattle.distributions.proofs.Powers.{pow-pos, pow-rises}
 pub ten_pow : (n : ℕ) → 10 ^ n ≡ 2 ^ n * 5 ^ n
 ten_pow n = mul-pow 2 5 n
 
-odd : (n : ℕ) → n % 2 ≢ 0 → IsGcd n 2 1
+pub odd : (n : ℕ) → n % 2 ≢ 0 → IsGcd n 2 1
 odd n h =
     let one : n % 2 ≡ 1 = omega arith in
     let P : ℕ → Type 0 = λ m. IsGcd 2 m 1 in
@@ -33,13 +33,13 @@ rest-five (suc (suc (suc zero))) some small = IsGcd-from_mod 5 3 1 (IsGcd-from_m
 rest-five (suc (suc (suc (suc zero)))) some small = IsGcd-from_mod 5 4 1 (coprime-one 4)
 rest-five (suc (suc (suc (suc (suc r))))) some small = absurd (omega arith)
 
-fiveless : (n : ℕ) → n % 5 ≢ 0 → IsGcd n 5 1
+pub fiveless : (n : ℕ) → n % 5 ≢ 0 → IsGcd n 5 1
 fiveless n h = IsGcd-from_mod n 5 1 (rest-five (n % 5) h (omega arith))
 
 no-power : (n f i : ℕ) → i ≡ 0 → IsGcd n (f ^ i) 1
 no-power n f i e = let P : ℕ → Type 0 = λ m. IsGcd n (f ^ m) 1 in let Q : ℕ → Type 0 = λ m. IsGcd n m 1 in subst P (sym e) (subst Q (sym (pow-zero f)) (coprime-one n))
 
-divisor-coprime : (m n a : ℕ) → m ∣ n → IsGcd n a 1 → IsGcd m a 1
+pub divisor-coprime : (m n a : ℕ) → m ∣ n → IsGcd n a 1 → IsGcd m a 1
 divisor-coprime m n a d h = (one-dvd m, one-dvd a, λ e p q. h.2 e (dvd_trans e p d) q)
 
 -- 2. A decimal whose twos and fives are taken out.

@@ -1,13 +1,13 @@
 //! The distribution of a choice.
 
-ghost use Rattle.std.specs.Prelude.{◌≡◌, ◌<◌, ◌≤◌, ◌*◌, ◌^◌, Ok, IfOk, All, length};
+ghost use Rattle.std.specs.Prelude.{◌≡◌, ◌<◌, ◌≤◌, ◌*◌, ◌/◌, ◌^◌, Ok, IfOk, All, length};
 ghost use Prim.Native.Nat.{◌∣◌};
 ghost use Rattle.game_model.specs.Game.{Distribution, IsRising};
 ghost use Rattle.distributions.specs.Limits.{finest, most_parts, most_value};
 ghost use Rattle.distributions.specs.Fraction.{IsFraction};
 ghost use Rattle.distributions.specs.Parts.{choice_said, denominator_said, edge_of_part, weighted, sum_said, total_of, Denotes, Gives};
 
-use crate::divisors::least_common_multiple;
+use crate::divisors::{MOST_NARROW, least_common_multiple};
 use crate::fraction::Frac;
 use crate::gather::gather;
 use crate::limits::TOLERANCE;
@@ -63,6 +63,20 @@ fn common_denominator(parts: &[Part]) -> Result<u128, ChoiceFault>
     Ok(common)
 }
 
+// How often a denominator goes into a common one.
+fn factor_of(common: u128, den: u128) -> u128
+    requires { 1 ≤ den }
+    ensures { result ≡ common / den }
+{
+    if common == den {
+        return 1;
+    }
+    if common <= MOST_NARROW && den <= MOST_NARROW {
+        return u128::from(common as u64 / den as u64);
+    }
+    common / den
+}
+
 // The destination of a part, and its weight.
 #[tactic(auto, using(crate::proofs::Multiples::share_weight, crate::proofs::Multiples::share_small))]
 fn edge_of(common: u128, part: &Part) -> Edge
@@ -74,7 +88,7 @@ fn edge_of(common: u128, part: &Part) -> Edge
     let share = &part.share;
     Edge {
         to: part.to,
-        weight: share.num() * (common / share.den()),
+        weight: share.num() * factor_of(common, share.den()),
     }
 }
 

@@ -102,6 +102,9 @@ pub fn gather(alloc: Global, edges: Vec<Edge>) -> Result<Vec<Edge>, AllocError>
         return Ok(edges);
     }
     let standing = ordered(edges)?;
+    if is_gathered(&standing) {
+        return Ok(standing);
+    }
     let merged = merge(alloc, &standing)?;
     Ok(merged)
 }

@@ -22,6 +22,8 @@ pub mod laws;
 mod limits;
 mod lowest;
 mod number;
+mod short;
+mod tens;
 
 pub use choice::{ChoiceFault, Part, make_choice};
 pub use fraction::{Frac, compare};

@@ -6,13 +6,17 @@ ghost use Rattle.distributions.specs.Limits.{finest};
 ghost use Rattle.distributions.specs.Fraction.{lowest};
 ghost use Rattle.distributions.specs.Number.{in_range, fraction_said};
 
-use crate::divisors::greatest_common_divisor;
+use crate::divisors::{MOST_NARROW, greatest_common_divisor, narrow_divisor};
 use crate::fraction::Frac;
 use crate::limits::{FINEST, FINEST_PLACES, MOST_VALUE};
 use crate::number::NumberFault;
+use crate::tens::Tens;
 
-// The fraction of two numbers in lowest terms, where it is in range.
-fn checked(num: u128, den: u128) -> Result<Frac, NumberFault>
+// The most places of a power of ten of 64 bits.
+const NARROW_PLACES: u32 = 19;
+
+/// The fraction of two numbers in lowest terms, where it is in range.
+pub fn checked(num: u128, den: u128) -> Result<Frac, NumberFault>
     requires lowest { IsGcd num den 1 }
     requires positive { 1 ≤ den }
     ensures { result ≡ in_range (record { num = num; den = den }) }
@@ -33,8 +37,20 @@ pub fn quotient(above: u128, below: u128) -> Result<Frac, NumberFault>
     if below == 0 {
         return Err(NumberFault::ZeroDenominator);
     }
+    if above <= MOST_NARROW && below <= MOST_NARROW {
+        return narrow_quotient(above as u64, below as u64);
+    }
     let divisor = greatest_common_divisor(above, below);
     checked(above / divisor, below / divisor)
+}
+
+// The fraction of two numbers of 64 bits.
+fn narrow_quotient(above: u64, below: u64) -> Result<Frac, NumberFault>
+    requires { 1 ≤ below }
+    ensures { result ≡ fraction_said (record { num = above; den = below }) }
+{
+    let divisor = narrow_divisor(above, below);
+    checked(u128::from(above / divisor), u128::from(below / divisor))
 }
 
 // A number without a factor.
@@ -96,6 +112,16 @@ fn denominator(twos: u32, fives: u32) -> Option<u128>
 
 // So many digits over a power of ten.
 fn over_tens(digits: u128, tens: u32) -> Result<Frac, NumberFault>
+    ensures { result ≡ in_range (lowest (record { num = digits; den = 10 ^ tens })) }
+{
+    if digits <= MOST_NARROW && tens <= NARROW_PLACES {
+        return Tens::new(digits as u64, 10u64.pow(tens)).fraction();
+    }
+    wide_over_tens(digits, tens)
+}
+
+// The same where a number needs more than 64 bits.
+fn wide_over_tens(digits: u128, tens: u32) -> Result<Frac, NumberFault>
     ensures { result ≡ in_range (lowest (record { num = digits; den = 10 ^ tens })) }
 {
     if digits == 0 {

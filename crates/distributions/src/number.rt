@@ -10,6 +10,7 @@ ghost use Rattle.distributions.specs.Written.{exponent_in, spelling_in};
 use crate::fraction::Frac;
 use crate::limits::{MOST_DIGITS, MOST_EXPONENT, MOST_EXPONENT_DIGITS};
 use crate::lowest::{decimal, quotient};
+use crate::short::short_decimal;
 use text_lines::whole;
 
 /// Why a text spells no fraction: the first reason in this order.
@@ -225,6 +226,16 @@ fn number_in(text: &[u8]) -> Result<Frac, NumberFault>
     }
 }
 
+// The fraction that a text spells. Most texts are short decimals.
+fn fraction_in(text: &[u8]) -> Result<Frac, NumberFault>
+    ensures { result ≡ number_said text.now }
+{
+    match short_decimal(text) {
+        Some(tens) => tens.fraction(),
+        None => number_in(text),
+    }
+}
+
 /// The fraction that a text spells.
 pub fn read_number(text: &[u8]) -> Result<Frac, NumberFault>
     // What is read is what the text denotes, or its first fault.
@@ -232,7 +243,7 @@ pub fn read_number(text: &[u8]) -> Result<Frac, NumberFault>
     ensures only { (f : Fraction) → Denotes text.now f → result ≡ Ok f }
     ensures exact { result ≡ number_said text.now }
 {
-    number_in(text)
+    fraction_in(text)
 }
 
 #[cfg(test)]
