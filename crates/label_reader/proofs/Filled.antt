@@ -1,18 +1,17 @@
 -- What the readers have filled is what the lines say.
-use Rattle.std.proofs.Common.{◌≡◌, ◌<◌, ◌^◌, ℕ, suc, Bool, false, List, [], ◌∷◌, ◌++◌, length, map, get_or, take, drop, Option, Some, None, Vec, Global, sym, ap, ◌∙◌, refl, subst, arith}
-use Rattle.std.specs.Option.{unwrap_or, IfSome}
+use Rattle.std.proofs.Common.{◌≡◌, ◌<◌, ℕ, suc, Bool, false, List, [], ◌∷◌, ◌++◌, length, map, get_or, take, drop, Option, None, Vec, Global, sym, ap, ◌∙◌, refl, subst, arith}
+use Rattle.std.specs.Option.{unwrap_or}
 use Rattle.std.specs.List.{range_with_len}
-use Rattle.std.proofs.lemmas.List.{length-map, get_or-map, ext_get_or, get_or_default}
+use Rattle.std.proofs.lemmas.List.{length-map, get_or-map, ext_get_or}
 use Rattle.std.proofs.lemmas.List.FromFn.{get_or-map-range_with_len, length-map-range_with_len}
-use Rattle.label_reader.specs.Header.{Item, place_of}
+use Rattle.label_reader.specs.Header.{Item}
 use Rattle.label_reader.specs.Placed.{items_of, item_at, indices_of}
 use Rattle.label_reader.specs.Labels.{Label}
-use Rattle.label_reader.specs.Named.{names_of, labels_named, places_of, AreNamed, AreOwned}
+use Rattle.label_reader.specs.Named.{names_of, labels_named, places_of}
 use Rattle.label_reader.specs.Lines.{StateLine, said_of}
 use Rattle.label_reader.specs.Texts.{is_said, label_from, owner_place}
 use Rattle.label_reader.specs.Marked.{AreMarked}
 use Rattle.label_reader.specs.Owned.{first_of, AreRead}
-use Rattle.label_reader.proofs.Indexed.{place_of-within}
 
 abbrev Entries : Type 0
 Entries = List (Vec ℕ Global × ℕ)
@@ -46,13 +45,6 @@ labels_named-marked n lines entries items sets same m =
     let count : length (items_of entries) ≡ length entries = length-map entries item_at in
     labels_are n lines entries sets (marked.count ∙ count) (λ k kl. row_is n (items_of entries) lines sets marked k (omega (arith, count, kl))) ∙ ap (λ is. map (label_from n lines) is) same
 
-pub AreNamed-marked : (n : ℕ) (lines : List StateLine) (entries : Entries) (items : List Item) (sets : List (List Bool)) → n < 2 ^ 32 → items_of entries ≡ items → AreMarked n items (is_said lines) sets → AreNamed n entries sets
-AreNamed-marked n lines entries items sets small same m = record {
-  small = small;
-  count = m.count ∙ sym (ap (λ (is : List Item). length is) same) ∙ length-map entries item_at;
-  lengths = m.lengths;
-}
-
 pub names_of-items : (entries : Entries) → names_of entries ≡ map (λ (item : Item). item.name) (items_of entries)
 names_of-items [] = refl
 names_of-items (entry ∷ entries) = ap (λ (ns : List (List ℕ)). entry.0.items ∷ ns) (names_of-items entries)
@@ -71,25 +63,6 @@ places_of-read n items lines owners m =
     ∙ ap (λ p. unwrap_or p 0) (m.first i (omega (arith, long, il)))
     ∙ owner_is items (said_of lines i)
     ∙ sym (get_or-map-range_with_len (λ s. owner_place items (said_of lines s)) 0 n i i 0 (omega (arith, long, il)) (omega arith)))
-
-pub AreOwned-read : (n : ℕ) (lines : List StateLine) (entries : Entries) (items : List Item) (owners : List (Option ℕ)) → items_of entries ≡ items → 0 < length items → AreRead n items lines owners → AreOwned entries owners
-AreOwned-read n lines entries items owners same some m = record {
-  known = λ k d kl.
-      let small : k < n = omega (arith, m.count, kl) in
-      let P : Option ℕ → Type 0 = λ p. unwrap_or p 0 < length entries in
-      subst P (sym (get_or_default owners k d None kl ∙ m.first k small)) (found (said_of lines k));
-}
-  where
-    count : length items ≡ length entries
-    count = sym (ap (λ (is : List Item). length is) same) ∙ length-map entries item_at
-
-    within : (p : Option ℕ) → IfSome p (λ j. j < length items) → unwrap_or p 0 < length entries
-    within None h = omega (arith, some, count)
-    within (Some j) h = omega (arith, h, count)
-
-    found : (said : List ℕ) → unwrap_or (first_of items said) 0 < length entries
-    found [] = omega (arith, some, count)
-    found (number ∷ said) = within (place_of items number) (place_of-within items number)
 
 -- a whole list that was lent as a slice has what was written there
 pub written_back : {X : Type 0} (new old : List X) → length new ≡ length old → (len : ℕ) → len ≡ length old → take len (new ++ drop (length new) old) ≡ new

@@ -3,8 +3,11 @@ pub mod Indexed
 pub mod HeaderSteps
 pub mod KnownLines
 pub mod Bodies
+pub mod Blanks
+pub mod SaidOf
 pub mod Marking
 pub mod Owning
+pub mod OwnerLines
 pub mod Filled
 pub mod Heads
 pub mod Splits
@@ -15,3 +18,5 @@ pub mod SetLaws
 pub mod LabelLaws
 pub mod OwnerLaws
 pub mod RisingStates
+pub mod FileAnswers
+pub mod FileSizes

@@ -1,20 +1,21 @@
 -- Sets of states, and what the lines say.
-use Rattle.std.proofs.Common.{◌≡◌, ◌≢◌, ◌<◌, ℕ, Bool, true, false, cond, List, [], ◌∷◌, ◌++◌, length, map, get_or, set, Option, Some, None, sym, ap, ◌∙◌, refl, subst, arith, eqb, is_some, ◌&&◌, ◌||◌, inl, inr, ◌⊎◌, append_assoc}
+use Rattle.std.proofs.Common.{◌≡◌, ◌≢◌, ◌<◌, ℕ, Bool, true, false, List, [], ◌∷◌, ◌++◌, length, map, get_or, set, replicate, Option, Some, None, sym, ap, ◌∙◌, refl, subst, arith, eqb, is_some, ◌&&◌, ◌||◌, inl, inr, ◌⊎◌}
 use Rattle.std.specs.Option.{IfSome, option_and_then, unwrap_or}
 use Rattle.std.specs.List.{list_any, list_all}
 use Rattle.std.proofs.lemmas.Bool.Decides.{nat_tests}
-use Rattle.std.proofs.lemmas.List.{append-nil, length-set, get_or-set_same, get_or-set_other}
+use Rattle.std.proofs.lemmas.List.{length-replicate, length-set, get_or-set_same, get_or-set_other}
 use Rattle.std.proofs.lemmas.List.Elements.{All-set}
-use Rattle.std.proofs.lemmas.List.Folds.{list_any-append}
+use Rattle.std.proofs.lemmas.Grind.{common_steps}
 use Rattle.text_lines.specs.Text.{number_of}
 use Rattle.text_lines.proofs.Texts.{bool_cases}
 use Rattle.label_reader.specs.Header.{Item, place_of, place_in, has_place}
 use Rattle.label_reader.specs.Placed.{indices_of, AreSingle}
-use Rattle.label_reader.specs.Lines.{StateLine, number_in, said_of}
+use Rattle.label_reader.specs.Lines.{StateLine, number_in}
 use Rattle.label_reader.specs.Texts.{is_said}
 use Rattle.label_reader.specs.Marked.{with_mark, with_marks, AreMarked}
 use Rattle.label_reader.proofs.Indexed.{place_of-within, index_at_place}
 use Rattle.label_reader.proofs.KnownLines.{both_true}
+use Rattle.label_reader.proofs.SaidOf.{is_said-push}
 
 equal : (a b : ℕ) → eqb a b ≡ true → a ≡ b
 equal a b h = grind (arith, nat_tests)
@@ -53,6 +54,14 @@ or_false false = refl
 and_false : (a : Bool) → (a && false) ≡ false
 and_false true = refl
 and_false false = refl
+
+-- no mark, where nothing is said
+pub AreMarked-nothing : (n : ℕ) (items : List Item) → AreMarked n items (is_said []) (replicate (length items) (replicate n false))
+AreMarked-nothing n items = record {
+  count = length-replicate (length items) (replicate n false);
+  lengths = λ k d kl. grind (arith, common_steps);
+  marks = λ k s kl sl. grind (arith, common_steps);
+}
 
 -- one mark more
 pub AreMarked-mark : (n : ℕ) (items : List Item) (said : Said) (sets : List (List Bool)) (i k s : ℕ) → AreSingle items → place_of items i ≡ Some k → s < n → AreMarked n items said sets
@@ -153,35 +162,6 @@ AreMarked-marks n items s (field ∷ fields) said sets single small known m =
     (λ number state. regroup (said number state) (eqb placed.number number) (eqb s state) (list_any (λ other. eqb other number) (map number_in fields)) ∙ ap (λ x. said number state || (eqb s state && (eqb x number || list_any (λ other. eqb other number) (map number_in fields)))) (sym placed.spelled)) rest in
     let P : Option ℕ → Type 0 = λ p. AreMarked n items (said_all said s (field ∷ fields)) (with_marks items s (with_mark s p sets) fields) in
     subst P (sym placed.is) same
-
--- what one line more says
-pub said_of-push : (lines : List StateLine) (line : StateLine) (s : ℕ) → said_of (lines ++ line ∷ []) s ≡ said_of lines s ++ cond (eqb line.state s) line.numbers []
-said_of-push [] line s = elim (bool_cases (eqb line.state s)) [
-  | inl h ↦ ap (λ v. cond v (line.numbers ++ []) []) h ∙ append-nil line.numbers ∙ sym (ap (λ v. cond v line.numbers []) h)
-  | inr h ↦ ap (λ v. cond v (line.numbers ++ []) []) h ∙ sym (ap (λ v. cond v line.numbers []) h)
-]
-said_of-push (first ∷ lines) line s =
-    let rest = said_of-push lines line s in
-    elim (bool_cases (eqb first.state s)) [
-      | inl h ↦
-          ap (λ v. cond v (first.numbers ++ said_of (lines ++ line ∷ []) s) (said_of (lines ++ line ∷ []) s)) h
-          ∙ ap (λ (t : List ℕ). first.numbers ++ t) rest
-          ∙ sym (append_assoc first.numbers (said_of lines s) (cond (eqb line.state s) line.numbers []))
-          ∙ sym (ap (λ v. cond v (first.numbers ++ said_of lines s) (said_of lines s) ++ cond (eqb line.state s) line.numbers []) h)
-      | inr h ↦
-          ap (λ v. cond v (first.numbers ++ said_of (lines ++ line ∷ []) s) (said_of (lines ++ line ∷ []) s)) h
-          ∙ rest
-          ∙ sym (ap (λ v. cond v (first.numbers ++ said_of lines s) (said_of lines s) ++ cond (eqb line.state s) line.numbers []) h)
-    ]
-
-pub is_said-push : (lines : List StateLine) (line : StateLine) (number s : ℕ) → is_said (lines ++ line ∷ []) number s ≡ (is_said lines number s || (eqb line.state s && list_any (λ other. eqb other number) line.numbers))
-is_said-push lines line number s =
-    ap (λ (t : List ℕ). list_any (λ other. eqb other number) t) (said_of-push lines line s)
-    ∙ list_any-append (λ other. eqb other number) (said_of lines s) (cond (eqb line.state s) line.numbers [])
-    ∙ ap (λ v. is_said lines number s || v) (elim (bool_cases (eqb line.state s)) [
-      | inl h ↦ ap (λ v. list_any (λ other. eqb other number) (cond v line.numbers [])) h ∙ sym (ap (λ v. v && list_any (λ other. eqb other number) line.numbers) h)
-      | inr h ↦ ap (λ v. list_any (λ other. eqb other number) (cond v line.numbers [])) h ∙ sym (ap (λ v. v && list_any (λ other. eqb other number) line.numbers) h)
-    ])
 
 -- one line more is marked
 pub AreMarked-line : (n : ℕ) (items : List Item) (s : ℕ) (fields : List (List ℕ)) (lines : List StateLine) (sets : List (List Bool)) → AreSingle items → s < n → list_all (has_place items) fields ≡ true → AreMarked n items (is_said lines) sets

@@ -1,18 +1,23 @@
 -- Owners of states, and what the lines say.
-use Rattle.std.proofs.Common.{◌≡◌, ◌≢◌, ◌<◌, ℕ, true, false, cond, List, [], ◌∷◌, ◌++◌, map, get_or, set, Option, Some, None, Ok, Err, sym, ap, ◌∙◌, refl, subst, arith, eqb, is_some, ◌&&◌, inl, inr}
+use Rattle.std.proofs.Common.{◌≡◌, ◌≢◌, ◌<◌, ℕ, Bool, true, false, cond, List, [], ◌∷◌, ◌++◌, length, map, get_or, set, All, Option, Some, None, Ok, Err, Result, sym, ap, ◌∙◌, refl, subst, arith, eqb, is_some, ◌&&◌, inl, inr}
+use Rattle.std.specs.Option.{IfSome, option_and_then, unwrap_or}
 use Rattle.std.specs.List.{list_all}
 use Rattle.std.proofs.lemmas.Bool.Decides.{nat_tests}
 use Rattle.std.proofs.lemmas.List.{append-nil, length-set, get_or-set_same, get_or-set_other}
+use Rattle.std.proofs.lemmas.List.Elements.{All-set}
 use Rattle.std.proofs.lemmas.List.Folds.{list_all-append}
+use Rattle.text_lines.specs.Text.{number_of}
 use Rattle.text_lines.proofs.Texts.{bool_cases}
 use Rattle.label_reader.specs.declared.kind.FileKind.TheVariants.{OwnerFile}
+use Rattle.label_reader.specs.declared.faults.LabCause.{LabCause}
 use Rattle.label_reader.specs.declared.faults.LabCause.TheVariants.{TwoOwners}
-use Rattle.label_reader.specs.Header.{Item, place_of, has_place, has_index}
-use Rattle.label_reader.specs.Lines.{StateLine, number_in, said_of, all_same, with_line}
+use Rattle.label_reader.specs.Header.{Item, place_of, has_place, has_index, and_then}
+use Rattle.label_reader.specs.Lines.{StateLine, number_in, said_of, all_same, with_line, known_fields}
 use Rattle.label_reader.specs.Owned.{first_of, first_in, owner_then, is_at, all_at, AreRead}
-use Rattle.label_reader.proofs.Indexed.{index_at_place}
+use Rattle.label_reader.proofs.Indexed.{place_of-within, index_at_place}
 use Rattle.label_reader.proofs.KnownLines.{both_true, line_with}
-use Rattle.label_reader.proofs.Marking.{said_of-push, placed_field}
+use Rattle.label_reader.proofs.Marking.{placed_field}
+use Rattle.label_reader.proofs.SaidOf.{said_of-push}
 
 equal : (a b : ℕ) → eqb a b ≡ true → a ≡ b
 equal a b h = grind (arith, nat_tests)
@@ -99,6 +104,31 @@ said_other lines s t fields h = said_of-push lines (line_with s fields) t ∙ ap
 
 abbrev pub owner_next : List Item → List (Option ℕ) → ℕ → List (List ℕ) → Option ℕ
 owner_next items owners s fields = owner_then (get_or owners s None) (first_in items fields)
+
+first_in-within : (items : List Item) (fields : List (List ℕ)) → 0 < length items → unwrap_or (first_in items fields) 0 < length items
+first_in-within items [] some = some
+first_in-within items (field ∷ fields) some = spelled (number_of field)
+  where
+    placed : (p : Option ℕ) → IfSome p (λ k. k < length items) → unwrap_or p 0 < length items
+    placed None h = some
+    placed (Some k) h = h
+
+    spelled : (number : Option ℕ) → unwrap_or (option_and_then (place_of items) number) 0 < length items
+    spelled None = some
+    spelled (Some n) = placed (place_of items n) (place_of-within items n)
+
+-- the owner of a state more is one of the players
+pub owner_next-known : (items : List Item) (owners : List (Option ℕ)) (s : ℕ) (fields : List (List ℕ)) → s < length owners → All (λ owner. unwrap_or owner 0 < length items) owners
+    → All (λ owner. unwrap_or owner 0 < length items) (set owners s (owner_next items owners s fields))
+owner_next-known items owners s fields small known = All-set (λ owner. unwrap_or owner 0 < length items) owners s (owner_next items owners s fields) (next (get_or owners s None) (known s None small)) known
+  where
+    next : (named : Option ℕ) → unwrap_or named 0 < length items → unwrap_or (owner_then named (first_in items fields)) 0 < length items
+    next None h = first_in-within items fields h
+    next (Some k) h = h
+
+-- the owner behind fields, where those before them agree
+abbrev pub owner_if : Bool → List Item → ℕ → Option ℕ → List (List ℕ) → Result (Option ℕ) LabCause
+owner_if agree items s owner fields = and_then (known_fields items fields) (λ _. cond (agree && all_at items (owner_then owner (first_in items fields)) fields) (Ok (owner_then owner (first_in items fields))) (Err (TwoOwners s)))
 
 module _ (n : ℕ) (items : List Item) (s : ℕ) (fields : List (List ℕ)) (lines : List StateLine) (owners : List (Option ℕ)) (small : s < n) (known : list_all (has_place items) fields ≡ true) (m : AreRead n items lines owners) where
   -- whether the line agrees with what is said before it

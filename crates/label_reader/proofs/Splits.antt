@@ -24,7 +24,7 @@ place x bytes = position_or_len (λ b. eqb b x) bytes
 place_here : (x b : ℕ) (bytes : List ℕ) → eqb b x ≡ true → place x (b ∷ bytes) ≡ 0
 place_here x b bytes h = grind (arith, h)
 
-place_behind : (x b : ℕ) (bytes : List ℕ) → eqb b x ≡ false → place x (b ∷ bytes) ≡ suc (place x bytes)
+pub place_behind : (x b : ℕ) (bytes : List ℕ) → eqb b x ≡ false → place x (b ∷ bytes) ≡ suc (place x bytes)
 place_behind x b bytes h = grind (arith, h)
 
 pub record IsSplit (x : ℕ) (bytes front back : List ℕ) : Type 0 where

@@ -16,7 +16,7 @@ use Rattle.label_reader.specs.Lines.{StateLine, state_line, known_line, said_of,
 use Rattle.label_reader.specs.Texts.{then_at, lines_from, made_of, said_by_lines, said_by}
 use Rattle.label_reader.specs.Denotes.{AreStateLines, IsText}
 use Rattle.label_reader.proofs.KnownLines.{both_true}
-use Rattle.label_reader.proofs.Marking.{said_of-push}
+use Rattle.label_reader.proofs.SaidOf.{said_of-push}
 use Rattle.label_reader.proofs.ItemLaws.{header_of-found, header_of-again}
 use Rattle.label_reader.proofs.StateLineLaws.{known_line-found, known_line-again}
 

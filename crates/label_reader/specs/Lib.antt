@@ -1,6 +1,6 @@
 pub mod Marked
 pub mod Owned
-pub mod Read
+pub mod Behind
 pub mod Placed
 pub mod Named
 pub mod Labels
@@ -9,4 +9,5 @@ pub mod Owners
 pub mod Header
 pub mod Lines
 pub mod Texts
+pub mod Refused
 pub mod Denotes

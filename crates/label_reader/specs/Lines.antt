@@ -6,7 +6,7 @@ use Rattle.label_reader.specs.declared.kind.FileKind.{FileKind}
 use Rattle.label_reader.specs.declared.kind.FileKind.TheVariants.{LabelFile, OwnerFile}
 use Rattle.label_reader.specs.declared.faults.LabCause.{LabCause}
 use Rattle.label_reader.specs.declared.faults.LabCause.TheVariants.{BadField, StateOutOfRange, UnknownIndex, TwoOwners}
-use Rattle.label_reader.specs.Header.{Item, split_first, has_index, and_then}
+use Rattle.label_reader.specs.Header.{Item, split_first, has_index, has_place, and_then}
 
 -- a line: a state, and the numbers that are said of it
 pub record StateLine : Type 0 where
@@ -59,3 +59,7 @@ with_line OwnerFile before line = if all_same (said_of (before ++ line ∷ []) l
 -- the lines before this one and the line itself, or its first fault
 abbrev pub add_line : FileKind → ℕ → List Item → List StateLine → List ℕ → Result (List StateLine) LabCause
 add_line kind n items before line = and_then (known_line n items (state_line line)) (with_line kind before)
+
+-- whether the fields spell indices of the header, or their first fault
+abbrev pub known_fields : List Item → List (List ℕ) → Result (Unit {0}) LabCause
+known_fields items fields = if list_all is_number fields then (if list_all (has_place items) fields then Ok tt else Err UnknownIndex) else Err BadField

@@ -1,8 +1,10 @@
 -- Owners of states as they are read.
-use Rattle.std.specs.Prelude.{◌≡◌, ◌==◌, ◌<◌, ℕ, Bool, true, false, List, [], ◌∷◌, length, Option, Some, None, slice_index_or}
+use Rattle.std.specs.Prelude.{◌≡◌, ◌==◌, ◌<◌, ℕ, Bool, true, false, List, [], ◌∷◌, length, Option, Some, None, slice_index_or, if◌then◌else◌, Result, Ok, Err}
 use Rattle.std.specs.List.{list_all}
-use Rattle.label_reader.specs.Header.{Item, place_of, place_in, has_index}
-use Rattle.label_reader.specs.Lines.{StateLine, said_of, all_same}
+use Rattle.label_reader.specs.declared.faults.LabCause.{LabCause}
+use Rattle.label_reader.specs.declared.faults.LabCause.TheVariants.{TwoOwners}
+use Rattle.label_reader.specs.Header.{Item, place_of, place_in, has_index, and_then}
+use Rattle.label_reader.specs.Lines.{StateLine, said_of, all_same, known_fields}
 
 -- the place of the first index that is said
 abbrev pub first_of : List Item → List ℕ → Option ℕ
@@ -27,6 +29,10 @@ is_at place (Some other) = other == place
 abbrev pub all_at : List Item → Option ℕ → List (List ℕ) → Bool
 all_at items None fields = true
 all_at items (Some place) fields = list_all (λ field. is_at place (place_in items field)) fields
+
+-- the owner behind a line with these fields, or their first fault
+abbrev pub owner_behind : List Item → ℕ → Option ℕ → List (List ℕ) → Result (Option ℕ) LabCause
+owner_behind items state named fields = and_then (known_fields items fields) (λ _. if all_at items (owner_then named (first_in items fields)) fields then Ok (owner_then named (first_in items fields)) else Err (TwoOwners state))
 
 -- each state has the owner who is said first, all that is said of it is one known index
 pub record AreRead (n : ℕ) (items : List Item) (lines : List StateLine) (owners : List (Option ℕ)) : Type 0 where

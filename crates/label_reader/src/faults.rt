@@ -1,4 +1,4 @@
-// Why a text is refused.
+//! Why a text is refused.
 
 /// Why a label file or an owner file is refused.
 #[derive(Clone, Copy, Debug, PartialEq, Eq)]

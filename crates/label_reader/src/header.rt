@@ -1,8 +1,8 @@
-// The header: which index stands for which name.
+//! The header: which index stands for which name.
+
 ghost use Rattle.std.specs.Prelude.{◌≡◌, ◌<◌, ◌≤◌, ◌+◌, ◌++◌, ◌∷◌, [], ℕ, Bool, false, List, Some, None, IfSome, MatchResult, length};
-ghost use Rattle.std.specs.List.{list_all};
 ghost use Rattle.text_lines.specs.Text.{fields_of};
-ghost use Rattle.label_reader.specs.Header.{place_in, place_of, has_place, has_index, has_name, passes_limit, with_item, item_of, header_of};
+ghost use Rattle.label_reader.specs.Header.{place_in, place_of, has_index, has_name, passes_limit, with_item, item_of, header_of};
 ghost use Rattle.label_reader.specs.Limits.{most_labels, greatest_index};
 ghost use Rattle.label_reader.specs.Texts.{GivesCause};
 
@@ -73,20 +73,6 @@ impl Header {
             Some(index) => self.places.get(&index).copied(),
             None => None,
         }
-    }
-
-    /// Whether each field spells the index of an item.
-    pub fn has_all(&self, numbers: &[u8]) -> bool
-        ensures { result ≡ list_all (has_place self.now) (fields_of numbers.now) }
-    {
-        let mut rest = numbers;
-        while let Some((field, after)) = first_field(rest) {
-            if self.place(field).is_none() {
-                return false;
-            }
-            rest = after;
-        }
-        true
     }
 
     // Whether an item with this index would pass a limit.

@@ -1,4 +1,5 @@
-// The items of a header: `index="name"`.
+//! The items of a header: `index="name"`.
+
 ghost use Rattle.std.specs.Prelude.{◌≡◌, ◌==◌, ◌<◌, ◌≤◌, ◌+◌, ◌-◌, Some, None, MatchOption, IfSome, option_map, position, length, take, drop};
 ghost use Rattle.std.specs.List.{list_all};
 ghost use Rattle.text_lines.specs.Text.{is_digit};

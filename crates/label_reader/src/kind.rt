@@ -1,4 +1,5 @@
-// The two kinds of files that have one format.
+//! The two kinds of files that have one format.
+
 ghost use Rattle.std.specs.Prelude.{◌≡◌, ◌<◌};
 
 /// The most labels of a header.

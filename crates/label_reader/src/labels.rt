@@ -1,4 +1,5 @@
-// Labels: names, and the states that have each.
+//! Labels: names, and the states that have each.
+
 ghost use Rattle.std.specs.Prelude.{◌≡◌, ◌<◌, ◌≤◌, ◌^◌, IfOk, length};
 ghost use Rattle.label_reader.specs.Labels.{marked_from};
 

@@ -1,4 +1,5 @@
-// Owners: which player chooses at each state.
+//! Owners: which player chooses at each state.
+
 ghost use Rattle.std.specs.Prelude.{◌≡◌, ◌<◌, ◌≤◌, ◌∷◌, [], None, length, replicate, codes, IfOk};
 
 use game_outside::OutOfMemory;

@@ -1,21 +1,14 @@
-// The lines behind the header: `state: index index ..`.
-ghost use Rattle.std.specs.Prelude.{◌≡◌, ◌<◌, ◌≤◌, ◌&&◌, ℕ, Bool, List, Ok, Err, Some, None, map, true, option_map, IfOk, MatchResult};
+//! The lines behind the header: `state: index index ..`.
+
+ghost use Rattle.std.specs.Prelude.{◌≡◌, ◌<◌, List, Err, Some, option_map, IfOk, MatchResult, if◌then◌else◌};
 ghost use Rattle.std.specs.List.{list_all};
-ghost use Rattle.text_lines.specs.Text.{lines_of, fields_of, number_of, saturated, is_nil, significant};
-ghost use Rattle.label_reader.specs.Header.{has_place};
-ghost use Rattle.label_reader.specs.Lines.{is_number, number_in, only_number, state_line, known_line};
+ghost use Rattle.text_lines.specs.Text.{fields_of, saturated};
+ghost use Rattle.label_reader.specs.Header.{Item};
+ghost use Rattle.label_reader.specs.Lines.{is_number, only_number, numbered, state_line, known_line};
 
 use crate::faults::LabCause;
-use crate::header::Header;
 use crate::item::split_at_first;
-use text_lines::{first_field, only_blank, whole};
-
-/// Whether this line and all behind it are blank.
-pub fn is_end(line: &[u8], after: &[u8]) -> bool
-    ensures { result ≡ (is_nil (fields_of line.now) && is_nil (significant (lines_of after.now))) }
-{
-    first_field(line).is_none() && only_blank(after)
-}
+use text_lines::{first_field, whole};
 
 // The number that a line is, where it has no other field.
 fn only_whole(line: &[u8]) -> Option<u64>
@@ -44,17 +37,23 @@ fn all_whole(line: &[u8]) -> bool
     true
 }
 
-/// The state of a line, and the part that has the indices, each of them in the header; or the first fault of the line.
-pub fn read_state_line<'t>(
-    header: &Header,
-    states: u32,
-    line: &'t [u8],
-) -> Result<(u32, &'t [u8]), LabCause>
+/// The fault of a line whose numbers have this one: where a field is no number, that comes first.
+pub fn fault_of_numbers(numbers: &[u8], cause: LabCause) -> LabCause
+    ensures { result ≡ (if list_all is_number (fields_of numbers.now) then cause else LabCause.BadField) }
+{
+    if all_whole(numbers) {
+        cause
+    } else {
+        LabCause::BadField
+    }
+}
+
+/// The state of a line, and the part that has the indices; or the first fault of a line whose state is at fault.
+pub fn read_state(states: u32, line: &[u8]) -> Result<(u32, &[u8]), LabCause>
     ensures line { MatchResult result
-        (λ r. known_line states header.now (state_line line.now) ≡ Ok (record { state = r.0; numbers = map number_in (fields_of r.1.now) }))
-        (λ cause. known_line states header.now (state_line line.now) ≡ Err cause) }
+        (λ r. state_line line.now ≡ numbered (Some r.0) (fields_of r.1.now))
+        (λ cause. (items : List Item) → known_line states items (state_line line.now) ≡ Err cause) }
     ensures range { IfOk result (λ r. r.0 < states) }
-    ensures known { IfOk result (λ r. list_all (has_place header.now) (fields_of r.1.now) ≡ true) }
 {
     let Some((front, numbers)) = split_at_first(b':', line) else {
         return Err(LabCause::BadField);
@@ -62,14 +61,8 @@ pub fn read_state_line<'t>(
     let Some(state) = only_whole(front) else {
         return Err(LabCause::BadField);
     };
-    if !all_whole(numbers) {
-        return Err(LabCause::BadField);
-    }
     if state >= u64::from(states) {
-        return Err(LabCause::StateOutOfRange);
-    }
-    if !header.has_all(numbers) {
-        return Err(LabCause::UnknownIndex);
+        return Err(fault_of_numbers(numbers, LabCause::StateOutOfRange));
     }
     Ok((state as u32, numbers))
 }

@@ -1,4 +1,5 @@
-// A set of states, as a mark for each of them.
+//! A set of states, as a mark for each of them.
+
 ghost use Rattle.std.specs.Prelude.{◌≡◌, ◌<◌, ◌≤◌, ◌^◌, Bool, true, false, List, length, replicate, slice_index_or, slice_set, IfOk};
 
 use std::alloc::{AllocError, Global};

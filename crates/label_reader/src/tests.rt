@@ -1,4 +1,5 @@
-// Small files, read whole.
+//! Small files, read whole.
+
 use super::*;
 use std::test::Fail;
 
@@ -25,7 +26,7 @@ fn labels_add_up_in_any_order(rt: HostRuntime) -> Result<(), Fail> {
 #[test]
 fn the_first_fault_is_named_with_its_line(rt: HostRuntime) -> Result<(), Fail> {
     let alloc = rt.alloc();
-    let cases: [(&[u8], u32, LabCause); 9] = [
+    let cases: [(&[u8], u32, LabCause); 12] = [
         (b"", 1, LabCause::NoHeader),
         (b"0=init", 1, LabCause::BadHeader),
         (b"0=\"a\" 1=\"a\"", 1, LabCause::DoubleName),
@@ -35,6 +36,9 @@ fn the_first_fault_is_named_with_its_line(rt: HostRuntime) -> Result<(), Fail> {
         (b"0=\"a\"\n3: 0", 2, LabCause::StateOutOfRange),
         (b"0=\"a\"\n0: 0\n1: 7", 3, LabCause::UnknownIndex),
         (b"0=\"a\"\n0 0", 2, LabCause::BadField),
+        (b"0=\"a\"\n3: 7 x", 2, LabCause::BadField),
+        (b"0=\"a\"\n3: 7", 2, LabCause::StateOutOfRange),
+        (b"0=\"a\"\n0: 7 x", 2, LabCause::BadField),
     ];
     for (text, line, cause) in cases.iter() {
         let Err(fault) = read_labels(alloc, text, 3) else {
@@ -55,6 +59,10 @@ fn owners_are_read(rt: HostRuntime) -> Result<(), Fail> {
         return Err(Fail::new("accepted"));
     };
     assert!(rt; two.line == 3 && two.cause == LabCause::TwoOwners { state: 1 });
+    let Err(unknown) = read_owners(alloc, b"0=\"p1\" 1=\"p2\"\n1: 0 1 7\n", 3) else {
+        return Err(Fail::new("accepted"));
+    };
+    assert!(rt; unknown.line == 2 && unknown.cause == LabCause::UnknownIndex);
     assert!(rt; owners.knows(b"p2") && !owners.knows(b"p0"));
     assert!(rt; owners.owner(0) == b"p1".as_slice() && owners.owner(1) == b"p2".as_slice());
     let Ok(single) = Owners::single(alloc, 3) else {

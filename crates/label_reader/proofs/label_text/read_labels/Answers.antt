@@ -1,4 +1,4 @@
-use Rattle.std.proofs.Common.{ℕ, List, Ok, Err, Result, IfOk, subst}
+use Rattle.std.proofs.Common.{ℕ, List, Ok, Err, Result, IfOk, subst, rules}
 use Rattle.label_reader.specs.declared.faults.LabFault.{LabFault}
 use Rattle.label_reader.specs.Labels.{Labelling}
 use Rattle.label_reader.specs.Texts.{Gives, labels_of}
@@ -11,9 +11,13 @@ if_ok text n (Ok l) g = labels_of-found text n l g
 if_ok text n (Err fault) g = tt
 
 pub returns-clause-found : goal.returns-clause-found
-returns-clause-found c = if_ok c.args.bytes.now c.args.states c.read_exact.result c.read_exact.ensures
+returns-clause-found c =
+    let exact : Gives c.read_lines.result (labels_of c.args.bytes.now c.args.states) = search rules in
+    if_ok c.args.bytes.now c.args.states c.read_lines.result exact
 
 pub returns-clause-only : goal.returns-clause-only
-returns-clause-only c = λ l is.
-    let P : Result Labelling LabFault → Type 0 = λ said. Gives c.read_exact.result said in
-    subst P (labels_of-again c.args.bytes.now c.args.states l is) c.read_exact.ensures
+returns-clause-only c =
+    let exact : Gives c.read_lines.result (labels_of c.args.bytes.now c.args.states) = search rules in
+    λ l is.
+    let P : Result Labelling LabFault → Type 0 = λ said. Gives c.read_lines.result said in
+    subst P (labels_of-again c.args.bytes.now c.args.states l is) exact

@@ -1,0 +1,13 @@
+use Rattle.label_reader.specs.declared.kind.FileKind.TheVariants.{LabelFile}
+use Rattle.label_reader.specs.declared.faults.LabCause.TheVariants.{BadField}
+use Rattle.label_reader.specs.Marked.{AreMarked}
+use Rattle.label_reader.specs.Texts.{labelling, is_said}
+use Rattle.label_reader.proofs.Blanks.{add_line-blank}
+use Rattle.label_reader.proofs.Bodies.{AnswersBehind-fault}
+use Rattle.label_reader.proofs.label_sets.LabelSetsLineReader.blank.Goals as goal
+
+pub returns : goal.returns
+returns c =
+    let n = c.args.self.now.states in
+    let items = c.args.self.now.header in
+    λ line lines blank. AnswersBehind-fault LabelFile n (labelling n) items c.args.number line lines (λ read. AreMarked n items (is_said read) c.args.self.now.sets.items) BadField (λ read before. add_line-blank LabelFile n items read line blank)

@@ -1,0 +1,13 @@
+use Rattle.label_reader.specs.declared.kind.FileKind.TheVariants.{OwnerFile}
+use Rattle.label_reader.specs.declared.faults.LabCause.TheVariants.{BadField}
+use Rattle.label_reader.specs.Owned.{AreRead}
+use Rattle.label_reader.specs.Texts.{ownership}
+use Rattle.label_reader.proofs.Blanks.{add_line-blank}
+use Rattle.label_reader.proofs.Bodies.{AnswersBehind-fault}
+use Rattle.label_reader.proofs.owner_table.OwnerTableLineReader.blank.Goals as goal
+
+pub returns : goal.returns
+returns c =
+    let n = c.args.self.now.states in
+    let items = c.args.self.now.header in
+    λ line lines blank. AnswersBehind-fault OwnerFile n (ownership n) items c.args.number line lines (λ read. AreRead n items read c.args.self.now.owners.items) BadField (λ read before. add_line-blank OwnerFile n items read line blank)
