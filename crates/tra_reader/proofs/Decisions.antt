@@ -15,14 +15,8 @@ eq_test a b e = grind (arith, nat_tests)
 pub ne_test : (a b : ℕ) → (a ≡ b → ⊥) → (a == b) ≡ false
 ne_test a b e = grind (arith, nat_tests)
 
-pub above_ne : (a b : ℕ) → a < b → (b == a) ≡ false
-above_ne a b h = grind (arith, nat_tests)
-
 pub below_ne : (a b : ℕ) → a < b → (a == b) ≡ false
 below_ne a b h = grind (arith, nat_tests)
-
-pub ne_below : (a b : ℕ) → (a == b) ≡ false → b ≤ a → b < a
-ne_below a b e h = grind (arith, nat_tests)
 
 pub lt_from : (a b : ℕ) → nat_lt a b ≡ true → a < b
 lt_from a b e = grind (arith, nat_tests)

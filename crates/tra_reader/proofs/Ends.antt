@@ -97,17 +97,8 @@ end_is ts s m is = elim (cases_lt (choice_end ts s) m) [
   | inr ge ↦ elim (cases_lt m (choice_end ts s)) [ inl gt ↦ absurd (less_end ts s m is gt) | inr le ↦ omega (arith, ge, le) ]
 ]
 
-pub has_end : (ts : List Transition) (s : ℕ) → HasEnd ts s (choice_end ts s)
-has_end ts s = record { none = λ k h. end_none ts s k h; last = λ k e. end_last ts s k e }
-
 pub above_of : (ts : List Transition) (s k : ℕ) → 0 < length (transitions_of ts s k) → k < choice_end ts s
 above_of ts s k some = elim (cases_lt k (choice_end ts s)) [ inl lt ↦ lt | inr ge ↦ absurd (empty_not_some (transitions_of ts s k) (end_none ts s k ge) some) ]
-
-pub end_small : (ts : List Transition) (s : ℕ) → AreSmall ts → choice_end ts s ≤ most_stated_choices
-end_small ts s small = elim (cases_lt most_stated_choices (choice_end ts s)) [
-  | inr le ↦ le
-  | inl gt ↦ absurd (empty_not_some (transitions_of ts s (choice_end ts s - 1)) (none_of_high ts s (choice_end ts s - 1) small (omega (arith, gt))) (end_last ts s (choice_end ts s - 1) (omega (arith, gt))))
-]
 
 some_not_nil : (ts : List Transition) → 0 < length ts → is_nil ts ≡ false
 some_not_nil [] h = absurd (omega arith)

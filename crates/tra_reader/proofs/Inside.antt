@@ -1,5 +1,5 @@
 -- The edges of a choice lead where its parts do.
-use Rattle.std.proofs.Common.{◌≡◌, ◌∙◌, ◌<◌, ◌≤◌, inl, inr, ℕ, zero, suc, ◌+◌, ◌*◌, ◌/◌, ◌==◌, cond, List, [], ◌∷◌, length, map, get_or, refl, ap, arith, sum_by, Result, Ok, Err, IfOk}
+use Rattle.std.proofs.Common.{◌≡◌, ◌∙◌, ◌<◌, ◌≤◌, inl, inr, ℕ, zero, suc, ◌+◌, ◌*◌, ◌/◌, ◌==◌, cond, List, [], ◌∷◌, length, map, get_or, refl, ap, arith, sum_by}
 use Rattle.std.proofs.lemmas.List.Sums.{sum_by-cons}
 use Rattle.std.specs.List.{All}
 use Rattle.game_model.specs.declared.game.Edge.{Edge}
@@ -40,7 +40,3 @@ inside n ts d is all i e h = elim (cases_lt (get_or d.edges i e).to n) [
       let most : weight (get_or d.edges i e) ≤ weight_to d.edges to = at_least weight d.edges i e h in
       absurd (omega (arith, heavy, mine, most, is.weights to, no_weight is.common n to ts all ge))
 ]
-
-pub if_ok : {T E : Type 0} {P Q : T → Type 0} (r : Result T E) → ((x : T) → P x → Q x) → IfOk r P → IfOk r Q
-if_ok (Ok x) f p = f x p
-if_ok (Err e) f p = p

@@ -77,9 +77,6 @@ abbrev row_in : Result Row TraCause → Row
 row_in (Ok row) = row
 row_in (Err cause) = no_row
 
-IsRead : Result Row TraCause → Type 0
-IsRead said = said ≡ Ok (row_in said)
-
 abbrev said_of : Header → List ℕ → Result Row TraCause
 said_of header line = row_said header (fields_of line)
 

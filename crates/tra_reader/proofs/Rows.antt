@@ -1,27 +1,17 @@
 -- Rows behind one another.
-use Rattle.std.proofs.Common.{◌≡◌, ◌∙◌, ◌<◌, ℕ, suc, zero, ◌+◌, ◌*◌, ◌==◌, ◌&&◌, Bool, false, cond, List, [], ◌∷◌, ◌++◌, length, option_map, slice_get, Ok, Err, refl, ap, ap₂, arith, nat_lt}
+use Rattle.std.proofs.Common.{◌≡◌, ◌∙◌, ◌<◌, ℕ, suc, zero, ◌+◌, ◌*◌, ◌==◌, ◌&&◌, Bool, false, not, cond, List, [], ◌∷◌, length, Option, option_map, slice_get, Ok, Err, refl, ap, ap₂, arith, nat_lt}
 use Rattle.std.proofs.lemmas.Bool.Decides.{nat_tests}
 use Rattle.std.specs.List.{filter, All}
+use Rattle.std.specs.Option.{option_map_or}
+use Rattle.std.specs.Str.{bytes_eq}
 use Rattle.text_lines.specs.Text.{is_nil}
 use Rattle.tra_reader.specs.Limits.{most_stated_choices}
 use Rattle.tra_reader.specs.declared.header.Header.{Header}
 use Rattle.tra_reader.specs.declared.fault.TraCause.TheVariants.{FieldCount, LineCount, ActionClash}
 use Rattle.tra_reader.specs.Lines.{Row, is_of, first_action, clashes, row_said, action_checked, line_said}
 use Rattle.tra_reader.specs.Order.{IsWithin, has, place_of}
-use Rattle.tra_reader.specs.Answers.{row_place, action_at}
+use Rattle.tra_reader.specs.Answers.{row_place, action_at, clashes_at}
 use Rattle.tra_reader.proofs.Decisions.{lt_test}
-
-All-nil-push : {X : Type 0} (P : X → Type 0) (x : X) → P x → All P (x ∷ [])
-All-nil-push P x here zero d h = here
-All-nil-push P x here (suc k) d h = absurd (omega arith)
-
-All-cons : {X : Type 0} (P : X → Type 0) (y : X) (xs : List X) → P y → All P xs → All P (y ∷ xs)
-All-cons P y xs here more zero d h = here
-All-cons P y xs here more (suc k) d h = more k d (omega arith)
-
-pub All-push : {X : Type 0} (P : X → Type 0) (xs : List X) (x : X) → All P xs → P x → All P (xs ++ x ∷ [])
-All-push P [] x all here = All-nil-push P x here
-All-push P (y ∷ xs) x all here = All-cons P y (xs ++ x ∷ []) (all zero y (omega arith)) (All-push P xs x (λ j e g. all (suc j) e (omega arith)) here)
 
 pub same_place : (s c i k : ℕ) → c < 4000000 → k < 4000000 → ((s == i) && (c == k)) ≡ ((4000000 * s + c) == (4000000 * i + k))
 same_place s c i k h g = grind (arith, nat_tests)
@@ -33,6 +23,10 @@ filter_rows n (row ∷ rows) i k all h = ap₂ (λ b rs. cond b (row ∷ rs) rs)
 
 pub first_at : (n : ℕ) (rows : List Row) (i k : ℕ) → All (λ (row : Row). IsWithin n row.transition) rows → k < most_stated_choices → first_action rows i k ≡ action_at rows (place_of i k)
 first_at n rows i k all h = ap (λ rs. option_map (λ (row : Row). row.action) (slice_get rs 0)) (filter_rows n rows i k all h)
+
+-- a row clashes with the first of its choice exactly where it clashes with the first at its place
+pub clashes_is : (n : ℕ) (rows : List Row) (row : Row) → All (λ (r : Row). IsWithin n r.transition) rows → row.transition.choice < most_stated_choices → clashes rows row ≡ clashes_at rows row
+clashes_is n rows row all h = ap (λ (o : Option (List ℕ)). option_map_or (λ action. not (bytes_eq action row.action)) o false) (first_at n rows row.transition.source row.transition.choice all h)
 
 -- what a line says where its fields say a row
 pub said_with : (header : Header) (before : List Row) (fields : List (List ℕ)) (row : Row) (b : Bool) → is_nil fields ≡ false → length before < header.lines → row_said header fields ≡ Ok row → clashes before row ≡ b

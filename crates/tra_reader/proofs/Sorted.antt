@@ -1,5 +1,5 @@
 -- Transitions put in order.
-use Rattle.std.proofs.Common.{◌≡◌, ◌∙◌, inl, inr, ℕ, List, [], ◌∷◌, Result, Ok, Err, OnOk, is_err, false, arith, sym}
+use Rattle.std.proofs.Common.{◌≡◌, ◌∙◌, inl, inr, ℕ, List, [], ◌∷◌, arith, sym}
 use Rattle.std.specs.List.{filter}
 use Rattle.tra_reader.specs.Limits.{most_stated_choices}
 use Rattle.tra_reader.specs.declared.line.Transition.{Transition}
@@ -7,10 +7,6 @@ use Rattle.tra_reader.specs.Choices.{transitions_of}
 use Rattle.tra_reader.specs.Order.{From, has, place_of, transition_place}
 use Rattle.tra_reader.proofs.Decisions.{cases_lt}
 use Rattle.tra_reader.proofs.Ends.{AreSmall, of_at, none_of_high}
-
-pub on_ok : {T E : Type 0} {P : Type 0} (r : Result T E) → is_err r ≡ false → OnOk r P → P
-on_ok (Ok x) e p = p
-on_ok (Err f) e p = cc
 
 pub same_transitions : (ts us : List Transition) → AreSmall ts → AreSmall us → ((q : ℕ) → filter (has transition_place q) ts ≡ filter (has transition_place q) us) → (s k : ℕ) → transitions_of ts s k ≡ transitions_of us s k
 same_transitions ts us small_ts small_us same s k = elim (cases_lt k most_stated_choices) [

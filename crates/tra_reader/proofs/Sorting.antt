@@ -1,11 +1,10 @@
 -- What a stable sort by a number keeps, and that its list rises.
-use Rattle.std.proofs.Common.{◌≡◌, ◌∙◌, ◌<◌, ◌≤◌, ℕ, suc, ◌==◌, ◌&&◌, not, Bool, true, false, cond, List, [], ◌∷◌, length, get_or, refl, sym, ap, ap₂, arith, nat_le}
+use Rattle.std.proofs.Common.{◌≡◌, ◌∙◌, ◌<◌, ◌≤◌, ℕ, suc, ◌==◌, ◌&&◌, not, Bool, cond, List, [], ◌∷◌, length, get_or, refl, sym, ap, ap₂, arith}
 use Rattle.std.proofs.lemmas.Bool.Decides.{nat_tests}
 use Rattle.std.specs.List.{filter}
 use Rattle.std.specs.List.Sorted.{IsNonDecreasingBy, IsStableByKey, ties}
 use Rattle.std.specs.Ordering.{nat_cmp, is_lt}
-use Rattle.tra_reader.specs.Order.{has, From, Rises, rises_from}
-use Rattle.tra_reader.proofs.Runs.{From-weaker}
+use Rattle.tra_reader.specs.Order.{has, From, Rises}
 
 filter_alike : {X : Type 0} (p q : X → Bool) → ((x : X) → p x ≡ q x) → (xs : List X) → filter p xs ≡ filter q xs
 filter_alike p q same [] = refl
@@ -13,13 +12,6 @@ filter_alike p q same (x ∷ xs) = ap₂ (λ b ys. cond b (x ∷ ys) ys) (same x
 
 ties_is : (a b : ℕ) → (not (is_lt (nat_cmp a b)) && not (is_lt (nat_cmp b a))) ≡ (b == a)
 ties_is a b = grind (arith, nat_tests)
-
-le_from : (a b : ℕ) (c : Bool) → (nat_le a b && c) ≡ true → a ≤ b
-le_from a b c e = grind (arith, nat_tests)
-
-and_then : (b c : Bool) → (b && c) ≡ true → c ≡ true
-and_then true c e = e
-and_then false c e = cc
 
 module _ {X : Type 0} (key : X → ℕ) where
   pub same_with : (xs ys : List X) → IsStableByKey key nat_cmp xs ys → (x : X) (q : ℕ) → key x ≡ q → filter (has key q) ys ≡ filter (has key q) xs
@@ -34,15 +26,3 @@ module _ {X : Type 0} (key : X → ℕ) where
   pub rises_sorted : (xs : List X) → IsNonDecreasingBy key xs → Rises key xs
   rises_sorted [] up = tt
   rises_sorted (x ∷ xs) up = (from_all (key x) xs (λ i d h. up 0 (suc i) d (omega arith) (omega arith)), rises_sorted xs (λ i j d le h. up (suc i) (suc j) d (omega arith) (omega arith)))
-
-  from_test : (least : ℕ) (xs : List X) → rises_from key least xs ≡ true → From key least xs
-  from_test least [] e = tt
-  from_test least (x ∷ xs) e =
-      let le : least ≤ key x = le_from least (key x) (rises_from key (key x) xs) e in
-      (le, From-weaker key least (key x) xs le (from_test (key x) xs (and_then (nat_le least (key x)) (rises_from key (key x) xs) e)))
-
-  pub rises_test : (least : ℕ) (xs : List X) → rises_from key least xs ≡ true → Rises key xs
-  rises_test least [] e = tt
-  rises_test least (x ∷ xs) e =
-      let more : rises_from key (key x) xs ≡ true = and_then (nat_le least (key x)) (rises_from key (key x) xs) e in
-      (from_test (key x) xs more, rises_test (key x) xs more)

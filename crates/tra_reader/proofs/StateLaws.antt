@@ -1,7 +1,7 @@
 -- The choices of the states that are made are those that transitions come to, and the other way round.
-use Rattle.std.proofs.Common.{◌≡◌, ◌∙◌, ◌<◌, ◌≤◌, ◌⊎◌, inl, inr, ℕ, zero, suc, ◌+◌, ◌==◌, Bool, true, false, cond, List, [], ◌∷◌, ◌++◌, length, map, get_or, take, Option, Some, None, option_map, Result, Ok, Err, refl, sym, ap, ap₂, subst, arith, add-one}
+use Rattle.std.proofs.Common.{◌≡◌, ◌∙◌, ◌<◌, ◌≤◌, ◌⊎◌, inl, inr, ℕ, zero, suc, ◌==◌, Bool, true, false, cond, List, [], ◌∷◌, ◌++◌, length, map, get_or, take, Option, Some, None, option_map, Result, Ok, Err, refl, sym, ap, ap₂, subst, arith, add-one}
 use Rattle.std.proofs.lemmas.Bool.{cases_eq}
-use Rattle.std.proofs.lemmas.List.{length_push, get_or_push, take_more}
+use Rattle.std.proofs.lemmas.List.{length_push, get_or_append_left, get_or_push, take_more}
 use Rattle.std.proofs.Math.Seq.{take-length}
 use Rattle.std.specs.Option.{option_or, ForSome}
 use Rattle.std.specs.List.{All}
@@ -18,7 +18,6 @@ use Rattle.tra_reader.specs.Choices.{transitions_of, part_of, parts_of, HasChoic
 use Rattle.tra_reader.specs.Lines.{is_of}
 use Rattle.tra_reader.proofs.Decisions.{chosen, cases_lt, is_eq, eq_test, ne_test}
 use Rattle.tra_reader.proofs.Ends.{end_is, end_none, all_there, none_missing, no_gap}
-use Rattle.tra_reader.proofs.Counts.{push_before}
 
 -- what the parts of a choice say is what they denote
 abbrev pub ChoicesFound : Type 0
@@ -70,7 +69,7 @@ push_at P xs all x d n whole size before here k h =
     let Q : ℕ → Type 0 = λ j. P j x in
     elim (cases_eq k n) [
       | inl last ↦ subst (λ y. P k y) (sym (get_or_push xs x d k (size ∙ sym last)) ∙ ap (λ ys. get_or ys k d) whole) (subst Q (sym last) here)
-      | inr other ↦ subst (λ y. P k y) (sym (push_before xs x d k (omega (arith, size, other, h))) ∙ ap (λ ys. get_or ys k d) whole) (before k (omega (arith, other, h)))
+      | inr other ↦ subst (λ y. P k y) (sym (get_or_append_left xs (x ∷ []) d k (omega (arith, size, other, h))) ∙ ap (λ ys. get_or ys k d) whole) (before k (omega (arith, other, h)))
     ]
 
 push_size : {X : Type 0} (xs all : List X) (x : X) (n : ℕ) → xs ++ x ∷ [] ≡ all → length xs ≡ n → length all ≡ suc n
@@ -171,10 +170,6 @@ gaps_found ts (suc n) e s h =
 pub gaps_again : (ts : List Transition) (n : ℕ) → ((s : ℕ) → s < n → least_missing ts s (choice_end ts s) ≡ None) → first_gap ts n ≡ None
 gaps_again ts zero all = refl
 gaps_again ts (suc n) all = no_gap ts n (gaps_again ts n (λ s h. all s (omega (arith, h)))) (all n (omega arith))
-
-pub sums_alike : (f g : ℕ → ℕ) (n : ℕ) → ((s : ℕ) → s < n → f s ≡ g s) → sum_of_first f n ≡ sum_of_first g n
-sums_alike f g zero same = refl
-sums_alike f g (suc n) same = ap₂ (λ a b. a + b) (sums_alike f g n (λ s h. same s (omega (arith, h)))) (same n (omega arith))
 
 -- a game that is made of transitions
 pub record MakesGame (ts : List Transition) (n : ℕ) (stated : Option ℕ) (game : List (List Distribution)) : Type 0 where

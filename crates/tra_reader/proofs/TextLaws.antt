@@ -13,7 +13,8 @@ use Rattle.tra_reader.specs.Text.{Denotes, transitions, rows_game, behind_header
 use Rattle.tra_reader.proofs.HeaderLaws.{header_found, header_again}
 use Rattle.tra_reader.proofs.RowLaws.{NumbersFound, NumbersAgain, Follow, rows_found, rows_again}
 use Rattle.tra_reader.proofs.ActionLaws.{action_in, actions_found, actions_again}
-use Rattle.tra_reader.proofs.StateLaws.{ChoicesFound, ChoicesAgain, HaveFractions, fraction_first, MakesGame, state_found, state_again, states_found, states_again, gaps_found, gaps_again, sums_alike, game_found, game_again}
+use Rattle.tra_reader.proofs.Alike.{sum_alike}
+use Rattle.tra_reader.proofs.StateLaws.{ChoicesFound, ChoicesAgain, HaveFractions, fraction_first, MakesGame, state_found, state_again, states_found, states_again, gaps_found, gaps_again, game_found, game_again}
 
 -- the probabilities of rows are fractions
 fractions : (header : Header) (lines : List (List ℕ)) (rows : List Row) → AreRows header lines rows → HaveFractions (transitions rows)
@@ -73,7 +74,7 @@ text_again numbers choices text game is =
     let each = λ (s : ℕ) (h : s < is.header.states). state_again choices ts s (is.choice_count s) (choices_of game s) (fractions is.header is.others is.rows is.are_rows) (is.made s (omega (arith, is.states, h))) in
     let makes : MakesGame ts is.header.states is.header.choices game = record {
       full = gaps_again ts is.header.states (λ s h. (each s h).1);
-      as_stated = λ c e. sums_alike (choice_end ts) is.choice_count is.header.states (λ s h. (each s h).0) ∙ ap (λ n. sum_of_first is.choice_count n) (sym is.states) ∙ is.all_choices c e;
+      as_stated = λ c e. sum_alike (choice_end ts) is.choice_count is.header.states (λ s h. (each s h).0) ∙ ap (λ n. sum_of_first is.choice_count n) (sym is.states) ∙ is.all_choices c e;
       said = states_again ts is.header.states game (omega (arith, is.states)) (λ s h. (each s h).2) ∙ ap (λ n. Ok (take n game)) (sym is.states) ∙ ap (λ g. Ok g) (take-length game);
     } in
     ap lines_game is.lines

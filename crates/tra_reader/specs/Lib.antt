@@ -1,7 +1,15 @@
 pub mod Limits
 pub mod Faults
+pub mod FileEnds
 pub mod Lines
 pub mod Choices
 pub mod Text
 pub mod Order
 pub mod Answers
+pub mod GrowingGames
+pub mod OfGrowing
+pub mod Reading
+pub mod Noted
+pub mod Kept
+pub mod Ordered
+pub mod AnyOrder

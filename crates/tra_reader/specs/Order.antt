@@ -1,6 +1,5 @@
--- The order of transitions by state and choice, and runs of one choice in it.
-use Rattle.std.specs.Prelude.{◌≡◌, ◌<◌, ◌≤◌, ℕ, ◌+◌, ◌*◌, ◌==◌, ◌&&◌, nat_le, Bool, true, List, [], ◌∷◌, length, if◌then◌else◌}
-use Rattle.std.specs.List.{filter, All}
+-- The order of transitions by state and choice.
+use Rattle.std.specs.Prelude.{◌<◌, ◌≤◌, ℕ, ◌+◌, ◌*◌, ◌==◌, Bool, List, [], ◌∷◌}
 use Rattle.tra_reader.specs.declared.line.Transition.{Transition}
 use Rattle.tra_reader.specs.Limits.{most_stated_choices}
 
@@ -30,26 +29,3 @@ module _ {X : Type 0} (key : X → ℕ) where
   abbrev pub Rises : List X → Type 0
   Rises [] = Unit {0}
   Rises (x ∷ xs) = From (key x) xs × Rises xs
-
-  -- the keys do not fall, and the first is not below this number
-  abbrev pub rises_from : ℕ → List X → Bool
-  rises_from least [] = true
-  rises_from least (x ∷ xs) = nat_le least (key x) && rises_from (key x) xs
-
-  -- how many elements at the front have this key
-  abbrev pub run_len : ℕ → List X → ℕ
-  run_len q [] = 0
-  run_len q (x ∷ xs) = if key x == q then run_len q xs + 1 else 0
-
--- transitions in the order of their choices, none before this place
-pub record InOrder (place : ℕ) (transitions : List Transition) : Type 0 where
-  pub rises : Rises transition_place transitions
-  pub above : From transition_place place transitions
-  pub small : All (λ t. t.choice < most_stated_choices) transitions
-
--- what is left of transitions in order: all those from this place on
-pub record IsLeft (place : ℕ) (transitions rest : List Transition) : Type 0 where
-  pub order : InOrder place rest
-  pub keeps : (q : ℕ) → place ≤ q → filter (has transition_place q) rest ≡ filter (has transition_place q) transitions
-  pub within : (n : ℕ) → All (IsWithin n) transitions → All (IsWithin n) rest
-  pub shorter : length rest ≤ length transitions

@@ -1,28 +1,64 @@
 //! The actions of choices.
 
-ghost use Rattle.std.specs.Prelude.{◌≡◌, ◌++◌, ◌∷◌, List, IfOk, [], nat_eq, not, false};
+ghost use Rattle.std.specs.Prelude.{◌≡◌, ◌≤◌, ℕ, length, nat_eq};
 ghost use Rattle.std.specs.HashMap.{get};
-ghost use Rattle.std.specs.Option.{option_map_or};
-ghost use Rattle.std.specs.Str.{bytes_eq};
-ghost use Rattle.tra_reader.specs.Lines.{Row};
-ghost use Rattle.tra_reader.specs.Answers.{Notes, action_at, row_place};
+ghost use Rattle.std.specs.Option.{ForSome};
 
-use std::alloc::AllocError;
+use std::alloc::{AllocError, Global};
 use std::collections::HashMap;
 
-/// The action of the first line of each choice, by the choice's place in the order of all choices.
-pub type Actions<'a> = HashMap<u64, &'a [u8]>;
+/// Where an action stands among the bytes of all.
+#[derive(Clone, Copy, Debug, PartialEq, Eq)]
+struct Span {
+    start: usize,
+    end: usize,
+}
 
-/// Notes the action of a line, and says whether it clashes with that of the first line of its choice.
-pub fn note<'a>(seen: &mut Actions<'a>, place: u64, action: &'a [u8]) -> Result<bool, AllocError>
-    ensures { IfOk result (λ clash. (before : List Row) (row : Row) → row_place row ≡ place → row.action ≡ action.entry.now → Notes (get nat_eq seen.old) before
-        → (clash ≡ option_map_or (λ first. not (bytes_eq first row.action)) (action_at before place) false) × Notes (get nat_eq seen.new) (before ++ row ∷ [])) }
-{
-    match seen.get(&place).copied() {
-        Some(first) => Ok(first != action),
-        None => {
-            seen.insert(place, action)?;
-            Ok(false)
+/// The action of the first line of each choice, by the choice's place in the order of all choices.
+#[derive(Drop)]
+pub struct FirstActions {
+    bytes: Vec<u8>,
+    spans: HashMap<u64, Span>,
+    ghost inside: { (place : ℕ) → ForSome (get nat_eq spans place) (λ span. (span.start ≤ span.end) × (span.end ≤ length bytes.items)) },
+}
+
+impl FirstActions {
+    ghost use Rattle.std.specs.Prelude.{◌==◌, ◌++◌, ◌∷◌, [], IfOk, OnOk, List, Some, if◌then◌else◌};
+    ghost use Rattle.tra_reader.specs.Lines.{Row};
+    ghost use Rattle.tra_reader.specs.Answers.{clashes_at, row_place};
+    ghost use Rattle.tra_reader.specs.Noted.{noted, Notes};
+
+    /// No action so far.
+    pub fn new(alloc: Global) -> FirstActions
+        ensures { Notes result [] }
+    {
+        FirstActions {
+            bytes: Vec::new(alloc),
+            spans: HashMap::new(alloc),
         }
+    }
+
+    /// Notes the action of a line, and says whether it clashes with that of the first line of its choice.
+    pub fn note(&mut self, place: u64, action: &[u8]) -> Result<bool, AllocError>
+        ensures { IfOk result (λ clash. (rows : List Row) (row : Row) → row_place row ≡ place → row.action ≡ action.now → Notes self.old rows → (clash ≡ clashes_at rows row) × Notes self.new (rows ++ row ∷ [])) }
+    {
+        match self.spans.get(&place).copied() {
+            Some(span) => Ok(&self.bytes[span.start..span.end] != action),
+            None => {
+                self.put(place, action)?;
+                Ok(false)
+            }
+        }
+    }
+
+    // Keeps the action of a choice that has none.
+    fn put(&mut self, place: u64, action: &[u8]) -> Result<(), AllocError>
+        ensures { OnOk result ((q : ℕ) → noted self.new q ≡ (if place == q then Some action.now else noted self.old q)) }
+    {
+        let start = self.bytes.len();
+        self.bytes.extend_from_slice(action)?;
+        let end = self.bytes.len();
+        self.spans.insert(place, Span { start, end })?;
+        Ok(())
     }
 }

@@ -1,76 +1,61 @@
-//! The lines behind the header.
+//! What the readers of transition lines have in common: the header's line, the rows behind it, and the end of the text.
 
-ghost use Rattle.std.specs.Prelude.{◌≤◌, ◌<◌, IfOk, length, [], nat_eq};
-ghost use Rattle.std.specs.List.{All};
-ghost use Rattle.std.specs.HashMap.{get};
-ghost use Rattle.text_lines.specs.Text.{lines_of, significant};
-ghost use Rattle.text_lines.specs.Limits.{most_bytes};
+ghost use Rattle.std.specs.Prelude.{◌≡◌, ◌≢◌, ◌≤◌, ◌<◌, IfOk, MatchResult, [], if◌then◌else◌};
+ghost use Rattle.text_lines.specs.Text.{fields_of};
 ghost use Rattle.tra_reader.specs.Limits.{most_lines};
-ghost use Rattle.tra_reader.specs.Faults.{Gives};
-ghost use Rattle.tra_reader.specs.Lines.{rows_said};
+ghost use Rattle.tra_reader.specs.Faults.{fault_at, fault_of_all};
+ghost use Rattle.tra_reader.specs.Lines.{header_said};
 ghost use Rattle.tra_reader.specs.Order.{IsWithin};
-ghost use Rattle.tra_reader.specs.Answers.{NextAnswer, transitions_read, Ends};
+ghost use Rattle.tra_reader.specs.Answers.{IsAccepted};
+ghost use Rattle.tra_reader.specs.Reading.{RowAnswer, at_first_line};
 
-use crate::actions::{Actions, note};
 use crate::fault::{TraCause, TraFault};
-use crate::header::Header;
+use crate::header::{Header, read_header};
 use crate::line::{Transition, read_line};
-use std::alloc::Global;
-use std::collections::HashMap;
-use text_lines::{first_field, first_line, only_blank};
 
-/// The transitions of the lines, in their order.
-pub fn read_transitions(
-    alloc: Global,
-    text: &[u8],
-    header: &Header,
-) -> Result<Vec<Transition>, TraFault>
-    requires small { length text.now ≤ most_bytes }
-    requires lines { header.now.lines ≤ most_lines }
-    ensures said { Gives (λ v. v.items) result (transitions_read (rows_said header.now 2 [] (significant (lines_of text.now)))) }
-    ensures within { IfOk result (λ v. All (IsWithin header.now.states) v.items) }
-    ensures few { IfOk result (λ v. length v.items ≤ most_lines) }
+/// The header of a text, from its first line.
+pub fn first_line(line: &[u8]) -> Result<Header, TraFault>
+    ensures said { result ≡ at_first_line (header_said (fields_of line.now)) }
+    ensures accepted { IfOk result IsAccepted }
 {
-    let mut transitions = Vec::new(alloc);
-    let mut seen = HashMap::new(alloc);
-    let mut rest = text;
-    let mut number = 2u32;
-    while let Some((line, after)) = first_line(rest) {
-        if first_field(line).is_none() && only_blank(after) {
-            return finish(transitions, header);
-        }
-        match next_transition(&mut seen, header, transitions.len(), line, number) {
-            Err(fault) => return Err(fault),
-            Ok(transition) => {
-                if transitions.push(transition).is_err() {
-                    return Err(TraFault::of_all(TraCause::OutOfMemory));
-                }
-            }
-        }
-        rest = after;
-        number += 1;
+    match read_header(line) {
+        Err(cause) => Err(TraFault { line: 1, cause }),
+        Ok(header) => Ok(header),
     }
-    finish(transitions, header)
 }
 
-// The transition of a line, where so many were read before it.
-fn next_transition<'a>(
-    seen: &mut Actions<'a>,
+/// The fault of a text that has no line but blank ones.
+pub fn no_header() -> TraFault
+    ensures { result ≡ fault_at 1 TraCause.NoHeader }
+{
+    TraFault {
+        line: 1,
+        cause: TraCause::NoHeader,
+    }
+}
+
+/// The fault of a blank line behind the header, before another line.
+pub fn blank_between(number: u32) -> TraFault
+    ensures { result ≡ fault_at number TraCause.FieldCount }
+{
+    TraFault {
+        line: number,
+        cause: TraCause::FieldCount,
+    }
+}
+
+/// What a line says by itself, where so many rows were read before it.
+pub fn read_row<'a>(
     header: &Header,
     read: usize,
-    line: &'a [u8],
     number: u32,
-) -> Result<Transition, TraFault>
-    requires { header.now.lines ≤ most_lines }
-    ensures answer { NextAnswer header.now line.entry.now number read (get nat_eq seen.old) (get nat_eq seen.new) result }
-    ensures room { IfOk result (λ t. read < header.now.lines) }
+    line: &'a [u8],
+) -> Result<(Transition, &'a [u8]), TraFault>
+    requires short { header.now.lines ≤ most_lines }
+    requires filled { fields_of line.now ≢ [] }
+    ensures said { RowAnswer header.now read line.entry.now number result }
+    ensures within { IfOk result (λ r. IsWithin header.now.states r.0) }
 {
-    if first_field(line).is_none() {
-        return Err(TraFault {
-            line: number,
-            cause: TraCause::FieldCount,
-        });
-    }
     let stated = header.lines;
     if read >= stated as usize {
         return Err(TraFault {
@@ -86,29 +71,20 @@ fn next_transition<'a>(
             line: number,
             cause,
         }),
-        Ok((transition, action)) => match note(seen, transition.place(), action) {
-            Err(_) => Err(TraFault::of_all(TraCause::OutOfMemory)),
-            Ok(true) => Err(TraFault {
-                line: number,
-                cause: TraCause::ActionClash {
-                    state: transition.source,
-                    choice: transition.choice,
-                },
-            }),
-            Ok(false) => Ok(transition),
-        },
+        Ok(row) => Ok(row),
     }
 }
 
-// What is read, where no line is missing.
-fn finish(transitions: Vec<Transition>, header: &Header) -> Result<Vec<Transition>, TraFault>
-    requires { length transitions.items ≤ header.now.lines }
-    ensures { Ends transitions.items header.now result }
+/// Whether no line is missing, where so many rows were read.
+pub fn check_count(header: &Header, read: usize) -> Result<(), TraFault>
+    ensures { MatchResult result (λ _. header.now.lines ≤ read) (λ fault. (read < header.now.lines) × (fault ≡ fault_of_all (TraCause.LineCount read header.now.lines))) }
 {
     let stated = header.lines;
-    let read = transitions.len() as u32;
-    if read < stated {
-        return Err(TraFault::of_all(TraCause::LineCount { read, stated }));
+    if read < stated as usize {
+        return Err(TraFault::of_all(TraCause::LineCount {
+            read: read as u32,
+            stated,
+        }));
     }
-    Ok(transitions)
+    Ok(())
 }

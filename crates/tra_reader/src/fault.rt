@@ -1,6 +1,8 @@
 //! Why a text denotes no game.
 
+use crate::line::Transition;
 use distributions::{ChoiceFault, NumberFault};
+use std::alloc::{AllocError, AllocFailed};
 
 /// What is wrong.
 #[derive(Clone, Copy, Debug, PartialEq, Eq)]
@@ -58,7 +60,7 @@ pub struct TraFault {
 
 impl TraFault {
     ghost use Rattle.std.specs.Prelude.{◌≡◌};
-    ghost use Rattle.tra_reader.specs.Faults.{fault_of_all, fault_of_choice};
+    ghost use Rattle.tra_reader.specs.Faults.{fault_at, fault_of_all, fault_of_choice};
 
     /// A fault of the whole text.
     pub fn of_all(cause: TraCause) -> TraFault
@@ -79,5 +81,42 @@ impl TraFault {
                 fault,
             }),
         }
+    }
+
+    /// The fault of a line whose action is another than that of the first line of its choice.
+    pub fn of_clash(line: u32, transition: &Transition) -> TraFault
+        ensures { result ≡ fault_at line (TraCause.ActionClash transition.now.source transition.now.choice) }
+    {
+        TraFault {
+            line,
+            cause: TraCause::ActionClash {
+                state: transition.source,
+                choice: transition.choice,
+            },
+        }
+    }
+}
+
+impl From<AllocError> for TraFault {
+    ghost use Rattle.std.specs.Prelude.{◌≡◌};
+    ghost use Rattle.tra_reader.specs.Faults.{fault_of_all};
+    ghost use Rattle.tra_reader.specs.declared.fault.TraCause.TheVariants.{OutOfMemory};
+
+    ghost from_gives = { λ _ given. given ≡ fault_of_all OutOfMemory };
+
+    fn from(_: AllocError) -> TraFault {
+        TraFault::of_all(TraCause::OutOfMemory)
+    }
+}
+
+impl<T: Drop> From<AllocFailed<T>> for TraFault {
+    ghost use Rattle.std.specs.Prelude.{◌≡◌};
+    ghost use Rattle.tra_reader.specs.Faults.{fault_of_all};
+    ghost use Rattle.tra_reader.specs.declared.fault.TraCause.TheVariants.{OutOfMemory};
+
+    ghost from_gives = { λ _ given. given ≡ fault_of_all OutOfMemory };
+
+    fn from(_: AllocFailed<T>) -> TraFault {
+        TraFault::of_all(TraCause::OutOfMemory)
     }
 }

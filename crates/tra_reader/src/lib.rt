@@ -10,24 +10,33 @@
 //! ```
 //!
 //! `read_tra` gives the game that a text denotes, or the text's first fault with its line: the faults of the header, then
-//! those of the lines in their order, then those of the whole text. It takes memory for 48 bytes a line beside the game
-//! and one entry a choice, and sorts only lines that do not already stand in the order of their choices.
+//! those of the lines in their order, then those of the whole text. A text whose lines stand in the order of their
+//! choices is read in one pass, and of its lines only those of one choice are kept beside the game. Any other text is
+//! read once more, and that takes memory for 48 bytes a line, one entry a choice, and the first action of each choice.
+//! `read_tra_from` reads a file on a shelf, a piece at a time, and gives the same answer in whatever pieces it comes.
 #![tactic(auto)]
 
 mod actions;
+mod any_order;
 mod body;
-mod choices;
+mod build;
 mod fault;
-mod groups;
+mod file;
+mod game_in_order;
+mod halt;
 mod header;
 pub mod laws;
 mod limits;
 mod line;
 mod order;
+mod ordered;
+mod progress;
 mod reader;
 #[cfg(test)]
 mod tests;
+mod whole_choices;
 
 pub use fault::{TraCause, TraFault};
+pub use file::read_tra_from;
 pub use limits::{MOST_LINES, MOST_STATED_CHOICES};
 pub use reader::read_tra;

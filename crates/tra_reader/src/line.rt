@@ -4,13 +4,13 @@ ghost use Rattle.std.specs.Prelude.{◌≡◌, ◌<◌, [], ℕ, Option, Some, R
 ghost use Rattle.text_lines.specs.Text.{fields_of, saturated};
 ghost use Rattle.distributions.specs.Number.{number_said};
 ghost use Rattle.tra_reader.specs.Lines.{mdp_parts, dtmc_parts, parts_said, row_said, transition_said, transition_within};
-ghost use Rattle.tra_reader.specs.Order.{IsWithin};
+ghost use Rattle.tra_reader.specs.Order.{IsWithin, place_of};
 ghost use Rattle.tra_reader.specs.Answers.{SaysRow, IsLastField};
 
 use crate::fault::TraCause;
 use crate::header::Header;
 use crate::limits::MOST_STATED_CHOICES;
-use distributions::{Frac, read_number};
+use distributions::{Frac, Part, read_number};
 use text_lines::{first_field, whole};
 
 /// A line: from the source, by its choice, to the destination.
@@ -24,15 +24,31 @@ pub struct Transition {
 
 impl Transition {
     ghost use Rattle.tra_reader.specs.Order.{transition_place};
+    ghost use Rattle.tra_reader.specs.Choices.{part_of};
 
     /// The place of the line's choice in the order of all choices.
     pub fn place(&self) -> u64
         ensures { result ≡ transition_place self.now }
     {
-        let source = self.source;
-        let choice = self.choice;
-        u64::from(MOST_STATED_CHOICES) * u64::from(source) + u64::from(choice)
+        place_at(self.source, self.choice)
     }
+
+    /// The part of its choice.
+    pub fn part(&self) -> Part
+        ensures { result ≡ part_of self.now }
+    {
+        Part {
+            to: self.destination,
+            share: self.share,
+        }
+    }
+}
+
+/// The place of a choice in the order of all choices.
+pub fn place_at(state: u32, choice: u32) -> u64
+    ensures { result ≡ place_of state choice }
+{
+    u64::from(MOST_STATED_CHOICES) * u64::from(state) + u64::from(choice)
 }
 
 /// Reads the transition and the action of a line.

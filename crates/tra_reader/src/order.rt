@@ -2,40 +2,13 @@
 
 ghost use Rattle.std.specs.Prelude.{◌≡◌, ℕ, OnOk, length};
 ghost use Rattle.std.specs.List.{filter, All};
-ghost use Rattle.tra_reader.specs.Order.{Rises, IsWithin, has, rises_from, transition_place};
+ghost use Rattle.tra_reader.specs.Order.{Rises, IsWithin, has, transition_place};
 
 use crate::line::Transition;
 use std::alloc::AllocError;
 
 /// Puts the transitions in the order of their choices, those of one choice as they stood.
 pub fn put_in_order(transitions: &mut Vec<Transition>) -> Result<(), AllocError>
-    ensures rises { OnOk result (Rises transition_place transitions.new.items) }
-    ensures same { OnOk result ((q : ℕ) → filter (has transition_place q) transitions.new.items ≡ filter (has transition_place q) transitions.old.items) }
-    ensures within { OnOk result ((n : ℕ) → All (IsWithin n) transitions.old.items → All (IsWithin n) transitions.new.items) }
-    ensures len { OnOk result (length transitions.new.items ≡ length transitions.old.items) }
-{
-    if in_order(transitions) {
-        return Ok(());
-    }
-    sort(transitions)
-}
-
-// Real exports stand in order.
-fn in_order(transitions: &[Transition]) -> bool
-    ensures { result ≡ rises_from transition_place 0 transitions.now }
-{
-    let mut least = 0;
-    for transition in transitions {
-        let place = transition.place();
-        if place < least {
-            return false;
-        }
-        least = place;
-    }
-    true
-}
-
-fn sort(transitions: &mut Vec<Transition>) -> Result<(), AllocError>
     ensures rises { OnOk result (Rises transition_place transitions.new.items) }
     ensures same { OnOk result ((q : ℕ) → filter (has transition_place q) transitions.new.items ≡ filter (has transition_place q) transitions.old.items) }
     ensures within { OnOk result ((n : ℕ) → All (IsWithin n) transitions.old.items → All (IsWithin n) transitions.new.items) }

@@ -1,4 +1,4 @@
-// Texts and what they are read as, from outside.
+//! Texts and what they are read as, from outside.
 
 use crate::{TraCause, TraFault, read_tra};
 use distributions::{ChoiceFault, NumberFault};
@@ -44,6 +44,80 @@ fn choices_are_read(rt: HostRuntime) -> Result<(), Fail> {
     Ok(())
 }
 
+#[test]
+fn order_of_lines_plays_no_part(rt: HostRuntime) -> Result<(), Fail> {
+    let alloc = rt.alloc();
+    let texts: [(&[u8], &[u8]); 3] = [
+        (
+            COIN_LOOP,
+            b"3 3 5\n2 0 2 1\n0 0 2 0.25\n1 0 1 1\n0 0 0 0.5\n0 0 1 0.25\n",
+        ),
+        (
+            COIN_LOOP,
+            b"3 3 5\n0 0 1 0.25\n0 0 2 0.25\n1 0 1 1\n2 0 2 1\n0 0 0 0.5\n",
+        ),
+        (
+            b"2 3\n0 0 1/3 a\n0 1 2/3 b\n1 1 1 c\n",
+            b"2 3\n0 1 2/3 c\n1 1 1 b\n0 0 1/3 a",
+        ),
+    ];
+    for (ordered, shuffled) in texts {
+        assert!(rt; ordered.len() <= MOST_BYTES);
+        assert!(rt; shuffled.len() <= MOST_BYTES);
+        let game = read_tra(alloc, ordered)?;
+        let same = read_tra(alloc, shuffled)?;
+        assert_eq!(rt; first_choice(alloc, &game)?, first_choice(alloc, &same)?);
+    }
+    Ok(())
+}
+
+#[test]
+fn faults_of_shuffled_lines(rt: HostRuntime) -> Result<(), Fail> {
+    let alloc = rt.alloc();
+    let clash = TraCause::ActionClash {
+        state: 0,
+        choice: 0,
+    };
+    let texts: [(&[u8], u32, TraCause); 6] = [
+        (b"2 2 3\n0 0 0 0.5 a\n0 0 1 0.5 b\n1 0 1 1 a\n", 3, clash),
+        (b"2 2 3\n0 0 0 0.5 a\n1 0 1 1 b\n0 0 1 0.5 b\n", 4, clash),
+        (
+            b"2 2 3\n1 0 1 1\n0 0 0 0.5 a\n0 0 1 .5 b\n",
+            4,
+            TraCause::Number(NumberFault::NotANumber),
+        ),
+        (
+            b"2 2 3\n0 0 0 0.5\n1 0 1 1\n0 0 2 0.5\n",
+            4,
+            TraCause::StateOutOfRange,
+        ),
+        (
+            b"2 2 2\n1 0 1 1\n0 0 0 0.5\n",
+            0,
+            TraCause::Choice {
+                state: 0,
+                choice: 0,
+                fault: ChoiceFault::BadSum {
+                    sum: 1,
+                    denominator: 2,
+                },
+            },
+        ),
+        (
+            b"2 3 2\n1 1 1 1\n0 0 0 0.5\n",
+            0,
+            TraCause::ChoiceGap {
+                state: 1,
+                choice: 0,
+            },
+        ),
+    ];
+    for (text, line, cause) in texts {
+        assert_eq!(rt; fault_of(alloc, text), Some(TraFault { line, cause }));
+    }
+    Ok(())
+}
+
 fn fault_of(alloc: Global, text: &[u8]) -> Option<TraFault> {
     if text.len() > MOST_BYTES {
         return None;
@@ -54,7 +128,7 @@ fn fault_of(alloc: Global, text: &[u8]) -> Option<TraFault> {
 #[test]
 fn faults_have_their_lines(rt: HostRuntime) -> Result<(), Fail> {
     let alloc = rt.alloc();
-    let texts: [(&[u8], u32, TraCause); 21] = [
+    let texts: [(&[u8], u32, TraCause); 22] = [
         (b"", 1, TraCause::NoHeader),
         (b"mdp\n", 1, TraCause::NoHeader),
         (b"0 0 8000001", 1, TraCause::OverLimit),
@@ -124,6 +198,7 @@ fn faults_have_their_lines(rt: HostRuntime) -> Result<(), Fail> {
             0,
             TraCause::ChoiceCount { read: 1, stated: 2 },
         ),
+        (b"2 2 2\n0 0 0 0.5\n1 0 2 1\n", 3, TraCause::StateOutOfRange),
         (
             b"3 3 4\n0 0 1 0.5\n0 0 2 0.4\n1 0 1 1\n2 0 2 1\n",
             0,

@@ -1,25 +1,29 @@
-use Rattle.std.proofs.Common.{rules, ◌≡◌, ◌∙◌, List, [], Result, sym, ap, subst, inr}
+use Rattle.std.proofs.Common.{List, Result, Ok, Err, Some, refl, ap}
 use Rattle.text_lines.specs.Text.{lines_of, significant}
 use Rattle.game_model.specs.Game.{Distribution}
+use Rattle.tra_reader.specs.declared.halt.Halt.{Halt}
 use Rattle.tra_reader.specs.declared.fault.TraFault.{TraFault}
 use Rattle.tra_reader.specs.Faults.{Gives}
-use Rattle.tra_reader.specs.Text.{game_of, lines_game, behind_header}
-use Rattle.tra_reader.proofs.Steps.{behind_first}
+use Rattle.tra_reader.specs.Text.{game_of, lines_game}
+use Rattle.tra_reader.specs.Reading.{IsAnswer}
+use Rattle.tra_reader.specs.Ordered.{ordered_header, HoldsOrdered, text_fault}
+use Rattle.tra_reader.specs.AnyOrder.{any_header, HoldsAny}
+use Rattle.tra_reader.proofs.Taking.{right_whole, given}
 use Rattle.tra_reader.proofs.reader.read_exact.Goals as goal
-
-pub returns-in_default : goal.returns-in_default
-unfolding game_of
-returns-in_default c =
-    let none : c.args.bytes.now ≡ [] = search rules in
-    inr (ap (λ t. lines_game (significant (lines_of t))) none)
-
-pub returns-in-Err : goal.returns-in-Err
-unfolding game_of
-returns-in-Err c =
-    inr (behind_first c.args.bytes.now c.in-Some.line.now c.in-Some.rest.now c.in-Some.ensures.lines ∙ ap (λ h. behind_header h (significant (lines_of c.in-Some.rest.now))) (sym c.in-Err.ensures.said))
 
 pub returns-in-Ok : goal.returns-in-Ok
 unfolding game_of
-returns-in-Ok c =
-    let P : Result (List (List Distribution)) TraFault → Type 0 = λ said. Gives (λ (g : List (List Distribution)). g) c.read_body.result said in
-    subst P (ap (λ h. behind_header h (significant (lines_of c.in-Some.rest.now))) c.in-Ok.ensures.said ∙ sym (behind_first c.args.bytes.now c.in-Some.line.now c.in-Some.rest.now c.in-Some.ensures.lines)) c.read_body.ensures
+returns-in-Ok c = right_whole ordered_header HoldsOrdered text_fault c.new.result.held (significant (lines_of c.args.bytes.now)) (Ok c.in-Ok.game) c.new.ensures c.in-Ok.ensures
+
+pub returns-in-Err-Refused : goal.returns-in-Err-Refused
+unfolding game_of
+returns-in-Err-Refused c =
+    let right = right_whole ordered_header HoldsOrdered text_fault c.new.result.held (significant (lines_of c.args.bytes.now)) (Err c.in-Err-Refused.field-0) c.new.ensures c.in-Err-Refused.ensures in
+    right c.in-Err-Refused.fault (ap (λ (halt : Halt). text_fault halt) c.in-Err-Refused.field-0-is)
+
+pub returns-in-Err-OutOfOrder : goal.returns-in-Err-OutOfOrder
+unfolding game_of
+returns-in-Err-OutOfOrder c =
+    let lines = significant (lines_of c.args.bytes.now) in
+    let again = c.read_lines-in-Err-OutOfOrder in
+    given again.result (lines_game lines) (right_whole any_header HoldsAny (λ (f : TraFault). Some f) c.new-in-Err-OutOfOrder.result.held lines again.result c.new-in-Err-OutOfOrder.ensures again.ensures)

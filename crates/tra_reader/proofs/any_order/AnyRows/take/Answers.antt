@@ -1,0 +1,27 @@
+use Rattle.std.proofs.Common.{rules, ◌≡◌, ◌∙◌, List, length, Some, sym, ap}
+use Rattle.tra_reader.specs.declared.line.Transition.{Transition}
+use Rattle.tra_reader.specs.declared.fault.TraFault.{TraFault}
+use Rattle.tra_reader.specs.Lines.{Row}
+use Rattle.tra_reader.specs.AnyOrder.{any_header, HoldsAny}
+use Rattle.tra_reader.proofs.Steps.{transitions_length}
+use Rattle.tra_reader.proofs.Taking.{takes_row, refuses_row}
+use Rattle.tra_reader.proofs.Outcomes.{ok_further, fault_further}
+use Rattle.tra_reader.proofs.any_order.AnyRows.take.Goals as goal
+
+pub returns-in-Ok-clause-fault : goal.returns-in-Ok-clause-fault
+returns-in-Ok-clause-fault c =
+    let row : Row = record { transition = c.in-Ok.transition; action = c.in-Ok.action.now } in
+    let size : length c.args.self.now.transitions.items ≡ c.len.result = search rules in
+    fault_further c.add.result
+    (λ fault. refuses_row any_header HoldsAny (λ (f : TraFault). Some f) c.len.result c.args.number c.args.self.now c.args.line.now row fault
+    (λ rows holds. sym (transitions_length rows) ∙ ap (λ (ts : List Transition). length ts) holds.transitions ∙ size) c.requires c.in-Ok.ensures.said.0 c.in-Ok.ensures.said.1)
+    c.add.ensures.fault
+
+pub returns-in-Ok-clause-ok : goal.returns-in-Ok-clause-ok
+returns-in-Ok-clause-ok c =
+    let row : Row = record { transition = c.in-Ok.transition; action = c.in-Ok.action.now } in
+    let size : length c.args.self.now.transitions.items ≡ c.len.result = search rules in
+    ok_further c.add.result
+    (takes_row any_header HoldsAny c.len.result c.args.self.now c.add.new.self c.args.line.now row
+    (λ rows holds. sym (transitions_length rows) ∙ ap (λ (ts : List Transition). length ts) holds.transitions ∙ size) c.requires c.in-Ok.ensures.said.0 c.in-Ok.ensures.said.1)
+    c.add.ensures.ok

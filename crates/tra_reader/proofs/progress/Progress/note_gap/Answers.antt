@@ -1,0 +1,13 @@
+use Rattle.std.proofs.Common.{inl, inr, subst}
+use Rattle.tra_reader.specs.declared.progress.Progress.{Progress}
+use Rattle.tra_reader.specs.GrowingGames.{IsMade}
+use Rattle.tra_reader.proofs.Gaps.{noted}
+use Rattle.tra_reader.proofs.progress.Progress.note_gap.Goals as goal
+
+pub returns-in-Builds : goal.returns-in-Builds
+returns-in-Builds c = λ n count later ts h none found made.
+    let P : Progress → Type 0 = λ p. IsMade n ts c.args.state c.args.choice count p in
+    elim c.in-Builds.is [
+      | inl builds ↦ noted ts c.args.state c.args.choice later count h none found ((subst P builds.1 made).0)
+      | inr faulty ↦ noted ts c.args.state c.args.choice later count h none found ((subst P faulty.1 made).0)
+    ]

@@ -1,0 +1,41 @@
+-- How the reading of a file ends.
+use Rattle.std.specs.Prelude.{◌≡◌, Bool, true, false, Option, Some, None, Result, Ok, Err, if◌then◌else◌}
+use Rattle.game_outside.specs.declared.file.FileEnd.{FileEnd}
+use Rattle.game_outside.specs.declared.file.FileEnd.TheVariants as file
+use Rattle.distributions.specs.declared.choice.ChoiceFault.TheVariants as choice
+use Rattle.tra_reader.specs.declared.fault.TraCause.{TraCause}
+use Rattle.tra_reader.specs.declared.fault.TraCause.TheVariants.{OutOfMemory, Choice}
+use Rattle.tra_reader.specs.declared.fault.TraFault.{TraFault}
+use Rattle.tra_reader.specs.declared.halt.Halt.{Halt}
+use Rattle.tra_reader.specs.declared.halt.Halt.TheVariants as halt
+
+-- memory was wanting, for the whole or for a choice
+abbrev pub is_want : TraCause → Bool
+is_want OutOfMemory = true
+is_want (Choice state k choice.OutOfMemory) = true
+is_want cause = false
+
+-- no refusal is for want of memory
+abbrev pub RefusesCaused : {X : Type 0} → Result X (FileEnd TraFault) → Type 0
+RefusesCaused (Ok x) = Unit {0}
+RefusesCaused (Err (file.Refused fault)) = is_want fault.cause ≡ false
+RefusesCaused (Err file.OutOfMemory) = Unit {0}
+RefusesCaused (Err file.ReadFault) = Unit {0}
+RefusesCaused (Err file.TooLong) = Unit {0}
+
+-- the same answer, but want of memory in place of a refusal for it
+abbrev pub without_want_of : {X : Type 0} → Result X (FileEnd TraFault) → Result X (FileEnd TraFault)
+without_want_of (Err (file.Refused fault)) = if is_want fault.cause then Err file.OutOfMemory else Err (file.Refused fault)
+without_want_of (Ok x) = Ok x
+without_want_of (Err file.OutOfMemory) = Err file.OutOfMemory
+without_want_of (Err file.ReadFault) = Err file.ReadFault
+without_want_of (Err file.TooLong) = Err file.TooLong
+
+-- what was read, unless a line was out of order
+abbrev pub in_order_of : {X : Type 0} → Result X (FileEnd Halt) → Option (Result X (FileEnd TraFault))
+in_order_of (Ok x) = Some (Ok x)
+in_order_of (Err (file.Refused halt.OutOfOrder)) = None
+in_order_of (Err (file.Refused (halt.Refused fault))) = Some (Err (file.Refused fault))
+in_order_of (Err file.OutOfMemory) = Some (Err file.OutOfMemory)
+in_order_of (Err file.ReadFault) = Some (Err file.ReadFault)
+in_order_of (Err file.TooLong) = Some (Err file.TooLong)

@@ -1,0 +1,14 @@
+-- The action of the choice under way, where transitions come in the order of their choices.
+use Rattle.std.specs.Prelude.{◌≡◌, ◌<◌, ℕ, List, [], ◌∷◌, ◌++◌, length, Some, Bool}
+use Rattle.tra_reader.specs.GrowingGames.{Growing, place_under_way}
+use Rattle.tra_reader.specs.Lines.{Row}
+use Rattle.tra_reader.specs.Answers.{row_place, action_at, clashes_at}
+
+-- where a choice is under way, this is the action of its first row
+abbrev pub KeepsAction : Growing → List ℕ → List Row → Type 0
+KeepsAction game kept rows = 0 < length game.parts → action_at rows (place_under_way game) ≡ Some kept
+
+-- whether the row clashes with those before it; and this is the first action of its choice
+pub record Compares (kept : List ℕ) (rows : List Row) (row : Row) (clash : Bool) : Type 0 where
+  pub is : clash ≡ clashes_at rows row
+  pub first : action_at (rows ++ row ∷ []) (row_place row) ≡ Some kept

@@ -1,0 +1,10 @@
+-- What contracts see of a game under way.
+use Rattle.tra_reader.specs.declared.game_in_order.GameInOrder.TheInside.{Inside}
+use Rattle.tra_reader.specs.GrowingGames.{Growing, HoldsSome}
+
+abbrev pub growing_of : Inside → Growing
+growing_of g = record { states = g.states; whole = g.whole; parts = g.parts.items }
+
+-- some transitions are held
+abbrev pub IsGrowing : Inside → Type 0
+IsGrowing g = HoldsSome (growing_of g)

@@ -1,0 +1,54 @@
+-- What the reader of lines in order holds.
+use Rattle.std.specs.Prelude.{◌≡◌, ℕ, List, length, Option, Some, None, Result}
+use Rattle.std.specs.List.{All}
+use Rattle.game_model.specs.Game.{Distribution}
+use Rattle.tra_reader.specs.declared.header.Header.{Header}
+use Rattle.tra_reader.specs.declared.fault.TraFault.{TraFault}
+use Rattle.tra_reader.specs.declared.halt.Halt.{Halt}
+use Rattle.tra_reader.specs.declared.halt.Halt.TheVariants.{OutOfOrder, Refused}
+use Rattle.tra_reader.specs.declared.ordered.OrderedRows.{OrderedRows}
+use Rattle.tra_reader.specs.Lines.{Row}
+use Rattle.tra_reader.specs.Text.{transitions}
+use Rattle.tra_reader.specs.Order.{IsWithin}
+use Rattle.tra_reader.specs.Kept.{KeepsAction}
+use Rattle.tra_reader.specs.GrowingGames.{Growing, HoldsInOrder}
+use Rattle.tra_reader.specs.Reading.{IsRight, Begins, TakesLine, RefusesLine, AddsRow, RefusesRow, Finishes}
+
+-- the fault that is told of the text, if one is
+abbrev pub text_fault : Halt → Option TraFault
+text_fault OutOfOrder = None
+text_fault (Refused fault) = Some fault
+
+abbrev pub ordered_header : OrderedRows → Header
+ordered_header held = held.header
+
+-- these rows of n states are held, which stand in the order of their choices: of their actions the first of the choice under way is kept
+pub record AreInOrder (n read : ℕ) (game : Growing) (action : List ℕ) (rows : List Row) : Type 0 where
+  pub holds : HoldsInOrder game n (transitions rows)
+  pub within : All (λ row. IsWithin n row.transition) rows
+  pub count : length rows ≡ read
+  pub keeps : KeepsAction game action rows
+
+abbrev pub HoldsOrdered : OrderedRows → List Row → Type 0
+HoldsOrdered held rows = AreInOrder held.header.states held.read held.game held.action.items rows
+
+abbrev pub OrderedRight : Option OrderedRows → ℕ → List (List ℕ) → Result (List (List Distribution)) Halt → Type 0
+OrderedRight = IsRight ordered_header HoldsOrdered text_fault
+
+abbrev pub BeginsOrdered : List ℕ → Result OrderedRows TraFault → Type 0
+BeginsOrdered = Begins ordered_header HoldsOrdered
+
+abbrev pub TakesOrdered : OrderedRows → OrderedRows → List ℕ → Type 0
+TakesOrdered = TakesLine ordered_header HoldsOrdered
+
+abbrev pub RefusesOrdered : OrderedRows → ℕ → List ℕ → Halt → Type 0
+RefusesOrdered = RefusesLine ordered_header HoldsOrdered text_fault
+
+abbrev pub AddsOrdered : OrderedRows → OrderedRows → Row → Type 0
+AddsOrdered = AddsRow ordered_header HoldsOrdered
+
+abbrev pub RefusesOrderedRow : OrderedRows → ℕ → Row → Halt → Type 0
+RefusesOrderedRow = RefusesRow HoldsOrdered text_fault
+
+abbrev pub FinishesOrdered : OrderedRows → Result (List (List Distribution)) TraFault → Type 0
+FinishesOrdered = Finishes ordered_header HoldsOrdered

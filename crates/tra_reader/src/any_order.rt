@@ -1,0 +1,129 @@
+//! A reader of transition lines that stand in any order.
+
+ghost use Rattle.std.specs.Prelude.{◌≡◌, ◌≢◌, ◌≤◌, ◌<◌, [], ℕ, List, IfOk, OnOk, MatchResult, length};
+ghost use Rattle.std.specs.List.{All};
+ghost use Rattle.text_lines.specs.Text.{fields_of};
+ghost use Rattle.tra_reader.specs.Order.{IsWithin};
+ghost use Rattle.tra_reader.specs.Answers.{IsAccepted};
+
+use crate::actions::FirstActions;
+use crate::body::{blank_between, check_count, first_line, no_header, read_row};
+use crate::build::build;
+use crate::fault::TraFault;
+use crate::header::Header;
+use crate::line::Transition;
+use game_model::Game;
+use std::alloc::Global;
+use text_lines::LineReader;
+
+/// Reads a text whose transitions stand in any order. It keeps all of them.
+#[derive(Drop)]
+pub struct AnyLines {
+    alloc: Global,
+    held: Option<AnyRows>,
+}
+
+impl AnyLines {
+    ghost use Rattle.std.specs.Prelude.{None};
+
+    /// A reader that has read no line.
+    pub fn new(alloc: Global) -> AnyLines
+        ensures { result.held ≡ None }
+    {
+        AnyLines { alloc, held: None }
+    }
+}
+
+impl LineReader for AnyLines {
+    ghost use Rattle.tra_reader.specs.AnyOrder.{AnyRight};
+
+    type Made = Game;
+
+    type Fault = TraFault;
+
+    ghost answers = { λ reader number lines answer. AnyRight reader.held number lines answer };
+
+    fn take(&mut self, number: u32, line: &[u8]) -> Result<(), TraFault> {
+        match &mut self.held {
+            None => {
+                self.held = Some(AnyRows::begin(self.alloc, line)?);
+                Ok(())
+            }
+            Some(held) => held.take(number, line),
+        }
+    }
+
+    fn blank(&self, number: u32) -> TraFault {
+        match self.held {
+            None => no_header(),
+            Some(_) => blank_between(number),
+        }
+    }
+
+    fn finish(self) -> Result<Game, TraFault> {
+        let AnyLines { alloc, held } = self;
+        match held {
+            None => Err(no_header()),
+            Some(held) => held.finish(alloc),
+        }
+    }
+}
+
+/// The rows behind a header: their transitions, and the first action of each choice.
+#[derive(Drop)]
+pub struct AnyRows {
+    header: Header,
+    transitions: Vec<Transition>,
+    actions: FirstActions,
+    ghost accepted: { IsAccepted header },
+    ghost within: { All (IsWithin header.states) transitions.items },
+}
+
+impl AnyRows {
+    ghost use Rattle.tra_reader.specs.AnyOrder.{BeginsAny, TakesAny, RefusesAny, AddsAny, RefusesAnyRow, FinishesAny};
+
+    /// No row behind the header of this line.
+    pub fn begin(alloc: Global, line: &[u8]) -> Result<AnyRows, TraFault>
+        ensures { BeginsAny line.now result }
+    {
+        let header = first_line(line)?;
+        Ok(AnyRows {
+            header,
+            transitions: Vec::new(alloc),
+            actions: FirstActions::new(alloc),
+        })
+    }
+
+    /// Takes the row of a line that is not blank.
+    pub fn take(&mut self, number: u32, line: &[u8]) -> Result<(), TraFault>
+        requires { fields_of line.now ≢ [] }
+        ensures ok { OnOk result (TakesAny self.old self.new line.now) }
+        ensures fault { MatchResult result (λ _. Unit {0}) (λ fault. RefusesAny self.old number line.now fault) }
+    {
+        match read_row(&self.header, self.transitions.len(), number, line) {
+            Err(fault) => Err(fault),
+            Ok((transition, action)) => self.add(number, transition, action),
+        }
+    }
+
+    // Takes a row, unless it clashes with one of its choice.
+    fn add(&mut self, number: u32, transition: Transition, action: &[u8]) -> Result<(), TraFault>
+        requires { IsWithin self.old.header.states transition }
+        ensures ok { OnOk result (AddsAny self.old self.new (record { transition = transition; action = action.now })) }
+        ensures fault { MatchResult result (λ _. Unit {0}) (λ fault. RefusesAnyRow self.old number (record { transition = transition; action = action.now }) fault) }
+    {
+        if self.actions.note(transition.place(), action)? {
+            return Err(TraFault::of_clash(number, &transition));
+        }
+        self.transitions.push(transition)?;
+        Ok(())
+    }
+
+    /// The game of the rows, which are all of the text.
+    pub fn finish(self, alloc: Global) -> Result<Game, TraFault>
+        ensures { FinishesAny self result }
+    {
+        check_count(&self.header, self.transitions.len())?;
+        build(alloc, self.transitions, &self.header)
+    }
+}

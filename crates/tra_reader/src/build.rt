@@ -1,0 +1,43 @@
+//! The game of transitions that are all read.
+
+ghost use Rattle.std.specs.List.{All};
+ghost use Rattle.tra_reader.specs.Faults.{Gives};
+ghost use Rattle.tra_reader.specs.Choices.{transitions_game};
+ghost use Rattle.tra_reader.specs.Order.{IsWithin, Rises, transition_place};
+ghost use Rattle.tra_reader.specs.Answers.{IsAccepted};
+
+use crate::fault::TraFault;
+use crate::game_in_order::GameInOrder;
+use crate::header::Header;
+use crate::line::Transition;
+use crate::order::put_in_order;
+use game_model::Game;
+use std::alloc::Global;
+
+/// The game of these transitions, in whatever order they stand.
+pub fn build(alloc: Global, transitions: Vec<Transition>, header: &Header) -> Result<Game, TraFault>
+    requires accepted { IsAccepted header.now }
+    requires within { All (IsWithin header.now.states) transitions.items }
+    ensures { Gives (λ g. g) result (transitions_game transitions.items header.now.states header.now.choices) }
+{
+    let mut transitions = transitions;
+    put_in_order(&mut transitions)?;
+    build_in_order(alloc, &transitions, header)
+}
+
+fn build_in_order(
+    alloc: Global,
+    transitions: &[Transition],
+    header: &Header,
+) -> Result<Game, TraFault>
+    requires accepted { IsAccepted header.now }
+    requires rises { Rises transition_place transitions.now }
+    requires within { All (IsWithin header.now.states) transitions.now }
+    ensures { Gives (λ g. g) result (transitions_game transitions.now header.now.states header.now.choices) }
+{
+    let mut game = GameInOrder::new(alloc, header.states)?;
+    for transition in transitions {
+        game.add(alloc, transition)?;
+    }
+    game.finish(alloc, header.choices)
+}

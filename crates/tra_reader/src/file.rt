@@ -1,0 +1,114 @@
+//! Transition files whose text comes in pieces.
+
+ghost use Rattle.std.specs.Prelude.{◌≡◌, ◌≤◌};
+ghost use Rattle.text_lines.specs.Limits.{most_bytes};
+ghost use Rattle.game_outside.specs.Files.{LeavesShelf, ReadsFile};
+ghost use Rattle.tra_reader.specs.Faults.{Gives};
+ghost use Rattle.tra_reader.specs.Text.{game_of};
+ghost use Rattle.tra_reader.specs.Reading.{IsAnswer};
+ghost use Rattle.tra_reader.specs.Ordered.{text_fault};
+ghost use Rattle.tra_reader.specs.FileEnds.{RefusesCaused, is_want, in_order_of, without_want_of};
+
+use crate::any_order::AnyLines;
+use crate::fault::{TraCause, TraFault};
+use crate::halt::Halt;
+use crate::ordered::OrderedLines;
+use distributions::ChoiceFault;
+use game_model::Game;
+use game_outside::{FileEnd, Shelf, read_lines_from};
+use std::alloc::Global;
+
+/// The game that the text under a name denotes, or its first fault, in whatever pieces the text comes. A text in the order
+/// of its choices is read in one pass; any other is begun and read once more.
+pub fn read_tra_from<H: Shelf>(
+    alloc: Global,
+    shelf: &mut H,
+    name: &str,
+    limit: u64,
+) -> Result<Game, FileEnd<TraFault>>
+    requires { limit ≤ most_bytes }
+
+    // The answer is what is said of the whole text.
+    ensures reads { ReadsFile (λ text answer. game_of text ≡ answer) (H.held shelf.old) name.now limit result }
+    ensures caused { RefusesCaused result }
+
+    // It fails only where the shelf fails, takes little more than the limit, and changes nothing of what the shelf holds.
+    ensures shelf { LeavesShelf H.held H.steady H.faults H.taken name.now limit shelf.old shelf.new result }
+{
+    match in_order(read_in_order(alloc, shelf, name, limit)) {
+        Some(read) => without_want(read),
+        None => without_want(read_in_any_order(alloc, shelf, name, limit)),
+    }
+}
+
+// The game of a text that is in order.
+fn read_in_order<H: Shelf>(
+    alloc: Global,
+    shelf: &mut H,
+    name: &str,
+    limit: u64,
+) -> Result<Game, FileEnd<Halt>>
+    requires { limit ≤ most_bytes }
+    ensures reads { ReadsFile (λ text answer. IsAnswer text_fault answer (game_of text)) (H.held shelf.old) name.now limit result }
+    ensures shelf { LeavesShelf H.held H.steady H.faults H.taken name.now limit shelf.old shelf.new result }
+{
+    let reader = OrderedLines::new(alloc);
+    read_lines_from(alloc, shelf, name, limit, reader)
+}
+
+// The game of a text in any order.
+fn read_in_any_order<H: Shelf>(
+    alloc: Global,
+    shelf: &mut H,
+    name: &str,
+    limit: u64,
+) -> Result<Game, FileEnd<TraFault>>
+    requires { limit ≤ most_bytes }
+    ensures reads { ReadsFile (λ text answer. Gives (λ g. g) answer (game_of text)) (H.held shelf.old) name.now limit result }
+    ensures shelf { LeavesShelf H.held H.steady H.faults H.taken name.now limit shelf.old shelf.new result }
+{
+    let reader = AnyLines::new(alloc);
+    read_lines_from(alloc, shelf, name, limit, reader)
+}
+
+// What was read, unless a line was out of order.
+fn in_order(read: Result<Game, FileEnd<Halt>>) -> Option<Result<Game, FileEnd<TraFault>>>
+    ensures { result ≡ in_order_of read }
+{
+    match read {
+        Ok(game) => Some(Ok(game)),
+        Err(FileEnd::OutOfMemory) => Some(Err(FileEnd::OutOfMemory)),
+        Err(FileEnd::ReadFault) => Some(Err(FileEnd::ReadFault)),
+        Err(FileEnd::TooLong) => Some(Err(FileEnd::TooLong)),
+        Err(FileEnd::Refused(Halt::Refused(fault))) => Some(Err(FileEnd::Refused(fault))),
+        Err(FileEnd::Refused(Halt::OutOfOrder)) => None,
+    }
+}
+
+// Want of memory refuses no text.
+fn without_want(read: Result<Game, FileEnd<TraFault>>) -> Result<Game, FileEnd<TraFault>>
+    ensures { result ≡ without_want_of read }
+{
+    match read {
+        Err(FileEnd::Refused(fault)) => {
+            if is_want(&fault.cause) {
+                Err(FileEnd::OutOfMemory)
+            } else {
+                Err(FileEnd::Refused(fault))
+            }
+        }
+        Err(end) => Err(end),
+        Ok(game) => Ok(game),
+    }
+}
+
+// Whether memory was wanting, for the whole or for a choice.
+fn is_want(cause: &TraCause) -> bool
+    ensures { result ≡ is_want cause.now }
+{
+    match cause {
+        TraCause::OutOfMemory => true,
+        TraCause::Choice { fault, .. } => matches!(fault, ChoiceFault::OutOfMemory),
+        _ => false,
+    }
+}

@@ -1,0 +1,118 @@
+//! A game made of transitions that come in the order of their choices.
+
+ghost use Rattle.std.specs.Prelude.{◌≡◌, ◌<◌, ◌≤◌, ◌↔◌, ◌∷◌, ◌++◌, ℕ, List, [], length, IfOk, OnOk, IsTrue};
+ghost use Rattle.game_model.specs.Limits.{most_states};
+ghost use Rattle.tra_reader.specs.Faults.{Gives};
+ghost use Rattle.tra_reader.specs.Choices.{transitions_game};
+ghost use Rattle.tra_reader.specs.Order.{IsWithin, transition_place};
+ghost use Rattle.tra_reader.specs.GrowingGames.{place_under_way, HoldsInOrder};
+
+use crate::fault::TraFault;
+use crate::line::{Transition, place_at};
+use crate::progress::Progress;
+use crate::whole_choices::WholeChoices;
+use distributions::Part;
+use game_model::{Game, GameBuilder};
+use std::alloc::{AllocError, Global};
+use std::marker::Model;
+
+/// A game under way, made of transitions that come in the order of their choices. Only those of the choice under way are
+/// kept, as its parts.
+#[derive(Drop)]
+pub struct GameInOrder {
+    states: u32,
+    whole: WholeChoices,
+    parts: Vec<Part>,
+}
+
+impl Model for GameInOrder {
+    ghost use Rattle.tra_reader.specs.GrowingGames.{Growing};
+
+    ghost Value = { Growing };
+
+    ghost use Rattle.tra_reader.specs.OfGrowing.{growing_of, IsGrowing};
+
+    ghost view = { growing_of };
+
+    ghost invariant = { IsGrowing };
+}
+
+impl GameInOrder {
+    /// The game of so many states without a transition.
+    pub fn new(alloc: Global, states: u32) -> Result<GameInOrder, AllocError>
+        requires some { 0 < states }
+        requires few { states ≤ most_states }
+        ensures holds { IfOk result (λ game. HoldsInOrder game states []) }
+        ensures place { IfOk result (λ game. place_under_way game ≡ 0) }
+    {
+        let Ok(builder) = GameBuilder::new(alloc) else {
+            return Err(AllocError {});
+        };
+        let whole = WholeChoices {
+            state: 0,
+            choice: 0,
+            count: 0,
+            progress: Progress::Builds(builder),
+        };
+        Ok(GameInOrder {
+            states,
+            whole,
+            parts: Vec::new(alloc),
+        })
+    }
+
+    /// The place of the choice under way, and 0 before the first transition.
+    pub fn place(&self) -> u64
+        ensures { result ≡ place_under_way self.now }
+    {
+        place_at(self.whole.state, self.whole.choice)
+    }
+
+    /// Whether a transition was added.
+    pub fn has_begun(&self) -> bool
+        ensures { IsTrue result ↔ (0 < length self.now.parts) }
+    {
+        !self.parts.is_empty()
+    }
+
+    /// Adds a transition that is not before the choice under way. The only error is want of memory; where a whole choice
+    /// finds none, `finish` says so.
+    pub fn add(&mut self, alloc: Global, transition: &Transition) -> Result<(), AllocError>
+        requires within { IsWithin self.old.states transition.now }
+        requires order { place_under_way self.old ≤ transition_place transition.now }
+        ensures holds { OnOk result ((n : ℕ) (before : List Transition) → HoldsInOrder self.old n before → HoldsInOrder self.new n (before ++ transition.now ∷ [])) }
+        ensures states { self.new.states ≡ self.old.states }
+    {
+        if transition.source != self.whole.state || transition.choice != self.whole.choice {
+            return self.begin(alloc, transition);
+        }
+        self.parts.push(transition.part())?;
+        Ok(())
+    }
+
+    // Adds the first transition of a choice behind that under way.
+    fn begin(&mut self, alloc: Global, transition: &Transition) -> Result<(), AllocError>
+        requires within { IsWithin self.old.states transition.now }
+        requires order { place_under_way self.old < transition_place transition.now }
+        ensures holds { OnOk result ((n : ℕ) (before : List Transition) → HoldsInOrder self.old n before → HoldsInOrder self.new n (before ++ transition.now ∷ [])) }
+        ensures states { self.new.states ≡ self.old.states }
+    {
+        self.whole.end_before(alloc, &self.parts, transition.source);
+        self.whole.go_to(transition.choice);
+        self.parts.clear();
+        if self.parts.push(transition.part()).is_err() {
+            self.whole.progress = Progress::OutOfMemory;
+            return Err(AllocError {});
+        }
+        Ok(())
+    }
+
+    /// The game of all transitions that were added, or the first fault of the whole.
+    pub fn finish(self, alloc: Global, stated: Option<u32>) -> Result<Game, TraFault>
+        ensures { (n : ℕ) (all : List Transition) → HoldsInOrder self n all → Gives (λ g. g) result (transitions_game all n stated) }
+    {
+        let mut whole = self.whole;
+        whole.end_before(alloc, &self.parts, self.states);
+        whole.finish(stated)
+    }
+}

@@ -1,0 +1,37 @@
+//! Why a reader of lines in order ends.
+
+use crate::fault::{TraCause, TraFault};
+use std::alloc::AllocError;
+
+/// Why a reader of lines in order ends.
+#[derive(Clone, Copy, Debug, PartialEq, Eq)]
+pub enum Halt {
+    /// A line stands before the choice under way.
+    OutOfOrder,
+    /// The text is refused.
+    Refused(TraFault),
+}
+
+impl From<TraFault> for Halt {
+    ghost use Rattle.std.specs.Prelude.{◌≡◌};
+    ghost use Rattle.tra_reader.specs.declared.halt.Halt.TheVariants.{Refused};
+
+    ghost from_gives = { λ fault given. given ≡ Refused fault };
+
+    fn from(fault: TraFault) -> Halt {
+        Halt::Refused(fault)
+    }
+}
+
+impl From<AllocError> for Halt {
+    ghost use Rattle.std.specs.Prelude.{◌≡◌};
+    ghost use Rattle.tra_reader.specs.Faults.{fault_of_all};
+    ghost use Rattle.tra_reader.specs.declared.fault.TraCause.TheVariants.{OutOfMemory};
+    ghost use Rattle.tra_reader.specs.declared.halt.Halt.TheVariants.{Refused};
+
+    ghost from_gives = { λ _ given. given ≡ Refused (fault_of_all OutOfMemory) };
+
+    fn from(_: AllocError) -> Halt {
+        Halt::Refused(TraFault::of_all(TraCause::OutOfMemory))
+    }
+}

@@ -1,0 +1,168 @@
+//! A reader of transition lines that stand in the order of their choices.
+
+ghost use Rattle.std.specs.Prelude.{◌≡◌, ◌≢◌, ◌≤◌, ◌<◌, [], ℕ, List, IfOk, OnOk, MatchResult, length};
+ghost use Rattle.text_lines.specs.Text.{fields_of};
+ghost use Rattle.tra_reader.specs.Order.{IsWithin, transition_place};
+ghost use Rattle.tra_reader.specs.Lines.{Row};
+ghost use Rattle.tra_reader.specs.Text.{transitions};
+ghost use Rattle.tra_reader.specs.Answers.{IsAccepted, row_place};
+ghost use Rattle.tra_reader.specs.GrowingGames.{HoldsInOrder, place_under_way};
+ghost use Rattle.tra_reader.specs.Kept.{KeepsAction, Compares};
+
+use crate::body::{blank_between, check_count, first_line, no_header, read_row};
+use crate::fault::TraFault;
+use crate::game_in_order::GameInOrder;
+use crate::halt::Halt;
+use crate::header::Header;
+use crate::line::Transition;
+use game_model::Game;
+use std::alloc::{AllocError, Global};
+use text_lines::LineReader;
+
+/// Reads a text whose transitions stand in the order of their choices. It keeps no row, and halts at the first line that
+/// stands before the choice under way.
+#[derive(Drop)]
+pub struct OrderedLines {
+    alloc: Global,
+    held: Option<OrderedRows>,
+}
+
+impl OrderedLines {
+    ghost use Rattle.std.specs.Prelude.{None};
+
+    /// A reader that has read no line.
+    pub fn new(alloc: Global) -> OrderedLines
+        ensures { result.held ≡ None }
+    {
+        OrderedLines { alloc, held: None }
+    }
+}
+
+impl LineReader for OrderedLines {
+    ghost use Rattle.tra_reader.specs.Ordered.{OrderedRight};
+
+    type Made = Game;
+
+    type Fault = Halt;
+
+    ghost answers = { λ reader number lines answer. OrderedRight reader.held number lines answer };
+
+    fn take(&mut self, number: u32, line: &[u8]) -> Result<(), Halt> {
+        match &mut self.held {
+            None => {
+                self.held = Some(OrderedRows::begin(self.alloc, line)?);
+                Ok(())
+            }
+            Some(held) => held.take(self.alloc, number, line),
+        }
+    }
+
+    fn blank(&self, number: u32) -> Halt {
+        match self.held {
+            None => Halt::Refused(no_header()),
+            Some(_) => Halt::Refused(blank_between(number)),
+        }
+    }
+
+    fn finish(self) -> Result<Game, Halt> {
+        let OrderedLines { alloc, held } = self;
+        match held {
+            None => Err(Halt::Refused(no_header())),
+            Some(held) => Ok(held.finish(alloc)?),
+        }
+    }
+}
+
+/// The rows behind a header, as the game that they make so far, and the action of the choice under way.
+#[derive(Drop)]
+pub struct OrderedRows {
+    header: Header,
+    read: usize,
+    game: GameInOrder,
+    action: Vec<u8>,
+    ghost accepted: { IsAccepted header },
+    ghost states: { game.states ≡ header.states },
+}
+
+impl OrderedRows {
+    ghost use Rattle.std.specs.Prelude.{false, true, ◌==◌, ◌++◌, ◌∷◌, Some};
+    ghost use Rattle.tra_reader.specs.Ordered.{BeginsOrdered, TakesOrdered, RefusesOrdered, AddsOrdered, RefusesOrderedRow, FinishesOrdered};
+
+    /// No row behind the header of this line.
+    pub fn begin(alloc: Global, line: &[u8]) -> Result<OrderedRows, TraFault>
+        ensures { BeginsOrdered line.now result }
+    {
+        let header = first_line(line)?;
+        let game = GameInOrder::new(alloc, header.states)?;
+        Ok(OrderedRows {
+            header,
+            read: 0,
+            game,
+            action: Vec::new(alloc),
+        })
+    }
+
+    /// Takes the row of a line that is not blank.
+    pub fn take(&mut self, alloc: Global, number: u32, line: &[u8]) -> Result<(), Halt>
+        requires { fields_of line.now ≢ [] }
+        ensures ok { OnOk result (TakesOrdered self.old self.new line.now) }
+        ensures fault { MatchResult result (λ _. Unit {0}) (λ halt. RefusesOrdered self.old number line.now halt) }
+    {
+        match read_row(&self.header, self.read, number, line) {
+            Err(fault) => Err(Halt::Refused(fault)),
+            Ok((transition, action)) => self.add(alloc, number, &transition, action),
+        }
+    }
+
+    // Takes a row, unless it clashes with one of its choice.
+    fn add(
+        &mut self,
+        alloc: Global,
+        number: u32,
+        transition: &Transition,
+        action: &[u8],
+    ) -> Result<(), Halt>
+        requires within { IsWithin self.old.header.states transition.now }
+        requires few { self.old.read < self.old.header.lines }
+        ensures ok { OnOk result (AddsOrdered self.old self.new (record { transition = transition.now; action = action.now })) }
+        ensures fault { MatchResult result (λ _. Unit {0}) (λ halt. RefusesOrderedRow self.old number (record { transition = transition.now; action = action.now }) halt) }
+    {
+        let place = transition.place();
+        if place < self.game.place() {
+            return Err(Halt::OutOfOrder);
+        }
+        if compare(&self.game, &mut self.action, place, action)? {
+            return Err(Halt::Refused(TraFault::of_clash(number, transition)));
+        }
+        self.game.add(alloc, transition)?;
+        self.read += 1;
+        Ok(())
+    }
+
+    /// The game of the rows, which are all of the text.
+    pub fn finish(self, alloc: Global) -> Result<Game, TraFault>
+        ensures { FinishesOrdered self result }
+    {
+        check_count(&self.header, self.read)?;
+        self.game.finish(alloc, self.header.choices)
+    }
+}
+
+// Whether an action is another than that of the first line of its choice. The action of a new choice is kept.
+fn compare(
+    game: &GameInOrder,
+    kept: &mut Vec<u8>,
+    place: u64,
+    action: &[u8],
+) -> Result<bool, AllocError>
+    requires { place_under_way game.now ≤ place }
+    ensures { IfOk result (λ clash. (n : ℕ) (rows : List Row) (row : Row) → row_place row ≡ place → row.action ≡ action.now → HoldsInOrder game.now n (transitions rows) → KeepsAction game.now kept.old.items rows
+        → Compares kept.new.items rows row clash) }
+{
+    if game.has_begun() && place == game.place() {
+        return Ok(kept.as_slice() != action);
+    }
+    kept.clear();
+    kept.extend_from_slice(action)?;
+    Ok(false)
+}

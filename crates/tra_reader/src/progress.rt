@@ -1,0 +1,111 @@
+//! What has come of the whole choices of a game under way.
+
+ghost use Rattle.std.specs.Prelude.{◌≡◌, IfOk, IfErr};
+ghost use Rattle.tra_reader.specs.Choices.{self_loop};
+ghost use Rattle.tra_reader.specs.GrowingGames.{IsBuilt, IsChoiceFault, EndsChoice, EndsState, NotesGap, ended, progress_of};
+
+use crate::fault::TraFault;
+use crate::limits::MOST_LINES;
+use distributions::{ChoiceFault, Part, make_choice};
+use game_model::{Choice, Edge, GameBuilder};
+use std::alloc::{AllocError, Global};
+
+/// What has come of the whole choices.
+#[derive(Drop)]
+pub enum Progress {
+    /// They are in the builder.
+    Builds(GameBuilder),
+    /// The first that is no distribution has this fault. No more are built.
+    Faulty(TraFault),
+    /// The first choice that is missing before one that is there.
+    Gap { state: u32, choice: u32 },
+    /// Memory ran out.
+    OutOfMemory,
+}
+
+impl Progress {
+    /// The choice of this state with these parts is whole.
+    pub fn push(&mut self, alloc: Global, parts: &[Part], state: u32, choice: u32)
+        ensures { EndsChoice parts.now state choice self.old self.new }
+    {
+        if let Progress::Builds(builder) = self {
+            if let Err(fault) = build(alloc, builder, parts) {
+                *self = fault_progress(state, choice, fault);
+            }
+        }
+    }
+
+    /// The state that has so many choices is whole.
+    pub fn end_state(&mut self, alloc: Global, state: u32, choices: u32)
+        ensures { EndsState state choices self.old self.new }
+    {
+        if let Progress::Builds(builder) = self {
+            if end(alloc, builder, state, choices).is_err() {
+                *self = Progress::OutOfMemory;
+            }
+        }
+    }
+
+    /// A choice is there, and this one before it is missing.
+    pub fn note_gap(&mut self, state: u32, choice: u32)
+        ensures { NotesGap state choice self.old self.new }
+    {
+        match self {
+            Progress::Builds(_) | Progress::Faulty(_) => *self = Progress::Gap { state, choice },
+            Progress::Gap { .. } | Progress::OutOfMemory => {}
+        }
+    }
+}
+
+// Puts the choice with these parts behind the others. More parts than a text has lines count as want of memory.
+fn build(alloc: Global, builder: &mut GameBuilder, parts: &[Part]) -> Result<(), ChoiceFault>
+    ensures ok { IfOk result (λ _. IsBuilt parts.now builder.old builder.new) }
+    ensures err { IfErr result (IsChoiceFault parts.now) }
+{
+    if parts.len() > MOST_LINES as usize {
+        return Err(ChoiceFault::OutOfMemory);
+    }
+    let choice = make_choice(alloc, parts)?;
+    if builder.push_choice(&choice).is_err() {
+        return Err(ChoiceFault::OutOfMemory);
+    }
+    Ok(())
+}
+
+// What comes of a choice with this fault.
+fn fault_progress(state: u32, choice: u32, fault: ChoiceFault) -> Progress
+    ensures { result ≡ progress_of state choice fault }
+{
+    match fault {
+        ChoiceFault::OutOfMemory => Progress::OutOfMemory,
+        _ => Progress::Faulty(TraFault::of_choice(state, choice, fault)),
+    }
+}
+
+// Ends the state that has so many choices: where it has none, with a move to itself.
+fn end(alloc: Global, builder: &mut GameBuilder, state: u32, choices: u32) -> Result<(), AllocError>
+    ensures { IfOk result (λ _. builder.new ≡ ended state choices builder.old) }
+{
+    if choices == 0 {
+        let choice = stay(alloc, state)?;
+        if builder.push_choice(&choice).is_err() {
+            return Err(AllocError {});
+        }
+    }
+    if builder.end_state().is_err() {
+        return Err(AllocError {});
+    }
+    Ok(())
+}
+
+// A move of weight 1 to the state itself.
+fn stay(alloc: Global, state: u32) -> Result<Choice, AllocError>
+    ensures { IfOk result (λ c. c ≡ self_loop state) }
+{
+    let mut edges = Vec::new(alloc);
+    edges.push(Edge {
+        to: state,
+        weight: 1,
+    })?;
+    Ok(Choice::of_edges(edges))
+}

@@ -1,0 +1,113 @@
+//! The choices of a game under way that are whole, since the transitions come in the order of their choices.
+
+ghost use Rattle.std.specs.Prelude.{◌≡◌, ◌<◌, ◌≤◌, ◌+◌, ℕ, List};
+ghost use Rattle.tra_reader.specs.declared.line.Transition.{Transition};
+ghost use Rattle.tra_reader.specs.Limits.{most_stated_choices};
+ghost use Rattle.tra_reader.specs.Faults.{Gives};
+ghost use Rattle.tra_reader.specs.Choices.{transitions_game};
+ghost use Rattle.tra_reader.specs.Order.{place_of};
+ghost use Rattle.tra_reader.specs.GrowingGames.{IsWhole, place_behind, AddsChoice, EndsStates, EndsBefore, GoesTo, IsReady, IfBuilds, IsAsStated};
+
+use crate::fault::{TraCause, TraFault};
+use crate::progress::Progress;
+use distributions::Part;
+use game_model::Game;
+use std::alloc::Global;
+
+/// The whole choices: all that come before one choice of one state.
+#[derive(Drop)]
+pub struct WholeChoices {
+    pub state: u32,
+    pub choice: u32,
+    pub count: u32,
+    pub progress: Progress,
+}
+
+impl WholeChoices {
+    /// One choice more is whole, which has these parts.
+    fn end_choice(&mut self, alloc: Global, parts: &[Part])
+        requires { self.old.choice < most_stated_choices }
+        ensures state { self.new.state ≡ self.old.state }
+        ensures choice { self.new.choice ≡ self.old.choice + 1 }
+        ensures made { AddsChoice parts.now self.old self.new }
+    {
+        self.progress.push(alloc, parts, self.state, self.choice);
+        self.choice += 1;
+        match self.count.checked_add(1) {
+            Some(count) => self.count = count,
+            None => self.progress = Progress::OutOfMemory,
+        }
+    }
+
+    /// The states before this one are whole.
+    fn end_states(&mut self, alloc: Global, to: u32)
+        requires { self.old.state ≤ to }
+        ensures state { self.new.state ≡ to }
+        ensures place { (place : ℕ) → place_behind self.old ≤ place → place_of to 0 ≤ place → place_behind self.new ≤ place }
+        ensures made { EndsStates to self.old self.new }
+    {
+        while self.state < to {
+            self.progress.end_state(alloc, self.state, self.choice);
+            self.state += 1;
+            self.choice = 0;
+        }
+    }
+
+    /// All choices before this state are whole, where the choice under way has these parts, or no part where nothing has begun.
+    pub fn end_before(&mut self, alloc: Global, parts: &[Part], to: u32)
+        requires low { self.old.choice < most_stated_choices }
+        requires ahead { self.old.state ≤ to }
+        ensures state { self.new.state ≡ to }
+        ensures place { (place : ℕ) → place_behind self.old < place → place_of to 0 ≤ place → place_behind self.new ≤ place }
+        ensures made { EndsBefore parts.now to self.old self.new }
+    {
+        if !parts.is_empty() {
+            self.end_choice(alloc, parts);
+        }
+        self.end_states(alloc, to);
+    }
+
+    /// The next choice is this one. Where that passes one over, that one is missing.
+    pub fn go_to(&mut self, choice: u32)
+        requires { self.old.choice ≤ choice }
+        ensures state { self.new.state ≡ self.old.state }
+        ensures choice { self.new.choice ≡ choice }
+        ensures made { GoesTo choice self.old self.new }
+    {
+        if self.choice == choice {
+            return;
+        }
+        self.progress.note_gap(self.state, self.choice);
+        self.choice = choice;
+    }
+
+    /// The game of the whole choices, which are those of all states, or the first fault of the whole.
+    pub fn finish(self, stated: Option<u32>) -> Result<Game, TraFault>
+        requires { IfBuilds self.progress IsReady }
+        ensures { (n : ℕ) (transitions : List Transition) → self.state ≡ n → self.choice ≡ 0 → IsWhole n transitions self → Gives (λ g. g) result (transitions_game transitions n stated) }
+    {
+        let otherwise = stated_otherwise(stated, self.count);
+        match self.progress {
+            Progress::OutOfMemory => Err(TraFault::of_all(TraCause::OutOfMemory)),
+            Progress::Gap { state, choice } => {
+                Err(TraFault::of_all(TraCause::ChoiceGap { state, choice }))
+            }
+            Progress::Faulty(fault) => Err(otherwise.unwrap_or(fault)),
+            Progress::Builds(builder) => match otherwise {
+                Some(fault) => Err(fault),
+                None => Ok(builder.finish()),
+            },
+        }
+    }
+}
+
+// The fault where the choices are not as many as stated.
+fn stated_otherwise(stated: Option<u32>, read: u32) -> Option<TraFault>
+    ensures { IsAsStated stated read result }
+{
+    let stated = stated?;
+    if read == stated {
+        return None;
+    }
+    Some(TraFault::of_all(TraCause::ChoiceCount { read, stated }))
+}
