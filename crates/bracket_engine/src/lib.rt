@@ -7,6 +7,7 @@
 //! in the round before. What it ensures holds for every schedule and number of workers. It ends after the asked rounds, where
 //! both tables are settled, or where a guess settles the rule at the initial states. It says nothing of how near the two tables
 //! come to each other beyond the values of as many steps, nor that two workers ran at once, nor that a run ends as early as it may.
+//! [`bracket_over`] gives the same over lists of predecessors that the caller has.
 #![tactic(auto)]
 
 mod agenda;
@@ -22,7 +23,7 @@ mod tables;
 mod upper;
 
 pub use bounds::Bracket;
-pub use run::{MOST_ROUNDS, bracket};
+pub use run::{MOST_ROUNDS, bracket, bracket_over};
 
 #[cfg(test)]
 mod tests;

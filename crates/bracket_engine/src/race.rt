@@ -44,9 +44,9 @@ pub struct Ended {
     pub kept: Option<Kept>,
 }
 
-/// Runs at most `most` rounds on the words of both questions, each of at most so many workers. It ends earlier where a
-/// round changed nothing on either: then the words of both are settled; or where a guess settles the threshold at each
-/// initial state.
+/// Runs at most `most` rounds on the words of both questions, over the predecessors in their game, each of at most so
+/// many workers. It ends earlier where a round changed nothing on either: then the words of both are settled; or where a
+/// guess settles the threshold at each initial state.
 pub fn race<
     R: Threads + Sync,
     P: Posing + Send + Sync,
@@ -58,6 +58,7 @@ pub fn race<
     alloc: Global,
     ending: &Ending<'_, F>,
     swapped: &Question<'_>,
+    predecessors: &Predecessors,
     most: u32,
     workers: u32,
     gate: &G,
@@ -68,20 +69,20 @@ pub fn race<
     requires posed { ending.now.question.now ≡ P.posed }
     requires coposed { swapped.now ≡ C.posed }
     requires game { C.posed.game ≡ P.posed.game }
+    requires lists { ArePredecessors ending.now.question.now.game predecessors.now }
     requires some { 1 ≤ workers }
     requires few { workers ≤ most_workers }
     ensures { IfOk result (λ raced. AreOver P.posed C.posed ending.now.zero.now (bound_of ending.now.rule.now) ending.now.initial.now most raced.words raced.cowords raced.ended) }
 {
     let question = ending.question;
     question.known();
-    let predecessors = Predecessors::of_game(alloc, question.game())?;
     let lower = open::<P>(alloc, question)?;
     let co = open::<C>(alloc, swapped)?;
     let (lower, co, ended) = run_rounds(
         rt,
         alloc,
         ending,
-        &predecessors,
+        predecessors,
         lower,
         co,
         most,

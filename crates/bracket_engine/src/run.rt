@@ -3,6 +3,7 @@
 ghost use Rattle.std.specs.Prelude.{◌≡◌, ◌≤◌, ◌<◌, All, IfOk};
 ghost use Rattle.game_model.specs.Query.{states};
 ghost use Rattle.game_model.specs.Dual.{IsZeroSet};
+ghost use Rattle.predecessors.specs.Lists.{ArePredecessors};
 ghost use Rattle.round_workers.specs.Share.{most_workers};
 ghost use Rattle.verdicts.specs.Stop.{bound_of, IsStopRule};
 ghost use Rattle.bracket_engine.specs.Limits.{most_rounds};
@@ -18,6 +19,7 @@ use crate::strategies::with_strategies;
 use game_model::{Marks, Question};
 use game_outside::{Gate, OutOfMemory};
 use inductive_check::swap;
+use predecessors::Predecessors;
 use std::alloc::Global;
 use std::marker::Brand;
 use std::thread::Threads;
@@ -54,6 +56,47 @@ pub fn bracket<R: Threads + Sync, F: Fn(u64, u64) -> bool, G: Gate + Sync>(
     ensures ranks { IfOk result (λ b. AreRanks question.now b.lower.items b.choices.items b.ranks.items) }
     ensures replies { IfOk result (λ b. AreRepliesTo question.now b.upper.items b.replies.items) }
 {
+    let predecessors = Predecessors::of_game(alloc, question.game())?;
+    bracket_over(
+        rt,
+        alloc,
+        question,
+        zero,
+        &predecessors,
+        rounds,
+        workers,
+        stop,
+        initial,
+        gate,
+    )
+}
+
+/// The bracket of [`bracket`], over the predecessors in the question's game, for a caller that has these lists. The
+/// only error is want of memory.
+pub fn bracket_over<R: Threads + Sync, F: Fn(u64, u64) -> bool, G: Gate + Sync>(
+    rt: &R,
+    alloc: Global,
+    question: &Question,
+    zero: &Marks,
+    predecessors: &Predecessors,
+    rounds: u32,
+    workers: u32,
+    stop: &StopRule<F>,
+    initial: &[u32],
+    gate: &G,
+) -> Result<Bracket, OutOfMemory>
+    requires zero { IsZeroSet question.now zero.now }
+    requires lists { ArePredecessors question.now.game predecessors.now }
+    requires rounds { rounds ≤ most_rounds }
+    requires some { 1 ≤ workers }
+    requires few { workers ≤ most_workers }
+    requires stop { IsStopRule F.Fn stop.now }
+    requires initial { All (λ s. s < states question.now) initial.now }
+    ensures bounds { IfOk result (λ b. IsBracket question.now zero.now (bound_of stop.now) initial.now rounds b.lower.items b.upper.items b.rounds b.stable) }
+    ensures choices { IfOk result (λ b. AreChoices question.now b.lower.items b.choices.items) }
+    ensures ranks { IfOk result (λ b. AreRanks question.now b.lower.items b.choices.items b.ranks.items) }
+    ensures replies { IfOk result (λ b. AreRepliesTo question.now b.upper.items b.replies.items) }
+{
     question.known();
     let other = swap(alloc, question, zero)?;
     let ending = Ending {
@@ -66,7 +109,16 @@ pub fn bracket<R: Threads + Sync, F: Fn(u64, u64) -> bool, G: Gate + Sync>(
         words,
         cowords,
         ended,
-    } = race::<R, Brand, Brand, F, G>(rt, alloc, &ending, &other, rounds, workers, gate)?;
+    } = race::<R, Brand, Brand, F, G>(
+        rt,
+        alloc,
+        &ending,
+        &other,
+        predecessors,
+        rounds,
+        workers,
+        gate,
+    )?;
     let tables = tables_of(
         alloc,
         &ending,
@@ -75,5 +127,5 @@ pub fn bracket<R: Threads + Sync, F: Fn(u64, u64) -> bool, G: Gate + Sync>(
         cowords.as_slice(),
         ended,
     )?;
-    with_strategies(alloc, question, words.as_slice(), tables)
+    with_strategies(alloc, question, predecessors, words.as_slice(), tables)
 }

@@ -30,9 +30,28 @@ pub fn find_ranks(
     ensures ranked { IfOk result (λ ranks. Ranked question.now values.now choices.now ranks.items) }
     ensures layered { IfOk result (λ ranks. AreLayered question.now values.now choices.now ranks.items) }
 {
-    question.known();
     let predecessors = Predecessors::of_game(alloc, question.game())?;
-    let layers = all_layers(alloc, question, values, choices, &predecessors)?;
+    find_ranks_over(alloc, question, values, choices, &predecessors)
+}
+
+/// The ranks of [`find_ranks`], over the predecessors in the question's game, for a caller that has these lists. The
+/// only error is want of memory.
+pub fn find_ranks_over(
+    alloc: Global,
+    question: &Question,
+    values: &[u64],
+    choices: &[Option<u32>],
+    predecessors: &Predecessors,
+) -> Result<Vec<u32>, OutOfMemory>
+    requires values { length values.now ≡ states question.now }
+    requires choices { length choices.now ≡ states question.now }
+    requires rankable { IsRankable question.now values.now choices.now }
+    requires lists { ArePredecessors question.now.game predecessors.now }
+    ensures ranked { IfOk result (λ ranks. Ranked question.now values.now choices.now ranks.items) }
+    ensures layered { IfOk result (λ ranks. AreLayered question.now values.now choices.now ranks.items) }
+{
+    question.known();
+    let layers = all_layers(alloc, question, values, choices, predecessors)?;
     let ranks = layers.numbers(alloc)?;
     Ok(ranks)
 }

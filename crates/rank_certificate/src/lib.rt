@@ -7,6 +7,7 @@
 //! probabilistic reachability (as certificates of lower bounds: Chatterjee, Quatmann, Schaeffeler, Weininger,
 //! Winkler and Zilken, Fixed point certificates for reachability and expected rewards in MDPs, TACAS 2025). The
 //! check takes no memory. [`find_ranks`] gives the least such ranks, layer by layer, where there are any.
+//! [`find_ranks_over`] does so over lists of predecessors that the caller has.
 #![tactic(auto)]
 
 mod check;
@@ -19,4 +20,4 @@ mod met;
 mod tests;
 
 pub use check::{RankCause, RankFault, check_ranks};
-pub use find::find_ranks;
+pub use find::{find_ranks, find_ranks_over};

@@ -4,8 +4,8 @@ use Rattle.rank_certificate.specs.Layers.{IsRankable, AreLayered}
 use Rattle.bracket_engine.proofs.ClosedChoices.{AreChoices-closed, IsRankable-closed}
 use Rattle.bracket_engine.proofs.strategies.plan.Goals as goal
 
-pub find_ranks-requires-clause-rankable : goal.find_ranks-requires-clause-rankable
-find_ranks-requires-clause-rankable c =
+pub find_ranks_over-requires-clause-rankable : goal.find_ranks_over-requires-clause-rankable
+find_ranks_over-requires-clause-rankable c =
     subst (λ (l : List (Option ℕ)). IsRankable c.args.question.now c.args.lower.now l) (sym c.deref.ensures.value)
     (IsRankable-closed c.args.question.now c.args.words.now c.args.lower.now c.in_ok-choices.choices.items c.requires.sound c.requires.lower c.in_ok-choices.ensures.choices)
 

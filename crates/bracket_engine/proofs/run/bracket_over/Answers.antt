@@ -3,7 +3,7 @@ use Rattle.std.proofs.lemmas.Result.{IfOk-weaker}
 use Rattle.verdicts.specs.Stop.{bound_of}
 use Rattle.bracket_engine.specs.Bracket.{IsBracket}
 use Rattle.bracket_engine.specs.Race.{AreOver}
-use Rattle.bracket_engine.proofs.run.bracket.Goals as goal
+use Rattle.bracket_engine.proofs.run.bracket_over.Goals as goal
 
 pub returns-clause-bounds : goal.returns-clause-bounds
 returns-clause-bounds g c =

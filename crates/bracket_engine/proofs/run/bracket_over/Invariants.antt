@@ -1,4 +1,4 @@
-use Rattle.bracket_engine.proofs.run.bracket.Given as goal
+use Rattle.bracket_engine.proofs.run.bracket_over.Given as goal
 
 abbrev pub ghosts-race-P-Posing : goal.ghosts-race-P-Posing
 ghosts-race-P-Posing g a = record { posed = a.ending.now.question.now }

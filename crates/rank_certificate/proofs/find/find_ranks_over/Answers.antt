@@ -1,7 +1,7 @@
 use Rattle.std.proofs.Common.{subst, sym}
 use Rattle.rank_certificate.specs.Layers.{AreLayered}
 use Rattle.rank_certificate.proofs.Finding.{layered, layered-Ranked}
-use Rattle.rank_certificate.proofs.find.find_ranks.Goals as goal
+use Rattle.rank_certificate.proofs.find.find_ranks_over.Goals as goal
 
 pub returns-clause-layered : goal.returns-clause-layered
 returns-clause-layered c =
