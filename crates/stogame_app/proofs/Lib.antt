@@ -5,6 +5,7 @@ pub mod Commands
 pub mod Drawn
 pub mod Endings
 pub mod Labelled
+pub mod Leaving
 pub mod Lengths
 pub mod Limits
 pub mod Loading
@@ -17,3 +18,4 @@ pub mod Reported
 pub mod ShortLines
 pub mod ShortOutputs
 pub mod ShortSpellings
+pub mod FilesLoaded

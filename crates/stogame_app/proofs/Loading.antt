@@ -132,7 +132,7 @@ kept_asked before now steady_before steady_now asked made result said holds stea
 -- 2. Reading a text.
 
 -- the answer of one text, which is as told
-read_as_told : {X Y : Type 0} (holding : Option Holding) (steady : Bool) (place : Holding → Option (List ℕ)) (view : X → Y) (result : Result X End) (said : Option (List ℕ) → Said Y) (source : Option (List ℕ))
+pub read_as_told : {X Y : Type 0} (holding : Option Holding) (steady : Bool) (place : Holding → Option (List ℕ)) (view : X → Y) (result : Result X End) (said : Option (List ℕ) → Said Y) (source : Option (List ℕ))
     → WhereTold holding (λ held. source ≡ place held) → Loads view result (said source) → LoadsText holding steady place view result said
 read_as_told None steady place view result said source told loads = record { sources = source; told = λ _. tt; steadily = λ _. tt; loads = loads }
 read_as_told (Some held) steady place view result said source told loads = record { sources = source; told = λ _. told; steadily = λ _. told; loads = loads }

@@ -2,10 +2,13 @@
 use Rattle.std.specs.Prelude.{◌≡◌, ◌<◌, ◌≤◌, ◌+◌, ◌⊎◌, ℕ, Bool, true, List, Option, Result, Ok, Err, IsErrOf}
 use Rattle.text_lines.specs.Limits.{most_bytes}
 use Rattle.game_outside.specs.Limits.{piece_size}
-use Rattle.game_outside.specs.Outside.{Holding}
+use Rattle.game_outside.specs.declared.file.FileEnd.{FileEnd}
+use Rattle.game_outside.specs.declared.file.FileEnd.TheVariants as file
+use Rattle.game_outside.specs.Outside.{Holding, Rose, KeepsShelf}
 use Rattle.stogame_app.specs.declared.load.End.{End}
 use Rattle.stogame_app.specs.declared.load.End.TheVariants.{OutOfMemory, ReadFault, Refused}
 use Rattle.stogame_app.specs.declared.refusal.Text.{Text}
+use Rattle.stogame_app.specs.declared.refusal.Refusal.{Refusal}
 use Rattle.stogame_app.specs.declared.refusal.Refusal.TheVariants.{TooLong}
 use Rattle.command_words.specs.Words.{Asked}
 use Rattle.stogame_app.specs.Said.{Said, NotHeld, Refuses, Says, IsCaused}
@@ -51,8 +54,16 @@ pub record Takes {X : Type 0} (result : Result X End) (taken : ℕ) : Type 0 whe
   pub too_long : IsTooLong result → most_bytes < taken
   pub only_too_long : most_bytes < taken → IsTooLong result ⊎ IsErrOf result OutOfMemory
 
--- a shelf keeps what it holds, and its count does not fall
-pub record KeepsShelf (held_before held_now : Option Holding) (steady_before steady_now : Bool) (faults_before faults_now : ℕ) : Type 0 where
-  pub held : held_now ≡ held_before
-  pub steady : steady_now ≡ steady_before
-  pub later : faults_before ≤ faults_now
+-- What loading does to a shelf.
+pub record LoadingLeaves {S X : Type 0} (held : S → Option Holding) (steady : S → Bool) (faults took : S → ℕ) (old new : S) (result : Result X End) : Type 0 where
+  -- it doesn't fail by itself
+  pub read_fault : IsErrOf result ReadFault → Rose (faults old) (faults new)
+  pub takes : Takes result (took new)
+  pub kept : KeepsShelf (held old) (held new) (steady old) (steady new) (faults old) (faults new)
+
+-- the end that the end of a file comes to, which has this text
+abbrev pub end_of : {F : Type 0} → Text → (F → Refusal) → FileEnd F → End
+end_of text refusal file.OutOfMemory = OutOfMemory
+end_of text refusal file.ReadFault = ReadFault
+end_of text refusal file.TooLong = Refused (TooLong text)
+end_of text refusal (file.Refused fault) = Refused (refusal fault)

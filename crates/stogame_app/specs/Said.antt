@@ -1,8 +1,6 @@
 -- What the texts of a run say, one after another.
-use Rattle.std.specs.Prelude.{◌≡◌, ◌≢◌, Bool, true, false, Result, Ok, Err}
-use Rattle.distributions.specs.declared.choice.ChoiceFault.TheVariants as choice
-use Rattle.tra_reader.specs.declared.fault.TraCause.{TraCause}
-use Rattle.tra_reader.specs.declared.fault.TraCause.TheVariants as tra
+use Rattle.std.specs.Prelude.{◌≡◌, ◌≢◌, false, Result, Ok, Err}
+use Rattle.tra_reader.specs.FileEnds.{is_want}
 use Rattle.label_reader.specs.declared.faults.LabCause.TheVariants as lab
 use Rattle.rpatl_syntax.specs.declared.fault.FormulaCause.TheVariants as formula
 use Rattle.formula_sets.specs.declared.fault.PoseFault.TheVariants as question
@@ -26,15 +24,9 @@ abbrev pub read_said : {X F : Type 0} → (F → Refusal) → Result X F → Sai
 read_said refusal (Ok x) = Says x
 read_said refusal (Err fault) = Refuses (refusal fault)
 
--- memory was wanting, for the whole or for a choice
-abbrev pub is_want_of_memory : TraCause → Bool
-is_want_of_memory tra.OutOfMemory = true
-is_want_of_memory (tra.Choice state k choice.OutOfMemory) = true
-is_want_of_memory cause = false
-
 -- a text, a formula or a question is at fault, and not memory
 abbrev pub IsCaused : Refusal → Type 0
-IsCaused (OfTra fault) = is_want_of_memory fault.cause ≡ false
+IsCaused (OfTra fault) = is_want fault.cause ≡ false
 IsCaused (OfLab fault) = fault.cause ≢ lab.OutOfMemory
 IsCaused (OfOwn fault) = fault.cause ≢ lab.OutOfMemory
 IsCaused (OfFormula fault) = fault.cause ≢ formula.OutOfMemory

@@ -1,15 +1,14 @@
 //! The certificate of an audit, read and checked.
 
-ghost use Rattle.std.specs.Prelude.{◌≡◌, ◌≤◌, ◌↔◌, None, Err, IfOk, IsErrOf, IsTrue, OnOk, length, true};
+ghost use Rattle.std.specs.Prelude.{◌≡◌, ◌≤◌, ◌↔◌, None, Err, IfOk, IsErrOf, IsTrue, length, true};
 ghost use Rattle.text_lines.specs.Limits.{most_bytes};
-ghost use Rattle.game_outside.specs.Outside.{Rose};
 ghost use Rattle.certificate_audit.specs.Accepted.{IsAccepted, IsSound};
 ghost use Rattle.certificate_audit.specs.Refused.{IsRefused, IsWant};
 ghost use Rattle.certificate_audit.specs.declared.fault.AuditFault.{AuditFault};
 ghost use Rattle.stogame_app.specs.declared.refusal.Refusal.{Refusal};
 ghost use Rattle.stogame_app.specs.Asks.{IsText};
 ghost use Rattle.stogame_app.specs.Sources.{HasSource, WhereTold};
-ghost use Rattle.stogame_app.specs.Loading.{IsTooLong, RefusesCaused, Takes};
+ghost use Rattle.stogame_app.specs.Loading.{IsTooLong, LoadingLeaves, RefusesCaused};
 ghost use Rattle.stogame_app.specs.Run.{RefusesCertificate};
 
 use crate::load::{End, load_text};
@@ -30,11 +29,9 @@ pub fn load_certificate<H: Shelf>(
     ensures accepted { IfOk result (λ plan. HasSource (H.held shelf.old) name.now (λ source. IsText source (λ text. IsAccepted question.now text plan))) }
     ensures sound { IfOk result (λ plan. IsSound question.now plan) }
     ensures refused { (refusal : Refusal) → result ≡ Err (End.Refused refusal) → HasSource (H.held shelf.old) name.now (λ source. RefusesCertificate question.now source refusal) }
-    ensures read_fault { IsErrOf result End.ReadFault → Rose (H.faults shelf.old) (H.faults shelf.new) }
+    ensures shelf { LoadingLeaves H.held H.steady H.faults H.taken shelf.old shelf.new result }
     ensures steadily { IsErrOf result End.ReadFault → H.steady shelf.old ≡ true → WhereTold (H.held shelf.old) (λ held. held name.now ≡ None) }
     ensures caused { RefusesCaused result }
-    ensures takes { Takes result (H.taken shelf.new) }
-    ensures small { OnOk result (H.taken shelf.new ≤ most_bytes) }
 {
     let bytes = load_text(alloc, shelf, Text::Cert, name)?;
     certificate_in(alloc, question, &bytes)

@@ -1,23 +1,18 @@
 //! The texts of a run, read and judged one after another.
 
-ghost use Rattle.std.specs.Prelude.{◌≡◌, ◌≤◌, ◌⊎◌, IsErrOf, IsOk, OnOk, IfOk, option_map, length};
+ghost use Rattle.std.specs.Prelude.{◌≡◌, ◌≤◌, ◌⊎◌, IsErrOf, IsOk, IfOk, option_map, length};
 ghost use Rattle.text_lines.specs.Limits.{most_bytes};
-ghost use Rattle.tra_reader.specs.Text.{game_of};
-ghost use Rattle.game_outside.specs.Outside.{Rose};
-ghost use Rattle.label_reader.specs.Texts.{labels_of, owners_of};
-ghost use Rattle.stogame_app.specs.Said.{is_want_of_memory, read_said};
 ghost use Rattle.stogame_app.specs.Sources.{held_own};
-ghost use Rattle.stogame_app.specs.Loading.{Loads, LoadsText, IsTooLong, RefusesCaused, Takes, KeepsShelf};
+ghost use Rattle.stogame_app.specs.Loading.{LoadingLeaves, LoadsText, RefusesCaused, end_of};
 ghost use Rattle.stogame_app.specs.Texts.{text_said, game_said, labels_said, owners_said, single_owner};
 
 use crate::refusal::{Refusal, Text};
-use distributions::ChoiceFault;
 use game_model::Game;
-use game_outside::{ReadEnd, Shelf, read_all};
-use label_reader::{LabCause, Labels, Owners, read_labels, read_owners};
+use game_outside::{FileEnd, ReadEnd, Shelf, read_all};
+use label_reader::{LabFault, Labels, Owners, read_labels_from, read_owners_from};
 use std::alloc::Global;
 use text_lines::MOST_BYTES;
-use tra_reader::{TraCause, read_tra};
+use tra_reader::{TraFault, read_tra_from};
 
 /// How loading ends that gives nothing.
 #[derive(Drop)]
@@ -36,11 +31,8 @@ pub fn load_text<H: Shelf>(
 ) -> Result<Vec<u8>, End>
     ensures says { LoadsText (H.held shelf.old) (H.steady shelf.old) (λ held. held name.now) (λ v. v.items) result (text_said text) }
     ensures within { IfOk result (λ v. length v.items ≤ most_bytes) }
-    ensures read_fault { IsErrOf result End.ReadFault → Rose (H.faults shelf.old) (H.faults shelf.new) }
+    ensures shelf { LoadingLeaves H.held H.steady H.faults H.taken shelf.old shelf.new result }
     ensures caused { RefusesCaused result }
-    ensures takes { Takes result (H.taken shelf.new) }
-    ensures small { OnOk result (H.taken shelf.new ≤ most_bytes) }
-    ensures kept { KeepsShelf (H.held shelf.old) (H.held shelf.new) (H.steady shelf.old) (H.steady shelf.new) (H.faults shelf.old) (H.faults shelf.new) }
 {
     match read_all(alloc, shelf, name, MOST_BYTES as u64) {
         Ok(bytes) => Ok(bytes),
@@ -53,43 +45,24 @@ pub fn load_text<H: Shelf>(
 /// The game of the transition file.
 pub fn load_game<H: Shelf>(alloc: Global, shelf: &mut H, name: &str) -> Result<Game, End>
     ensures says { LoadsText (H.held shelf.old) (H.steady shelf.old) (λ held. held name.now) (λ x. x) result game_said }
-    ensures read_fault { IsErrOf result End.ReadFault → Rose (H.faults shelf.old) (H.faults shelf.new) }
+    ensures shelf { LoadingLeaves H.held H.steady H.faults H.taken shelf.old shelf.new result }
     ensures caused { RefusesCaused result }
-    ensures takes { Takes result (H.taken shelf.new) }
-    ensures small { OnOk result (H.taken shelf.new ≤ most_bytes) }
-    ensures kept { KeepsShelf (H.held shelf.old) (H.held shelf.new) (H.steady shelf.old) (H.steady shelf.new) (H.faults shelf.old) (H.faults shelf.new) }
 {
-    let bytes = load_text(alloc, shelf, Text::Tra, name)?;
-    game_in(alloc, &bytes)
-}
-
-fn game_in(alloc: Global, bytes: &[u8]) -> Result<Game, End>
-    requires { length bytes.now ≤ most_bytes }
-    ensures says { Loads (λ x. x) result (read_said Refusal.OfTra (game_of bytes.now)) }
-    ensures read { IsErrOf result End.ReadFault → ⊥ }
-    ensures caused { RefusesCaused result }
-    ensures short { IsTooLong result → ⊥ }
-{
-    match read_tra(alloc, bytes) {
+    match read_tra_from(alloc, shelf, name, MOST_BYTES as u64) {
         Ok(game) => Ok(game),
-        Err(fault) => {
-            if is_want_of_memory(&fault.cause) {
-                Err(End::OutOfMemory)
-            } else {
-                Err(End::Refused(Refusal::OfTra(fault)))
-            }
-        }
+        Err(end) => Err(end_of_game(end)),
     }
 }
 
-// Whether memory was wanting, for the whole or for a choice.
-fn is_want_of_memory(cause: &TraCause) -> bool
-    ensures { result ≡ is_want_of_memory cause.now }
+// The end where the transition file gives no game.
+fn end_of_game(end: FileEnd<TraFault>) -> End
+    ensures { result ≡ end_of Text.Tra Refusal.OfTra end }
 {
-    match cause {
-        TraCause::OutOfMemory => true,
-        TraCause::Choice { fault, .. } => matches!(fault, ChoiceFault::OutOfMemory),
-        _ => false,
+    match end {
+        FileEnd::OutOfMemory => End::OutOfMemory,
+        FileEnd::ReadFault => End::ReadFault,
+        FileEnd::TooLong => End::Refused(Refusal::TooLong(Text::Tra)),
+        FileEnd::Refused(fault) => End::Refused(Refusal::OfTra(fault)),
     }
 }
 
@@ -101,31 +74,25 @@ pub fn load_labels<H: Shelf>(
     states: u32,
 ) -> Result<Labels, End>
     ensures says { LoadsText (H.held shelf.old) (H.steady shelf.old) (λ held. held name.now) (λ x. x) result (λ source. labels_said source states) }
-    ensures read_fault { IsErrOf result End.ReadFault → Rose (H.faults shelf.old) (H.faults shelf.new) }
+    ensures shelf { LoadingLeaves H.held H.steady H.faults H.taken shelf.old shelf.new result }
     ensures caused { RefusesCaused result }
-    ensures takes { Takes result (H.taken shelf.new) }
-    ensures small { OnOk result (H.taken shelf.new ≤ most_bytes) }
     ensures sizes { IfOk result (λ labels. labels.states ≡ states) }
-    ensures kept { KeepsShelf (H.held shelf.old) (H.held shelf.new) (H.steady shelf.old) (H.steady shelf.new) (H.faults shelf.old) (H.faults shelf.new) }
 {
-    let bytes = load_text(alloc, shelf, Text::Lab, name)?;
-    labels_in(alloc, &bytes, states)
+    match read_labels_from(alloc, shelf, name, MOST_BYTES as u64, states) {
+        Ok(labels) => Ok(labels),
+        Err(end) => Err(end_of_labels(end)),
+    }
 }
 
-fn labels_in(alloc: Global, bytes: &[u8], states: u32) -> Result<Labels, End>
-    requires { length bytes.now ≤ most_bytes }
-    ensures says { Loads (λ x. x) result (read_said Refusal.OfLab (labels_of bytes.now states)) }
-    ensures sizes { IfOk result (λ labels. labels.states ≡ states) }
-    ensures read { IsErrOf result End.ReadFault → ⊥ }
-    ensures caused { RefusesCaused result }
-    ensures short { IsTooLong result → ⊥ }
+// The end where the label file gives no labels.
+fn end_of_labels(end: FileEnd<LabFault>) -> End
+    ensures { result ≡ end_of Text.Lab Refusal.OfLab end }
 {
-    match read_labels(alloc, bytes, states) {
-        Ok(labels) => Ok(labels),
-        Err(fault) => match fault.cause {
-            LabCause::OutOfMemory => Err(End::OutOfMemory),
-            _ => Err(End::Refused(Refusal::OfLab(fault))),
-        },
+    match end {
+        FileEnd::OutOfMemory => End::OutOfMemory,
+        FileEnd::ReadFault => End::ReadFault,
+        FileEnd::TooLong => End::Refused(Refusal::TooLong(Text::Lab)),
+        FileEnd::Refused(fault) => End::Refused(Refusal::OfLab(fault)),
     }
 }
 
@@ -137,31 +104,25 @@ pub fn load_owner_file<H: Shelf>(
     states: u32,
 ) -> Result<Owners, End>
     ensures says { LoadsText (H.held shelf.old) (H.steady shelf.old) (λ held. held name.now) (λ x. x) result (λ source. owners_said (Some name.now) source states) }
-    ensures read_fault { IsErrOf result End.ReadFault → Rose (H.faults shelf.old) (H.faults shelf.new) }
+    ensures shelf { LoadingLeaves H.held H.steady H.faults H.taken shelf.old shelf.new result }
     ensures caused { RefusesCaused result }
-    ensures takes { Takes result (H.taken shelf.new) }
-    ensures small { OnOk result (H.taken shelf.new ≤ most_bytes) }
     ensures sizes { IfOk result (λ owners. length owners.owners ≡ states) }
-    ensures kept { KeepsShelf (H.held shelf.old) (H.held shelf.new) (H.steady shelf.old) (H.steady shelf.new) (H.faults shelf.old) (H.faults shelf.new) }
 {
-    let bytes = load_text(alloc, shelf, Text::Own, name)?;
-    owners_in(alloc, &bytes, states)
+    match read_owners_from(alloc, shelf, name, MOST_BYTES as u64, states) {
+        Ok(owners) => Ok(owners),
+        Err(end) => Err(end_of_owners(end)),
+    }
 }
 
-fn owners_in(alloc: Global, bytes: &[u8], states: u32) -> Result<Owners, End>
-    requires { length bytes.now ≤ most_bytes }
-    ensures says { Loads (λ x. x) result (read_said Refusal.OfOwn (owners_of bytes.now states)) }
-    ensures sizes { IfOk result (λ owners. length owners.owners ≡ states) }
-    ensures read { IsErrOf result End.ReadFault → ⊥ }
-    ensures caused { RefusesCaused result }
-    ensures short { IsTooLong result → ⊥ }
+// The end where the owner file gives no owners.
+fn end_of_owners(end: FileEnd<LabFault>) -> End
+    ensures { result ≡ end_of Text.Own Refusal.OfOwn end }
 {
-    match read_owners(alloc, bytes, states) {
-        Ok(owners) => Ok(owners),
-        Err(fault) => match fault.cause {
-            LabCause::OutOfMemory => Err(End::OutOfMemory),
-            _ => Err(End::Refused(Refusal::OfOwn(fault))),
-        },
+    match end {
+        FileEnd::OutOfMemory => End::OutOfMemory,
+        FileEnd::ReadFault => End::ReadFault,
+        FileEnd::TooLong => End::Refused(Refusal::TooLong(Text::Own)),
+        FileEnd::Refused(fault) => End::Refused(Refusal::OfOwn(fault)),
     }
 }
 
@@ -186,12 +147,9 @@ pub fn load_owners<H: Shelf>(
 ) -> Result<Owners, End>
     requires { H.taken shelf.old ≤ most_bytes }
     ensures says { LoadsText (H.held shelf.old) (H.steady shelf.old) (held_own (option_map (λ file. file.now) own.entry)) (λ x. x) result (λ source. owners_said (option_map (λ file. file.now) own.entry) source states) }
-    ensures read_fault { IsErrOf result End.ReadFault → Rose (H.faults shelf.old) (H.faults shelf.new) }
+    ensures shelf { LoadingLeaves H.held H.steady H.faults H.taken shelf.old shelf.new result }
     ensures caused { RefusesCaused result }
-    ensures takes { Takes result (H.taken shelf.new) }
-    ensures small { OnOk result (H.taken shelf.new ≤ most_bytes) }
     ensures sizes { IfOk result (λ owners. length owners.owners ≡ states) }
-    ensures kept { KeepsShelf (H.held shelf.old) (H.held shelf.new) (H.steady shelf.old) (H.steady shelf.new) (H.faults shelf.old) (H.faults shelf.new) }
 {
     match own {
         None => no_owner_file(alloc, states),

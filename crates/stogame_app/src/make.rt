@@ -3,6 +3,7 @@
 ghost use Rattle.std.specs.Prelude.{◌≡◌, ◌<◌, ◌^◌, ◌∷◌, [], Err, IfOk, count_by};
 ghost use Rattle.std.specs.String.{string_bytes};
 ghost use Rattle.game_model.specs.Dual.{IsZeroSet};
+ghost use Rattle.predecessors.specs.Lists.{ArePredecessors};
 ghost use Rattle.rpatl_syntax.specs.declared.formula.Bound.TheVariants.{AskMax};
 ghost use Rattle.command_words.specs.Words.{AreRunLimits, IsMakeInRange, make_of};
 ghost use Rattle.bracket_engine.specs.Bracket.{IsBracket};
@@ -12,16 +13,17 @@ ghost use Rattle.stogame_app.specs.Status.{IsAnswer};
 use crate::answer::Answer;
 use crate::load::End;
 use crate::status::Status;
-use bracket_engine::{Bracket, bracket};
+use bracket_engine::{Bracket, bracket_over};
 use command_words::MakeWords;
 use drawn_game::draw_game;
 use game_model::{Marks, Question};
 use game_outside::{Gate, OutOfMemory};
+use predecessors::Predecessors;
 use rpatl_syntax::Bound;
 use std::alloc::{AllocError, Global};
 use std::thread::Threads;
 use verdicts::{StopRule, settle};
-use zero_sets::zero_set;
+use zero_sets::zero_set_over;
 
 /// The summary of the bracket of a drawn game. The only end without one is want of memory.
 pub fn answer_make<R: Threads + Sync, G: Gate + Sync>(
@@ -56,8 +58,9 @@ fn summarise<R: Threads + Sync, G: Gate + Sync>(
     drawn.known();
     let question = drawn.question(alloc)?;
     question.known();
-    let zero = zero_set(alloc, &question)?;
-    let found = bracket_in_full(rt, alloc, &question, &zero, make, gate)?;
+    let predecessors = Predecessors::of_game(alloc, question.game())?;
+    let zero = zero_set_over(alloc, &question, &predecessors)?;
+    let found = bracket_in_full(rt, alloc, &question, &zero, &predecessors, make, gate)?;
     write_summary(alloc, make, &zero, &found)
 }
 
@@ -67,10 +70,12 @@ fn bracket_in_full<R: Threads + Sync, G: Gate + Sync>(
     alloc: Global,
     question: &Question,
     zero: &Marks,
+    predecessors: &Predecessors,
     make: &MakeWords,
     gate: &G,
 ) -> Result<Bracket, OutOfMemory>
     requires zero { IsZeroSet question.now zero.now }
+    requires lists { ArePredecessors question.now.game predecessors.now }
     requires limits { AreRunLimits make.now.rounds make.now.workers }
     ensures bounds { IfOk result (λ found. IsBracket question.now zero.now AskMax (0 ∷ []) make.now.rounds found.lower.items found.upper.items found.rounds found.stable) }
 {
@@ -79,11 +84,12 @@ fn bracket_in_full<R: Threads + Sync, G: Gate + Sync>(
     let stop = StopRule::of_bound(bound, |lower, upper| {
         settle(&bound, lower, upper).is_settling()
     });
-    bracket(
+    bracket_over(
         rt,
         alloc,
         question,
         zero,
+        predecessors,
         make.rounds,
         make.workers,
         &stop,

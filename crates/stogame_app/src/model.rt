@@ -1,13 +1,12 @@
 //! What a command names, loaded: a game, its labels, its owners and a formula.
 
-ghost use Rattle.std.specs.Prelude.{◌≡◌, ◌≢◌, ◌≤◌, ◌<◌, All, IsErrOf, IfOk, OnOk, length};
+ghost use Rattle.std.specs.Prelude.{◌≡◌, ◌≢◌, ◌≤◌, ◌<◌, All, IsErrOf, IfOk, length};
 ghost use Rattle.text_lines.specs.Limits.{most_bytes};
-ghost use Rattle.game_outside.specs.Outside.{Rose};
 ghost use Rattle.game_model.specs.Query.{states};
 ghost use Rattle.rpatl_syntax.specs.Formula.{tree_of};
 ghost use Rattle.formula_sets.specs.Seen.{posing_of};
 ghost use Rattle.command_words.specs.Words.{asked_of_words};
-ghost use Rattle.stogame_app.specs.Loading.{Loads, LoadsAsked, IsTooLong, RefusesCaused, Takes, KeepsShelf};
+ghost use Rattle.stogame_app.specs.Loading.{LoadingLeaves, Loads, LoadsAsked, IsTooLong, RefusesCaused};
 ghost use Rattle.stogame_app.specs.Posed.{formula_read, reading_of, behind_owners, behind_labels, behind_game, reading_said, posed, HasSizes};
 
 use crate::load::{End, load_game, load_labels, load_owners};
@@ -52,12 +51,9 @@ pub fn load_model<H: Shelf>(
     asked: &AskedWords<'_>,
 ) -> Result<Loaded, End>
     ensures says { LoadsAsked (H.held shelf.old) (H.steady shelf.old) (asked_of_words asked.now) reading_of result (λ sources. reading_said sources (asked_of_words asked.now)) }
-    ensures read_fault { IsErrOf result End.ReadFault → Rose (H.faults shelf.old) (H.faults shelf.new) }
+    ensures shelf { LoadingLeaves H.held H.steady H.faults H.taken shelf.old shelf.new result }
     ensures caused { RefusesCaused result }
-    ensures takes { Takes result (H.taken shelf.new) }
-    ensures small { OnOk result (H.taken shelf.new ≤ most_bytes) }
     ensures sizes { IfOk result (λ loaded. HasSizes loaded.game loaded.labels loaded.owners) }
-    ensures kept { KeepsShelf (H.held shelf.old) (H.held shelf.new) (H.steady shelf.old) (H.steady shelf.new) (H.faults shelf.old) (H.faults shelf.new) }
 {
     let game = load_game(alloc, shelf, asked.tra)?;
     load_behind_game(alloc, shelf, asked, game)
@@ -70,12 +66,9 @@ fn load_behind_game<H: Shelf>(
     game: Game,
 ) -> Result<Loaded, End>
     ensures says { LoadsAsked (H.held shelf.old) (H.steady shelf.old) (asked_of_words asked.now) reading_of result (λ sources. behind_game sources (asked_of_words asked.now) game) }
-    ensures read_fault { IsErrOf result End.ReadFault → Rose (H.faults shelf.old) (H.faults shelf.new) }
+    ensures shelf { LoadingLeaves H.held H.steady H.faults H.taken shelf.old shelf.new result }
     ensures caused { RefusesCaused result }
-    ensures takes { Takes result (H.taken shelf.new) }
-    ensures small { OnOk result (H.taken shelf.new ≤ most_bytes) }
     ensures sizes { IfOk result (λ loaded. HasSizes loaded.game loaded.labels loaded.owners) }
-    ensures kept { KeepsShelf (H.held shelf.old) (H.held shelf.new) (H.steady shelf.old) (H.steady shelf.new) (H.faults shelf.old) (H.faults shelf.new) }
 {
     let labels = load_labels(alloc, shelf, asked.lab, game.states())?;
     load_behind_labels(alloc, shelf, asked, game, labels)
@@ -91,12 +84,9 @@ fn load_behind_labels<H: Shelf>(
     requires labels { labels.states ≡ length game }
     requires small { H.taken shelf.old ≤ most_bytes }
     ensures says { LoadsAsked (H.held shelf.old) (H.steady shelf.old) (asked_of_words asked.now) reading_of result (λ sources. behind_labels sources (asked_of_words asked.now) game labels) }
-    ensures read_fault { IsErrOf result End.ReadFault → Rose (H.faults shelf.old) (H.faults shelf.new) }
+    ensures shelf { LoadingLeaves H.held H.steady H.faults H.taken shelf.old shelf.new result }
     ensures caused { RefusesCaused result }
-    ensures takes { Takes result (H.taken shelf.new) }
-    ensures small { OnOk result (H.taken shelf.new ≤ most_bytes) }
     ensures sizes { IfOk result (λ loaded. HasSizes loaded.game loaded.labels loaded.owners) }
-    ensures kept { KeepsShelf (H.held shelf.old) (H.held shelf.new) (H.steady shelf.old) (H.steady shelf.new) (H.faults shelf.old) (H.faults shelf.new) }
 {
     let owners = load_owners(alloc, shelf, asked.own, game.states())?;
     load_behind_owners(alloc, asked, game, labels, owners)

@@ -12,11 +12,12 @@ ghost use Rattle.stogame_app.specs.Outputs.{certificate_part, output_text};
 ghost use Rattle.stogame_app.specs.Status.{IsAnswer};
 
 use crate::answer::{Answer, lines_of, status_of};
-use bracket_engine::{Bracket, bracket};
+use bracket_engine::{Bracket, bracket_over};
 use command_words::CheckWords;
 use game_model::Question;
 use game_outside::{Gate, OutOfMemory};
 use plan_text::{Plan, append, write_plan};
+use predecessors::Predecessors;
 use rpatl_syntax::{Bound, Formula, print_formula};
 use std::alloc::Global;
 use std::thread::Threads;
@@ -24,7 +25,7 @@ use verdicts::laws::{
     planned_values_are_reached, undecided_thresholds_are_left_open, verdicts_are_true,
 };
 use verdicts::{How, ReportLine, StopRule, report_text, settle};
-use zero_sets::zero_set;
+use zero_sets::zero_set_over;
 
 /// One line for each initial state, with the bounds after at most the asked rounds and what they say of the formula's bound;
 /// behind them the certificate, where it is asked for. The only error is want of memory.
@@ -43,15 +44,17 @@ pub fn report<R: Threads + Sync, G: Gate + Sync>(
     ensures answer { IfOk result (λ answer. IsAnswer answer.status) }
 {
     let bound = formula.bound;
-    let zero = zero_set(alloc, question)?;
+    let predecessors = Predecessors::of_game(alloc, question.game())?;
+    let zero = zero_set_over(alloc, question, &predecessors)?;
     let stop = StopRule::of_bound(bound, |lower, upper| {
         settle(&bound, lower, upper).is_settling()
     });
-    let found = bracket(
+    let found = bracket_over(
         rt,
         alloc,
         question,
         &zero,
+        &predecessors,
         check.rounds,
         check.workers,
         &stop,

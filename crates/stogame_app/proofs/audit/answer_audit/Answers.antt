@@ -33,7 +33,7 @@ returns-clause-answered g c =
     IfOk-weaker c.audit_loaded.result _ _ (λ answer report.
     let P : Option Holding → Type 0 = λ h. IsReportOfAudit (λ posing. posed (reading_of c.in_ok-loaded.loaded) ≡ Says posing) (λ formula. formula ≡ tree_of c.in_ok-loaded.loaded.formula) h name answer.text.items answer.status in
     audit_reported holding (g.H.Shelf.steady c.args.shelf.now) (asked_of_words c.args.audit.now.asked) c.load_model.result c.load_model.ensures.says c.in_ok-loaded.loaded c.in_ok-loaded.was
-    name _ _ (subst P c.load_model.ensures.kept.held report)) c.audit_loaded.ensures.answered
+    name _ _ (subst P c.load_model.ensures.shelf.kept.held report)) c.audit_loaded.ensures.answered
 
 pub returns-clause-refused : goal.returns-clause-refused
 returns-clause-refused g c = λ refusal is.
@@ -44,7 +44,7 @@ returns-clause-refused g c = λ refusal is.
     let P : Option Holding → Type 0 = λ h. RefusesBehind (λ posing. posed (reading_of c.in_ok-loaded.loaded) ≡ Says posing) h name refusal in
     elim (c.audit_loaded.ensures.refused refusal is) [
       | inl question ↦ inl (question_refused holding steady asked c.load_model.result c.load_model.ensures.says c.in_ok-loaded.loaded c.in_ok-loaded.was refusal question)
-      | inr behind ↦ inr (behind_refused holding steady asked c.load_model.result c.load_model.ensures.says c.in_ok-loaded.loaded c.in_ok-loaded.was name refusal (subst P c.load_model.ensures.kept.held behind))
+      | inr behind ↦ inr (behind_refused holding steady asked c.load_model.result c.load_model.ensures.says c.in_ok-loaded.loaded c.in_ok-loaded.was name refusal (subst P c.load_model.ensures.shelf.kept.held behind))
     ]
 
 pub returns-clause-steadily : goal.returns-clause-steadily
@@ -54,6 +54,6 @@ returns-clause-steadily g c = λ is calm.
     let name = c.args.audit.now.certificate.now in
     let posed_so = c.audit_loaded.ensures.behind is in
     let P : Option Holding → Type 0 = λ h. WhereTold h (λ held. held name ≡ None) in
-    let missing = subst P c.load_model.ensures.kept.held (c.audit_loaded.ensures.steadily is (c.load_model.ensures.kept.steady ∙ calm)) in
+    let missing = subst P c.load_model.ensures.shelf.kept.held (c.audit_loaded.ensures.steadily is (c.load_model.ensures.shelf.kept.steady ∙ calm)) in
     let asks = steadily_asked holding (g.H.Shelf.steady c.args.shelf.now) asked c.load_model.result c.load_model.ensures.says c.in_ok-loaded.loaded c.in_ok-loaded.was posed_so.0 posed_so.1 in
     both_told holding (λ held. Asks (sources_of held asked) asked posed_so.0) (λ held. held name ≡ None) (λ held. IsMissing held (OfAudit (audit_of c.args.audit.now))) (λ held poses none. inr ((posed_so.0, poses), none)) asks missing

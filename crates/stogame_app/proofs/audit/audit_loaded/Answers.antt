@@ -25,7 +25,7 @@ returns-in_err-plan-clause-refused g c = λ refusal is.
 
 pub returns-in_err-plan-clause-takes : goal.returns-in_err-plan-clause-takes
 returns-in_err-plan-clause-takes g c =
-    takes_end c.load_certificate.result c.from_residual-in_err-plan.result c.in_err-plan.field-0.0 _ c.in_err-plan.was (stays c.from_residual-in_err-plan.result c.in_err-plan.field-0.0 c.from_residual-in_err-plan.ensures.1) c.load_certificate.ensures.takes
+    takes_end c.load_certificate.result c.from_residual-in_err-plan.result c.in_err-plan.field-0.0 _ c.in_err-plan.was (stays c.from_residual-in_err-plan.result c.in_err-plan.field-0.0 c.from_residual-in_err-plan.ensures.1) c.load_certificate.ensures.shelf.takes
 
 pub returns-in_err-plan-clause-behind : goal.returns-in_err-plan-clause-behind
 returns-in_err-plan-clause-behind g c = λ is.

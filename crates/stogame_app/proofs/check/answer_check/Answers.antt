@@ -4,6 +4,7 @@ use Rattle.stogame_app.specs.declared.load.End.TheVariants.{Refused, ReadFault}
 use Rattle.stogame_app.proofs.Loading.{stays}
 use Rattle.stogame_app.proofs.Endings.{check_reported, question_refused, loading_refused, loading_steadily, same_end, takes_short}
 use Rattle.stogame_app.proofs.Commands.{on_ok}
+use Rattle.stogame_app.proofs.Leaving.{answer_small}
 use Rattle.stogame_app.proofs.check.answer_check.Goals as goal
 
 pub returns-in_err-loaded-clause-refused : goal.returns-in_err-loaded-clause-refused
@@ -28,7 +29,7 @@ returns-clause-refused g c = λ refusal is.
     refusal (c.check_loaded.ensures.refused refusal is)
 
 pub returns-clause-takes : goal.returns-clause-takes
-returns-clause-takes g c = takes_short c.check_loaded.result _ c.in_ok-loaded.ensures.small c.check_loaded.ensures.short
+returns-clause-takes g c = takes_short c.check_loaded.result _ (answer_small c.in_ok-loaded.loaded _ c.in_ok-loaded.ensures.shelf.takes) c.check_loaded.ensures.short
 
 pub returns-clause-small : goal.returns-clause-small
-returns-clause-small g c = on_ok _ c.check_loaded.result c.in_ok-loaded.ensures.small
+returns-clause-small g c = on_ok _ c.check_loaded.result (answer_small c.in_ok-loaded.loaded _ c.in_ok-loaded.ensures.shelf.takes)
