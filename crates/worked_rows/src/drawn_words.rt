@@ -1,7 +1,6 @@
 //! Words that are drawn: the program reads them as a plain reading does.
 
-ghost use Rattle.std.specs.Prelude.{◌<◌};
-
+use crate::draws::Draws;
 use crate::plain_reading::is_command;
 use crate::rows::words;
 use crate::words::coin_loop_files;
@@ -59,41 +58,26 @@ const DRAWN: [&str; 37] = [
     "--=",
 ];
 
-// Numbers that look as if drawn by lot, the same in each run.
-#[derive(Drop)]
-struct Draws {
-    state: usize,
+fn draw_word(draws: &mut Draws) -> &'static str {
+    DRAWN[draws.below(DRAWN.len())]
 }
 
-impl Draws {
-    fn below(&mut self, limit: usize) -> usize
-        requires { 0 < limit }
-        ensures { result < limit }
-    {
-        self.state = self
-            .state
-            .wrapping_mul(6_364_136_223_846_793_005)
-            .wrapping_add(1_442_695_040_888_963_407);
-        (self.state >> 33) % limit
+// These words with up to five words put between them, and one changed at times.
+fn draw_list(
+    alloc: Global,
+    draws: &mut Draws,
+    command: &[&'static str],
+) -> Result<Vec<&'static str>, Fail> {
+    let mut list = command.to_vec(alloc)?;
+    if draws.below(4) == 0 && !list.is_empty() {
+        let place = draws.below(list.len());
+        list[place] = draw_word(draws);
     }
-
-    fn word(&mut self) -> &'static str {
-        DRAWN[self.below(DRAWN.len())]
+    for _ in 0..draws.below(6) {
+        let place = draws.below(list.len() + 1);
+        list.insert(place, draw_word(draws))?;
     }
-
-    // These words with up to five words put between them, and one changed at times.
-    fn list(&mut self, alloc: Global, command: &[&'static str]) -> Result<Vec<&'static str>, Fail> {
-        let mut list = command.to_vec(alloc)?;
-        if self.below(4) == 0 && !list.is_empty() {
-            let place = self.below(list.len());
-            list[place] = self.word();
-        }
-        for _ in 0..self.below(6) {
-            let place = self.below(list.len() + 1);
-            list.insert(place, self.word())?;
-        }
-        Ok(list)
-    }
+    Ok(list)
 }
 
 // Whether a run with these words ends with the usage line.
@@ -120,7 +104,7 @@ fn read_drawn<R: Threads + Sync + Abort>(
 ) -> Result<u32, Fail> {
     let mut commands = 0_u32;
     for _ in 0..2500 {
-        let list = draws.list(alloc, words)?;
+        let list = draw_list(alloc, draws, words)?;
         let command = is_command(alloc, &list)?;
         let usage = ends_with_usage(rt, alloc, &list)?;
         assert!(rt; command != usage, "{:?} is read otherwise", list.as_slice());
@@ -134,7 +118,7 @@ fn read_drawn<R: Threads + Sync + Abort>(
 #[test]
 fn drawn_words_are_read_as_a_plain_reading_says(rt: HostRuntime) -> Result<(), Fail> {
     let alloc = rt.alloc();
-    let mut draws = Draws { state: 1 };
+    let mut draws = Draws::from_seed(1);
     for words in [CHECK, AUDIT] {
         let commands = read_drawn(&rt, alloc, &mut draws, words)?;
         assert!(rt;

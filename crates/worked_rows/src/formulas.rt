@@ -1,95 +1,52 @@
 //! Formulas that are refused.
 
 use crate::models::{COIN_LOOP, GOAL_AT_1};
-use crate::rows::{plain_row, refuses};
+use crate::rows::{plain_row, push_times, refuses};
 use std::alloc::Global;
 use std::process::Abort;
 use std::test::Fail;
 use std::thread::Threads;
 
+// The formula is refused at this place for this cause.
 fn refused<R: Threads + Sync + Abort>(
     rt: &R,
     alloc: Global,
     formula: &str,
-    text: &str,
+    cause: &str,
 ) -> Result<(), Fail> {
-    refuses(rt, alloc, plain_row(COIN_LOOP, GOAL_AT_1, formula), text)
+    let text = format!(in alloc; "refused formula place {cause}\n")?;
+    let row = plain_row(COIN_LOOP, GOAL_AT_1, formula);
+    refuses(rt, alloc, row, text.as_str())
 }
 
 #[test]
 fn formulas_are_refused_at_their_place(rt: HostRuntime) -> Result<(), Fail> {
-    let alloc = rt.alloc();
-    refused(
-        &rt,
-        alloc,
-        "Pmax=? [ F goal ]",
-        "refused formula place 11 Unexpected\n",
-    )?;
-    refused(
-        &rt,
-        alloc,
-        "P>=1.5 [ F true ]",
-        "refused formula place 3 ThresholdOutOfRange\n",
-    )?;
-    refused(
-        &rt,
-        alloc,
-        "P>=0.5 [ F \"goal\"",
-        "refused formula place 17 End\n",
-    )?;
-    refused(
-        &rt,
-        alloc,
-        "P>=0.5 [ X \"goal\" ]",
-        "refused formula place 9 NotYet\n",
-    )?;
-    refused(
-        &rt,
-        alloc,
-        "P>=1/0 [ F true ]",
-        "refused formula place 3 BadNumber ZeroDenominator\n",
-    )?;
-    refused(
-        &rt,
-        alloc,
-        "P>=0.5 [ F<=3 \"goal\" ]",
-        "refused formula place 10 NotYet\n",
-    )?;
-    refused(
-        &rt,
-        alloc,
-        "P>=0.5 [ F P>=0.5 [ F \"goal\" ] ]",
-        "refused formula place 11 NotYet\n",
-    )
+    for (formula, cause) in [
+        ("Pmax=? [ F goal ]", "11 Unexpected"),
+        ("P>=1.5 [ F true ]", "3 ThresholdOutOfRange"),
+        ("P>=0.5 [ F \"goal\"", "17 End"),
+        ("P>=0.5 [ X \"goal\" ]", "9 NotYet"),
+        ("P>=1/0 [ F true ]", "3 BadNumber ZeroDenominator"),
+        ("P>=0.5 [ F<=3 \"goal\" ]", "10 NotYet"),
+        ("P>=0.5 [ F P>=0.5 [ F \"goal\" ] ]", "11 NotYet"),
+    ] {
+        refused(&rt, rt.alloc(), formula, cause)?;
+    }
+    Ok(())
 }
 
 #[test]
-fn formulas_that_nest_too_deep_are_refused(rt: HostRuntime) -> Result<(), Fail> {
+fn formulas_that_nest_too_deep_or_are_too_long_are_refused(rt: HostRuntime) -> Result<(), Fail> {
     let alloc = rt.alloc();
-    let mut deep = String::from_str(alloc, "Pmax=? [ F ")?;
-    for _ in 0..65 {
-        deep.push_str("!")?;
+    for (front, sign, times, back, cause) in [
+        ("Pmax=? [ F ", "!", 65, "true ]", "75 TooDeep"),
+        ("Pmax=? [ F ", "(", 65, "", "75 TooDeep"),
+        ("Pmax=? [ F true ]", " ", 4080, "", "4096 TooLong"),
+    ] {
+        let mut formula = String::from_str(alloc, front)?;
+        push_times(&mut formula, sign, times)?;
+        formula.push_str(back)?;
+        refused(&rt, alloc, formula.as_str(), cause)?;
     }
-    deep.push_str("true ]")?;
-    refused(
-        &rt,
-        alloc,
-        deep.as_str(),
-        "refused formula place 75 TooDeep\n",
-    )
-}
-
-#[test]
-fn formulas_that_are_too_long_are_refused(rt: HostRuntime) -> Result<(), Fail> {
-    let alloc = rt.alloc();
-    let mut long = String::from_str(alloc, "Pmax=? [ F true ]")?;
-    for _ in 0..4080 {
-        long.push_str(" ")?;
-    }
-    refused(
-        &rt,
-        alloc,
-        long.as_str(),
-        "refused formula place 4096 TooLong\n",
-    )
+    Ok(())
 }

@@ -7,19 +7,37 @@
 #[cfg(test)]
 mod adapters;
 #[cfg(test)]
+mod answers;
+#[cfg(test)]
 mod audit_faults;
 #[cfg(test)]
 mod audits;
 #[cfg(test)]
+mod cases;
+#[cfg(test)]
 mod certificates;
+#[cfg(test)]
+mod commands;
+#[cfg(test)]
+mod damaged;
+#[cfg(test)]
+mod drawn_texts;
 #[cfg(test)]
 mod drawn_words;
 #[cfg(test)]
-mod faults;
+mod draws;
+#[cfg(test)]
+mod failing_calls;
 #[cfg(test)]
 mod formulas;
 #[cfg(test)]
+mod hostile_files;
+#[cfg(test)]
 mod labels;
+#[cfg(test)]
+mod late_workers;
+#[cfg(test)]
+mod long_texts;
 #[cfg(test)]
 mod made;
 #[cfg(test)]
@@ -27,7 +45,11 @@ mod models;
 #[cfg(test)]
 mod other_certificates;
 #[cfg(test)]
+mod pieces;
+#[cfg(test)]
 mod plain_reading;
+#[cfg(test)]
+mod random_cuts;
 #[cfg(test)]
 mod rows;
 #[cfg(test)]

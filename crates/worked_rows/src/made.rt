@@ -1,6 +1,6 @@
 //! Games that a seed draws.
 
-use crate::models::USAGE;
+use crate::models::{OF_THREE_STATES, USAGE};
 use crate::rows::{ends, words};
 use game_outside::{Gate, HoldGate, OpenGate, SteadyShelf};
 use std::alloc::Global;
@@ -9,9 +9,6 @@ use std::sync::atomic::{AtomicU32, Ordering};
 use std::test::Fail;
 use std::thread::Threads;
 use stogame_app::Status;
-
-const OF_THREE_STATES: &str =
-    "model seed 1 states 3 zero 1 lower 1470588235294 upper 1470588235295 settled\n";
 
 // How a run with these words ends that has no file, and what it writes.
 fn ends_with<R: Threads + Sync + Abort, G: Gate + Sync>(

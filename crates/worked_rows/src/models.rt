@@ -35,6 +35,13 @@ pub const LOOP_OR_COIN: &str = "3 4 5\n0 0 0 1\n0 1 1 0.5\n0 1 2 0.5\n1 0 1 1\n2
 pub const COIN_LOOP_REPORT: &str =
     "state 0 lower 0.499999999999 upper 0.500000000000 rounds 40 Bracket\n";
 
+/// What the threshold 0.6 of the first of two players reports.
+pub const FIRST_IS_TRUE: &str = "state 0 lower 0.650000000000 upper 0.650000000000 rounds 1 True\n";
+
+/// What the game of three states that seed 1 draws reports.
+pub const OF_THREE_STATES: &str =
+    "model seed 1 states 3 zero 1 lower 1470588235294 upper 1470588235295 settled\n";
+
 /// What words that denote no command report.
 pub const USAGE: &str =
     "usage: stogame check TRA LAB FORMULA [--own FILE] [--rounds R] [--workers W] [--plan] | audit TRA LAB FORMULA CERT [--own FILE] | make SEED STATES [--rounds R] [--workers W]\n";

@@ -1,8 +1,6 @@
 //! Rows: files in memory and words, run, and what is written.
 
-use game_outside::{
-    Gate, HeldFile, MemShelf, MemSink, Name, OpenGate, Shelf, SteadyShelf, SteadySink,
-};
+use game_outside::{Gate, HeldFile, Name, OpenGate, Shelf, SteadyShelf, SteadySink};
 use std::alloc::Global;
 use std::process::Abort;
 use std::test::Fail;
@@ -60,6 +58,28 @@ pub fn files(alloc: Global, row: Row<'_>) -> Result<Vec<HeldFile>, Fail> {
     Ok(files)
 }
 
+/// These files, with one in front: of two files of one name the first counts.
+pub fn with_file(
+    alloc: Global,
+    front: HeldFile,
+    others: Vec<HeldFile>,
+) -> Result<Vec<HeldFile>, Fail> {
+    let mut held = Vec::new(alloc);
+    held.push(front)?;
+    for other in others {
+        held.push(other)?;
+    }
+    Ok(held)
+}
+
+/// Adds so many times the same part to a text.
+pub fn push_times(text: &mut String, part: &str, times: u32) -> Result<(), Fail> {
+    for _ in 0..times {
+        text.push_str(part)?;
+    }
+    Ok(())
+}
+
 /// These words.
 pub fn words(alloc: Global, words: &[&str]) -> Result<Vec<String>, Fail> {
     let mut owned = Vec::new(alloc);
@@ -75,7 +95,8 @@ pub fn add_words(alloc: Global, owned: &mut Vec<String>, words: &[&str]) -> Resu
     Ok(())
 }
 
-fn row_words(alloc: Global, row: Row<'_>) -> Result<Vec<String>, Fail> {
+/// The words that check a row.
+pub fn row_words(alloc: Global, row: Row<'_>) -> Result<Vec<String>, Fail> {
     let mut owned = words(alloc, &["check", "m.tra", "m.lab", row.formula])?;
     if row.own.is_some() {
         add_words(alloc, &mut owned, &["--own", "m.own"])?;
@@ -138,29 +159,4 @@ pub fn refuses<R: Threads + Sync + Abort>(
     text: &str,
 ) -> Result<(), Fail> {
     writes(rt, alloc, row, text, Status::ModelRefused)
-}
-
-/// The row over a shelf that gives pieces of 8 bytes and a sink that takes at most 7, of which the named calls fail.
-pub fn fails<R: Threads + Sync + Abort>(
-    rt: &R,
-    alloc: Global,
-    row: Row<'_>,
-    read_fails: &[u64],
-    write_fails: &[u64],
-    text: &str,
-    status: Status,
-) -> Result<(), Fail> {
-    let words = row_words(alloc, row)?;
-    let mut shelf = MemShelf::new(files(alloc, row)?, 8, read_fails.to_vec(alloc)?);
-    let mut out = MemSink::new(alloc, 7, write_fails.to_vec(alloc)?);
-    if out.reserve(1000).is_err() {
-        return Err(Fail::new("no memory"));
-    }
-    let ended = run(rt, alloc, &words, &mut shelf, &mut out, &OpenGate {});
-    assert!(rt; ended == status, "the status is {ended:?}");
-    let Some(written) = out.bytes() else {
-        return Err(Fail::new("the text is lost"));
-    };
-    assert_eq!(rt; written, text.as_bytes());
-    Ok(())
 }

@@ -54,74 +54,41 @@ fn states_of_value_0_have_the_upper_bound_0(rt: HostRuntime) -> Result<(), Fail>
     writes(&rt, alloc, least, zero, Status::Fine)
 }
 
+// Models whose state 0 goes to the goal, state 1, and to the other states.
+const THIRDS: &str =
+    "4 4 6\n0 0 1 0.33333333333333331\n0 0 2 0.33333333333333331\n0 0 3 0.33333333333333331\n1 0 1 1\n2 0 2 1\n3 0 3 1\n";
+
+const CHAIN: &str = "3 4\r\n0 1 0.3\r\n0 2 0.7\r\n1 1 1\r\n2 2 1\r\n\r\n\r\n";
+
+const MIXED: &str =
+    "3 4 8\n0 0 1 1e-05\n0 0 2 0.99999\n0 1 1 1/3\n0 1 2 1/3\n0 1 2 1/3\n0 1 0 0\n1 0 1 1\n2 0 2 1\n";
+
+const ROUNDED: &str = "3 3 4\n0 0 1 0.5\n0 0 2 0.50001\n1 0 1 1\n2 0 2 1\n";
+
+const FINE: &str =
+    "3 3 4\n0 0 1 0.000000000000000000000001\n0 0 2 0.999999999999999999999999\n1 0 1 1\n2 0 2 1\n";
+
+const WIDE: &str =
+    "3 3 4\n0 0 1 0.333333333333333333333\n0 0 2 0.666666666666666666667\n1 0 1 1\n2 0 2 1\n";
+
 #[test]
 fn decimals_and_fractions_are_exact(rt: HostRuntime) -> Result<(), Fail> {
     let alloc = rt.alloc();
-    let reach = "Pmax=? [ F \"goal\" ]";
-    let thirds =
-        "4 4 6\n0 0 1 0.33333333333333331\n0 0 2 0.33333333333333331\n0 0 3 0.33333333333333331\n1 0 1 1\n2 0 2 1\n3 0 3 1\n";
-    let third = "state 0 lower 0.333333333333 upper 0.333333333334 rounds 2 Bracket\n";
-    writes(
-        &rt,
-        alloc,
-        plain_row(thirds, GOAL_AT_1, reach),
-        third,
-        Status::Fine,
-    )?;
-    let chain = "3 4\r\n0 1 0.3\r\n0 2 0.7\r\n1 1 1\r\n2 2 1\r\n\r\n\r\n";
-    let three = "state 0 lower 0.300000000000 upper 0.300000000000 rounds 2 Bracket\n";
-    writes(
-        &rt,
-        alloc,
-        plain_row(chain, GOAL_AT_1, reach),
-        three,
-        Status::Fine,
-    )?;
-    let mixed =
-        "3 4 8\n0 0 1 1e-05\n0 0 2 0.99999\n0 1 1 1/3\n0 1 2 1/3\n0 1 2 1/3\n0 1 0 0\n1 0 1 1\n2 0 2 1\n";
-    writes(
-        &rt,
-        alloc,
-        plain_row(mixed, GOAL_AT_1, reach),
-        third,
-        Status::Fine,
-    )?;
-    let small = "state 0 lower 0.000010000000 upper 0.000010000000 rounds 2 Bracket\n";
-    writes(
-        &rt,
-        alloc,
-        plain_row(mixed, GOAL_AT_1, "Pmin=? [ F \"goal\" ]"),
-        small,
-        Status::Fine,
-    )?;
-    let rounded = "3 3 4\n0 0 1 0.5\n0 0 2 0.50001\n1 0 1 1\n2 0 2 1\n";
-    let divided = "state 0 lower 0.499995000049 upper 0.499995000050 rounds 2 Bracket\n";
-    writes(
-        &rt,
-        alloc,
-        plain_row(rounded, GOAL_AT_1, reach),
-        divided,
-        Status::Fine,
-    )?;
-    let fine =
-        "3 3 4\n0 0 1 0.000000000000000000000001\n0 0 2 0.999999999999999999999999\n1 0 1 1\n2 0 2 1\n";
-    let less = "state 0 lower 0.000000000000 upper 0.000000000001 rounds 2 Bracket\n";
-    writes(
-        &rt,
-        alloc,
-        plain_row(fine, GOAL_AT_1, reach),
-        less,
-        Status::Fine,
-    )?;
-    let wide =
-        "3 3 4\n0 0 1 0.333333333333333333333\n0 0 2 0.666666666666666666667\n1 0 1 1\n2 0 2 1\n";
-    writes(
-        &rt,
-        alloc,
-        plain_row(wide, GOAL_AT_1, reach),
-        third,
-        Status::Fine,
-    )
+    for (tra, side, bounds) in [
+        (THIRDS, "max", "lower 0.333333333333 upper 0.333333333334"),
+        (CHAIN, "max", "lower 0.300000000000 upper 0.300000000000"),
+        (MIXED, "max", "lower 0.333333333333 upper 0.333333333334"),
+        (MIXED, "min", "lower 0.000010000000 upper 0.000010000000"),
+        (ROUNDED, "max", "lower 0.499995000049 upper 0.499995000050"),
+        (FINE, "max", "lower 0.000000000000 upper 0.000000000001"),
+        (WIDE, "max", "lower 0.333333333333 upper 0.333333333334"),
+    ] {
+        let formula = format!(in alloc; "P{side}=? [ F \"goal\" ]")?;
+        let row = plain_row(tra, GOAL_AT_1, formula.as_str());
+        let text = format!(in alloc; "state 0 {bounds} rounds 2 Bracket\n")?;
+        writes(&rt, alloc, row, text.as_str(), Status::Fine)?;
+    }
+    Ok(())
 }
 
 #[test]

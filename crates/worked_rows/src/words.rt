@@ -186,64 +186,31 @@ fn a_number_out_of_range_gives_the_usage_line(rt: HostRuntime) -> Result<(), Fai
     Ok(())
 }
 
+// The words of a line, in which FORMULA stands for the formula.
+fn with_formula<'a>(alloc: Global, line: &'a str) -> Result<Vec<&'a str>, Fail> {
+    let mut given = Vec::new(alloc);
+    for word in line.split(' ') {
+        if word == "FORMULA" {
+            given.push(REACH)?;
+        } else {
+            given.push(word)?;
+        }
+    }
+    Ok(given)
+}
+
 #[test]
 fn options_stand_anywhere(rt: HostRuntime) -> Result<(), Fail> {
     let alloc = rt.alloc();
-    let report = COIN_LOOP_REPORT;
-    let fine = Status::Fine;
-    for given in [
-        [
-            "check",
-            "m.tra",
-            "m.lab",
-            REACH,
-            "--workers",
-            "1",
-            "--rounds",
-            "99",
-        ],
-        [
-            "check",
-            "--rounds",
-            "99",
-            "m.tra",
-            "--workers",
-            "1",
-            "m.lab",
-            REACH,
-        ],
-        [
-            "check",
-            "m.tra",
-            "--workers=1",
-            "m.lab",
-            REACH,
-            "--rounds=+099",
-            "--own",
-            "m.own",
-        ],
-        [
-            "check",
-            "--own=m.own",
-            "--rounds=1000000",
-            "--workers=64",
-            "--",
-            "m.tra",
-            "m.lab",
-            REACH,
-        ],
-        [
-            "check",
-            "m.tra",
-            "m.lab",
-            "--workers",
-            "007",
-            "--rounds",
-            "+50",
-            REACH,
-        ],
+    for line in [
+        "check m.tra m.lab FORMULA --workers 1 --rounds 99",
+        "check --rounds 99 m.tra --workers 1 m.lab FORMULA",
+        "check m.tra --workers=1 m.lab FORMULA --rounds=+099 --own m.own",
+        "check --own=m.own --rounds=1000000 --workers=64 -- m.tra m.lab FORMULA",
+        "check m.tra m.lab --workers 007 --rounds +50 FORMULA",
     ] {
-        writes(&rt, alloc, &given, report, fine)?;
+        let given = with_formula(alloc, line)?;
+        writes(&rt, alloc, &given, COIN_LOOP_REPORT, Status::Fine)?;
     }
     Ok(())
 }

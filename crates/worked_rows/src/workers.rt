@@ -1,8 +1,7 @@
 //! Rounds and workers.
 
-use crate::models::{
-    AGREEMENT, AGREEMENT_LABELS, AGREEMENT_OWNERS, COIN_LOOP, COIN_LOOP_REPORT, GOAL_AT_1,
-};
+use crate::cases::{MOST_OF_AGREEMENT, MOST_OF_COIN_LOOP};
+use crate::models::COIN_LOOP_REPORT;
 use crate::rows::{Row, runs, writes};
 use game_outside::{Gate, HoldGate, OpenGate};
 use std::alloc::Global;
@@ -12,23 +11,18 @@ use std::test::Fail;
 use std::thread::Threads;
 use stogame_app::Status;
 
-const REACH: &str = "Pmax=? [ F \"goal\" ]";
-
 /// What stands before the number of rounds in the agreement's line.
 const AGREED: &str = "state 0 lower 0.839999999999 upper 0.840000000000 rounds ";
 
 fn agreement<'a>(numbers: &'a [&'a str]) -> Row<'a> {
     Row {
-        tra: AGREEMENT,
-        lab: AGREEMENT_LABELS,
-        own: Some(AGREEMENT_OWNERS),
-        formula: "<<p1>> Pmax=? [ \"ok\" U \"done\" ]",
         numbers,
+        ..MOST_OF_AGREEMENT
     }
 }
 
-// The agreement's bounds are those of one worker, whatever the number of rounds; there is one line.
-fn agrees<R: Threads + Sync + Abort, G: Gate + Sync>(
+/// The agreement's bounds are those of one worker, whatever the number of rounds; there is one line.
+pub fn agrees<R: Threads + Sync + Abort, G: Gate + Sync>(
     rt: &R,
     alloc: Global,
     workers: &str,
@@ -79,11 +73,8 @@ impl Gate for CountGate {
 // The coin loop with at most these rounds, and with three workers.
 fn coin_loop<'a>(numbers: &'a [&'a str]) -> Row<'a> {
     Row {
-        tra: COIN_LOOP,
-        lab: GOAL_AT_1,
-        own: None,
-        formula: REACH,
         numbers,
+        ..MOST_OF_COIN_LOOP
     }
 }
 

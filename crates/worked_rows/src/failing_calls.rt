@@ -1,0 +1,118 @@
+//! Every call of the shelf and of the sink fails in turn.
+
+use crate::cases::{
+    AUDIT_OF_LOOP_OR_COIN, AUDIT_OF_TWO_PLAYERS, CHECK_OF_AGREEMENT, CHECK_OF_COIN_LOOP,
+    COIN_LOOP_OUT_OF_ORDER, Case, DRAWN_GAME, NO_COMMAND, OTHER_VERSION, PLAN_OF_LOOP_OR_COIN,
+    PLAN_OF_TWO_PLAYERS, STATE_OUT_OF_RANGE,
+};
+use crate::commands::{Ended, Outside, STEP, ends_over};
+use std::alloc::Global;
+use std::process::Abort;
+use std::test::Fail;
+use std::thread::Threads;
+use stogame_app::Status;
+
+/// More calls than a command makes.
+const MOST_CALLS: u64 = 1000;
+
+const CASES: [Case<'static>; 11] = [
+    CHECK_OF_COIN_LOOP,
+    COIN_LOOP_OUT_OF_ORDER,
+    CHECK_OF_AGREEMENT,
+    PLAN_OF_LOOP_OR_COIN,
+    AUDIT_OF_LOOP_OR_COIN,
+    PLAN_OF_TWO_PLAYERS,
+    AUDIT_OF_TWO_PLAYERS,
+    STATE_OUT_OF_RANGE,
+    OTHER_VERSION,
+    DRAWN_GAME,
+    NO_COMMAND,
+];
+
+// A run without a fault is that of the case.
+fn is_whole<R: Abort>(rt: &R, case: Case<'_>, ended: &Ended) -> Result<(), Fail> {
+    let text = case.text;
+    assert_eq!(rt; ended.written.as_slice(), text.as_bytes());
+    assert!(rt; ended.status == case.status, "the status of {text}");
+    Ok(())
+}
+
+// A run where a call of the shelf fails writes nothing. It gives how many calls a run without a fault makes.
+fn each_reading_fails<R: Threads + Sync + Abort>(
+    rt: &R,
+    alloc: Global,
+    case: Case<'_>,
+) -> Result<u64, Fail> {
+    for call in 1..MOST_CALLS {
+        let outside = Outside {
+            piece: 8,
+            reads: &[call],
+            writes: &[],
+        };
+        let ended = ends_over(rt, alloc, case.command, outside)?;
+        if ended.read_faults == 0 {
+            is_whole(rt, case, &ended)?;
+            return Ok(call - 1);
+        }
+        assert!(rt; ended.status == Status::ReadFault, "call {call}");
+        assert!(rt; ended.written.is_empty(), "call {call}");
+    }
+    Err(Fail::new("each run has a fault"))
+}
+
+// A run where a call of the sink fails leaves what the earlier calls took, whatever its status would have been.
+fn each_writing_fails<R: Threads + Sync + Abort>(
+    rt: &R,
+    alloc: Global,
+    case: Case<'_>,
+) -> Result<(), Fail> {
+    for call in 1..MOST_CALLS {
+        let outside = Outside {
+            piece: 8,
+            reads: &[],
+            writes: &[call],
+        };
+        let ended = ends_over(rt, alloc, case.command, outside)?;
+        if ended.write_faults == 0 {
+            return is_whole(rt, case, &ended);
+        }
+        let taken = (call as usize - 1) * STEP;
+        assert!(rt; ended.status == Status::WriteFault, "call {call}");
+        assert_eq!(rt; ended.written.len(), taken, "call {call}");
+        assert!(rt;
+            case.text.as_bytes().starts_with(&ended.written),
+            "call {call}"
+        );
+    }
+    Err(Fail::new("each run has a fault"))
+}
+
+#[test]
+fn a_shelf_that_fails_leaves_nothing_written(rt: HostRuntime) -> Result<(), Fail> {
+    for case in CASES {
+        let _calls = each_reading_fails(&rt, rt.alloc(), case)?;
+    }
+    Ok(())
+}
+
+// In pieces of 8 bytes the transition file, of 54 bytes, takes 9 calls with its beginning and its end, and the label file 6.
+#[test]
+fn a_file_out_of_order_fails_in_each_call_of_both_readings(rt: HostRuntime) -> Result<(), Fail> {
+    for (case, calls) in [
+        (CHECK_OF_COIN_LOOP, 9 + 6),
+        (COIN_LOOP_OUT_OF_ORDER, 2 * 9 + 6),
+        (DRAWN_GAME, 0),
+        (NO_COMMAND, 0),
+    ] {
+        assert_eq!(rt; each_reading_fails(&rt, rt.alloc(), case)?, calls);
+    }
+    Ok(())
+}
+
+#[test]
+fn a_sink_that_fails_leaves_a_front_of_the_text(rt: HostRuntime) -> Result<(), Fail> {
+    for case in CASES {
+        each_writing_fails(&rt, rt.alloc(), case)?;
+    }
+    Ok(())
+}

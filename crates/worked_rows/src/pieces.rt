@@ -1,0 +1,87 @@
+//! Files in pieces of any size.
+
+use crate::cases::{
+    AUDIT_OF_TWO_PLAYERS, CHECK_OF_AGREEMENT, CHECK_OF_COIN_LOOP, Case, MOST_OF_COIN_LOOP,
+    PLAN_OF_TWO_PLAYERS, STATE_OUT_OF_RANGE,
+};
+use crate::commands::{Command, Outside, gives};
+use crate::rows::Row;
+use std::alloc::Global;
+use std::process::Abort;
+use std::test::Fail;
+use std::thread::Threads;
+use stogame_app::Status;
+
+/// A chain in lines that end in CR and LF, with blank lines behind it.
+const CHAIN_IN_CRLF: Case<'static> = Case {
+    command: Command::Check(Row {
+        tra: "3 4\r\n0 1 0.3\r\n0 2 0.7\r\n1 1 1\r\n2 2 1\r\n\r\n\r\n",
+        ..MOST_OF_COIN_LOOP
+    }),
+    text: "state 0 lower 0.300000000000 upper 0.300000000000 rounds 2 Bracket\n",
+    status: Status::Fine,
+};
+
+/// A mark of an index that the header does not name.
+const UNKNOWN_INDEX: Case<'static> = Case {
+    command: Command::Check(Row {
+        lab: "0=\"init\" 1=\"goal\"\n0: 0\n1: 7\n",
+        ..MOST_OF_COIN_LOOP
+    }),
+    text: "refused lab line 3 UnknownIndex\n",
+    status: Status::ModelRefused,
+};
+
+/// A case gives the same in pieces of each size.
+pub fn gives_in_pieces<R: Threads + Sync + Abort>(
+    rt: &R,
+    alloc: Global,
+    case: Case<'_>,
+) -> Result<(), Fail> {
+    for piece in [1, 7, 8, 4096, 5000] {
+        let outside = Outside {
+            piece,
+            reads: &[],
+            writes: &[],
+        };
+        gives(rt, alloc, case.command, outside, case.text, case.status)?;
+    }
+    Ok(())
+}
+
+#[test]
+fn pieces_of_any_size_make_no_difference(rt: HostRuntime) -> Result<(), Fail> {
+    for case in [
+        CHECK_OF_COIN_LOOP,
+        CHECK_OF_AGREEMENT,
+        PLAN_OF_TWO_PLAYERS,
+        AUDIT_OF_TWO_PLAYERS,
+        CHAIN_IN_CRLF,
+        STATE_OUT_OF_RANGE,
+        UNKNOWN_INDEX,
+    ] {
+        gives_in_pieces(&rt, rt.alloc(), case)?;
+    }
+    Ok(())
+}
+
+// The transition file has 54 bytes, and a call more tells its end. The second piece of the label file fails, or its end.
+#[test]
+fn a_label_file_that_fails_writes_nothing(rt: HostRuntime) -> Result<(), Fail> {
+    for (piece, call) in [(1, 59), (7, 13), (8, 12), (4096, 6)] {
+        let outside = Outside {
+            piece,
+            reads: &[call],
+            writes: &[],
+        };
+        gives(
+            &rt,
+            rt.alloc(),
+            CHECK_OF_COIN_LOOP.command,
+            outside,
+            "",
+            Status::ReadFault,
+        )?;
+    }
+    Ok(())
+}
