@@ -21,7 +21,7 @@ pub record IsFirstLine (states : ℕ) (line : List ℕ) : Type 0 where
   pub fields : fields_of line ≡ codes "certificate" ∷ codes "1" ∷ count ∷ []
   pub spelled : number_of count ≡ Some states
 
--- the text has a certificate of these entries: lines that begin with another word, its first line, a line for each entry, and blank lines
+-- the text has a certificate of these entries: lines that do not begin with the word, its first line, a line for each entry, and blank lines
 pub record IsCertificate (text : List ℕ) (entries : List Entry) : Type 0 where
   pub before : List (List ℕ)
   pub first : List ℕ

@@ -1,4 +1,5 @@
-// Brackets of the tests.
+//! Brackets of the tests.
+
 ghost use Rattle.std.specs.Prelude.{◌≤◌, ◌<◌, [], ◌∷◌, All, IfSome};
 ghost use Rattle.game_model.specs.Query.{states};
 ghost use Rattle.game_model.specs.Dual.{IsZeroSet};

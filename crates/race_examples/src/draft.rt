@@ -1,4 +1,5 @@
-// Games from lists of edges.
+//! Games from lists of edges.
+
 ghost use Rattle.std.specs.Prelude.{◌≡◌, ℕ, ◌+◌, ◌*◌, ◌<◌, ◌≤◌, All, IfSome, length, slice_index_or, true, false};
 ghost use Rattle.game_model.specs.Limits.{most_choices};
 ghost use Rattle.std.specs.Bool.{OnTrue};

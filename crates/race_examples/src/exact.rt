@@ -1,4 +1,5 @@
-// Exact values of the tests, in units.
+//! Exact values of the tests, in units.
+
 use game_model::Question;
 use reference_values::numerators;
 use std::alloc::Global;

@@ -1,4 +1,5 @@
-// The games of the tests.
+//! The games of the tests.
+
 use crate::draft::{Draft, question};
 use game_model::{Game, Question, Side};
 use std::alloc::Global;

@@ -1,4 +1,5 @@
-// Certificates line by line, and wrong ones that are made of them.
+//! Certificates line by line, and wrong ones that are made of them.
+
 use game_model::UNIT;
 use plan_text::Plan;
 use std::alloc::Global;

@@ -1,4 +1,5 @@
-// Games where one side plays a plan.
+//! Games where one side plays a plan.
+
 ghost use Rattle.std.specs.Prelude.{◌<◌, length};
 ghost use Rattle.game_model.specs.Game.{choices_of};
 ghost use Rattle.game_model.specs.Query.{states};

@@ -1,4 +1,5 @@
-// Random small games, and plain sweeps and guesses over them.
+//! Random small games, and plain sweeps and guesses over them.
+
 ghost use Rattle.std.specs.Prelude.{◌≡◌, ◌<◌, ◌≤◌, All, IfSome, length};
 ghost use Rattle.game_model.specs.Query.{states};
 ghost use Rattle.game_model.specs.Limits.{unit};

@@ -1,5 +1,6 @@
-// Structured games of one player, made as the tool of the measurements makes its models: the states are numbered and
-// the weights are per cent as there.
+//! Structured games of one player, made as the tool of the measurements makes its models: the states are numbered and
+//! the weights are per cent as there.
+
 pub mod coin;
 pub mod contract;
 mod numbered;

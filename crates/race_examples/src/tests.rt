@@ -1,4 +1,5 @@
-// Races on the games.
+//! Races on the games.
+
 ghost use Rattle.std.specs.Prelude.{◌≡◌, ◌≤◌, All, IfSome, length, vec_len};
 ghost use Rattle.game_model.specs.Limits.{unit};
 ghost use Rattle.game_model.specs.Query.{states};

@@ -1,4 +1,5 @@
-// A place in a text.
+//! A place in a text.
+
 ghost use Rattle.std.specs.Prelude.{◌≤◌, ◌+◌, length};
 ghost use Rattle.rpatl_syntax.specs.Limits.{longest};
 

@@ -1,4 +1,5 @@
-// Why a text is no formula.
+//! Why a text is no formula.
+
 ghost use Rattle.std.specs.Prelude.{◌≡◌};
 ghost use Rattle.rpatl_syntax.specs.Fault.{fault_at};
 

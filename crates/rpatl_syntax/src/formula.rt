@@ -1,4 +1,5 @@
-// Formulas as values.
+//! Formulas as values.
+
 ghost use Rattle.std.specs.Prelude.{◌≡◌};
 
 use distributions::Frac;

@@ -1,4 +1,5 @@
-// What stands at the front of a text.
+//! What stands at the front of a text.
+
 ghost use Rattle.std.specs.Prelude.{◌≡◌, ◌≤◌, ◌<◌, ◌+◌, length};
 ghost use Rattle.rpatl_syntax.specs.Cursor.{Fits};
 ghost use Rattle.rpatl_syntax.specs.Limits.{longest};

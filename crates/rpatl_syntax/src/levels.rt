@@ -1,4 +1,5 @@
-// The operators of state formulas, from the one that binds weakest.
+//! The operators of state formulas, from the one that binds weakest.
+
 ghost use Rattle.std.specs.Prelude.{◌≡◌, MatchResult};
 ghost use Rattle.rpatl_syntax.specs.Fault.{IsOutOfMemory};
 ghost use Rattle.rpatl_syntax.specs.Formula.{state_of, Not};

@@ -1,4 +1,4 @@
-// The limits of formulas, each in one place.
+//! The limits of formulas, each in one place.
 
 /// The most bytes of a text.
 pub const LONGEST: usize = 4096;

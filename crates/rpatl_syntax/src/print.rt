@@ -1,4 +1,5 @@
-// The one spelling of a formula.
+//! The one spelling of a formula.
+
 ghost use Rattle.std.specs.Prelude.{◌≡◌, ◌≤◌, ◌++◌, length, option_map, Ok, OnOk, IfOk, decimal};
 ghost use Rattle.rpatl_syntax.specs.Formula.{state_of, tree_of, names_of};
 ghost use Rattle.rpatl_syntax.specs.Grammar.{formula_said};

@@ -1,4 +1,5 @@
-// Formulas.
+//! Formulas.
+
 ghost use Rattle.std.specs.Prelude.{◌≡◌, ◌<◌, ◌+◌, ◌-◌, ◌++◌, ◌∷◌, [], option_map, Ok, IfOk, OnOk, IfErr};
 ghost use Rattle.rpatl_syntax.specs.Fault.{Gives, Says, IsOutOfMemory};
 ghost use Rattle.rpatl_syntax.specs.Formula.{Tree, tree_of, names_of};

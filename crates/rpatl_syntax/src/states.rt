@@ -1,4 +1,5 @@
-// State formulas.
+//! State formulas.
+
 ghost use Rattle.std.specs.Prelude.{◌≡◌, ◌<◌, ◌+◌, MatchResult};
 ghost use Rattle.rpatl_syntax.specs.Fault.{Gives, IsOutOfMemory};
 ghost use Rattle.rpatl_syntax.specs.Grammar.{plain, unary, nested, state, unquoted};

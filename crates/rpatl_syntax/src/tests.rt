@@ -1,4 +1,5 @@
-// Formulas as texts: what is read, how it is printed, and each fault with its place.
+//! Formulas as texts: what is read, how it is printed, and each fault with its place.
+
 use crate::fault::{FormulaCause, FormulaFault};
 use crate::print::print_formula;
 use crate::read::read_formula;

@@ -1,4 +1,5 @@
-// A text as tokens, one after another.
+//! A text as tokens, one after another.
+
 ghost use Rattle.std.specs.Prelude.{◌≡◌, ◌≤◌, ◌<◌, ◌+◌, length, take, drop, bytes_eq, option_map};
 ghost use Rattle.rpatl_syntax.specs.Fault.{Says, fault_at};
 ghost use Rattle.rpatl_syntax.specs.Grammar.{next, behind, follows};

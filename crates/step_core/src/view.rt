@@ -1,4 +1,5 @@
-// What one view has seen.
+//! What one view has seen.
+
 ghost use Rattle.std.specs.Prelude.{◌≡◌, ℕ, ◌<◌, List, [], length, Some, None, IsSome, is_some, slice_set, unwrap_or, IfOk, map};
 ghost use Rattle.step_core.specs.Word.{values_of, greater_words};
 

@@ -1,4 +1,5 @@
-// Worlds, and what each event does to one.
+//! Worlds, and what each event does to one.
+
 ghost use Rattle.std.specs.Prelude.{◌≡◌, ◌≢◌, ◌<◌, ◌⊎◌, List, Bool, false, Some, None, is_some, slice_index, slice_set, option_map, IfOk, IfErr, OnOk, OnErr};
 ghost use Rattle.game_model.specs.Query.{states};
 ghost use Rattle.step_core.specs.Word.{choice_in, value_at};

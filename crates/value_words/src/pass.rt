@@ -1,4 +1,5 @@
-// The right to step on a table.
+//! The right to step on a table.
+
 ghost use Rattle.std.specs.Prelude.{◌≡◌, ℕ, ◌<◌, ◌≤◌, [], length, true};
 ghost use Rattle.game_model.specs.Query.{states, is_goal};
 ghost use Rattle.game_model.specs.Limits.{unit};

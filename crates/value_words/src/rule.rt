@@ -1,4 +1,5 @@
-// The rule of the words, and what each step tells.
+//! The rule of the words, and what each step tells.
+
 use atomic_table::{Join, Play, Split, TableRule};
 use std::collections::LinkedList;
 use std::marker::{Brand, PhantomData};

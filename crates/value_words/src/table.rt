@@ -1,4 +1,5 @@
-// The table, and its steps.
+//! The table, and its steps.
+
 ghost use Rattle.std.specs.Prelude.{◌≡◌, ◌≢◌, ℕ, ◌+◌, ◌/◌, ◌<◌, ◌≤◌, ◌⊎◌, true, false, length, slice_index, slice_set, All, IfOk, MatchBool};
 ghost use Rattle.game_model.specs.Query.{Query, IsQuery, states, is_goal, is_dead};
 ghost use Rattle.game_model.specs.Limits.{unit};
