@@ -32,7 +32,7 @@ two : number_said (codes "2") ≡ Ok (record { num = 2; den = 1 })
 unfolding gcd gcd_within
 two = refl
 
-finest_spelled : number_said (codes "1e-24") ≡ Ok (record { num = 1; den = 10 ^ 24 })
+finest_spelled : number_said (codes "1e-23") ≡ Ok (record { num = 1; den = 10 ^ 23 })
 unfolding gcd gcd_within
 finest_spelled = refl
 

@@ -3,7 +3,7 @@ use Rattle.std.specs.Prelude.{ℕ, ◌^◌}
 
 -- the greatest denominator, of a fraction and of a choice: a sum of weights over it fits 128 bits
 abbrev pub finest : ℕ
-finest = 10 ^ 24
+finest = 10 ^ 23
 
 -- times 1, the greatest value of a fraction: one above 1 may be rounded, so the sum of its choice decides
 abbrev pub most_value : ℕ

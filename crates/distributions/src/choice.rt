@@ -25,7 +25,7 @@ pub struct Part {
 #[derive(Clone, Copy, Debug, PartialEq, Eq)]
 pub enum ChoiceFault {
     OutOfMemory,
-    /// The common denominator passes 10^24: that of the parts before, and the denominator that passes it.
+    /// The common denominator passes 10^23: that of the parts before, and the denominator that passes it.
     TooFine { first: u128, second: u128 },
     /// The weights miss the common denominator by more than one part in 100,000: their sum, and that denominator.
     BadSum { sum: u128, denominator: u128 },

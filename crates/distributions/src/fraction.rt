@@ -8,7 +8,7 @@ ghost use Rattle.distributions.specs.Fraction.{fraction_cmp, IsFraction};
 use std::cmp::Ordering;
 use std::marker::Model;
 
-/// A number from 0 to 2 as a fraction in lowest terms, with a denominator of at most 10^24.
+/// A number from 0 to 2 as a fraction in lowest terms, with a denominator of at most 10^23.
 #[derive(Clone, Copy, Debug, PartialEq, Eq)]
 pub struct Frac {
     num: u128,

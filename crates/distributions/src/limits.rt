@@ -1,10 +1,10 @@
 //! The limits, as `specs/Limits.antt` defines them: `laws::limits` says so.
 
 /// The greatest denominator of a fraction, and of a choice.
-pub const FINEST: u128 = 1_000_000_000_000_000_000_000_000;
+pub const FINEST: u128 = 100_000_000_000_000_000_000_000;
 
 /// How many decimal places have it as their denominator.
-pub const FINEST_PLACES: u32 = 24;
+pub const FINEST_PLACES: u32 = 23;
 
 /// The greatest value of a fraction.
 pub const MOST_VALUE: u128 = 2;

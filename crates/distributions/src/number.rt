@@ -22,7 +22,7 @@ pub enum NumberFault {
     TooManyDigits,
     /// Its denominator is 0.
     ZeroDenominator,
-    /// Its denominator in lowest terms is above 10^24.
+    /// Its denominator in lowest terms is above 10^23.
     TooFine,
     /// It is above 2.
     TooLarge,
@@ -261,9 +261,9 @@ mod tests {
     #[test]
     fn numbers_are_read(rt: HostRuntime) -> Result<(), Fail> {
         assert_eq!(rt; read(b"0.25"), Ok((1, 4)));
-        assert_eq!(rt; read(b"1e-24"), Ok((1, 1_000_000_000_000_000_000_000_000)));
+        assert_eq!(rt; read(b"1e-23"), Ok((1, 100_000_000_000_000_000_000_000)));
         assert_eq!(rt; read(b"2/6"), Ok((1, 3)));
-        assert_eq!(rt; read(b"1e-25"), Err(NumberFault::TooFine));
+        assert_eq!(rt; read(b"1e-24"), Err(NumberFault::TooFine));
         Ok(())
     }
 }

@@ -4,7 +4,7 @@ ghost use Rattle.std.specs.Prelude.{◌≡◌, ◌+◌, ◌*◌, ◌<◌, ◌≤
 ghost use Rattle.game_model.specs.Limits.{unit, total_bound};
 
 /// The greatest total whose product with the unit fits 64 bits.
-pub const MOST_NARROW: u128 = 18_446_744;
+pub const MOST_NARROW: u128 = 18_446;
 
 /// A weighted sum of units over its total. It is compared with no division.
 #[derive(Clone, Copy)]

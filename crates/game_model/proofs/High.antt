@@ -4,7 +4,7 @@ use Rattle.std.specs.Prelude.{slice_index, replicate}
 use Rattle.std.proofs.lemmas.List.{get_or-append-add, get_or-map, get_or-take, append_assoc, replicate_more}
 use Rattle.game_model.specs.declared.game.Edge.{Edge}
 use Rattle.game_model.specs.Game.{no_edge}
-use Rattle.game_model.specs.Draft.{HasHighWords, IsSameBelow, IsPadded}
+use Rattle.game_model.specs.Growing.{HasHighWords, IsSameBelow, IsPadded}
 
 pub high-pushed : (xs ys : List ℕ) (n : ℕ) (edges : List Edge) → length xs ≡ n → ys ≡ xs ++ map (λ e. e.weight / 2 ^ 64) edges → HasHighWords n edges ys
 high-pushed xs ys n edges same is = λ i l.

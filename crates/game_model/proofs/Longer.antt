@@ -2,7 +2,7 @@
 use Rattle.std.proofs.Common.{◌≡◌, ℕ, ◌<◌, ◌≤◌, List, [], length, take, arith, sym, ◌∙◌, ap}
 use Rattle.std.specs.Prelude.{slice_index, IfOk, OnErr, Result, Ok, Err}
 use Rattle.std.proofs.lemmas.List.{append-nil, get_or_append_left, get_or-take, length-append, length-take-le}
-use Rattle.game_model.specs.Draft.{IsLonger}
+use Rattle.game_model.specs.Growing.{IsLonger}
 
 pub on_err : {T E : Type 0} (r : Result T E) (P : Type 0) → P → OnErr r P
 on_err (Ok x) P p = tt

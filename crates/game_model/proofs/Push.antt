@@ -7,7 +7,8 @@ use Rattle.game_model.specs.declared.game.Edge.{Edge}
 use Rattle.game_model.specs.Game.{IsDistribution}
 use Rattle.game_model.specs.Span.{span}
 use Rattle.game_model.specs.Flat.{edge_at, distribution_at, game_at, under_way_at, last_of, IsAscending, IsKept}
-use Rattle.game_model.specs.Draft.{Draft, distribution_of, with_choice, IsLonger, IsSameBelow, HasHighWords}
+use Rattle.game_model.specs.Draft.{Draft, distribution_of, with_choice}
+use Rattle.game_model.specs.Growing.{IsLonger, IsSameBelow, HasHighWords}
 use Rattle.game_model.proofs.Span.{span-more}
 use Rattle.game_model.proofs.Longer.{taken-at, taken-length}
 use Rattle.game_model.proofs.Same.{last-push, push-below, ascending-push, distribution-same, game-same, under_way-same, edges-added}

@@ -6,7 +6,7 @@ use Rattle.std.proofs.lemmas.List.{get_or_append_left, get_or_push, length_push,
 use Rattle.game_model.specs.declared.game.Edge.{Edge}
 use Rattle.game_model.specs.Game.{no_edge}
 use Rattle.game_model.specs.Span.{span}
-use Rattle.game_model.specs.Draft.{HasHighWords}
+use Rattle.game_model.specs.Growing.{HasHighWords}
 use Rattle.game_model.specs.Flat.{edge_at, distribution_at, choices_at, game_at, under_way_at, last_of, IsAscending, IsLaidOut}
 use Rattle.game_model.proofs.Span.{length-span, get_or-span, span-same}
 

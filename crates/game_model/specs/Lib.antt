@@ -5,6 +5,7 @@ pub mod Span
 pub mod Flat
 pub mod OfGame
 pub mod Draft
+pub mod Growing
 pub mod OfBuilder
 pub mod Query
 pub mod Values

@@ -22,15 +22,18 @@ pub record HasRankedChoice (q : Query) (value rank : ℕ → ℕ) (choices : Lis
   pub inside : choice < length (choices_of q.game s)
   pub ranked : IsRankedChoice value rank s (choice_of q.game s choice)
 
--- values, choices and ranks that go together
-pub record Ranked (q : Query) (values : List ℕ) (choices : List (Option ℕ)) (ranks : List ℕ) : Type 0 where
-  pub units : (s : ℕ) → s < length q.game → slice_index values s ≤ unit
-  pub goals : (s : ℕ) → s < length q.game → is_goal q s ≡ true → slice_index values s ≡ unit
+-- values, choices and ranks that go together, where so many units are probability 1
+pub record RankedIn (top : ℕ) (q : Query) (values : List ℕ) (choices : List (Option ℕ)) (ranks : List ℕ) : Type 0 where
+  pub units : (s : ℕ) → s < length q.game → slice_index values s ≤ top
+  pub goals : (s : ℕ) → s < length q.game → is_goal q s ≡ true → slice_index values s ≡ top
   pub deads : (s : ℕ) → s < length q.game → is_dead q s ≡ true → slice_index values s ≡ 0
   pub greatest : (s : ℕ) → s < length q.game → is_goal q s ≡ false → is_dead q s ≡ false → 0 < slice_index values s → side_at q s ≡ Max
       → HasRankedChoice q (slice_index values) (slice_index ranks) choices s
   pub least : (s : ℕ) → s < length q.game → is_goal q s ≡ false → is_dead q s ≡ false → 0 < slice_index values s → side_at q s ≡ Min
       → (c : ℕ) → c < length (choices_of q.game s) → IsRankedChoice (slice_index values) (slice_index ranks) s (choice_of q.game s c)
+
+abbrev pub Ranked : Query → List ℕ → List (Option ℕ) → List ℕ → Type 0
+Ranked q values choices ranks = RankedIn unit q values choices ranks
 
 -- the plan comes as near to the values as one likes, at all states at once
 abbrev pub ReachesUnder : Query → List (Option ℕ) → (ℕ → ℕ) → Type 0

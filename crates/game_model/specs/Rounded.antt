@@ -18,9 +18,12 @@ up_value table choice = (weighted_sum table choice.edges + (choice.total - 1)) /
 abbrev pub down_step : Query → (ℕ → ℕ) → ℕ → ℕ
 down_step q table s = bellman q (choices_of q.game) unit (down_value table) s
 
--- the up step of a table
+-- the up step of a table, where so many units are probability 1
+abbrev pub up_step_in : ℕ → Query → (ℕ → ℕ) → ℕ → ℕ
+up_step_in top q table s = bellman q (choices_of q.game) top (up_value table) s
+
 abbrev pub up_step : Query → (ℕ → ℕ) → ℕ → ℕ
-up_step q table s = bellman q (choices_of q.game) unit (up_value table) s
+up_step q table s = up_step_in unit q table s
 
 -- this choice has this value, and is the first that has it
 pub record IsFirstWith (value : Distribution → ℕ) (choices : List Distribution) (best first : ℕ) : Type 0 where
@@ -44,8 +47,11 @@ abbrev pub IsSettled : Query → (ℕ → ℕ) → Type 0
 IsSettled q table = IsBelow q (down_step q table) table
 
 -- inductive: no state's up value is above its entry
+abbrev pub IsInductiveIn : ℕ → Query → (ℕ → ℕ) → Type 0
+IsInductiveIn top q table = IsBelow q (up_step_in top q table) table
+
 abbrev pub IsInductive : Query → (ℕ → ℕ) → Type 0
-IsInductive q table = IsBelow q (up_step q table) table
+IsInductive q table = IsInductiveIn unit q table
 
 -- the table that iteration opens with
 abbrev pub opening : Query → ℕ → ℕ

@@ -3,7 +3,8 @@
 ghost use Rattle.std.specs.Prelude.{◌≡◌, ◌+◌, ◌-◌, ◌/◌, ◌%◌, ◌^◌, ◌<◌, ◌≤◌, [], ◌∷◌, ◌++◌, length, map, sum_by, All, IfOk, OnErr};
 ghost use Rattle.game_model.specs.Limits.{most_states, most_choices};
 ghost use Rattle.game_model.specs.Flat.{last_of};
-ghost use Rattle.game_model.specs.Draft.{no_states, between, with_choice, with_state, IsLonger, IsPadded, IsSameBelow, HasHighWords, IsPushed, IsStill};
+ghost use Rattle.game_model.specs.Draft.{no_states, between, with_choice, with_state};
+ghost use Rattle.game_model.specs.Growing.{IsLonger, IsPadded, IsSameBelow, HasHighWords, IsPushed, IsStill};
 
 use crate::game::{Choice, Edge, Game};
 use game_outside::OutOfMemory;

@@ -41,7 +41,7 @@ pub struct Edge {
 }
 
 /// A choice of a state: a distribution over the states, as edges by rising successor and the total of
-/// their weights, which is below 2^80.
+/// their weights, which is below 2^77.
 #[derive(Debug, Drop)]
 pub struct Choice {
     total: u128,

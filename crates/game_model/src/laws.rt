@@ -1,18 +1,19 @@
 //! Laws of the values of a question. Each function does nothing: its contract is the law.
 
 ghost use Rattle.std.specs.Prelude.{◌≡◌, ℕ, ◌+◌, ◌*◌, ◌^◌, ◌<◌, ◌≤◌, List, Bool};
-ghost use Rattle.game_model.specs.Limits.{unit, most_states, most_choices};
+ghost use Rattle.game_model.specs.Limits.{unit, most_states, most_choices, total_bound};
 ghost use Rattle.game_model.specs.Query.{Query, IsQuery, states};
 ghost use Rattle.game_model.specs.Values.{denominator, numerator};
 ghost use Rattle.game_model.specs.Dual.{open_numerator, swapped, IsZeroSet};
 
 use crate::limits::{MOST_CHOICES, MOST_STATES, UNIT};
 
-/// The constants are the numbers of the definitions.
+/// The constants are the numbers of the definitions, and a total times the unit needs 127 bits at most.
 pub fn limits()
     ensures unit { UNIT ≡ unit }
     ensures states { MOST_STATES ≡ most_states }
     ensures choices { MOST_CHOICES ≡ most_choices }
+    ensures fits { total_bound * unit < 2 ^ 127 }
 {}
 
 /// k-step values rise with k.

@@ -12,9 +12,9 @@ pub record Entry : Type 0 where
   pub upper : ℕ
   pub reply : Option ℕ
 
--- the greatest number of a choice: a word keeps it in 24 bits
+-- the greatest number of a choice: a word keeps it in 14 bits
 abbrev pub greatest_choice : ℕ
-greatest_choice = 16777215
+greatest_choice = 16383
 
 abbrev pub greatest_rank : ℕ
 greatest_rank = 4294967295

@@ -16,7 +16,7 @@ use text_lines::{first_field, whole};
 const UNIT_DIGITS: usize = 12;
 
 /// The greatest number of a choice.
-const GREATEST_CHOICE: u64 = 16_777_215;
+const GREATEST_CHOICE: u64 = 16_383;
 
 /// What a line says of its state. Contracts see it as an entry.
 #[derive(Drop)]

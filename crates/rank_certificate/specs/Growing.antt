@@ -2,7 +2,7 @@
 use Rattle.std.specs.Prelude.{◌≡◌, ℕ, ◌+◌, ◌<◌, ◌≤◌, ◌⊎◌, List, [], ◌∷◌, ◌++◌, length, take, slice_index, slice_index_or, slice_set, count_by, Option, Some, None, IsSomeAnd, is_some, Contains}
 use Rattle.game_model.specs.Game.{choice_of, no_edge}
 use Rattle.game_model.specs.Query.{Query, states}
-use Rattle.game_model.specs.Draft.{IsLonger}
+use Rattle.game_model.specs.Growing.{IsLonger}
 use Rattle.predecessors.specs.declared.lists.Move.{Move}
 use Rattle.predecessors.specs.Moves.{move}
 use Rattle.rank_certificate.specs.Ranking.{NeedsRank}

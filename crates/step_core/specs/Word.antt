@@ -3,9 +3,9 @@ use Rattle.std.specs.Prelude.{ℕ, ◌+◌, ◌*◌, ◌/◌, ◌%◌, List, [],
 use Rattle.game_model.specs.Limits.{unit}
 use Rattle.game_model.specs.Query.{Query, is_goal}
 
--- how many choices a word can name: its low 24 bits, below a value of at most 40
+-- how many choices a word can name: its low 14 bits, below a value of at most 50
 abbrev pub choice_space : ℕ
-choice_space = 16777216
+choice_space = 16384
 
 abbrev pub packed : ℕ → ℕ → ℕ
 packed value choice = value * choice_space + choice

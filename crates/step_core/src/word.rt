@@ -5,7 +5,7 @@ ghost use Rattle.game_model.specs.Limits.{unit};
 ghost use Rattle.step_core.specs.Word.{choice_space, packed, value_in, choice_in};
 
 /// How many choices a word can name: a word is its value times this number, plus its choice.
-pub const CHOICE_SPACE: u64 = 16_777_216;
+pub const CHOICE_SPACE: u64 = 16_384;
 
 /// The word of a value, in units, and a choice.
 pub fn pack(value: u64, choice: u32) -> u64

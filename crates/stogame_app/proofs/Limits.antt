@@ -34,12 +34,12 @@ some-small : (choice : Option ℕ) (c : ℕ) → choice ≡ Some c → c ≤ gre
 some-small None c is small = tt
 some-small (Some choice) c is small = let same : choice ≡ c = cc in omega (arith, same)
 
-held-small : (q : Query) (table : ℕ → ℕ) (s : ℕ) (reply : Option ℕ) → length (choices_of q.game s) ≤ 2 ^ 24 → IsSomeAnd reply (IsFirstHeld q table s) → IsSmall reply
+held-small : (q : Query) (table : ℕ → ℕ) (s : ℕ) (reply : Option ℕ) → length (choices_of q.game s) ≤ most_choices → IsSomeAnd reply (IsFirstHeld q table s) → IsSmall reply
 held-small q table s None bounded held = tt
 held-small q table s (Some choice) bounded held = omega (arith, held.inside)
 
 module _ (q : Query) (posed : IsQuery q) (s : ℕ) (inside : s < states q) where
-  bounded : length (choices_of q.game s) ≤ 2 ^ 24
+  bounded : length (choices_of q.game s) ≤ most_choices
   bounded = posed.game.bounded s inside
 
   choice-small : (lower : List ℕ) (choices : List (Option ℕ)) (ranks : List ℕ) → AreChoices q lower choices → Ranked q lower choices ranks → IsSmall (slice_index_or choices s None)

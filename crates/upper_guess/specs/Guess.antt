@@ -8,9 +8,9 @@ use Rattle.game_model.specs.Rounded.{up_step, IsInductive}
 abbrev pub excess : ℕ → ℕ
 excess place = 2 ^ place / 2
 
--- the place of the last excess, 2^40, which is above the unit
+-- the place of the last excess, 2^50, which is above the unit
 abbrev pub last_place : ℕ
-last_place = 41
+last_place = 51
 
 -- the most up steps of one excess
 abbrev pub most_steps : ℕ

@@ -24,7 +24,7 @@ pub struct Guesses<'a> {
     ghost marked: { length zero.now ≡ states question.now },
     ghost many: { length lower.now ≡ states question.now },
     ghost units: { All (λ v. v ≤ unit) lower.now },
-    ghost small: { excess ≤ 2 ^ 40 },
+    ghost small: { excess ≤ 2 ^ 50 },
 }
 
 impl Guesses<'_> {

@@ -6,7 +6,7 @@ use Rattle.std.proofs.lemmas.Bool.{cases_eq}
 use Rattle.std.proofs.lemmas.List.{take_all, take-append-le, get_or_default}
 use Rattle.std.proofs.lemmas.List.Folds.{list_any_at}
 use Rattle.std.proofs.lemmas.List.Elements.{Contains-append_cases}
-use Rattle.game_model.specs.Draft.{IsLonger}
+use Rattle.game_model.specs.Growing.{IsLonger}
 use Rattle.game_model.specs.Game.{Distribution, choice_of}
 use Rattle.game_model.specs.Query.{Query, states, is_dead}
 use Rattle.predecessors.specs.declared.lists.Move.{Move}

@@ -1,7 +1,7 @@
 //! The positive attractor of the goals.
 
 ghost use Rattle.std.specs.Prelude.{◌≡◌, ℕ, ◌+◌, ◌<◌, [], false, length, take, slice_index_or, IfOk, OnOk};
-ghost use Rattle.game_model.specs.Draft.{IsLonger};
+ghost use Rattle.game_model.specs.Growing.{IsLonger};
 ghost use Rattle.game_model.specs.Query.{states, is_dead};
 ghost use Rattle.predecessors.specs.Lists.{ArePredecessors};
 ghost use Rattle.zero_sets.specs.Attractor.{IsAttractor};

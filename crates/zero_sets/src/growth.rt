@@ -1,7 +1,7 @@
 //! A set of states that grows backward from the goals.
 
 ghost use Rattle.std.specs.Prelude.{◌≡◌, ◌≢◌, ℕ, ◌+◌, ◌<◌, List, [], ◌∷◌, ◌++◌, true, false, not, length, map, slice_index, slice_index_or, IfOk, OnOk};
-ghost use Rattle.game_model.specs.Draft.{IsLonger};
+ghost use Rattle.game_model.specs.Growing.{IsLonger};
 ghost use Rattle.game_model.specs.Game.{choices_of};
 ghost use Rattle.game_model.specs.Query.{states, is_dead};
 ghost use Rattle.zero_sets.specs.Attractor.{meets};

@@ -1,6 +1,6 @@
 use Rattle.std.proofs.Common.{arith, ◌≡◌, ◌-◌, ap, refl, ◌∙◌, subst, length, take, get_or}
 use Rattle.game_model.specs.Flat.{last_of}
-use Rattle.game_model.specs.Draft.{IsLonger, IsStill}
+use Rattle.game_model.specs.Growing.{IsLonger, IsStill}
 use Rattle.game_model.proofs.Read.{read}
 use Rattle.game_model.proofs.Longer.{on_err, longer-same}
 use Rattle.game_model.proofs.High.{below-taken}

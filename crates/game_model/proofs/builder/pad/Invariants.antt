@@ -1,5 +1,5 @@
 use Rattle.std.proofs.Common.{◌≡◌, length}
-use Rattle.game_model.specs.Draft.{IsPadded}
+use Rattle.game_model.specs.Growing.{IsPadded}
 use Rattle.game_model.proofs.builder.pad.Given as goal
 
 -- zeros so far

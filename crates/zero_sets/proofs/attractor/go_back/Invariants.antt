@@ -1,5 +1,5 @@
 use Rattle.std.proofs.Common.{◌++◌, take}
-use Rattle.game_model.specs.Draft.{IsLonger}
+use Rattle.game_model.specs.Growing.{IsLonger}
 use Rattle.zero_sets.specs.Growing.{moves_into, IsGrowth}
 use Rattle.zero_sets.proofs.attractor.go_back.Given as goal
 

@@ -1,6 +1,6 @@
 use Rattle.std.proofs.Common.{◌≡◌, ℕ, ◌<◌, [], false}
 use Rattle.std.specs.Prelude.{slice_index_or}
-use Rattle.game_model.specs.Draft.{IsLonger}
+use Rattle.game_model.specs.Growing.{IsLonger}
 use Rattle.game_model.specs.Query.{is_dead}
 use Rattle.zero_sets.specs.Growing.{IsGrowth, IsLarger, IsTested}
 use Rattle.zero_sets.proofs.attractor.test_all.Given as goal
