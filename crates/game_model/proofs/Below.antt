@@ -1,10 +1,10 @@
 -- How many choices and edges the states below a state have: where those of the state begin.
-use Rattle.std.proofs.Common.{◌≡◌, ℕ, zero, suc, ◌+◌, ◌-◌, ◌<◌, ◌≤◌, List, [], ◌∷◌, length, take, sum_by, arith, refl, sym, ◌∙◌, ap, subst}
+use Rattle.std.proofs.Common.{◌≡◌, ℕ, zero, suc, ◌+◌, ◌-◌, ◌<◌, ◌≤◌, List, ◌∷◌, length, take, sum_by, arith, refl, ◌∙◌, ap}
 use Rattle.std.specs.Prelude.{slice_index}
 use Rattle.std.proofs.lemmas.List.Sums.{sum_by-cons}
 use Rattle.game_model.specs.Game.{Distribution, choices_below, edges_below}
 use Rattle.game_model.specs.Span.{span}
-use Rattle.game_model.specs.Flat.{edge_at, distribution_at, choices_at, game_at, last_of, IsAscending, IsLaidOut}
+use Rattle.game_model.specs.Flat.{edge_at, distribution_at, choices_at, game_at, last_of, IsLaidOut}
 use Rattle.game_model.proofs.Span.{length-span}
 
 take-span : {X : Type 0} (f : ℕ → X) (a s k : ℕ) → s ≤ k → take s (span f a k) ≡ span f a s

@@ -1,11 +1,8 @@
 -- The total of a choice.
-use Rattle.std.proofs.Common.{◌≡◌, ℕ, zero, suc, ◌<◌, ◌≤◌, length, arith, get_or, sum_by, inl, inr}
-use Rattle.std.specs.Prelude.{All, slice_index}
-use Rattle.std.proofs.lemmas.List.{get_or-map}
-use Rattle.std.proofs.lemmas.Bool.{cases_lt}
+use Rattle.std.proofs.Common.{◌≡◌, ◌<◌, ◌≤◌, arith, get_or, sum_by}
 use Rattle.std.proofs.lemmas.List.Sums.{get_or-le-sum_by}
 use Rattle.game_model.specs.declared.game.Edge.{Edge}
-use Rattle.game_model.specs.Game.{Distribution, IsDistribution, destinations, no_edge}
+use Rattle.game_model.specs.Game.{Distribution, IsDistribution, no_edge}
 
 -- a choice has a positive total
 pub total-pos : (distribution : Distribution) → IsDistribution distribution → 0 < distribution.total

@@ -1,5 +1,5 @@
 -- A game under way: the states that have ended, and the choices so far of the one that has not.
-use Rattle.std.specs.Prelude.{ℕ, List, [], ◌∷◌, ◌++◌, sum_by}
+use Rattle.std.specs.Prelude.{List, [], ◌∷◌, ◌++◌, sum_by}
 use Rattle.game_model.specs.declared.game.Edge.{Edge}
 use Rattle.game_model.specs.Game.{Distribution}
 

@@ -1,4 +1,4 @@
-use Rattle.std.proofs.Common.{◌≡◌, ap, sym, refl, ◌∙◌, subst}
+use Rattle.std.proofs.Common.{◌≡◌, ap, sym, ◌∙◌, subst}
 use Rattle.game_model.specs.Game.{Distribution, IsDistribution}
 use Rattle.game_model.specs.Flat.{IsKept}
 use Rattle.game_model.specs.Draft.{distribution_of, with_choice}

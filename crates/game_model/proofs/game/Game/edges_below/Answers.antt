@@ -1,7 +1,6 @@
-use Rattle.std.proofs.Common.{arith, ◌≡◌, ◌+◌, ◌<◌, ◌≤◌, ap, ◌∙◌, length, sym, subst}
+use Rattle.std.proofs.Common.{arith, ◌≡◌, ◌<◌, ap, ◌∙◌, length, sym}
 use Rattle.std.specs.Prelude.{slice_index, List}
 use Rattle.game_model.specs.Game.{Distribution, edges_below}
-use Rattle.game_model.specs.Flat.{last_of}
 use Rattle.game_model.proofs.Read.{read}
 use Rattle.game_model.proofs.Facts.{states-count}
 use Rattle.game_model.proofs.Below.{edges_below-at}
