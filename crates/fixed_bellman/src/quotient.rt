@@ -1,10 +1,13 @@
 //! The value of a choice before it is rounded.
 
-ghost use Rattle.std.specs.Prelude.{◌≡◌, ◌+◌, ◌*◌, ◌<◌, ◌≤◌, IsTrue, ◌↔◌};
+ghost use Rattle.std.specs.Prelude.{◌≡◌, ◌+◌, ◌*◌, ◌/◌, ◌^◌, ◌<◌, ◌≤◌, IsTrue, ◌↔◌};
 ghost use Rattle.game_model.specs.Limits.{unit, total_bound};
 
 /// The greatest total whose product with the unit fits 64 bits.
 pub const MOST_NARROW: u128 = 18_446;
+
+/// Half a word, as a power of two.
+const HALF: u128 = 4_294_967_296;
 
 /// A weighted sum of units over its total. It is compared with no division.
 #[derive(Clone, Copy)]
@@ -38,7 +41,7 @@ impl Quotient {
         if self.total <= MOST_NARROW {
             return self.sum as u64 / self.total as u64;
         }
-        (self.sum / self.total) as u64
+        divided(self.sum, self.total)
     }
 
     /// Rounded up.
@@ -46,7 +49,11 @@ impl Quotient {
         ensures value { result ≡ rounded_up self }
         ensures units { result ≤ unit }
     {
-        ((self.sum + (self.total - 1)) / self.total) as u64
+        if self.total <= MOST_NARROW {
+            let total = self.total as u64;
+            return (self.sum as u64 + (total - 1)) / total;
+        }
+        divided(self.sum + (self.total - 1), self.total)
     }
 
     /// Whether it is above a floor, rounded down.
@@ -54,6 +61,9 @@ impl Quotient {
         requires { floor ≤ unit }
         ensures { IsTrue result ↔ (floor < rounded_down self) }
     {
+        if self.total <= MOST_NARROW {
+            return self.sum as u64 >= (floor + 1) * self.total as u64;
+        }
         self.sum >= (u128::from(floor) + 1) * self.total
     }
 
@@ -62,6 +72,9 @@ impl Quotient {
         requires { ceiling ≤ unit }
         ensures { IsTrue result ↔ (rounded_down self < ceiling) }
     {
+        if self.total <= MOST_NARROW {
+            return (self.sum as u64) < ceiling * self.total as u64;
+        }
         self.sum < u128::from(ceiling) * self.total
     }
 
@@ -70,6 +83,9 @@ impl Quotient {
         requires { floor ≤ unit }
         ensures { IsTrue result ↔ (floor < rounded_up self) }
     {
+        if self.total <= MOST_NARROW {
+            return self.sum as u64 > floor * self.total as u64;
+        }
         self.sum > u128::from(floor) * self.total
     }
 
@@ -78,6 +94,36 @@ impl Quotient {
         requires { ceiling ≤ unit }
         ensures { IsTrue result ↔ (rounded_up self < ceiling) }
     {
+        if self.total <= MOST_NARROW {
+            let total = self.total as u64;
+            return self.sum as u64 + total <= ceiling * total;
+        }
         self.sum + self.total <= u128::from(ceiling) * self.total
     }
+}
+
+// A quotient of at most one more than the unit: a total of half a word needs no wide division.
+fn divided(above: u128, total: u128) -> u64
+    requires positive { 0 < total }
+    requires fits { above < total * (unit + 1) }
+    ensures { result ≡ above / total }
+{
+    if total < HALF {
+        return divided_by_halves(above, total as u64);
+    }
+    (above / total) as u64
+}
+
+// Long division in two digits of half a word.
+fn divided_by_halves(above: u128, total: u64) -> u64
+    requires positive { 0 < total }
+    requires half { total < 2 ^ 32 }
+    requires fits { above < total * (unit + 1) }
+    ensures { result ≡ above / total }
+{
+    let high = (above / HALF) as u64;
+    let low = (above % HALF) as u64;
+    let half = HALF as u64;
+    let rest = high % total * half + low;
+    high / total * half + rest / total
 }

@@ -29,8 +29,9 @@ pub fn quotient<V: Values>(
 {
     question.known();
     let game = question.game();
+    let total = game.total(state, choice);
     let sum = sum_of(game, state, choice, values, pass);
-    Quotient::new(sum, game.total(state, choice))
+    Quotient::new(sum, total)
 }
 
 /// The value of a choice over a table, before it is rounded.
