@@ -1,10 +1,14 @@
 //! The program: the words, the files and the standard output of the system, handed to `run`.
+//!
+//! Where a run writes nothing, or not all of it, one line on standard error says why. Nothing else ever goes there.
 #![tactic(auto)]
 
 use game_outside::OpenGate;
 use std::process::ExitCode;
+use std::rt::Files;
 use std::{env, io};
-use stogame_app::{FileShelf, OutSink, Status, run};
+use stogame_app::{Status, run};
+use system_files::{Failure, FileShelf, OutSink};
 
 /// The status where the system hands over no words.
 const NO_WORDS: u8 = 9;
@@ -13,21 +17,55 @@ fn main(rt: HostRuntime) -> ExitCode {
     let alloc = rt.alloc();
     let arguments = match env::args(&rt) {
         Ok(arguments) => arguments,
-        Err(error) => return ExitCode::from(status_without_words(&error)),
+        Err(error) => return ExitCode::from(end_without_words(&rt, &error)),
     };
     let Ok(words) = arguments.skip(1).collect::<Vec<String>>(alloc) else {
-        return ExitCode::from(Status::OutOfMemory.number());
+        return ExitCode::from(end_out_of_memory(&rt));
     };
-    let mut shelf = FileShelf::new(&rt);
+    let mut shelf = FileShelf::new(&rt, alloc);
     let mut out = OutSink::new(io::writer(&rt));
     let status = run(&rt, alloc, &words, &mut shelf, &mut out, &OpenGate {});
+    match status {
+        Status::ReadFault => say_unread(&rt, &shelf),
+        Status::WriteFault => say_unwritten(&rt, out.failure()),
+        Status::OutOfMemory => say_out_of_memory(&rt),
+        _ => {}
+    }
     ExitCode::from(status.number())
 }
 
-// The status where the words are not there.
-fn status_without_words(error: &io::Error) -> u8 {
-    match error.kind() {
-        io::ErrorKind::OutOfMemory => Status::OutOfMemory.number(),
-        _ => NO_WORDS,
+// Ends a run whose words are not there.
+fn end_without_words(rt: &impl Eprint, error: &io::Error) -> u8 {
+    if error.kind() == io::ErrorKind::OutOfMemory {
+        return end_out_of_memory(rt);
     }
+    let reason = Failure::of(error);
+    let _ = eprintln!(rt; "stogame: cannot read the words of the command line: {reason}");
+    NO_WORDS
+}
+
+fn end_out_of_memory(rt: &impl Eprint) -> u8 {
+    say_out_of_memory(rt);
+    Status::OutOfMemory.number()
+}
+
+fn say_out_of_memory(rt: &impl Eprint) {
+    let _ = eprintln!(rt; "stogame: out of memory");
+}
+
+// Which file was not read, and why.
+fn say_unread(rt: &impl Eprint, shelf: &FileShelf<impl Files>) {
+    let name = shelf.name().unwrap_or("a file");
+    let _ = match shelf.failure() {
+        Some(reason) => eprintln!(rt; "stogame: cannot read {name}: {reason}"),
+        None => eprintln!(rt; "stogame: cannot read {name}"),
+    };
+}
+
+// Why the output was not written.
+fn say_unwritten(rt: &impl Eprint, failure: Option<Failure>) {
+    let _ = match failure {
+        Some(reason) => eprintln!(rt; "stogame: cannot write the output: {reason}"),
+        None => eprintln!(rt; "stogame: cannot write the output"),
+    };
 }

@@ -12,6 +12,9 @@ use Rattle.stogame_app.specs.Refusals.{refusal_text}
 pub at_ok : {X E : Type 0} (P : X → Type 0) (result : Result X E) (x : X) → result ≡ Ok x → IfOk result P → P x
 at_ok {X} {E} P result x is holds = let Q : Result X E → Type 0 = λ r. IfOk r P in subst Q is holds
 
+pub at_on_ok : {X E : Type 0} {P : Type 0} (result : Result X E) (x : X) → result ≡ Ok x → OnOk result P → P
+at_on_ok {X} {E} {P} result x is holds = let Q : Result X E → Type 0 = λ r. OnOk r P in subst Q is holds
+
 -- what is so anyway
 pub on_ok : {X E : Type 0} (P : Type 0) (result : Result X E) → P → OnOk result P
 on_ok P (Ok x) is = is

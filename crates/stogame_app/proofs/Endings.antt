@@ -1,6 +1,7 @@
 -- How the answer to a command ends, from how its loading ended.
 use Rattle.std.proofs.Common.{◌≡◌, ◌<◌, ◌≤◌, ◌⊎◌, inl, inr, ℕ, Bool, true, List, length, Option, Some, None, Result, Ok, Err, ◌∙◌, ap, subst, sym, refl, arith}
 use Rattle.std.specs.Prelude.{IsErrOf}
+use Rattle.std.proofs.lemmas.Bool.{cases_lt}
 use Rattle.text_lines.specs.Limits.{most_bytes}
 use Rattle.game_outside.specs.Outside.{Holding}
 use Rattle.game_model.specs.Query.{Query}
@@ -149,6 +150,20 @@ takes_end {X} {Y} first result end taken is ended takes = record {
 -- what is answered over texts that are no longer than the limit
 pub takes_short : {X : Type 0} (result : Result X End) (taken : ℕ) → taken ≤ most_bytes → (IsTooLong result → ⊥) → Takes result taken
 takes_short result taken small short = record { most = omega (arith, small); too_long = λ long. absurd (short long); only_too_long = λ above. absurd (omega (arith, small, above)) }
+
+-- where a text could not be read, no more than the limit was taken of it
+pub unread_is_short : {X : Type 0} (result : Result X End) (taken : ℕ) → result ≡ Err ReadFault → Takes result taken → taken ≤ most_bytes
+unread_is_short {X} result taken is takes = elim (cases_lt most_bytes taken) [
+  | inl above ↦ which (subst P is (takes.only_too_long above))
+  | inr within ↦ within
+]
+  where
+    P : Result X End → Type 0
+    P r = IsTooLong r ⊎ IsErrOf r OutOfMemory
+
+    which : IsTooLong {X = X} (Err ReadFault) ⊎ IsErrOf {T = X} (Err ReadFault) OutOfMemory → taken ≤ most_bytes
+    which (inl of) = absurd (cc (of.1))
+    which (inr memory) = absurd (cc (memory))
 
 -- 2. A refusal.
 

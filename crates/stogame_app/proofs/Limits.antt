@@ -9,7 +9,7 @@ use Rattle.game_model.specs.declared.game.Side.{Side}
 use Rattle.game_model.specs.declared.game.Side.TheVariants.{Max, Min}
 use Rattle.game_model.specs.Game.{choices_of}
 use Rattle.game_model.specs.Query.{Query, IsQuery, states, is_goal, is_dead, side_at}
-use Rattle.game_model.specs.Limits.{unit}
+use Rattle.game_model.specs.Limits.{unit, most_choices}
 use Rattle.game_model.specs.Ranks.{Ranked, HasRankedChoice}
 use Rattle.inductive_check.specs.Replies.{IsFirstReply}
 use Rattle.inductive_check.specs.Held.{IsFirstHeld}

@@ -111,6 +111,11 @@ IsAcceptedOf held (OfMake make) = Unit {0}
 
 -- 4. What is written.
 
+-- the report of a command; and where it reads files, no more than the limit was taken of the last one
+pub record IsAnswerOf (holding : Option Holding) (command : Command) (taken : ℕ) (text : List ℕ) (status : Status) : Type 0 where
+  pub report : IsReportOf holding command text status
+  pub short : ReadsFiles command → taken ≤ most_bytes
+
 abbrev pub IsLong : Refusal → Type 0
 IsLong refusal = (text : Text) × (refusal ≡ TooLong text)
 
@@ -123,10 +128,10 @@ pub record IsRefusalOf (IsSaid : Refusal → Type 0) (taken : ℕ) (refusal : Re
   pub only_long : most_bytes < taken → IsLong refusal
 
 -- the words denote a command, and this is its report
-pub record IsReportOfWords (words : List (List ℕ)) (holding : Option Holding) (text : List ℕ) (status : Status) : Type 0 where
+pub record IsReportOfWords (words : List (List ℕ)) (holding : Option Holding) (taken : ℕ) (text : List ℕ) (status : Status) : Type 0 where
   pub command : Command
   pub denoted : AreCommand words command
-  pub report : IsReportOf holding command text status
+  pub answer : IsAnswerOf holding command taken text status
 
 -- the text is the line of the first refusal of a command, and the status is its status
 pub record IsRefusalText (holding : Option Holding) (command : Command) (taken : ℕ) (text : List ℕ) (status : Status) : Type 0 where
@@ -141,11 +146,12 @@ pub record IsRefusalOfWords (words : List (List ℕ)) (holding : Option Holding)
   pub denoted : AreCommand words command
   pub refusal : IsRefusalText holding command taken text status
 
--- the words denote a command, and where it reads files, no more than the limit was taken of the last one
-pub record IsShortOfWords (words : List (List ℕ)) (taken : ℕ) : Type 0 where
+-- the words denote a command that reads files, and no more than the limit was taken of the last one
+pub record IsUnreadOfWords (words : List (List ℕ)) (taken : ℕ) : Type 0 where
   pub command : Command
   pub denoted : AreCommand words command
-  pub short : ReadsFiles command → taken ≤ most_bytes
+  pub reads : ReadsFiles command
+  pub short : taken ≤ most_bytes
 
 -- the words denote no command that reads files
 abbrev pub NeedNoFile : List (List ℕ) → Type 0
@@ -158,4 +164,4 @@ pub record IsUsageOfWords (words : List (List ℕ)) (text : List ℕ) : Type 0 w
 
 -- the text that a run with these words makes
 abbrev pub IsOutput : List (List ℕ) → Option Holding → ℕ → List ℕ → Type 0
-IsOutput words holding taken text = ((status : Status) × IsReportOfWords words holding text status) ⊎ (((status : Status) × IsRefusalOfWords words holding taken text status) ⊎ IsUsageOfWords words text)
+IsOutput words holding taken text = ((status : Status) × IsReportOfWords words holding taken text status) ⊎ (((status : Status) × IsRefusalOfWords words holding taken text status) ⊎ IsUsageOfWords words text)

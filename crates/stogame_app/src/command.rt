@@ -11,7 +11,7 @@ ghost use Rattle.stogame_app.specs.Sources.{WhereTold};
 ghost use Rattle.stogame_app.specs.Loading.{RefusesCaused, Takes};
 ghost use Rattle.stogame_app.specs.Refusals.{usage_text};
 ghost use Rattle.stogame_app.specs.Status.{IsAnswer, IsRefusal};
-ghost use Rattle.stogame_app.specs.Run.{IsAcceptedOf, IsInRange, IsMissing, IsOutput, IsReportOf, IsReportOfWords, IsRefusalText, IsRefusalOfWords, IsShortOfWords, NeedNoFile, ReadsFiles, RefusesIt};
+ghost use Rattle.stogame_app.specs.Run.{IsAcceptedOf, IsAnswerOf, IsInRange, IsMissing, IsOutput, IsReportOf, IsReportOfWords, IsRefusalText, IsRefusalOfWords, IsUnreadOfWords, NeedNoFile, ReadsFiles, RefusesIt};
 
 use crate::answer::Answer;
 use crate::audit::answer_audit;
@@ -44,11 +44,10 @@ pub fn run<R: Threads + Sync, H: Shelf, K: Sink, G: Gate + Sync>(
     out: &mut K,
     gate: &G,
 ) -> Status
-    ensures answered { IsAnswer result → (text : List ℕ) × IsReportOfWords (map string_bytes words.now) (H.held shelf.old) text result
+    ensures answered { IsAnswer result → (text : List ℕ) × IsReportOfWords (map string_bytes words.now) (H.held shelf.old) (H.taken shelf.new) text result
         × GrowsBy (K.written out.old) (K.written out.new) text }
     ensures refused { IsRefusal result → (text : List ℕ) × IsRefusalOfWords (map string_bytes words.now) (H.held shelf.old) (H.taken shelf.new) text result
         × GrowsBy (K.written out.old) (K.written out.new) text }
-    ensures short { IsAnswer result → IsShortOfWords (map string_bytes words.now) (H.taken shelf.new) }
     ensures taken { (H.taken shelf.new ≡ H.taken shelf.old) ⊎ (H.taken shelf.new ≤ most_bytes + piece_size) }
 
     // Where no file is needed, the shelf is not asked.
@@ -57,7 +56,7 @@ pub fn run<R: Threads + Sync, H: Shelf, K: Sink, G: Gate + Sync>(
 
     // A fault of the outside is answered only where its count rose.
     ensures read_fault { result ≡ Status.ReadFault → Rose (H.faults shelf.old) (H.faults shelf.new)
-        × (K.written out.new ≡ K.written out.old) × ((command : Command) × AreCommand (map string_bytes words.now) command × ReadsFiles command) }
+        × (K.written out.new ≡ K.written out.old) × IsUnreadOfWords (map string_bytes words.now) (H.taken shelf.new) }
     ensures steadily { result ≡ Status.ReadFault → H.steady shelf.old ≡ true → (command : Command) × AreCommand (map string_bytes words.now) command
         × WhereTold (H.held shelf.old) (λ held. IsMissing held command) }
     ensures write_fault { result ≡ Status.WriteFault → Rose (K.faults out.old) (K.faults out.new)
@@ -92,18 +91,17 @@ fn run_command<R: Threads + Sync, H: Shelf, K: Sink, G: Gate + Sync>(
 ) -> Status
     requires { IsInRange (command_of command.now) }
     ensures no_usage { result ≡ Status.Usage → ⊥ }
-    ensures answered { IsAnswer result → (text : List ℕ) × IsReportOf (H.held shelf.old) (command_of command.now) text result
+    ensures answered { IsAnswer result → (text : List ℕ) × IsAnswerOf (H.held shelf.old) (command_of command.now) (H.taken shelf.new) text result
         × GrowsBy (K.written out.old) (K.written out.new) text }
     ensures refused { IsRefusal result → (text : List ℕ) × IsRefusalText (H.held shelf.old) (command_of command.now) (H.taken shelf.new) text result
         × GrowsBy (K.written out.old) (K.written out.new) text }
-    ensures short { IsAnswer result → ReadsFiles (command_of command.now) → H.taken shelf.new ≤ most_bytes }
     ensures taken { (H.taken shelf.new ≡ H.taken shelf.old) ⊎ (H.taken shelf.new ≤ most_bytes + piece_size) }
     ensures untouched { ¬ ReadsFiles (command_of command.now) → shelf.new ≡ shelf.old }
     ensures read_fault { result ≡ Status.ReadFault → Rose (H.faults shelf.old) (H.faults shelf.new)
-        × (K.written out.new ≡ K.written out.old) × ReadsFiles (command_of command.now) }
+        × (K.written out.new ≡ K.written out.old) × ReadsFiles (command_of command.now) × (H.taken shelf.new ≤ most_bytes) }
     ensures steadily { result ≡ Status.ReadFault → H.steady shelf.old ≡ true → WhereTold (H.held shelf.old) (λ held. IsMissing held (command_of command.now)) }
     ensures write_fault { result ≡ Status.WriteFault → Rose (K.faults out.old) (K.faults out.new)
-        × ((text : List ℕ) × (((status : Status) × IsReportOf (H.held shelf.old) (command_of command.now) text status) ⊎ ((status : Status) × IsRefusalText (H.held shelf.old) (command_of command.now) (H.taken shelf.new) text status))
+        × ((text : List ℕ) × (((status : Status) × IsAnswerOf (H.held shelf.old) (command_of command.now) (H.taken shelf.new) text status) ⊎ ((status : Status) × IsRefusalText (H.held shelf.old) (command_of command.now) (H.taken shelf.new) text status))
         × GrowsByPrefix (K.written out.old) (K.written out.new) text) }
     ensures memory { result ≡ Status.OutOfMemory → K.written out.new ≡ K.written out.old }
 {

@@ -1,10 +1,14 @@
 //! Laws of what is written. Each function does nothing; its contract is the law.
 
-ghost use Rattle.std.specs.Prelude.{◌≡◌, ◌≤◌, ℕ, List, length, true, Option, Some};
+ghost use Rattle.std.specs.Prelude.{◌≡◌, ◌↔◌, ◌≤◌, ℕ, List, length, true, Option, Some};
 ghost use Rattle.text_lines.specs.Limits.{most_bytes};
 ghost use Rattle.game_outside.specs.Outside.{Holding};
-ghost use Rattle.command_words.specs.Words.{Check, Audit, OfCheck, OfAudit};
-ghost use Rattle.stogame_app.specs.Sources.{sources_of};
+ghost use Rattle.command_words.specs.Words.{Asked, Check, Audit, OfCheck, OfAudit};
+ghost use Rattle.formula_sets.specs.Posing.{Posing};
+ghost use Rattle.stogame_app.specs.Said.{Says};
+ghost use Rattle.stogame_app.specs.Posed.{question_said};
+ghost use Rattle.stogame_app.specs.Asks.{Asks};
+ghost use Rattle.stogame_app.specs.Sources.{Sources, sources_of};
 ghost use Rattle.stogame_app.specs.Run.{IsReportOf, IsAcceptedOf};
 ghost use Rattle.stogame_app.specs.declared.status.Status.{Status};
 ghost use Rattle.stogame_app.specs.declared.status.Status.TheVariants.{Fine};
@@ -20,6 +24,13 @@ use plan_text::laws::{
 };
 use rpatl_syntax::laws::{formulas_of_texts_are_spellable, spellings_have_one_reading};
 use verdicts::laws::reports_have_one_reading;
+
+/// The question that texts and words pose, read one after another with the first refusal, is the one that they ask: that the
+/// texts denote a game, labels and owners, and the formula poses the question of these. So a refusal is said exactly where no
+/// question is asked, and every text is there.
+pub fn questions_are_what_is_asked()
+    ensures { (sources : Sources) (asked : Asked) (posing : Posing) → (question_said sources asked ≡ Says posing) ↔ Asks sources asked posing }
+{}
 
 /// No two refusals have the same line, where their numbers have at most 64 digits. All that their types hold have at most 39.
 pub fn refusals_have_one_reading()

@@ -1,13 +1,12 @@
 //! The run of `stogame`, from the words and the bytes read to the bytes written.
 //!
-//! `run` is the one call that the program makes, over a shelf of named texts and a sink of bytes; `FileShelf` and
-//! `OutSink` are the real files and the real output. Its contract says what was written, and why, for each status
+//! `run` is the one call that the program makes, over a shelf of named texts and a sink of bytes; the real files and the real
+//! output are in `system_files`. Its contract says what was written, and why, for each status
 //! (`answered`, `refused`, `usage`, `read_fault`, `steadily`, `write_fault`, `memory`), how much is taken from the shelf
 //! (`short`, `taken`, `untouched`), and that the run does not give up by itself (`complete`). The question that is
 //! reported is said by relations in `specs/Asks.antt`.
 #![tactic(auto)]
 
-mod adapters;
 mod answer;
 mod audit;
 mod causes;
@@ -24,6 +23,5 @@ mod refusal;
 mod reports;
 mod status;
 
-pub use adapters::{FileShelf, OutSink};
 pub use command::run;
 pub use status::Status;

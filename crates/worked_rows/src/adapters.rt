@@ -4,13 +4,13 @@ use crate::models::COIN_LOOP;
 use game_outside::{ReadEnd, read_all, write_all};
 use std::fs;
 use std::test::Fail;
-use stogame_app::{FileShelf, OutSink};
+use system_files::{FileShelf, OutSink};
 
 #[test]
 fn a_file_is_read_whole(rt: HostRuntime) -> Result<(), Fail> {
     let alloc = rt.alloc();
     fs::write(&rt, "m.tra", COIN_LOOP)?;
-    let mut shelf = FileShelf::new(&rt);
+    let mut shelf = FileShelf::new(&rt, alloc);
     let Ok(bytes) = read_all(alloc, &mut shelf, "m.tra", 1000) else {
         return Err(Fail::new("the file is not read"));
     };

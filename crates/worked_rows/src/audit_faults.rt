@@ -16,35 +16,48 @@ fn texts_of_certificates_are_refused_at_their_line(rt: HostRuntime) -> Result<()
     let alloc = rt.alloc();
     for (certificate, cause) in [
         ("", "0 NoCertificate"),
-        ("certificates 1 3\n", "0 NoCertificate"),
-        ("certificate 1\n", "1 BadLine"),
-        ("\ncertificate 1 3 3\n", "2 BadLine"),
-        ("certificate 2 3\n", "1 Version"),
-        ("certificate 1 4\n", "1 StateCount"),
-        ("certificate 1 3\n0 0.5 1 1 0.5 -\n", "2 BadLine"),
+        ("certificates 2 3\n", "0 NoCertificate"),
+        ("certificate 2\n", "1 BadLine"),
+        ("\ncertificate 2 3 3\n", "2 BadLine"),
+        ("certificate 3 3\n", "1 Version"),
+        ("certificate 9 3\n", "1 Version"),
+        ("certificate 2 4\n", "1 StateCount"),
+        ("certificate 2 3\n0 0.5 1 1 0.5 -\n", "2 BadLine"),
         (
-            "certificate 1 3\n0 0.500000000000 1 1 0.500000000000 -\n2 0.000000000000 - 0 0.000000000000 -\n",
-            "3 BadLine",
+            "certificate 2 3\n0 0.500000000000 1 1 0.500000000000 -\n",
+            "2 BadLine",
+        ),
+        (
+            "certificate 1 3\n0 0.500000000000000 1 1 0.500000000000000 -\n",
+            "2 BadLine",
         ),
         (
             "certificate 1 3\n0 1.000000000001 1 1 1.000000000000 -\n",
             "2 NumberOutOfRange",
         ),
         (
-            "certificate 1 3\n0 0.500000000000 16777216 1 0.500000000000 -\n",
+            "certificate 2 3\n0 0.500000000000000 1 1 0.500000000000000 -\n2 0.000000000000000 - 0 0.000000000000000 -\n",
+            "3 BadLine",
+        ),
+        (
+            "certificate 2 3\n0 1.000000000000001 1 1 1.000000000000000 -\n",
             "2 NumberOutOfRange",
         ),
         (
-            "certificate 1 3\n0 0.500000000000 1 4294967296 0.500000000000 -\n",
+            "certificate 2 3\n0 0.500000000000000 16384 1 0.500000000000000 -\n",
             "2 NumberOutOfRange",
         ),
-        ("certificate 1 3\n", "2 MissingLine"),
         (
-            "certificate 1 3\n0 0.500000000000 1 1 0.500000000000 -\n1 1.000000000000 - 0 1.000000000000 -\n\n",
+            "certificate 2 3\n0 0.500000000000000 1 4294967296 0.500000000000000 -\n",
+            "2 NumberOutOfRange",
+        ),
+        ("certificate 2 3\n", "2 MissingLine"),
+        (
+            "certificate 2 3\n0 0.500000000000000 1 1 0.500000000000000 -\n1 1.000000000000000 - 0 1.000000000000000 -\n\n",
             "4 MissingLine",
         ),
         (
-            "certificate 1 3\n0 0.500000000000 1 1 0.500000000000 -\n1 1.000000000000 - 0 1.000000000000 -\n2 0.000000000000 - 0 0.000000000000 -\n\nend\n",
+            "certificate 2 3\n0 0.500000000000000 1 1 0.500000000000000 -\n1 1.000000000000000 - 0 1.000000000000000 -\n2 0.000000000000000 - 0 0.000000000000000 -\n\nend\n",
             "6 BadLine",
         ),
     ] {
@@ -61,15 +74,15 @@ fn texts_of_certificates_are_refused_at_their_line(rt: HostRuntime) -> Result<()
 
 // The lines of the certificate of the first player's threshold in the game of two players.
 const LINES: [&str; 4] = [
-    "0 0.650000000000 1 1 0.650000000000 -",
-    "1 0.200000000000 - 1 0.200000000000 1",
-    "2 1.000000000000 - 0 1.000000000000 -",
-    "3 0.000000000000 - 0 0.000000000000 -",
+    "0 0.650000000000000 1 1 0.650000000000000 -",
+    "1 0.200000000000000 - 1 0.200000000000000 1",
+    "2 1.000000000000000 - 0 1.000000000000000 -",
+    "3 0.000000000000000 - 0 0.000000000000000 -",
 ];
 
 // That certificate, where each of these lines stands in place of the one of its state.
 fn with_changes(alloc: Global, changes: &[&str]) -> Result<String, Fail> {
-    let mut text = String::from_str(alloc, "certificate 1 4\n")?;
+    let mut text = String::from_str(alloc, "certificate 2 4\n")?;
     for line in LINES {
         let mut changed = line;
         for change in changes {
@@ -105,35 +118,35 @@ fn each_cause_is_named_with_its_state(rt: HostRuntime) -> Result<(), Fail> {
     let alloc = rt.alloc();
     for (change, cause) in [
         (
-            "0 0.650000000000 1 1 1.000000000001 -",
+            "0 0.650000000000000 1 1 1.000000000000001 -",
             "2 NumberOutOfRange",
         ),
-        ("2 1.000000000000 - 0 0.999999999999 -", "0 Goal state 2"),
+        ("2 1.000000000000000 - 0 0.999999999999999 -", "0 Goal state 2"),
         (
-            "0 0.650000000000 1 1 0.649999999999 -",
+            "0 0.650000000000000 1 1 0.649999999999999 -",
             "0 Above state 0 choice 1",
         ),
-        ("1 0.200000000000 - 1 0.199999999999 1", "0 NoReply state 1"),
-        ("1 0.200000000000 - 1 0.200000000000 -", "0 Reply state 1"),
-        ("1 0.200000000000 - 1 0.200000000000 0", "0 Reply state 1"),
-        ("1 0.200000000000 - 1 0.200000000000 2", "0 Reply state 1"),
-        ("0 0.650000000000 - 1 0.650000000000 -", "0 Choice state 0"),
-        ("0 0.650000000000 2 1 0.650000000000 -", "0 Choice state 0"),
+        ("1 0.200000000000000 - 1 0.199999999999999 1", "0 NoReply state 1"),
+        ("1 0.200000000000000 - 1 0.200000000000000 -", "0 Reply state 1"),
+        ("1 0.200000000000000 - 1 0.200000000000000 0", "0 Reply state 1"),
+        ("1 0.200000000000000 - 1 0.200000000000000 2", "0 Reply state 1"),
+        ("0 0.650000000000000 - 1 0.650000000000000 -", "0 Choice state 0"),
+        ("0 0.650000000000000 2 1 0.650000000000000 -", "0 Choice state 0"),
         (
-            "0 0.650000000001 1 1 0.650000000000 -",
+            "0 0.650000000000001 1 1 0.650000000000000 -",
             "0 Short state 0 choice 1",
         ),
         (
-            "1 0.200000000001 - 1 0.200000000000 1",
+            "1 0.200000000000001 - 1 0.200000000000000 1",
             "0 Short state 1 choice 1",
         ),
         (
-            "0 0.200000000000 0 1 0.650000000000 -",
+            "0 0.200000000000000 0 1 0.650000000000000 -",
             "0 NoStep state 0 choice 0",
         ),
-        ("3 0.100000000000 - 9 0.000000000000 -", "0 Choice state 3"),
+        ("3 0.100000000000000 - 9 0.000000000000000 -", "0 Choice state 3"),
         (
-            "3 0.100000000000 0 9 0.000000000000 -",
+            "3 0.100000000000000 0 9 0.000000000000000 -",
             "0 NoStep state 3 choice 0",
         ),
     ] {
@@ -143,9 +156,9 @@ fn each_cause_is_named_with_its_state(rt: HostRuntime) -> Result<(), Fail> {
         &rt,
         alloc,
         &[
-            "0 0.000000000000 - 0 0.650000000000 -",
-            "1 0.000000000000 - 0 0.200000000000 1",
-            "2 0.999999999999 - 0 1.000000000000 -",
+            "0 0.000000000000000 - 0 0.650000000000000 -",
+            "1 0.000000000000000 - 0 0.200000000000000 1",
+            "2 0.999999999999999 - 0 1.000000000000000 -",
         ],
         "0 Value state 2",
     )
@@ -156,23 +169,23 @@ fn lines_that_are_other_but_right_are_accepted(rt: HostRuntime) -> Result<(), Fa
     let alloc = rt.alloc();
     for (change, bounds, status) in [
         (
-            "1 0.200000000000 7 1 0.200000000000 1",
-            "lower 0.650000000000 upper 0.650000000000 audited True",
+            "1 0.200000000000000 7 1 0.200000000000000 1",
+            "lower 0.650000000000000 upper 0.650000000000000 audited True",
             Status::Fine,
         ),
         (
-            "0 0.200000000000 0 2 0.650000000000 5",
-            "lower 0.200000000000 upper 0.650000000000 audited Undecided",
+            "0 0.200000000000000 0 2 0.650000000000000 5",
+            "lower 0.200000000000000 upper 0.650000000000000 audited Undecided",
             Status::SomeUndecided,
         ),
         (
-            "0 0.600000000000 1 0 0.700000000000 -",
-            "lower 0.600000000000 upper 0.700000000000 audited True",
+            "0 0.600000000000000 1 0 0.700000000000000 -",
+            "lower 0.600000000000000 upper 0.700000000000000 audited True",
             Status::Fine,
         ),
         (
-            "3 0.000000000000 5 9 0.000000000000 5",
-            "lower 0.650000000000 upper 0.650000000000 audited True",
+            "3 0.000000000000000 5 9 0.000000000000000 5",
+            "lower 0.650000000000000 upper 0.650000000000000 audited True",
             Status::Fine,
         ),
     ] {
@@ -195,11 +208,11 @@ fn the_text_comes_first_and_then_upper_bounds_replies_and_lower_bounds(
     rt: HostRuntime,
 ) -> Result<(), Fail> {
     let alloc = rt.alloc();
-    let no_choice = "0 0.650000000000 - 1 0.650000000000 -";
-    let too_low = "0 0.650000000000 - 1 0.000000000000 -";
-    let no_reply = "1 0.200000000000 - 1 0.200000000000 -";
-    let low_goal = "2 1.000000000000 - 0 0.999999999999 -";
-    let over_one = "3 0.000000000000 - 0 1.000000000001 -";
+    let no_choice = "0 0.650000000000000 - 1 0.650000000000000 -";
+    let too_low = "0 0.650000000000000 - 1 0.000000000000000 -";
+    let no_reply = "1 0.200000000000000 - 1 0.200000000000000 -";
+    let low_goal = "2 1.000000000000000 - 0 0.999999999999999 -";
+    let over_one = "3 0.000000000000000 - 0 1.000000000000001 -";
     let tables: [(&[&str], &str); 6] = [
         (&[no_choice], "0 Choice state 0"),
         (&[no_choice, no_reply], "0 Reply state 1"),

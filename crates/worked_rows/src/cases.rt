@@ -47,7 +47,7 @@ pub const CHECK_OF_COIN_LOOP: Case<'static> = Case {
 /// The check of the agreement protocol.
 pub const CHECK_OF_AGREEMENT: Case<'static> = Case {
     command: Command::Check(MOST_OF_AGREEMENT),
-    text: "state 0 lower 0.839999999999 upper 0.840000000000 rounds 20 Bracket\n",
+    text: "state 0 lower 0.839999999999999 upper 0.840000000000000 rounds 24 Bracket\n",
     status: Status::Fine,
 };
 
@@ -61,7 +61,7 @@ pub const PLAN_OF_LOOP_OR_COIN: Case<'static> = Case {
 /// The audit of that certificate.
 pub const AUDIT_OF_LOOP_OR_COIN: Case<'static> = Case {
     command: Command::Audit(MOST_OF_LOOP_OR_COIN, LOOP_OR_COIN_PLAN),
-    text: "state 0 lower 0.500000000000 upper 0.500000000000 audited Bracket\n",
+    text: "state 0 lower 0.500000000000000 upper 0.500000000000000 audited Bracket\n",
     status: Status::Fine,
 };
 
@@ -75,7 +75,7 @@ pub const PLAN_OF_TWO_PLAYERS: Case<'static> = Case {
 /// The audit of that certificate.
 pub const AUDIT_OF_TWO_PLAYERS: Case<'static> = Case {
     command: Command::Audit(FIRST_OF_TWO_PLAYERS, TWO_PLAYERS_PLAN),
-    text: "state 0 lower 0.650000000000 upper 0.650000000000 audited True\n",
+    text: "state 0 lower 0.650000000000000 upper 0.650000000000000 audited True\n",
     status: Status::Fine,
 };
 
@@ -101,7 +101,7 @@ pub const COIN_LOOP_OUT_OF_ORDER: Case<'static> = Case {
 
 /// The audit of a text of another version.
 pub const OTHER_VERSION: Case<'static> = Case {
-    command: Command::Audit(MOST_OF_LOOP_OR_COIN, "certificate 2 3\n"),
+    command: Command::Audit(MOST_OF_LOOP_OR_COIN, "certificate 9 3\n"),
     text: "refused cert line 1 Version\n",
     status: Status::CertificateRefused,
 };

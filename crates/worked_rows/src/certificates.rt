@@ -29,11 +29,11 @@ pub const FIRST_OF_TWO_PLAYERS: Row<'static> = Row {
 
 /// What is printed of the loop or coin.
 pub const LOOP_OR_COIN_PLAN: &str =
-    "state 0 lower 0.500000000000 upper 0.500000000000 rounds 2 Bracket\nformula Pmax=? [ F \"goal\" ]\ncertificate 1 3\n0 0.500000000000 1 1 0.500000000000 -\n1 1.000000000000 - 0 1.000000000000 -\n2 0.000000000000 - 0 0.000000000000 -\n";
+    "state 0 lower 0.500000000000000 upper 0.500000000000000 rounds 2 Bracket\nformula Pmax=? [ F \"goal\" ]\ncertificate 2 3\n0 0.500000000000000 1 1 0.500000000000000 -\n1 1.000000000000000 - 0 1.000000000000000 -\n2 0.000000000000000 - 0 0.000000000000000 -\n";
 
 /// What is printed of the first player's threshold.
 pub const TWO_PLAYERS_PLAN: &str =
-    "state 0 lower 0.650000000000 upper 0.650000000000 rounds 1 True\nformula <<p1>> P>=3/5 [ F \"goal\" ]\ncertificate 1 4\n0 0.650000000000 1 1 0.650000000000 -\n1 0.200000000000 - 1 0.200000000000 1\n2 1.000000000000 - 0 1.000000000000 -\n3 0.000000000000 - 0 0.000000000000 -\n";
+    "state 0 lower 0.650000000000000 upper 0.650000000000000 rounds 1 True\nformula <<p1>> P>=3/5 [ F \"goal\" ]\ncertificate 2 4\n0 0.650000000000000 1 1 0.650000000000000 -\n1 0.200000000000000 - 1 0.200000000000000 1\n2 1.000000000000000 - 0 1.000000000000000 -\n3 0.000000000000000 - 0 0.000000000000000 -\n";
 
 #[test]
 fn a_plan_leaves_the_loop(rt: HostRuntime) -> Result<(), Fail> {
@@ -51,7 +51,7 @@ fn a_printed_plan_is_read_back(rt: HostRuntime) -> Result<(), Fail> {
     let Ok(plan) = read_plan(rt.alloc(), LOOP_OR_COIN_PLAN.as_bytes(), 3) else {
         return Err(Fail::new("the certificate is refused"));
     };
-    let table = [500_000_000_000, 1_000_000_000_000, 0];
+    let table = [500_000_000_000_000, 1_000_000_000_000_000, 0];
     assert_eq!(rt; plan.lower.as_slice(), table.as_slice());
     assert_eq!(rt; plan.upper.as_slice(), table.as_slice());
     assert_eq!(rt; plan.choices.as_slice(), [Some(1), None, None].as_slice());

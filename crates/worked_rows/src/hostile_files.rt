@@ -268,25 +268,25 @@ fn printed_texts_that_were_changed_are_refused_as_certificates(
     rt: HostRuntime,
 ) -> Result<(), Fail> {
     let alloc = rt.alloc();
-    let kept = "0 0.500000000000 1 1 0.500000000000 -";
-    let goal = "1 1.000000000000 - 0 1.000000000000 -";
+    let kept = "0 0.500000000000000 1 1 0.500000000000000 -";
+    let goal = "1 1.000000000000000 - 0 1.000000000000000 -";
     for (header, first, second, cause) in [
         ("9 3", kept, goal, "3 Version"),
         (
-            "1 3",
-            "0 0.500000000000 5 1 0.500000000000 -",
+            "2 3",
+            "0 0.500000000000000 5 1 0.500000000000000 -",
             goal,
             "0 Choice state 0",
         ),
         (
-            "1 3",
-            "0 0.400000000000 1 1 0.500000000000 -",
-            "1 0.900000000000 - 0 1.000000000000 -",
+            "2 3",
+            "0 0.400000000000000 1 1 0.500000000000000 -",
+            "1 0.900000000000000 - 0 1.000000000000000 -",
             "0 Value state 1",
         ),
     ] {
         let certificate = format!(in alloc;
-            "state 0 lower 0.500000000000 upper 0.500000000000 rounds 2 Bracket\nformula Pmax=? [ F \"goal\" ]\ncertificate {header}\n{first}\n{second}\n2 0.000000000000 - 0 0.000000000000 -\n"
+            "state 0 lower 0.500000000000000 upper 0.500000000000000 rounds 2 Bracket\nformula Pmax=? [ F \"goal\" ]\ncertificate {header}\n{first}\n{second}\n2 0.000000000000000 - 0 0.000000000000000 -\n"
         )?;
         audit_refuses(
             &rt,
@@ -304,22 +304,22 @@ fn printed_replies_and_upper_values_that_were_changed_are_refused(
     rt: HostRuntime,
 ) -> Result<(), Fail> {
     let alloc = rt.alloc();
-    let kept = "1 0.200000000000 - 1 0.200000000000 1";
-    let goal = "2 1.000000000000 - 0 1.000000000000 -";
+    let kept = "1 0.200000000000000 - 1 0.200000000000000 1";
+    let goal = "2 1.000000000000000 - 0 1.000000000000000 -";
     for (second, third, cause) in [
         (
-            "1 0.200000000000 - 1 0.100000000000 1",
+            "1 0.200000000000000 - 1 0.100000000000000 1",
             goal,
             "NoReply state 1",
         ),
         (
             kept,
-            "2 1.000000000000 - 0 0.900000000000 -",
+            "2 1.000000000000000 - 0 0.900000000000000 -",
             "Goal state 2",
         ),
     ] {
         let certificate = format!(in alloc;
-            "state 0 lower 0.650000000000 upper 0.650000000000 rounds 1 True\nformula <<p1>> P>=3/5 [ F \"goal\" ]\ncertificate 1 4\n0 0.650000000000 1 1 0.650000000000 -\n{second}\n{third}\n3 0.000000000000 - 0 0.000000000000 -\n"
+            "state 0 lower 0.650000000000000 upper 0.650000000000000 rounds 1 True\nformula <<p1>> P>=3/5 [ F \"goal\" ]\ncertificate 2 4\n0 0.650000000000000 1 1 0.650000000000000 -\n{second}\n{third}\n3 0.000000000000000 - 0 0.000000000000000 -\n"
         )?;
         let line = format!(in alloc; "0 {cause}")?;
         audit_refuses(

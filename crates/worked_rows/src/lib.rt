@@ -43,6 +43,8 @@ mod made;
 #[cfg(test)]
 mod models;
 #[cfg(test)]
+mod names_begun;
+#[cfg(test)]
 mod other_certificates;
 #[cfg(test)]
 mod pieces;

@@ -148,7 +148,7 @@ fn owners_give<R: Threads + Sync + Abort>(
 }
 
 /// What the transitions report.
-const REPORT: &str = "state 0 lower 0.300000000000 upper 0.300000000000 rounds 2 Bracket\n";
+const REPORT: &str = "state 0 lower 0.300000000000000 upper 0.300000000000000 rounds 2 Bracket\n";
 
 #[test]
 fn long_transition_files_may_be_cut_anywhere(rt: HostRuntime) -> Result<(), Fail> {

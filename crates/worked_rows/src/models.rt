@@ -33,14 +33,14 @@ pub const LOOP_OR_COIN: &str = "3 4 5\n0 0 0 1\n0 1 1 0.5\n0 1 2 0.5\n1 0 1 1\n2
 
 /// What the coin loop reports.
 pub const COIN_LOOP_REPORT: &str =
-    "state 0 lower 0.499999999999 upper 0.500000000000 rounds 40 Bracket\n";
+    "state 0 lower 0.499999999999999 upper 0.500000000000000 rounds 50 Bracket\n";
 
 /// What the threshold 0.6 of the first of two players reports.
-pub const FIRST_IS_TRUE: &str = "state 0 lower 0.650000000000 upper 0.650000000000 rounds 1 True\n";
+pub const FIRST_IS_TRUE: &str = "state 0 lower 0.650000000000000 upper 0.650000000000000 rounds 1 True\n";
 
 /// What the game of three states that seed 1 draws reports.
 pub const OF_THREE_STATES: &str =
-    "model seed 1 states 3 zero 1 lower 1470588235294 upper 1470588235295 settled\n";
+    "model seed 1 states 3 zero 1 lower 1470588235294117 upper 1470588235294118 settled\n";
 
 /// What words that denote no command report.
 pub const USAGE: &str =

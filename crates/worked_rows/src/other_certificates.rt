@@ -82,7 +82,7 @@ fn a_certificate_that_is_right_elsewhere_is_accepted(rt: HostRuntime) -> Result<
         alloc,
         most(LOOP_OR_COIN),
         &printed,
-        "state 0 lower 0.000000000000 upper 0.549755813888 audited Bracket\n",
+        "state 0 lower 0.000000000000000 upper 0.562949953421312 audited Bracket\n",
         Status::Fine,
     )?;
     let (_, printed) = runs(&rt, alloc, FIRST_OF_TWO_PLAYERS, &OpenGate {})?;
@@ -96,7 +96,7 @@ fn a_certificate_that_is_right_elsewhere_is_accepted(rt: HostRuntime) -> Result<
             ..FIRST_OF_TWO_PLAYERS
         };
         let text = format!(in alloc;
-            "state 0 lower 0.650000000000 upper 0.650000000000 audited {verdict}\n"
+            "state 0 lower 0.650000000000000 upper 0.650000000000000 audited {verdict}\n"
         )?;
         audit_writes(&rt, alloc, given, &printed, text.as_str(), status)?;
     }

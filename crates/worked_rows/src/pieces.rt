@@ -18,7 +18,7 @@ const CHAIN_IN_CRLF: Case<'static> = Case {
         tra: "3 4\r\n0 1 0.3\r\n0 2 0.7\r\n1 1 1\r\n2 2 1\r\n\r\n\r\n",
         ..MOST_OF_COIN_LOOP
     }),
-    text: "state 0 lower 0.300000000000 upper 0.300000000000 rounds 2 Bracket\n",
+    text: "state 0 lower 0.300000000000000 upper 0.300000000000000 rounds 2 Bracket\n",
     status: Status::Fine,
 };
 

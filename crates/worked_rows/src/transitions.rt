@@ -142,7 +142,8 @@ fn headers_and_fields_are_refused(rt: HostRuntime) -> Result<(), Fail> {
 fn numbers_are_refused_by_their_cause(rt: HostRuntime) -> Result<(), Fail> {
     let alloc = rt.alloc();
     number(&rt, alloc, ".5", "NotANumber")?;
-    number(&rt, alloc, "1e-30", "TooFine")?;
+    number(&rt, alloc, "1e-24", "TooFine")?;
+    number(&rt, alloc, "0.000000000000000000000001", "TooFine")?;
     number(&rt, alloc, "1/0", "ZeroDenominator")?;
     number(&rt, alloc, "2.1", "TooLarge")?;
     number(

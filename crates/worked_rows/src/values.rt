@@ -20,7 +20,7 @@ fn the_coin_loop_has_one_half(rt: HostRuntime) -> Result<(), Fail> {
         Status::Fine,
     )?;
     let at_goal = "0=\"init\" 1=\"goal\"\n1: 0 1\n";
-    let report = "state 1 lower 1.000000000000 upper 1.000000000000 rounds 40 Bracket\n";
+    let report = "state 1 lower 1.000000000000000 upper 1.000000000000000 rounds 50 Bracket\n";
     writes(
         &rt,
         alloc,
@@ -30,7 +30,7 @@ fn the_coin_loop_has_one_half(rt: HostRuntime) -> Result<(), Fail> {
     )?;
     let two = "0=\"init\" 1=\"goal\"\n2: 0\n0: 0\n1: 1\n";
     let lines =
-        "state 0 lower 0.499999999999 upper 0.500000000000 rounds 40 Bracket\nstate 2 lower 0.000000000000 upper 0.000000000000 rounds 40 Bracket\n";
+        "state 0 lower 0.499999999999999 upper 0.500000000000000 rounds 50 Bracket\nstate 2 lower 0.000000000000000 upper 0.000000000000000 rounds 50 Bracket\n";
     writes(
         &rt,
         alloc,
@@ -43,7 +43,7 @@ fn the_coin_loop_has_one_half(rt: HostRuntime) -> Result<(), Fail> {
 #[test]
 fn states_of_value_0_have_the_upper_bound_0(rt: HostRuntime) -> Result<(), Fail> {
     let alloc = rt.alloc();
-    let zero = "state 0 lower 0.000000000000 upper 0.000000000000 rounds 1 Bracket\n";
+    let zero = "state 0 lower 0.000000000000000 upper 0.000000000000000 rounds 1 Bracket\n";
     let alone = plain_row(
         "1 0 0\n",
         "0=\"init\" 1=\"goal\"\n0: 0\n",
@@ -66,7 +66,7 @@ const MIXED: &str =
 const ROUNDED: &str = "3 3 4\n0 0 1 0.5\n0 0 2 0.50001\n1 0 1 1\n2 0 2 1\n";
 
 const FINE: &str =
-    "3 3 4\n0 0 1 0.000000000000000000000001\n0 0 2 0.999999999999999999999999\n1 0 1 1\n2 0 2 1\n";
+    "3 3 4\n0 0 1 0.00000000000000000000001\n0 0 2 0.99999999999999999999999\n1 0 1 1\n2 0 2 1\n";
 
 const WIDE: &str =
     "3 3 4\n0 0 1 0.333333333333333333333\n0 0 2 0.666666666666666666667\n1 0 1 1\n2 0 2 1\n";
@@ -75,13 +75,13 @@ const WIDE: &str =
 fn decimals_and_fractions_are_exact(rt: HostRuntime) -> Result<(), Fail> {
     let alloc = rt.alloc();
     for (tra, side, bounds) in [
-        (THIRDS, "max", "lower 0.333333333333 upper 0.333333333334"),
-        (CHAIN, "max", "lower 0.300000000000 upper 0.300000000000"),
-        (MIXED, "max", "lower 0.333333333333 upper 0.333333333334"),
-        (MIXED, "min", "lower 0.000010000000 upper 0.000010000000"),
-        (ROUNDED, "max", "lower 0.499995000049 upper 0.499995000050"),
-        (FINE, "max", "lower 0.000000000000 upper 0.000000000001"),
-        (WIDE, "max", "lower 0.333333333333 upper 0.333333333334"),
+        (THIRDS, "max", "lower 0.333333333333333 upper 0.333333333333334"),
+        (CHAIN, "max", "lower 0.300000000000000 upper 0.300000000000000"),
+        (MIXED, "max", "lower 0.333333333333333 upper 0.333333333333334"),
+        (MIXED, "min", "lower 0.000010000000000 upper 0.000010000000000"),
+        (ROUNDED, "max", "lower 0.499995000049999 upper 0.499995000050000"),
+        (FINE, "max", "lower 0.000000000000000 upper 0.000000000000001"),
+        (WIDE, "max", "lower 0.333333333333333 upper 0.333333333333334"),
     ] {
         let formula = format!(in alloc; "P{side}=? [ F \"goal\" ]")?;
         let row = plain_row(tra, GOAL_AT_1, formula.as_str());
@@ -101,7 +101,7 @@ fn coalitions_choose_at_the_states_of_their_players(rt: HostRuntime) -> Result<(
         formula: "<<p1>> Pmax=? [ F \"goal\" ]",
         numbers: ONE_WORKER,
     };
-    let most = "state 0 lower 0.650000000000 upper 0.650000000000 rounds 3 Bracket\n";
+    let most = "state 0 lower 0.650000000000000 upper 0.650000000000000 rounds 3 Bracket\n";
     writes(&rt, alloc, first, most, Status::Fine)?;
     let agreement = Row {
         tra: AGREEMENT,
@@ -110,6 +110,6 @@ fn coalitions_choose_at_the_states_of_their_players(rt: HostRuntime) -> Result<(
         formula: "<<p1>> Pmax=? [ \"ok\" U \"done\" ]",
         numbers: ONE_WORKER,
     };
-    let agreed = "state 0 lower 0.839999999999 upper 0.840000000000 rounds 20 Bracket\n";
+    let agreed = "state 0 lower 0.839999999999999 upper 0.840000000000000 rounds 24 Bracket\n";
     writes(&rt, alloc, agreement, agreed, Status::Fine)
 }

@@ -13,7 +13,7 @@ const REACH: &str = "Pmax=? [ F \"goal\" ]";
 
 /// A certificate of the coin loop's value.
 const COIN_LOOP_CERTIFICATE: &str =
-    "certificate 1 3\n0 0.500000000000 0 1 0.500000000000 -\n1 1.000000000000 - 0 1.000000000000 -\n2 0.000000000000 - 0 0.000000000000 -\n";
+    "certificate 2 3\n0 0.500000000000000 0 1 0.500000000000000 -\n1 1.000000000000000 - 0 1.000000000000000 -\n2 0.000000000000000 - 0 0.000000000000000 -\n";
 
 /// The files of the coin loop, and a certificate; a single minus is the name of the transition file as well.
 pub fn coin_loop_files(alloc: Global) -> Result<Vec<HeldFile>, Fail> {
@@ -285,7 +285,7 @@ fn a_run_of_no_rounds_has_its_certificate(rt: HostRuntime) -> Result<(), Fail> {
         REACH,
     ];
     let text =
-        "state 0 lower 0.000000000000 upper 0.549755813888 rounds 0 Bracket\nformula Pmax=? [ F \"goal\" ]\ncertificate 1 3\n0 0.000000000000 - 0 0.549755813888 -\n1 1.000000000000 - 0 1.000000000000 -\n2 0.000000000000 - 0 0.000000000000 -\n";
+        "state 0 lower 0.000000000000000 upper 0.562949953421312 rounds 0 Bracket\nformula Pmax=? [ F \"goal\" ]\ncertificate 2 3\n0 0.000000000000000 - 0 0.562949953421312 -\n1 1.000000000000000 - 0 1.000000000000000 -\n2 0.000000000000000 - 0 0.000000000000000 -\n";
     writes(&rt, rt.alloc(), &given, text, Status::Fine)
 }
 
@@ -348,7 +348,7 @@ fn an_audit_takes_four_words_and_an_owner_file(rt: HostRuntime) -> Result<(), Fa
         &["audit", "m.tra", "m.lab", "--", REACH, "c"],
         &["audit", "--own=m.own", "--", "-", "m.lab", REACH, "c"],
     ];
-    let report = "state 0 lower 0.500000000000 upper 0.500000000000 audited Bracket\n";
+    let report = "state 0 lower 0.500000000000000 upper 0.500000000000000 audited Bracket\n";
     for given in lists {
         writes(&rt, alloc, given, report, Status::Fine)?;
     }

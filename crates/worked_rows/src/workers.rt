@@ -12,7 +12,7 @@ use std::thread::Threads;
 use stogame_app::Status;
 
 /// What stands before the number of rounds in the agreement's line.
-const AGREED: &str = "state 0 lower 0.839999999999 upper 0.840000000000 rounds ";
+const AGREED: &str = "state 0 lower 0.839999999999999 upper 0.840000000000000 rounds ";
 
 fn agreement<'a>(numbers: &'a [&'a str]) -> Row<'a> {
     Row {
@@ -104,15 +104,15 @@ fn at_most_the_asked_rounds_are_made(rt: HostRuntime) -> Result<(), Fail> {
     for (rounds, line) in [
         (
             "0",
-            "state 0 lower 0.000000000000 upper 0.549755813888 rounds 0 Bracket\n",
+            "state 0 lower 0.000000000000000 upper 0.562949953421312 rounds 0 Bracket\n",
         ),
         (
             "1",
-            "state 0 lower 0.250000000000 upper 0.524877906944 rounds 1 Bracket\n",
+            "state 0 lower 0.250000000000000 upper 0.531474976710656 rounds 1 Bracket\n",
         ),
         (
             "+002",
-            "state 0 lower 0.375000000000 upper 0.512438953472 rounds 2 Bracket\n",
+            "state 0 lower 0.375000000000000 upper 0.515737488355328 rounds 2 Bracket\n",
         ),
         ("1000000", COIN_LOOP_REPORT),
     ] {

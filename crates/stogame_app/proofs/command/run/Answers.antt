@@ -41,9 +41,15 @@ returns-in-Ok-Some-clause-write_fault g c = λ is.
       (
         r.1.0,
         elim r.1.1 [
-          | inl report ↦ inl (report.0, record { command = command; denoted = denoted; report = report.1 })
+          | inl report ↦ inl (report.0, record { command = command; denoted = denoted; answer = report.1 })
           | inr refusal ↦ inr (inl (refusal.0, record { command = command; denoted = denoted; refusal = refusal.1 }))
         ],
         r.1.2,
       ),
     )
+
+pub returns-in-Ok-Some-clause-read_fault : goal.returns-in-Ok-Some-clause-read_fault
+returns-in-Ok-Some-clause-read_fault g c = λ is.
+    let r = c.run_command.ensures.read_fault is in
+    let denoted = MatchOption-at_some _ _ c.in-Ok-Some.command c.in-Ok-Some.field-0-is c.in-Ok-Some.ensures in
+    (r.0, r.1, record { command = command_of c.in-Ok-Some.command; denoted = denoted; reads = r.2; short = r.3 })

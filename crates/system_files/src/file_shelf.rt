@@ -1,30 +1,56 @@
-//! Real files and a real writer, as a shelf and a sink. What they hold, no contract says: they are the trusted edge.
+//! Real files, as a shelf.
 
-ghost use Rattle.std.specs.Prelude.{None, false};
+ghost use Rattle.std.specs.Prelude.{◌≡◌, None, false, option_map};
+ghost use Rattle.std.specs.String.{string_bytes};
 
-use game_outside::{Failed, Shelf, Sink};
+use crate::failure::Failure;
+use game_outside::{Failed, Shelf};
+use std::alloc::Global;
 use std::fs::File;
-use std::io::{Read, Write};
+use std::io::Read;
 use std::rt::Files;
 
 /// Files, under their paths. It tells nothing of what they hold but the number of bytes taken.
 #[derive(Drop)]
 pub struct FileShelf<'a, R: Files> {
     rt: &'a R,
+    alloc: Global,
     file: Option<R::File>,
     taken: u64,
     faults: u64,
+    name: Option<String>,
+    failure: Option<Failure>,
 }
 
 impl<'a, R: Files> FileShelf<'a, R> {
     /// A shelf on which no file is begun.
-    pub fn new(rt: &'a R) -> Self {
+    pub fn new(rt: &'a R, alloc: Global) -> Self {
         FileShelf {
             rt,
+            alloc,
             file: None,
             taken: 0,
             faults: 0,
+            name: None,
+            failure: None,
         }
+    }
+
+    /// The name of the file that was begun last, unless memory was wanting for it.
+    pub fn name(&self) -> Option<&str>
+        ensures { option_map (λ name. name.now) result ≡ option_map string_bytes self.now.name }
+    {
+        match &self.name {
+            Some(name) => Some(name.as_str()),
+            None => None,
+        }
+    }
+
+    /// Why the last call that failed did so.
+    pub fn failure(&self) -> Option<Failure>
+        ensures { result ≡ self.now.failure }
+    {
+        self.failure
     }
 }
 
@@ -42,12 +68,14 @@ impl<'a, R: Files> Shelf for FileShelf<'a, R> {
     fn begin(&mut self, name: &str) -> Result<(), Failed> {
         self.taken = 0;
         self.file = None;
+        self.name = String::from_str(self.alloc, name).ok();
         match File::open(self.rt, name) {
             Ok(file) => {
                 self.file = Some(file);
                 Ok(())
             }
-            Err(_) => {
+            Err(error) => {
+                self.failure = Some(Failure::of(&error));
                 self.faults = self.faults.saturating_add(1);
                 Err(Failed {})
             }
@@ -65,42 +93,8 @@ impl<'a, R: Files> Shelf for FileShelf<'a, R> {
                 self.taken = self.taken.saturating_add(count as u64);
                 Ok(count)
             }
-            Err(_) => {
-                self.faults = self.faults.saturating_add(1);
-                Err(Failed {})
-            }
-        }
-    }
-}
-
-/// A writer, as a sink that tells nothing.
-#[derive(Drop)]
-pub struct OutSink<W: Write> {
-    writer: W,
-    faults: u64,
-}
-
-impl<W: Write> OutSink<W> {
-    /// The sink over this writer.
-    pub fn new(writer: W) -> Self {
-        OutSink { writer, faults: 0 }
-    }
-}
-
-impl<W: Write> Sink for OutSink<W> {
-    ghost written = { λ s. None };
-
-    ghost faults = { λ s. s.faults };
-
-    fn put(&mut self, piece: &[u8]) -> Result<usize, Failed> {
-        match self.writer.write(piece) {
-            Ok(count) => {
-                if count == 0 && !piece.is_empty() {
-                    self.faults = self.faults.saturating_add(1);
-                }
-                Ok(count)
-            }
-            Err(_) => {
+            Err(error) => {
+                self.failure = Some(Failure::of(&error));
                 self.faults = self.faults.saturating_add(1);
                 Err(Failed {})
             }

@@ -1,0 +1,13 @@
+//! Real files and a real writer, as the shelf and the sink of a run. What they hold, no contract says: they are the trusted edge.
+//!
+//! [`FileShelf`] and [`OutSink`] keep what `game_outside` asks of each shelf and each sink, and tell nothing of the bytes. Each
+//! remembers why its last call failed, for a line on standard error; no clause speaks of that.
+#![tactic(auto)]
+
+mod failure;
+mod file_shelf;
+mod out_sink;
+
+pub use failure::Failure;
+pub use file_shelf::FileShelf;
+pub use out_sink::OutSink;

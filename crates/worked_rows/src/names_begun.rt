@@ -1,0 +1,96 @@
+//! The names that a run begins, in their order: those of the texts that the words name, and no other.
+
+ghost use Rattle.std.specs.Prelude.{None, false};
+
+use crate::cases::{
+    AUDIT_OF_LOOP_OR_COIN, CHECK_OF_AGREEMENT, CHECK_OF_COIN_LOOP, COIN_LOOP_OUT_OF_ORDER, Case,
+    DRAWN_GAME, NO_COMMAND, STATE_OUT_OF_RANGE,
+};
+use game_outside::{Failed, OpenGate, Shelf, SteadyShelf, SteadySink};
+use std::alloc::Global;
+use std::process::Abort;
+use std::test::Fail;
+use std::thread::Threads;
+use stogame_app::run;
+
+// A shelf that notes each name that it begins, with a space behind it.
+#[derive(Drop)]
+struct NotingShelf {
+    shelf: SteadyShelf,
+    names: String,
+    taken: u64,
+    faults: u64,
+}
+
+impl Shelf for NotingShelf {
+    ghost held = { λ s. None };
+
+    ghost rest = { λ s. None };
+
+    ghost taken = { λ s. s.taken };
+
+    ghost faults = { λ s. s.faults };
+
+    ghost steady = { λ s. false };
+
+    fn begin(&mut self, name: &str) -> Result<(), Failed> {
+        self.taken = 0;
+        let noted = self.names.push_str(name).is_ok() && self.names.push_str(" ").is_ok();
+        if noted && self.shelf.begin(name).is_ok() {
+            return Ok(());
+        }
+        self.faults = self.faults.saturating_add(1);
+        Err(Failed {})
+    }
+
+    fn next(&mut self, piece: &mut [u8]) -> Result<usize, Failed> {
+        let _taken = self.taken;
+        match self.shelf.next(piece) {
+            Ok(count) => {
+                self.taken = self.taken.saturating_add(count as u64);
+                Ok(count)
+            }
+            Err(_) => {
+                self.faults = self.faults.saturating_add(1);
+                Err(Failed {})
+            }
+        }
+    }
+}
+
+// The names that the run of a case begins.
+fn names_begun<R: Threads + Sync + Abort>(
+    rt: &R,
+    alloc: Global,
+    case: Case<'_>,
+) -> Result<String, Fail> {
+    let words = case.command.words(alloc)?;
+    let mut shelf = NotingShelf {
+        shelf: SteadyShelf::new(case.command.files(alloc)?),
+        names: String::new(alloc),
+        taken: 0,
+        faults: 0,
+    };
+    let mut out = SteadySink::new(alloc);
+    let ended = run(rt, alloc, &words, &mut shelf, &mut out, &OpenGate {});
+    assert!(rt; ended == case.status, "it ends with {ended:?}");
+    Ok(shelf.names)
+}
+
+#[test]
+fn only_the_named_texts_are_begun(rt: HostRuntime) -> Result<(), Fail> {
+    let alloc = rt.alloc();
+    for (case, names) in [
+        (CHECK_OF_COIN_LOOP, "m.tra m.lab "),
+        (CHECK_OF_AGREEMENT, "m.tra m.lab m.own "),
+        (AUDIT_OF_LOOP_OR_COIN, "m.tra m.lab c "),
+        (COIN_LOOP_OUT_OF_ORDER, "m.tra m.tra m.lab "),
+        (STATE_OUT_OF_RANGE, "m.tra "),
+        (DRAWN_GAME, ""),
+        (NO_COMMAND, ""),
+    ] {
+        let begun = names_begun(&rt, alloc, case)?;
+        assert_eq!(rt; begun.as_str(), names);
+    }
+    Ok(())
+}
