@@ -1,7 +1,10 @@
 -- What contracts say of a table and of a pass.
-use Rattle.std.specs.Prelude.{◌≡◌, ℕ, ◌≤◌, List}
+use Rattle.std.specs.Prelude.{◌≡◌, ℕ, ◌<◌, ◌≤◌, List}
 use Rattle.atomic_table.specs.declared.shared.Seat.{Seat}
-use Rattle.step_core.specs.Word.{value_at}
+use Rattle.game_model.specs.Game.{choice_of}
+use Rattle.game_model.specs.Query.{Query}
+use Rattle.game_model.specs.Rounded.{down_value}
+use Rattle.step_core.specs.Word.{value_in, choice_in, value_at}
 use Rattle.value_words.specs.declared.rule.Sight.{Sight}
 use Rattle.value_words.specs.declared.pass.Pass.{Pass}
 use Rattle.value_words.specs.declared.table.Ruled.{Ruled}
@@ -27,6 +30,10 @@ parts_of pass = pass.seat.me.0.parts
 
 abbrev pub Token : Type 0
 Token = Seat (Unit {0}) Sight
+
+-- no choice before the one that the word of a state names had its value
+abbrev pub NamesFirst : Query → (ℕ → ℕ) → ℕ → ℕ → Type 0
+NamesFirst q seen s word = (c : ℕ) → c < choice_in word → down_value seen (choice_of q.game s c) < value_in word
 
 -- a pass of the same table, which has seen no less anywhere
 pub record GrewSeat (old new : Token) : Type 0 where

@@ -58,7 +58,7 @@ impl Words {
 }
 
 impl<'q, P: Posing> ValueTable<'q, P> {
-    ghost use Rattle.value_words.specs.Passes.{IsOf, Grew, Looked, seen_by, words_seen, won_by, parts_of};
+    ghost use Rattle.value_words.specs.Passes.{IsOf, Grew, Looked, NamesFirst, seen_by, words_seen, won_by, parts_of};
     ghost use Rattle.value_words.specs.Rule.{all_parts, other_half};
     ghost use Rattle.value_words.specs.Steps.{IsOffer};
 
@@ -105,6 +105,8 @@ impl<'q, P: Posing> ValueTable<'q, P> {
         ensures step { down_step P.posed (seen_by pass.old) state ≤ seen_by pass.new state }
         ensures won { MatchBool result (won_by pass.new ≡ won_by pass.old + 1) (won_by pass.new ≡ won_by pass.old) }
         ensures parts { parts_of pass.new ≡ parts_of pass.old }
+        // A word that this call exchanged names the first choice with its value.
+        ensures first { result ≡ true → NamesFirst P.posed (seen_by pass.old) state (slice_index (words_seen pass.new) state) }
         // At a goal or a dead state nothing is done.
         ensures fixed { (is_goal P.posed state ≡ true) ⊎ (is_dead P.posed state ≡ true) → (result ≡ false) × (words_seen pass.new ≡ words_seen pass.old) }
     {
@@ -200,7 +202,7 @@ impl<'q, P: Posing> ValueTable<'q, P> {
         requires offer { IsOffer P.posed (words_seen pass.old) state from to }
         ensures grew { Grew pass.old pass.new }
         ensures parts { parts_of pass.new ≡ parts_of pass.old }
-        ensures hit { result ≡ from → (won_by pass.new ≡ won_by pass.old + 1) × (seen_by pass.new state ≡ value_in to) }
+        ensures hit { result ≡ from → (won_by pass.new ≡ won_by pass.old + 1) × (slice_index (words_seen pass.new) state ≡ to) }
         ensures lost { result ≢ from → (won_by pass.new ≡ won_by pass.old) × (result ≡ slice_index (words_seen pass.new) state) × (value_in from < value_in result) }
     {
         self.table
@@ -218,6 +220,7 @@ impl<'q, P: Posing> ValueTable<'q, P> {
         ensures reached { value_in to ≤ seen_by pass.new state }
         ensures won { MatchBool result (won_by pass.new ≡ won_by pass.old + 1) (won_by pass.new ≡ won_by pass.old) }
         ensures parts { parts_of pass.new ≡ parts_of pass.old }
+        ensures wrote { result ≡ true → slice_index (words_seen pass.new) state ≡ to }
     {
         let mut current = self.load(pass, state);
         while value_of(current) < value_of(to) {
@@ -239,6 +242,7 @@ impl<'q, P: Posing> ValueTable<'q, P> {
         ensures step { down_step P.posed (seen_by pass.old) state ≤ seen_by pass.new state }
         ensures won { MatchBool result (won_by pass.new ≡ won_by pass.old + 1) (won_by pass.new ≡ won_by pass.old) }
         ensures parts { parts_of pass.new ≡ parts_of pass.old }
+        ensures first { result ≡ true → NamesFirst P.posed (seen_by pass.old) state (slice_index (words_seen pass.new) state) }
     {
         let least = value_of(self.load(pass, state));
         let (value, choice) = step_above(self.question, self, pass, state, least);

@@ -3,7 +3,6 @@ use Rattle.std.proofs.lemmas.List.{get_or-set_same}
 use Rattle.game_model.specs.Limits.{unit}
 use Rattle.step_core.specs.Word.{value_in, choice_in, value_at}
 use Rattle.fixed_bellman.proofs.Tables.{Gives-units}
-use Rattle.step_core.proofs.Sights.{value_at-here}
 use Rattle.value_words.proofs.Moves.{exchange-allowed, saw-empty, saw-live, saw-as_many, saw-rises, saw-units}
 use Rattle.value_words.proofs.table.ValueTable+P.exchange.Goals as goal
 
@@ -44,7 +43,7 @@ returns-clause-hit g c hit =
     let seen = c.args.pass.now.seat.me.0.seen in
     let inside : c.args.state < length seen = subst (λ n. c.args.state < n) (sym c.args.pass.now.as_many) c.requires.offer.inside in
     let after = c.compare_exchange.ensures.2.0 hit in
-    (ap (λ m. m.0.won) after, ap (λ m. value_at m.0.seen c.args.state) after ∙ value_at-here seen c.args.state c.args.to inside)
+    (ap (λ m. m.0.won) after, ap (λ m. get_or m.0.seen c.args.state 0) after ∙ get_or-set_same seen c.args.state c.args.to 0 inside)
 
 pub returns-clause-lost : goal.returns-clause-lost
 returns-clause-lost g c lost =
