@@ -5,3 +5,4 @@ pub mod High
 pub mod Near
 pub mod Under
 pub mod Truth
+pub mod Powers

@@ -15,7 +15,7 @@ use Rattle.game_model.proofs.Each.{AllByRecursion-weaker, AllByRecursion-at, All
 use Rattle.game_model.proofs.Choices.{IsChoiceOf, AreChoicesOf}
 use Rattle.game_model.proofs.Best.{weighted_sum-affine}
 use Rattle.game_model.proofs.Rises.{numerator_of-goal, numerator_of-most}
-use Rattle.rank_certificate.proofs.Powers.{pow-far}
+use Rattle.game_laws.proofs.Powers.{pow-far, horizon_of, pow-horizon_of}
 use Rattle.game_laws.proofs.Positive.{optimum-affine, optimum-positive, marked-at-least, scaled-pos}
 
 -- what the law needs: values and ranks over lists of choices, one a state
@@ -144,16 +144,6 @@ stretch-more q choices v r most cert h c base (suc i) s inside =
           (AllByRecursion-weaker (λ m. IsChoiceOf q.game m × IsRankedChoice v r s m) _ (λ m fact. stretch-choice q choices v r h c i s m fact.0 fact.1 (λ t within. stretch-more q choices v r most cert h c base i t within)) (choices s)
           (AllByRecursion-both (IsChoiceOf q.game) (IsRankedChoice v r s) (choices s) (cert.chosen.each s) (cert.ranked s inside no_goal living some)))))
     ]
-
--- j stretches of so many steps
-pub horizon_of : ℕ → ℕ → ℕ
-horizon_of stretch zero = 0
-horizon_of stretch (suc j) = horizon_of stretch j + stretch
-
-pub pow-horizon_of : (d stretch j : ℕ) → d ^ horizon_of stretch j ≡ (d ^ stretch) ^ j
-unfolding horizon_of
-pow-horizon_of d stretch zero = pow-zero d ∙ sym (pow-zero (d ^ stretch))
-pow-horizon_of d stretch (suc j) = pow-add d (horizon_of stretch j) stretch ∙ ap (λ n. n * d ^ stretch) (pow-horizon_of d stretch j) ∙ sym (pow-suc (d ^ stretch) j)
 
 first-start : (v d c u n : ℕ) → v ≤ u → v * d ^ 0 * d ^ 0 + u * c ^ 0 * n ≤ u * n + u * c ^ 0 * d ^ 0
 first-start v d c u n h = rw (pow-zero d, pow-zero c) (omega arith)

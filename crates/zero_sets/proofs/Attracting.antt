@@ -44,11 +44,11 @@ any-place p (x ∷ xs) d h = elim (or-true (p x) (list_any p xs) h) [
   | inr later ↦ let rest : (i : ℕ) × (i < length xs) × (p (get_or xs i d) ≡ true) = any-place p xs d later in (suc rest.0, omega (arith, rest.1), rest.2)
 ]
 
-any-none : {X : Type 0} (p : X → Bool) (xs : List X) → list_any p xs ≡ false → AllByRecursion (λ x. p x ≡ false) xs
+pub any-none : {X : Type 0} (p : X → Bool) (xs : List X) → list_any p xs ≡ false → AllByRecursion (λ x. p x ≡ false) xs
 any-none p [] h = tt
 any-none p (x ∷ xs) h = let both : (p x ≡ false) × (list_any p xs ≡ false) = or-false (p x) (list_any p xs) h in (both.0, any-none p xs both.1)
 
-all-each : {X : Type 0} (p : X → Bool) (xs : List X) → list_all p xs ≡ true → AllByRecursion (λ x. p x ≡ true) xs
+pub all-each : {X : Type 0} (p : X → Bool) (xs : List X) → list_all p xs ≡ true → AllByRecursion (λ x. p x ≡ true) xs
 all-each p [] h = tt
 all-each p (x ∷ xs) h = let both : (p x ≡ true) × (list_all p xs ≡ true) = and-true (p x) (list_all p xs) h in (both.0, all-each p xs both.1)
 

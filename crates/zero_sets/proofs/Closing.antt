@@ -46,7 +46,7 @@ IsGrowth-goals q members awaited order posed many each ordered first = record {
 }
 
 -- a move to one of the states is among the moves to them
-Contains-moves_into : (lists : List (List Move)) (order : List ℕ) (u : ℕ) (m : Move) → Contains order u → Contains (slice_index_or lists u []) m → Contains (moves_into lists order) m
+pub Contains-moves_into : (lists : List (List Move)) (order : List ℕ) (u : ℕ) (m : Move) → Contains order u → Contains (slice_index_or lists u []) m → Contains (moves_into lists order) m
 Contains-moves_into lists [] u m among listed = absurd (omega (arith, among.1))
 Contains-moves_into lists (t ∷ order) u m (zero, l, same) listed =
     Contains-append_left (slice_index_or lists t []) (moves_into lists order) m (subst (λ v. Contains (slice_index_or lists v []) m) (sym same) listed)

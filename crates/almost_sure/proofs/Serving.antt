@@ -1,0 +1,80 @@
+-- Choices that serve, and states that are drawn in.
+use Rattle.std.proofs.Common.{◌≡◌, ◌⊎◌, ℕ, ◌<◌, Bool, true, false, List, [], ◌∷◌, length, get_or, refl, ap, ◌∙◌, inl, inr, not}
+use Rattle.std.specs.Prelude.{◌||◌, ◌&&◌}
+use Rattle.std.specs.List.{AllByRecursion, list_any, list_all}
+use Rattle.std.proofs.lemmas.List.Folds.{list_any_at, list_all_at}
+use Rattle.game_model.specs.declared.game.Side.TheVariants.{Max, Min}
+use Rattle.game_model.specs.Game.{Distribution, no_distribution, choices_of, choice_of}
+use Rattle.game_model.specs.Query.{Query, side_at}
+use Rattle.zero_sets.specs.Attractor.{meets}
+use Rattle.zero_sets.proofs.Attracting.{any-place, all-place}
+use Rattle.zero_sets.proofs.Meeting.{either}
+use Rattle.almost_sure.specs.Drawing.{serves, draws}
+
+or-false : (a b : Bool) → (a || b) ≡ false → (a ≡ false) × (b ≡ false)
+or-false true b h = absurd (cc)
+or-false false b h = (refl, h)
+
+and-true : (a b : Bool) → (a && b) ≡ true → (a ≡ true) × (b ≡ true)
+and-true true b h = (refl, h)
+and-true false b h = absurd (cc)
+
+served : (a b : Bool) → (not a && b) ≡ true → (a ≡ false) × (b ≡ true)
+served true b h = absurd (cc)
+served false b h = (refl, h)
+
+serve : (a b : Bool) → a ≡ false → b ≡ true → (not a && b) ≡ true
+serve true b h k = absurd (cc)
+serve false b h k = k
+
+unserved : (a b : Bool) → (not a && b) ≡ false → (a ≡ true) ⊎ (b ≡ false)
+unserved true b h = inl refl
+unserved false b h = inr h
+
+unserve : (a b : Bool) → (a ≡ false → b ≡ true → ⊥) → (not a && b) ≡ false
+unserve true b h = refl
+unserve false true h = absurd (h refl refl)
+unserve false false h = refl
+
+-- what a choice that serves, or does not, says of its successors
+pub serves-both : (gone set : List Bool) (m : Distribution) → serves gone set m ≡ true → (meets gone m ≡ false) × (meets set m ≡ true)
+serves-both gone set m h = served (meets gone m) (meets set m) h
+
+pub serves-by : (gone set : List Bool) (m : Distribution) → meets gone m ≡ false → meets set m ≡ true → serves gone set m ≡ true
+serves-by gone set m h k = serve (meets gone m) (meets set m) h k
+
+pub serves-not : (gone set : List Bool) (m : Distribution) → serves gone set m ≡ false → (meets gone m ≡ true) ⊎ (meets set m ≡ false)
+serves-not gone set m h = unserved (meets gone m) (meets set m) h
+
+pub unserved-by : (gone set : List Bool) (m : Distribution) → (meets gone m ≡ false → meets set m ≡ true → ⊥) → serves gone set m ≡ false
+unserved-by gone set m h = unserve (meets gone m) (meets set m) h
+
+-- a state of the maximiser is drawn in by one choice, and one of the minimiser by all
+pub draws-one : (q : Query) (gone set : List Bool) (s c : ℕ) → side_at q s ≡ Max → c < length (choices_of q.game s) → serves gone set (choice_of q.game s c) ≡ true → draws (side_at q s) gone set (choices_of q.game s) ≡ true
+draws-one q gone set s c is_side l serve = ap (λ side. draws side gone set (choices_of q.game s)) is_side ∙ list_any_at (serves gone set) (choices_of q.game s) c no_distribution l serve
+
+all-serve : (gone set : List Bool) (choices : List Distribution) → ((c : ℕ) → c < length choices → serves gone set (get_or choices c no_distribution) ≡ true) → list_all (serves gone set) choices ≡ true
+all-serve gone set choices each = elim (either (list_all (serves gone set) choices)) [
+  | inl holds ↦ holds
+  | inr fails ↦
+      let one : (c : ℕ) × (c < length choices) × (serves gone set (get_or choices c no_distribution) ≡ false) = all-place (serves gone set) choices no_distribution fails in
+      let serve : serves gone set (get_or choices one.0 no_distribution) ≡ true = each one.0 one.1 in
+      let other : serves gone set (get_or choices one.0 no_distribution) ≡ false = one.2 in
+      absurd (cc)
+]
+
+pub draws-all : (q : Query) (gone set : List Bool) (s : ℕ) → side_at q s ≡ Min → ((c : ℕ) → c < length (choices_of q.game s) → serves gone set (choice_of q.game s c) ≡ true) → draws (side_at q s) gone set (choices_of q.game s) ≡ true
+draws-all q gone set s is_side each = ap (λ side. draws side gone set (choices_of q.game s)) is_side ∙ all-serve gone set (choices_of q.game s) each
+
+-- and is left where no choice does so, or one does not
+none-serve : (gone set : List Bool) (choices : List Distribution) → ((c : ℕ) → c < length choices → serves gone set (get_or choices c no_distribution) ≡ true → ⊥) → list_any (serves gone set) choices ≡ false
+none-serve gone set choices none = elim (either (list_any (serves gone set) choices)) [
+  | inl holds ↦ let one : (c : ℕ) × (c < length choices) × (serves gone set (get_or choices c no_distribution) ≡ true) = any-place (serves gone set) choices no_distribution holds in absurd (none one.0 one.1 one.2)
+  | inr fails ↦ fails
+]
+
+pub left-by-none : (q : Query) (gone set : List Bool) (s : ℕ) → side_at q s ≡ Max → ((c : ℕ) → c < length (choices_of q.game s) → serves gone set (choice_of q.game s c) ≡ true → ⊥) → draws (side_at q s) gone set (choices_of q.game s) ≡ false
+left-by-none q gone set s is_side none = ap (λ side. draws side gone set (choices_of q.game s)) is_side ∙ none-serve gone set (choices_of q.game s) none
+
+pub left-by-one : (q : Query) (gone set : List Bool) (s c : ℕ) → side_at q s ≡ Min → c < length (choices_of q.game s) → serves gone set (choice_of q.game s c) ≡ false → draws (side_at q s) gone set (choices_of q.game s) ≡ false
+left-by-one q gone set s c is_side l fails = ap (λ side. draws side gone set (choices_of q.game s)) is_side ∙ list_all_at (serves gone set) (choices_of q.game s) c no_distribution l fails
