@@ -41,9 +41,13 @@ mod long_texts;
 #[cfg(test)]
 mod made;
 #[cfg(test)]
+mod many_choices;
+#[cfg(test)]
 mod models;
 #[cfg(test)]
 mod names_begun;
+#[cfg(test)]
+mod old_certificates;
 #[cfg(test)]
 mod other_certificates;
 #[cfg(test)]
