@@ -5,11 +5,12 @@ use Rattle.clap.specs.Words.{App, Row, Text, app_of, fault_of, first_of, found_o
 use Rattle.clap.specs.declared.builder.command.Command.{Command}
 use Rattle.clap.specs.declared.parser.matches.ArgMatches.{ArgMatches}
 use Rattle.clap.proofs.WalkLemmas.{first_value-rows}
+use Rattle.command_words.specs.declared.words.AskedWords.{AskedWords}
 use Rattle.command_words.specs.declared.words.AuditWords.{AuditWords}
 use Rattle.command_words.specs.declared.words.CheckWords.{CheckWords}
 use Rattle.command_words.specs.declared.words.MakeWords.{MakeWords}
-use Rattle.command_words.specs.Grammar.{FindsIn, audit_app, check_app, make_app, value_in, value_of}
-use Rattle.command_words.specs.Words.{Audit, Check, Make, AreAuditWords, AreCheckWords, AreMakeWords, AreInRange, IsMakeInRange, SayAudit, SayCheck, SayMake, audit_of, check_of, make_of}
+use Rattle.command_words.specs.Grammar.{FindsIn, audit_app, check_app, make_app, sure_app, value_in, value_of}
+use Rattle.command_words.specs.Words.{Asked, Audit, Check, Make, AreAuditWords, AreCheckWords, AreMakeWords, AreSureWords, AreInRange, IsMakeInRange, SayAsked, SayAudit, SayCheck, SayMake, asked_of_words, audit_of, check_of, make_of}
 use Rattle.command_words.proofs.Ranges.{check_in_range, make_in_range}
 
 -- the values that were found are those that the words give
@@ -36,6 +37,16 @@ audit_denoted command m words None same found none = λ audit are.
 audit_denoted command m words (Some audit) same found said = record {
   taken = subst (λ (a : App). fault_of a words ≡ []) same found.no_fault;
   said = subst (λ (value : Text → Option Text). SayAudit value (audit_of audit)) (values_found audit_app command words m same found) said;
+}
+
+pub sure_denoted : (command : Command) (m : ArgMatches) (words : List Text) (read : Option AskedWords) → app_of command ≡ sure_app → FindsIn command words m
+    → MatchOption read ((asked : Asked) → SayAsked (value_in m) asked → ⊥) (λ asked. SayAsked (value_in m) (asked_of_words asked))
+    → MatchOption read ((asked : Asked) → AreSureWords words asked → ⊥) (λ asked. AreSureWords words (asked_of_words asked))
+sure_denoted command m words None same found none = λ asked are.
+    none asked (subst (λ (value : Text → Option Text). SayAsked value asked) (sym (values_found sure_app command words m same found)) are.said)
+sure_denoted command m words (Some asked) same found said = record {
+  taken = subst (λ (a : App). fault_of a words ≡ []) same found.no_fault;
+  said = subst (λ (value : Text → Option Text). SayAsked value (asked_of_words asked)) (values_found sure_app command words m same found) said;
 }
 
 pub make_denoted : (command : Command) (m : ArgMatches) (words : List Text) (read : Option MakeWords) → app_of command ≡ make_app → FindsIn command words m

@@ -1,11 +1,12 @@
 -- The name of a command, and the words behind it.
 use Rattle.std.proofs.Common.{◌≡◌, ◌∙◌, List, ◌∷◌, codes, get_or, Option, Some, None, MatchOption, ap, subst, sym, arith}
 use Rattle.clap.specs.Words.{Text}
+use Rattle.command_words.specs.declared.words.AskedWords.{AskedWords}
 use Rattle.command_words.specs.declared.words.AuditWords.{AuditWords}
 use Rattle.command_words.specs.declared.words.CheckWords.{CheckWords}
 use Rattle.command_words.specs.declared.words.CommandWords.{CommandWords}
 use Rattle.command_words.specs.declared.words.CommandWords.TheVariants as variant
-use Rattle.command_words.specs.Words.{Audit, Check, Command, OfAudit, OfCheck, OfMake, AreAuditWords, AreCheckWords, AreCommand, AreNoCommand, AreWordsOf, audit_of, check_of, command_of, name_of}
+use Rattle.command_words.specs.Words.{Asked, Audit, Check, Command, OfAudit, OfCheck, OfMake, OfSure, AreAuditWords, AreCheckWords, AreSureWords, AreCommand, AreNoCommand, AreWordsOf, asked_of_words, audit_of, check_of, command_of, name_of}
 
 -- the first byte of equal texts
 pub first_byte : {s t : Text} → s ≡ t → get_or s 0 0 ≡ get_or t 0 0
@@ -27,6 +28,7 @@ not_check : (words : List Text) (command : Command) → ((check : Check) → Are
 not_check words (OfCheck check) none named are = none check are
 not_check words (OfAudit audit) none named are = absurd (omega (arith, first_byte named))
 not_check words (OfMake make) none named are = absurd (omega (arith, first_byte named))
+not_check words (OfSure asked) none named are = absurd (omega (arith, first_byte named))
 
 pub check_named : (name : Text) (words : List Text) (found : Option CheckWords) (read : Option CommandWords) → name ≡ codes "check" → MatchOption found (read ≡ None) (λ check. read ≡ Some (variant.Check check))
     → MatchOption found ((check : Check) → AreCheckWords words check → ⊥) (λ check. AreCheckWords words (check_of check)) → IsAnswer (name ∷ words) read
@@ -41,6 +43,7 @@ not_audit : (words : List Text) (command : Command) → ((audit : Audit) → Are
 not_audit words (OfCheck check) none named are = absurd (omega (arith, first_byte named))
 not_audit words (OfAudit audit) none named are = none audit are
 not_audit words (OfMake make) none named are = absurd (omega (arith, first_byte named))
+not_audit words (OfSure asked) none named are = absurd (omega (arith, first_byte named))
 
 pub audit_named : (name : Text) (words : List Text) (found : Option AuditWords) (read : Option CommandWords) → name ≡ codes "audit" → MatchOption found (read ≡ None) (λ audit. read ≡ Some (variant.Audit audit))
     → MatchOption found ((audit : Audit) → AreAuditWords words audit → ⊥) (λ audit. AreAuditWords words (audit_of audit)) → IsAnswer (name ∷ words) read
@@ -48,4 +51,19 @@ audit_named name words None read named is none = subst (λ (r : Option CommandWo
     let parts = begun name words command are in
     not_audit words command none (parts.0 ∙ named) parts.1)
 audit_named name words (Some audit) read named is are =
+    subst (λ (r : Option CommandWords). IsAnswer (name ∷ words) r) (sym is) (record { rest = words; words_are = ap (λ (w : Text). w ∷ words) named; behind = are })
+
+-- and so for `sure`
+not_sure : (words : List Text) (command : Command) → ((asked : Asked) → AreSureWords words asked → ⊥) → name_of command ≡ codes "sure" → AreWordsOf command words → ⊥
+not_sure words (OfCheck check) none named are = absurd (omega (arith, first_byte named))
+not_sure words (OfAudit audit) none named are = absurd (omega (arith, first_byte named))
+not_sure words (OfMake make) none named are = absurd (omega (arith, first_byte named))
+not_sure words (OfSure asked) none named are = none asked are
+
+pub sure_named : (name : Text) (words : List Text) (found : Option AskedWords) (read : Option CommandWords) → name ≡ codes "sure" → MatchOption found (read ≡ None) (λ asked. read ≡ Some (variant.Sure asked))
+    → MatchOption found ((asked : Asked) → AreSureWords words asked → ⊥) (λ asked. AreSureWords words (asked_of_words asked)) → IsAnswer (name ∷ words) read
+sure_named name words None read named is none = subst (λ (r : Option CommandWords). IsAnswer (name ∷ words) r) (sym is) (λ command are.
+    let parts = begun name words command are in
+    not_sure words command none (parts.0 ∙ named) parts.1)
+sure_named name words (Some asked) read named is are =
     subst (λ (r : Option CommandWords). IsAnswer (name ∷ words) r) (sym is) (record { rest = words; words_are = ap (λ (w : Text). w ∷ words) named; behind = are })

@@ -4,7 +4,7 @@ use Rattle.std.specs.Prelude.{IsTrue, ◌↔◌}
 use Rattle.std.specs.Str.Parse.{digits_value, without_leading_plus}
 use Rattle.clap.specs.Words.{Text}
 use Rattle.command_words.proofs.Naming.{begun, first_byte}
-use Rattle.command_words.specs.Words.{Asked, Audit, Check, Make, Command, OfAudit, OfCheck, OfMake, AreCommand, AreWordsOf, IsNumber, GivesNumber, SayAsked, SayAudit, SayCheck, SayMake, name_of}
+use Rattle.command_words.specs.Words.{Asked, Audit, Check, Make, Command, OfAudit, OfCheck, OfMake, OfSure, AreCommand, AreWordsOf, IsNumber, GivesNumber, SayAsked, SayAudit, SayCheck, SayMake, name_of}
 
 -- an option has one number
 one_number : (default : ℕ) (word : Option (List ℕ)) (m n : ℕ) → IsNumber default word m → IsNumber default word n → m ≡ n
@@ -74,6 +74,13 @@ one_of_words words (OfAudit a) (OfCheck b) same x y = absurd (omega (arith, firs
 one_of_words words (OfAudit a) (OfMake b) same x y = absurd (omega (arith, first_byte same))
 one_of_words words (OfMake a) (OfCheck b) same x y = absurd (omega (arith, first_byte same))
 one_of_words words (OfMake a) (OfAudit b) same x y = absurd (omega (arith, first_byte same))
+one_of_words words (OfSure a) (OfSure b) same x y = ap OfSure (one_asked _ a b x.said y.said)
+one_of_words words (OfCheck a) (OfSure b) same x y = absurd (omega (arith, first_byte same))
+one_of_words words (OfSure a) (OfCheck b) same x y = absurd (omega (arith, first_byte same))
+one_of_words words (OfAudit a) (OfSure b) same x y = absurd (omega (arith, first_byte same))
+one_of_words words (OfSure a) (OfAudit b) same x y = absurd (omega (arith, first_byte same))
+one_of_words words (OfMake a) (OfSure b) same x y = absurd (omega (arith, first_byte same))
+one_of_words words (OfSure a) (OfMake b) same x y = absurd (omega (arith, first_byte same))
 
 pub one_command : (words : List Text) (a b : Command) → AreCommand words a → AreCommand words b → a ≡ b
 one_command words a b of_a of_b =

@@ -1,5 +1,5 @@
--- The words behind `check`, `audit` and `make`, as `clap` reads them: `TRA LAB FORMULA [--own FILE] [--rounds R] [--workers W] [--plan]`,
--- `TRA LAB FORMULA CERT [--own FILE]` and `SEED STATES [--rounds R] [--workers W]`.
+-- The words behind `check`, `audit`, `make` and `sure`, as `clap` reads them: `TRA LAB FORMULA [--own FILE] [--rounds R] [--workers W] [--plan]`,
+-- `TRA LAB FORMULA CERT [--own FILE]`, `SEED STATES [--rounds R] [--workers W]` and `TRA LAB FORMULA [--own FILE]`.
 use Rattle.std.specs.Prelude.{◌≡◌, ℕ, List, [], codes, pos, true, Option, Some}
 use Rattle.clap.specs.Words.{App, IsParsedFrom, Rule, Text, app_of, fault_of, first_of, first_value, found_of, matches_of, new_app, new_rule, rows_of, with_rule}
 use Rattle.clap.specs.declared.builder.ArgAction.TheVariants.{SetTrue}
@@ -41,6 +41,9 @@ check_app = with_rule (with_run_limits (asked_app (codes "check"))) (flag (codes
 
 abbrev pub audit_app : App
 audit_app = with_rule (asked_app (codes "audit")) (positional (codes "certificate"))
+
+abbrev pub sure_app : App
+sure_app = asked_app (codes "sure")
 
 abbrev pub make_app : App
 make_app = with_run_limits (with_rule (with_rule (bare_app (codes "make"))

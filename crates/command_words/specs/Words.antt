@@ -2,7 +2,7 @@
 use Rattle.std.specs.Prelude.{◌≡◌, ◌<◌, ◌≤◌, ◌↔◌, ℕ, Bool, IsTrue, List, [], ◌∷◌, length, codes, Option, Some, None, option_map}
 use Rattle.std.specs.Str.Parse.{IsNumeral, digits_value, without_leading_plus}
 use Rattle.clap.specs.Words.{Text, fault_of}
-use Rattle.command_words.specs.Grammar.{check_app, audit_app, make_app, value_of}
+use Rattle.command_words.specs.Grammar.{check_app, audit_app, make_app, sure_app, value_of}
 use Rattle.command_words.specs.declared.words.AskedWords.{AskedWords}
 use Rattle.command_words.specs.declared.words.CheckWords.{CheckWords}
 use Rattle.command_words.specs.declared.words.AuditWords.{AuditWords}
@@ -42,6 +42,7 @@ pub data Command : Type 0 where
   OfCheck : (check : Check) → Command
   OfAudit : (audit : Audit) → Command
   OfMake : (make : Make) → Command
+  OfSure : (asked : Asked) → Command
 
 -- 0 to 1,000,000 rounds and 1 to 64 workers
 pub record AreRunLimits (rounds workers : ℕ) : Type 0 where
@@ -140,17 +141,24 @@ pub record AreMakeWords (words : List Text) (make : Make) : Type 0 where
   pub said : SayMake (value_of make_app words) make
   pub in_range : IsMakeInRange make
 
+-- the words behind `sure` denote this, in the same way; three words are left, and the owner file is the only option
+pub record AreSureWords (words : List Text) (asked : Asked) : Type 0 where
+  pub taken : fault_of sure_app words ≡ []
+  pub said : SayAsked (value_of sure_app words) asked
+
 -- the word that names a command
 abbrev pub name_of : Command → Text
 name_of (OfCheck check) = codes "check"
 name_of (OfAudit audit) = codes "audit"
 name_of (OfMake make) = codes "make"
+name_of (OfSure asked) = codes "sure"
 
 -- the words behind the name of a command denote it
 abbrev pub AreWordsOf : Command → List Text → Type 0
 AreWordsOf (OfCheck check) words = AreCheckWords words check
 AreWordsOf (OfAudit audit) words = AreAuditWords words audit
 AreWordsOf (OfMake make) words = AreMakeWords words make
+AreWordsOf (OfSure asked) words = AreSureWords words asked
 
 -- these words denote this command: the first names it, and the others are its words
 pub record AreCommand (words : List Text) (command : Command) : Type 0 where
@@ -179,3 +187,4 @@ abbrev pub command_of : CommandWords → Command
 command_of (variant.Check check) = OfCheck (check_of check)
 command_of (variant.Audit audit) = OfAudit (audit_of audit)
 command_of (variant.Make make) = OfMake (make_of make)
+command_of (variant.Sure asked) = OfSure (asked_of_words asked)

@@ -2,7 +2,7 @@
 
 ghost use Rattle.std.specs.Prelude.{◌≡◌, false, IfOk, codes};
 ghost use Rattle.clap.specs.Words.{app_of, rule_of};
-ghost use Rattle.command_words.specs.Grammar.{bare_app, asked_app, check_app, audit_app, make_app, with_run_limits as app_with_run_limits, with_range, option as option_rule, flag as flag_rule, positional as positional_rule};
+ghost use Rattle.command_words.specs.Grammar.{bare_app, asked_app, check_app, audit_app, make_app, sure_app, with_run_limits as app_with_run_limits, with_range, option as option_rule, flag as flag_rule, positional as positional_rule};
 
 use clap::{Arg, ArgAction, Command};
 use std::alloc::{AllocError, Global};
@@ -19,6 +19,13 @@ pub fn audit_command<'a>(alloc: Global) -> Result<Command<'a>, AllocError>
     ensures { IfOk result (λ command. app_of command ≡ audit_app) }
 {
     asked_command(alloc, "audit")?.arg(positional(alloc, "certificate"))
+}
+
+/// The command `sure`, whose first word is read already.
+pub fn sure_command<'a>(alloc: Global) -> Result<Command<'a>, AllocError>
+    ensures { IfOk result (λ command. app_of command ≡ sure_app) }
+{
+    asked_command(alloc, "sure")
 }
 
 /// The command `make`, whose first word is read already.

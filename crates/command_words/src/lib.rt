@@ -1,4 +1,4 @@
-//! The words of the command line: what `check`, `audit` and `make` take, and nothing else.
+//! The words of the command line: what `check`, `audit`, `make` and `sure` take, and nothing else.
 //!
 //! [`read_words`] gives the command that the words denote. The first word names it, and the words behind it are as
 //! `clap` reads them, by the definitions of `specs/Grammar.antt`; numbers are in their ranges, and files have names.

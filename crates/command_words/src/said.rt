@@ -56,8 +56,8 @@ pub fn make_words<'a>(matches: &ArgMatches<'a>) -> Option<MakeWords>
     })
 }
 
-// What the values ask, or none where they ask nothing.
-fn asked_words<'a>(matches: &ArgMatches<'a>) -> Option<AskedWords<'a>>
+/// What the values ask, or none where they ask nothing.
+pub fn asked_words<'a>(matches: &ArgMatches<'a>) -> Option<AskedWords<'a>>
     ensures { MatchOption result ((asked : Asked) → SayAsked (value_in matches.now) asked → ⊥) (λ asked. SayAsked (value_in matches.now) (asked_of_words asked)) }
 {
     let own = matches.get_str("own");

@@ -4,16 +4,16 @@ ghost use Rattle.std.specs.Prelude.{◌≡◌, ◌∷◌, [], IfOk, MatchOption,
 ghost use Rattle.std.specs.String.{string_bytes};
 ghost use Rattle.clap.specs.Words.{app_of, fault_of, is_simple_and_free};
 ghost use Rattle.command_words.specs.Grammar.{FindsIn};
-ghost use Rattle.command_words.specs.Words.{Check, Audit, Make, AreCheckWords, AreAuditWords, AreMakeWords, AreCommand, AreNoCommand, check_of, audit_of, make_of, command_of};
+ghost use Rattle.command_words.specs.Words.{Asked, Check, Audit, Make, AreCheckWords, AreAuditWords, AreMakeWords, AreSureWords, AreCommand, AreNoCommand, asked_of_words, check_of, audit_of, make_of, command_of};
 
-use crate::grammar::{audit_command, check_command, make_command};
-use crate::said::{audit_words, check_words, make_words};
+use crate::grammar::{audit_command, check_command, make_command, sure_command};
+use crate::said::{asked_words, audit_words, check_words, make_words};
 use clap::error::ErrorKind;
 use clap::{ArgMatches, Command};
 use game_outside::OutOfMemory;
 use std::alloc::Global;
 
-/// The words that ask a question: `TRA LAB FORMULA [--own FILE]`.
+/// The words that ask a question, which are those of `sure`: `TRA LAB FORMULA [--own FILE]`.
 #[derive(Clone, Copy, Debug)]
 pub struct AskedWords<'a> {
     /// The name of the transition file.
@@ -70,6 +70,8 @@ pub enum CommandWords<'a> {
     Audit(AuditWords<'a>),
     /// `make`.
     Make(MakeWords),
+    /// `sure`.
+    Sure(AskedWords<'a>),
 }
 
 /// The command that the words denote, or none where they denote no command. The only error is want of memory.
@@ -97,6 +99,7 @@ fn read_command<'a>(
             Some(make) => Ok(Some(CommandWords::Make(make))),
             None => Ok(None),
         },
+        "sure" => Ok(read_sure(alloc, words)?.map(CommandWords::Sure)),
         _ => Ok(None),
     }
 }
@@ -117,6 +120,16 @@ fn read_audit(alloc: Global, words: &[String]) -> Result<Option<AuditWords<'_>>,
 {
     match taken(audit_command(alloc)?, words)? {
         Some(matches) => Ok(audit_words(&matches)),
+        None => Ok(None),
+    }
+}
+
+// What the words behind `sure` say, or none where they denote no command.
+fn read_sure(alloc: Global, words: &[String]) -> Result<Option<AskedWords<'_>>, OutOfMemory>
+    ensures { IfOk result (λ read. MatchOption read ((asked : Asked) → AreSureWords (map string_bytes words.now) asked → ⊥) (λ asked. AreSureWords (map string_bytes words.now) (asked_of_words asked))) }
+{
+    match taken(sure_command(alloc)?, words)? {
+        Some(matches) => Ok(asked_words(&matches)),
         None => Ok(None),
     }
 }

@@ -12,7 +12,7 @@ use Rattle.plan_text.specs.declared.plan.Plan.{Plan}
 use Rattle.certificate_audit.specs.declared.fault.AuditFault.{AuditFault}
 use Rattle.certificate_audit.specs.Accepted.{IsAccepted}
 use Rattle.certificate_audit.specs.Refused.{IsRefused}
-use Rattle.command_words.specs.Words.{Asked, Command, OfCheck, OfAudit, OfMake}
+use Rattle.command_words.specs.Words.{Asked, Command, OfCheck, OfAudit, OfMake, OfSure}
 use Rattle.stogame_app.specs.declared.load.End.{End}
 use Rattle.stogame_app.specs.declared.load.End.TheVariants.{Refused, ReadFault, OutOfMemory}
 use Rattle.stogame_app.specs.declared.model.Loaded.{Loaded}
@@ -28,7 +28,7 @@ use Rattle.stogame_app.specs.Loading.{Loads, LoadsAsked, IsTooLong, RefusesCause
 use Rattle.stogame_app.specs.Posed.{reading_of, reading_said, question_said, posed}
 use Rattle.stogame_app.specs.Asks.{IsText, Asks}
 use Rattle.stogame_app.specs.InFull.{RefusalInFull}
-use Rattle.stogame_app.specs.Run.{IsLong, IsReportOfCheck, IsReportOfAudit, IsRefusalOf, PosesIt, RefusesQuestion, RefusesCertificate, RefusesBehind, RefusesIt, ReadsFiles, IsMissing, IsAcceptedOf}
+use Rattle.stogame_app.specs.Run.{IsLong, IsReportOfCheck, IsReportOfAudit, IsReportOfSure, IsRefusalOf, PosesIt, RefusesQuestion, RefusesCertificate, RefusesBehind, RefusesIt, ReadsFiles, IsMissing, IsAcceptedOf}
 use Rattle.stogame_app.proofs.Asking.{said_asks, asks_said, formula_spelled}
 
 -- 1. The question of what was loaded.
@@ -70,6 +70,16 @@ module _ (holding : Option Holding) (steady : Bool) (asked : Asked) (result : Re
       formula = r.formula;
       spelled = spelled r.formula r.spelled;
       report = r.report;
+    }
+
+    -- the report of `sure`
+    pub sure_reported : (text : List ℕ) (ends : Status) → IsReportOfSure (λ posing. posed (reading_of loaded) ≡ Says posing) text ends → IsReportOfSure (PosesIt holding asked) text ends
+    sure_reported text ends r = record {
+      posing = r.posing;
+      posed = question_posed r.posing r.posed;
+      all = r.all;
+      sure = r.sure;
+      ends = r.ends;
     }
 
     -- the report of `audit`
@@ -188,6 +198,7 @@ made_refusal {X} IsSaid result refusal taken is said caused takes in_full = reco
 pub refused_reads : (holding : Option Holding) (command : Command) (refusal : Refusal) → RefusesIt holding command refusal → ReadsFiles command
 refused_reads holding (OfCheck check) refusal refused = tt
 refused_reads holding (OfAudit audit) refusal refused = tt
+refused_reads holding (OfSure asked) refusal refused = tt
 refused_reads holding (OfMake make) refusal refused = absurd refused
 
 -- 3. What is accepted is answered.
@@ -246,6 +257,7 @@ accepted_not_refused apart q source plan (OfQuestion fault) accepted refused = r
 pub command_not_refused : AreApart → (holding : Option Holding) (held : Holding) (command : Command) (refusal : Refusal) → holding ≡ Some held → IsAcceptedOf held command → RefusesIt holding command refusal → ⊥
 command_not_refused apart holding held (OfMake make) refusal _ accepted refused = absurd refused
 command_not_refused apart holding held (OfCheck check) refusal told accepted refused = asked_not_refused holding held check.asked accepted.0 refusal told accepted.1 refused
+command_not_refused apart holding held (OfSure asked) refusal told accepted refused = asked_not_refused holding held asked accepted.0 refusal told accepted.1 refused
 command_not_refused apart holding held (OfAudit audit) refusal told accepted refused = elim refused [
   | inl question ↦ asked_not_refused holding held audit.asked accepted.0 refusal told accepted.2 question
   | inr behind ↦ by_behind (subst (λ (h : Option Holding). RefusesBehind (PosesIt h audit.asked) h audit.certificate refusal) told behind)
@@ -270,6 +282,7 @@ command_is_held (Some other) held command told accepted missing = of_held comman
     of_held : (k : Command) → IsAcceptedOf held k → IsMissing held k → ⊥
     of_held (OfMake make) accepted missing = absurd missing
     of_held (OfCheck check) accepted missing = asked_is_held held check.asked accepted.0 accepted.1 missing
+    of_held (OfSure asked) accepted missing = asked_is_held held asked accepted.0 accepted.1 missing
     of_held (OfAudit audit) accepted missing = elim missing [
       | inl question ↦ asked_is_held held audit.asked accepted.0 accepted.2 question
       | inr behind ↦ let given = accepted.3.given in let certificate = behind.1 in cc (given, certificate)

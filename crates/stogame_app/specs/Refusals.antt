@@ -153,4 +153,4 @@ refusal_text (OfCertificate fault) = certificate_refused fault
 refusal_text (TooLong text) = refused_line text 0 (codes "TooLong")
 
 abbrev pub usage_text : List ℕ
-usage_text = codes "usage: stogame check TRA LAB FORMULA [--own FILE] [--rounds R] [--workers W] [--plan] | audit TRA LAB FORMULA CERT [--own FILE] | make SEED STATES [--rounds R] [--workers W]\n"
+usage_text = codes "usage: stogame check TRA LAB FORMULA [--own FILE] [--rounds R] [--workers W] [--plan] | audit TRA LAB FORMULA CERT [--own FILE] | make SEED STATES [--rounds R] [--workers W] | sure TRA LAB FORMULA [--own FILE]\n"

@@ -9,7 +9,7 @@ use Rattle.rpatl_syntax.specs.Rules.{Denotes}
 use Rattle.plan_text.specs.declared.plan.Plan.{Plan}
 use Rattle.certificate_audit.specs.Accepted.{IsAccepted}
 use Rattle.certificate_audit.specs.Refused.{IsRefused}
-use Rattle.command_words.specs.Words.{Asked, Command, OfCheck, OfAudit, OfMake, AreInRange, IsMakeInRange, AreCommand, AreNoCommand}
+use Rattle.command_words.specs.Words.{Asked, Command, OfCheck, OfAudit, OfMake, OfSure, AreInRange, IsMakeInRange, AreCommand, AreNoCommand}
 use Rattle.stogame_app.specs.declared.refusal.Text.{Text}
 use Rattle.stogame_app.specs.declared.refusal.Text.TheVariants.{Cert}
 use Rattle.stogame_app.specs.declared.refusal.Refusal.{Refusal}
@@ -21,10 +21,11 @@ use Rattle.stogame_app.specs.Posed.{question_said}
 use Rattle.stogame_app.specs.Asks.{IsText, Asks}
 use Rattle.stogame_app.specs.Refusals.{refusal_text, usage_text}
 use Rattle.stogame_app.specs.InFull.{RefusalInFull}
-use Rattle.stogame_app.specs.Status.{refused_status}
+use Rattle.stogame_app.specs.Status.{refused_status, sure_status}
 use Rattle.stogame_app.specs.Reports.{IsReport}
 use Rattle.stogame_app.specs.Audits.{IsAudit}
 use Rattle.stogame_app.specs.Made.{IsMade}
+use Rattle.sure_report.specs.Sure.{IsSure}
 
 -- 1. The question.
 
@@ -61,12 +62,14 @@ abbrev pub IsInRange : Command → Type 0
 IsInRange (OfCheck check) = AreInRange check
 IsInRange (OfAudit audit) = Unit {0}
 IsInRange (OfMake make) = IsMakeInRange make
+IsInRange (OfSure asked) = Unit {0}
 
 -- a command that reads files
 abbrev pub ReadsFiles : Command → Type 0
 ReadsFiles (OfCheck check) = Unit {0}
 ReadsFiles (OfAudit audit) = Unit {0}
 ReadsFiles (OfMake make) = ⊥
+ReadsFiles (OfSure asked) = Unit {0}
 
 -- the report of `check`: of a question that is posed, by a formula that is this one, with a certificate where one is asked for
 pub record IsReportOfCheck (IsPosed : Posing → Type 0) (IsFormula : Tree → Type 0) (rounds : ℕ) (plan : Bool) (text : List ℕ) (status : Status) : Type 0 where
@@ -84,17 +87,27 @@ pub record IsReportOfAudit (IsPosed : Posing → Type 0) (IsFormula : Tree → T
   pub spelled : IsFormula formula
   pub certificate : HasSource holding name (λ source. IsText source (λ bytes. IsAudit posing.question posing.initial formula.bound bytes text status))
 
+-- the report of `sure`: of a question that is posed
+pub record IsReportOfSure (IsPosed : Posing → Type 0) (text : List ℕ) (status : Status) : Type 0 where
+  pub posing : Posing
+  pub posed : IsPosed posing
+  pub all : Bool
+  pub sure : IsSure posing.question posing.initial text all
+  pub ends : status ≡ sure_status all
+
 -- the report of a command: of the question that the texts and the words pose, by the formula that the words spell; or of the game that a seed draws
 abbrev pub IsReportOf : Option Holding → Command → List ℕ → Status → Type 0
 IsReportOf holding (OfCheck check) text status = IsReportOfCheck (PosesIt holding check.asked) (Denotes check.asked.formula) check.rounds check.plan text status
 IsReportOf holding (OfAudit audit) text status = IsReportOfAudit (PosesIt holding audit.asked) (Denotes audit.asked.formula) holding audit.certificate text status
 IsReportOf holding (OfMake make) text status = IsMade make.seed make.states make.rounds text status
+IsReportOf holding (OfSure asked) text status = IsReportOfSure (PosesIt holding asked) text status
 
 -- the first refusal of a command: of the question, or else, for an audit, of the certificate
 abbrev pub RefusesIt : Option Holding → Command → Refusal → Type 0
 RefusesIt holding (OfCheck check) refusal = RefusesQuestion holding check.asked refusal
 RefusesIt holding (OfAudit audit) refusal = RefusesQuestion holding audit.asked refusal ⊎ RefusesBehind (PosesIt holding audit.asked) holding audit.certificate refusal
 RefusesIt holding (OfMake make) refusal = ⊥
+RefusesIt holding (OfSure asked) refusal = RefusesQuestion holding asked refusal
 
 -- a text that a command needs is not held, and those before it are accepted
 abbrev pub IsMissing : Holding → Command → Type 0
@@ -102,12 +115,14 @@ IsMissing held (OfCheck check) = question_said (sources_of held check.asked) che
 IsMissing held (OfAudit audit) = (question_said (sources_of held audit.asked) audit.asked ≡ NotHeld)
     ⊎ (((posing : Posing) × Asks (sources_of held audit.asked) audit.asked posing) × (held audit.certificate ≡ None))
 IsMissing held (OfMake make) = ⊥
+IsMissing held (OfSure asked) = question_said (sources_of held asked) asked ≡ NotHeld
 
 -- all that a command needs is held and accepted
 abbrev pub IsAcceptedOf : Holding → Command → Type 0
 IsAcceptedOf held (OfCheck check) = (posing : Posing) × Asks (sources_of held check.asked) check.asked posing
 IsAcceptedOf held (OfAudit audit) = (posing : Posing) × (plan : Plan) × Asks (sources_of held audit.asked) audit.asked posing × IsText (held audit.certificate) (λ text. IsAccepted posing.question text plan)
 IsAcceptedOf held (OfMake make) = Unit {0}
+IsAcceptedOf held (OfSure asked) = (posing : Posing) × Asks (sources_of held asked) asked posing
 
 -- 4. What is written.
 

@@ -1,5 +1,5 @@
 -- The exit status of each end of a run.
-use Rattle.std.specs.Prelude.{◌≡◌, ◌⊎◌, ℕ}
+use Rattle.std.specs.Prelude.{◌≡◌, ◌⊎◌, ℕ, Bool, if◌then◌else◌}
 use Rattle.stogame_app.specs.declared.refusal.Refusal.{Refusal}
 use Rattle.stogame_app.specs.declared.refusal.Refusal.TheVariants.{OfCertificate, TooLong}
 use Rattle.stogame_app.specs.declared.refusal.Text.TheVariants.{Cert}
@@ -16,6 +16,10 @@ status_number ReadFault = 5
 status_number WriteFault = 6
 status_number OutOfMemory = 7
 status_number CertificateRefused = 8
+
+-- all is well where every initial state is sure
+abbrev pub sure_status : Bool → Status
+sure_status all = if all then Fine else SomeFalse
 
 -- a report was written
 abbrev pub IsAnswer : Status → Type 0

@@ -20,6 +20,7 @@ use crate::ends::{end_run, end_with_usage};
 use crate::load::End;
 use crate::make::answer_make;
 use crate::status::Status;
+use crate::sure::answer_sure;
 use certificate_audit::laws::audits_have_one_answer;
 use command_words::laws::words_denote_one_command;
 use command_words::{CommandWords, read_words};
@@ -29,8 +30,8 @@ use std::thread::Threads;
 
 /// Reads the words and the texts that they name. `check` computes a bracket of the question that they pose, and writes one line
 /// for each initial state, rising, and the certificate where the words ask for it; `audit` writes these lines from a certificate
-/// of any origin that the question accepts, and computes no bracket; `make` writes one line about the bracket of a game that a
-/// seed draws. With `check` each printed lower bound is at most some k-step value, and with `audit` k-step values come within any
+/// of any origin that the question accepts, and computes no bracket; `sure` lists the states from which a goal is reached almost
+/// surely, whose k-step values come within any 1/m of 1; `make` writes one line about the bracket of a game that a seed draws. With `check` each printed lower bound is at most some k-step value, and with `audit` k-step values come within any
 /// 1/m of it; each upper bound is at least every one. The minimiser's choices of the certificate hold every opponent to the upper
 /// bounds, and the maximiser's reach the lower ones, less any 1/m, within some horizon; True and False are printed exactly where
 /// the bounds settle the threshold, and are then true and false, whatever the schedule of the workers, who pass the gate before
@@ -132,5 +133,6 @@ fn answer<R: Threads + Sync, H: Shelf, G: Gate + Sync>(
         CommandWords::Check(check) => answer_check(rt, alloc, check, shelf, gate),
         CommandWords::Audit(audit) => answer_audit(alloc, audit, shelf),
         CommandWords::Make(make) => answer_make(rt, alloc, make, gate),
+        CommandWords::Sure(asked) => answer_sure(alloc, asked, shelf),
     }
 }

@@ -22,6 +22,7 @@ mod model;
 mod refusal;
 mod reports;
 mod status;
+mod sure;
 
 pub use command::run;
 pub use status::Status;

@@ -144,6 +144,6 @@ pub fn usage_line(alloc: Global) -> Result<String, AllocError>
 {
     String::from_str(
         alloc,
-        "usage: stogame check TRA LAB FORMULA [--own FILE] [--rounds R] [--workers W] [--plan] | audit TRA LAB FORMULA CERT [--own FILE] | make SEED STATES [--rounds R] [--workers W]\n",
+        "usage: stogame check TRA LAB FORMULA [--own FILE] [--rounds R] [--workers W] [--plan] | audit TRA LAB FORMULA CERT [--own FILE] | make SEED STATES [--rounds R] [--workers W] | sure TRA LAB FORMULA [--own FILE]\n",
     )
 }
