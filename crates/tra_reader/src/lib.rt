@@ -3,7 +3,7 @@
 //! The first line has three whole numbers, states, choices and transition lines, for an MDP, or two, states and lines,
 //! for a DTMC. Each further line is a transition: `source choice destination probability` and an action or none, in a
 //! DTMC without the choice. Lines stand in any order, and those of one choice to one destination add up. A state
-//! without a line has one choice, a move to itself.
+//! without a line has one choice, a move to itself, and no state has more than 16,384.
 //!
 //! ```text
 //! let game = read_tra(alloc, b"3 3 5\n0 0 0 0.5\n0 0 1 0.25\n0 0 2 0.25\n1 0 1 1\n2 0 2 1\n")?;
