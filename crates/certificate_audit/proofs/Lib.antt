@@ -3,3 +3,5 @@ pub mod Saying
 pub mod SamePlans
 pub mod OneFault
 pub mod OneAnswer
+pub mod Multiples
+pub mod OldTables

@@ -1,12 +1,17 @@
 //! Laws of audits. No function here does anything: its contract is the law.
 
-ghost use Rattle.std.specs.Prelude.{◌≡◌, ℕ, List};
+ghost use Rattle.std.specs.Prelude.{◌≡◌, ◌≤◌, ◌↔◌, ℕ, List, Option, All, length, slice_index};
+ghost use Rattle.game_model.specs.Limits.{unit};
 ghost use Rattle.game_model.specs.Query.{Query, IsQuery};
+ghost use Rattle.game_model.specs.Rounded.{IsInductive, IsInductiveIn};
+ghost use Rattle.game_model.specs.Ranks.{Ranked, RankedIn};
+ghost use Rattle.inductive_check.specs.Replies.{AreReplies};
 ghost use Rattle.plan_text.specs.declared.plan.Plan.{Plan};
 ghost use Rattle.plan_text.specs.Entries.{entries_of};
 ghost use Rattle.certificate_audit.specs.declared.fault.AuditFault.{AuditFault};
 ghost use Rattle.certificate_audit.specs.Accepted.{IsAccepted, IsSound};
 ghost use Rattle.certificate_audit.specs.Refused.{IsRefused};
+ghost use Rattle.certificate_audit.specs.OldUnits.{old_unit, thousandfold};
 
 /// What an accepted plan says is right, for every question and every text.
 pub fn accepted_plans_are_sound()
@@ -18,4 +23,16 @@ pub fn audits_have_one_answer()
     ensures fault { (q : Query) (text : List ℕ) (fault other : AuditFault) → IsRefused q text fault → IsRefused q text other → fault ≡ other }
     ensures accepted { (q : Query) (text : List ℕ) (plan : Plan) (fault : AuditFault) → IsAccepted q text plan → ¬ IsRefused q text fault }
     ensures entries { (q : Query) (text : List ℕ) (plan other : Plan) → IsAccepted q text plan → IsAccepted q text other → entries_of plan ≡ entries_of other }
+{}
+
+/// A certificate of the first version counts in units of which probability 1 has a thousandth of today's number. It passes
+/// in those units exactly where it passes as it is read, with each value a thousandfold.
+pub fn old_certificates_mean_what_they_meant()
+    ensures lengths { (table : List ℕ) → length (thousandfold table) ≡ length table }
+    ensures upper { (q : Query) (upper : List ℕ) → IsQuery q →
+        (All (λ v. v ≤ old_unit) upper × IsInductiveIn old_unit q (slice_index upper)) ↔ (All (λ v. v ≤ unit) (thousandfold upper) × IsInductive q (slice_index (thousandfold upper))) }
+    ensures replies { (q : Query) (upper : List ℕ) (replies : List (Option ℕ)) →
+        AreReplies q (slice_index upper) replies ↔ AreReplies q (slice_index (thousandfold upper)) replies }
+    ensures ranked { (q : Query) (values : List ℕ) (choices : List (Option ℕ)) (ranks : List ℕ) →
+        RankedIn old_unit q values choices ranks ↔ Ranked q (thousandfold values) choices ranks }
 {}

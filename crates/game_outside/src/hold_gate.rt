@@ -4,13 +4,14 @@ use crate::gate::Gate;
 use std::sync::atomic::{AtomicBool, Ordering};
 use std::thread;
 
-/// How many turns a worker is held.
+/// How many turns a worker is held, where nothing else is said.
 const TURNS: u32 = 10_000_000;
 
 /// A gate that holds the first arrivals of the workers 0 and 1 until both have arrived, for a number of
 /// turns each. Where the two run one after another, it gives up. It promises nothing.
 #[derive(Drop)]
 pub struct HoldGate {
+    turns: u32,
     first: AtomicBool,
     second: AtomicBool,
     gave_up: AtomicBool,
@@ -19,7 +20,13 @@ pub struct HoldGate {
 impl HoldGate {
     /// A gate where nobody has arrived.
     pub fn new() -> HoldGate {
+        HoldGate::holding_for(TURNS)
+    }
+
+    /// The same, which holds a worker for so many turns.
+    pub fn holding_for(turns: u32) -> HoldGate {
         HoldGate {
+            turns,
             first: AtomicBool::new(false),
             second: AtomicBool::new(false),
             gave_up: AtomicBool::new(false),
@@ -36,7 +43,7 @@ impl HoldGate {
         if arrived.swap(true, Ordering::SeqCst) {
             return;
         }
-        for _ in 0..TURNS {
+        for _ in 0..self.turns {
             if other.load(Ordering::SeqCst) {
                 return;
             }

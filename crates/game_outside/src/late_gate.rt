@@ -1,31 +1,39 @@
 //! A gate that shows that a worker reads what others have just raised.
 
 use crate::gate::Gate;
-use std::sync::atomic::{AtomicBool, AtomicU32, Ordering};
+use std::sync::atomic::{AtomicBool, AtomicU64, Ordering};
 use std::thread;
 
-/// How many turns a worker is held.
+/// How many turns a worker is held, where nothing else is said.
 const TURNS: u32 = 10_000_000;
 
 /// A gate that holds the first arrival of one worker until the others have arrived so often in all, for a number of turns.
 /// Where they don't, it gives up. It promises nothing.
 #[derive(Drop)]
 pub struct LateGate {
+    turns: u32,
     held: u32,
     others: u32,
     arrived: AtomicBool,
-    arrivals: AtomicU32,
+    // So wide that no run comes to its end.
+    arrivals: AtomicU64,
     gave_up: AtomicBool,
 }
 
 impl LateGate {
     /// A gate that holds this worker until the others have arrived so often.
     pub fn new(held: u32, others: u32) -> LateGate {
+        LateGate::holding_for(held, others, TURNS)
+    }
+
+    /// The same, which holds the worker for so many turns.
+    pub fn holding_for(held: u32, others: u32, turns: u32) -> LateGate {
         LateGate {
+            turns,
             held,
             others,
             arrived: AtomicBool::new(false),
-            arrivals: AtomicU32::new(0),
+            arrivals: AtomicU64::new(0),
             gave_up: AtomicBool::new(false),
         }
     }
@@ -40,8 +48,8 @@ impl LateGate {
         if self.arrived.swap(true, Ordering::SeqCst) {
             return;
         }
-        for _ in 0..TURNS {
-            if self.arrivals.load(Ordering::SeqCst) >= self.others {
+        for _ in 0..self.turns {
+            if self.arrivals.load(Ordering::SeqCst) >= u64::from(self.others) {
                 return;
             }
             thread::yield_now();

@@ -1,6 +1,6 @@
 //! A place with named texts, which are read from front to end.
 
-ghost use Rattle.std.specs.Prelude.{◌≡◌, ◌↔◌, ◌<◌, ◌≤◌, ℕ, Bool, true, List, length, IfOk, OnOk, OnErr, IsOk, IsErrOf, Option, min, ◌+◌, ◌^◌, MatchResult, ◌⊎◌};
+ghost use Rattle.std.specs.Prelude.{◌≡◌, ◌↔◌, ◌<◌, ◌≤◌, ℕ, Bool, true, List, length, IfOk, OnOk, OnErr, IsOk, IsErrOf, Option, min, ◌+◌, ◌^◌, MatchResult};
 ghost use Rattle.std.specs.Io.{ReadsAtMost};
 ghost use Rattle.std.specs.Io.KnownBytes.{ReadConsumes};
 ghost use Rattle.game_outside.specs.Limits.{piece_size};
@@ -63,7 +63,7 @@ pub enum ReadEnd {
     TooLong,
 }
 
-/// The most bytes that `read_all` takes in one call.
+/// The most bytes that `read_all` and a `LineText` take in one call.
 pub const PIECE: usize = 4096;
 
 /// All bytes that are held under the name, at most `limit` of them.
@@ -83,9 +83,8 @@ pub fn read_all<H: Shelf>(
     ensures steadily { IsErrOf result ReadEnd.ReadFault → H.steady shelf.old ≡ true → Holds (H.held shelf.old) name.now → ⊥ }
 
     // A text is too long exactly where more than the limit was taken.
-    ensures too_long { IsErrOf result ReadEnd.TooLong → limit < H.taken shelf.new }
+    ensures too_long { IsErrOf result ReadEnd.TooLong ↔ limit < H.taken shelf.new }
     ensures too_long_held { IsErrOf result ReadEnd.TooLong → IsHeldLonger (H.held shelf.old) name.now limit }
-    ensures only_too_long { limit < H.taken shelf.new → IsErrOf result ReadEnd.TooLong ⊎ IsErrOf result ReadEnd.OutOfMemory }
 
     // It takes at most the limit and one piece.
     ensures taken { H.taken shelf.new ≤ limit + piece_size }

@@ -4,6 +4,9 @@ use super::*;
 use std::alloc::{AllocError, Global};
 use std::test::Fail;
 
+/// How many turns the gates of these tests hold a worker.
+const FEW_TURNS: u32 = 10;
+
 // The two texts that each test holds.
 fn files(alloc: Global) -> Result<Vec<HeldFile>, AllocError> {
     let mut files = Vec::new(alloc);
@@ -78,5 +81,36 @@ fn a_sink_tells_nothing_once_its_room_is_used_up(rt: HostRuntime) -> Result<(), 
     assert!(rt; sink.bytes() == Some(b"four".as_slice()));
     assert!(rt; write_all(&mut sink, b"!").is_ok());
     assert!(rt; sink.bytes().is_none());
+    Ok(())
+}
+
+#[test]
+fn a_hold_gate_gives_up_where_a_worker_is_alone(rt: HostRuntime) -> Result<(), Fail> {
+    let gate = HoldGate::holding_for(FEW_TURNS);
+    gate.arrive(2, 0);
+    assert!(rt; !gate.gave_up(), "another worker is not held");
+    gate.arrive(0, 0);
+    assert!(rt; gate.gave_up(), "worker 0 is alone");
+    let gate = HoldGate::holding_for(FEW_TURNS);
+    gate.arrive(1, 0);
+    assert!(rt; gate.gave_up(), "worker 1 is alone");
+    Ok(())
+}
+
+#[test]
+fn a_late_gate_gives_up_where_the_others_come_too_rarely(rt: HostRuntime) -> Result<(), Fail> {
+    let gate = LateGate::holding_for(0, 3, FEW_TURNS);
+    for state in 0..2 {
+        gate.arrive(1, state);
+    }
+    assert!(rt; !gate.gave_up(), "the others are not held");
+    gate.arrive(0, 0);
+    assert!(rt; gate.gave_up(), "two arrivals for three");
+    let gate = LateGate::holding_for(0, 3, FEW_TURNS);
+    for worker in 1..4 {
+        gate.arrive(worker, 0);
+    }
+    gate.arrive(0, 0);
+    assert!(rt; !gate.gave_up(), "three arrivals for three");
     Ok(())
 }

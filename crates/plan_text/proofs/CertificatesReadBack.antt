@@ -9,6 +9,7 @@ use Rattle.game_model.specs.Limits.{most_states}
 use Rattle.text_lines.specs.Text.{lines_of, fields_of, significant, keep_line, is_nil}
 use Rattle.text_lines.proofs.LineLaws.{lines_of-lf}
 use Rattle.text_lines.proofs.NumberLaws.{number_of-decimal}
+use Rattle.plan_text.specs.declared.version.Version.TheVariants.{Two}
 use Rattle.plan_text.specs.Entries.{Entry, IsInRange}
 use Rattle.plan_text.specs.Written.{entry_lines, certificate_text}
 use Rattle.plan_text.specs.Said.{entries_from, certificate_from, entries_said}
@@ -51,7 +52,7 @@ significant-written s (entry ∷ entries) few are =
     (significant-written (s + 1) entries (omega arith) (All-tail IsInRange entry entries are))
 
 entries_from-written : (states number : ℕ) (before entries : List Entry) → length before + length entries ≡ states → states ≤ most_states → All IsInRange entries
-    → entries_from states before number (written_lines (length before) entries) ≡ Ok (before ++ entries)
+    → entries_from Two states before number (written_lines (length before) entries) ≡ Ok (before ++ entries)
 unfolding written_lines
 entries_from-written states number before [] all few are =
     let full : (length before == states) ≡ true = grind (arith, nat_tests) in
@@ -66,19 +67,19 @@ entries_from-written states number before (entry ∷ entries) all few are =
 -- 3. The first line of a certificate.
 
 heading : ℕ → List ℕ
-heading n = spaced (codes "certificate") (codes "1" ∷ decimal n ∷ [])
+heading n = spaced (codes "certificate") (codes "2" ∷ decimal n ∷ [])
 
 IsField-certificate : IsField (codes "certificate")
 IsField-certificate = record { printed = search arith; some = omega arith }
 
-IsField-version : IsField (codes "1")
+IsField-version : IsField (codes "2")
 IsField-version = record { printed = search arith; some = omega arith }
 
-fields_of-heading : (n : ℕ) → n ≤ most_states → fields_of (heading n) ≡ codes "certificate" ∷ codes "1" ∷ decimal n ∷ []
+fields_of-heading : (n : ℕ) → n ≤ most_states → fields_of (heading n) ≡ codes "certificate" ∷ codes "2" ∷ decimal n ∷ []
 unfolding heading
-fields_of-heading n few = fields_of-spaced (codes "certificate") (codes "1" ∷ decimal n ∷ []) IsField-certificate (IsField-version, (IsField-decimal n (omega arith), tt))
+fields_of-heading n few = fields_of-spaced (codes "certificate") (codes "2" ∷ decimal n ∷ []) IsField-certificate (IsField-version, (IsField-decimal n (omega arith), tt))
 
-certificate_from-heading : (n number : ℕ) (lines : List (List ℕ)) → n ≤ most_states → certificate_from n number (heading n ∷ lines) ≡ entries_from n [] (number + 1) lines
+certificate_from-heading : (n number : ℕ) (lines : List (List ℕ)) → n ≤ most_states → certificate_from n number (heading n ∷ lines) ≡ entries_from Two n [] (number + 1) lines
 certificate_from-heading n number lines few =
     let same : (n == n) ≡ true = grind (arith, nat_tests) in
     rw (fields_of-heading n few, number_of-decimal n (omega arith), same) refl
@@ -87,8 +88,8 @@ lines_of-certificate_text : (entries : List Entry) → length entries ≤ most_s
 unfolding heading spaced
 lines_of-certificate_text entries few are =
     let n = length entries in
-    ap (λ t. lines_of (codes "certificate 1 " ++ t)) (append_assoc (decimal n) (codes "\n") (entry_lines 0 entries))
-    ∙ lines_of-spaced (codes "certificate") (codes "1" ∷ decimal n ∷ []) (entry_lines 0 entries) IsField-certificate (IsField-version, (IsField-decimal n (omega arith), tt))
+    ap (λ t. lines_of (codes "certificate 2 " ++ t)) (append_assoc (decimal n) (codes "\n") (entry_lines 0 entries))
+    ∙ lines_of-spaced (codes "certificate") (codes "2" ∷ decimal n ∷ []) (entry_lines 0 entries) IsField-certificate (IsField-version, (IsField-decimal n (omega arith), tt))
     ∙ ap (λ ls. heading n ∷ ls) (lines_of-entry_lines 0 entries (omega arith) are)
 
 -- 4. Lines before it.
@@ -126,7 +127,7 @@ read_back lines entries are few in_range =
 
 heading-one : (m n : ℕ) → m ≤ most_states → n ≤ most_states → heading m ≡ heading n → m ≡ n
 unfolding heading spaced
-heading-one m n few few_n same = decimal_injective m n (omega arith) (omega arith) (append_cancel_left (codes "certificate 1 ") (decimal m) (decimal n) same)
+heading-one m n few few_n same = decimal_injective m n (omega arith) (omega arith) (append_cancel_left (codes "certificate 2 ") (decimal m) (decimal n) same)
 
 pub one_reading : (entries others : List Entry) → length entries ≤ most_states → length others ≤ most_states → All IsInRange entries → All IsInRange others
     → certificate_text entries ≡ certificate_text others → entries ≡ others

@@ -4,6 +4,7 @@ use Rattle.std.specs.Prelude.{◌==◌, decimal}
 use Rattle.std.proofs.lemmas.Bool.Decides.{nat_tests}
 use Rattle.text_lines.specs.Text.{lines_of, fields_of, number_of, is_nil}
 use Rattle.text_lines.proofs.NumberLaws.{number_of-decimal}
+use Rattle.plan_text.specs.declared.version.Version.TheVariants.{Two}
 use Rattle.plan_text.specs.Fixed.{fixed}
 use Rattle.plan_text.specs.Entries.{Entry, IsSmall, IsInRange}
 use Rattle.plan_text.specs.Written.{choice_text, behind_space, entry_text}
@@ -32,8 +33,8 @@ fields_of-entry_line : (s : ℕ) (entry : Entry) → s < 2 ^ 64 → IsInRange en
 fields_of-entry_line s entry small is = fields_of-spaced (decimal s) (later_fields entry) (IsField-decimal s small) (AreFields-later entry is)
 
 -- where each field is read, the entry is
-entry_in-read : (s : ℕ) (entry : Entry) (state lower choice rank upper reply : List ℕ) → number_of state ≡ Some s → units_of lower ≡ Some entry.lower → choice_in choice ≡ Some entry.choice
-    → number_of rank ≡ Some entry.rank → units_of upper ≡ Some entry.upper → choice_in reply ≡ Some entry.reply → entry_in s (state ∷ lower ∷ choice ∷ rank ∷ upper ∷ reply ∷ []) ≡ Some entry
+entry_in-read : (s : ℕ) (entry : Entry) (state lower choice rank upper reply : List ℕ) → number_of state ≡ Some s → units_of Two lower ≡ Some entry.lower → choice_in choice ≡ Some entry.choice
+    → number_of rank ≡ Some entry.rank → units_of Two upper ≡ Some entry.upper → choice_in reply ≡ Some entry.reply → entry_in Two s (state ∷ lower ∷ choice ∷ rank ∷ upper ∷ reply ∷ []) ≡ Some entry
 entry_in-read s entry state lower choice rank upper reply state_read lower_read choice_read rank_read upper_read reply_read =
     let same : (s == s) ≡ true = grind (arith, nat_tests) in
     rw (state_read, same, lower_read, choice_read, rank_read, upper_read, reply_read) refl
@@ -49,12 +50,12 @@ judged-in_range entry is =
     let all : is_in_range entry ≡ true = grind (arith, nat_tests) in
     rw all refl
 
-pub line_said-written : (s : ℕ) (entry : Entry) → s < 2 ^ 64 → IsInRange entry → line_said s (entry_line s entry) ≡ Ok entry
+pub line_said-written : (s : ℕ) (entry : Entry) → s < 2 ^ 64 → IsInRange entry → line_said Two s (entry_line s entry) ≡ Ok entry
 line_said-written s entry small is =
     let read = entry_in-read s entry (decimal s) (fixed entry.lower) (choice_text entry.choice) (decimal entry.rank) (fixed entry.upper) (choice_text entry.reply)
     (number_of-decimal s small) (units_of-fixed entry.lower is.lower) (choice_in-choice_text entry.choice is.choice)
     (number_of-decimal entry.rank (omega (arith, is.rank))) (units_of-fixed entry.upper is.upper) (choice_in-choice_text entry.reply is.reply) in
-    ap (λ fs. judged (entry_in s fs)) (fields_of-entry_line s entry small is) ∙ ap (λ e. judged e) read ∙ judged-in_range entry is
+    ap (λ fs. judged (entry_in Two s fs)) (fields_of-entry_line s entry small is) ∙ ap (λ e. judged e) read ∙ judged-in_range entry is
 
 pub not_blank-entry_line : (s : ℕ) (entry : Entry) → s < 2 ^ 64 → IsInRange entry → is_nil (fields_of (entry_line s entry)) ≡ false
 not_blank-entry_line s entry small is = ap (λ fs. is_nil fs) (fields_of-entry_line s entry small is)

@@ -9,6 +9,7 @@ use Rattle.std.proofs.lemmas.Slice.Eq.{bytes_eq-Decides}
 use Rattle.game_model.specs.Limits.{unit}
 use Rattle.text_lines.specs.Text.{number_of, is_digit, all_digits, value_onto}
 use Rattle.text_lines.proofs.NumberLaws.{number_of-decimal}
+use Rattle.plan_text.specs.declared.version.Version.TheVariants.{Two}
 use Rattle.plan_text.specs.Fixed.{fixed, last_digits, unit_digits}
 use Rattle.plan_text.specs.Entries.{IsSmall}
 use Rattle.plan_text.specs.Written.{choice_text}
@@ -42,10 +43,10 @@ value_onto-last_digits (suc k) n small =
     omega (arith, value_onto-snoc 0 (last_digits k (n / 10)) (48 + n % 10), value_onto-last_digits k (n / 10) (omega (arith, power)))
 
 units_of-spelled : (whole : ℕ) (digits : List ℕ) → is_digit whole ≡ true → length digits ≡ unit_digits → all_digits digits ≡ true
-    → units_of (whole ∷ 46 ∷ digits) ≡ Some ((whole - 48) * unit + value_onto 0 digits)
+    → units_of Two (whole ∷ 46 ∷ digits) ≡ Some ((whole - 48) * unit + value_onto 0 digits * 1)
 units_of-spelled whole digits digit many all = rw (digit, many, all) refl
 
-pub units_of-fixed : (u : ℕ) → u ≤ unit → units_of (fixed u) ≡ Some u
+pub units_of-fixed : (u : ℕ) → u ≤ unit → units_of Two (fixed u) ≡ Some u
 units_of-fixed u small =
     let digits = last_digits unit_digits (u % unit) in
     units_of-spelled (48 + u / unit) digits (grind (arith, nat_tests)) (length-last_digits unit_digits (u % unit)) (all_digits-last_digits unit_digits (u % unit))

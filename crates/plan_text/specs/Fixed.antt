@@ -9,7 +9,7 @@ last_digits (suc k) n = last_digits k (n / 10) ++ (48 + n % 10) ∷ []
 
 -- the unit is ten to this power
 abbrev pub unit_digits : ℕ
-unit_digits = 12
+unit_digits = 15
 
 -- a value of so many units, in decimal
 abbrev pub fixed : ℕ → List ℕ

@@ -1,4 +1,5 @@
 pub mod Fixed
+pub mod Versions
 pub mod Entries
 pub mod Written
 pub mod Said

@@ -3,6 +3,7 @@ use Rattle.std.specs.Prelude.{ℕ, ◌+◌, List, [], ◌∷◌, option_map, if�
 use Rattle.text_lines.specs.Text.{fields_of, is_nil, saturated}
 use Rattle.plan_text.specs.declared.fault.PlanFault.{PlanFault}
 use Rattle.plan_text.specs.declared.fault.PlanCause.TheVariants.{BadLine, MissingLine}
+use Rattle.plan_text.specs.declared.version.Version.{Version}
 use Rattle.plan_text.specs.Entries.{Entry}
 use Rattle.plan_text.specs.Said.{fault_at, then_at, line_said}
 
@@ -17,9 +18,9 @@ saturated_entry entry = record {
 }
 
 -- what the first of these lines says of this state, and the lines behind it
-abbrev pub first_said : ℕ → ℕ → List (List ℕ) → Result (Entry × List (List ℕ)) PlanFault
-first_said s number [] = Err (fault_at number MissingLine)
-first_said s number (line ∷ lines) = then_at number (line_said s line) (λ entry. Ok (entry, lines))
+abbrev pub first_said : Version → ℕ → ℕ → List (List ℕ) → Result (Entry × List (List ℕ)) PlanFault
+first_said version s number [] = Err (fault_at number MissingLine)
+first_said version s number (line ∷ lines) = then_at number (line_said version s line) (λ entry. Ok (entry, lines))
 
 -- all of these lines are blank, or the first that is not is at fault
 abbrev pub end_said : ℕ → List (List ℕ) → Result (Unit {0}) PlanFault

@@ -5,16 +5,20 @@ use Rattle.text_lines.specs.Text.{lines_of, fields_of, number_of, significant, i
 use Rattle.plan_text.specs.declared.plan.Plan.{Plan}
 use Rattle.plan_text.specs.declared.fault.PlanFault.{PlanFault}
 use Rattle.plan_text.specs.declared.fault.PlanCause.{PlanCause}
-use Rattle.plan_text.specs.declared.fault.PlanCause.TheVariants.{OutOfMemory, NoCertificate, Version, StateCount, BadLine, NumberOutOfRange, MissingLine}
-use Rattle.plan_text.specs.Fixed.{unit_digits}
+use Rattle.plan_text.specs.declared.fault.PlanCause.TheVariants.{OutOfMemory, NoCertificate, StateCount, BadLine, NumberOutOfRange, MissingLine}
+use Rattle.plan_text.specs.declared.fault.PlanCause.TheVariants as cause
+use Rattle.plan_text.specs.declared.version.Version.{Version}
+use Rattle.plan_text.specs.Versions.{decimals_of, units_of_last_digit, version_in}
 use Rattle.plan_text.specs.Entries.{Entry, greatest_choice, greatest_rank, entries_of}
 
--- the units of a value: a digit, a point and twelve digits
-abbrev pub units_of : List ℕ → Option ℕ
-units_of [] = None
-units_of (whole ∷ []) = None
-units_of (whole ∷ point ∷ digits) =
-    if is_digit whole && point == 46 && length digits == unit_digits && all_digits digits then Some ((whole - 48) * unit + value_onto 0 digits) else None
+-- the units of a value: a digit, a point and the decimals of the version
+abbrev pub units_of : Version → List ℕ → Option ℕ
+units_of version [] = None
+units_of version (whole ∷ []) = None
+units_of version (whole ∷ point ∷ digits) =
+    if is_digit whole && point == 46 && length digits == decimals_of version && all_digits digits
+    then Some ((whole - 48) * unit + value_onto 0 digits * units_of_last_digit version)
+    else None
 
 -- a choice, or `-` for none
 abbrev pub choice_in : List ℕ → Option (Option ℕ)
@@ -30,10 +34,10 @@ entry_from (Some lower) (Some choice) (Some rank) (Some upper) (Some reply) =
 entry_from lower choice rank upper reply = None
 
 -- the entry of this state, where a line has six fields of the right form, and the first spells the state
-abbrev pub entry_in : ℕ → List (List ℕ) → Option Entry
-entry_in s (state ∷ lower ∷ choice ∷ rank ∷ upper ∷ reply ∷ []) =
-    if spells s (number_of state) then entry_from (units_of lower) (choice_in choice) (number_of rank) (units_of upper) (choice_in reply) else None
-entry_in s fields = None
+abbrev pub entry_in : Version → ℕ → List (List ℕ) → Option Entry
+entry_in version s (state ∷ lower ∷ choice ∷ rank ∷ upper ∷ reply ∷ []) =
+    if spells s (number_of state) then entry_from (units_of version lower) (choice_in choice) (number_of rank) (units_of version upper) (choice_in reply) else None
+entry_in version s fields = None
 
 abbrev pub is_small : Option ℕ → Bool
 is_small None = true
@@ -47,8 +51,8 @@ judged None = Err BadLine
 judged (Some entry) = if is_in_range entry then Ok entry else Err NumberOutOfRange
 
 -- what a line says of this state
-abbrev pub line_said : ℕ → List ℕ → Result Entry PlanCause
-line_said s line = judged (entry_in s (fields_of line))
+abbrev pub line_said : Version → ℕ → List ℕ → Result Entry PlanCause
+line_said version s line = judged (entry_in version s (fields_of line))
 
 abbrev pub fault_at : ℕ → PlanCause → PlanFault
 fault_at line cause = record { line = line; cause = cause }
@@ -59,21 +63,26 @@ then_at number (Ok x) next = next x
 then_at number (Err cause) next = Err (fault_at number cause)
 
 -- the entries before these lines, of which the first has this number, and those of the lines; behind the last state's line all is blank
-abbrev pub entries_from : ℕ → List Entry → ℕ → List (List ℕ) → Result (List Entry) PlanFault
-entries_from states before number [] = if length before == states then Ok before else Err (fault_at number MissingLine)
-entries_from states before number (line ∷ lines) =
+abbrev pub entries_from : Version → ℕ → List Entry → ℕ → List (List ℕ) → Result (List Entry) PlanFault
+entries_from version states before number [] = if length before == states then Ok before else Err (fault_at number MissingLine)
+entries_from version states before number (line ∷ lines) =
     if length before == states
-    then (if is_nil (fields_of line) then entries_from states before (number + 1) lines else Err (fault_at number BadLine))
-    else then_at number (line_said (length before) line) (λ entry. entries_from states (before ++ entry ∷ []) (number + 1) lines)
+    then (if is_nil (fields_of line) then entries_from version states before (number + 1) lines else Err (fault_at number BadLine))
+    else then_at number (line_said version (length before) line) (λ entry. entries_from version states (before ++ entry ∷ []) (number + 1) lines)
+
+-- a version, of so many states in place of those that are asked for
+abbrev pub counted : ℕ → ℕ → Option Version → Result Version PlanCause
+counted states count None = Err cause.Version
+counted states count (Some version) = if count == states then Ok version else Err StateCount
 
 -- the first line's version and number of states, of which the number's form is looked at first
-abbrev pub heading_said : ℕ → List ℕ → Option ℕ → Result (Unit {0}) PlanCause
-heading_said states version None = Err BadLine
-heading_said states version (Some count) = if bytes_eq version (codes "1") then (if count == states then Ok tt else Err StateCount) else Err Version
+abbrev pub heading_said : ℕ → List ℕ → Option ℕ → Result Version PlanCause
+heading_said states name None = Err BadLine
+heading_said states name (Some count) = counted states count (version_in name)
 
--- the first line of a certificate: three fields
-abbrev pub header_said : ℕ → List (List ℕ) → Result (Unit {0}) PlanCause
-header_said states (name ∷ version ∷ count ∷ []) = heading_said states version (number_of count)
+-- the version of a certificate, by its first line: three fields
+abbrev pub header_said : ℕ → List (List ℕ) → Result Version PlanCause
+header_said states (word ∷ name ∷ count ∷ []) = heading_said states name (number_of count)
 header_said states fields = Err BadLine
 
 -- the first field is `certificate`
@@ -86,7 +95,7 @@ abbrev pub certificate_from : ℕ → ℕ → List (List ℕ) → Result (List E
 certificate_from states number [] = Err (fault_at 0 NoCertificate)
 certificate_from states number (line ∷ lines) =
     if is_heading (fields_of line)
-    then then_at number (header_said states (fields_of line)) (λ good. entries_from states [] (number + 1) lines)
+    then then_at number (header_said states (fields_of line)) (λ version. entries_from version states [] (number + 1) lines)
     else certificate_from states (number + 1) lines
 
 -- The entries that a text has for so many states, or its first fault.

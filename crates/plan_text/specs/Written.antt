@@ -12,7 +12,7 @@ choice_text (Some choice) = decimal choice
 abbrev pub behind_space : List ℕ → List ℕ
 behind_space field = 32 ∷ field
 
--- the line of a state, as `0 0.500000000000 1 1 0.500000000000 -`
+-- the line of a state, as `0 0.500000000000000 1 1 0.500000000000000 -`
 abbrev pub entry_text : ℕ → Entry → List ℕ
 entry_text s entry = decimal s ++ (behind_space (fixed entry.lower) ++ (behind_space (choice_text entry.choice) ++ (behind_space (decimal entry.rank)
     ++ (behind_space (fixed entry.upper) ++ (behind_space (choice_text entry.reply) ++ codes "\n")))))
@@ -22,6 +22,6 @@ abbrev pub entry_lines : ℕ → List Entry → List ℕ
 entry_lines s [] = []
 entry_lines s (entry ∷ entries) = entry_text s entry ++ entry_lines (s + 1) entries
 
--- the line `certificate 1 N`, and a line for each of the N states
+-- the line `certificate 2 N`, and a line for each of the N states
 abbrev pub certificate_text : List Entry → List ℕ
-certificate_text entries = (codes "certificate 1 " ++ (decimal (length entries) ++ codes "\n")) ++ entry_lines 0 entries
+certificate_text entries = (codes "certificate 2 " ++ (decimal (length entries) ++ codes "\n")) ++ entry_lines 0 entries

@@ -8,15 +8,13 @@ ghost use Rattle.plan_text.specs.Said.{line_said, entry_in, units_of, choice_in,
 ghost use Rattle.plan_text.specs.Read.{saturated_entry};
 
 use crate::fault::PlanCause;
+use crate::version::Version;
 use game_model::UNIT;
 use std::marker::Model;
 use text_lines::{first_field, whole};
 
-/// The digits of a value behind its point.
-const UNIT_DIGITS: usize = 12;
-
 /// The greatest number of a choice.
-const GREATEST_CHOICE: u64 = 16_383;
+pub(crate) const GREATEST_CHOICE: u64 = 16_383;
 
 /// What a line says of its state. Contracts see it as an entry.
 #[derive(Drop)]
@@ -43,8 +41,8 @@ impl Model for StateLine {
 
 impl StateLine {
     // What a line spells of this state, if it has the form.
-    fn spelled(state: u32, line: &[u8]) -> Option<StateLine>
-        ensures { result ≡ option_map saturated_entry (entry_in state (fields_of line.now)) }
+    fn spelled(version: Version, state: u32, line: &[u8]) -> Option<StateLine>
+        ensures { result ≡ option_map saturated_entry (entry_in version state (fields_of line.now)) }
     {
         let (number, rest) = first_field(line)?;
         let (lower, rest) = first_field(rest)?;
@@ -56,10 +54,10 @@ impl StateLine {
             return None;
         }
         Some(StateLine {
-            lower: units_in(lower)?,
+            lower: units_in(version, lower)?,
             choice: choice_in(choice)?,
             rank: whole(rank)?,
-            upper: units_in(upper)?,
+            upper: units_in(version, upper)?,
             reply: choice_in(reply)?,
         })
     }
@@ -76,11 +74,11 @@ impl StateLine {
     }
 
     /// What a line says of this state, or its fault.
-    pub fn read(state: u32, line: &[u8]) -> Result<StateLine, PlanCause>
-        ensures said { result ≡ line_said state line.now }
+    pub fn read(version: Version, state: u32, line: &[u8]) -> Result<StateLine, PlanCause>
+        ensures said { result ≡ line_said version state line.now }
         ensures range { IfOk result IsInRange }
     {
-        let Some(entry) = StateLine::spelled(state, line) else {
+        let Some(entry) = StateLine::spelled(version, state, line) else {
             return Err(PlanCause::BadLine);
         };
         if entry.is_in_range() {
@@ -91,17 +89,18 @@ impl StateLine {
     }
 }
 
-// The units of a value: a digit, a point and twelve digits.
-fn units_in(field: &[u8]) -> Option<u64>
-    ensures { result ≡ units_of field.now }
+// The units of a value: a digit, a point and the decimals of the version.
+fn units_in(version: Version, field: &[u8]) -> Option<u64>
+    ensures { result ≡ units_of version field.now }
 {
     let [ones, b'.', digits @ ..] = field else {
         return None;
     };
-    if !ones.is_ascii_digit() || digits.len() != UNIT_DIGITS {
+    if !ones.is_ascii_digit() || digits.len() != version.decimals() {
         return None;
     }
-    Some(u64::from(*ones - b'0') * UNIT + whole(digits)?)
+    let decimals = whole(digits)? * version.units_of_last_digit();
+    Some(u64::from(*ones - b'0') * UNIT + decimals)
 }
 
 // A choice, or `-` for none.

@@ -7,7 +7,7 @@ pub enum PlanCause {
     OutOfMemory,
     /// No line has the first field `certificate`.
     NoCertificate,
-    /// The certificate is of another version than `1`.
+    /// The certificate is of another version than `1` and `2`.
     Version,
     /// It is of another number of states.
     StateCount,

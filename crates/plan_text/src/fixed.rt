@@ -10,9 +10,9 @@ use game_outside::OutOfMemory;
 use std::alloc::Global;
 
 /// The unit is ten to this power.
-const UNIT_DIGITS: usize = 12;
+pub(crate) const UNIT_DIGITS: usize = 15;
 
-/// A value of so many units in decimal: one digit, a point and twelve digits.
+/// A value of so many units in decimal: one digit, a point and fifteen digits.
 pub fn fixed_text(alloc: Global, units: u64) -> Result<Vec<u8>, OutOfMemory>
     requires { units ≤ unit }
     ensures { IfOk result (λ text. text.items ≡ fixed units) }
@@ -32,7 +32,7 @@ pub fn append_fixed(text: &mut Vec<u8>, units: u64) -> Result<(), OutOfMemory>
     append(text, &last_digits_of(units % UNIT))
 }
 
-// The last twelve digits of a number.
+// The last fifteen digits of a number.
 fn last_digits_of(number: u64) -> [u8; UNIT_DIGITS]
     ensures { result ≡ last_digits unit_digits number }
 {
@@ -53,15 +53,15 @@ mod tests {
     use std::test::Fail;
 
     #[test]
-    fn values_have_twelve_digits_behind_the_point(rt: HostRuntime) -> Result<(), Fail> {
-        let Ok(most) = fixed_text(rt.alloc(), 1_000_000_000_000) else {
+    fn values_have_fifteen_digits_behind_the_point(rt: HostRuntime) -> Result<(), Fail> {
+        let Ok(most) = fixed_text(rt.alloc(), 1_000_000_000_000_000) else {
             return Err(Fail::new("no memory"));
         };
-        assert_eq!(rt; most.as_slice(), b"1.000000000000".as_slice());
+        assert_eq!(rt; most.as_slice(), b"1.000000000000000".as_slice());
         let Ok(small) = fixed_text(rt.alloc(), 20_003) else {
             return Err(Fail::new("no memory"));
         };
-        assert_eq!(rt; small.as_slice(), b"0.000000020003".as_slice());
+        assert_eq!(rt; small.as_slice(), b"0.000000000020003".as_slice());
         Ok(())
     }
 }

@@ -1,4 +1,4 @@
-//! The first line of a certificate: `certificate 1 N`, for N states.
+//! The first line of a certificate: `certificate 2 N`, for N states, or `certificate 1 N`.
 
 ghost use Rattle.std.specs.Prelude.{◌≡◌, ◌≤◌, ◌+◌, ℕ, [], Err, IfOk, MatchOption, MatchResult, length};
 ghost use Rattle.text_lines.specs.Limits.{most_bytes};
@@ -6,22 +6,24 @@ ghost use Rattle.text_lines.specs.Text.{lines_of, fields_of, number_of, signific
 ghost use Rattle.plan_text.specs.Said.{entries_said, entries_from, header_said, heading_said, is_heading};
 
 use crate::fault::{PlanCause, PlanFault};
+use crate::version::Version;
 use text_lines::{first_field, first_line, whole};
 
-/// What stands behind the first line of the certificate, and the number of the line that follows; or the first fault.
-pub fn read_heading(text: &[u8], states: u32) -> Result<(&[u8], u32), PlanFault>
+/// The version of the certificate, what stands behind its first line, and the number of the line that follows; or the first
+/// fault.
+pub fn read_heading(text: &[u8], states: u32) -> Result<(Version, &[u8], u32), PlanFault>
     requires { length text.now ≤ most_bytes }
     ensures said { MatchResult result
-        (λ behind. entries_said text.now states ≡ entries_from states [] behind.1 (significant (lines_of behind.0.now)))
+        (λ behind. entries_said text.now states ≡ entries_from behind.0 states [] behind.2 (significant (lines_of behind.1.now)))
         (λ fault. entries_said text.now states ≡ Err fault) }
-    ensures number { IfOk result (λ behind. behind.1 + length behind.0.now ≤ 1 + length text.now) }
+    ensures number { IfOk result (λ behind. behind.2 + length behind.1.now ≤ 1 + length text.now) }
 {
     let mut rest = text;
     let mut number = 1u32;
     while let Some((line, after)) = first_line(rest) {
         if is_heading(line) {
             return match check_heading(states, line) {
-                Ok(()) => Ok((after, number + 1)),
+                Ok(version) => Ok((version, after, number + 1)),
                 Err(cause) => Err(PlanFault {
                     line: number,
                     cause,
@@ -62,21 +64,21 @@ fn last_fields(line: &[u8]) -> Option<(&[u8], &[u8])>
     }
 }
 
-// The first line of a certificate of so many states, or its fault.
-fn check_heading(states: u32, line: &[u8]) -> Result<(), PlanCause>
+// The version of a certificate of so many states, by its first line, or the fault of the line.
+fn check_heading(states: u32, line: &[u8]) -> Result<Version, PlanCause>
     ensures { result ≡ header_said states (fields_of line.now) }
 {
-    let Some((version, count)) = last_fields(line) else {
+    let Some((name, count)) = last_fields(line) else {
         return Err(PlanCause::BadLine);
     };
     let Some(count) = whole(count) else {
         return Err(PlanCause::BadLine);
     };
-    if version != b"1".as_slice() {
+    let Some(version) = Version::named(name) else {
         return Err(PlanCause::Version);
-    }
+    };
     if count != u64::from(states) {
         return Err(PlanCause::StateCount);
     }
-    Ok(())
+    Ok(version)
 }

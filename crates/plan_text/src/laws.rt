@@ -1,13 +1,23 @@
 //! Laws of certificates. Each function does nothing; its contract is the law.
 
-ghost use Rattle.std.specs.Prelude.{◌≡◌, ◌≤◌, ◌++◌, ◌↔◌, List, ℕ, All, Ok, length};
+ghost use Rattle.std.specs.Prelude.{◌≡◌, ◌≤◌, ◌^◌, ◌++◌, ◌↔◌, List, ℕ, All, Ok, length};
 ghost use Rattle.game_model.specs.Limits.{unit, most_states};
-ghost use Rattle.plan_text.specs.Fixed.{fixed};
-ghost use Rattle.plan_text.specs.Entries.{Entry, IsInRange};
+ghost use Rattle.plan_text.specs.Fixed.{fixed, unit_digits};
+ghost use Rattle.plan_text.specs.Entries.{Entry, IsInRange, greatest_choice};
 ghost use Rattle.plan_text.specs.Written.{certificate_text};
 ghost use Rattle.plan_text.specs.Said.{entries_said};
 ghost use Rattle.plan_text.specs.Certificate.{IsCertificate};
 ghost use Rattle.plan_text.specs.Laws.{IsPassedOver, as_lines};
+
+use crate::entry::GREATEST_CHOICE;
+use crate::fixed::UNIT_DIGITS;
+
+/// The constants are the numbers of the definitions, and the unit has so many zeros.
+pub fn limits()
+    ensures digits { UNIT_DIGITS ≡ unit_digits }
+    ensures unit { 10 ^ unit_digits ≡ unit }
+    ensures choice { GREATEST_CHOICE ≡ greatest_choice }
+{}
 
 /// No two values have the same text.
 pub fn fixed_text_has_one_reading()

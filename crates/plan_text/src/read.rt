@@ -11,26 +11,34 @@ use crate::entry::StateLine;
 use crate::fault::{PlanCause, PlanFault};
 use crate::heading::read_heading;
 use crate::plan::Plan;
+use crate::version::Version;
 use std::alloc::Global;
 use text_lines::{first_field, first_line, only_blank};
 
 /// Reads the certificate of so many states from a text. Lines before the first one whose first field is `certificate`
-/// are passed over. What is read is what the text says, or its first fault, line by line; else memory was wanting.
+/// are passed over. A value of the first version is as many units as its decimals say. What is read is what the text says,
+/// or its first fault, line by line; else memory was wanting.
 pub fn read_plan(alloc: Global, bytes: &[u8], states: u32) -> Result<Plan, PlanFault>
     requires { length bytes.now ≤ most_bytes }
     ensures lists { IfOk result (λ plan. HasStates plan states) }
     ensures said { GivesPlan result (entries_said bytes.now states) }
     ensures in_range { IfOk result (λ plan. All IsInRange (entries_of plan)) }
 {
-    let (text, number) = read_heading(bytes, states)?;
-    read_states(alloc, text, number, states)
+    let (version, text, number) = read_heading(bytes, states)?;
+    read_states(alloc, version, text, number, states)
 }
 
 // Reads the lines of the states, of which the first has this number.
-fn read_states(alloc: Global, text: &[u8], first: u32, states: u32) -> Result<Plan, PlanFault>
+fn read_states(
+    alloc: Global,
+    version: Version,
+    text: &[u8],
+    first: u32,
+    states: u32,
+) -> Result<Plan, PlanFault>
     requires { first + length text.now ≤ 1 + most_bytes }
     ensures lists { IfOk result (λ plan. HasStates plan states) }
-    ensures said { GivesPlan result (entries_from states [] first (significant (lines_of text.now))) }
+    ensures said { GivesPlan result (entries_from version states [] first (significant (lines_of text.now))) }
 {
     let Ok(mut plan) = Plan::with_room(alloc, states) else {
         return Err(PlanFault::out_of_memory());
@@ -38,7 +46,7 @@ fn read_states(alloc: Global, text: &[u8], first: u32, states: u32) -> Result<Pl
     let mut rest = text;
     let mut number = first;
     for state in 0..states {
-        let (entry, after) = read_state(state, rest, number)?;
+        let (entry, after) = read_state(version, state, rest, number)?;
         let Ok(()) = plan.push(entry) else {
             return Err(PlanFault::out_of_memory());
         };
@@ -50,10 +58,15 @@ fn read_states(alloc: Global, text: &[u8], first: u32, states: u32) -> Result<Pl
 }
 
 // What the first line says of this state, and what stands behind the line; or its fault.
-fn read_state(state: u32, text: &[u8], number: u32) -> Result<(StateLine, &[u8]), PlanFault>
+fn read_state(
+    version: Version,
+    state: u32,
+    text: &[u8],
+    number: u32,
+) -> Result<(StateLine, &[u8]), PlanFault>
     ensures said { MatchResult result
-        (λ r. first_said state number (significant (lines_of text.now)) ≡ Ok (r.0, significant (lines_of r.1.now)))
-        (λ fault. first_said state number (significant (lines_of text.now)) ≡ Err fault) }
+        (λ r. first_said version state number (significant (lines_of text.now)) ≡ Ok (r.0, significant (lines_of r.1.now)))
+        (λ fault. first_said version state number (significant (lines_of text.now)) ≡ Err fault) }
     ensures range { IfOk result (λ r. IsInRange r.0) }
     ensures shorter { IfOk result (λ r. length r.1.now < length text.now) }
 {
@@ -63,7 +76,7 @@ fn read_state(state: u32, text: &[u8], number: u32) -> Result<(StateLine, &[u8])
             cause: PlanCause::MissingLine,
         });
     };
-    match StateLine::read(state, line) {
+    match StateLine::read(version, state, line) {
         Ok(entry) => Ok((entry, after)),
         Err(cause) => Err(PlanFault {
             line: number,

@@ -6,7 +6,7 @@ use std::test::Fail;
 use text_lines::MOST_BYTES;
 
 // Two lines that stand before each certificate.
-const REPORT: &[u8] = b"state 0 lower 0.500000000000 upper 0.500000000000 rounds 2 Bracket\n\
+const REPORT: &[u8] = b"state 0 lower 0.500000000000000 upper 0.500000000000000 rounds 2 Bracket\n\
     formula Pmax=? [ F \"goal\" ]\n";
 
 // Reads a certificate of three states behind the report.
@@ -22,20 +22,20 @@ fn read(alloc: Global, certificate: &[u8]) -> Result<Result<Plan, PlanFault>, Fa
 #[test]
 fn a_certificate_is_read(rt: HostRuntime) -> Result<(), Fail> {
     let texts: [&[u8]; 3] = [
-        b"certificate 1 3\n\
-            0 0.500000000000 1 1 0.500000000001 -\n\
-            1 1.000000000000 - 0 1.000000000000 -\n\
-            2 0.000000000000 - 0 0.000000000000 16777215\n",
-        b"certificate 1 3\r\n\
-            0 0.500000000000 1 1 0.500000000001 -\r\n\
-            1 1.000000000000 - 0 1.000000000000 -\r\n\
-            2 0.000000000000 - 0 0.000000000000 16777215\r\n\
+        b"certificate 2 3\n\
+            0 0.500000000000000 1 1 0.500000000000001 -\n\
+            1 1.000000000000000 - 0 1.000000000000000 -\n\
+            2 0.000000000000000 - 0 0.000000000000000 16383\n",
+        b"certificate 2 3\r\n\
+            0 0.500000000000000 1 1 0.500000000000001 -\r\n\
+            1 1.000000000000000 - 0 1.000000000000000 -\r\n\
+            2 0.000000000000000 - 0 0.000000000000000 16383\r\n\
             \r\n \n\t\n",
         b" \n\
-            \tcertificate\t1  03\n\
-            00 0.500000000000\t01 0001 0.500000000001 - \n\
-            1 1.000000000000 - 0 1.000000000000 -\n\
-            \t002 0.000000000000 - 0 0.000000000000 00000000000000000000016777215",
+            \tcertificate\t2  03\n\
+            00 0.500000000000000\t01 0001 0.500000000000001 - \n\
+            1 1.000000000000000 - 0 1.000000000000000 -\n\
+            \t002 0.000000000000000 - 0 0.000000000000000 00000000000000000000016383",
     ];
     for text in texts {
         let Ok(plan) = read(rt.alloc(), text)? else {
@@ -43,19 +43,51 @@ fn a_certificate_is_read(rt: HostRuntime) -> Result<(), Fail> {
         };
         assert_eq!(rt;
             plan.lower.as_slice(),
-            [500_000_000_000, 1_000_000_000_000, 0].as_slice()
+            [500_000_000_000_000, 1_000_000_000_000_000, 0].as_slice()
         );
         assert_eq!(rt; plan.choices.as_slice(), [Some(1), None, None].as_slice());
         assert_eq!(rt; plan.ranks.as_slice(), [1, 0, 0].as_slice());
         assert_eq!(rt;
             plan.upper.as_slice(),
-            [500_000_000_001, 1_000_000_000_000, 0].as_slice()
+            [500_000_000_000_001, 1_000_000_000_000_000, 0].as_slice()
         );
         assert_eq!(rt;
             plan.replies.as_slice(),
-            [None, None, Some(16_777_215)].as_slice()
+            [None, None, Some(16_383)].as_slice()
         );
     }
+    Ok(())
+}
+
+// The values of an old certificate have twelve decimals, and the last one counts a thousand units.
+#[test]
+fn an_old_certificate_is_read(rt: HostRuntime) -> Result<(), Fail> {
+    let text = b"certificate 1 3\n\
+        0 0.500000000000 1 1 0.500000000001 -\n\
+        1 1.000000000000 - 0 1.000000000000 -\n\
+        2 0.000000000000 - 0 0.123456789012 16383\n";
+    let Ok(plan) = read(rt.alloc(), text)? else {
+        return Err(Fail::new("refused"));
+    };
+    assert_eq!(rt;
+        plan.lower.as_slice(),
+        [500_000_000_000_000, 1_000_000_000_000_000, 0].as_slice()
+    );
+    assert_eq!(rt; plan.choices.as_slice(), [Some(1), None, None].as_slice());
+    assert_eq!(rt; plan.ranks.as_slice(), [1, 0, 0].as_slice());
+    assert_eq!(rt;
+        plan.upper.as_slice(),
+        [
+            500_000_000_001_000,
+            1_000_000_000_000_000,
+            123_456_789_012_000
+        ]
+        .as_slice()
+    );
+    assert_eq!(rt;
+        plan.replies.as_slice(),
+        [None, None, Some(16_383)].as_slice()
+    );
     Ok(())
 }
 
@@ -71,23 +103,66 @@ fn the_first_fault_is_named_with_its_line(rt: HostRuntime) -> Result<(), Fail> {
             cause: PlanCause::NoCertificate
         }
     );
-    let texts: [(&[u8], u32, PlanCause); 24] = [
+    let texts: [(&[u8], u32, PlanCause); 28] = [
         (b"", 0, PlanCause::NoCertificate),
-        (b"certificate1 1 3\n\n", 0, PlanCause::NoCertificate),
+        (b"certificate2 2 3\n\n", 0, PlanCause::NoCertificate),
         (b"certificate 9 3\n", 3, PlanCause::Version),
-        (b"certificate 01 3\n", 3, PlanCause::Version),
-        (b"certificate 1 4\n", 3, PlanCause::StateCount),
-        (b"certificate 1\n", 3, PlanCause::BadLine),
-        (b"certificate 1 x\n", 3, PlanCause::BadLine),
+        (b"certificate 3 1\n", 3, PlanCause::Version),
+        (b"certificate 02 3\n", 3, PlanCause::Version),
+        (b"certificate 2 4\n", 3, PlanCause::StateCount),
+        (b"certificate 2\n", 3, PlanCause::BadLine),
+        (b"certificate 2 x\n", 3, PlanCause::BadLine),
         (b"certificate 9 x\n", 3, PlanCause::BadLine),
-        (b"certificate 1 3 0\n", 3, PlanCause::BadLine),
-        (b"\n\ncertificate 1 4\n", 5, PlanCause::StateCount),
-        (b"certificate 1 3", 4, PlanCause::MissingLine),
+        (b"certificate 2 3 0\n", 3, PlanCause::BadLine),
+        (b"\n\ncertificate 2 4\n", 5, PlanCause::StateCount),
+        (b"certificate 2 3", 4, PlanCause::MissingLine),
         (
-            b"certificate 1 3\n\
-                0 1.000000000001 1 1 0.500000000000 -\n",
+            b"certificate 2 3\n\
+                0 1.000000000000001 1 1 0.500000000000000 -\n",
             4,
             PlanCause::NumberOutOfRange,
+        ),
+        (
+            b"certificate 2 3\n\
+                0 0.500000000000000 1 1 1.000000000000001 -\n",
+            4,
+            PlanCause::NumberOutOfRange,
+        ),
+        (
+            b"certificate 2 3\n\
+                0 0.500000000000000 1 4294967296 0.500000000000000 -\n",
+            4,
+            PlanCause::NumberOutOfRange,
+        ),
+        (
+            b"certificate 2 3\n\
+                0 0.500000000000000 16384 1 0.500000000000000 -\n",
+            4,
+            PlanCause::NumberOutOfRange,
+        ),
+        (
+            b"certificate 2 3\n\
+                0 0.500000000000000 1 1 0.500000000000000 16384\n",
+            4,
+            PlanCause::NumberOutOfRange,
+        ),
+        (
+            b"certificate 2 3\n\
+                0 0.5 1 1 0.500000000000000 -\n",
+            4,
+            PlanCause::BadLine,
+        ),
+        (
+            b"certificate 2 3\n\
+                0 0.500000000000 1 1 0.500000000000000 -\n",
+            4,
+            PlanCause::BadLine,
+        ),
+        (
+            b"certificate 1 3\n\
+                0 0.500000000000000 1 1 0.500000000000 -\n",
+            4,
+            PlanCause::BadLine,
         ),
         (
             b"certificate 1 3\n\
@@ -96,79 +171,55 @@ fn the_first_fault_is_named_with_its_line(rt: HostRuntime) -> Result<(), Fail> {
             PlanCause::NumberOutOfRange,
         ),
         (
-            b"certificate 1 3\n\
-                0 0.500000000000 1 4294967296 0.500000000000 -\n",
-            4,
-            PlanCause::NumberOutOfRange,
-        ),
-        (
-            b"certificate 1 3\n\
-                0 0.500000000000 16777216 1 0.500000000000 -\n",
-            4,
-            PlanCause::NumberOutOfRange,
-        ),
-        (
-            b"certificate 1 3\n\
-                0 0.500000000000 1 1 0.500000000000 16777216\n",
-            4,
-            PlanCause::NumberOutOfRange,
-        ),
-        (
-            b"certificate 1 3\n\
-                0 0.5 1 1 0.500000000000 -\n",
+            b"certificate 2 3\n\
+                0 2.000000000000000 1 1 0.500000000000000 - -\n",
             4,
             PlanCause::BadLine,
         ),
         (
-            b"certificate 1 3\n\
-                0 2.000000000000 1 1 0.500000000000 - -\n",
+            b"certificate 2 3\n\
+                1 0.500000000000000 1 1 0.500000000000000 -\n",
             4,
             PlanCause::BadLine,
         ),
         (
-            b"certificate 1 3\n\
-                1 0.500000000000 1 1 0.500000000000 -\n",
-            4,
-            PlanCause::BadLine,
-        ),
-        (
-            b"certificate 1 3\n\
-                0 0.500000000000 1 1 0.500000000000 -\n\
-                1 1.000000000000 - 0 1.000000000000 -\n",
+            b"certificate 2 3\n\
+                0 0.500000000000000 1 1 0.500000000000000 -\n\
+                1 1.000000000000000 - 0 1.000000000000000 -\n",
             6,
             PlanCause::MissingLine,
         ),
         (
-            b"certificate 1 3\n\
-                0 0.500000000000 1 1 0.500000000000 -\n\
-                1 1.000000000000 - 0 1.000000000000 -\n\
+            b"certificate 2 3\n\
+                0 0.500000000000000 1 1 0.500000000000000 -\n\
+                1 1.000000000000000 - 0 1.000000000000000 -\n\
                 \n\
                 \t\n",
             6,
             PlanCause::MissingLine,
         ),
         (
-            b"certificate 1 3\n\
-                0 0.500000000000 1 1 0.500000000000 -\n\
+            b"certificate 2 3\n\
+                0 0.500000000000000 1 1 0.500000000000000 -\n\
                 \n\
-                1 1.000000000000 - 0 1.000000000000 -\n",
+                1 1.000000000000000 - 0 1.000000000000000 -\n",
             5,
             PlanCause::BadLine,
         ),
         (
-            b"certificate 1 3\n\
-                0 0.500000000000 1 1 0.500000000000 -\n\
-                1 1.000000000000 - 0 1.000000000000 -\n\
-                2 0.000000000000 - 0 0.000000000000 -\n\
+            b"certificate 2 3\n\
+                0 0.500000000000000 1 1 0.500000000000000 -\n\
+                1 1.000000000000000 - 0 1.000000000000000 -\n\
+                2 0.000000000000000 - 0 0.000000000000000 -\n\
                 3\n",
             7,
             PlanCause::BadLine,
         ),
         (
-            b"certificate 1 3\n\
-                0 0.500000000000 1 1 0.500000000000 -\n\
-                1 1.000000000000 - 0 1.000000000000 -\n\
-                2 0.000000000000 - 0 0.000000000000 -\n\
+            b"certificate 2 3\n\
+                0 0.500000000000000 1 1 0.500000000000000 -\n\
+                1 1.000000000000000 - 0 1.000000000000000 -\n\
+                2 0.000000000000000 - 0 0.000000000000000 -\n\
                 \n\
                 \t\r\n\
                 3\n\

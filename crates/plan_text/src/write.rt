@@ -12,7 +12,7 @@ use crate::plan::Plan;
 use game_outside::OutOfMemory;
 use std::alloc::Global;
 
-/// The text of a certificate: the line `certificate 1 N`, and for each of the N states, by rising number, the state,
+/// The text of a certificate: the line `certificate 2 N`, and for each of the N states, by rising number, the state,
 /// the lower bound, the maximiser's choice, the rank, the upper bound and the minimiser's choice, with one space between
 /// them. The only error is want of memory.
 pub fn write_plan(alloc: Global, plan: &Plan) -> Result<Vec<u8>, OutOfMemory>
@@ -33,9 +33,9 @@ pub fn write_plan(alloc: Global, plan: &Plan) -> Result<Vec<u8>, OutOfMemory>
 
 // The first line, which says how many states there are.
 fn append_heading(text: &mut Vec<u8>, states: usize) -> Result<(), OutOfMemory>
-    ensures { OnOk result (text.new.items ≡ text.old.items ++ (codes "certificate 1 " ++ (decimal states ++ codes "\n"))) }
+    ensures { OnOk result (text.new.items ≡ text.old.items ++ (codes "certificate 2 " ++ (decimal states ++ codes "\n"))) }
 {
-    append(text, b"certificate 1 ")?;
+    append(text, b"certificate 2 ")?;
     append_count(text, states)?;
     append(text, b"\n")
 }
@@ -94,17 +94,17 @@ mod tests {
     #[test]
     fn a_certificate_has_a_line_for_each_state(rt: HostRuntime) -> Result<(), Fail> {
         let plan = Plan {
-            lower: vec![in rt.alloc(); 500_000_000_000, 1_000_000_000_000, 0]?,
+            lower: vec![in rt.alloc(); 500_000_000_000_000, 1_000_000_000_000_000, 0]?,
             choices: vec![in rt.alloc(); Some(1), None, None]?,
             ranks: vec![in rt.alloc(); 1, 0, 0]?,
-            upper: vec![in rt.alloc(); 500_000_000_000, 1_000_000_000_000, 0]?,
+            upper: vec![in rt.alloc(); 500_000_000_000_000, 1_000_000_000_000_000, 0]?,
             replies: vec![in rt.alloc(); None, None, None]?,
         };
         let Ok(text) = write_plan(rt.alloc(), &plan) else {
             return Err(Fail::new("no memory"));
         };
         let expected =
-            b"certificate 1 3\n0 0.500000000000 1 1 0.500000000000 -\n1 1.000000000000 - 0 1.000000000000 -\n2 0.000000000000 - 0 0.000000000000 -\n";
+            b"certificate 2 3\n0 0.500000000000000 1 1 0.500000000000000 -\n1 1.000000000000000 - 0 1.000000000000000 -\n2 0.000000000000000 - 0 0.000000000000000 -\n";
         assert_eq!(rt; text.as_slice(), expected.as_slice());
         Ok(())
     }
@@ -112,17 +112,17 @@ mod tests {
     #[test]
     fn the_greatest_numbers_are_written_in_full(rt: HostRuntime) -> Result<(), Fail> {
         let plan = Plan {
-            lower: vec![in rt.alloc(); 123_456_789_012]?,
-            choices: vec![in rt.alloc(); Some(16_777_215)]?,
+            lower: vec![in rt.alloc(); 123_456_789_012_345]?,
+            choices: vec![in rt.alloc(); Some(16_383)]?,
             ranks: vec![in rt.alloc(); 4_294_967_295]?,
-            upper: vec![in rt.alloc(); 999_999_999_999]?,
-            replies: vec![in rt.alloc(); Some(16_777_215)]?,
+            upper: vec![in rt.alloc(); 999_999_999_999_999]?,
+            replies: vec![in rt.alloc(); Some(16_383)]?,
         };
         let Ok(text) = write_plan(rt.alloc(), &plan) else {
             return Err(Fail::new("no memory"));
         };
         let expected =
-            b"certificate 1 1\n0 0.123456789012 16777215 4294967295 0.999999999999 16777215\n";
+            b"certificate 2 1\n0 0.123456789012345 16383 4294967295 0.999999999999999 16383\n";
         assert_eq!(rt; text.as_slice(), expected.as_slice());
         Ok(())
     }

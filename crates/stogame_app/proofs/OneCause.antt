@@ -107,6 +107,7 @@ tra-one (tra.LineCount read stated) (tra.LineCount m n) ha hb e =
     let same = pair-one (codes " read ") (codes "stated ") read stated m n ha hb (append_cancel_left (codes "LineCount") _ _ e) in cc
 tra-one (tra.ChoiceGap state k) (tra.ChoiceGap m n) ha hb e =
     let same = pair-one (codes " state ") (codes "choice ") state k m n ha hb (append_cancel_left (codes "ChoiceGap") _ _ e) in cc
+tra-one (tra.TooManyChoices state) (tra.TooManyChoices other) ha hb e = let same = numbered-one (codes "TooManyChoices state ") state other ha hb e in cc
 tra-one (tra.ChoiceCount read stated) (tra.ChoiceCount m n) ha hb e =
     let same = pair-one (codes " read ") (codes "stated ") read stated m n ha hb (append_cancel_left (codes "ChoiceCount") _ _ e) in cc
 tra-one a b ha hb e = absurd (omega (arith, at e 0, at e 3, at e 6))

@@ -31,6 +31,7 @@ abbrev pub TraInFull : TraCause → Type 0
 TraInFull (tra.ActionClash state k) = AreInFull state k
 TraInFull (tra.LineCount read stated) = AreInFull read stated
 TraInFull (tra.ChoiceGap state k) = AreInFull state k
+TraInFull (tra.TooManyChoices state) = IsInFull state
 TraInFull (tra.ChoiceCount read stated) = AreInFull read stated
 TraInFull (tra.Choice state k fault) = AreInFull state k × ChoiceInFull fault
 TraInFull cause = Unit {0}

@@ -64,6 +64,7 @@ tra_text (tra.Number fault) = codes "Number " ++ number_text fault
 tra_text (tra.ActionClash state k) = codes "ActionClash" ++ choice_place state k
 tra_text (tra.LineCount read stated) = codes "LineCount" ++ counts_text read stated
 tra_text (tra.ChoiceGap state k) = codes "ChoiceGap" ++ choice_place state k
+tra_text (tra.TooManyChoices state) = numbered (codes "TooManyChoices state ") state
 tra_text (tra.ChoiceCount read stated) = codes "ChoiceCount" ++ counts_text read stated
 tra_text (tra.Choice state k fault) = choice_text state k fault
 

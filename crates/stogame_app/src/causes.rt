@@ -78,6 +78,7 @@ pub fn tra_cause(alloc: Global, cause: TraCause) -> Result<String, AllocError>
         TraCause::ChoiceGap { state, choice } => {
             format!(in alloc; "ChoiceGap state {state} choice {choice}")
         }
+        TraCause::TooManyChoices { state } => format!(in alloc; "TooManyChoices state {state}"),
         TraCause::ChoiceCount { read, stated } => {
             format!(in alloc; "ChoiceCount read {read} stated {stated}")
         }

@@ -3,7 +3,7 @@ use Rattle.std.proofs.Common.{◌≡◌, ◌∙◌, ◌<◌, ℕ, zero, suc, ◌
 use Rattle.std.specs.Option.{option_or}
 use Rattle.distributions.specs.Parts.{choice_said}
 use Rattle.tra_reader.specs.declared.line.Transition.{Transition}
-use Rattle.tra_reader.specs.Choices.{transitions_of, part_of, choice_end, least_missing, first_gap, of_state, self_loop, sum_of_first, then_push, choice_at, choices_said, state_said, states_said, unless_gap, if_as_stated, transitions_game}
+use Rattle.tra_reader.specs.Choices.{transitions_of, part_of, choice_end, least_missing, first_gap, first_crowded, if_crowded, of_state, self_loop, sum_of_first, then_push, choice_at, choices_said, state_said, states_said, unless_gap, unless_crowded, if_as_stated, transitions_game}
 use Rattle.tra_reader.proofs.Ends.{end_alike, missing_alike}
 
 pub choices_alike : (ts us : List Transition) (s n : ℕ) → ((k : ℕ) → k < n → transitions_of ts s k ≡ transitions_of us s k) → choices_said ts s n ≡ choices_said us s n
@@ -31,11 +31,16 @@ gap_alike ts us (suc s) same =
     ap₂ (λ o p. option_or o (option_map (of_state s) p)) (gap_alike ts us s (λ i k h. same i k (omega (arith, h))))
     (ap (λ m. least_missing ts s m) (end_alike ts us s here) ∙ missing_alike ts us s (choice_end us s) here)
 
+pub crowded_alike : (ts us : List Transition) (n : ℕ) → SameFirst ts us n → first_crowded ts n ≡ first_crowded us n
+crowded_alike ts us zero same = refl
+crowded_alike ts us (suc s) same =
+    ap₂ (λ o m. option_or o (if_crowded s m)) (crowded_alike ts us s (λ i k h. same i k (omega (arith, h)))) (end_alike ts us s (λ k. same s k (omega arith)))
+
 pub sum_alike : (f g : ℕ → ℕ) (n : ℕ) → ((s : ℕ) → s < n → f s ≡ g s) → sum_of_first f n ≡ sum_of_first g n
 sum_alike f g zero same = refl
 sum_alike f g (suc n) same = ap₂ (λ a b. a + b) (sum_alike f g n (λ s h. same s (omega (arith, h)))) (same n (omega arith))
 
 pub game_alike : (ts us : List Transition) (n : ℕ) (stated : Option ℕ) → ((s k : ℕ) → transitions_of ts s k ≡ transitions_of us s k) → transitions_game ts n stated ≡ transitions_game us n stated
 game_alike ts us n stated same =
-    ap (λ g. unless_gap g (if_as_stated stated (sum_of_first (choice_end ts) n) (states_said ts n))) (gap_alike ts us n (λ s k h. same s k))
-    ∙ ap₂ (λ read game. unless_gap (first_gap us n) (if_as_stated stated read game)) (sum_alike (choice_end ts) (choice_end us) n (λ s h. end_alike ts us s (same s))) (states_alike ts us n (λ s k h. same s k))
+    ap₂ (λ g c. unless_gap g (unless_crowded c (if_as_stated stated (sum_of_first (choice_end ts) n) (states_said ts n)))) (gap_alike ts us n (λ s k h. same s k)) (crowded_alike ts us n (λ s k h. same s k))
+    ∙ ap₂ (λ read game. unless_gap (first_gap us n) (unless_crowded (first_crowded us n) (if_as_stated stated read game))) (sum_alike (choice_end ts) (choice_end us) n (λ s h. end_alike ts us s (same s))) (states_alike ts us n (λ s k h. same s k))

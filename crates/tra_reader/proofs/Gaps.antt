@@ -1,7 +1,7 @@
 -- Gaps between whole choices, and what all whole choices make.
 use Rattle.std.proofs.Common.{◌≡◌, ◌∙◌, ◌<◌, ◌≤◌, inl, inr, ℕ, suc, ◌+◌, ◌*◌, List, [], ◌∷◌, length, map, unwrap_or, Option, Some, None, Result, Err, refl, sym, ap, ap₂, subst, arith, add-zero}
 use Rattle.std.specs.List.{All}
-use Rattle.game_model.specs.Limits.{most_states, most_choices}
+use Rattle.game_model.specs.Limits.{most_states}
 use Rattle.game_model.specs.Game.{Distribution}
 use Rattle.game_model.specs.Draft.{Draft}
 use Rattle.tra_reader.specs.Limits.{most_stated_choices}
@@ -9,21 +9,20 @@ use Rattle.tra_reader.specs.declared.line.Transition.{Transition}
 use Rattle.tra_reader.specs.declared.fault.TraFault.{TraFault}
 use Rattle.tra_reader.specs.declared.fault.TraCause.TheVariants.{ChoiceGap}
 use Rattle.tra_reader.specs.declared.progress.Progress.{Progress}
-use Rattle.tra_reader.specs.declared.progress.Progress.TheVariants.{Builds, Faulty, Gap, OutOfMemory}
+use Rattle.tra_reader.specs.declared.progress.Progress.TheVariants.{Builds, Faulty, Crowded, Gap, OutOfMemory}
 use Rattle.tra_reader.specs.declared.whole_choices.WholeChoices.{WholeChoices}
 use Rattle.tra_reader.specs.Faults.{fault_of_all}
 use Rattle.distributions.specs.declared.choice.Part.{Part}
-use Rattle.tra_reader.specs.Choices.{part_of, parts_of, transitions_of, choice_end, sum_of_first, states_said, unless_gap, if_as_stated, transitions_game}
+use Rattle.tra_reader.specs.Choices.{part_of, parts_of, transitions_of, choice_end, sum_of_first, first_crowded, states_said, unless_gap, unless_crowded, if_as_stated, transitions_game}
 use Rattle.tra_reader.specs.Order.{IsWithin, place_of}
 use Rattle.tra_reader.specs.Answers.{LeadsInside}
 use Rattle.tra_reader.specs.GrowingGames.{AreCounted, AreDrafted, HaveFault, HasGap, IsMade, IsWhole, place_behind, NoneBetween, AreWholeBefore, IsReady, IfBuilds, IsAsStated}
 use Rattle.tra_reader.proofs.Decisions.{cases_lt}
 use Rattle.tra_reader.proofs.Ends.{AreSmall, none_of_high, above_of, one_missing, gap_here, gap_stays}
-use Rattle.std.proofs.lemmas.List.Elements.{All-weaker}
 
 -- the choices from here on are missing before one that is there
-pub noted : (ts : List Transition) (s k later count : ℕ) → k < later → transitions_of ts s k ≡ [] → 0 < length (transitions_of ts s later) → AreCounted ts s k count → HasGap ts s k × (place_of s k < place_of s later)
-noted ts s k later count h none found are = (record { full = are.full; there = are.there; missing = none; later = later; behind = h; found = found }, omega (arith, h))
+pub noted : (crowded : Option ℕ) (ts : List Transition) (s k later count : ℕ) → k < later → transitions_of ts s k ≡ [] → 0 < length (transitions_of ts s later) → AreCounted crowded ts s k count → HasGap ts s k × (place_of s k < place_of s later)
+noted crowded ts s k later count h none found are = (record { full = are.full; there = are.there; missing = none; later = later; behind = h; found = found }, omega (arith, h))
 
 -- a state that ends here has no choice from here on
 pub none_from : (ts : List Transition) (s k place : ℕ) → AreSmall ts → NoneBetween ts (place_of s k) place → place_of (s + 1) 0 ≤ place → (j : ℕ) → k ≤ j → transitions_of ts s j ≡ []
@@ -83,14 +82,14 @@ made_of_all n ts whole progress state choice is made =
 pub gap_game : (ts : List Transition) (n i j : ℕ) (stated : Option ℕ) → i < n → HasGap ts i j → transitions_game ts n stated ≡ Err (fault_of_all (ChoiceGap i j))
 gap_game ts n i j stated h gap =
     let missing = one_missing ts i j (choice_end ts i) gap.there gap.missing (omega (arith, gap.behind, above_of ts i gap.later gap.found)) in
-    ap (λ g. unless_gap g (if_as_stated stated (sum_of_first (choice_end ts) n) (states_said ts n)))
+    ap (λ g. unless_gap g (unless_crowded (first_crowded ts n) (if_as_stated stated (sum_of_first (choice_end ts) n) (states_said ts n))))
     (gap_stays ts (suc i) n (i, j) (gap_here ts i j gap.full missing) (omega (arith, h)))
 
 -- where no choice is missing
-pub full_game : (ts : List Transition) (n count : ℕ) (stated : Option ℕ) → AreCounted ts n 0 count → transitions_game ts n stated ≡ if_as_stated stated count (states_said ts n)
-full_game ts n count stated are =
-    ap (λ g. unless_gap g (if_as_stated stated (sum_of_first (choice_end ts) n) (states_said ts n))) are.full
-    ∙ ap (λ m. if_as_stated stated m (states_said ts n)) (sym (are.total ∙ add-zero (sum_of_first (choice_end ts) n)))
+pub full_game : (crowded : Option ℕ) (ts : List Transition) (n count : ℕ) (stated : Option ℕ) → AreCounted crowded ts n 0 count → transitions_game ts n stated ≡ unless_crowded crowded (if_as_stated stated count (states_said ts n))
+full_game crowded ts n count stated are =
+    ap₂ (λ g c. unless_gap g (unless_crowded c (if_as_stated stated (sum_of_first (choice_end ts) n) (states_said ts n)))) are.full are.few
+    ∙ ap (λ m. unless_crowded crowded (if_as_stated stated m (states_said ts n))) (sym (are.total ∙ add-zero (sum_of_first (choice_end ts) n)))
 
 pub fault_said : (ts : List Transition) (n : ℕ) (fault : TraFault) → HaveFault ts n 0 fault → states_said ts n ≡ Err fault
 fault_said ts n fault (inl before) = before
@@ -107,12 +106,13 @@ ready n ts k draft some few are = record {
   some = omega (arith, are.as_many, some);
   few = omega (arith, are.as_many, few);
   chosen = are.some;
-  bounded = All-weaker (λ choices. length choices ≤ most_stated_choices) (λ choices. length choices ≤ most_choices) (λ choices h. omega (arith, h)) draft.done are.few;
+  bounded = are.few;
   inside = let P : ℕ → Type 0 = λ m. All (λ choices. All (LeadsInside m) choices) draft.done in subst P (sym are.as_many) are.inside;
 }
 
 pub all_ready : (n : ℕ) (ts : List Transition) (k count : ℕ) (progress : Progress) → 0 < n → n ≤ most_states → IsMade n ts n k count progress → IfBuilds progress IsReady
 all_ready n ts k count (Builds draft) some few made = ready n ts k draft some few made.1
 all_ready n ts k count (Faulty fault) some few made = tt
+all_ready n ts k count (Crowded i) some few made = tt
 all_ready n ts k count (Gap i j) some few made = tt
 all_ready n ts k count OutOfMemory some few made = tt

@@ -119,7 +119,7 @@ holds_none n draft parts some few empty none =
       state_in = some;
       choice_in = omega arith;
       whole = subst P (sym empty) (
-        record { full = refl; there = λ j h. absurd (omega (arith, h)); total = refl },
+        record { full = refl; few = refl; there = λ j h. absurd (omega (arith, h)); total = refl },
         record {
           done = refl;
           under_way = refl;

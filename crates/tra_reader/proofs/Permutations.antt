@@ -65,6 +65,7 @@ state_moved any ts us s count choices moved is =
         there = λ k h. omega (arith, length_permutation (transitions_of ts s k) (transitions_of us s k) (of k), is.has.there k h);
         no_more = λ k h. nil_moved (transitions_of ts s k) (transitions_of us s k) (of k) (is.has.no_more k h);
       };
+      few = is.few;
       alone = is.alone;
       as_many = is.as_many;
       made = λ k h. any (parts_of ts s k) (parts_of us s k) _ (IsPermutation-map part_of (transitions_of ts s k) (transitions_of us s k) (of k)) (is.made k h);

@@ -1,11 +1,12 @@
 -- The choices of the states that are made are those that transitions come to, and the other way round.
-use Rattle.std.proofs.Common.{◌≡◌, ◌∙◌, ◌<◌, ◌≤◌, ◌⊎◌, inl, inr, ℕ, zero, suc, ◌==◌, Bool, true, false, cond, List, [], ◌∷◌, ◌++◌, length, map, get_or, take, Option, Some, None, option_map, Result, Ok, Err, refl, sym, ap, ap₂, subst, arith, add-one}
+use Rattle.std.proofs.Common.{◌≡◌, ◌∙◌, ◌<◌, ◌≤◌, ◌⊎◌, inl, inr, ℕ, zero, suc, ◌==◌, nat_lt, Bool, true, false, cond, List, [], ◌∷◌, ◌++◌, length, map, get_or, take, Option, Some, None, option_map, Result, Ok, Err, refl, sym, ap, ap₂, subst, arith, add-one}
 use Rattle.std.proofs.lemmas.Bool.{cases_eq}
 use Rattle.std.proofs.lemmas.List.{length_push, get_or_append_left, get_or_push, take_more}
 use Rattle.std.proofs.Math.Seq.{take-length}
 use Rattle.std.specs.Option.{option_or, ForSome}
 use Rattle.std.specs.List.{All}
 use Rattle.game_model.specs.Game.{Distribution, no_distribution, choices_of}
+use Rattle.game_model.specs.Limits.{most_choices}
 use Rattle.distributions.specs.declared.choice.Part.{Part}
 use Rattle.distributions.specs.declared.choice.ChoiceFault.{ChoiceFault}
 use Rattle.distributions.specs.Fraction.{IsFraction}
@@ -14,9 +15,9 @@ use Rattle.tra_reader.specs.declared.line.Transition.{Transition}
 use Rattle.tra_reader.specs.declared.fault.TraCause.TheVariants.{ChoiceCount}
 use Rattle.tra_reader.specs.declared.fault.TraFault.{TraFault}
 use Rattle.tra_reader.specs.Faults.{fault_of_all}
-use Rattle.tra_reader.specs.Choices.{transitions_of, part_of, parts_of, HasChoices, IsState, self_loop, sum_of_first, choice_end, least_missing, first_gap, of_state, then_push, choice_at, choices_said, state_said, states_said, unless_gap, if_as_stated, transitions_game}
+use Rattle.tra_reader.specs.Choices.{transitions_of, part_of, parts_of, HasChoices, IsState, self_loop, sum_of_first, choice_end, least_missing, first_gap, first_crowded, of_state, then_push, choice_at, choices_said, state_said, states_said, unless_gap, unless_crowded, if_as_stated, transitions_game}
 use Rattle.tra_reader.specs.Lines.{is_of}
-use Rattle.tra_reader.proofs.Decisions.{chosen, cases_lt, is_eq, eq_test, ne_test}
+use Rattle.tra_reader.proofs.Decisions.{chosen, cases_lt, ge_from, ge_test, is_eq, eq_test, ne_test}
 use Rattle.tra_reader.proofs.Ends.{end_is, end_none, all_there, none_missing, no_gap}
 
 -- what the parts of a choice say is what they denote
@@ -90,13 +91,14 @@ choices_again ts s (suc n) choices h all =
     ap₂ (λ r d. then_push r (choice_at s n d)) (choices_again ts s n choices (omega (arith, h)) (λ k g. all k (omega (arith, g)))) (all n (omega arith))
     ∙ ap (λ ds. Ok ds) (sym (take_more choices n no_distribution (omega (arith, h))) ∙ ap (λ m. take m choices) (add-one n))
 
-pub state_found : ChoicesFound → (ts : List Transition) (s : ℕ) (choices : List Distribution) → HaveFractions ts → least_missing ts s (choice_end ts s) ≡ None → state_said ts s ≡ Ok choices → IsState ts s (choice_end ts s) choices
-state_found found ts s choices fractions full e =
+pub state_found : ChoicesFound → (ts : List Transition) (s : ℕ) (choices : List Distribution) → HaveFractions ts → least_missing ts s (choice_end ts s) ≡ None → choice_end ts s ≤ most_choices → state_said ts s ≡ Ok choices → IsState ts s (choice_end ts s) choices
+state_found found ts s choices fractions full few e =
     elim (chosen (choice_end ts s == 0) (Ok (self_loop s ∷ [])) (choices_said ts s (choice_end ts s)) (Ok choices) e) [
       | inl none ↦
           let nought : choice_end ts s ≡ 0 = is_eq (choice_end ts s) 0 none.0 in
           record {
             has = has;
+            few = few;
             alone = λ z. cc none.1;
             as_many = λ h. absurd (omega (arith, nought, h));
             made = λ k h. absurd (omega (arith, nought, h));
@@ -105,6 +107,7 @@ state_found found ts s choices fractions full e =
           let is = choices_found ts s (choice_end ts s) choices some.1 in
           record {
             has = has;
+            few = few;
             alone = λ z. absurd (not_nought (choice_end ts s) some.0 z);
             as_many = λ h. is.0;
             made = λ k h. found (parts_of ts s k) (get_or choices k no_distribution) (fractions_of ts s k fractions) (is.1 k h);
@@ -171,9 +174,30 @@ pub gaps_again : (ts : List Transition) (n : ℕ) → ((s : ℕ) → s < n → l
 gaps_again ts zero all = refl
 gaps_again ts (suc n) all = no_gap ts n (gaps_again ts n (λ s h. all s (omega (arith, h)))) (all n (omega arith))
 
+pub crowds_found : (ts : List Transition) (n : ℕ) → first_crowded ts n ≡ None → (s : ℕ) → s < n → choice_end ts s ≤ most_choices
+crowds_found ts zero e s h = absurd (omega (arith, h))
+crowds_found ts (suc n) e s h =
+    let both = both_none (first_crowded ts n) (nat_lt most_choices (choice_end ts n)) e in
+    let P : ℕ → Type 0 = λ i. choice_end ts i ≤ most_choices in
+    elim (cases_lt s n) [
+      | inl lt ↦ crowds_found ts n both.0 s lt
+      | inr ge ↦ let same : n ≡ s = omega (arith, ge, h) in subst P same (ge_from most_choices (choice_end ts n) both.1)
+    ]
+  where
+    both_none : (o : Option ℕ) (b : Bool) → option_or o (cond b (Some n) None) ≡ None → (o ≡ None) × (b ≡ false)
+    both_none None false e = (refl, refl)
+    both_none None true e = cc
+    both_none (Some s) b e = cc
+
+pub crowds_again : (ts : List Transition) (n : ℕ) → ((s : ℕ) → s < n → choice_end ts s ≤ most_choices) → first_crowded ts n ≡ None
+crowds_again ts zero all = refl
+crowds_again ts (suc n) all =
+    ap₂ (λ o b. option_or o (cond b (Some n) None)) (crowds_again ts n (λ s h. all s (omega (arith, h)))) (ge_test most_choices (choice_end ts n) (all n (omega arith)))
+
 -- a game that is made of transitions
 pub record MakesGame (ts : List Transition) (n : ℕ) (stated : Option ℕ) (game : List (List Distribution)) : Type 0 where
   pub full : first_gap ts n ≡ None
+  pub few : first_crowded ts n ≡ None
   pub as_stated : ForSome stated (λ c. sum_of_first (choice_end ts) n ≡ c)
   pub said : states_said ts n ≡ Ok game
 
@@ -187,12 +211,16 @@ stated_found (Some c) read said game e = elim (chosen (read == c) said (Err (fau
 pub game_found : (ts : List Transition) (n : ℕ) (stated : Option ℕ) (game : List (List Distribution)) → transitions_game ts n stated ≡ Ok game → MakesGame ts n stated game
 game_found ts n stated game e = by_gap (first_gap ts n) refl e
   where
-    by_gap : (gap : Option (ℕ × ℕ)) → first_gap ts n ≡ gap → unless_gap gap (if_as_stated stated (sum_of_first (choice_end ts) n) (states_said ts n)) ≡ Ok game → MakesGame ts n stated game
+    by_crowded : (crowded : Option ℕ) → first_gap ts n ≡ None → first_crowded ts n ≡ crowded → unless_crowded crowded (if_as_stated stated (sum_of_first (choice_end ts) n) (states_said ts n)) ≡ Ok game → MakesGame ts n stated game
+    by_crowded (Some s) full is e = cc
+    by_crowded None full is e = let both = stated_found stated (sum_of_first (choice_end ts) n) (states_said ts n) game e in record { full = full; few = is; as_stated = both.0; said = both.1 }
+
+    by_gap : (gap : Option (ℕ × ℕ)) → first_gap ts n ≡ gap → unless_gap gap (unless_crowded (first_crowded ts n) (if_as_stated stated (sum_of_first (choice_end ts) n) (states_said ts n))) ≡ Ok game → MakesGame ts n stated game
     by_gap (Some (s, k)) is e = cc
-    by_gap None is e = let both = stated_found stated (sum_of_first (choice_end ts) n) (states_said ts n) game e in record { full = is; as_stated = both.0; said = both.1 }
+    by_gap None is e = by_crowded (first_crowded ts n) is refl e
 
 pub game_again : (ts : List Transition) (n : ℕ) (stated : Option ℕ) (game : List (List Distribution)) → MakesGame ts n stated game → transitions_game ts n stated ≡ Ok game
-game_again ts n stated game is = ap (λ g. unless_gap g (if_as_stated stated (sum_of_first (choice_end ts) n) (states_said ts n))) is.full ∙ by_stated stated is.as_stated ∙ is.said
+game_again ts n stated game is = ap₂ (λ g c. unless_gap g (unless_crowded c (if_as_stated stated (sum_of_first (choice_end ts) n) (states_said ts n)))) is.full is.few ∙ by_stated stated is.as_stated ∙ is.said
   where
     by_stated : (stated : Option ℕ) → ForSome stated (λ c. sum_of_first (choice_end ts) n ≡ c) → if_as_stated stated (sum_of_first (choice_end ts) n) (states_said ts n) ≡ states_said ts n
     by_stated None as_stated = refl

@@ -1,5 +1,5 @@
 -- What is known of the choices before a place stays, whatever transition comes there or behind it.
-use Rattle.std.proofs.Common.{◌≡◌, ◌∙◌, ◌<◌, ◌≤◌, inl, inr, ℕ, ◌+◌, ◌*◌, ◌==◌, ◌&&◌, false, cond, List, [], ◌∷◌, ◌++◌, length, sym, ap, subst, arith}
+use Rattle.std.proofs.Common.{◌≡◌, ◌∙◌, ◌<◌, ◌≤◌, inl, inr, ℕ, ◌+◌, ◌*◌, ◌==◌, ◌&&◌, false, cond, List, [], ◌∷◌, ◌++◌, length, Option, None, Some, sym, ap, subst, arith}
 use Rattle.std.proofs.lemmas.Bool.Decides.{nat_tests}
 use Rattle.std.proofs.lemmas.List.{append-nil, length-append}
 use Rattle.std.proofs.lemmas.List.Elements.{filter-append}
@@ -8,13 +8,13 @@ use Rattle.tra_reader.specs.declared.line.Transition.{Transition}
 use Rattle.tra_reader.specs.declared.fault.TraFault.{TraFault}
 use Rattle.game_model.specs.Draft.{Draft}
 use Rattle.tra_reader.specs.declared.progress.Progress.{Progress}
-use Rattle.tra_reader.specs.declared.progress.Progress.TheVariants.{Builds, Faulty, Gap, OutOfMemory}
+use Rattle.tra_reader.specs.declared.progress.Progress.TheVariants.{Builds, Faulty, Crowded, Gap, OutOfMemory}
 use Rattle.tra_reader.specs.Lines.{is_of}
 use Rattle.tra_reader.specs.Choices.{transitions_of, choice_end}
 use Rattle.tra_reader.specs.Order.{place_of, transition_place}
 use Rattle.tra_reader.specs.GrowingGames.{AreCounted, AreDrafted, HaveFault, HasGap, IsMade}
 use Rattle.tra_reader.proofs.Ends.{end_alike}
-use Rattle.tra_reader.proofs.Alike.{SameFirst, choices_alike, states_alike, gap_alike, sum_alike}
+use Rattle.tra_reader.proofs.Alike.{SameFirst, choices_alike, states_alike, gap_alike, crowded_alike, sum_alike}
 
 -- the transition is of no choice before this one
 record IsBehind (s k : ℕ) (t : Transition) : Type 0 where
@@ -44,9 +44,10 @@ still_there ts t i j h =
     let P : List Transition → Type 0 = λ us. 0 < length us in
     subst P (sym (filter-append (is_of i j) ts (t ∷ []))) (omega (arith, h, length-append (transitions_of ts i j) (cond (is_of i j t) (t ∷ []) [])))
 
-counted_stay : (ts : List Transition) (t : Transition) (s k count : ℕ) → IsBehind s k t → AreCounted ts s k count → AreCounted (ts ++ t ∷ []) s k count
-counted_stay ts t s k count is are = record {
+counted_stay : (crowded : Option ℕ) (ts : List Transition) (t : Transition) (s k count : ℕ) → IsBehind s k t → AreCounted crowded ts s k count → AreCounted crowded (ts ++ t ∷ []) s k count
+counted_stay crowded ts t s k count is are = record {
   full = gap_alike (ts ++ t ∷ []) ts s (same_states ts t s k is) ∙ are.full;
+  few = crowded_alike (ts ++ t ∷ []) ts s (same_states ts t s k is) ∙ are.few;
   there = λ j h. still_there ts t s j (are.there j h);
   total = are.total ∙ ap (λ n. n + k) (sum_alike (choice_end ts) (choice_end (ts ++ t ∷ [])) s (λ i h. sym (end_alike (ts ++ t ∷ []) ts i (λ j. same_states ts t s k is i j h))));
 }
@@ -89,9 +90,10 @@ pub made_stays : (n : ℕ) (ts : List Transition) (t : Transition) (s k count : 
     → IsMade n ts s k count progress → IsMade n (ts ++ t ∷ []) s k count progress
 made_stays n ts t s k count (Builds draft) small low le made =
     let is : IsBehind s k t = record { small = small; low = low; place = le } in
-    (counted_stay ts t s k count is made.0, drafted_stay n ts t s k draft is made.1)
+    (counted_stay None ts t s k count is made.0, drafted_stay n ts t s k draft is made.1)
 made_stays n ts t s k count (Faulty fault) small low le made =
     let is : IsBehind s k t = record { small = small; low = low; place = le } in
-    (counted_stay ts t s k count is made.0, fault_stays ts t s k fault is made.1)
+    (counted_stay None ts t s k count is made.0, fault_stays ts t s k fault is made.1)
+made_stays n ts t s k count (Crowded i) small low le made = counted_stay (Some i) ts t s k count (record { small = small; low = low; place = le }) made
 made_stays n ts t s k count (Gap i j) small low le made = (gap_stays ts t s k i j (record { small = small; low = low; place = le }) made.1 made.0, made.1)
 made_stays n ts t s k count OutOfMemory small low le made = tt

@@ -14,7 +14,7 @@ use Rattle.tra_reader.proofs.HeaderLaws.{header_found, header_again}
 use Rattle.tra_reader.proofs.RowLaws.{NumbersFound, NumbersAgain, Follow, rows_found, rows_again}
 use Rattle.tra_reader.proofs.ActionLaws.{action_in, actions_found, actions_again}
 use Rattle.tra_reader.proofs.Alike.{sum_alike}
-use Rattle.tra_reader.proofs.StateLaws.{ChoicesFound, ChoicesAgain, HaveFractions, fraction_first, MakesGame, state_found, state_again, states_found, states_again, gaps_found, gaps_again, game_found, game_again}
+use Rattle.tra_reader.proofs.StateLaws.{ChoicesFound, ChoicesAgain, HaveFractions, fraction_first, MakesGame, state_found, state_again, states_found, states_again, gaps_found, gaps_again, crowds_found, crowds_again, game_found, game_again}
 
 -- the probabilities of rows are fractions
 fractions : (header : Header) (lines : List (List ℕ)) (rows : List Row) → AreRows header lines rows → HaveFractions (transitions rows)
@@ -44,7 +44,7 @@ denoted found text first others header rows game lines is_header follow makes =
       action_of = action_in follow.rows;
       actions = actions_found follow.rows follow.fine;
       choice_count = choice_end ts;
-      made = λ s h. let low : s < header.states = omega (arith, all.0, h) in state_found found ts s (choices_of game s) (fractions header others follow.rows follow.are) (gaps_found ts header.states is.full s low) (all.1 s low);
+      made = λ s h. let low : s < header.states = omega (arith, all.0, h) in state_found found ts s (choices_of game s) (fractions header others follow.rows follow.are) (gaps_found ts header.states is.full s low) (crowds_found ts header.states is.few s low) (all.1 s low);
       all_choices = λ c e. ap (λ n. sum_of_first (choice_end ts) n) all.0 ∙ is.as_stated c e;
     }
 
@@ -74,6 +74,7 @@ text_again numbers choices text game is =
     let each = λ (s : ℕ) (h : s < is.header.states). state_again choices ts s (is.choice_count s) (choices_of game s) (fractions is.header is.others is.rows is.are_rows) (is.made s (omega (arith, is.states, h))) in
     let makes : MakesGame ts is.header.states is.header.choices game = record {
       full = gaps_again ts is.header.states (λ s h. (each s h).1);
+      few = crowds_again ts is.header.states (λ s h. omega (arith, (each s h).0, (is.made s (omega (arith, is.states, h))).few));
       as_stated = λ c e. sum_alike (choice_end ts) is.choice_count is.header.states (λ s h. (each s h).0) ∙ ap (λ n. sum_of_first is.choice_count n) (sym is.states) ∙ is.all_choices c e;
       said = states_again ts is.header.states game (omega (arith, is.states)) (λ s h. (each s h).2) ∙ ap (λ n. Ok (take n game)) (sym is.states) ∙ ap (λ g. Ok g) (take-length game);
     } in

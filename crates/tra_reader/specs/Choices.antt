@@ -1,14 +1,15 @@
 -- The choices that transitions make, in whatever order they stand.
-use Rattle.std.specs.Prelude.{◌≡◌, ◌<◌, ◌≤◌, ℕ, zero, suc, ◌+◌, ◌==◌, max, List, [], ◌∷◌, ◌++◌, length, map, slice_index_or, Option, Some, None, option_map, Result, Ok, Err, if◌then◌else◌}
+use Rattle.std.specs.Prelude.{◌≡◌, ◌<◌, ◌≤◌, ℕ, zero, suc, ◌+◌, ◌==◌, max, List, [], ◌∷◌, ◌++◌, length, map, nat_lt, slice_index_or, Option, Some, None, option_map, Result, Ok, Err, if◌then◌else◌}
 use Rattle.std.specs.List.{filter}
 use Rattle.std.specs.Option.{option_or}
 use Rattle.text_lines.specs.Text.{is_nil}
 use Rattle.game_model.specs.Game.{Distribution, no_distribution}
+use Rattle.game_model.specs.Limits.{most_choices}
 use Rattle.distributions.specs.declared.choice.Part.{Part}
 use Rattle.distributions.specs.declared.choice.ChoiceFault.{ChoiceFault}
 use Rattle.distributions.specs.Parts.{Denotes as DenotesChoice, choice_said}
 use Rattle.tra_reader.specs.declared.line.Transition.{Transition}
-use Rattle.tra_reader.specs.declared.fault.TraCause.TheVariants.{ChoiceGap, ChoiceCount, Choice}
+use Rattle.tra_reader.specs.declared.fault.TraCause.TheVariants.{ChoiceGap, TooManyChoices, ChoiceCount, Choice}
 use Rattle.tra_reader.specs.declared.fault.TraFault.{TraFault}
 use Rattle.tra_reader.specs.Faults.{fault_of_all}
 use Rattle.tra_reader.specs.Lines.{is_of}
@@ -37,6 +38,7 @@ self_loop s = record { total = 1; edges = record { to = s; weight = 1 } ∷ [] }
 -- the choices of a state of which the first `count` have a transition: those, or where there is none a move to itself
 pub record IsState (transitions : List Transition) (s count : ℕ) (choices : List Distribution) : Type 0 where
   pub has : HasChoices transitions s count
+  pub few : count ≤ most_choices
   pub alone : count ≡ 0 → choices ≡ self_loop s ∷ []
   pub as_many : 0 < count → length choices ≡ count
   pub made : (k : ℕ) → k < count → DenotesChoice (parts_of transitions s k) (slice_index_or choices k no_distribution)
@@ -66,6 +68,15 @@ abbrev pub first_gap : List Transition → ℕ → Option (ℕ × ℕ)
 first_gap transitions zero = None
 first_gap transitions (suc s) = option_or (first_gap transitions s) (option_map (of_state s) (least_missing transitions s (choice_end transitions s)))
 
+-- the state, if it has more choices than a state may have
+abbrev pub if_crowded : ℕ → ℕ → Option ℕ
+if_crowded s count = if nat_lt most_choices count then Some s else None
+
+-- the first state with more choices than a state may have
+abbrev pub first_crowded : List Transition → ℕ → Option ℕ
+first_crowded transitions zero = None
+first_crowded transitions (suc s) = option_or (first_crowded transitions s) (if_crowded s (choice_end transitions s))
+
 abbrev pub then_push : {X : Type 0} → Result (List X) TraFault → Result X TraFault → Result (List X) TraFault
 then_push (Ok xs) (Ok x) = Ok (xs ++ x ∷ [])
 then_push (Ok xs) (Err fault) = Err fault
@@ -92,6 +103,10 @@ abbrev pub unless_gap : Option (ℕ × ℕ) → Result (List (List Distribution)
 unless_gap (Some (s, k)) game = Err (fault_of_all (ChoiceGap s k))
 unless_gap None game = game
 
+abbrev pub unless_crowded : Option ℕ → Result (List (List Distribution)) TraFault → Result (List (List Distribution)) TraFault
+unless_crowded (Some s) game = Err (fault_of_all (TooManyChoices s))
+unless_crowded None game = game
+
 -- in an MDP the choices are as many as stated
 abbrev pub if_as_stated : Option ℕ → ℕ → Result (List (List Distribution)) TraFault → Result (List (List Distribution)) TraFault
 if_as_stated None read game = game
@@ -100,4 +115,4 @@ if_as_stated (Some stated) read game = if read == stated then game else Err (fau
 -- the game of n states with these transitions, or the first fault of the whole
 abbrev pub transitions_game : List Transition → ℕ → Option ℕ → Result (List (List Distribution)) TraFault
 transitions_game transitions n stated =
-    unless_gap (first_gap transitions n) (if_as_stated stated (sum_of_first (choice_end transitions) n) (states_said transitions n))
+    unless_gap (first_gap transitions n) (unless_crowded (first_crowded transitions n) (if_as_stated stated (sum_of_first (choice_end transitions) n) (states_said transitions n)))

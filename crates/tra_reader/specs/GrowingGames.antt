@@ -11,19 +11,20 @@ use Rattle.distributions.specs.Parts.{choice_said, Denotes as DenotesChoice}
 use Rattle.tra_reader.specs.declared.line.Transition.{Transition}
 use Rattle.tra_reader.specs.declared.fault.TraFault.{TraFault}
 use Rattle.tra_reader.specs.declared.progress.Progress.{Progress}
-use Rattle.tra_reader.specs.declared.progress.Progress.TheVariants.{Builds, Faulty, Gap, OutOfMemory}
+use Rattle.tra_reader.specs.declared.progress.Progress.TheVariants.{Builds, Faulty, Crowded, Gap, OutOfMemory}
 use Rattle.tra_reader.specs.declared.whole_choices.WholeChoices.{WholeChoices}
 use Rattle.tra_reader.specs.Faults.{fault_of_choice}
 use Rattle.tra_reader.specs.Limits.{most_stated_choices}
-use Rattle.tra_reader.specs.Choices.{transitions_of, parts_of, self_loop, sum_of_first, choice_end, first_gap, choices_said, states_said, if_as_stated}
+use Rattle.tra_reader.specs.Choices.{transitions_of, parts_of, self_loop, sum_of_first, choice_end, first_gap, first_crowded, choices_said, states_said, if_as_stated}
 use Rattle.tra_reader.specs.Order.{Rises, IsWithin, place_of, transition_place}
 use Rattle.tra_reader.specs.Answers.{LeadsInside}
 
 -- 1. The whole choices: those of the first s states, and the first k of the next state.
 
--- none of them is missing, and they are this many
-pub record AreCounted (transitions : List Transition) (s k count : ℕ) : Type 0 where
+-- None of them is missing, and they are this many. Of the states that are whole, this is the first with too many, or none has.
+pub record AreCounted (crowded : Option ℕ) (transitions : List Transition) (s k count : ℕ) : Type 0 where
   pub full : first_gap transitions s ≡ None
+  pub few : first_crowded transitions s ≡ crowded
   pub there : (j : ℕ) → j < k → 0 < length (transitions_of transitions s j)
   pub total : count ≡ sum_of_first (choice_end transitions) s + k
 
@@ -34,7 +35,7 @@ pub record AreDrafted (n : ℕ) (transitions : List Transition) (s k : ℕ) (dra
   pub as_many : length draft.done ≡ s
   pub as_many_under_way : length draft.under_way ≡ k
   pub some : All (λ choices. 0 < length choices) draft.done
-  pub few : All (λ choices. length choices ≤ most_stated_choices) draft.done
+  pub few : All (λ choices. length choices ≤ most_choices) draft.done
   pub inside : All (λ choices. All (LeadsInside n) choices) draft.done
   pub inside_under_way : All (LeadsInside n) draft.under_way
 
@@ -59,8 +60,9 @@ pub record HasGap (transitions : List Transition) (i j : ℕ) : Type 0 where
 
 -- what has come of the whole choices of n states
 abbrev pub IsMade : ℕ → List Transition → ℕ → ℕ → ℕ → Progress → Type 0
-IsMade n transitions s k count (Builds draft) = AreCounted transitions s k count × AreDrafted n transitions s k draft
-IsMade n transitions s k count (Faulty fault) = AreCounted transitions s k count × HaveFault transitions s k fault
+IsMade n transitions s k count (Builds draft) = AreCounted None transitions s k count × AreDrafted n transitions s k draft
+IsMade n transitions s k count (Faulty fault) = AreCounted None transitions s k count × HaveFault transitions s k fault
+IsMade n transitions s k count (Crowded i) = AreCounted (Some i) transitions s k count
 IsMade n transitions s k count (Gap i j) = HasGap transitions i j × (place_of i j < place_of s k)
 IsMade n transitions s k count OutOfMemory = Unit {0}
 
@@ -93,6 +95,10 @@ EndsChoice parts s k old new = (n count : ℕ) (transitions : List Transition) �
 abbrev pub EndsState : ℕ → ℕ → Progress → Progress → Type 0
 EndsState s k old new = (n count : ℕ) (transitions : List Transition) → s < n → k ≤ most_stated_choices → ((j : ℕ) → k ≤ j → transitions_of transitions s j ≡ []) → All (IsWithin n) transitions
     → IsMade n transitions s k count old → IsMade n transitions (s + 1) 0 count new
+
+-- the state s, which has too many choices, is whole too
+abbrev pub CrowdsState : ℕ → Progress → Progress → Type 0
+CrowdsState s old new = (k : ℕ) → most_choices < k → EndsState s k old new
 
 -- the choice k of state s is missing before a later one
 abbrev pub NotesGap : ℕ → ℕ → Progress → Progress → Type 0
@@ -149,6 +155,7 @@ pub record IsReady (draft : Draft) : Type 0 where
 abbrev pub IfBuilds : Progress → (Draft → Type 0) → Type 0
 IfBuilds (Builds draft) P = P draft
 IfBuilds (Faulty fault) P = Unit {0}
+IfBuilds (Crowded i) P = Unit {0}
 IfBuilds (Gap i j) P = Unit {0}
 IfBuilds OutOfMemory P = Unit {0}
 

@@ -38,6 +38,10 @@ pub enum TraCause {
         state: u32,
         choice: u32,
     },
+    /// A state has more choices than a state may have: the least such state.
+    TooManyChoices {
+        state: u32,
+    },
     /// The choices of all states are not as many as stated.
     ChoiceCount {
         read: u32,

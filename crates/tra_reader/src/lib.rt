@@ -3,7 +3,7 @@
 //! The first line has three whole numbers, states, choices and transition lines, for an MDP, or two, states and lines,
 //! for a DTMC. Each further line is a transition: `source choice destination probability` and an action or none, in a
 //! DTMC without the choice. Lines stand in any order, and those of one choice to one destination add up. A state
-//! without a line has one choice, a move to itself.
+//! without a line has one choice, a move to itself, and no state has more than 16,384.
 //!
 //! ```text
 //! let game = read_tra(alloc, b"3 3 5\n0 0 0 0.5\n0 0 1 0.25\n0 0 2 0.25\n1 0 1 1\n2 0 2 1\n")?;
@@ -12,8 +12,9 @@
 //! `read_tra` gives the game that a text denotes, or the text's first fault with its line: the faults of the header, then
 //! those of the lines in their order, then those of the whole text. A text whose lines stand in the order of their
 //! choices is read in one pass, and of its lines only those of one choice are kept beside the game. Any other text is
-//! read once more, and that takes memory for 48 bytes a line, one entry a choice, and the first action of each choice.
-//! `read_tra_from` reads a file on a shelf, a piece at a time, and gives the same answer in whatever pieces it comes.
+//! read once more, and that takes memory for 48 bytes a line, the sort's own room, one entry a choice, and the first action
+//! of each choice. `read_tra_from` reads a file on a shelf, a piece at a time, and gives the same answer in whatever pieces
+//! it comes.
 #![tactic(auto)]
 
 mod actions;

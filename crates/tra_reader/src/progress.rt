@@ -1,13 +1,14 @@
 //! What has come of the whole choices of a game under way.
 
-ghost use Rattle.std.specs.Prelude.{◌≡◌, IfOk, IfErr};
+ghost use Rattle.std.specs.Prelude.{◌≡◌, ◌≤◌, IfOk, IfErr};
+ghost use Rattle.game_model.specs.Limits.{most_choices};
 ghost use Rattle.tra_reader.specs.Choices.{self_loop};
-ghost use Rattle.tra_reader.specs.GrowingGames.{IsBuilt, IsChoiceFault, EndsChoice, EndsState, NotesGap, ended, progress_of};
+ghost use Rattle.tra_reader.specs.GrowingGames.{IsBuilt, IsChoiceFault, EndsChoice, EndsState, CrowdsState, NotesGap, ended, progress_of};
 
 use crate::fault::TraFault;
 use crate::limits::MOST_LINES;
 use distributions::{ChoiceFault, Part, make_choice};
-use game_model::{Choice, Edge, GameBuilder};
+use game_model::{Choice, Edge, GameBuilder, MOST_CHOICES};
 use std::alloc::{AllocError, Global};
 
 /// What has come of the whole choices.
@@ -17,6 +18,8 @@ pub enum Progress {
     Builds(GameBuilder),
     /// The first that is no distribution has this fault. No more are built.
     Faulty(TraFault),
+    /// The first state with more choices than a state may have. No more are built.
+    Crowded { state: u32 },
     /// The first choice that is missing before one that is there.
     Gap { state: u32, choice: u32 },
     /// Memory ran out.
@@ -39,6 +42,28 @@ impl Progress {
     pub fn end_state(&mut self, alloc: Global, state: u32, choices: u32)
         ensures { EndsState state choices self.old self.new }
     {
+        if choices > MOST_CHOICES {
+            self.note_crowded(state);
+            return;
+        }
+        self.end_few(alloc, state, choices);
+    }
+
+    // The state that is whole has more choices than a state may have.
+    fn note_crowded(&mut self, state: u32)
+        ensures { CrowdsState state self.old self.new }
+    {
+        match self {
+            Progress::Builds(_) | Progress::Faulty(_) => *self = Progress::Crowded { state },
+            Progress::Gap { .. } | Progress::Crowded { .. } | Progress::OutOfMemory => {}
+        }
+    }
+
+    // The state that is whole has so many choices, which are not too many.
+    fn end_few(&mut self, alloc: Global, state: u32, choices: u32)
+        requires { choices ≤ most_choices }
+        ensures { EndsState state choices self.old self.new }
+    {
         if let Progress::Builds(builder) = self {
             if end(alloc, builder, state, choices).is_err() {
                 *self = Progress::OutOfMemory;
@@ -51,7 +76,9 @@ impl Progress {
         ensures { NotesGap state choice self.old self.new }
     {
         match self {
-            Progress::Builds(_) | Progress::Faulty(_) => *self = Progress::Gap { state, choice },
+            Progress::Builds(_) | Progress::Faulty(_) | Progress::Crowded { .. } => {
+                *self = Progress::Gap { state, choice };
+            }
             Progress::Gap { .. } | Progress::OutOfMemory => {}
         }
     }

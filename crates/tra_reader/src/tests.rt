@@ -229,3 +229,29 @@ fn faults_have_their_lines(rt: HostRuntime) -> Result<(), Fail> {
     }
     Ok(())
 }
+
+// One state with so many choices, each a move to itself.
+fn one_state(alloc: Global, choices: u32) -> Result<String, AllocError> {
+    let mut text = format!(in alloc; "1 {choices} {choices}\n")?;
+    for choice in 0..choices {
+        text.push_str(format!(in alloc; "0 {choice} 0 1\n")?.as_str())?;
+    }
+    Ok(text)
+}
+
+#[test]
+fn a_state_has_at_most_16384_choices(rt: HostRuntime) -> Result<(), Fail> {
+    let alloc = rt.alloc();
+    let text = one_state(alloc, 16_384)?;
+    assert!(rt; text.len() <= MOST_BYTES);
+    let game = read_tra(alloc, text.as_bytes())?;
+    game.known();
+    assert_eq!(rt; game.choices_of(0), 16_384);
+    let more = one_state(alloc, 16_385)?;
+    let crowded = TraFault {
+        line: 0,
+        cause: TraCause::TooManyChoices { state: 0 },
+    };
+    assert_eq!(rt; fault_of(alloc, more.as_bytes()), Some(crowded));
+    Ok(())
+}

@@ -92,6 +92,9 @@ impl WholeChoices {
             Progress::Gap { state, choice } => {
                 Err(TraFault::of_all(TraCause::ChoiceGap { state, choice }))
             }
+            Progress::Crowded { state } => Err(TraFault::of_all(TraCause::TooManyChoices {
+                state,
+            })),
             Progress::Faulty(fault) => Err(otherwise.unwrap_or(fault)),
             Progress::Builds(builder) => match otherwise {
                 Some(fault) => Err(fault),

@@ -1,6 +1,5 @@
-use Rattle.std.proofs.Common.{List, Result, Ok, Err, Some, refl}
+use Rattle.std.proofs.Common.{Some}
 use Rattle.text_lines.specs.Text.{lines_of, significant}
-use Rattle.game_model.specs.Game.{Distribution}
 use Rattle.tra_reader.specs.declared.fault.TraFault.{TraFault}
 use Rattle.tra_reader.specs.Faults.{Gives}
 use Rattle.tra_reader.specs.Text.{game_of}

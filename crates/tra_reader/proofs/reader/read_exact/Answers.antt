@@ -1,11 +1,8 @@
-use Rattle.std.proofs.Common.{List, Result, Ok, Err, Some, refl, ap}
+use Rattle.std.proofs.Common.{Ok, Err, Some, ap}
 use Rattle.text_lines.specs.Text.{lines_of, significant}
-use Rattle.game_model.specs.Game.{Distribution}
 use Rattle.tra_reader.specs.declared.halt.Halt.{Halt}
 use Rattle.tra_reader.specs.declared.fault.TraFault.{TraFault}
-use Rattle.tra_reader.specs.Faults.{Gives}
 use Rattle.tra_reader.specs.Text.{game_of, lines_game}
-use Rattle.tra_reader.specs.Reading.{IsAnswer}
 use Rattle.tra_reader.specs.Ordered.{ordered_header, HoldsOrdered, text_fault}
 use Rattle.tra_reader.specs.AnyOrder.{any_header, HoldsAny}
 use Rattle.tra_reader.proofs.Taking.{right_whole, given}

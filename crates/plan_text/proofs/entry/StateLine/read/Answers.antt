@@ -9,7 +9,7 @@ use Rattle.plan_text.proofs.entry.StateLine.read.Goals as goal
 
 pub returns-in_default-clause-said : goal.returns-in_default-clause-said
 returns-in_default-clause-said c =
-    let none : None ≡ option_map saturated_entry (entry_in c.args.state (fields_of c.args.line.now)) = search rules in
+    let none : None ≡ option_map saturated_entry (entry_in c.args.version c.args.state (fields_of c.args.line.now)) = search rules in
     judged-read None _ none
 
 pub returns-then-is_in_range-clause-said : goal.returns-then-is_in_range-clause-said
