@@ -5,7 +5,7 @@ use std::alloc::Global;
 use std::test::Fail;
 
 // Words that denote a command.
-const TAKEN: [&str; 22] = [
+const TAKEN: [&str; 25] = [
     "check m.tra m.lab F",
     "check m.tra m.lab ",
     "check --plan --own m.own m.tra --rounds=0 m.lab F --workers 64",
@@ -28,10 +28,13 @@ const TAKEN: [&str; 22] = [
     "make 1 3 --workers 1 --rounds=1000000",
     "make --rounds=+5 -- 1 3",
     "make 1 -- 3",
+    "sure m.tra m.lab F",
+    "sure m.tra --own m.own m.lab ",
+    "sure --own=m.own -- m.tra m.lab --own",
 ];
 
-// Words that denote no command, whatever it is.
-const UNNAMED: [&str; 10] = [
+// Words that denote no command: no name is one, or `sure` does not take them.
+const UNNAMED: [&str; 15] = [
     "",
     "m.tra m.lab F",
     " m.tra m.lab F",
@@ -42,6 +45,11 @@ const UNNAMED: [&str; 10] = [
     "Make 1 3",
     "made 1 3",
     "--rounds 5 make 1 3",
+    "surely m.tra m.lab F",
+    "sure m.tra m.lab",
+    "sure m.tra m.lab F m.cert",
+    "sure m.tra m.lab F --plan",
+    "sure m.tra m.lab F --rounds 5",
 ];
 
 // Words that are no `check`.

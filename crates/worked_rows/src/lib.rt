@@ -59,6 +59,8 @@ mod random_cuts;
 #[cfg(test)]
 mod rows;
 #[cfg(test)]
+mod sure;
+#[cfg(test)]
 mod thresholds;
 #[cfg(test)]
 mod transitions;
