@@ -1,5 +1,5 @@
 -- What `sure` says of a question.
-use Rattle.std.specs.Prelude.{◌≡◌, ℕ, Bool, false, List, [], ◌∷◌, ◌++◌, length, count_by, codes, decimal, slice_index_or}
+use Rattle.std.specs.Prelude.{◌≡◌, ℕ, Bool, false, List, ◌++◌, length, count_by, codes, decimal, slice_index_or}
 use Rattle.std.specs.List.{filter, flat_map, list_all, range_with_len}
 use Rattle.game_model.specs.Query.{Query}
 use Rattle.almost_sure.specs.Values.{AreAlmostSure}
@@ -15,9 +15,12 @@ head_line marks = codes "sure " ++ (decimal (count_by (λ marked. marked) marks)
 abbrev pub marked_states : List Bool → List ℕ
 marked_states marks = filter (is_marked marks) (range_with_len 0 (length marks))
 
+abbrev pub state_line : ℕ → List ℕ
+state_line s = decimal s ++ codes "\n"
+
 -- a line for each of them
 abbrev pub marked_lines : List Bool → List ℕ
-marked_lines marks = flat_map (λ s. decimal s ++ codes "\n") (marked_states marks)
+marked_lines marks = flat_map state_line (marked_states marks)
 
 -- the text lists the states from which a goal is reached almost surely, and this says whether all initial states are among them
 pub record IsSure (q : Query) (initial text : List ℕ) (all : Bool) : Type 0 where

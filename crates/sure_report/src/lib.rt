@@ -4,10 +4,10 @@
 //! among them.
 #![tactic(auto)]
 
-ghost use Rattle.std.specs.Prelude.{◌≡◌, ◌<◌, All, IfOk, OnOk, length, ◌++◌};
+ghost use Rattle.std.specs.Prelude.{◌≡◌, ◌<◌, ◌++◌, [], All, IfOk, OnOk, length, if◌then◌else◌};
 ghost use Rattle.std.specs.List.{list_all};
 ghost use Rattle.game_model.specs.Query.{states};
-ghost use Rattle.sure_report.specs.Sure.{IsSure, head_line, is_marked, marked_lines};
+ghost use Rattle.sure_report.specs.Sure.{IsSure, head_line, is_marked, marked_lines, state_line};
 
 use almost_sure::almost_sure;
 use game_model::{Marks, Question};
@@ -61,12 +61,21 @@ fn append_marked(text: &mut Vec<u8>, marks: &Marks, states: u32) -> Result<(), O
     ensures { OnOk result (text.new.items ≡ text.old.items ++ marked_lines marks.now) }
 {
     for state in 0..states {
-        if marks.has(state) {
-            append_number(text, state)?;
-            append(text, b"\n")?;
-        }
+        append_if_marked(text, marks, state)?;
     }
     Ok(())
+}
+
+// The line of a state, where it is marked.
+fn append_if_marked(text: &mut Vec<u8>, marks: &Marks, state: u32) -> Result<(), OutOfMemory>
+    requires { state < length marks.now }
+    ensures { OnOk result (text.new.items ≡ text.old.items ++ (if is_marked marks.now state then state_line state else [])) }
+{
+    if !marks.has(state) {
+        return Ok(());
+    }
+    append_number(text, state)?;
+    append(text, b"\n")
 }
 
 // Whether all of these states are marked.
