@@ -1,10 +1,10 @@
 -- Tables of which one is a multiple of the other: what is said of the one in its units is said of the other in its own.
-use Rattle.std.proofs.Common.{◌≡◌, ◌∙◌, ℕ, zero, suc, ◌+◌, ◌*◌, ◌<◌, ◌≤◌, ◌⊎◌, Bool, true, false, cond, List, [], ◌∷◌, map, length, fold, sum_by, inl, inr, refl, ap, sym, arith}
+use Rattle.std.proofs.Common.{◌≡◌, ◌∙◌, ℕ, zero, suc, ◌+◌, ◌*◌, ◌<◌, ◌≤◌, Bool, true, false, cond, List, [], ◌∷◌, map, fold, inl, inr, refl, ap, sym, arith}
 use Rattle.std.specs.Prelude.{Option, Some, None, All, slice_index, slice_index_or}
 use Rattle.std.specs.List.{AllByRecursion}
 use Rattle.std.proofs.lemmas.Bool.{cases_lt}
 use Rattle.std.proofs.lemmas.List.Elements.{All-nil, All-cons, All-head, All-tail}
-use Rattle.std.proofs.Math.Nat.{mul-le-mul_left}
+use Rattle.std.proofs.Math.Nat.{mul-le-mul_left, max-le, le-max_left, le-max_right, min-le_left, min-le_right}
 use Rattle.game_model.specs.declared.game.Edge.{Edge}
 use Rattle.game_model.specs.declared.game.Side.{Side}
 use Rattle.game_model.specs.declared.game.Side.TheVariants.{Max, Min}
@@ -13,7 +13,7 @@ use Rattle.game_model.specs.Query.{Query, IsQuery, is_goal, is_dead, side_at}
 use Rattle.game_model.specs.Values.{better, optimum, weighted_sum, bellman}
 use Rattle.game_model.specs.Rounded.{up_value, IsInductiveIn}
 use Rattle.game_model.specs.Ranks.{IsRankedChoice, HasRankedChoice, RankedIn}
-use Rattle.game_model.proofs.Best.{weighted_sum-le}
+use Rattle.game_model.proofs.Best.{weighted_sum-le, min-cases}
 use Rattle.game_model.proofs.Each.{AllByRecursion-always, AllByRecursion-weaker}
 use Rattle.game_model.proofs.Choices.{IsChoiceOf, AreChoicesOf-choices_of}
 use Rattle.inductive_check.specs.Held.{IsHeld}
@@ -44,8 +44,11 @@ lt-times f a b some h =
 -- 2. An optimum is at most a number as far as the values are.
 
 better-bound : (side : Side) (a b x y x' y' : ℕ) → (x ≤ a → x' ≤ b) → (y ≤ a → y' ≤ b) → better side x y ≤ a → better side x' y' ≤ b
-better-bound Max a b x y x' y' h k most = omega (arith, h, k, most)
-better-bound Min a b x y x' y' h k most = omega (arith, h, k, most)
+better-bound Max a b x y x' y' h k most = max-le (h (omega (arith, most, le-max_left x y))) (k (omega (arith, most, le-max_right x y)))
+better-bound Min a b x y x' y' h k most = elim (min-cases x y) [
+  | inl e ↦ let first : x' ≤ b = h (omega (arith, e, most)) in omega (arith, first, min-le_left x' y')
+  | inr e ↦ let second : y' ≤ b = k (omega (arith, e, most)) in omega (arith, second, min-le_right x' y')
+]
 
 fold-bound : (side : Side) (f g : Distribution → ℕ) (a b x x' : ℕ) (ms : List Distribution) → (x ≤ a → x' ≤ b) → AllByRecursion (λ m. f m ≤ a → g m ≤ b) ms
     → fold (λ best m. better side best (f m)) x ms ≤ a → fold (λ best m. better side best (g m)) x' ms ≤ b
@@ -174,11 +177,11 @@ module _ (f : ℕ) (some : 1 ≤ f) (xs ys : List ℕ) (times : (t : ℕ) → sl
     goals = λ s inside goal. times s ∙ ap (λ n. f * n) (r.goals s inside goal);
     deads = λ s inside dead. omega (arith, times s ∙ ap (λ n. f * n) (r.deads s inside dead));
     greatest = λ s inside goal dead positive side.
-      has-times f some (slice_index xs) (slice_index ys) times q (slice_index ranks) choices s
-      (r.greatest s inside goal dead (times-lt f 0 (slice_index xs s) (omega (arith, times s, positive))) side);
+        has-times f some (slice_index xs) (slice_index ys) times q (slice_index ranks) choices s
+        (r.greatest s inside goal dead (times-lt f 0 (slice_index xs s) (omega (arith, times s, positive))) side);
     least = λ s inside goal dead positive side c within.
-      choice-times f some (slice_index xs) (slice_index ys) times (slice_index ranks) s (choice_of q.game s c)
-      (r.least s inside goal dead (times-lt f 0 (slice_index xs s) (omega (arith, times s, positive))) side c within);
+        choice-times f some (slice_index xs) (slice_index ys) times (slice_index ranks) s (choice_of q.game s c)
+        (r.least s inside goal dead (times-lt f 0 (slice_index xs s) (omega (arith, times s, positive))) side c within);
   }
 
   pub times-ranked : (q : Query) (top : ℕ) (choices : List (Option ℕ)) (ranks : List ℕ) → RankedIn (f * top) q ys choices ranks → RankedIn top q xs choices ranks
@@ -187,11 +190,11 @@ module _ (f : ℕ) (some : 1 ≤ f) (xs ys : List ℕ) (times : (t : ℕ) → sl
     goals = λ s inside goal. times-eq f (slice_index xs s) top some (sym (times s) ∙ r.goals s inside goal);
     deads = λ s inside dead. times-eq f (slice_index xs s) 0 some (omega (arith, times s, r.deads s inside dead));
     greatest = λ s inside goal dead positive side.
-      times-has f some (slice_index xs) (slice_index ys) times q (slice_index ranks) choices s
-      (r.greatest s inside goal dead (omega (arith, times s, lt-times f 0 (slice_index xs s) some positive)) side);
+        times-has f some (slice_index xs) (slice_index ys) times q (slice_index ranks) choices s
+        (r.greatest s inside goal dead (omega (arith, times s, lt-times f 0 (slice_index xs s) some positive)) side);
     least = λ s inside goal dead positive side c within.
-      times-choice f some (slice_index xs) (slice_index ys) times (slice_index ranks) s (choice_of q.game s c)
-      (r.least s inside goal dead (omega (arith, times s, lt-times f 0 (slice_index xs s) some positive)) side c within);
+        times-choice f some (slice_index xs) (slice_index ys) times (slice_index ranks) s (choice_of q.game s c)
+        (r.least s inside goal dead (omega (arith, times s, lt-times f 0 (slice_index xs s) some positive)) side c within);
   }
 
 -- each entry of a multiple

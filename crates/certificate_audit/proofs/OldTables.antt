@@ -1,5 +1,5 @@
 -- Tables of old units, and the same as they are read.
-use Rattle.std.proofs.Common.{◌≡◌, ℕ, ◌*◌, ◌≤◌, List, map, arith}
+use Rattle.std.proofs.Common.{◌≡◌, ℕ, ◌*◌, ◌≤◌, List, arith}
 use Rattle.std.specs.Prelude.{◌↔◌, Option, All, slice_index}
 use Rattle.game_model.specs.Limits.{unit}
 use Rattle.game_model.specs.Query.{Query, IsQuery}

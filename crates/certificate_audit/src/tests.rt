@@ -48,16 +48,16 @@ fn a_coin_loop_has_the_value_one_half(rt: HostRuntime) -> Result<(), Fail> {
     let sides = all_of(alloc, Side::Max, 3)?;
     let question = Question::build(&game, sides, only(alloc, 1, 3)?, only(alloc, 2, 3)?);
     let texts: [&[u8]; 3] = [
-        b"certificate 1 3\n\
-            0 0.500000000000 0 0 0.500000000000 -\n\
-            1 1.000000000000 - 0 1.000000000000 -\n\
-            2 0.000000000000 - 0 0.000000000000 -\n",
-        b"state 0 lower 0.500000000000 upper 0.500000000000 rounds 40 Bracket\n\
+        b"certificate 2 3\n\
+            0 0.500000000000000 0 0 0.500000000000000 -\n\
+            1 1.000000000000000 - 0 1.000000000000000 -\n\
+            2 0.000000000000000 - 0 0.000000000000000 -\n",
+        b"state 0 lower 0.500000000000000 upper 0.500000000000000 rounds 40 Bracket\n\
             \n\
-            certificate 1 3\n\
-            0 0.500000000000 0 7 0.500000000000 9\n\
-            1 1.000000000000 - 0 1.000000000000 -\n\
-            2 0.000000000000 - 0 0.000000000000 -",
+            certificate 2 3\n\
+            0 0.500000000000000 0 7 0.500000000000000 9\n\
+            1 1.000000000000000 - 0 1.000000000000000 -\n\
+            2 0.000000000000000 - 0 0.000000000000000 -",
         b"certificate 1 3\n\
             0 0.000000000000 - 0 1.000000000000 -\n\
             1 1.000000000000 - 0 1.000000000000 -\n\
@@ -80,18 +80,18 @@ fn the_first_fault_is_named(rt: HostRuntime) -> Result<(), Fail> {
     let question = Question::build(&game, sides, only(alloc, 1, 3)?, only(alloc, 2, 3)?);
     let texts: [(&[u8], AuditFault); 7] = [
         (b"", at_line(0, PlanCause::NoCertificate)),
-        (b"certificate 1 2\n", at_line(1, PlanCause::StateCount)),
+        (b"certificate 2 2\n", at_line(1, PlanCause::StateCount)),
         (
-            b"certificate 1 3\n\
-                0 0.500000000001 0 0 0.400000000000 -\n\
-                1 1.000000000000 - 0 1.000000000000 -\n",
+            b"certificate 2 3\n\
+                0 0.500000000000001 0 0 0.400000000000000 -\n\
+                1 1.000000000000000 - 0 1.000000000000000 -\n",
             at_line(4, PlanCause::MissingLine),
         ),
         (
-            b"certificate 1 3\n\
-                0 0.500000000001 0 0 0.499999999999 -\n\
-                1 1.000000000000 - 0 1.000000000000 -\n\
-                2 0.000000000000 - 0 0.000000000000 -\n",
+            b"certificate 2 3\n\
+                0 0.500000000000001 0 0 0.499999999999999 -\n\
+                1 1.000000000000000 - 0 1.000000000000000 -\n\
+                2 0.000000000000000 - 0 0.000000000000000 -\n",
             at_upper(0, UpperCause::Above { choice: 0 }),
         ),
         (
@@ -102,17 +102,17 @@ fn the_first_fault_is_named(rt: HostRuntime) -> Result<(), Fail> {
             at_upper(1, UpperCause::Goal),
         ),
         (
-            b"certificate 1 3\n\
-                0 0.500000000001 0 0 0.500000000000 -\n\
-                1 1.000000000000 - 0 1.000000000000 -\n\
-                2 0.000000000000 - 0 0.000000000000 -\n",
+            b"certificate 2 3\n\
+                0 0.500000000000001 0 0 0.500000000000000 -\n\
+                1 1.000000000000000 - 0 1.000000000000000 -\n\
+                2 0.000000000000000 - 0 0.000000000000000 -\n",
             at_ranks(0, RankCause::Short { choice: 0 }),
         ),
         (
-            b"certificate 1 3\n\
-                0 0.500000000000 - 0 0.500000000000 0\n\
-                1 1.000000000000 - 0 1.000000000000 -\n\
-                2 0.000000000000 - 0 0.000000000000 -\n",
+            b"certificate 2 3\n\
+                0 0.500000000000000 - 0 0.500000000000000 0\n\
+                1 1.000000000000000 - 0 1.000000000000000 -\n\
+                2 0.000000000000000 - 0 0.000000000000000 -\n",
             at_ranks(0, RankCause::Choice),
         ),
     ];
@@ -129,10 +129,10 @@ fn a_reply_that_is_not_held_is_refused(rt: HostRuntime) -> Result<(), Fail> {
     let game = goal_or_sink(alloc)?;
     let sides = all_of(alloc, Side::Min, 3)?;
     let question = Question::build(&game, sides, only(alloc, 1, 3)?, none_of(alloc, 3)?);
-    let held = b"certificate 1 3\n\
-        0 0.000000000000 - 0 0.000000000000 1\n\
-        1 1.000000000000 - 0 1.000000000000 -\n\
-        2 0.000000000000 - 0 0.000000000000 0\n";
+    let held = b"certificate 2 3\n\
+        0 0.000000000000000 - 0 0.000000000000000 1\n\
+        1 1.000000000000000 - 0 1.000000000000000 -\n\
+        2 0.000000000000000 - 0 0.000000000000000 0\n";
     let Ok(plan) = answer(alloc, &question, held)? else {
         return Err(Fail::new("refused"));
     };
@@ -140,10 +140,10 @@ fn a_reply_that_is_not_held_is_refused(rt: HostRuntime) -> Result<(), Fail> {
         plan.replies.as_slice(),
         [Some(1), None, Some(0)].as_slice()
     );
-    let to_the_goal = b"certificate 1 3\n\
-        0 0.500000000000 - 0 0.000000000000 0\n\
-        1 1.000000000000 - 0 1.000000000000 -\n\
-        2 0.000000000000 - 0 0.000000000000 0\n";
+    let to_the_goal = b"certificate 2 3\n\
+        0 0.500000000000000 - 0 0.000000000000000 0\n\
+        1 1.000000000000000 - 0 1.000000000000000 -\n\
+        2 0.000000000000000 - 0 0.000000000000000 0\n";
     assert_eq!(rt;
         fault_of(alloc, &question, to_the_goal)?,
         at_upper(0, UpperCause::Reply)

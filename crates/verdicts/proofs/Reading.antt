@@ -4,7 +4,7 @@ use Rattle.std.specs.Prelude.{◌==◌, if◌then◌else◌, All, codes, decimal
 use Rattle.std.proofs.lemmas.List.{append_cancel_left, length-append}
 use Rattle.std.proofs.lemmas.List.Elements.{All-tail}
 use Rattle.game_model.specs.Limits.{unit}
-use Rattle.plan_text.specs.Fixed.{fixed, last_digits}
+use Rattle.plan_text.specs.Fixed.{fixed, last_digits, unit_digits}
 use Rattle.verdicts.specs.declared.verdict.Verdict.{Verdict}
 use Rattle.verdicts.specs.declared.verdict.Verdict.TheVariants.{Yes, No, Undecided, Bracket}
 use Rattle.verdicts.specs.declared.report.How.{How}
@@ -35,8 +35,8 @@ unfolding last_digits
 length-last_digits zero n = refl
 length-last_digits (suc k) n = omega (arith, length-append (last_digits k (n / 10)) ((48 + n % 10) ∷ []), length-last_digits k (n / 10))
 
-length-fixed : (u : ℕ) → length (fixed u) ≡ 14
-length-fixed u = ap (λ n. suc (suc n)) (length-last_digits 12 (u % unit))
+length-fixed : (u : ℕ) → length (fixed u) ≡ 2 + unit_digits
+length-fixed u = ap (λ n. suc (suc n)) (length-last_digits unit_digits (u % unit))
 
 value-one : FixedOne → (u v : ℕ) (r s : List ℕ) → u ≤ unit → v ≤ unit → fixed u ++ r ≡ fixed v ++ s → (u ≡ v) × (r ≡ s)
 value-one one u v r s hu hv e =

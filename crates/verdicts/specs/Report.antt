@@ -41,7 +41,7 @@ labelled label units = label ++ fixed units
 abbrev pub ending : Verdict → List ℕ
 ending verdict = 32 ∷ (verdict_text verdict ++ codes "\n")
 
--- the line of a state, as `state 0 lower 0.500000000000 upper 1.000000000000 rounds 40 Bracket`
+-- the line of a state, as `state 0 lower 0.500000000000000 upper 1.000000000000000 rounds 40 Bracket`
 abbrev pub line_text : ReportLine → List ℕ
 line_text line = (codes "state " ++ decimal line.state) ++ (labelled (codes " lower ") line.lower
     ++ (labelled (codes " upper ") line.upper ++ (how_text line.how ++ ending line.verdict)))

@@ -115,8 +115,8 @@ mod tests {
         let lines = [
             ReportLine {
                 state: 0,
-                lower: 499_999_999_999,
-                upper: 1_000_000_000_000,
+                lower: 499_999_999_999_999,
+                upper: 1_000_000_000_000_000,
                 how: How::Rounds(40),
                 verdict: Verdict::Bracket,
             },
@@ -132,7 +132,7 @@ mod tests {
             return Err(Fail::new("no memory"));
         };
         let expected =
-            b"state 0 lower 0.499999999999 upper 1.000000000000 rounds 40 Bracket\nstate 12 lower 0.000000000000 upper 0.000000000000 audited False\n";
+            b"state 0 lower 0.499999999999999 upper 1.000000000000000 rounds 40 Bracket\nstate 12 lower 0.000000000000000 upper 0.000000000000000 audited False\n";
         assert_eq!(rt; text.as_slice(), expected.as_slice());
         Ok(())
     }

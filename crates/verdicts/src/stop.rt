@@ -71,9 +71,9 @@ mod tests {
             matches!(settle(&bound, lower, upper), Verdict::Yes | Verdict::No)
         });
         assert_eq!(rt; stop.bound(), bound);
-        assert!(rt; stop.asks(600_000_000_000, 1_000_000_000_000));
-        assert!(rt; stop.asks(0, 599_999_999_999));
-        assert!(rt; !stop.asks(0, 600_000_000_000));
+        assert!(rt; stop.asks(600_000_000_000_000, 1_000_000_000_000_000));
+        assert!(rt; stop.asks(0, 599_999_999_999_999));
+        assert!(rt; !stop.asks(0, 600_000_000_000_000));
         Ok(())
     }
 }
