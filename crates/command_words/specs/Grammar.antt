@@ -6,6 +6,7 @@ use Rattle.clap.specs.declared.builder.ArgAction.TheVariants.{SetTrue}
 use Rattle.clap.specs.declared.builder.command.Command.{Command}
 use Rattle.clap.specs.declared.builder.value_parser.ValueParser.TheVariants as vp
 use Rattle.clap.specs.declared.parser.matches.ArgMatches.{ArgMatches}
+use Rattle.command_words.specs.Limits.{most_rounds, most_workers, most_seed, least_states, most_states}
 
 -- a word that must be given, by its place
 abbrev pub positional : Text → Rule
@@ -34,7 +35,7 @@ asked_app name = with_rule (with_rule (with_rule (with_rule (bare_app name)
 
 -- a command that also says how far a run goes: its rounds, and the workers of a round
 abbrev pub with_run_limits : App → App
-with_run_limits app = with_rule (with_rule app (with_range (option (codes "rounds")) 0 1000000)) (with_range (option (codes "workers")) 1 64)
+with_run_limits app = with_rule (with_rule app (with_range (option (codes "rounds")) 0 most_rounds)) (with_range (option (codes "workers")) 1 most_workers)
 
 abbrev pub check_app : App
 check_app = with_rule (with_run_limits (asked_app (codes "check"))) (flag (codes "plan"))
@@ -47,7 +48,7 @@ sure_app = asked_app (codes "sure")
 
 abbrev pub make_app : App
 make_app = with_run_limits (with_rule (with_rule (bare_app (codes "make"))
-    (with_range (positional (codes "seed")) 1 2147483646)) (with_range (positional (codes "states")) 3 1000000))
+    (with_range (positional (codes "seed")) 1 most_seed)) (with_range (positional (codes "states")) least_states most_states))
 
 -- the value that words give to a name, where they give one; of a flag it is `true` where it is given
 abbrev pub value_of : App → List Text → Text → Option Text

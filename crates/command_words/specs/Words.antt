@@ -3,6 +3,7 @@ use Rattle.std.specs.Prelude.{◌≡◌, ◌<◌, ◌≤◌, ◌↔◌, ℕ, Boo
 use Rattle.std.specs.Str.Parse.{IsNumeral, digits_value, without_leading_plus}
 use Rattle.clap.specs.Words.{Text, fault_of}
 use Rattle.command_words.specs.Grammar.{check_app, audit_app, make_app, sure_app, value_of}
+use Rattle.command_words.specs.Limits.{most_rounds, most_workers, default_rounds, default_workers, most_seed, least_states, most_states}
 use Rattle.command_words.specs.declared.words.AskedWords.{AskedWords}
 use Rattle.command_words.specs.declared.words.CheckWords.{CheckWords}
 use Rattle.command_words.specs.declared.words.AuditWords.{AuditWords}
@@ -46,9 +47,9 @@ pub data Command : Type 0 where
 
 -- 0 to 1,000,000 rounds and 1 to 64 workers
 pub record AreRunLimits (rounds workers : ℕ) : Type 0 where
-  pub few_rounds : rounds ≤ 1000000
+  pub few_rounds : rounds ≤ most_rounds
   pub some_workers : 1 ≤ workers
-  pub few_workers : workers ≤ 64
+  pub few_workers : workers ≤ most_workers
 
 -- the numbers of `check` are in their ranges
 abbrev pub AreInRange : Check → Type 0
@@ -57,9 +58,9 @@ AreInRange check = AreRunLimits check.rounds check.workers
 -- the numbers of `make` are in their ranges: a seed from 1 to 2147483646, and 3 to 1,000,000 states
 pub record IsMakeInRange (make : Make) : Type 0 where
   pub some_seed : 1 ≤ make.seed
-  pub low_seed : make.seed ≤ 2147483646
-  pub some_states : 3 ≤ make.states
-  pub few_states : make.states ≤ 1000000
+  pub low_seed : make.seed ≤ most_seed
+  pub some_states : least_states ≤ make.states
+  pub few_states : make.states ≤ most_states
   pub limits : AreRunLimits make.rounds make.workers
 
 -- What the values of names say.
@@ -100,8 +101,8 @@ pub record SayAsked (value : Text → Option Text) (asked : Asked) : Type 0 wher
 
 -- the values of the names say how far a run goes: 10,000 rounds and 4 workers where no word says them
 pub record SayRunLimits (value : Text → Option Text) (rounds workers : ℕ) : Type 0 where
-  pub of_rounds : IsNumber 10000 (value (codes "rounds")) rounds
-  pub of_workers : IsNumber 4 (value (codes "workers")) workers
+  pub of_rounds : IsNumber default_rounds (value (codes "rounds")) rounds
+  pub of_workers : IsNumber default_workers (value (codes "workers")) workers
 
 -- the values of the names say this of `check`
 pub record SayCheck (value : Text → Option Text) (check : Check) : Type 0 where

@@ -3,7 +3,9 @@
 ghost use Rattle.std.specs.Prelude.{◌≡◌, false, IfOk, codes};
 ghost use Rattle.clap.specs.Words.{app_of, rule_of};
 ghost use Rattle.command_words.specs.Grammar.{bare_app, asked_app, check_app, audit_app, make_app, sure_app, with_run_limits as app_with_run_limits, with_range, option as option_rule, flag as flag_rule, positional as positional_rule};
+ghost use Rattle.command_words.specs.Limits.{most_rounds, most_workers, most_seed, least_states, most_states};
 
+use crate::limits::{LEAST_STATES, MOST_ROUNDS, MOST_SEED, MOST_STATES, MOST_WORKERS};
 use clap::{Arg, ArgAction, Command};
 use std::alloc::{AllocError, Global};
 
@@ -80,31 +82,33 @@ fn option<'a>(alloc: Global, name: &'a str) -> Arg<'a>
 }
 
 fn seed<'a>(alloc: Global) -> Arg<'a>
-    ensures rule { rule_of result ≡ with_range (positional_rule (codes "seed")) 1 2147483646 }
+    ensures rule { rule_of result ≡ with_range (positional_rule (codes "seed")) 1 most_seed }
     ensures local { result.global ≡ false }
 {
-    positional(alloc, "seed").value_parser(clap::value_parser!(u32).range(1..=2_147_483_646))
+    positional(alloc, "seed").value_parser(clap::value_parser!(u32).range(1..=MOST_SEED))
 }
 
 fn states<'a>(alloc: Global) -> Arg<'a>
-    ensures rule { rule_of result ≡ with_range (positional_rule (codes "states")) 3 1000000 }
+    ensures rule { rule_of result ≡ with_range (positional_rule (codes "states")) least_states most_states }
     ensures local { result.global ≡ false }
 {
-    positional(alloc, "states").value_parser(clap::value_parser!(u32).range(3..=1_000_000))
+    positional(alloc, "states").value_parser(clap::value_parser!(u32).range(
+        LEAST_STATES..=MOST_STATES,
+    ))
 }
 
 fn rounds<'a>(alloc: Global) -> Arg<'a>
-    ensures rule { rule_of result ≡ with_range (option_rule (codes "rounds")) 0 1000000 }
+    ensures rule { rule_of result ≡ with_range (option_rule (codes "rounds")) 0 most_rounds }
     ensures local { result.global ≡ false }
 {
-    option(alloc, "rounds").value_parser(clap::value_parser!(u32).range(0..=1_000_000))
+    option(alloc, "rounds").value_parser(clap::value_parser!(u32).range(0..=MOST_ROUNDS))
 }
 
 fn workers<'a>(alloc: Global) -> Arg<'a>
-    ensures rule { rule_of result ≡ with_range (option_rule (codes "workers")) 1 64 }
+    ensures rule { rule_of result ≡ with_range (option_rule (codes "workers")) 1 most_workers }
     ensures local { result.global ≡ false }
 {
-    option(alloc, "workers").value_parser(clap::value_parser!(u32).range(1..=64))
+    option(alloc, "workers").value_parser(clap::value_parser!(u32).range(1..=MOST_WORKERS))
 }
 
 fn flag<'a>(alloc: Global, name: &'a str) -> Arg<'a>

@@ -6,6 +6,7 @@
 
 mod grammar;
 pub mod laws;
+mod limits;
 mod said;
 #[cfg(test)]
 mod tests;

@@ -4,14 +4,9 @@ ghost use Rattle.std.specs.Prelude.{◌≡◌, ◌≤◌, ◌^◌, ◌↔◌, �
 ghost use Rattle.command_words.specs.Grammar.{value_in};
 ghost use Rattle.command_words.specs.Words.{Asked, Check, Audit, Make, IsOwnerFile, IsNumber, NamesFile, GivesNumber, AreRunLimits, AreInRange, IsMakeInRange, SayAsked, SayRunLimits, SayCheck, SayAudit, SayMake, asked_of_words, check_of, audit_of, make_of};
 
+use crate::limits::{DEFAULT_ROUNDS, DEFAULT_WORKERS};
 use crate::words::{AskedWords, AuditWords, CheckWords, MakeWords};
 use clap::ArgMatches;
-
-/// How many rounds are made at most where the words do not say.
-const DEFAULT_ROUNDS: u32 = 10_000;
-
-/// How many workers a round has at most where the words do not say.
-const DEFAULT_WORKERS: u32 = 4;
 
 // How far a run goes.
 #[derive(Clone, Copy)]

@@ -36,7 +36,7 @@ finest_spelled : number_said (codes "1e-23") ≡ Ok (record { num = 1; den = 10 
 unfolding gcd gcd_within
 finest_spelled = refl
 
-too_fine : number_said (codes "1e-25") ≡ Err TooFine
+too_fine : number_said (codes "1e-24") ≡ Err TooFine
 unfolding gcd gcd_within
 too_fine = refl
 

@@ -1,14 +1,14 @@
 //! Worked upper tables.
 
 use crate::{UpperCause, UpperFault, check_replies, check_upper, replies, swap};
-use game_model::{Question, Side};
+use game_model::{Question, Side, UNIT};
 use sample_games::{all_of, coin_loop, goal_or_sink, none_of, only};
 use std::test::Fail;
 use zero_sets::zero_set;
 
-const ONE: u64 = 1_000_000_000_000;
+const ONE: u64 = UNIT;
 
-const HALF: u64 = 500_000_000_000;
+const HALF: u64 = UNIT / 2;
 
 fn fault(state: u32, cause: UpperCause) -> UpperFault {
     UpperFault { state, cause }

@@ -1,11 +1,12 @@
 //! Laws of certificates. Each function does nothing; its contract is the law.
 
-ghost use Rattle.std.specs.Prelude.{◌≡◌, ◌≤◌, ◌^◌, ◌++◌, ◌↔◌, List, ℕ, All, Ok, length};
+ghost use Rattle.std.specs.Prelude.{◌≡◌, ◌≤◌, ◌^◌, ◌++◌, ◌↔◌, List, ℕ, All, Ok, Some, codes, length};
 ghost use Rattle.game_model.specs.Limits.{unit, most_states};
 ghost use Rattle.plan_text.specs.Fixed.{fixed, unit_digits};
 ghost use Rattle.plan_text.specs.Entries.{Entry, IsInRange, greatest_choice};
 ghost use Rattle.plan_text.specs.Written.{certificate_text};
-ghost use Rattle.plan_text.specs.Said.{entries_said};
+ghost use Rattle.plan_text.specs.declared.version.Version.TheVariants.{One, Two};
+ghost use Rattle.plan_text.specs.Said.{entries_said, units_of};
 ghost use Rattle.plan_text.specs.Certificate.{IsCertificate};
 ghost use Rattle.plan_text.specs.Laws.{IsPassedOver, as_lines};
 
@@ -22,6 +23,11 @@ pub fn limits()
 /// No two values have the same text.
 pub fn fixed_text_has_one_reading()
     ensures { (u v : ℕ) → u ≤ unit → v ≤ unit → fixed u ≡ fixed v → u ≡ v }
+{}
+
+/// A value of the first version is that of the second with three zeros more.
+pub fn old_values_have_three_zeros_less()
+    ensures { (field : List ℕ) (u : ℕ) → units_of One field ≡ Some u → units_of Two (field ++ codes "000") ≡ Some u }
 {}
 
 /// A certificate that was written is read back, also behind lines that begin with another word.

@@ -1,15 +1,15 @@
 //! Worked values, choices and ranks.
 
 use crate::{RankCause, RankFault, check_ranks, find_ranks};
-use game_model::{Question, Side};
+use game_model::{Question, Side, UNIT};
 use sample_games::{all_of, chain, coin_loop, four_states, goal_or_sink, none_of, only};
 use std::test::Fail;
 
-const ONE: u64 = 1_000_000_000_000;
+const ONE: u64 = UNIT;
 
-const HALF: u64 = 500_000_000_000;
+const HALF: u64 = UNIT / 2;
 
-const FIFTH: u64 = 200_000_000_000;
+const FIFTH: u64 = UNIT / 5;
 
 fn fault(state: u32, cause: RankCause) -> RankFault {
     RankFault { state, cause }

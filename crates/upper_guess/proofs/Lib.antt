@@ -3,3 +3,4 @@ pub mod Lists
 pub mod Accepting
 pub mod Entries
 pub mod One
+pub mod Counting

@@ -1,11 +1,12 @@
 -- The definitions, at what the guesses of one excess are made from.
-use Rattle.std.specs.Prelude.{ℕ, List, slice_index}
+use Rattle.std.specs.Prelude.{ℕ, List, Option, Some, None, slice_index}
+use Rattle.std.specs.Global.{Vec}
 use Rattle.game_model.specs.Game.{Distribution, choices_of, choice_of}
 use Rattle.game_model.specs.Query.{side_at}
 use Rattle.game_model.specs.Values.{optimum}
 use Rattle.game_model.specs.Rounded.{up_value}
 use Rattle.fixed_bellman.specs.Sums.{IsSumBetween}
-use Rattle.upper_guess.specs.Guess.{first_guess, guess_table, IsRefused, AreRefused, IsTable, IsFirstAt}
+use Rattle.upper_guess.specs.Guess.{first_guess, guess_table, IsRefused, AreRefused, IsTable, IsFirstAt, IsCounted}
 use Rattle.upper_guess.specs.declared.guesses.Guesses.{Guesses}
 
 -- the entry of a state before any up step
@@ -39,3 +40,11 @@ AreRefusedOf g = AreRefused g.question.now g.zero.now (slice_index g.lower.now) 
 
 abbrev pub IsFirstOf : Guesses → List ℕ → Type 0
 IsFirstOf g table = IsFirstAt g.question.now g.zero.now (slice_index g.lower.now) g.excess table
+
+abbrev pub IsCountedOf : Guesses → List ℕ → ℕ → ℕ → Type 0
+IsCountedOf g table before now = IsCounted g.question.now g.zero.now (slice_index g.lower.now) g.excess table before now
+
+-- the up steps of a table that was made, if any
+abbrev pub steps_of : Option (Vec ℕ × ℕ) → ℕ
+steps_of None = 0
+steps_of (Some m) = m.1

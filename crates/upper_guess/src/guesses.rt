@@ -4,7 +4,7 @@ ghost use Rattle.std.specs.Prelude.{◌≡◌, ◌^◌, ◌≤◌, length, All};
 ghost use Rattle.game_model.specs.Query.{IsQuery, states};
 ghost use Rattle.game_model.specs.Limits.{unit};
 
-use crate::tables::{most_raised, up_table};
+use crate::tables::{UpSteps, most_raised};
 use crate::witnesses::Witnesses;
 use game_model::{Marks, Question, UNIT};
 use game_outside::OutOfMemory;
@@ -28,13 +28,13 @@ pub struct Guesses<'a> {
 }
 
 impl Guesses<'_> {
-    ghost use Rattle.std.specs.Prelude.{◌<◌, IfOk, IfSome, MatchOption};
-    ghost use Rattle.upper_guess.specs.Guess.{AreWitnesses};
-    ghost use Rattle.upper_guess.specs.OfGuesses.{first_entry_of, IsTableOf, AreRefusedOf, IsFirstOf};
+    ghost use Rattle.std.specs.Prelude.{◌<◌, ◌-◌, IfOk, OnOk, IfSome, MatchOption};
+    ghost use Rattle.upper_guess.specs.Guess.{AreWitnesses, RoseBy};
+    ghost use Rattle.upper_guess.specs.OfGuesses.{first_entry_of, IsTableOf, AreRefusedOf, IsFirstOf, IsCountedOf, steps_of};
 
     /// The first of the tables of this excess that is accepted; none where each is refused. A table that is
     /// seen to be refused at the witness of its steps is not made. Where a table is made and refused, the
-    /// state that rises most from it becomes the witness.
+    /// state that rises most from it becomes the witness. Its up steps and the one that accepts it are counted, at least.
     pub fn first_accepted(
         &self,
         alloc: Global,
@@ -43,6 +43,8 @@ impl Guesses<'_> {
         requires { AreWitnesses self.now.question.now witnesses.old.states }
         ensures witnesses { AreWitnesses self.now.question.now witnesses.new.states }
         ensures found { IfOk result (λ found. MatchOption found (AreRefusedOf self.now) (λ table. IsFirstOf self.now table.items)) }
+        ensures counted { IfOk result (λ found. IfSome found (λ table. IsCountedOf self.now table.items witnesses.old.up_steps.count witnesses.new.up_steps.count)) }
+        ensures later { witnesses.old.up_steps.count ≤ witnesses.new.up_steps.count }
     {
         let mut made = None;
         for steps in 0..MOST_STEPS + 1 {
@@ -50,8 +52,7 @@ impl Guesses<'_> {
                 continue;
             }
             let table = self.table_after(alloc, steps, made, &mut witnesses.up_steps)?;
-            let next = up_table(alloc, self.question, &table)?;
-            witnesses.up_steps = witnesses.up_steps.saturating_add(1);
+            let next = witnesses.up_steps.up_table(alloc, self.question, &table)?;
             let Some(state) = most_raised(self.question, &table, &next) else {
                 return Ok(Some(table));
             };
@@ -67,18 +68,19 @@ impl Guesses<'_> {
         alloc: Global,
         steps: u32,
         made: Option<(Vec<u64>, u32)>,
-        up_steps: &mut u64,
+        up_steps: &mut UpSteps,
     ) -> Result<Vec<u64>, OutOfMemory>
         requires { IfSome made (λ m. IsTableOf self.now m.1 m.0.items × (m.1 ≤ steps)) }
-        ensures { IfOk result (λ table. IsTableOf self.now steps table.items) }
+        ensures table { IfOk result (λ table. IsTableOf self.now steps table.items) }
+        ensures counted { OnOk result (RoseBy (steps - steps_of made) up_steps.old.count up_steps.new.count) }
+        ensures later { up_steps.old.count ≤ up_steps.new.count }
     {
         let (mut table, at) = match made {
             Some(made) => made,
             None => (self.first_table(alloc)?, 0),
         };
         for _step in at..steps {
-            table = up_table(alloc, self.question, &table)?;
-            *up_steps = up_steps.saturating_add(1);
+            table = up_steps.up_table(alloc, self.question, &table)?;
         }
         Ok(table)
     }

@@ -11,8 +11,49 @@ use game_model::Question;
 use game_outside::OutOfMemory;
 use std::alloc::Global;
 
-/// The up step of a table.
-pub fn up_table(alloc: Global, question: &Question, table: &[u64]) -> Result<Vec<u64>, OutOfMemory>
+/// How many up steps of whole tables were made. Only the call that makes one counts it.
+#[derive(Drop)]
+pub struct UpSteps {
+    count: u64,
+}
+
+impl UpSteps {
+    ghost use Rattle.game_outside.specs.Outside.{grown};
+
+    /// No step was made.
+    pub fn none() -> UpSteps
+        ensures { result.count ≡ 0 }
+    {
+        UpSteps { count: 0 }
+    }
+
+    /// How many were made, up to the greatest `u64`.
+    pub fn count(&self) -> u64
+        ensures { result ≡ self.now.count }
+    {
+        self.count
+    }
+
+    /// The up step of a table. It is counted.
+    pub fn up_table(
+        &mut self,
+        alloc: Global,
+        question: &Question,
+        table: &[u64],
+    ) -> Result<Vec<u64>, OutOfMemory>
+        requires length { length table.now ≡ states question.now }
+        requires units { All (λ v. v ≤ unit) table.now }
+        ensures table { IfOk result (λ next. IsTable question.now (up_step question.now (slice_index table.now)) next.items) }
+        ensures counted { self.new.count ≡ grown self.old.count 1 }
+        ensures later { self.old.count ≤ self.new.count }
+    {
+        self.count = self.count.saturating_add(1);
+        up_table(alloc, question, table)
+    }
+}
+
+// The same, which is not counted.
+fn up_table(alloc: Global, question: &Question, table: &[u64]) -> Result<Vec<u64>, OutOfMemory>
     requires length { length table.now ≡ states question.now }
     requires units { All (λ v. v ≤ unit) table.now }
     ensures { IfOk result (λ next. IsTable question.now (up_step question.now (slice_index table.now)) next.items) }
