@@ -25,8 +25,8 @@ pub fn audits_have_one_answer()
     ensures entries { (q : Query) (text : List ℕ) (plan other : Plan) → IsAccepted q text plan → IsAccepted q text other → entries_of plan ≡ entries_of other }
 {}
 
-/// A certificate of the first version counts in units of which probability 1 has a thousandth of today's number. It passes
-/// in those units exactly where it passes as it is read, with each value a thousandfold.
+/// In a certificate of the first version a million times a million units are probability 1. It passes in those units
+/// exactly where it passes as it is read, with each value a thousandfold.
 pub fn old_certificates_mean_what_they_meant()
     ensures lengths { (table : List ℕ) → length (thousandfold table) ≡ length table }
     ensures upper { (q : Query) (upper : List ℕ) → IsQuery q →
