@@ -141,9 +141,17 @@ fn read_drawn<R: Threads + Sync + Abort>(
         let given = rows::words(alloc, &list)?;
         let plain = plain_words(alloc, &list)?;
         let read = read_words(alloc, &given)?;
-        assert!(rt; says(&read, &plain), "{:?} is read otherwise", list.as_slice());
+        assert!(rt;
+            says(&read, &plain),
+            "{:?} is read otherwise",
+            list.as_slice()
+        );
         let usage = ends_with_usage(rt, alloc, &given)?;
-        assert!(rt; plain.is_some() != usage, "{:?} runs otherwise", list.as_slice());
+        assert!(rt;
+            plain.is_some() != usage,
+            "{:?} runs otherwise",
+            list.as_slice()
+        );
         if plain.is_some() {
             commands = commands.saturating_add(1);
         }
