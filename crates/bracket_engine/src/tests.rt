@@ -70,16 +70,16 @@ fn value_bracket<R: Threads + Sync, G: Gate + Sync>(
 }
 
 #[test]
-fn the_coin_loop_settles_at_round_40(rt: HostRuntime) -> Result<(), Fail> {
+fn the_coin_loop_settles_at_round_50(rt: HostRuntime) -> Result<(), Fail> {
     let alloc = rt.alloc();
     let game = coin_loop(alloc)?;
     let question = coin_question(alloc, &game)?;
     let zero = zeros_of(alloc, &question)?;
     for (asked, lower, upper, rounds, stable) in [
-        (0, 0, 549_755_813_888, 0, false),
-        (2, UNIT / 8 * 3, 512_438_953_472, 2, false),
-        (39, UNIT / 2 - 1, UNIT / 2, 39, true),
-        (1_000, UNIT / 2 - 1, UNIT / 2, 40, true),
+        (0, 0, 562_949_953_421_312, 0, false),
+        (2, UNIT / 8 * 3, 515_737_488_355_328, 2, false),
+        (49, UNIT / 2 - 1, UNIT / 2, 49, true),
+        (1_000, UNIT / 2 - 1, UNIT / 2, 50, true),
     ] {
         let found = value_bracket(&rt, alloc, &question, &zero, asked, 1, &OpenGate {})?;
         assert_eq!(rt;

@@ -5,7 +5,7 @@ use plan_text::Plan;
 use std::alloc::Global;
 
 /// A change of a value that is far more than a rounding, in units.
-const MANY: u64 = 50_000_000_000;
+const MANY: u64 = 50_000_000_000_000;
 
 /// A rank above those of small games.
 const GREAT_RANK: u32 = 1_000_000;

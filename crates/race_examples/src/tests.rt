@@ -33,9 +33,9 @@ use value_words::{Pass, Posing, ValueTable, Words};
 fn take_events<R: Abort>(rt: &R, world: &mut World<'_>)
     requires { length world.old.views ≡ 1 }
 {
-    let quarter = pack(250_000_000_000, 0);
-    let three_eighths = pack(375_000_000_000, 0);
-    let half = pack(500_000_000_000, 0);
+    let quarter = pack(UNIT / 4, 0);
+    let three_eighths = pack(UNIT / 8 * 3, 0);
+    let half = pack(UNIT / 2, 0);
     let to = |from, to| Event::Won {
         view: 0,
         state: 0,
@@ -151,9 +151,9 @@ fn two_threads_race_over_the_agreement_protocol(rt: HostRuntime) -> Result<(), F
         assert!(rt; value_of(words[state]) >= seen[state]);
     }
     // Three sweeps reach what one thread reaches: state 3 leads to state 4, and state 4 to the goal.
-    assert_eq!(rt; seen[11], 1_000_000_000_000);
-    assert_eq!(rt; seen[4], 1_000_000_000_000);
-    assert!(rt; seen[3] >= 500_000_000_000);
+    assert_eq!(rt; seen[11], UNIT);
+    assert_eq!(rt; seen[4], UNIT);
+    assert!(rt; seen[3] >= UNIT / 2);
     assert_eq!(rt; seen[10], 0);
     Ok(())
 }
@@ -219,10 +219,10 @@ fn two_workers_work_at_once_and_reach_the_values(rt: HostRuntime) -> Result<(), 
     assert!(rt; !gate.gave_up());
     let words = words.as_slice();
     assert_eq!(rt; words.len(), 12);
-    assert_eq!(rt; value_of(words[0]), 839_999_999_999);
-    assert_eq!(rt; value_of(words[1]), 699_999_999_999);
-    assert_eq!(rt; value_of(words[2]), 899_999_999_999);
-    assert_eq!(rt; value_of(words[3]), 919_999_999_999);
+    assert_eq!(rt; value_of(words[0]), 839_999_999_999_999);
+    assert_eq!(rt; value_of(words[1]), 699_999_999_999_999);
+    assert_eq!(rt; value_of(words[2]), 899_999_999_999_999);
+    assert_eq!(rt; value_of(words[3]), 919_999_999_999_999);
     Ok(())
 }
 

@@ -38,7 +38,15 @@ yes-true q AskMin lower upper s sound e = tt
 pub no-false : (q : Query) (bound : Bound) (lower upper s : ℕ) → AreSound q lower upper s → verdict_of bound lower upper ≡ No → IsFalseOf q bound s
 no-false q (AtLeast p) lower upper s sound e = sound.not_reached p.num p.den (leb-false _ _ (not-true _ (fails-from_no _ _ e)))
 no-false q (Above p) lower upper s sound e = sound.not_exceeded p.num p.den (ltb-false _ _ (not-true _ (fails-from_no _ _ e)))
-no-false q (AtMost p) lower upper s sound e = λ never. never (sound.exceeded p.num p.den (ltb-true _ _ (fails-from_no _ _ e)))
-no-false q (Below p) lower upper s sound e = λ never. never (sound.reached p.num p.den (leb-true _ _ (fails-from_no _ _ e)))
+no-false q (AtMost p) lower upper s sound e = sound.exceeded p.num p.den (ltb-true _ _ (fails-from_no _ _ e))
+no-false q (Below p) lower upper s sound e = sound.reached p.num p.den (leb-true _ _ (fails-from_no _ _ e))
 no-false q AskMax lower upper s sound e = absurd (cc)
 no-false q AskMin lower upper s sound e = absurd (cc)
+
+pub false-not_true : (q : Query) (bound : Bound) (s : ℕ) → IsFalseOf q bound s → ¬ IsTrueOf q bound s
+false-not_true q (AtLeast p) s fails = fails
+false-not_true q (Above p) s fails = fails
+false-not_true q (AtMost p) s fails = λ holds. holds fails
+false-not_true q (Below p) s fails = λ holds. holds fails
+false-not_true q AskMax s fails = absurd fails
+false-not_true q AskMin s fails = absurd fails

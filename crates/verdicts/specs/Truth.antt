@@ -16,9 +16,14 @@ IsTrueOf q (Below p) s = ¬ Reaches q p.num p.den s
 IsTrueOf q AskMax s = Unit {0}
 IsTrueOf q AskMin s = Unit {0}
 
--- it does not hold
+-- it fails: no k-step values come near p, or none is above it; for an upper bound on the value, some k-step value is above p, or they come as near to it as one likes
 abbrev pub IsFalseOf : Query → Bound → ℕ → Type 0
-IsFalseOf q bound s = ¬ IsTrueOf q bound s
+IsFalseOf q (AtLeast p) s = ¬ Reaches q p.num p.den s
+IsFalseOf q (Above p) s = ¬ Exceeds q p.num p.den s
+IsFalseOf q (AtMost p) s = Exceeds q p.num p.den s
+IsFalseOf q (Below p) s = Reaches q p.num p.den s
+IsFalseOf q AskMax s = ⊥
+IsFalseOf q AskMin s = ⊥
 
 -- what a verdict says of the value at a state is so
 abbrev pub IsTold : Query → Bound → ℕ → Verdict → Type 0

@@ -27,6 +27,11 @@ pub fn verdicts_are_true()
     laws::high_tables_are_not_reached();
 }
 
+/// No bound both holds and fails of a value.
+pub fn no_bound_holds_and_fails()
+    ensures { (q : Query) (bound : Bound) (s : ℕ) → IsFalseOf q bound s → ¬ IsTrueOf q bound s }
+{}
+
 /// A value that the maximiser reaches with a plan, less any 1/m, is one that the values of its state reach.
 pub fn planned_values_are_reached()
     ensures { (q : Query) (plan : List (Option ℕ)) (value : ℕ → ℕ) (s : ℕ) → ReachesUnder q plan value → s < states q → Reaches q (value s) unit s }

@@ -101,15 +101,15 @@ mod tests {
         ) else {
             return Err(Fail::new("no number"));
         };
-        let near = (499_999_999_999, 500_000_000_000);
-        let around = (333_333_333_333, 333_333_333_334);
+        let near = (499_999_999_999_999, 500_000_000_000_000);
+        let around = (333_333_333_333_333, 333_333_333_333_334);
         let rows = [
             (
                 Bound::AtLeast(share),
-                (650_000_000_000, 650_000_000_000),
+                (650_000_000_000_000, 650_000_000_000_000),
                 Verdict::Yes,
             ),
-            (Bound::AtLeast(share), (0, 500_000_000_000), Verdict::No),
+            (Bound::AtLeast(share), (0, 500_000_000_000_000), Verdict::No),
             (Bound::AtLeast(half), near, Verdict::Undecided),
             (Bound::AtMost(half), near, Verdict::Yes),
             (Bound::Above(half), near, Verdict::No),

@@ -1,9 +1,10 @@
 //! Words that are drawn: the program reads them as a plain reading does.
 
 use crate::draws::Draws;
-use crate::plain_reading::is_command;
-use crate::rows::words;
+use crate::plain_reading::{PlainWords, plain_words};
+use crate::rows;
 use crate::words::coin_loop_files;
+use command_words::{AskedWords, CommandWords, read_words};
 use game_outside::{OpenGate, SteadyShelf, SteadySink};
 use std::alloc::Global;
 use std::process::Abort;
@@ -80,19 +81,51 @@ fn draw_list(
     Ok(list)
 }
 
+// Whether a question that was read is what the plain reading says.
+fn asks(asked: &AskedWords<'_>, plain: &PlainWords<'_>) -> bool {
+    match plain.places.as_slice() {
+        [tra, lab, formula, ..] => {
+            asked.tra == *tra
+                && asked.lab == *lab
+                && asked.formula == *formula
+                && asked.own == plain.own
+        }
+        _ => false,
+    }
+}
+
+// Whether a command that was read is what the plain reading says, in each of its words.
+fn says(read: &Option<CommandWords<'_>>, plain: &Option<PlainWords<'_>>) -> bool {
+    match (read, plain) {
+        (None, None) => true,
+        (Some(CommandWords::Check(check)), Some(plain)) => {
+            plain.name == "check"
+                && asks(&check.asked, plain)
+                && check.rounds == plain.rounds
+                && check.workers == plain.workers
+                && check.plan == plain.plan
+        }
+        (Some(CommandWords::Audit(audit)), Some(plain)) => {
+            plain.name == "audit"
+                && asks(&audit.asked, plain)
+                && plain.places.last() == Some(&audit.certificate)
+        }
+        _ => false,
+    }
+}
+
 // Whether a run with these words ends with the usage line.
 fn ends_with_usage<R: Threads + Sync + Abort>(
     rt: &R,
     alloc: Global,
-    given: &[&str],
+    words: &[String],
 ) -> Result<bool, Fail> {
-    let words = words(alloc, given)?;
     let mut shelf = SteadyShelf::new(coin_loop_files(alloc)?);
     let mut out = SteadySink::new(alloc);
     if out.reserve(1000).is_err() {
         return Err(Fail::new("no memory"));
     }
-    Ok(run(rt, alloc, &words, &mut shelf, &mut out, &OpenGate {}) == Status::Usage)
+    Ok(run(rt, alloc, words, &mut shelf, &mut out, &OpenGate {}) == Status::Usage)
 }
 
 // Reads lists that are drawn around the words of a command in both ways. It gives how many of them denote a command.
@@ -105,10 +138,21 @@ fn read_drawn<R: Threads + Sync + Abort>(
     let mut commands = 0_u32;
     for _ in 0..2500 {
         let list = draw_list(alloc, draws, words)?;
-        let command = is_command(alloc, &list)?;
-        let usage = ends_with_usage(rt, alloc, &list)?;
-        assert!(rt; command != usage, "{:?} is read otherwise", list.as_slice());
-        if command {
+        let given = rows::words(alloc, &list)?;
+        let plain = plain_words(alloc, &list)?;
+        let read = read_words(alloc, &given)?;
+        assert!(rt;
+            says(&read, &plain),
+            "{:?} is read otherwise",
+            list.as_slice()
+        );
+        let usage = ends_with_usage(rt, alloc, &given)?;
+        assert!(rt;
+            plain.is_some() != usage,
+            "{:?} runs otherwise",
+            list.as_slice()
+        );
+        if plain.is_some() {
             commands = commands.saturating_add(1);
         }
     }

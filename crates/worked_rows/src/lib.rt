@@ -7,6 +7,8 @@
 #[cfg(test)]
 mod adapters;
 #[cfg(test)]
+mod all_workers;
+#[cfg(test)]
 mod answers;
 #[cfg(test)]
 mod audit_faults;

@@ -23,31 +23,60 @@ const AUDIT: Taken = Taken {
     options: &["--own"],
 };
 
+/// What the words of a command say.
+#[derive(Drop)]
+pub struct PlainWords<'a> {
+    /// The word that names it.
+    pub name: &'a str,
+    /// The words that are no options and no values of one, in their order.
+    pub places: Vec<&'a str>,
+    /// The value of the option of this name, if it is given.
+    pub own: Option<&'a str>,
+    /// The number of rounds, or the one where no word says it.
+    pub rounds: u32,
+    /// The number of workers, or the one where no word says it.
+    pub workers: u32,
+    /// Whether the option of this name is given.
+    pub plan: bool,
+}
+
 // What the words so far say.
 #[derive(Drop)]
 struct Reading<'a> {
     taken: Taken,
-    places: usize,
+    said: PlainWords<'a>,
     given: Vec<&'a str>,
     waiting: Option<&'a str>,
     only_places: bool,
     wrong: bool,
 }
 
-/// Whether the words denote a command.
-pub fn is_command(alloc: Global, words: &[&str]) -> Result<bool, Fail> {
+/// What the words say, where they denote a command.
+pub fn plain_words<'a>(alloc: Global, words: &[&'a str]) -> Result<Option<PlainWords<'a>>, Fail> {
     match words.split_first() {
-        Some((name, rest)) if *name == "check" => is_taken(alloc, CHECK, rest),
-        Some((name, rest)) if *name == "audit" => is_taken(alloc, AUDIT, rest),
-        _ => Ok(false),
+        Some((name, rest)) if *name == "check" => words_behind(alloc, CHECK, name, rest),
+        Some((name, rest)) if *name == "audit" => words_behind(alloc, AUDIT, name, rest),
+        _ => Ok(None),
     }
 }
 
-// Whether a command takes the words behind its name.
-fn is_taken(alloc: Global, taken: Taken, words: &[&str]) -> Result<bool, Fail> {
+// What the words behind the name of a command say, where it takes them.
+fn words_behind<'a>(
+    alloc: Global,
+    taken: Taken,
+    name: &'a str,
+    words: &[&'a str],
+) -> Result<Option<PlainWords<'a>>, Fail> {
     let mut reading = Reading {
         taken,
-        places: 0,
+        said: PlainWords {
+            name,
+            places: Vec::new(alloc),
+            own: None,
+            rounds: 10_000,
+            workers: 4,
+            plan: false,
+        },
         given: Vec::new(alloc),
         waiting: None,
         only_places: false,
@@ -56,14 +85,16 @@ fn is_taken(alloc: Global, taken: Taken, words: &[&str]) -> Result<bool, Fail> {
     for word in words {
         reading.read(word)?;
     }
-    Ok(!reading.wrong && reading.waiting.is_none() && reading.places == taken.places)
+    if reading.wrong || reading.waiting.is_some() || reading.said.places.len() != taken.places {
+        return Ok(None);
+    }
+    Ok(Some(reading.said))
 }
 
 impl<'a> Reading<'a> {
     fn read(&mut self, word: &'a str) -> Result<(), Fail> {
         if self.only_places || word.len() < 2 || !word.starts_with('-') {
-            self.read_plain(word);
-            return Ok(());
+            return self.read_plain(word);
         }
         if self.waiting.is_some() {
             self.wrong = true;
@@ -78,38 +109,41 @@ impl<'a> Reading<'a> {
         }
     }
 
-    fn read_option(&mut self, name: &'a str, value: Option<&str>) -> Result<(), Fail> {
+    fn read_option(&mut self, name: &'a str, value: Option<&'a str>) -> Result<(), Fail> {
         if self.given.contains(&name) || !self.taken.options.contains(&name) {
             self.wrong = true;
         }
         self.given.push(name)?;
         match value {
-            Some(value) => self.wrong = self.wrong || !takes(name, value),
-            None if name == "--plan" => {}
+            Some(value) => self.take(name, value),
+            None if name == "--plan" => self.said.plan = true,
             None => self.waiting = Some(name),
         }
         Ok(())
     }
 
-    fn read_plain(&mut self, word: &str) {
+    fn read_plain(&mut self, word: &'a str) -> Result<(), Fail> {
         match self.waiting {
             Some(name) => {
                 self.waiting = None;
-                self.wrong = self.wrong || !takes(name, word);
+                self.take(name, word);
             }
             None => {
-                self.wrong = self.wrong || word.is_empty() && self.places != FORMULA;
-                self.places = self.places.saturating_add(1);
+                self.wrong = self.wrong || word.is_empty() && self.said.places.len() != FORMULA;
+                self.said.places.push(word)?;
             }
         }
+        Ok(())
     }
-}
 
-fn takes(name: &str, value: &str) -> bool {
-    match (name, value.parse::<u32>()) {
-        ("--own", _) => !value.is_empty(),
-        ("--rounds", Ok(rounds)) => rounds <= 1_000_000,
-        ("--workers", Ok(workers)) => 1 <= workers && workers <= 64,
-        _ => false,
+    fn take(&mut self, name: &str, value: &'a str) {
+        match (name, value.parse::<u32>()) {
+            ("--own", _) if !value.is_empty() => self.said.own = Some(value),
+            ("--rounds", Ok(rounds)) if rounds <= 1_000_000 => self.said.rounds = rounds,
+            ("--workers", Ok(workers)) if 1 <= workers && workers <= 64 => {
+                self.said.workers = workers;
+            }
+            _ => self.wrong = true,
+        }
     }
 }

@@ -36,6 +36,20 @@ fn up_steps<R: Threads + Sync>(
     Some(witnesses.up_steps())
 }
 
+// The guess makes exactly so many up steps: without an excess it takes two at the values of the coin loop, and after three
+// rounds the first table of the excess that reaches one half is accepted.
+#[test]
+fn guesses_of_the_coin_loop_make_so_many_up_steps(rt: HostRuntime) -> Result<(), Fail> {
+    let alloc = rt.alloc();
+    let game = coin_game(alloc).ok_or("the game")?;
+    let question = coin_question(alloc, &game).ok_or("the question")?;
+    for (rounds, count) in [(3, 1), (1_000, 2)] {
+        let made = up_steps(&rt, alloc, &question, rounds).ok_or("memory")?;
+        assert_eq!(rt; made, count, "after {rounds} rounds");
+    }
+    Ok(())
+}
+
 // The guess makes few up steps, after few rounds and after many.
 fn are_few<R: Abort + Threads + Sync>(
     rt: &R,
