@@ -36,7 +36,8 @@ pub const COIN_LOOP_REPORT: &str =
     "state 0 lower 0.499999999999999 upper 0.500000000000000 rounds 50 Bracket\n";
 
 /// What the threshold 0.6 of the first of two players reports.
-pub const FIRST_IS_TRUE: &str = "state 0 lower 0.650000000000000 upper 0.650000000000000 rounds 1 True\n";
+pub const FIRST_IS_TRUE: &str =
+    "state 0 lower 0.650000000000000 upper 0.650000000000000 rounds 1 True\n";
 
 /// What the game of three states that seed 1 draws reports.
 pub const OF_THREE_STATES: &str =

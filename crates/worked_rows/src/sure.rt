@@ -50,7 +50,12 @@ fn sure_states_are_listed(rt: HostRuntime) -> Result<(), Fail> {
         ),
         (WAIT_OR_COIN, most, "sure 1 of 3\n1\n", Status::SomeFalse),
         // The threshold plays no part but in the side.
-        (FORK, "P>0.2 [ F \"goal\" ]", "sure 2 of 3\n0\n1\n", Status::Fine),
+        (
+            FORK,
+            "P>0.2 [ F \"goal\" ]",
+            "sure 2 of 3\n0\n1\n",
+            Status::Fine,
+        ),
         (
             FORK,
             "Pmax=? [ F \"none\" ]",

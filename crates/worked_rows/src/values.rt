@@ -75,13 +75,41 @@ const WIDE: &str =
 fn decimals_and_fractions_are_exact(rt: HostRuntime) -> Result<(), Fail> {
     let alloc = rt.alloc();
     for (tra, side, bounds) in [
-        (THIRDS, "max", "lower 0.333333333333333 upper 0.333333333333334"),
-        (CHAIN, "max", "lower 0.300000000000000 upper 0.300000000000000"),
-        (MIXED, "max", "lower 0.333333333333333 upper 0.333333333333334"),
-        (MIXED, "min", "lower 0.000010000000000 upper 0.000010000000000"),
-        (ROUNDED, "max", "lower 0.499995000049999 upper 0.499995000050000"),
-        (FINE, "max", "lower 0.000000000000000 upper 0.000000000000001"),
-        (WIDE, "max", "lower 0.333333333333333 upper 0.333333333333334"),
+        (
+            THIRDS,
+            "max",
+            "lower 0.333333333333333 upper 0.333333333333334",
+        ),
+        (
+            CHAIN,
+            "max",
+            "lower 0.300000000000000 upper 0.300000000000000",
+        ),
+        (
+            MIXED,
+            "max",
+            "lower 0.333333333333333 upper 0.333333333333334",
+        ),
+        (
+            MIXED,
+            "min",
+            "lower 0.000010000000000 upper 0.000010000000000",
+        ),
+        (
+            ROUNDED,
+            "max",
+            "lower 0.499995000049999 upper 0.499995000050000",
+        ),
+        (
+            FINE,
+            "max",
+            "lower 0.000000000000000 upper 0.000000000000001",
+        ),
+        (
+            WIDE,
+            "max",
+            "lower 0.333333333333333 upper 0.333333333333334",
+        ),
     ] {
         let formula = format!(in alloc; "P{side}=? [ F \"goal\" ]")?;
         let row = plain_row(tra, GOAL_AT_1, formula.as_str());
