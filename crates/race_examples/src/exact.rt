@@ -5,7 +5,7 @@ use reference_values::numerators;
 use std::alloc::Global;
 
 /// How many digits a value has behind its point; the unit is ten to this power.
-const UNIT_DIGITS: u32 = 12;
+const UNIT_DIGITS: u32 = 15;
 
 // The least number of units that is not below a part of a whole, digit by digit. None where ten times the part, or of what
 // is left of it, does not fit 128 bits.

@@ -183,11 +183,11 @@ fn choice_text(alloc: Global, choice: Option<u32>) -> Option<String> {
     }
 }
 
-// A value as it is written: a digit, a point and twelve digits, where the value is at most 1.
+// A value as it is written: a digit, a point and fifteen digits, where the value is at most 1.
 fn value_text(alloc: Global, units: u64) -> Option<String> {
     let whole = units / UNIT;
     let part = units % UNIT;
-    format!(in alloc; "{whole}.{part:012}").ok()
+    format!(in alloc; "{whole}.{part:015}").ok()
 }
 
 // A line as it is written.
@@ -204,7 +204,7 @@ fn line_text(alloc: Global, line: Line) -> Option<String> {
 /// The text of a certificate of these lines.
 pub fn text_of(alloc: Global, lines: &[Line]) -> Option<String> {
     let count = lines.len();
-    let mut text = format!(in alloc; "certificate 1 {count}\n").ok()?;
+    let mut text = format!(in alloc; "certificate 2 {count}\n").ok()?;
     for line in lines {
         text.push_str(line_text(alloc, *line)?.as_str()).ok()?;
     }

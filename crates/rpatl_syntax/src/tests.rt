@@ -236,7 +236,7 @@ const REFUSED: [(&str, u32, FormulaCause); 44] = [
         FormulaCause::BadNumber(NumberFault::NotANumber),
     ),
     (
-        "P>=1e-25 [ F \"a\" ]",
+        "P>=1e-24 [ F \"a\" ]",
         3,
         FormulaCause::BadNumber(NumberFault::TooFine),
     ),

@@ -29,7 +29,7 @@ use Rattle.stogame_app.specs.Reports.{IsReport, plan_of, line_in, certificate_of
 use Rattle.stogame_app.specs.Sources.{Sources, sources_of}
 use Rattle.stogame_app.specs.Run.{IsReportOf, IsAcceptedOf}
 use Rattle.stogame_app.proofs.Passing.{AreReadBack, AreCertificates, report-accepted}
-use Rattle.stogame_app.proofs.ShortLines.{joined-short, report-short, certificate-short}
+use Rattle.stogame_app.proofs.ShortLines.{entry_bytes, joined-short, report-short, certificate-short}
 use Rattle.stogame_app.proofs.ShortSpellings.{most_spelled, spelling-short}
 
 -- 1. There are no more initial states than a game has states.
@@ -60,13 +60,13 @@ initial-few sources asked posing asks =
 
 -- the most bytes behind the report: the line of the formula, and the certificate
 abbrev most_behind : ℕ
-most_behind = (9 + most_spelled) + (25 + 74 * most_states)
+most_behind = (9 + most_spelled) + (25 + entry_bytes * most_states)
 
 part-short : (asked : Bool) (formula : Tree) (found : Bracket) → length (spelling formula) ≤ most_spelled → AreEntriesInLimits (certificate_of asked formula found) → length (certificate_part (certificate_of asked formula found)) ≤ most_behind
 part-short false formula found small are = omega arith
 part-short true formula found small are =
     let entries = entries_of (plan_of found) in
-    joined-short (9 + most_spelled) (25 + 74 * most_states) (codes "formula " ++ (spelling formula ++ codes "\n")) (certificate_text entries)
+    joined-short (9 + most_spelled) (25 + entry_bytes * most_states) (codes "formula " ++ (spelling formula ++ codes "\n")) (certificate_text entries)
     (joined-short 8 (most_spelled + 1) (codes "formula ") (spelling formula ++ codes "\n") (omega arith) (joined-short most_spelled 1 (spelling formula) (codes "\n") small (omega arith)))
     (certificate-short entries are.0 are.1)
 
