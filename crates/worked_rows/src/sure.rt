@@ -49,12 +49,18 @@ fn sure_states_are_listed(rt: HostRuntime) -> Result<(), Fail> {
             Status::SomeFalse,
         ),
         (WAIT_OR_COIN, most, "sure 1 of 3\n1\n", Status::SomeFalse),
-        // The threshold plays no part but in the side.
+        // The threshold plays no part but in the side: what holds of every strategy is asked of the worst one.
+        (
+            FORK,
+            "P<0.2 [ F \"goal\" ]",
+            "sure 2 of 3\n0\n1\n",
+            Status::Fine,
+        ),
         (
             FORK,
             "P>0.2 [ F \"goal\" ]",
-            "sure 2 of 3\n0\n1\n",
-            Status::Fine,
+            "sure 1 of 3\n1\n",
+            Status::SomeFalse,
         ),
         (
             FORK,

@@ -82,7 +82,7 @@ fn coin_loop<'a>(numbers: &'a [&'a str]) -> Row<'a> {
 #[test]
 fn each_worker_passes_the_gate_before_each_of_its_states(rt: HostRuntime) -> Result<(), Fail> {
     let alloc = rt.alloc();
-    for (rounds, passed) in [("0", 0), ("1", 6), ("5", 30), ("10000", 240)] {
+    for (rounds, passed) in [("0", 0), ("1", 6), ("5", 30), ("10000", 300)] {
         let gate = CountGate {
             passed: AtomicU32::new(0),
             strayed: AtomicU32::new(0),
