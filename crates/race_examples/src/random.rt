@@ -219,7 +219,7 @@ pub fn plain_guess(
     requires zero { length zero.now ≡ states question.now }
     requires many { length lower.now ≡ states question.now }
 {
-    for place in 0..42u32 {
+    for place in 0..52u32 {
         let first = guess_of_excess(alloc, question, zero, lower, (1u64 << place) / 2)?;
         if let Some(table) = first_of_excess(alloc, question, first)? {
             return Some(table);

@@ -56,7 +56,7 @@ made text ends seed states asked q zero found same is_zero bounds (Ok answer) wr
 made text ends seed states asked q zero found same is_zero bounds (Err error) written ended = tt
 
 -- the sum of a table over all states
-pub sum-fits : (table : List ℕ) → length table ≤ most_states → All (λ v. v ≤ unit) table → sum_of table < 2 ^ 64
+pub sum-fits : (table : List ℕ) → length table ≤ most_states → All (λ v. v ≤ unit) table → sum_of table < 2 ^ 128
 sum-fits table few units = omega (arith, few, sum_by-le (λ (v : ℕ). v) unit table units)
 
 -- 3. Settled answers agree.

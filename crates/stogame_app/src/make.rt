@@ -105,7 +105,7 @@ fn write_summary(
     zero: &Marks,
     found: &Bracket,
 ) -> Result<Answer, OutOfMemory>
-    requires fits { (sum_of found.now.lower.items < 2 ^ 64) × (sum_of found.now.upper.items < 2 ^ 64) }
+    requires fits { (sum_of found.now.lower.items < 2 ^ 128) × (sum_of found.now.upper.items < 2 ^ 128) }
     ensures text { IfOk result (λ answer. answer.text.items ≡ summary_text make.now.seed make.now.states (count_by (λ marked. marked) zero.now) found.now.stable found.now.lower.items found.now.upper.items) }
     ensures status { IfOk result (λ answer. answer.status ≡ status_made found.now.stable) }
     ensures answer { IfOk result (λ answer. IsAnswer answer.status) }
@@ -123,7 +123,7 @@ fn write_summary(
 
 // The sums of both tables, where these are settled.
 fn ending(alloc: Global, found: &Bracket) -> Result<String, AllocError>
-    requires fits { (sum_of found.now.lower.items < 2 ^ 64) × (sum_of found.now.upper.items < 2 ^ 64) }
+    requires fits { (sum_of found.now.lower.items < 2 ^ 128) × (sum_of found.now.upper.items < 2 ^ 128) }
     ensures { IfOk result (λ end. string_bytes end ≡ ending found.now.stable found.now.lower.items found.now.upper.items) }
 {
     if found.stable {
@@ -135,12 +135,12 @@ fn ending(alloc: Global, found: &Bracket) -> Result<String, AllocError>
     }
 }
 
-// The sum of a table, in units; over all states it is at most 10^18.
-fn sum_of(table: &[u64]) -> u64
-    requires { sum_of table.now < 2 ^ 64 }
+// The sum of a table, in units; over all states it is at most 10^21.
+fn sum_of(table: &[u64]) -> u128
+    requires { sum_of table.now < 2 ^ 128 }
     ensures { result ≡ sum_of table.now }
 {
-    table.iter().map(|entry| *entry).sum()
+    table.iter().map(|entry| u128::from(*entry)).sum()
 }
 
 // All is well where both tables are settled.
