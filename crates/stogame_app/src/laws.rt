@@ -26,8 +26,8 @@ use rpatl_syntax::laws::{formulas_of_texts_are_spellable, spellings_have_one_rea
 use verdicts::laws::reports_have_one_reading;
 
 /// The question that texts and words pose, read one after another with the first refusal, is the one that they ask: that the
-/// texts denote a game, labels and owners, and the formula poses the question of these. So a refusal is said exactly where no
-/// question is asked, and every text is there.
+/// texts denote a game, labels and owners, and the formula poses the question of these. So where no question is asked, what
+/// is said is the first refusal, or that a text is not held.
 pub fn questions_are_what_is_asked()
     ensures { (sources : Sources) (asked : Asked) (posing : Posing) → (question_said sources asked ≡ Says posing) ↔ Asks sources asked posing }
 {}

@@ -1,4 +1,4 @@
-//! A round has as many workers as are asked for.
+//! The first round has as many workers as are asked for.
 
 use crate::cases::MOST_OF_AGREEMENT;
 use crate::rows::{Row, ends, runs, words};
