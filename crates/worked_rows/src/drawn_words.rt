@@ -4,7 +4,7 @@ use crate::draws::Draws;
 use crate::plain_reading::{PlainWords, plain_words};
 use crate::rows;
 use crate::words::coin_loop_files;
-use command_words::{AskedWords, CommandWords, read_words};
+use command_words::{AskedWords, AuditWords, CheckWords, CommandWords, read_words};
 use game_outside::{OpenGate, SteadyShelf, SteadySink};
 use std::alloc::Global;
 use std::process::Abort;
@@ -81,36 +81,67 @@ fn draw_list(
     Ok(list)
 }
 
-// Whether a question that was read is what the plain reading says.
-fn asks(asked: &AskedWords<'_>, plain: &PlainWords<'_>) -> bool {
-    match plain.places.as_slice() {
-        [tra, lab, formula, ..] => {
-            asked.tra == *tra
-                && asked.lab == *lab
-                && asked.formula == *formula
-                && asked.own == plain.own
-        }
-        _ => false,
+// Whether this word stands at a place.
+fn is_word(words: &[&str], place: usize, word: &str) -> bool {
+    match words.get(place) {
+        Some(found) => *found == word,
+        None => false,
     }
 }
 
+// Whether both name one file, or none.
+fn is_one_file(file: Option<&str>, other: Option<&str>) -> bool {
+    match file {
+        Some(name) => match other {
+            Some(same) => name == same,
+            None => false,
+        },
+        None => other.is_none(),
+    }
+}
+
+// Whether a question that was read is what the plain reading says.
+fn asks(asked: &AskedWords<'_>, plain: &PlainWords<'_>) -> bool {
+    let places = plain.places.as_slice();
+    is_word(places, 0, asked.tra)
+        && is_word(places, 1, asked.lab)
+        && is_word(places, 2, asked.formula)
+        && is_one_file(asked.own, plain.own)
+}
+
+// Whether a `check` that was read is what the plain reading says.
+fn says_check(check: &CheckWords<'_>, plain: &PlainWords<'_>) -> bool {
+    plain.name == "check"
+        && asks(&check.asked, plain)
+        && check.rounds == plain.rounds
+        && check.workers == plain.workers
+        && check.plan == plain.plan
+}
+
+// Whether an `audit` that was read is what the plain reading says.
+fn says_audit(audit: &AuditWords<'_>, plain: &PlainWords<'_>) -> bool {
+    plain.name == "audit"
+        && asks(&audit.asked, plain)
+        && is_word(plain.places.as_slice(), 3, audit.certificate)
+}
+
 // Whether a command that was read is what the plain reading says, in each of its words.
+fn says_command(command: &CommandWords<'_>, plain: &PlainWords<'_>) -> bool {
+    match command {
+        CommandWords::Check(check) => says_check(check, plain),
+        CommandWords::Audit(audit) => says_audit(audit, plain),
+        CommandWords::Make(_) | CommandWords::Sure(_) => false,
+    }
+}
+
+// Whether what was read is what the plain reading says: one command, or none.
 fn says(read: &Option<CommandWords<'_>>, plain: &Option<PlainWords<'_>>) -> bool {
-    match (read, plain) {
-        (None, None) => true,
-        (Some(CommandWords::Check(check)), Some(plain)) => {
-            plain.name == "check"
-                && asks(&check.asked, plain)
-                && check.rounds == plain.rounds
-                && check.workers == plain.workers
-                && check.plan == plain.plan
-        }
-        (Some(CommandWords::Audit(audit)), Some(plain)) => {
-            plain.name == "audit"
-                && asks(&audit.asked, plain)
-                && plain.places.last() == Some(&audit.certificate)
-        }
-        _ => false,
+    match read {
+        Some(command) => match plain {
+            Some(words) => says_command(command, words),
+            None => false,
+        },
+        None => plain.is_none(),
     }
 }
 
