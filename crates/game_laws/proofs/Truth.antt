@@ -1,36 +1,56 @@
--- What low and high tables say of a bound a/b.
-use Rattle.std.proofs.Common.{ℕ, ◌+◌, ◌*◌, ◌^◌, ◌<◌, ◌≤◌, length, arith, lit<}
-use Rattle.std.proofs.Math.Nat.{mul-le-mul_left, mul-le-mul_right, mul-lt-mul_of_pos_right, le_of_mul-le-mul_left, lt_of_mul-lt-mul_left, one-le-pow}
+-- What low, near and high tables say of a bound a/b.
+use Rattle.std.proofs.Common.{◌≡◌, ℕ, ◌+◌, ◌*◌, ◌^◌, ◌<◌, ◌≤◌, length, arith, ap, refl, inl, inr, lit<}
+use Rattle.std.proofs.lemmas.Bool.{cases_lt}
+use Rattle.std.proofs.Math.Nat.{mul-le-mul_left, mul-le-mul_right, le_of_mul-le-mul_left, one-le-pow}
 use Rattle.game_model.specs.Query.{Query, IsQuery}
 use Rattle.game_model.specs.Values.{denominator, numerator}
 use Rattle.game_model.specs.Limits.{unit}
-use Rattle.game_model.specs.Bounds.{IsLow, IsHigh, Reaches, Exceeds}
+use Rattle.game_model.specs.Bounds.{IsLow, IsNear, IsHigh, Reaches, Exceeds}
 use Rattle.game_model.proofs.Choices.{denominator-pos}
 
 -- the unit is positive
 unit-pos : 0 < unit
 unit-pos = lit< tt
 
-reached : (u a b v n d m : ℕ) → 0 < u → a * u ≤ v * b → v * d ≤ u * n → a * m * d ≤ b * (m * n + d)
-reached u a b v n d m positive bound low =
-    let whole : u * (a * m * d) ≤ u * (b * (m * n)) = omega (arith, mul-le-mul_right (m * d) bound, mul-le-mul_left (m * b) low) in
-    let cut : a * m * d ≤ b * (m * n) = le_of_mul-le-mul_left whole positive in
-    omega (arith, cut)
+near-reached : (u a b v n d m : ℕ) → 0 < u → a * u ≤ v * b → m * v * d ≤ u * (m * n + d) → a * m * d ≤ b * (m * n + d)
+near-reached u a b v n d m positive bound near =
+    let whole : u * (a * m * d) ≤ u * (b * (m * n + d)) = omega (arith, mul-le-mul_right (m * d) bound, mul-le-mul_left b near) in
+    le_of_mul-le-mul_left whole positive
 
--- a lower value that is at least the bound shows that it is reached
+-- a near value that is at least the bound shows that it is reached
+pub IsNear-reaches : (q : Query) (table : ℕ → ℕ) (a b s : ℕ) → IsNear q table → s < length q.game → a * unit ≤ table s * b → Reaches q a b s
+IsNear-reaches q table a b s near inside bound = λ m some.
+    let at = near m some in
+    (at.0, near-reached unit a b (table s) (numerator q at.0 s) (denominator q.game ^ at.0) m unit-pos bound (at.1 s inside))
+
+near-exceeded : (u a b v n d m : ℕ) → 0 < d → m ≡ b * u + 1 → a * u + 1 ≤ v * b → m * v * d ≤ u * (m * n + d) → a * d < b * n
+near-exceeded u a b v n d m positive is bound near = elim (cases_lt (a * d) (b * n)) [
+  | inl less ↦ less
+  | inr most ↦
+      let rest : m * d ≤ b * u * d = omega (arith, mul-le-mul_right (m * d) bound, mul-le-mul_left b near, mul-le-mul_left (u * m) most) in
+      let more : m * d ≡ (b * u + 1) * d = ap (λ x. x * d) is in
+      absurd (omega (arith, rest, more, positive))
+]
+
+-- a near value that is above the bound shows that it is exceeded
+pub IsNear-exceeds : (q : Query) (table : ℕ → ℕ) (a b s : ℕ) → IsQuery q → IsNear q table → s < length q.game → a * unit < table s * b → Exceeds q a b s
+IsNear-exceeds q table a b s h near inside bound =
+    let m : ℕ = b * unit + 1 in
+    let at = near m (omega arith) in
+    (at.0, near-exceeded unit a b (table s) (numerator q at.0 s) (denominator q.game ^ at.0) m (one-le-pow at.0 (denominator q.game) (denominator-pos q.game h.game)) refl (omega (arith, bound)) (at.1 s inside))
+
+low-near : (m v d u n : ℕ) → v * d ≤ u * n → m * v * d ≤ u * (m * n + d)
+low-near m v d u n low = omega (arith, mul-le-mul_left m low)
+
+-- a low table is near: its one horizon serves each m
+pub IsLow-near : (q : Query) (table : ℕ → ℕ) → IsLow q table → IsNear q table
+IsLow-near q table low = λ m some. (low.horizon, λ s inside. low-near m (table s) (denominator q.game ^ low.horizon) unit (numerator q low.horizon s) (low.below s inside))
+
 pub IsLow-reaches : (q : Query) (table : ℕ → ℕ) (a b s : ℕ) → IsLow q table → s < length q.game → a * unit ≤ table s * b → Reaches q a b s
-IsLow-reaches q table a b s low inside bound = λ m some. (low.horizon, reached unit a b (table s) (numerator q low.horizon s) (denominator q.game ^ low.horizon) m unit-pos bound (low.below s inside))
+IsLow-reaches q table a b s low = IsNear-reaches q table a b s (IsLow-near q table low)
 
-exceeded : (u a b v n d : ℕ) → 0 < d → a * u < v * b → v * d ≤ u * n → a * d < b * n
-exceeded u a b v n d positive bound low =
-    let more : a * u * d < v * b * d = mul-lt-mul_of_pos_right bound positive in
-    let whole : u * (a * d) < u * (b * n) = omega (arith, more, mul-le-mul_left b low) in
-    lt_of_mul-lt-mul_left u whole
-
--- a lower value that is above the bound shows that it is exceeded
 pub IsLow-exceeds : (q : Query) (table : ℕ → ℕ) (a b s : ℕ) → IsQuery q → IsLow q table → s < length q.game → a * unit < table s * b → Exceeds q a b s
-IsLow-exceeds q table a b s h low inside bound =
-    (low.horizon, exceeded unit a b (table s) (numerator q low.horizon s) (denominator q.game ^ low.horizon) (one-le-pow low.horizon (denominator q.game) (denominator-pos q.game h.game)) bound (low.below s inside))
+IsLow-exceeds q table a b s h low = IsNear-exceeds q table a b s h (IsLow-near q table low)
 
 not-exceeded : (top a b u n d : ℕ) → 0 < top → u * b ≤ a * top → top * n ≤ u * d → b * n ≤ a * d
 not-exceeded top a b u n d some bound high =

@@ -5,7 +5,7 @@ ghost use Rattle.game_model.specs.Query.{Query, IsQuery, states};
 ghost use Rattle.game_model.specs.Values.{denominator, numerator};
 ghost use Rattle.game_model.specs.Limits.{unit};
 ghost use Rattle.game_model.specs.Rounded.{down_step, down_steps, opening, IsBelow, IsSettled, IsInductive};
-ghost use Rattle.game_model.specs.Bounds.{IsLow, IsHigh, Reaches, Exceeds};
+ghost use Rattle.game_model.specs.Bounds.{IsLow, IsNear, IsHigh, Reaches, Exceeds};
 ghost use Rattle.game_model.specs.Dual.{open_numerator, swapped, IsZeroSet};
 ghost use Rattle.game_model.specs.Plans.{numerator_under};
 ghost use Rattle.game_model.specs.declared.game.Side.TheVariants.{Max};
@@ -69,6 +69,21 @@ pub fn low_tables_are_reached()
 /// A lower value that is above a bound shows that some value exceeds the bound.
 pub fn low_tables_are_exceeded()
     ensures { (q : Query) (table : ℕ → ℕ) (a b s : ℕ) → IsQuery q → IsLow q table → s < states q → a * unit < table s * b → Exceeds q a b s }
+{}
+
+/// A value that k-step values come near, and that is at least a bound, shows that the values reach the bound.
+pub fn near_tables_are_reached()
+    ensures { (q : Query) (table : ℕ → ℕ) (a b s : ℕ) → IsNear q table → s < states q → a * unit ≤ table s * b → Reaches q a b s }
+{}
+
+/// A value that k-step values come near, and that is above a bound, shows that some value exceeds the bound.
+pub fn near_tables_are_exceeded()
+    ensures { (q : Query) (table : ℕ → ℕ) (a b s : ℕ) → IsQuery q → IsNear q table → s < states q → a * unit < table s * b → Exceeds q a b s }
+{}
+
+/// A low table is one that k-step values come near.
+pub fn low_tables_are_near()
+    ensures { (q : Query) (table : ℕ → ℕ) → IsLow q table → IsNear q table }
 {}
 
 /// An upper value that is at most a bound shows that no value exceeds the bound.

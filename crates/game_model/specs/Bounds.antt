@@ -9,6 +9,11 @@ pub record IsLow (q : Query) (table : ℕ → ℕ) : Type 0 where
   pub horizon : ℕ
   pub below : (s : ℕ) → s < length q.game → table s * denominator q.game ^ horizon ≤ unit * numerator q horizon s
 
+-- k-step values come as near to the table as one likes, at all states at once
+abbrev pub IsNear : Query → (ℕ → ℕ) → Type 0
+IsNear q table = (m : ℕ) → 1 ≤ m → (k : ℕ) × ((s : ℕ) → s < length q.game →
+    m * table s * denominator q.game ^ k ≤ unit * (m * numerator q k s + denominator q.game ^ k))
+
 -- every k-step value is at most its entry
 abbrev pub IsHigh : Query → (ℕ → ℕ) → Type 0
 IsHigh q table = (k s : ℕ) → s < length q.game → unit * numerator q k s ≤ table s * denominator q.game ^ k
