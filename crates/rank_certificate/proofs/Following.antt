@@ -15,7 +15,7 @@ use Rattle.rank_certificate.specs.Growing.{IsLow, IsFollowed, Waits, IsRanking, 
 use Rattle.rank_certificate.proofs.Moving.{low-rank, low-within, Ranking-waits, moved, moved-on}
 
 -- an edge of a choice leads where it says
-edge-leads : (game : List (List Distribution)) (s c p : ℕ) → s < length game → c < length (choices_of game s) → p < length (choice_of game s c).edges → LeadsTo game s c (slice_index_or (choice_of game s c).edges p no_edge).to
+pub edge-leads : (game : List (List Distribution)) (s c p : ℕ) → s < length game → c < length (choices_of game s) → p < length (choice_of game s c).edges → LeadsTo game s c (slice_index_or (choice_of game s c).edges p no_edge).to
 edge-leads game s c p ls lc lp = record {
   state = ls;
   choice = lc;
@@ -39,7 +39,7 @@ low-inside ranks level s low = elim (cases_lt s (length ranks)) [
 ]
 
 -- an entry, whatever stands for one that is missing
-same-entry : (xs : List ℕ) (k d : ℕ) → k < length xs → slice_index xs k ≡ slice_index_or xs k d
+pub same-entry : (xs : List ℕ) (k d : ℕ) → k < length xs → slice_index xs k ≡ slice_index_or xs k d
 same-entry [] k d l = absurd (omega arith)
 same-entry (x ∷ xs) zero d l = refl
 same-entry (x ∷ xs) (suc k) d l = same-entry xs k d (omega arith)

@@ -77,7 +77,7 @@ pub fn check_ranks(
 }
 
 /// The first state whose entry is above the unit.
-fn first_over(values: &[u64]) -> Option<u32>
+pub fn first_over(values: &[u64]) -> Option<u32>
     requires { length values.now ≤ most_states }
     ensures { MatchOption result (All (λ v. v ≤ unit) values.now) (IsFirstOver values.now) }
 {

@@ -1,11 +1,18 @@
 //! Laws of ranked tables. No function here does anything: its contract is the law.
 
-ghost use Rattle.std.specs.Prelude.{◌≡◌, ℕ, List, Option, slice_index};
-ghost use Rattle.game_model.specs.Query.{Query, IsQuery};
+ghost use Rattle.std.specs.Prelude.{◌≡◌, ℕ, ◌<◌, true, List, Bool, Option, None, length, slice_index, slice_index_or};
+ghost use Rattle.game_model.specs.declared.game.Side.TheVariants.{Min};
+ghost use Rattle.game_model.specs.Query.{Query, IsQuery, states, is_goal, is_dead, side_at};
+ghost use Rattle.game_model.specs.Bounds.{IsNear};
 ghost use Rattle.game_model.specs.Ranks.{Ranked, ReachesUnder};
 ghost use Rattle.rank_certificate.specs.declared.check.RankCause.{RankCause};
 ghost use Rattle.rank_certificate.specs.Faults.{IsRankFault};
+ghost use Rattle.rank_certificate.specs.Layers.{AreLayered};
+ghost use Rattle.rank_certificate.specs.Carrying.{IsLayeredPlan};
+ghost use Rattle.rank_certificate.specs.LowerGuess.{last_place, most_steps, IsLowerGuess};
 
+use crate::guess::LAST_PLACE;
+use crate::guesses::MOST_STEPS;
 use game_model::Question;
 
 /// Where values, choices and ranks go together, the plan of the choices reaches the values, less any 1/m, at
@@ -25,6 +32,70 @@ pub fn rank_faults_are_one()
 pub fn ranks_reach(question: &Question, values: &[u64], choices: &[Option<u32>], ranks: &[u32])
     requires { Ranked question.now values.now choices.now ranks.now }
     ensures { ReachesUnder question.now choices.now (slice_index values.now) }
+{
+    question.known();
+}
+
+/// Where values, choices and ranks go together, k-step values come as near to the values as one likes, at all
+/// states at once.
+pub fn ranked_values_are_near()
+    ensures { (q : Query) (values : List ℕ) (choices : List (Option ℕ)) (ranks : List ℕ) →
+        IsQuery q → Ranked q values choices ranks → IsNear q (slice_index values) }
+{}
+
+/// There is one lower guess of a table and choices: it does not depend on which tables were made, nor on the order of
+/// the search.
+pub fn one_lower_guess()
+    ensures { (q : Query) (marks : List Bool) (base : List ℕ) (given : List (Option ℕ)) (values other : List ℕ) (choices others : List (Option ℕ)) (ranks alike : List ℕ) →
+        IsLowerGuess q marks base given values choices ranks → IsLowerGuess q marks base given other others alike → (values ≡ other) × (choices ≡ others) × (ranks ≡ alike) }
+{}
+
+/// The values of a lower guess do not depend on the choices that were handed in.
+pub fn one_lower_table()
+    ensures { (q : Query) (marks : List Bool) (base : List ℕ) (given instead : List (Option ℕ)) (values other : List ℕ) (choices others : List (Option ℕ)) (ranks alike : List ℕ) →
+        IsLowerGuess q marks base given values choices ranks → IsLowerGuess q marks base instead other others alike → values ≡ other }
+{}
+
+/// The limits of the code are those of the definitions.
+pub fn guess_limits()
+    ensures place { LAST_PLACE ≡ last_place }
+    ensures steps { MOST_STEPS ≡ most_steps }
+{}
+
+/// Ranked values of a program's own question are near.
+pub fn ranked_is_near(question: &Question, values: &[u64], choices: &[Option<u32>], ranks: &[u32])
+    requires { Ranked question.now values.now choices.now ranks.now }
+    ensures { IsNear question.now (slice_index values.now) }
+{
+    question.known();
+}
+
+/// The ranks of a layered plan are the layered ranks of its values and choices, as [`crate::find_ranks`] gives them.
+pub fn layered_plans_are_layered(
+    question: &Question,
+    values: &[u64],
+    choices: &[Option<u32>],
+    ranks: &[u32],
+)
+    requires { IsLayeredPlan question.now values.now choices.now ranks.now }
+    ensures { AreLayered question.now values.now choices.now ranks.now }
+{
+    question.known();
+}
+
+/// A layered plan has no choice at a goal, at a dead state, at a state of the minimiser and at one of value 0.
+pub fn layered_plans_choose(
+    question: &Question,
+    values: &[u64],
+    choices: &[Option<u32>],
+    ranks: &[u32],
+)
+    requires { IsLayeredPlan question.now values.now choices.now ranks.now }
+    ensures as_many { length choices.now ≡ states question.now }
+    ensures none_at_goals { (s : ℕ) → s < states question.now → is_goal question.now s ≡ true → slice_index_or choices.now s None ≡ None }
+    ensures none_at_deads { (s : ℕ) → s < states question.now → is_dead question.now s ≡ true → slice_index_or choices.now s None ≡ None }
+    ensures none_at_least { (s : ℕ) → s < states question.now → side_at question.now s ≡ Min → slice_index_or choices.now s None ≡ None }
+    ensures none_at_zero { (s : ℕ) → s < states question.now → slice_index values.now s ≡ 0 → slice_index_or choices.now s None ≡ None }
 {
     question.known();
 }

@@ -8,16 +8,31 @@
 //! Winkler and Zilken, Fixed point certificates for reachability and expected rewards in MDPs, TACAS 2025). The
 //! check takes no memory. [`find_ranks`] gives the least such ranks, layer by layer, where there are any.
 //! [`find_ranks_over`] does so over lists of predecessors that the caller has.
+//!
+//! [`rank_table`] finds choices and ranks for values alone, or shows that there are none at all. [`lower_guess`]
+//! raises a lower table by a few units where some choices and ranks vouch for the raised one. So a value is found
+//! that rounded steps come near to and never reach. This is guess and verify, as optimistic value iteration does
+//! it for upper tables (Hartmanns and Kaminski, Optimistic value iteration, CAV 2020).
 #![tactic(auto)]
 
+mod carrying;
 mod check;
 mod choice;
 mod find;
+mod growth;
+mod guess;
+mod guesses;
 pub mod laws;
 mod layers;
+mod local;
 mod met;
+mod table;
 #[cfg(test)]
 mod tests;
+#[cfg(test)]
+mod tests_of_guesses;
 
 pub use check::{RankCause, RankFault, check_ranks};
 pub use find::{find_ranks, find_ranks_over};
+pub use guess::{LowerGuess, lower_guess, lower_guess_over};
+pub use table::{RankPlan, rank_table, rank_table_over};

@@ -99,7 +99,7 @@ fn next_unmet(
 }
 
 /// Whether a choice has a successor of greater value, or of equal value and a rank found.
-fn leads_low(
+pub fn leads_low(
     question: &Question,
     values: &[u64],
     ranks: &[Option<u32>],

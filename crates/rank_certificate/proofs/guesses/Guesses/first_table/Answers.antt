@@ -1,0 +1,11 @@
+use Rattle.std.proofs.Common.{rules}
+use Rattle.rank_certificate.specs.LowerGuess.{IsTable}
+use Rattle.rank_certificate.specs.OfGuesses.{first_entry_of}
+use Rattle.rank_certificate.proofs.Refused.{IsTable-first}
+use Rattle.rank_certificate.proofs.guesses.Guesses.first_table.Goals as goal
+
+pub returns : goal.returns
+returns c =
+    let g = c.args.self.now in
+    let first : IsTable g.question.now (first_entry_of g) c.loop-state.table.items = search rules in
+    IsTable-first _ _ _ _ g.posed _ first

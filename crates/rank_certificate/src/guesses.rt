@@ -1,0 +1,170 @@
+//! The raised tables of one excess.
+
+ghost use Rattle.std.specs.Prelude.{◌≡◌, ℕ, ◌<◌, ◌≤◌, ◌↔◌, length, slice_index, All, IfOk, IsTrue};
+ghost use Rattle.game_model.specs.Query.{IsQuery, states};
+ghost use Rattle.game_model.specs.Limits.{unit};
+ghost use Rattle.rank_certificate.specs.LowerGuess.{lesser_step, IsTable};
+
+use crate::guess::LowerGuess;
+use crate::table::rank_standing;
+use fixed_bellman::down_state;
+use game_model::{Marks, Question, UNIT};
+use game_outside::OutOfMemory;
+use predecessors::Predecessors;
+use std::alloc::Global;
+
+/// The most steps down of one excess.
+pub const MOST_STEPS: u32 = 4;
+
+/// What the tables of one excess are made from: a question, its zero set, a lower table and the excess.
+#[derive(Drop)]
+pub struct Guesses<'a> {
+    pub question: &'a Question<'a>,
+    pub zero: &'a Marks,
+    pub base: &'a [u64],
+    pub excess: u64,
+    ghost posed: { IsQuery question.now },
+    ghost marked: { length zero.now ≡ states question.now },
+    ghost many: { length base.now ≡ states question.now },
+    ghost units: { All (λ v. v ≤ unit) base.now },
+    ghost small: { excess ≤ 4 },
+}
+
+impl Guesses<'_> {
+    ghost use Rattle.std.specs.Prelude.{IfSome, MatchOption};
+    ghost use Rattle.game_model.specs.Ranks.{Ranked};
+    ghost use Rattle.predecessors.specs.Lists.{ArePredecessors};
+    ghost use Rattle.rank_certificate.specs.Carrying.{IsLayeredPlan, Stands};
+    ghost use Rattle.rank_certificate.specs.LowerGuess.{most_steps};
+    ghost use Rattle.rank_certificate.specs.OfGuesses.{first_entry_of, IsTableOf, IsRefusedOf, AreRefusedOf, IsFirstOf};
+
+    /// The first of the tables of this excess that can be ranked, with its plan; none where each is refused. A table that is
+    /// seen to be refused at some state is not made. Where no state of a table falls, all later ones are the same,
+    /// and the search for ranks decides.
+    pub fn first_ranked(
+        &self,
+        alloc: Global,
+        predecessors: &Predecessors,
+    ) -> Result<Option<LowerGuess>, OutOfMemory>
+        requires { ArePredecessors self.now.question.now.game predecessors.now }
+        ensures found { IfOk result (λ found. MatchOption found (AreRefusedOf self.now) (λ g. IsFirstOf self.now g.values.items)) }
+        ensures plan { IfOk result (λ found. IfSome found (λ g. IsLayeredPlan self.now.question.now g.values.items g.plan.choices.items g.plan.ranks.items)) }
+        ensures ranked { IfOk result (λ found. IfSome found (λ g. Ranked self.now.question.now g.values.items g.plan.choices.items g.plan.ranks.items)) }
+    {
+        let mut made = None;
+        for steps in 0..MOST_STEPS + 1 {
+            if self.refuses(steps) {
+                continue;
+            }
+            let table = self.table_after(alloc, steps, made)?;
+            let next = lesser_table(alloc, self.question, &table)?;
+            if is_same(&next, &table) {
+                return self.rank(alloc, steps, table, predecessors);
+            }
+            made = Some((next, steps + 1));
+        }
+        Ok(None)
+    }
+
+    /// A table after so many steps down, of which no state falls, with its plan; none where it is refused, and
+    /// so each later one.
+    fn rank(
+        &self,
+        alloc: Global,
+        steps: u32,
+        table: Vec<u64>,
+        predecessors: &Predecessors,
+    ) -> Result<Option<LowerGuess>, OutOfMemory>
+        requires lists { ArePredecessors self.now.question.now.game predecessors.now }
+        requires few { steps ≤ most_steps }
+        requires table { IsTableOf self.now steps table.items }
+        requires stand { (s : ℕ) → s < states self.now.question.now → Stands self.now.question.now (slice_index table.items) s }
+        requires refused { (j : ℕ) → j < steps → IsRefusedOf self.now j }
+        ensures found { IfOk result (λ found. MatchOption found (AreRefusedOf self.now) (λ g. IsFirstOf self.now g.values.items)) }
+        ensures plan { IfOk result (λ found. IfSome found (λ g. IsLayeredPlan self.now.question.now g.values.items g.plan.choices.items g.plan.ranks.items)) }
+        ensures ranked { IfOk result (λ found. IfSome found (λ g. Ranked self.now.question.now g.values.items g.plan.choices.items g.plan.ranks.items)) }
+    {
+        let Some(plan) = rank_standing(alloc, self.question, &table, predecessors)? else {
+            return Ok(None);
+        };
+        Ok(Some(LowerGuess {
+            values: table,
+            plan,
+        }))
+    }
+
+    /// The table after so many steps down, from one that was made, if any, after fewer.
+    fn table_after(
+        &self,
+        alloc: Global,
+        steps: u32,
+        made: Option<(Vec<u64>, u32)>,
+    ) -> Result<Vec<u64>, OutOfMemory>
+        requires { IfSome made (λ m. IsTableOf self.now m.1 m.0.items × (m.1 ≤ steps)) }
+        ensures { IfOk result (λ table. IsTableOf self.now steps table.items) }
+    {
+        let (mut table, at) = match made {
+            Some(made) => made,
+            None => (self.first_table(alloc)?, 0),
+        };
+        for _step in at..steps {
+            table = lesser_table(alloc, self.question, &table)?;
+        }
+        Ok(table)
+    }
+
+    /// The table before any step down.
+    fn first_table(&self, alloc: Global) -> Result<Vec<u64>, OutOfMemory>
+        ensures { IfOk result (λ table. IsTableOf self.now 0 table.items) }
+    {
+        let states = self.question.game().states();
+        let mut table = Vec::with_capacity(alloc, states as usize)?;
+        for state in 0..states {
+            table.push(self.first_entry(state))?;
+        }
+        Ok(table)
+    }
+
+    /// The entry of that table at a state.
+    pub fn first_entry(&self, state: u32) -> u64
+        requires { state < states self.now.question.now }
+        ensures value { result ≡ first_entry_of self.now state }
+        ensures units { result ≤ unit }
+    {
+        if self.question.is_goal(state) {
+            return UNIT;
+        }
+        if self.zero.has(state) {
+            return 0;
+        }
+        UNIT.min(self.base[state as usize] + self.excess)
+    }
+}
+
+/// The lesser of a table and of its down step, at each state.
+fn lesser_table(alloc: Global, question: &Question, table: &[u64]) -> Result<Vec<u64>, OutOfMemory>
+    requires length { length table.now ≡ states question.now }
+    requires units { All (λ v. v ≤ unit) table.now }
+    ensures { IfOk result (λ next. IsTable question.now (lesser_step question.now (slice_index table.now)) next.items) }
+{
+    let states = question.game().states();
+    let mut next = Vec::with_capacity(alloc, states as usize)?;
+    for state in 0..states {
+        let step = down_state(question, state, table).0;
+        next.push(step.min(table[state as usize]))?;
+    }
+    Ok(next)
+}
+
+/// Whether two tables have the same entries.
+fn is_same(one: &[u64], other: &[u64]) -> bool
+    requires { length one.now ≡ length other.now }
+    ensures { IsTrue result ↔ ((s : ℕ) → s < length one.now → slice_index one.now s ≡ slice_index other.now s) }
+{
+    for state in 0..one.len() {
+        if one[state] != other[state] {
+            return false;
+        }
+    }
+    true
+}

@@ -1,0 +1,166 @@
+//! The plan that makes values ranked.
+
+ghost use Rattle.std.specs.Prelude.{◌≡◌, ℕ, ◌<◌, ◌≤◌, ◌↔◌, length, slice_index, slice_index_or, All, Some, None, IfOk, IfSome, IsTrue, MatchOption};
+ghost use Rattle.game_model.specs.Query.{states};
+ghost use Rattle.game_model.specs.Limits.{unit};
+ghost use Rattle.game_model.specs.Ranks.{Ranked};
+ghost use Rattle.predecessors.specs.Lists.{ArePredecessors};
+ghost use Rattle.rank_certificate.specs.Carrying.{CanBeRanked, IsLayeredPlan, Stands};
+ghost use Rattle.rank_certificate.specs.Growth.{IsGrown};
+
+use crate::check::first_over;
+use crate::growth::Growth;
+use fixed_bellman::down_state;
+use game_model::{Question, UNIT};
+use game_outside::OutOfMemory;
+use predecessors::Predecessors;
+use std::alloc::Global;
+
+/// Choices and ranks, one of each a state.
+#[derive(Drop)]
+pub struct RankPlan {
+    /// The choice of each state of the maximiser that has a positive value and is no goal; none at other states.
+    pub choices: Vec<Option<u32>>,
+    /// The ranks.
+    pub ranks: Vec<u32>,
+}
+
+/// The plan that makes values in units ranked ([`crate::check_ranks`]), with the least ranks; none exactly where no
+/// choices and ranks at all do. A rank is 0 at goals, dead states and states of value 0. Elsewhere it is the
+/// least number from 1 up such that some choice of the maximiser, or every choice of the minimiser, gives the
+/// value and has a successor of greater value, or one of equal value and smaller rank. The maximiser takes the
+/// first such choice there, and has none elsewhere. A state whose down step is below its value refuses the
+/// values at once. Else the search goes backward from the states of rank 0: it looks at a state again only when
+/// a successor got a rank. The time is no part of the contract. The only error is want of memory.
+pub fn rank_table(
+    alloc: Global,
+    question: &Question,
+    values: &[u64],
+) -> Result<Option<RankPlan>, OutOfMemory>
+    requires { length values.now ≡ states question.now }
+    ensures found { IfOk result (λ found. MatchOption found (¬ CanBeRanked question.now values.now)
+        (λ plan. IsLayeredPlan question.now values.now plan.choices.items plan.ranks.items)) }
+    ensures ranked { IfOk result (λ found. IfSome found (λ plan. Ranked question.now values.now plan.choices.items plan.ranks.items)) }
+{
+    let predecessors = Predecessors::of_game(alloc, question.game())?;
+    rank_table_over(alloc, question, values, &predecessors)
+}
+
+/// The plan of [`rank_table`], over the predecessors in the question's game, for a caller that has these lists. The
+/// only error is want of memory.
+pub fn rank_table_over(
+    alloc: Global,
+    question: &Question,
+    values: &[u64],
+    predecessors: &Predecessors,
+) -> Result<Option<RankPlan>, OutOfMemory>
+    requires values { length values.now ≡ states question.now }
+    requires lists { ArePredecessors question.now.game predecessors.now }
+    ensures found { IfOk result (λ found. MatchOption found (¬ CanBeRanked question.now values.now)
+        (λ plan. IsLayeredPlan question.now values.now plan.choices.items plan.ranks.items)) }
+    ensures ranked { IfOk result (λ found. IfSome found (λ plan. Ranked question.now values.now plan.choices.items plan.ranks.items)) }
+{
+    question.known();
+    if let Some(_over) = first_over(values) {
+        return Ok(None);
+    }
+    if !all_stand(question, values) {
+        return Ok(None);
+    }
+    rank_standing(alloc, question, values, predecessors)
+}
+
+/// The plan for values that no state refuses at sight.
+pub fn rank_standing(
+    alloc: Global,
+    question: &Question,
+    values: &[u64],
+    predecessors: &Predecessors,
+) -> Result<Option<RankPlan>, OutOfMemory>
+    requires values { length values.now ≡ states question.now }
+    requires units { All (λ v. v ≤ unit) values.now }
+    requires lists { ArePredecessors question.now.game predecessors.now }
+    requires stand { (s : ℕ) → s < states question.now → Stands question.now (slice_index values.now) s }
+    ensures found { IfOk result (λ found. MatchOption found (¬ CanBeRanked question.now values.now)
+        (λ plan. IsLayeredPlan question.now values.now plan.choices.items plan.ranks.items)) }
+    ensures ranked { IfOk result (λ found. IfSome found (λ plan. Ranked question.now values.now plan.choices.items plan.ranks.items)) }
+{
+    question.known();
+    let growth = whole_growth(alloc, question, values, predecessors)?;
+    let Some(ranks) = all_ranks(alloc, &growth.ranks)? else {
+        return Ok(None);
+    };
+    Ok(Some(RankPlan {
+        choices: growth.choices,
+        ranks,
+    }))
+}
+
+/// The ranks of all layers, and the choices for them.
+fn whole_growth(
+    alloc: Global,
+    question: &Question,
+    values: &[u64],
+    predecessors: &Predecessors,
+) -> Result<Growth, OutOfMemory>
+    requires values { length values.now ≡ states question.now }
+    requires units { All (λ v. v ≤ unit) values.now }
+    requires lists { ArePredecessors question.now.game predecessors.now }
+    ensures { IfOk result (λ g. IsGrown question.now (slice_index values.now) g.ranks.items g.choices.items) }
+{
+    question.known();
+    let mut growth = Growth::of_unneeded(alloc, question, values)?;
+    let mut begin = growth.order.len();
+    growth.start(question, values)?;
+    let mut level: u32 = 1;
+    while begin < growth.order.len() {
+        let end = growth.order.len();
+        growth.spread(question, values, predecessors, level, begin, end)?;
+        begin = end;
+        level += 1;
+    }
+    Ok(growth)
+}
+
+/// The ranks as numbers; none where a state has none.
+fn all_ranks(alloc: Global, ranks: &[Option<u32>]) -> Result<Option<Vec<u32>>, OutOfMemory>
+    ensures { IfOk result (λ found. MatchOption found ((s : ℕ) × (s < length ranks.now) × (slice_index_or ranks.now s None ≡ None))
+        (λ numbers. (length numbers.items ≡ length ranks.now) × ((s : ℕ) → s < length ranks.now → slice_index_or ranks.now s None ≡ Some (slice_index numbers.items s)))) }
+{
+    let mut numbers = Vec::with_capacity(alloc, ranks.len())?;
+    for rank in ranks {
+        let Some(rank) = *rank else {
+            return Ok(None);
+        };
+        numbers.push(rank)?;
+    }
+    Ok(Some(numbers))
+}
+
+/// Whether no state refuses the values at sight.
+fn all_stand(question: &Question, values: &[u64]) -> bool
+    requires values { length values.now ≡ states question.now }
+    requires units { All (λ v. v ≤ unit) values.now }
+    ensures { IsTrue result ↔ ((s : ℕ) → s < states question.now → Stands question.now (slice_index values.now) s) }
+{
+    for state in 0..question.game().states() {
+        if !stands(question, values, state) {
+            return false;
+        }
+    }
+    true
+}
+
+/// Whether a state does not refuse them.
+fn stands(question: &Question, values: &[u64], state: u32) -> bool
+    requires values { length values.now ≡ states question.now }
+    requires units { All (λ v. v ≤ unit) values.now }
+    requires state { state < states question.now }
+    ensures { IsTrue result ↔ Stands question.now (slice_index values.now) state }
+{
+    let value = values[state as usize];
+    if question.is_goal(state) {
+        return value == UNIT;
+    }
+    value <= down_state(question, state, values).0
+}
