@@ -1,0 +1,11 @@
+use Rattle.std.proofs.Common.{◌≡◌, length}
+use Rattle.trap_sets.specs.OfInner.{states_of, IsPlacingOf}
+use Rattle.trap_sets.specs.Searching.{AreSpent}
+use Rattle.trap_sets.proofs.classes.place_in_order.Given as goal
+
+abbrev pub invariant-loop-left : goal.invariant-loop-left
+invariant-loop-left l = record {
+  many : length l.seen ≡ states_of l.inner;
+  placing : IsPlacingOf l.inner l.class;
+  spent : AreSpent l.class l.seen;
+}

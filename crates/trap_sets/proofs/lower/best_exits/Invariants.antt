@@ -1,0 +1,10 @@
+use Rattle.std.proofs.Common.{◌≡◌, ◌+◌, length}
+use Rattle.std.specs.Prelude.{slice_index}
+use Rattle.trap_sets.specs.Exits.{IsBestBefore}
+use Rattle.trap_sets.proofs.lower.best_exits.Given as goal
+
+abbrev pub invariant-loop-state : goal.invariant-loop-state
+invariant-loop-state l = record {
+  many : length l.exits.items ≡ l.sets.count + 1;
+  best : IsBestBefore l.question (slice_index l.upper) l.sets.of.items l.exits.items l.state 0;
+}

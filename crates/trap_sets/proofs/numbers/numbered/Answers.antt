@@ -1,0 +1,24 @@
+use Rattle.std.proofs.Common.{◌≡◌, ℕ, zero, suc, List, length, replicate, rules, refl, sym, ◌∙◌, subst}
+use Rattle.std.specs.Prelude.{slice_index}
+use Rattle.std.proofs.lemmas.List.{length-replicate}
+use Rattle.trap_sets.specs.Numbering.{IsNumbering}
+use Rattle.trap_sets.proofs.Numbering.{IsNumbering-none}
+use Rattle.trap_sets.proofs.Trapping.{AreTraps-numbering}
+use Rattle.trap_sets.proofs.numbers.numbered.Goals as goal
+
+zero-at : (n p : ℕ) → slice_index (replicate n 0) p ≡ 0
+zero-at zero p = refl
+zero-at (suc n) zero = refl
+zero-at (suc n) (suc p) = zero-at n p
+
+pub number_all-requires-clause-none : goal.number_all-requires-clause-none
+number_all-requires-clause-none c =
+    let part = c.args.part.now in
+    let zeros : c.in_ok-names.names.items ≡ replicate (length part) 0 = search rules in
+    let names : c.deref_mut.result.now ≡ replicate (length part) 0 = c.deref_mut.ensures.value ∙ zeros in
+    subst (λ (xs : List ℕ). IsNumbering part xs c.new-of.result.items 0 0) (sym names)
+    (subst (λ (ys : List ℕ). IsNumbering part (replicate (length part) 0) ys 0 0) (sym c.new-of.ensures.items)
+    (IsNumbering-none part (replicate (length part) 0) (length-replicate (length part) 0) (zero-at (length part))))
+
+pub returns : goal.returns
+returns c = AreTraps-numbering c.args.cut.now.question.now c.args.cut.now.replies.now c.args.part.now c.number_all.new.names c.number_all.new.of.items (length c.args.part.now) c.in_ok-count.count c.known.ensures c.requires.keeps.many c.requires c.in_ok-count.ensures

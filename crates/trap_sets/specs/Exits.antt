@@ -1,0 +1,34 @@
+-- The ways out of a set of states, and the best of them over a table.
+use Rattle.std.specs.Prelude.{◌≡◌, ℕ, ◌<◌, ◌≤◌, ◌⊎◌, Bool, true, false, List, length, slice_index}
+use Rattle.game_model.specs.declared.game.Side.TheVariants.{Max}
+use Rattle.game_model.specs.Game.{choices_of, choice_of}
+use Rattle.game_model.specs.Query.{Query, states, side_at}
+use Rattle.game_model.specs.Rounded.{up_value}
+use Rattle.trap_sets.specs.Ends.{Leads, numbered}
+
+-- a choice of a state of the maximiser in the set that has a successor outside it
+pub record IsExit (q : Query) (set : ℕ → Bool) (s c : ℕ) : Type 0 where
+  pub state : s < states q
+  pub member : set s ≡ true
+  pub greatest : side_at q s ≡ Max
+  pub choice : c < length (choices_of q.game s)
+  pub leaves : (t : ℕ) × Leads q s c t × (set t ≡ false)
+
+-- an exit has this up value
+abbrev pub GivesExit : Query → (ℕ → ℕ) → (ℕ → Bool) → ℕ → Type 0
+GivesExit q table set value = (s : ℕ) × (c : ℕ) × IsExit q set s c × (up_value table (choice_of q.game s c) ≡ value)
+
+-- the greatest up value of an exit; 0 where there is none
+pub record IsBestExit (q : Query) (table : ℕ → ℕ) (set : ℕ → Bool) (value : ℕ) : Type 0 where
+  pub most : (s c : ℕ) → IsExit q set s c → up_value table (choice_of q.game s c) ≤ value
+  pub given : (value ≡ 0) ⊎ GivesExit q table set value
+
+-- of the exits of states before this one, and of earlier choices of this one, the greatest up values by number; 0 where there is none
+pub record IsBestBefore (q : Query) (table : ℕ → ℕ) (of exits : List ℕ) (state choice : ℕ) : Type 0 where
+  pub earlier : (i s c : ℕ) → 1 ≤ i → IsExit q (numbered of i) s c → s < state → up_value table (choice_of q.game s c) ≤ slice_index exits i
+  pub here : (i c : ℕ) → 1 ≤ i → IsExit q (numbered of i) state c → c < choice → up_value table (choice_of q.game state c) ≤ slice_index exits i
+  pub given : (i : ℕ) → (slice_index exits i ≡ 0) ⊎ GivesExit q table (numbered of i) (slice_index exits i)
+
+-- the best exit of each numbered set
+abbrev pub AreBestExits : Query → (ℕ → ℕ) → List ℕ → List ℕ → Type 0
+AreBestExits q table of exits = (i : ℕ) → 1 ≤ i → i < length exits → IsBestExit q table (numbered of i) (slice_index exits i)

@@ -1,0 +1,10 @@
+pub mod Ends
+pub mod Exits
+pub mod Lowered
+pub mod Parts
+pub mod Flags
+pub mod OfInner
+pub mod Searching
+pub mod Trimming
+pub mod Pairs
+pub mod Numbering

@@ -1,0 +1,35 @@
+-- The definitions, at the inner choices of a round.
+use Rattle.std.specs.Prelude.{ℕ, List}
+use Rattle.game_model.specs.Query.{states}
+use Rattle.predecessors.specs.Lists.{ArePredecessors}
+use Rattle.trap_sets.specs.declared.inner.Inner.{Inner}
+use Rattle.trap_sets.specs.Ends.{Leads}
+use Rattle.trap_sets.specs.Parts.{IsInner, IsStep, Comes, IsPlacing, AreClasses}
+
+abbrev pub states_of : Inner → ℕ
+states_of inner = states inner.cut.question.now
+
+-- the lists of the cut question are those of its game
+abbrev pub HasLists : Inner → Type 0
+HasLists inner = ArePredecessors inner.cut.question.now.game inner.cut.predecessors.now
+
+-- choice c of state s leads to state t
+abbrev pub LeadsOf : Inner → ℕ → ℕ → ℕ → Type 0
+LeadsOf inner = Leads inner.cut.question.now
+
+abbrev pub IsInnerOf : Inner → ℕ → ℕ → Type 0
+IsInnerOf inner = IsInner inner.cut.question.now inner.cut.replies.now inner.part.now
+
+-- an inner choice of the first state leads to the second
+abbrev pub IsStepOf : Inner → ℕ → ℕ → Type 0
+IsStepOf inner = IsStep inner.cut.question.now inner.cut.replies.now inner.part.now
+
+-- inner choices lead from the first state to the second
+abbrev pub ComesOf : Inner → ℕ → ℕ → Type 0
+ComesOf inner = Comes inner.cut.question.now inner.cut.replies.now inner.part.now
+
+abbrev pub IsPlacingOf : Inner → List ℕ → Type 0
+IsPlacingOf inner = IsPlacing inner.cut.question.now inner.cut.replies.now inner.part.now
+
+abbrev pub AreClassesOf : Inner → List ℕ → Type 0
+AreClassesOf inner = AreClasses inner.cut.question.now inner.cut.replies.now inner.part.now

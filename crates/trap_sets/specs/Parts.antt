@@ -1,0 +1,65 @@
+-- Parts of the states on the way to the traps: each end component lies in one.
+use Rattle.std.specs.Prelude.{◌≡◌, ◌≢◌, ℕ, ◌-◌, ◌<◌, Bool, true, List, length, slice_index, Option}
+use Rattle.game_model.specs.Query.{Query, states}
+use Rattle.fixed_bellman.specs.Given.{IsFree}
+use Rattle.trap_sets.specs.Ends.{IsCut, Leads, Reach, IsEndComponent}
+
+-- no successor of the choice has another number than its state
+abbrev pub Stays : Query → List ℕ → ℕ → ℕ → Type 0
+Stays q of s c = (t : ℕ) → Leads q s c t → slice_index of t ≡ slice_index of s
+
+-- some successor has
+abbrev pub Leaves : Query → List ℕ → ℕ → ℕ → Type 0
+Leaves q of s c = (t : ℕ) × Leads q s c t × (slice_index of t ≢ slice_index of s)
+
+-- a choice of the cut question whose successors are in the part of its state
+pub record IsInner (q : Query) (replies : List (Option ℕ)) (part : List ℕ) (s c : ℕ) : Type 0 where
+  pub cut : IsCut q replies s c
+  pub stays : Stays q part s c
+
+-- a move of an inner choice
+pub record IsStep (q : Query) (replies : List (Option ℕ)) (part : List ℕ) (s t : ℕ) : Type 0 where
+  pub choice : ℕ
+  pub state : s < states q
+  pub inner : IsInner q replies part s choice
+  pub leads : Leads q s choice t
+
+-- moves of inner choices lead from one state to another
+abbrev pub Comes : Query → List (Option ℕ) → List ℕ → ℕ → ℕ → Type 0
+Comes q replies part s t = Reach (IsStep q replies part) s t
+
+-- the states with a part are neither goal nor dead, and each end component lies in one part
+pub record KeepsEnds (q : Query) (replies : List (Option ℕ)) (part : List ℕ) : Type 0 where
+  pub many : length part ≡ states q
+  pub free : (s : ℕ) → s < states q → slice_index part s ≢ 0 → IsFree q s
+  pub kept : (set : ℕ → Bool) (listed : ℕ → ℕ → Bool) → IsEndComponent q replies set listed → (s : ℕ) → set s ≡ true → slice_index part s ≢ 0
+  pub joined : (set : ℕ → Bool) (listed : ℕ → ℕ → Bool) → IsEndComponent q replies set listed → (s t : ℕ) → set s ≡ true → set t ≡ true → slice_index part s ≡ slice_index part t
+
+-- the number of a part or class is one more than one of its states
+abbrev pub IsRooted : List ℕ → Type 0
+IsRooted part = (s : ℕ) → slice_index part s ≢ 0 → slice_index part (slice_index part s - 1) ≡ slice_index part s
+
+-- the classes so far: states of one class reach each other, and states that reach each other are in one class, or have none yet
+pub record IsPlacing (q : Query) (replies : List (Option ℕ)) (part class : List ℕ) : Type 0 where
+  pub many : length class ≡ states q
+  pub live : (s : ℕ) → slice_index class s ≢ 0 → slice_index part s ≢ 0
+  pub rooted : IsRooted class
+  pub back : (s : ℕ) → slice_index class s ≢ 0 → Comes q replies part s (slice_index class s - 1)
+  pub on : (s : ℕ) → slice_index class s ≢ 0 → Comes q replies part (slice_index class s - 1) s
+  pub joined : (s t : ℕ) → Comes q replies part s t → Comes q replies part t s → slice_index class s ≡ slice_index class t
+
+-- and each state with a part has a class
+pub record AreClasses (q : Query) (replies : List (Option ℕ)) (part class : List ℕ) : Type 0 where
+  pub placed : IsPlacing q replies part class
+  pub all : (s : ℕ) → s < states q → slice_index part s ≢ 0 → slice_index class s ≢ 0
+
+-- each state with a part has an inner choice
+abbrev pub HaveInner : Query → List (Option ℕ) → List ℕ → Type 0
+HaveInner q replies part = (s : ℕ) → s < states q → slice_index part s ≢ 0 → (c : ℕ) × IsInner q replies part s c
+
+-- each part is an end component, and each end component lies in one
+pub record AreSettled (q : Query) (replies : List (Option ℕ)) (part : List ℕ) : Type 0 where
+  pub keeps : KeepsEnds q replies part
+  pub rooted : IsRooted part
+  pub inner : HaveInner q replies part
+  pub joined : (s t : ℕ) → slice_index part s ≢ 0 → slice_index part s ≡ slice_index part t → Comes q replies part s t

@@ -1,0 +1,44 @@
+//! Traps of a question whose minimiser has chosen its replies, and upper tables lowered on them.
+//!
+//! Where play can stay in a set of states for ever, an upper table can stay above every way out of the set, since
+//! each entry is held up by the others, and rounded-up steps never lower it. Such sets are the end components of
+//! the question in which the minimiser plays its replies (Haddad and Monmege, Reachability in MDPs: refining
+//! convergence of interval iteration, RP 2014; Brázdil and others, Verification of Markov decision processes using
+//! learning algorithms, ATVA 2014; in games Kelmendi, Krämer, Křetínský and Weininger, Value iteration for simple
+//! stochastic games, CAV 2018). A trap is a greatest one (`specs/Ends.antt`).
+//!
+//! [`traps`] gives the traps, numbered. [`lower_traps`] lowers a table at the states of each trap to its best exit:
+//! the greatest rounded-up value of a choice by which the maximiser can leave it (`specs/Exits.antt`). The lowered
+//! table passes the checks that the table passed, with the same replies, so it is above every k-step value.
+//! [`traps_over`] and [`lower_traps_over`] do so over lists of predecessors that the caller has.
+//!
+//! Not promised: a table is lowered once, by exits over the table handed in, so it may be lowered further by a
+//! second call or by steps; how near it comes to the values no clause says. Other replies have other traps.
+//!
+//! The traps are found by rounds. A round takes their part from the states that have no choice whose successors
+//! are all in the part of the state, and from those that have none left then, and makes the sets of mutual
+//! reachability the new parts, from scratch; the last round changes nothing (Baier and Katoen, Principles of Model
+//! Checking, 2008, algorithm 47). A set is found by a search backward from a pivot and one forward in what it met.
+//! The pivots stand in the order in which a depth-first search leaves the states, backward, so no search meets two
+//! sets (Kosaraju; Sharir 1981); no contract rests on that order. A round takes time linear in the states, choices
+//! and edges: which choices stay is found in one pass, one byte a choice. There are as many rounds as sets break up
+//! one within another, and most often two or three; a chain or a walk of any length takes two, since removal goes
+//! on backward at once. The time is no part of the contract.
+#![tactic(auto)]
+
+mod backward;
+mod choices;
+mod classes;
+mod cut;
+mod forward;
+mod inner;
+mod lower;
+mod numbers;
+mod order;
+mod rounds;
+#[cfg(test)]
+mod tests;
+mod trim;
+
+pub use lower::{lower_traps, lower_traps_over};
+pub use numbers::{TrapSets, traps, traps_over};

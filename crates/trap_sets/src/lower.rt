@@ -1,0 +1,171 @@
+//! Upper tables lowered to the best exits of traps.
+
+ghost use Rattle.std.specs.Prelude.{◌≡◌, ◌≢◌, ℕ, ◌+◌, ◌<◌, ◌≤◌, length, slice_index, All, IfOk};
+ghost use Rattle.game_model.specs.Game.{choices_of};
+ghost use Rattle.game_model.specs.Query.{states};
+ghost use Rattle.game_model.specs.Limits.{unit};
+ghost use Rattle.game_model.specs.Rounded.{IsBelow, IsInductive};
+ghost use Rattle.game_model.specs.Bounds.{IsHigh};
+ghost use Rattle.inductive_check.specs.Replies.{AreReplies, HoldsUnder};
+ghost use Rattle.predecessors.specs.Lists.{ArePredecessors};
+ghost use Rattle.trap_sets.specs.Exits.{IsBestBefore, AreBestExits};
+ghost use Rattle.trap_sets.specs.Lowered.{IsLoweredEntry, IsLowered, IsLoweredTable, IsCapped};
+
+use crate::choices::stays;
+use crate::numbers::{TrapSets, traps_over};
+use fixed_bellman::up_choice;
+use game_laws::tables::inductive_is_high;
+use game_model::{Question, Side};
+use game_outside::OutOfMemory;
+use inductive_check::laws::replies_hold;
+use predecessors::Predecessors;
+use std::alloc::Global;
+
+/// The table, lowered at the states of each trap to the trap's best exit over the table handed in. It passes
+/// the check that the table passed, with the same replies, so it is above every k-step value. The only error
+/// is want of memory.
+pub fn lower_traps(
+    alloc: Global,
+    question: &Question,
+    upper: &[u64],
+    replies: &[Option<u32>],
+) -> Result<Vec<u64>, OutOfMemory>
+    requires length { length upper.now ≡ states question.now }
+    requires units { All (λ v. v ≤ unit) upper.now }
+    requires inductive { IsInductive question.now (slice_index upper.now) }
+    requires as_many { length replies.now ≡ states question.now }
+    requires replies { AreReplies question.now (slice_index upper.now) replies.now }
+    ensures lowered { IfOk result (λ table. IsLoweredTable question.now replies.now upper.now table.items) }
+    ensures capped { IfOk result (λ table. IsCapped question.now replies.now upper.now table.items) }
+    ensures below { IfOk result (λ table. IsBelow question.now (slice_index table.items) (slice_index upper.now)) }
+    ensures units { IfOk result (λ table. All (λ v. v ≤ unit) table.items) }
+    ensures inductive { IfOk result (λ table. IsInductive question.now (slice_index table.items)) }
+    ensures high { IfOk result (λ table. IsHigh question.now (slice_index table.items)) }
+    ensures replies { IfOk result (λ table. AreReplies question.now (slice_index table.items) replies.now) }
+    ensures holds { IfOk result (λ table. HoldsUnder question.now replies.now (slice_index table.items)) }
+{
+    let predecessors = Predecessors::of_game(alloc, question.game())?;
+    lower_traps_over(alloc, question, &predecessors, upper, replies)
+}
+
+/// The lowered table, as [`lower_traps`] gives it, over lists of predecessors that the caller has. The only
+/// error is want of memory.
+pub fn lower_traps_over(
+    alloc: Global,
+    question: &Question,
+    predecessors: &Predecessors,
+    upper: &[u64],
+    replies: &[Option<u32>],
+) -> Result<Vec<u64>, OutOfMemory>
+    requires lists { ArePredecessors question.now.game predecessors.now }
+    requires length { length upper.now ≡ states question.now }
+    requires units { All (λ v. v ≤ unit) upper.now }
+    requires inductive { IsInductive question.now (slice_index upper.now) }
+    requires as_many { length replies.now ≡ states question.now }
+    requires replies { AreReplies question.now (slice_index upper.now) replies.now }
+    ensures lowered { IfOk result (λ table. IsLoweredTable question.now replies.now upper.now table.items) }
+    ensures capped { IfOk result (λ table. IsCapped question.now replies.now upper.now table.items) }
+    ensures below { IfOk result (λ table. IsBelow question.now (slice_index table.items) (slice_index upper.now)) }
+    ensures units { IfOk result (λ table. All (λ v. v ≤ unit) table.items) }
+    ensures inductive { IfOk result (λ table. IsInductive question.now (slice_index table.items)) }
+    ensures high { IfOk result (λ table. IsHigh question.now (slice_index table.items)) }
+    ensures replies { IfOk result (λ table. AreReplies question.now (slice_index table.items) replies.now) }
+    ensures holds { IfOk result (λ table. HoldsUnder question.now replies.now (slice_index table.items)) }
+{
+    question.known();
+    let sets = traps_over(alloc, question, predecessors, replies)?;
+    let exits = best_exits(alloc, question, upper, &sets)?;
+    let table = lowered(alloc, question, upper, &sets.of, &exits)?;
+    inductive_is_high(question, &table);
+    replies_hold(question, &table, replies);
+    Ok(table)
+}
+
+/// For each trap its best exit.
+fn best_exits(
+    alloc: Global,
+    question: &Question,
+    upper: &[u64],
+    sets: &TrapSets,
+) -> Result<Vec<u64>, OutOfMemory>
+    requires length { length upper.now ≡ states question.now }
+    requires units { All (λ v. v ≤ unit) upper.now }
+    requires many { length sets.now.of.items ≡ states question.now }
+    requires most { (s : ℕ) → slice_index sets.now.of.items s ≤ sets.now.count }
+    ensures many { IfOk result (λ exits. length exits.items ≡ sets.now.count + 1) }
+    ensures best { IfOk result (λ exits. AreBestExits question.now (slice_index upper.now) sets.now.of.items exits.items) }
+{
+    question.known();
+    let mut exits = vec![in alloc; 0u64; sets.count as usize + 1]?;
+    for state in 0..question.game().states() {
+        raise_exit(question, upper, &sets.of, state, &mut exits);
+    }
+    Ok(exits)
+}
+
+/// Raises the exit of the trap of a state to those of the state.
+fn raise_exit(question: &Question, upper: &[u64], of: &[u32], state: u32, exits: &mut [u64])
+    requires length { length upper.now ≡ states question.now }
+    requires units { All (λ v. v ≤ unit) upper.now }
+    requires many { length of.now ≡ states question.now }
+    requires most { slice_index of.now state < length exits.old }
+    requires state { state < states question.now }
+    requires best { IsBestBefore question.now (slice_index upper.now) of.now exits.old state 0 }
+    ensures { IsBestBefore question.now (slice_index upper.now) of.now exits.new (state + 1) 0 }
+{
+    question.known();
+    let trap = of[state as usize] as usize;
+    if trap == 0 {
+        return;
+    }
+    match question.side(state) {
+        Side::Min => return,
+        Side::Max => {}
+    }
+    for choice in 0..question.game().choices_of(state) {
+        if !stays(question, of, state, choice) {
+            let value = up_choice(question, state, choice, upper);
+            if exits[trap] < value {
+                exits[trap] = value;
+            }
+        }
+    }
+}
+
+/// Each entry, in a trap at most its best exit.
+fn lowered(
+    alloc: Global,
+    question: &Question,
+    upper: &[u64],
+    of: &[u32],
+    exits: &[u64],
+) -> Result<Vec<u64>, OutOfMemory>
+    requires length { length upper.now ≡ states question.now }
+    requires many { length of.now ≡ states question.now }
+    requires most { (s : ℕ) → slice_index of.now s < length exits.now }
+    requires best { AreBestExits question.now (slice_index upper.now) of.now exits.now }
+    ensures { IfOk result (λ table. IsLowered question.now of.now upper.now table.items) }
+{
+    let mut table = Vec::new(alloc);
+    for state in 0..question.game().states() {
+        table.push(lowered_entry(question, upper, of, exits, state))?;
+    }
+    Ok(table)
+}
+
+/// The entry of a state, in a trap at most its best exit.
+fn lowered_entry(question: &Question, upper: &[u64], of: &[u32], exits: &[u64], state: u32) -> u64
+    requires length { length upper.now ≡ states question.now }
+    requires many { length of.now ≡ states question.now }
+    requires most { (s : ℕ) → slice_index of.now s < length exits.now }
+    requires best { AreBestExits question.now (slice_index upper.now) of.now exits.now }
+    requires state { state < states question.now }
+    ensures { IsLoweredEntry question.now of.now upper.now state result }
+{
+    let trap = of[state as usize];
+    let entry = upper[state as usize];
+    if trap == 0 {
+        return entry;
+    }
+    entry.min(exits[trap as usize])
+}

@@ -1,0 +1,125 @@
+//! Removal of the states that have no inner choice.
+
+ghost use Rattle.std.specs.Prelude.{◌≡◌, ◌≢◌, ℕ, ◌<◌, List, length, slice_index, true, false, IfOk, OnOk};
+ghost use Rattle.game_model.specs.Growing.{IsLonger};
+ghost use Rattle.game_model.specs.Query.{states};
+ghost use Rattle.predecessors.specs.Lists.{ArePredecessors};
+ghost use Rattle.trap_sets.specs.Parts.{IsInner, KeepsEnds, HaveInner};
+ghost use Rattle.trap_sets.specs.Trimming.{IsTrimmed};
+
+use crate::cut::Cut;
+use game_outside::OutOfMemory;
+use std::alloc::Global;
+
+/// Takes its part from each state that has no inner choice, and from each that has none left then, and so
+/// on. Tells whether any state lost its part. A state waits for one choice at a time, so each choice is tested
+/// twice at most.
+pub fn trim(alloc: Global, cut: &Cut<'_>, part: &mut [u32]) -> Result<bool, OutOfMemory>
+    requires lists { ArePredecessors cut.now.question.now.game cut.now.predecessors.now }
+    requires keeps { KeepsEnds cut.now.question.now cut.now.replies.now part.old }
+    ensures keeps { OnOk result (KeepsEnds cut.now.question.now cut.now.replies.now part.new) }
+    ensures refines { OnOk result ((s : ℕ) → slice_index part.new s ≢ 0 → slice_index part.new s ≡ slice_index part.old s) }
+    ensures still { IfOk result (λ any. any ≡ false → ((s : ℕ) → slice_index part.new s ≡ slice_index part.old s) × HaveInner cut.now.question.now cut.now.replies.now part.new) }
+    ensures lost { IfOk result (λ any. any ≡ true → (s : ℕ) × (s < states cut.now.question.now) × (slice_index part.old s ≢ 0) × (slice_index part.new s ≡ 0)) }
+{
+    let states = cut.question.game().states();
+    let mut awaited = vec![in alloc; 0u32; states as usize]?;
+    let mut gone = Vec::new(alloc);
+    trim_all(cut, part, &mut awaited, &mut gone)?;
+    Ok(gone.len() > 0)
+}
+
+/// Tests each state, and then, for each state that lost its part, those that wait for a choice that leads to
+/// it.
+fn trim_all(
+    cut: &Cut<'_>,
+    part: &mut [u32],
+    awaited: &mut [u32],
+    gone: &mut Vec<u32>,
+) -> Result<(), OutOfMemory>
+    requires lists { ArePredecessors cut.now.question.now.game cut.now.predecessors.now }
+    requires trimmed { IsTrimmed cut.now.question.now cut.now.replies.now part.old part.old awaited.old gone.old.items }
+    ensures trimmed { OnOk result (IsTrimmed cut.now.question.now cut.now.replies.now part.old part.new awaited.new gone.new.items) }
+    ensures inner { OnOk result (length gone.new.items ≡ 0 → HaveInner cut.now.question.now cut.now.replies.now part.new) }
+{
+    test_all(cut, part, awaited, gone)?;
+    for place in 0..cut.question.game().states() as usize {
+        if place == gone.len() {
+            return Ok(());
+        }
+        let member = gone[place];
+        follow_gone(cut, member, part, awaited, gone)?;
+    }
+    Ok(())
+}
+
+/// Tests each state.
+fn test_all(
+    cut: &Cut<'_>,
+    part: &mut [u32],
+    awaited: &mut [u32],
+    gone: &mut Vec<u32>,
+) -> Result<(), OutOfMemory>
+    requires trimmed { IsTrimmed cut.now.question.now cut.now.replies.now part.old part.old awaited.old gone.old.items }
+    ensures trimmed { OnOk result (IsTrimmed cut.now.question.now cut.now.replies.now part.old part.new awaited.new gone.new.items) }
+    ensures inner { OnOk result (length gone.new.items ≡ 0 → HaveInner cut.now.question.now cut.now.replies.now part.new) }
+{
+    for state in 0..cut.question.game().states() {
+        if part[state as usize] != 0 {
+            test(cut, state, part, awaited, gone)?;
+        }
+    }
+    Ok(())
+}
+
+/// Tests the states that wait for a choice that leads to this one.
+fn follow_gone(
+    cut: &Cut<'_>,
+    member: u32,
+    part: &mut [u32],
+    awaited: &mut [u32],
+    gone: &mut Vec<u32>,
+) -> Result<(), OutOfMemory>
+    requires lists { ArePredecessors cut.now.question.now.game cut.now.predecessors.now }
+    requires member { member < states cut.now.question.now }
+    requires kept { (old : List ℕ) × IsTrimmed cut.now.question.now cut.now.replies.now old part.old awaited.old gone.old.items }
+    ensures trimmed { OnOk result ((old : List ℕ) → IsTrimmed cut.now.question.now cut.now.replies.now old part.old awaited.old gone.old.items
+        → IsTrimmed cut.now.question.now cut.now.replies.now old part.new awaited.new gone.new.items) }
+    ensures longer { OnOk result (IsLonger gone.old.items gone.new.items) }
+{
+    for step in cut.predecessors.of_state(member) {
+        let state = step.state as usize;
+        if part[state] != 0 && awaited[state] == step.choice {
+            test(cut, step.state, part, awaited, gone)?;
+        }
+    }
+    Ok(())
+}
+
+/// Tests a state from its awaited choice on: it waits for the next inner one, and loses its part where there
+/// is none.
+fn test(
+    cut: &Cut<'_>,
+    state: u32,
+    part: &mut [u32],
+    awaited: &mut [u32],
+    gone: &mut Vec<u32>,
+) -> Result<(), OutOfMemory>
+    requires state { state < states cut.now.question.now }
+    requires some { slice_index part.old state ≢ 0 }
+    requires kept { (old : List ℕ) × IsTrimmed cut.now.question.now cut.now.replies.now old part.old awaited.old gone.old.items }
+    ensures trimmed { OnOk result ((old : List ℕ) → IsTrimmed cut.now.question.now cut.now.replies.now old part.old awaited.old gone.old.items
+        → IsTrimmed cut.now.question.now cut.now.replies.now old part.new awaited.new gone.new.items) }
+    ensures longer { OnOk result (IsLonger gone.old.items gone.new.items) }
+    ensures inner { OnOk result (length gone.new.items ≡ 0 → (c : ℕ) × IsInner cut.now.question.now cut.now.replies.now part.new state c) }
+{
+    let place = state as usize;
+    let next = cut.next_inner(part, state, awaited[place]);
+    awaited[place] = next;
+    if next < cut.question.game().choices_of(state) {
+        return Ok(());
+    }
+    part[place] = 0;
+    gone.push(state)?;
+    Ok(())
+}
