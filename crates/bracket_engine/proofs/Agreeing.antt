@@ -16,12 +16,12 @@ pub settled-agree : (q : Query) (zero other_zero : List Bool) (bound other_bound
 settled-agree q zero other_zero bound other_bound initial other_initial asked other_asked lower upper other other_upper rounds other_rounds one two =
     let first = one.least refl in
     let second = two.least refl in
-    same_lists lower other (one.lower_length ∙ sym two.lower_length) (λ s d inside.
-    let within : s < states q = subst (λ n. s < n) one.lower_length inside in
+    same_lists lower other (one.base_length ∙ sym two.base_length) (λ s d inside.
+    let within : s < states q = subst (λ n. s < n) one.base_length inside in
     omega (
       arith,
       get_or_default lower s d 0 inside,
-      get_or_default other s d 0 (subst (λ n. s < n) (sym two.lower_length) within),
+      get_or_default other s d 0 (subst (λ n. s < n) (sym two.base_length) within),
       first.least (slice_index other) second.opens second.settled s within,
       second.least (slice_index lower) first.opens first.settled s within,
     ))

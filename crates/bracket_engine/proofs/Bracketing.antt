@@ -1,4 +1,4 @@
--- The tables of two races are a bracket, and its choices are ranked with the lower one.
+-- The tables of two races are a bracket.
 use Rattle.std.proofs.Common.{◌≡◌, ℕ, ◌+◌, ◌-◌, ◌*◌, ◌^◌, ◌<◌, ◌≤◌, Bool, true, false, List, length, arith, refl, sym, ap, ◌∙◌, subst, inl, inr, le_refl, le_trans, get_or}
 use Rattle.std.specs.Prelude.{All, slice_index, ◌↔◌, ◌⊎◌, Option, Some, None, IfSome, is_some, if◌then◌else◌}
 use Rattle.std.proofs.lemmas.Bool.{cases_lt}
@@ -26,7 +26,7 @@ use Rattle.verdicts.specs.Verdict.{is_asking}
 use Rattle.verdicts.proofs.Staying.{settled-on}
 use Rattle.bracket_engine.specs.declared.stopping.Kept.{Kept}
 use Rattle.bracket_engine.specs.Stop.{AreSettledAt, upper_from, with_kept, IsKept, IsUpper, IsUpperFrom}
-use Rattle.bracket_engine.specs.Bracket.{IsBracket, IsNear, IsNarrow, IsCoswept, IsLeastSettled}
+use Rattle.bracket_engine.specs.Bracket.{IsBracket, IsCloseBelow, IsNarrow, IsCoswept, IsLeastSettled}
 use Rattle.bracket_engine.specs.declared.race.Ended.{Ended}
 use Rattle.bracket_engine.specs.Race.{IsRaced, AreOver}
 use Rattle.bracket_engine.proofs.Rests.{IsInductive-rest}
@@ -42,7 +42,7 @@ near-from : (v w r p x : ℕ) → x ≤ p * (v + r) → v ≤ w → x ≤ (w + r
 near-from v w r p x near below = omega (arith, near, mul-le-mul_left p below)
 
 -- a table that is nowhere below r down steps is near the r-step values
-near-down_steps : (q : Query) (table : ℕ → ℕ) (r : ℕ) → AreChoicesOf q.game (choices_of q.game) → IsBelow q (down_steps q r) table → IsNear q r table
+near-down_steps : (q : Query) (table : ℕ → ℕ) (r : ℕ) → AreChoicesOf q.game (choices_of q.game) → IsBelow q (down_steps q r) table → IsCloseBelow q r table
 near-down_steps q table r chosen below = λ s inside. near-from (down_steps q r s) (table s) r (denominator q.game ^ r) (unit * numerator q r s) (down_steps-near q chosen r s) (below s inside)
 
 -- a table with the unit at goals is nowhere below the opening table
@@ -156,8 +156,8 @@ module _ (q : Query) (zero_set : List Bool) (words cowords lower covalues upper 
         let rested : stable ≡ true → IsNarrow q zero_set asked (slice_index lower) (slice_index upper) = λ is.
         IsNarrow-swept asked (swept-settled q (slice_index lower) rounds h.posed run (settled.0 is).0 asked) (swept-settled (swapped q zero_set) (slice_index covalues) rounds h.coposed corun (settled.0 is).1 asked) in
         record {
-          lower_length = length-raced q words lower rounds h.raced h.lower_is;
-          lower_units = all-units-raced q words lower rounds h.raced h.lower_is;
+          base_length = length-raced q words lower rounds h.raced h.lower_is;
+          base_units = all-units-raced q words lower rounds h.raced h.lower_is;
           upper_length = over.table.many;
           upper_units = over.table.units;
           covalues = covalues;

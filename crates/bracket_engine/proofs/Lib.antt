@@ -1,6 +1,7 @@
 pub mod Agreeing
 pub mod Bracketing
 pub mod ClosedChoices
+pub mod Guessed
 pub mod Marking
 pub mod Quiet
 pub mod Racing

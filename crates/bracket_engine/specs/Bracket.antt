@@ -1,4 +1,4 @@
--- What a run of rounds gives: a sound lower and a sound upper table, and how near they are to the values of r steps. The co-values are lower bounds of the swapped question.
+-- What a run of rounds gives: a sound lower table, the base, and a sound upper table, and how near they are to the values of r steps. The co-values are lower bounds of the swapped question.
 use Rattle.std.specs.Prelude.{◌≡◌, ℕ, ◌+◌, ◌-◌, ◌*◌, ◌^◌, ◌<◌, ◌≤◌, ◌↔◌, ◌⊎◌, Bool, true, List, length, All, map, min, slice_index, Option, None, IfSome}
 use Rattle.game_model.specs.Query.{Query, states}
 use Rattle.game_model.specs.Values.{denominator, numerator}
@@ -13,8 +13,8 @@ use Rattle.bracket_engine.specs.declared.stopping.Kept.{Kept}
 use Rattle.bracket_engine.specs.Stop.{AreSettledAt, upper_from, with_kept, IsKept}
 
 -- at most r units below the r-step values
-abbrev pub IsNear : Query → ℕ → (ℕ → ℕ) → Type 0
-IsNear q r table = (s : ℕ) → s < states q → unit * numerator q r s ≤ (table s + r) * denominator q.game ^ r
+abbrev pub IsCloseBelow : Query → ℕ → (ℕ → ℕ) → Type 0
+IsCloseBelow q r table = (s : ℕ) → s < states q → unit * numerator q r s ≤ (table s + r) * denominator q.game ^ r
 
 -- the unit less each value
 abbrev pub rests_of : List ℕ → List ℕ
@@ -30,8 +30,8 @@ abbrev pub IsCoswept : Query → List Bool → ℕ → (ℕ → ℕ) → Type 0
 IsCoswept q zero r table = (s : ℕ) → s < states q → down_steps (swapped q zero) r s + table s ≤ unit
 
 -- at most r units above the values of not being lost after r steps
-abbrev pub IsNearAbove : Query → List Bool → ℕ → (ℕ → ℕ) → Type 0
-IsNearAbove q zero r table = (s : ℕ) → s < states q → table s * denominator q.game ^ r ≤ unit * open_numerator q zero r s + r * denominator q.game ^ r
+abbrev pub IsCloseAbove : Query → List Bool → ℕ → (ℕ → ℕ) → Type 0
+IsCloseAbove q zero r table = (s : ℕ) → s < states q → table s * denominator q.game ^ r ≤ unit * open_numerator q zero r s + r * denominator q.game ^ r
 
 -- the least table that is nowhere below the opening table and has no down value above its entry
 pub record IsLeastSettled (q : Query) (table : ℕ → ℕ) : Type 0 where
@@ -42,16 +42,16 @@ pub record IsLeastSettled (q : Query) (table : ℕ → ℕ) : Type 0 where
 -- how near tables of bounds are to the values: the lower one is nowhere below r down steps, and the upper one at most the unit less those of the swapped question
 pub record IsNarrow (q : Query) (zero : List Bool) (r : ℕ) (lower upper : ℕ → ℕ) : Type 0 where
   pub swept : IsBelow q (down_steps q r) lower
-  pub near : IsNear q r lower
+  pub near : IsCloseBelow q r lower
   pub coswept : IsCoswept q zero r upper
-  pub near_above : IsNearAbove q zero r upper
+  pub near_above : IsCloseAbove q zero r upper
 
 -- a bracket of a question with this zero set, after this many completed rounds of those that were asked for, unless the threshold was settled at the initial states before
-pub record IsBracket (q : Query) (zero : List Bool) (bound : Bound) (initial : List ℕ) (asked : ℕ) (lower upper : List ℕ) (rounds : ℕ) (stable : Bool) : Type 0 where
-  pub lower_length : length lower ≡ states q
-  pub lower_units : All (λ v. v ≤ unit) lower
+pub record IsBracket (q : Query) (zero : List Bool) (bound : Bound) (initial : List ℕ) (asked : ℕ) (base upper : List ℕ) (rounds : ℕ) (stable : Bool) : Type 0 where
+  pub base_length : length base ≡ states q
+  pub base_units : All (λ v. v ≤ unit) base
   -- the bounds are sound
-  pub low : IsLow q (slice_index lower)
+  pub low : IsLow q (slice_index base)
   pub high : IsHigh q (slice_index upper)
   pub upper_length : length upper ≡ states q
   pub upper_units : All (λ v. v ≤ unit) upper
@@ -61,25 +61,25 @@ pub record IsBracket (q : Query) (zero : List Bool) (bound : Bound) (initial : L
   pub colow : IsLow (swapped q zero) (slice_index covalues)
   pub coswept : IsBelow (swapped q zero) (down_steps (swapped q zero) rounds) (slice_index covalues)
   pub cowithin : IsBelow (swapped q zero) (slice_index covalues) (down_steps (swapped q zero) (rounds * states q))
-  -- the upper table is the least of the unit less the co-values, of the first guess over the lower table, and of a guess that was kept, if any
+  -- the upper table is the least of the unit less the co-values, of the first guess over the base, and of a guess that was kept, if any
   pub kept : Option Kept
   pub guess : List ℕ
-  pub guessed : IsFirstGuess q zero (slice_index lower) guess
+  pub guessed : IsFirstGuess q zero (slice_index base) guess
   pub least_upper : (s : ℕ) → s < states q → slice_index upper s ≡ upper_from (slice_index covalues) (with_kept kept (slice_index guess)) s
-  -- one that is kept settles the threshold at each initial state, with the lower bounds and the co-values
-  pub kept_over : IfSome kept (IsKept q zero bound initial (slice_index lower) (slice_index covalues))
+  -- one that is kept settles the threshold at each initial state, with the base and the co-values
+  pub kept_over : IfSome kept (IsKept q zero bound initial (slice_index base) (slice_index covalues))
   pub none_kept : is_asking bound ≡ true → kept ≡ None
   -- no state's up value is above its upper bound
   pub upper_inductive : IsInductive q (slice_index upper)
-  -- the lower table is within the down steps of all updates of the completed rounds, one a state
+  -- the base is within the down steps of all updates of the completed rounds, one a state
   pub few : rounds ≤ asked
-  pub within : IsBelow q (slice_index lower) (down_steps q (rounds * states q))
+  pub within : IsBelow q (slice_index base) (down_steps q (rounds * states q))
   -- the tables are as near as the completed rounds make them, and as the asked ones, unless each initial state is settled
-  pub narrow : IsNarrow q zero rounds (slice_index lower) (slice_index upper)
-  pub narrow_asked : AreSettledAt bound initial (slice_index lower) (slice_index upper) ⊎ IsNarrow q zero asked (slice_index lower) (slice_index upper)
+  pub narrow : IsNarrow q zero rounds (slice_index base) (slice_index upper)
+  pub narrow_asked : AreSettledAt bound initial (slice_index base) (slice_index upper) ⊎ IsNarrow q zero asked (slice_index base) (slice_index upper)
   -- the run ends early only where both tables are settled, or each initial state is
-  pub early : rounds < asked → (stable ≡ true) ⊎ AreSettledAt bound initial (slice_index lower) (slice_index upper)
-  pub settled : (stable ≡ true) ↔ (IsSettled q (slice_index lower) × IsSettled (swapped q zero) (slice_index covalues))
+  pub early : rounds < asked → (stable ≡ true) ⊎ AreSettledAt bound initial (slice_index base) (slice_index upper)
+  pub settled : (stable ≡ true) ↔ (IsSettled q (slice_index base) × IsSettled (swapped q zero) (slice_index covalues))
   -- tables that are settled are the least settled ones
-  pub least : stable ≡ true → IsLeastSettled q (slice_index lower)
+  pub least : stable ≡ true → IsLeastSettled q (slice_index base)
   pub coleast : stable ≡ true → IsLeastSettled (swapped q zero) (slice_index covalues)

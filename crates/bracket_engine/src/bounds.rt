@@ -2,11 +2,13 @@
 
 /// A lower and an upper bound in units for each state, choices of the maximiser with ranks that vouch for the lower
 /// bounds, replies of the minimiser that hold the maximiser to the upper bounds, the number of completed
-/// rounds, and whether the tables are settled: no state's down value is above its entry in the lower table, nor
+/// rounds, and whether the tables are settled: no state's down value is above its entry in the base, nor
 /// in the table of co-values, the lower bounds of the swapped question.
 #[derive(Drop)]
 pub struct Bracket {
-    /// At most some k-step value, for each state.
+    /// What the rounds reach from below: at most some k-step value, for each state.
+    pub base: Vec<u64>,
+    /// The lower guess of the base: k-step values come as near to it as one likes, for each state.
     pub lower: Vec<u64>,
     /// At least each k-step value, for each state.
     pub upper: Vec<u64>,

@@ -23,7 +23,7 @@ use std::alloc::Global;
 /// Both tables, the number of completed rounds, and whether both races are settled.
 #[derive(Drop)]
 pub struct Tables {
-    pub lower: Vec<u64>,
+    pub base: Vec<u64>,
     pub upper: Vec<u64>,
     pub rounds: u32,
     pub stable: bool,
@@ -43,8 +43,8 @@ pub fn tables_of<F: Fn(u64, u64) -> bool>(
     requires other { other.now ≡ swapped ending.now.question.now ending.now.zero.now }
     requires asked { (asked : _) × AreOver ending.now.question.now other.now ending.now.zero.now (bound_of ending.now.rule.now) ending.now.initial.now asked words.now cowords.now ended }
     ensures bracket { (asked : _) → AreOver ending.now.question.now other.now ending.now.zero.now (bound_of ending.now.rule.now) ending.now.initial.now asked words.now cowords.now ended
-        → IfOk result (λ t. IsBracket ending.now.question.now ending.now.zero.now (bound_of ending.now.rule.now) ending.now.initial.now asked t.lower.items t.upper.items t.rounds t.stable) }
-    ensures lower { IfOk result (λ t. t.lower.items ≡ values_of words.now) }
+        → IfOk result (λ t. IsBracket ending.now.question.now ending.now.zero.now (bound_of ending.now.rule.now) ending.now.initial.now asked t.base.items t.upper.items t.rounds t.stable) }
+    ensures base { IfOk result (λ t. t.base.items ≡ values_of words.now) }
     ensures upper { IfOk result (λ t. IsUpper ending.now.question.now t.upper.items) }
 {
     ending.question.known();
@@ -54,12 +54,12 @@ pub fn tables_of<F: Fn(u64, u64) -> bool>(
         rests,
         kept,
     } = ended;
-    let lower = values_of_words(alloc, words)?;
+    let base = values_of_words(alloc, words)?;
     let covalues = values_of_words(alloc, cowords)?;
-    let stable = is_stable(ending.question, other, &lower, &covalues, rests);
-    let upper = upper_table(alloc, ending.question, ending.zero, &lower, &covalues, kept)?;
+    let stable = is_stable(ending.question, other, &base, &covalues, rests);
+    let upper = upper_table(alloc, ending.question, ending.zero, &base, &covalues, kept)?;
     Ok(Tables {
-        lower,
+        base,
         upper,
         rounds,
         stable,
@@ -70,16 +70,16 @@ pub fn tables_of<F: Fn(u64, u64) -> bool>(
 fn is_stable(
     question: &Question,
     other: &Question,
-    lower: &[u64],
+    base: &[u64],
     covalues: &[u64],
     rests: bool,
 ) -> bool
-    requires lower { length lower.now ≡ states question.now }
-    requires units { All (λ v. v ≤ unit) lower.now }
+    requires base { length base.now ≡ states question.now }
+    requires units { All (λ v. v ≤ unit) base.now }
     requires covalues { length covalues.now ≡ states other.now }
     requires counits { All (λ v. v ≤ unit) covalues.now }
-    requires rests { rests ≡ true → IsSettled question.now (slice_index lower.now) × IsSettled other.now (slice_index covalues.now) }
-    ensures { (result ≡ true) ↔ (IsSettled question.now (slice_index lower.now) × IsSettled other.now (slice_index covalues.now)) }
+    requires rests { rests ≡ true → IsSettled question.now (slice_index base.now) × IsSettled other.now (slice_index covalues.now) }
+    ensures { (result ≡ true) ↔ (IsSettled question.now (slice_index base.now) × IsSettled other.now (slice_index covalues.now)) }
 {
-    rests || (settled(question, lower) && settled(other, covalues))
+    rests || (settled(question, base) && settled(other, covalues))
 }

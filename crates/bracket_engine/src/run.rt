@@ -9,6 +9,7 @@ ghost use Rattle.verdicts.specs.Stop.{bound_of, IsStopRule};
 ghost use Rattle.bracket_engine.specs.Limits.{most_rounds};
 ghost use Rattle.bracket_engine.specs.Bracket.{IsBracket};
 ghost use Rattle.bracket_engine.specs.Choices.{AreChoices, AreRanks};
+ghost use Rattle.bracket_engine.specs.Lower.{IsLowerTable};
 ghost use Rattle.bracket_engine.specs.Replies.{AreRepliesTo};
 
 use crate::bounds::Bracket;
@@ -31,8 +32,10 @@ pub const MOST_ROUNDS: u32 = 1_000_000;
 /// The bracket after at most this many rounds, each of at most so many workers, who pass the gate before each
 /// state. A round is one on the lower table and then one on the co-values, which are lower bounds of the
 /// swapped question. The run ends before where both are settled, or where after 1, 2, 4, 8 and so on rounds the lower bounds and
-/// the lesser of a guess over them and of the unit less the co-values settle the rule at each initial state. The upper table is the least of the unit less the co-values, of the
-/// guess over the last lower table and of the one that ended the run. The marks are the question's zero set. The only
+/// the lesser of a guess over them and of the unit less the co-values settle the rule at each initial state. At the end the
+/// base is the last lower table, and the lower table is its lower guess: a value that is met in the limit alone, which no
+/// number of rounds reaches, is found by it. The upper table is the least of the unit less the co-values, of the
+/// guess over the base and of the one that ended the run. The marks are the question's zero set. The only
 /// error is want of memory.
 pub fn bracket<R: Threads + Sync, F: Fn(u64, u64) -> bool, G: Gate + Sync>(
     rt: &R,
@@ -51,7 +54,8 @@ pub fn bracket<R: Threads + Sync, F: Fn(u64, u64) -> bool, G: Gate + Sync>(
     requires few { workers ≤ most_workers }
     requires stop { IsStopRule F.Fn stop.now }
     requires initial { All (λ s. s < states question.now) initial.now }
-    ensures bounds { IfOk result (λ b. IsBracket question.now zero.now (bound_of stop.now) initial.now rounds b.lower.items b.upper.items b.rounds b.stable) }
+    ensures bounds { IfOk result (λ b. IsBracket question.now zero.now (bound_of stop.now) initial.now rounds b.base.items b.upper.items b.rounds b.stable) }
+    ensures lower { IfOk result (λ b. IsLowerTable question.now zero.now b.base.items b.lower.items b.choices.items b.ranks.items) }
     ensures choices { IfOk result (λ b. AreChoices question.now b.lower.items b.choices.items) }
     ensures ranks { IfOk result (λ b. AreRanks question.now b.lower.items b.choices.items b.ranks.items) }
     ensures replies { IfOk result (λ b. AreRepliesTo question.now b.upper.items b.replies.items) }
@@ -92,7 +96,8 @@ pub fn bracket_over<R: Threads + Sync, F: Fn(u64, u64) -> bool, G: Gate + Sync>(
     requires few { workers ≤ most_workers }
     requires stop { IsStopRule F.Fn stop.now }
     requires initial { All (λ s. s < states question.now) initial.now }
-    ensures bounds { IfOk result (λ b. IsBracket question.now zero.now (bound_of stop.now) initial.now rounds b.lower.items b.upper.items b.rounds b.stable) }
+    ensures bounds { IfOk result (λ b. IsBracket question.now zero.now (bound_of stop.now) initial.now rounds b.base.items b.upper.items b.rounds b.stable) }
+    ensures lower { IfOk result (λ b. IsLowerTable question.now zero.now b.base.items b.lower.items b.choices.items b.ranks.items) }
     ensures choices { IfOk result (λ b. AreChoices question.now b.lower.items b.choices.items) }
     ensures ranks { IfOk result (λ b. AreRanks question.now b.lower.items b.choices.items b.ranks.items) }
     ensures replies { IfOk result (λ b. AreRepliesTo question.now b.upper.items b.replies.items) }
@@ -127,5 +132,12 @@ pub fn bracket_over<R: Threads + Sync, F: Fn(u64, u64) -> bool, G: Gate + Sync>(
         cowords.as_slice(),
         ended,
     )?;
-    with_strategies(alloc, question, predecessors, words.as_slice(), tables)
+    with_strategies(
+        alloc,
+        question,
+        zero,
+        predecessors,
+        words.as_slice(),
+        tables,
+    )
 }

@@ -75,13 +75,25 @@ fn the_coin_loop_settles_at_round_50(rt: HostRuntime) -> Result<(), Fail> {
     let game = coin_loop(alloc)?;
     let question = coin_question(alloc, &game)?;
     let zero = zeros_of(alloc, &question)?;
-    for (asked, lower, upper, rounds, stable) in [
-        (0, 0, 562_949_953_421_312, 0, false),
-        (2, UNIT / 8 * 3, 515_737_488_355_328, 2, false),
-        (49, UNIT / 2 - 1, UNIT / 2, 49, true),
-        (1_000, UNIT / 2 - 1, UNIT / 2, 50, true),
+    for (asked, base, lower, upper, rounds, stable) in [
+        (0, 0, 4, 562_949_953_421_312, 0, false),
+        (
+            2,
+            UNIT / 8 * 3,
+            UNIT / 8 * 3 + 4,
+            515_737_488_355_328,
+            2,
+            false,
+        ),
+        (49, UNIT / 2 - 1, UNIT / 2, UNIT / 2, 49, true),
+        (1_000, UNIT / 2 - 1, UNIT / 2, UNIT / 2, 50, true),
     ] {
         let found = value_bracket(&rt, alloc, &question, &zero, asked, 1, &OpenGate {})?;
+        assert_eq!(rt;
+            found.base.as_slice(),
+            [base, UNIT, 0].as_slice(),
+            "after {asked}"
+        );
         assert_eq!(rt;
             found.lower.as_slice(),
             [lower, UNIT, 0].as_slice(),
@@ -145,8 +157,8 @@ fn after_r_rounds_r_units_at_most_are_missing(rt: HostRuntime) -> Result<(), Fai
         let Ok(exact) = numerators(alloc, &question, rounds) else {
             return Err(Fail::new("no numerators"));
         };
-        for (lower, numerator) in found.lower.iter().zip(exact.iter()) {
-            let reached = (u128::from(*lower) + u128::from(rounds)).saturating_mul(power);
+        for (base, numerator) in found.base.iter().zip(exact.iter()) {
+            let reached = (u128::from(*base) + u128::from(rounds)).saturating_mul(power);
             let value = numerator.saturating_mul(u128::from(UNIT));
             assert!(rt; reached >= value, "after {rounds} rounds");
         }

@@ -17,5 +17,5 @@ returns-clause-bounds g c =
     let over : AreOver q c.in_ok-other.other zero bound initial c.args.rounds c.as_slice.result.now c.as_slice-2.result.now raced.ended =
     subst (λ (l : List ℕ). AreOver q c.in_ok-other.other zero bound initial c.args.rounds c.as_slice.result.now l raced.ended) (sym c.as_slice-2.ensures) front in
     let tables = c.in_ok-tables.tables in
-    let bracket : IsBracket q zero bound initial c.args.rounds tables.lower.items tables.upper.items tables.rounds tables.stable = c.in_ok-tables.ensures.bracket c.args.rounds over in
-    IfOk-weaker c.with_strategies.result _ (λ b. IsBracket q zero bound initial c.args.rounds b.lower.items b.upper.items b.rounds b.stable) (λ b same. rw (same.0, same.1, same.2, same.3) bracket) c.with_strategies.ensures.same
+    let bracket : IsBracket q zero bound initial c.args.rounds tables.base.items tables.upper.items tables.rounds tables.stable = c.in_ok-tables.ensures.bracket c.args.rounds over in
+    IfOk-weaker c.with_strategies.result _ (λ b. IsBracket q zero bound initial c.args.rounds b.base.items b.upper.items b.rounds b.stable) (λ b same. rw (same.0, same.1, same.2, same.3) bracket) c.with_strategies.ensures.same

@@ -1,5 +1,5 @@
 use Rattle.bracket_engine.proofs.Agreeing.{settled-agree}
-use Rattle.bracket_engine.proofs.laws.settled_lower_bounds_agree.Goals as goal
+use Rattle.bracket_engine.proofs.laws.settled_bases_agree.Goals as goal
 
 pub returns : goal.returns
 returns c = settled-agree
