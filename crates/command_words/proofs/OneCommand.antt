@@ -27,16 +27,17 @@ one_asked : (value : Text → Option Text) (a b : Asked) → SayAsked value a �
 one_asked value a b x y =
     same_asked a.tra a.lab a.formula b.tra b.lab b.formula a.own b.own (sym x.tra.given ∙ y.tra.given) (sym x.lab.given ∙ y.lab.given) (sym x.formula ∙ y.formula) (x.own ∙ sym y.own)
 
-same_check : (q q' : Asked) (r r' w w' : ℕ) (p p' : Bool) → q ≡ q' → r ≡ r' → w ≡ w' → p ≡ p'
-    → ◌≡◌ {A = Check} (record { asked = q; rounds = r; workers = w; plan = p }) (record { asked = q'; rounds = r'; workers = w'; plan = p' })
-same_check q q' r r' w w' p p' a b c d = cc (a, b, c, d)
+same_check : (q q' : Asked) (r r' w w' : ℕ) (p p' t t' : Bool) → q ≡ q' → r ≡ r' → w ≡ w' → p ≡ p' → t ≡ t'
+    → ◌≡◌ {A = Check} (record { asked = q; rounds = r; workers = w; plan = p; traps = t }) (record { asked = q'; rounds = r'; workers = w'; plan = p'; traps = t' })
+same_check q q' r r' w w' p p' t t' a b c d e = cc (a, b, c, d, e)
 
 -- values say one thing of `check`
 one_check : (value : Text → Option Text) (a b : Check) → SayCheck value a → SayCheck value b → a ≡ b
-one_check value a b x y = same_check a.asked b.asked a.rounds b.rounds a.workers b.workers a.plan b.plan (one_asked value a.asked b.asked x.asked y.asked)
+one_check value a b x y = same_check a.asked b.asked a.rounds b.rounds a.workers b.workers a.plan b.plan a.traps b.traps (one_asked value a.asked b.asked x.asked y.asked)
     (one_number 10000 (value (codes "rounds")) a.rounds b.rounds x.limits.of_rounds y.limits.of_rounds)
     (one_number 4 (value (codes "workers")) a.workers b.workers x.limits.of_workers y.limits.of_workers)
     (one_flag (value (codes "plan") ≡ Some (codes "true")) a.plan b.plan x.plan y.plan)
+    (one_flag (value (codes "traps") ≡ Some (codes "true")) a.traps b.traps x.traps y.traps)
 
 same_audit : (q q' : Asked) (c c' : List ℕ) → q ≡ q' → Some c ≡ Some c' → ◌≡◌ {A = Audit} (record { asked = q; certificate = c }) (record { asked = q'; certificate = c' })
 same_audit q q' c c' a b = cc (a, b)

@@ -1,4 +1,4 @@
--- The words behind `check`, `audit`, `make` and `sure`, as `clap` reads them: `TRA LAB FORMULA [--own FILE] [--rounds R] [--workers W] [--plan]`,
+-- The words behind `check`, `audit`, `make` and `sure`, as `clap` reads them: `TRA LAB FORMULA [--own FILE] [--rounds R] [--workers W] [--plan] [--traps]`,
 -- `TRA LAB FORMULA CERT [--own FILE]`, `SEED STATES [--rounds R] [--workers W]` and `TRA LAB FORMULA [--own FILE]`.
 use Rattle.std.specs.Prelude.{◌≡◌, ℕ, List, [], codes, pos, true, Option, Some}
 use Rattle.clap.specs.Words.{App, IsParsedFrom, Rule, Text, app_of, fault_of, first_of, first_value, found_of, matches_of, new_app, new_rule, rows_of, with_rule}
@@ -38,7 +38,7 @@ abbrev pub with_run_limits : App → App
 with_run_limits app = with_rule (with_rule app (with_range (option (codes "rounds")) 0 most_rounds)) (with_range (option (codes "workers")) 1 most_workers)
 
 abbrev pub check_app : App
-check_app = with_rule (with_run_limits (asked_app (codes "check"))) (flag (codes "plan"))
+check_app = with_rule (with_rule (with_run_limits (asked_app (codes "check"))) (flag (codes "plan"))) (flag (codes "traps"))
 
 abbrev pub audit_app : App
 audit_app = with_rule (asked_app (codes "audit")) (positional (codes "certificate"))

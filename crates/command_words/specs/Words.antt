@@ -26,6 +26,7 @@ pub record Check : Type 0 where
   pub rounds : ℕ
   pub workers : ℕ
   pub plan : Bool
+  pub traps : Bool
 
 -- the words of `audit`
 pub record Audit : Type 0 where
@@ -109,6 +110,7 @@ pub record SayCheck (value : Text → Option Text) (check : Check) : Type 0 wher
   pub asked : SayAsked value check.asked
   pub limits : SayRunLimits value check.rounds check.workers
   pub plan : IsTrue check.plan ↔ (value (codes "plan") ≡ Some (codes "true"))
+  pub traps : IsTrue check.traps ↔ (value (codes "traps") ≡ Some (codes "true"))
 
 -- the values of the names say this of `audit`
 pub record SayAudit (value : Text → Option Text) (audit : Audit) : Type 0 where
@@ -176,7 +178,7 @@ abbrev pub asked_of_words : AskedWords → Asked
 asked_of_words words = record { tra = words.tra.now; lab = words.lab.now; formula = words.formula.now; own = option_map (λ file. file.now) words.own }
 
 abbrev pub check_of : CheckWords → Check
-check_of words = record { asked = asked_of_words words.asked; rounds = words.rounds; workers = words.workers; plan = words.plan }
+check_of words = record { asked = asked_of_words words.asked; rounds = words.rounds; workers = words.workers; plan = words.plan; traps = words.traps }
 
 abbrev pub audit_of : AuditWords → Audit
 audit_of words = record { asked = asked_of_words words.asked; certificate = words.certificate.now }

@@ -13,7 +13,9 @@ use std::alloc::{AllocError, Global};
 pub fn check_command<'a>(alloc: Global) -> Result<Command<'a>, AllocError>
     ensures { IfOk result (λ command. app_of command ≡ check_app) }
 {
-    with_run_limits(alloc, asked_command(alloc, "check")?)?.arg(flag(alloc, "plan"))
+    with_run_limits(alloc, asked_command(alloc, "check")?)?
+        .arg(flag(alloc, "plan"))?
+        .arg(flag(alloc, "traps"))
 }
 
 /// The command `audit`, whose first word is read already.

@@ -25,6 +25,7 @@ pub fn check_words<'a>(matches: &ArgMatches<'a>) -> Option<CheckWords<'a>>
         rounds: limits.rounds,
         workers: limits.workers,
         plan: is_given(matches.get_str("plan")),
+        traps: is_given(matches.get_str("traps")),
     })
 }
 

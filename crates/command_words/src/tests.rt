@@ -8,7 +8,7 @@ use std::test::Fail;
 const TAKEN: [&str; 25] = [
     "check m.tra m.lab F",
     "check m.tra m.lab ",
-    "check --plan --own m.own m.tra --rounds=0 m.lab F --workers 64",
+    "check --plan --own m.own m.tra --rounds=0 m.lab --traps F --workers 64",
     "check m.tra m.lab F --rounds 1000000 --workers=1",
     "check m.tra m.lab --rounds +007 F",
     "check --own=m.own -- m.tra m.lab --plan",
@@ -53,7 +53,7 @@ const UNNAMED: [&str; 15] = [
 ];
 
 // Words that are no `check`.
-const NO_CHECK: [&str; 30] = [
+const NO_CHECK: [&str; 32] = [
     "check",
     "check m.tra m.lab",
     "check m.tra m.lab F m.cert",
@@ -68,6 +68,8 @@ const NO_CHECK: [&str; 30] = [
     "check m.tra m.lab F --own a --own b",
     "check m.tra m.lab F --plan --plan",
     "check m.tra m.lab F --plan=true",
+    "check m.tra m.lab F --traps --traps",
+    "check m.tra m.lab F --traps=true",
     "check m.tra m.lab F --pla",
     "check m.tra m.lab F -p",
     "check m.tra m.lab F --help",
@@ -87,7 +89,7 @@ const NO_CHECK: [&str; 30] = [
 ];
 
 // Words that are no `audit`.
-const NO_AUDIT: [&str; 16] = [
+const NO_AUDIT: [&str; 17] = [
     "audit",
     "audit m.tra m.lab F",
     "audit m.tra m.lab F ",
@@ -101,6 +103,7 @@ const NO_AUDIT: [&str; 16] = [
     "audit m.tra m.lab F m.cert --rounds 5",
     "audit m.tra m.lab F m.cert --workers=2",
     "audit m.tra m.lab F m.cert --plan",
+    "audit m.tra m.lab F m.cert --traps",
     "audit m.tra m.lab F m.cert --help",
     "audit m.tra m.lab F m.cert -h",
     "audit m.tra m.lab F --certificate m.cert",
@@ -212,7 +215,20 @@ fn a_check_says_its_words(rt: HostRuntime) -> Result<(), Fail> {
     assert_eq!(rt; check.asked.lab, "m.lab");
     assert_eq!(rt; check.asked.formula, "-F");
     assert_eq!(rt; check.asked.own, Some("m.own"));
-    assert_eq!(rt; (check.rounds, check.workers, check.plan), (99, 4, true));
+    assert_eq!(rt;
+        (check.rounds, check.workers, check.plan, check.traps),
+        (99, 4, true, false)
+    );
+    Ok(())
+}
+
+#[test]
+fn traps_are_not_a_plan(rt: HostRuntime) -> Result<(), Fail> {
+    let words = words(rt.alloc(), "check m.tra --traps m.lab F")?;
+    let Ok(Some(CommandWords::Check(check))) = read_words(rt.alloc(), &words) else {
+        return Err(Fail::new("no check"));
+    };
+    assert_eq!(rt; (check.plan, check.traps), (false, true));
     Ok(())
 }
 
@@ -224,8 +240,8 @@ fn a_check_has_defaults(rt: HostRuntime) -> Result<(), Fail> {
     };
     assert_eq!(rt; check.asked.own, None);
     assert_eq!(rt;
-        (check.rounds, check.workers, check.plan),
-        (10_000, 4, false)
+        (check.rounds, check.workers, check.plan, check.traps),
+        (10_000, 4, false, false)
     );
     Ok(())
 }

@@ -26,7 +26,7 @@ pub struct AskedWords<'a> {
     pub own: Option<&'a str>,
 }
 
-/// The words of `check`: `TRA LAB FORMULA [--own FILE] [--rounds R] [--workers W] [--plan]`.
+/// The words of `check`: `TRA LAB FORMULA [--own FILE] [--rounds R] [--workers W] [--plan] [--traps]`.
 #[derive(Clone, Copy, Debug)]
 pub struct CheckWords<'a> {
     /// The question.
@@ -37,6 +37,8 @@ pub struct CheckWords<'a> {
     pub workers: u32,
     /// Whether the certificate is to be written.
     pub plan: bool,
+    /// Whether the upper table is to be lowered to the best exits of traps.
+    pub traps: bool,
 }
 
 /// The words of `audit`: `TRA LAB FORMULA CERT [--own FILE]`.

@@ -8,5 +8,7 @@ pub returns : goal.returns
 returns c =
     let asked : app_of c.in_ok-asked_command.field-0 ≡ asked_app (codes "check") = search rules in
     let plan : rule_of c.flag.result ≡ flag (codes "plan") = search rules in
+    let traps : rule_of c.flag-2.result ≡ flag (codes "traps") = search rules in
     let limited = c.in_ok-with_run_limits.ensures ∙ ap with_run_limits asked in
-    IfOk-weaker c.arg.result _ _ (λ r h. h.shape c.flag.ensures.local ∙ ap₂ with_rule limited plan) c.arg.ensures
+    let planned = c.in_ok-arg.ensures.shape c.flag.ensures.local ∙ ap₂ with_rule limited plan in
+    IfOk-weaker c.arg-2.result _ _ (λ r h. h.shape c.flag-2.ensures.local ∙ ap₂ with_rule planned traps) c.arg-2.ensures
