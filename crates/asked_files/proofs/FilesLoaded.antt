@@ -1,0 +1,65 @@
+-- What loading answers of a file that is read by lines.
+use Rattle.std.proofs.Common.{◌≡◌, ◌∙◌, ◌<◌, ◌≤◌, ℕ, Bool, true, List, length, Option, Some, None, Result, Ok, Err, refl, sym, ap, subst}
+use Rattle.std.specs.Prelude.{IsSome}
+use Rattle.text_lines.specs.Limits.{most_bytes}
+use Rattle.game_outside.specs.declared.file.FileEnd.{FileEnd}
+use Rattle.game_outside.specs.declared.file.FileEnd.TheVariants as file
+use Rattle.game_outside.specs.Outside.{Holding, Holds, IsHeldAs, IsHeldLonger}
+use Rattle.game_outside.specs.Files.{OfText, ReadsFile}
+use Rattle.asked_files.specs.declared.load.End.{End}
+use Rattle.asked_files.specs.declared.load.End.TheVariants.{Refused, ReadFault}
+use Rattle.run_refusals.specs.declared.refusal.Text.{Text}
+use Rattle.run_refusals.specs.declared.refusal.Refusal.{Refusal}
+use Rattle.run_refusals.specs.declared.refusal.Refusal.TheVariants.{TooLong}
+use Rattle.asked_files.specs.Said.{Said, Refuses, and_then, read_said}
+use Rattle.asked_files.specs.Sources.{WhereTold}
+use Rattle.asked_files.specs.Loading.{LoadsText, end_of}
+use Rattle.asked_files.specs.Texts.{text_said}
+use Rattle.asked_files.proofs.Lengths.{short_says, long_refuses, longer}
+use Rattle.asked_files.proofs.Loading.{read_as_told, wanting}
+
+-- what is held under a name is the text
+as_held : (holding : Option Holding) (name bytes : List ℕ) → IsHeldAs holding name bytes → WhereTold holding (λ held. Some bytes ≡ held name)
+as_held None name bytes is = tt
+as_held (Some held) name bytes is = sym is
+
+none_there : (source : Option (List ℕ)) → (IsSome source → ⊥) → None ≡ source
+none_there None absent = refl
+none_there (Some bytes) absent = absurd (absent refl)
+
+module _ {X F : Type 0} (text : Text) (refusal : F → Refusal) (said : List ℕ → Result X F) (holding : Option Holding) (steady : Bool) (name : List ℕ) where
+  -- what is said of a text that may not be there
+  abbrev said_of : Option (List ℕ) → Said X
+  said_of source = and_then (text_said text source) (λ bytes. read_said refusal (said bytes))
+
+  abbrev Answers : Result X End → Type 0
+  Answers result = LoadsText holding steady (λ held. held name) (λ x. x) result said_of
+
+  says_so : (bytes : List ℕ) (answer : Result X F) → length bytes ≤ most_bytes → said bytes ≡ answer → said_of (Some bytes) ≡ read_said refusal answer
+  says_so bytes answer short is = ap (λ s. and_then s (λ bytes. read_said refusal (said bytes))) (short_says text bytes short) ∙ ap (λ r. read_said refusal r) is
+
+  pub file_read : (x : X) → OfText holding name most_bytes (λ bytes. said bytes ≡ Ok x) → Answers (Ok x)
+  file_read x of = read_as_told holding steady (λ held. held name) (λ x. x) (Ok x) said_of (Some of.text) (as_held holding name of.text of.told) (says_so of.text (Ok x) of.within of.holds)
+
+  long_so : (bytes : List ℕ) → most_bytes < length bytes → said_of (Some bytes) ≡ Refuses (TooLong text)
+  long_so bytes long = ap (λ s. and_then s (λ bytes. read_said refusal (said bytes))) (long_refuses text bytes long)
+
+  too_long : (holding : Option Holding) → IsHeldLonger holding name most_bytes → LoadsText holding steady (λ held. held name) (λ x. x) (Err (Refused (TooLong text))) said_of
+  too_long None is = let some = longer most_bytes in read_as_told None steady (λ held. held name) (λ x. x) (Err (Refused (TooLong text))) said_of (Some some.0) tt (long_so some.0 some.1)
+  too_long (Some held) is = read_as_told (Some held) steady (λ held. held name) (λ x. x) (Err (Refused (TooLong text))) said_of (Some is.0) (sym is.1) (long_so is.0 is.2)
+
+  not_read : (holding : Option Holding) → (steady ≡ true → Holds holding name → ⊥) → LoadsText holding steady (λ held. held name) (λ x. x) (Err ReadFault) said_of
+  not_read None never = record { source = None; told = λ fails. tt; steadily = λ calm. tt; loads = refl }
+  not_read (Some held) never = record { source = None; told = λ fails. absurd (fails refl); steadily = λ calm. none_there (held name) (never calm); loads = refl }
+
+  file_ends : (end : FileEnd F) → ReadsFile {X = X} (λ bytes answer. said bytes ≡ answer) holding name most_bytes (Err end) → (end ≡ file.ReadFault → steady ≡ true → Holds holding name → ⊥) → Answers (Err (end_of text refusal end))
+  file_ends file.OutOfMemory reads never = wanting holding steady (λ held. held name) (λ x. x) said_of
+  file_ends file.ReadFault reads never = not_read holding (never refl)
+  file_ends file.TooLong reads never = too_long holding reads
+  file_ends (file.Refused fault) of never =
+      read_as_told holding steady (λ held. held name) (λ x. x) (Err (Refused (refusal fault))) said_of (Some of.text) (as_held holding name of.text of.told) (says_so of.text (Err fault) of.within of.holds)
+
+  -- the same of an end that is the file's
+  pub file_fails : (end : FileEnd F) (other : End) → other ≡ end_of text refusal end → ReadsFile {X = X} (λ bytes answer. said bytes ≡ answer) holding name most_bytes (Err end)
+      → (end ≡ file.ReadFault → steady ≡ true → Holds holding name → ⊥) → Answers (Err other)
+  file_fails end other is reads never = subst (λ e. Answers (Err e)) (sym is) (file_ends end reads never)

@@ -1,0 +1,127 @@
+-- What the texts of a command say together, from what each says.
+use Rattle.std.proofs.Common.{◌≡◌, ◌∙◌, ℕ, List, length, Option, Some, None, Err, refl, ap, subst}
+use Rattle.game_outside.specs.Outside.{Holding}
+use Rattle.game_model.specs.Game.{Distribution}
+use Rattle.label_reader.specs.Labels.{Labelling}
+use Rattle.label_reader.specs.Owners.{Ownership}
+use Rattle.rpatl_syntax.specs.Formula.{Tree, tree_of}
+use Rattle.rpatl_syntax.specs.Rules.{Denotes}
+use Rattle.command_words.specs.Words.{Asked}
+use Rattle.run_refusals.specs.declared.refusal.Refusal.{Refusal}
+use Rattle.asked_files.specs.declared.load.End.{End}
+use Rattle.asked_files.specs.declared.load.End.TheVariants.{Refused}
+use Rattle.asked_files.specs.Loading.{Loads}
+use Rattle.asked_files.specs.Said.{Said, NotHeld, Refuses, Says, and_then}
+use Rattle.asked_files.specs.Sources.{Sources, held_own, sources_of, WhereTold, AreSources}
+use Rattle.asked_files.specs.Texts.{game_said, labels_said, owners_said}
+use Rattle.asked_files.specs.Posed.{Reading, formula_read, reading_with, behind_owners, behind_labels, behind_game, reading_said, posed}
+use Rattle.asked_files.specs.Questions.{LacksText, Reads, ReadsAs}
+use Rattle.asked_files.proofs.Asking.{said_asks}
+use Rattle.asked_files.proofs.Loading.{TextSays}
+
+-- 1. Sources as they are told.
+
+-- a source for a text that plays no part
+as_told : (holding : Option Holding) (place : Holding → Option (List ℕ)) → (source : Option (List ℕ)) × WhereTold holding (λ held. source ≡ place held)
+as_told None place = (None, tt)
+as_told (Some held) place = (place held, refl)
+
+all_told : (holding : Option Holding) (asked : Asked) (tra lab own : Option (List ℕ)) → WhereTold holding (λ held. tra ≡ held asked.tra) → WhereTold holding (λ held. lab ≡ held asked.lab)
+    → WhereTold holding (λ held. own ≡ held_own asked.own held) → AreSources holding asked (record { tra = tra; lab = lab; own = own })
+all_told None asked tra lab own of_tra of_lab of_own = tt
+all_told (Some held) asked tra lab own of_tra of_lab of_own = cc (of_tra, of_lab, of_own)
+
+-- 2. Where reading ends, and that it comes to its end.
+
+-- reading ends where a text is refused or not held
+abbrev pub ends : {X : Type 0} → Option Refusal → Said X
+ends None = NotHeld
+ends (Some refusal) = Refuses refusal
+
+ends-behind : {X Y : Type 0} (end : Option Refusal) (next : X → Said Y) → and_then (ends end) next ≡ ends end
+ends-behind None next = refl
+ends-behind (Some refusal) next = refl
+
+module _ (holding : Option Holding) (asked : Asked) where
+  -- what the transition text, the label text and the owner text say
+  abbrev pub SaysGame : Said (List (List Distribution)) → Type 0
+  SaysGame said = TextSays holding (λ held. held asked.tra) game_said said
+
+  abbrev pub SaysLabels : ℕ → Said Labelling → Type 0
+  SaysLabels states said = TextSays holding (λ held. held asked.lab) (λ source. labels_said source states) said
+
+  abbrev pub SaysOwners : ℕ → Said Ownership → Type 0
+  SaysOwners states said = TextSays holding (held_own asked.own) (λ source. owners_said asked.own source states) said
+
+  pub game_ends : (end : Option Refusal) → SaysGame (ends end) → ReadsAs holding asked (ends end)
+  game_ends end tra =
+      let lab = as_told holding (λ held. held asked.lab) in
+      let own = as_told holding (held_own asked.own) in
+      let sources : Sources = record { tra = tra.source; lab = lab.0; own = own.0 } in
+      record {
+        sources = sources;
+        told = all_told holding asked tra.source lab.0 own.0 tra.told lab.1 own.1;
+        says = ap (λ s. and_then s (λ game. behind_game sources asked game)) tra.says ∙ ends-behind end (λ game. behind_game sources asked game);
+      }
+
+  module _ (game : List (List Distribution)) (tra : SaysGame (Says game)) where
+    pub labels_end : (end : Option Refusal) → SaysLabels (length game) (ends end) → ReadsAs holding asked (ends end)
+    labels_end end lab =
+        let own = as_told holding (held_own asked.own) in
+        let sources : Sources = record { tra = tra.source; lab = lab.source; own = own.0 } in
+        record {
+          sources = sources;
+          told = all_told holding asked tra.source lab.source own.0 tra.told lab.told own.1;
+          says = ap (λ s. and_then s (λ game. behind_game sources asked game)) tra.says ∙ ap (λ s. and_then s (λ labels. behind_labels sources asked game labels)) lab.says
+              ∙ ends-behind end (λ labels. behind_labels sources asked game labels);
+        }
+
+    module _ (labels : Labelling) (lab : SaysLabels (length game) (Says labels)) where
+      -- what the owner text says is what is said of the reading behind it
+      behind : (said : Said Ownership) → SaysOwners (length game) said → ReadsAs holding asked (and_then said (λ owners. behind_owners asked game labels owners))
+      behind said own =
+          let sources : Sources = record { tra = tra.source; lab = lab.source; own = own.source } in
+          record {
+            sources = sources;
+            told = all_told holding asked tra.source lab.source own.source tra.told lab.told own.told;
+            says = ap (λ s. and_then s (λ game. behind_game sources asked game)) tra.says ∙ ap (λ s. and_then s (λ labels. behind_labels sources asked game labels)) lab.says
+                ∙ ap (λ s. and_then s (λ owners. behind_owners asked game labels owners)) own.says;
+          }
+
+      pub owners_end : (end : Option Refusal) → SaysOwners (length game) (ends end) → ReadsAs holding asked (ends end)
+      owners_end end own = subst (λ (s : Said Reading). ReadsAs holding asked s) (ends-behind end (λ owners. behind_owners asked game labels owners)) (behind (ends end) own)
+
+      pub formula_ends : (owners : Ownership) → SaysOwners (length game) (Says owners) → (end : Option Refusal) → formula_read asked.formula ≡ ends end → ReadsAs holding asked (ends end)
+      formula_ends owners own end is =
+          let next = λ (formula : Tree). Says (reading_with game labels owners formula) in
+          subst (λ (s : Said Reading). ReadsAs holding asked s) (ap (λ s. and_then s next) is ∙ ends-behind end next) (behind (Says owners) own)
+
+      pub all_read : (owners : Ownership) → SaysOwners (length game) (Says owners) → (formula : Tree) → formula_read asked.formula ≡ Says formula → ReadsAs holding asked (Says (reading_with game labels owners formula))
+      all_read owners own formula is =
+          let next = λ (formula : Tree). Says (reading_with game labels owners formula) in
+          subst (λ (s : Said Reading). ReadsAs holding asked s) (ap (λ s. and_then s next) is) (behind (Says owners) own)
+
+-- a formula that is refused
+pub formula_refused : (text : List ℕ) {end : End} {refusal : Refusal} → Loads tree_of (Err end) (formula_read text) → end ≡ Refused refusal → formula_read text ≡ Refuses refusal
+formula_refused text loads is = subst (λ (e : End). Loads tree_of (Err e) (formula_read text)) is loads
+
+-- 3. What is read of the texts is asked.
+
+pub reads : (holding : Option Holding) (asked : Asked) (reading : Reading) → ReadsAs holding asked (Says reading) → Denotes asked.formula reading.formula → Reads holding asked reading
+reads holding asked reading said spelled = record {
+  said = said;
+  spelled = spelled;
+  asks = λ posing is. record {
+    sources = said.sources;
+    told = said.told;
+    asks = said_asks said.sources asked posing (ap (λ s. and_then s (λ r. posed r)) said.says ∙ is);
+  };
+  refuses = λ refusal is. record { sources = said.sources; told = said.told; refuses = ap (λ s. and_then s (λ r. posed r)) said.says ∙ is };
+}
+
+-- where the holding is told, it lacks a text that is not held
+pub lacks : (holding : Option Holding) (asked : Asked) → ReadsAs holding asked NotHeld → LacksText holding asked
+lacks None asked said = tt
+lacks (Some held) asked said =
+    let missing : reading_said (sources_of held asked) asked ≡ NotHeld = subst (λ (s : Sources). reading_said s asked ≡ NotHeld) said.told said.says in
+    ap (λ s. and_then s (λ r. posed r)) missing

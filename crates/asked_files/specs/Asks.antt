@@ -1,0 +1,38 @@
+-- The question that texts and words ask, as a relation.
+use Rattle.std.specs.Prelude.{◌≡◌, ◌≤◌, ℕ, List, length, Option, Some, None}
+use Rattle.text_lines.specs.Limits.{most_bytes}
+use Rattle.game_model.specs.Game.{Distribution}
+use Rattle.tra_reader.specs.Text.{Denotes as DenotesGame}
+use Rattle.label_reader.specs.Denotes.{DenotesLabels, DenotesOwners}
+use Rattle.label_reader.specs.Labels.{Labelling}
+use Rattle.label_reader.specs.Owners.{Ownership}
+use Rattle.rpatl_syntax.specs.Formula.{Tree}
+use Rattle.rpatl_syntax.specs.Rules.{Denotes as DenotesFormula}
+use Rattle.formula_sets.specs.Posing.{Posing, Poses}
+use Rattle.command_words.specs.Words.{Asked}
+use Rattle.asked_files.specs.Sources.{Sources}
+use Rattle.asked_files.specs.Texts.{single_owner}
+
+-- there is a text, within the limit, and this is true of it
+pub record IsText (source : Option (List ℕ)) (IsSo : List ℕ → Type 0) : Type 0 where
+  pub text : List ℕ
+  pub given : source ≡ Some text
+  pub short : length text ≤ most_bytes
+  pub is_so : IsSo text
+
+-- where no owner file is named, one player owns all states; else these are the owners that its text denotes
+abbrev pub AreOwners : Option (List ℕ) → Option (List ℕ) → ℕ → Ownership → Type 0
+AreOwners None source states owners = owners ≡ single_owner states
+AreOwners (Some name) source states owners = IsText source (λ text. DenotesOwners text states owners)
+
+-- The transition text denotes a game, the label text labels of its states, and the owner text owners of them; the formula poses the question of these.
+pub record Asks (sources : Sources) (asked : Asked) (posing : Posing) : Type 0 where
+  pub game : List (List Distribution)
+  pub labels : Labelling
+  pub owners : Ownership
+  pub formula : Tree
+  pub tra : IsText sources.tra (λ text. DenotesGame text game)
+  pub lab : IsText sources.lab (λ text. DenotesLabels text (length game) labels)
+  pub own : AreOwners asked.own sources.own (length game) owners
+  pub spelled : DenotesFormula asked.formula formula
+  pub poses : Poses game labels owners formula posing

@@ -1,0 +1,60 @@
+-- What loading answers, of the texts that it reads.
+use Rattle.std.specs.Prelude.{◌≡◌, ◌<◌, ◌≤◌, ◌+◌, ◌⊎◌, ℕ, Bool, true, List, Option, Result, Ok, Err, IsErrOf}
+use Rattle.text_lines.specs.Limits.{most_bytes}
+use Rattle.game_outside.specs.Limits.{piece_size}
+use Rattle.game_outside.specs.declared.file.FileEnd.{FileEnd}
+use Rattle.game_outside.specs.declared.file.FileEnd.TheVariants as file
+use Rattle.game_outside.specs.Outside.{Holding, Rose, KeepsShelf}
+use Rattle.run_refusals.specs.declared.refusal.Text.{Text}
+use Rattle.run_refusals.specs.declared.refusal.Refusal.{Refusal}
+use Rattle.run_refusals.specs.declared.refusal.Refusal.TheVariants.{TooLong}
+use Rattle.run_refusals.specs.Caused.{IsCaused}
+use Rattle.asked_files.specs.declared.load.End.{End}
+use Rattle.asked_files.specs.declared.load.End.TheVariants.{OutOfMemory, ReadFault, Refused}
+use Rattle.asked_files.specs.Said.{Said, NotHeld, Refuses, Says}
+use Rattle.asked_files.specs.Sources.{WhereTold}
+
+-- the answer is what is said, or memory was wanting
+abbrev pub Loads : {X Y : Type 0} → (X → Y) → Result X End → Said Y → Type 0
+Loads view (Ok x) said = said ≡ Says (view x)
+Loads view (Err OutOfMemory) said = Unit {0}
+Loads view (Err ReadFault) said = said ≡ NotHeld
+Loads view (Err (Refused refusal)) said = said ≡ Refuses refusal
+
+-- The answer is what is said of a source. It is the one that is held at the place, where this is told, unless it can't be read; on a steady shelf it always is.
+pub record LoadsText {X Y : Type 0} (holding : Option Holding) (steady : Bool) (place : Holding → Option (List ℕ)) (view : X → Y) (result : Result X End) (said : Option (List ℕ) → Said Y) : Type 0 where
+  pub source : Option (List ℕ)
+  pub told : (IsErrOf result ReadFault → ⊥) → WhereTold holding (λ held. source ≡ place held)
+  pub steadily : steady ≡ true → WhereTold holding (λ held. source ≡ place held)
+  pub loads : Loads view result (said source)
+
+-- loading refuses nothing for want of memory
+abbrev pub RefusesCaused : {X : Type 0} → Result X End → Type 0
+RefusesCaused (Ok x) = Unit {0}
+RefusesCaused (Err OutOfMemory) = Unit {0}
+RefusesCaused (Err ReadFault) = Unit {0}
+RefusesCaused (Err (Refused refusal)) = IsCaused refusal
+
+-- a text was too long
+abbrev pub IsTooLong : {X : Type 0} → Result X End → Type 0
+IsTooLong {X} result = (text : Text) × (result ≡ Err (Refused (TooLong text)))
+
+-- how much is taken of the last text that loading reads: it is too long exactly where that is more than the limit
+pub record Takes {X : Type 0} (result : Result X End) (taken : ℕ) : Type 0 where
+  pub most : taken ≤ most_bytes + piece_size
+  pub too_long : IsTooLong result → most_bytes < taken
+  pub only_too_long : most_bytes < taken → IsTooLong result ⊎ IsErrOf result OutOfMemory
+
+-- What loading does to a shelf.
+pub record LoadingLeaves {S X : Type 0} (held : S → Option Holding) (steady : S → Bool) (faults took : S → ℕ) (old new : S) (result : Result X End) : Type 0 where
+  -- it doesn't fail by itself
+  pub read_fault : IsErrOf result ReadFault → Rose (faults old) (faults new)
+  pub takes : Takes result (took new)
+  pub kept : KeepsShelf (held old) (held new) (steady old) (steady new) (faults old) (faults new)
+
+-- the end that the end of a file comes to, which has this text
+abbrev pub end_of : {F : Type 0} → Text → (F → Refusal) → FileEnd F → End
+end_of text refusal file.OutOfMemory = OutOfMemory
+end_of text refusal file.ReadFault = ReadFault
+end_of text refusal file.TooLong = Refused (TooLong text)
+end_of text refusal (file.Refused fault) = Refused (refusal fault)

@@ -1,0 +1,34 @@
+-- The texts of the question that a command names.
+use Rattle.std.specs.Prelude.{◌≡◌, ℕ, List, Option, Some, None}
+use Rattle.game_outside.specs.Outside.{Holding}
+use Rattle.command_words.specs.Words.{Asked}
+
+-- a text for each file of the question, or none
+pub record Sources : Type 0 where
+  pub tra : Option (List ℕ)
+  pub lab : Option (List ℕ)
+  pub own : Option (List ℕ)
+
+-- what is held under the name of an owner file, where one is named
+abbrev pub held_own : Option (List ℕ) → Holding → Option (List ℕ)
+held_own None held = None
+held_own (Some name) held = held name
+
+-- what is held under the names of the question's files
+abbrev pub sources_of : Holding → Asked → Sources
+sources_of held asked = record { tra = held asked.tra; lab = held asked.lab; own = held_own asked.own held }
+
+-- where the holding is told, it has P
+abbrev pub WhereTold : Option Holding → (Holding → Type 0) → Type 0
+WhereTold None P = Unit {0}
+WhereTold (Some held) P = P held
+
+-- where the holding is told, these are the texts that it has under those names
+abbrev pub AreSources : Option Holding → Asked → Sources → Type 0
+AreSources holding asked sources = WhereTold holding (λ held. sources ≡ sources_of held asked)
+
+-- there is a source under a name, which is the one that is held where this is told, and this is true of it
+pub record HasSource (holding : Option Holding) (name : List ℕ) (IsSo : Option (List ℕ) → Type 0) : Type 0 where
+  pub source : Option (List ℕ)
+  pub told : WhereTold holding (λ held. source ≡ held name)
+  pub is_so : IsSo source

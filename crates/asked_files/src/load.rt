@@ -1,0 +1,158 @@
+//! The texts of a run, read and judged one after another.
+
+ghost use Rattle.std.specs.Prelude.{◌≡◌, ◌≤◌, ◌⊎◌, IsErrOf, IsOk, IfOk, option_map, length};
+ghost use Rattle.text_lines.specs.Limits.{most_bytes};
+ghost use Rattle.asked_files.specs.Sources.{held_own};
+ghost use Rattle.asked_files.specs.Loading.{LoadingLeaves, LoadsText, RefusesCaused, end_of};
+ghost use Rattle.asked_files.specs.Texts.{text_said, game_said, labels_said, owners_said, single_owner};
+
+use game_model::Game;
+use game_outside::{FileEnd, ReadEnd, Shelf, read_all};
+use label_reader::{LabFault, Labels, Owners, read_labels_from, read_owners_from};
+use run_refusals::{Refusal, Text};
+use std::alloc::Global;
+use text_lines::MOST_BYTES;
+use tra_reader::{TraFault, read_tra_from};
+
+/// How loading ends that gives nothing.
+#[derive(Drop)]
+pub enum End {
+    OutOfMemory,
+    ReadFault,
+    Refused(Refusal),
+}
+
+/// The bytes of a text.
+pub fn load_text<H: Shelf>(
+    alloc: Global,
+    shelf: &mut H,
+    text: Text,
+    name: &str,
+) -> Result<Vec<u8>, End>
+    ensures says { LoadsText (H.held shelf.old) (H.steady shelf.old) (λ held. held name.now) (λ v. v.items) result (text_said text) }
+    ensures within { IfOk result (λ v. length v.items ≤ most_bytes) }
+    ensures shelf { LoadingLeaves H.held H.steady H.faults H.taken shelf.old shelf.new result }
+    ensures caused { RefusesCaused result }
+{
+    match read_all(alloc, shelf, name, MOST_BYTES as u64) {
+        Ok(bytes) => Ok(bytes),
+        Err(ReadEnd::OutOfMemory) => Err(End::OutOfMemory),
+        Err(ReadEnd::ReadFault) => Err(End::ReadFault),
+        Err(ReadEnd::TooLong) => Err(End::Refused(Refusal::TooLong(text))),
+    }
+}
+
+/// The game of the transition file.
+pub fn load_game<H: Shelf>(alloc: Global, shelf: &mut H, name: &str) -> Result<Game, End>
+    ensures says { LoadsText (H.held shelf.old) (H.steady shelf.old) (λ held. held name.now) (λ x. x) result game_said }
+    ensures shelf { LoadingLeaves H.held H.steady H.faults H.taken shelf.old shelf.new result }
+    ensures caused { RefusesCaused result }
+{
+    match read_tra_from(alloc, shelf, name, MOST_BYTES as u64) {
+        Ok(game) => Ok(game),
+        Err(end) => Err(end_of_game(end)),
+    }
+}
+
+// The end where the transition file gives no game.
+fn end_of_game(end: FileEnd<TraFault>) -> End
+    ensures { result ≡ end_of Text.Tra Refusal.OfTra end }
+{
+    match end {
+        FileEnd::OutOfMemory => End::OutOfMemory,
+        FileEnd::ReadFault => End::ReadFault,
+        FileEnd::TooLong => End::Refused(Refusal::TooLong(Text::Tra)),
+        FileEnd::Refused(fault) => End::Refused(Refusal::OfTra(fault)),
+    }
+}
+
+/// The labels of the label file.
+pub fn load_labels<H: Shelf>(
+    alloc: Global,
+    shelf: &mut H,
+    name: &str,
+    states: u32,
+) -> Result<Labels, End>
+    ensures says { LoadsText (H.held shelf.old) (H.steady shelf.old) (λ held. held name.now) (λ x. x) result (λ source. labels_said source states) }
+    ensures shelf { LoadingLeaves H.held H.steady H.faults H.taken shelf.old shelf.new result }
+    ensures caused { RefusesCaused result }
+    ensures sizes { IfOk result (λ labels. labels.states ≡ states) }
+{
+    match read_labels_from(alloc, shelf, name, MOST_BYTES as u64, states) {
+        Ok(labels) => Ok(labels),
+        Err(end) => Err(end_of_labels(end)),
+    }
+}
+
+// The end where the label file gives no labels.
+fn end_of_labels(end: FileEnd<LabFault>) -> End
+    ensures { result ≡ end_of Text.Lab Refusal.OfLab end }
+{
+    match end {
+        FileEnd::OutOfMemory => End::OutOfMemory,
+        FileEnd::ReadFault => End::ReadFault,
+        FileEnd::TooLong => End::Refused(Refusal::TooLong(Text::Lab)),
+        FileEnd::Refused(fault) => End::Refused(Refusal::OfLab(fault)),
+    }
+}
+
+/// The owners of the owner file.
+pub fn load_owner_file<H: Shelf>(
+    alloc: Global,
+    shelf: &mut H,
+    name: &str,
+    states: u32,
+) -> Result<Owners, End>
+    ensures says { LoadsText (H.held shelf.old) (H.steady shelf.old) (λ held. held name.now) (λ x. x) result (λ source. owners_said (Some name.now) source states) }
+    ensures shelf { LoadingLeaves H.held H.steady H.faults H.taken shelf.old shelf.new result }
+    ensures caused { RefusesCaused result }
+    ensures sizes { IfOk result (λ owners. length owners.owners ≡ states) }
+{
+    match read_owners_from(alloc, shelf, name, MOST_BYTES as u64, states) {
+        Ok(owners) => Ok(owners),
+        Err(end) => Err(end_of_owners(end)),
+    }
+}
+
+// The end where the owner file gives no owners.
+fn end_of_owners(end: FileEnd<LabFault>) -> End
+    ensures { result ≡ end_of Text.Own Refusal.OfOwn end }
+{
+    match end {
+        FileEnd::OutOfMemory => End::OutOfMemory,
+        FileEnd::ReadFault => End::ReadFault,
+        FileEnd::TooLong => End::Refused(Refusal::TooLong(Text::Own)),
+        FileEnd::Refused(fault) => End::Refused(Refusal::OfOwn(fault)),
+    }
+}
+
+/// One player owns all states.
+pub fn no_owner_file(alloc: Global, states: u32) -> Result<Owners, End>
+    ensures says { IfOk result (λ owners. owners ≡ single_owner states) }
+    ensures sizes { IfOk result (λ owners. length owners.owners ≡ states) }
+    ensures only { IsErrOf result End.OutOfMemory ⊎ IsOk result }
+{
+    match Owners::single(alloc, states) {
+        Ok(owners) => Ok(owners),
+        Err(_) => Err(End::OutOfMemory),
+    }
+}
+
+/// The owners of the owner file, where one is named; else one player owns all states.
+pub fn load_owners<H: Shelf>(
+    alloc: Global,
+    shelf: &mut H,
+    own: Option<&str>,
+    states: u32,
+) -> Result<Owners, End>
+    requires { H.taken shelf.old ≤ most_bytes }
+    ensures says { LoadsText (H.held shelf.old) (H.steady shelf.old) (held_own (option_map (λ file. file.now) own.entry)) (λ x. x) result (λ source. owners_said (option_map (λ file. file.now) own.entry) source states) }
+    ensures shelf { LoadingLeaves H.held H.steady H.faults H.taken shelf.old shelf.new result }
+    ensures caused { RefusesCaused result }
+    ensures sizes { IfOk result (λ owners. length owners.owners ≡ states) }
+{
+    match own {
+        None => no_owner_file(alloc, states),
+        Some(name) => load_owner_file(alloc, shelf, name, states),
+    }
+}

@@ -1,0 +1,65 @@
+-- Refusals whose numbers are written in full.
+use Rattle.std.specs.Prelude.{ℕ, ◌<◌, ◌^◌}
+use Rattle.distributions.specs.declared.choice.ChoiceFault.{ChoiceFault}
+use Rattle.distributions.specs.declared.choice.ChoiceFault.TheVariants as choice
+use Rattle.tra_reader.specs.declared.fault.TraCause.{TraCause}
+use Rattle.tra_reader.specs.declared.fault.TraCause.TheVariants as tra
+use Rattle.label_reader.specs.declared.faults.LabCause.{LabCause}
+use Rattle.label_reader.specs.declared.faults.LabCause.TheVariants as lab
+use Rattle.inductive_check.specs.declared.upper.UpperCause.{UpperCause}
+use Rattle.inductive_check.specs.declared.upper.UpperCause.TheVariants.{Above}
+use Rattle.rank_certificate.specs.declared.check.RankCause.{RankCause}
+use Rattle.rank_certificate.specs.declared.check.RankCause.TheVariants.{Short, NoStep}
+use Rattle.certificate_audit.specs.declared.fault.AuditFault.{AuditFault}
+use Rattle.certificate_audit.specs.declared.fault.AuditFault.TheVariants as audit
+use Rattle.run_refusals.specs.declared.refusal.Refusal.{Refusal}
+use Rattle.run_refusals.specs.declared.refusal.Refusal.TheVariants.{OfTra, OfLab, OfOwn, OfFormula, OfQuestion, OfCertificate, TooLong}
+
+-- `decimal` writes no more than the last 64 digits of a number; those of 128 bits have at most 39
+abbrev pub IsInFull : ℕ → Type 0
+IsInFull n = n < 10 ^ 64
+
+abbrev pub AreInFull : ℕ → ℕ → Type 0
+AreInFull m n = IsInFull m × IsInFull n
+
+abbrev pub ChoiceInFull : ChoiceFault → Type 0
+ChoiceInFull choice.OutOfMemory = Unit {0}
+ChoiceInFull (choice.TooFine first second) = AreInFull first second
+ChoiceInFull (choice.BadSum sum denominator) = AreInFull sum denominator
+
+abbrev pub TraInFull : TraCause → Type 0
+TraInFull (tra.ActionClash state k) = AreInFull state k
+TraInFull (tra.LineCount read stated) = AreInFull read stated
+TraInFull (tra.ChoiceGap state k) = AreInFull state k
+TraInFull (tra.TooManyChoices state) = IsInFull state
+TraInFull (tra.ChoiceCount read stated) = AreInFull read stated
+TraInFull (tra.Choice state k fault) = AreInFull state k × ChoiceInFull fault
+TraInFull cause = Unit {0}
+
+abbrev pub LabInFull : LabCause → Type 0
+LabInFull (lab.TwoOwners state) = IsInFull state
+LabInFull cause = Unit {0}
+
+abbrev pub UpperInFull : UpperCause → Type 0
+UpperInFull (Above k) = IsInFull k
+UpperInFull cause = Unit {0}
+
+abbrev pub RanksInFull : RankCause → Type 0
+RanksInFull (Short k) = IsInFull k
+RanksInFull (NoStep k) = IsInFull k
+RanksInFull cause = Unit {0}
+
+abbrev pub CertificateInFull : AuditFault → Type 0
+CertificateInFull (audit.Text fault) = IsInFull fault.line
+CertificateInFull (audit.Upper fault) = IsInFull fault.state × UpperInFull fault.cause
+CertificateInFull (audit.Ranks fault) = IsInFull fault.state × RanksInFull fault.cause
+
+-- every number of the refusal has at most 64 digits, as its types hold it
+abbrev pub RefusalInFull : Refusal → Type 0
+RefusalInFull (OfTra fault) = IsInFull fault.line × TraInFull fault.cause
+RefusalInFull (OfLab fault) = IsInFull fault.line × LabInFull fault.cause
+RefusalInFull (OfOwn fault) = IsInFull fault.line × LabInFull fault.cause
+RefusalInFull (OfFormula fault) = IsInFull fault.place
+RefusalInFull (OfQuestion fault) = Unit {0}
+RefusalInFull (OfCertificate fault) = CertificateInFull fault
+RefusalInFull (TooLong text) = Unit {0}

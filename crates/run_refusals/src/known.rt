@@ -1,0 +1,52 @@
+//! What every refusal keeps, since its types hold its numbers.
+
+ghost use Rattle.run_refusals.specs.InFull.{IsInFull, ChoiceInFull, TraInFull, LabInFull, CertificateInFull};
+
+use crate::refusal::Refusal;
+use certificate_audit::AuditFault;
+use distributions::ChoiceFault;
+use label_reader::LabCause;
+use tra_reader::TraCause;
+
+fn known_of_number(number: u32)
+    ensures { IsInFull number }
+{}
+
+fn known_of_choice(fault: ChoiceFault)
+    ensures { ChoiceInFull fault }
+{}
+
+fn known_of_tra(cause: TraCause)
+    ensures { TraInFull cause }
+{}
+
+fn known_of_lab(cause: LabCause)
+    ensures { LabInFull cause }
+{}
+
+fn known_of_certificate(fault: AuditFault)
+    ensures { CertificateInFull fault }
+{}
+
+impl Refusal {
+    ghost use Rattle.run_refusals.specs.InFull.{RefusalInFull};
+
+    /// Its numbers are written in full.
+    pub fn known(&self)
+        ensures { RefusalInFull self.now }
+    {
+        match self {
+            Refusal::OfTra(fault) => {
+                known_of_number(fault.line);
+                known_of_tra(fault.cause);
+            }
+            Refusal::OfLab(fault) | Refusal::OfOwn(fault) => {
+                known_of_number(fault.line);
+                known_of_lab(fault.cause);
+            }
+            Refusal::OfFormula(fault) => known_of_number(fault.place),
+            Refusal::OfCertificate(fault) => known_of_certificate(*fault),
+            Refusal::OfQuestion(_) | Refusal::TooLong(_) => {}
+        }
+    }
+}
