@@ -12,31 +12,32 @@ use Rattle.certificate_audit.specs.Accepted.{Passes, IsSound}
 use Rattle.verdicts.specs.Report.{IsLine, report}
 use Rattle.verdicts.specs.Truth.{IsTold}
 use Rattle.verdicts.specs.Open.{LeavesOpen}
+use Rattle.verdicts.specs.declared.report.How.TheVariants.{Audited}
 use Rattle.verdicts.specs.declared.verdict.Verdict.TheVariants.{Undecided}
 use Rattle.stogame_app.specs.declared.status.Status.{Status}
-use Rattle.stogame_app.specs.Reports.{status_of}
-use Rattle.stogame_app.specs.Audits.{verdict_by, audited_line, IsAudited}
+use Rattle.stogame_app.specs.Printed.{verdict_by, line_by, status_of}
+use Rattle.stogame_app.specs.Audits.{IsAudited}
 use Rattle.stogame_app.proofs.Limits.{at-most}
 
 module _ (q : Query) (posed : IsQuery q) (bound : Bound) (plan : Plan) (lists : HasStates plan (states q)) (passes : Passes q plan) where
-  line-in_range : (s : ℕ) → s < states q → IsLine (audited_line bound plan s)
+  line-in_range : (s : ℕ) → s < states q → IsLine (line_by bound Audited plan s)
   line-in_range s within = record {
     state = omega (arith, within, posed.game.few);
     rounds = tt;
     values = (passes.ranked.units s within, at-most (λ v. v ≤ unit) plan.upper.items s passes.units (subst (λ n. s < n) (sym lists.upper) within));
   }
 
-  pub lines-in_range : (initial : List ℕ) → All (λ s. s < states q) initial → All IsLine (map (audited_line bound plan) initial)
-  lines-in_range initial inside = All-map IsLine (audited_line bound plan) initial (All-weaker (λ s. s < states q) (λ s. IsLine (audited_line bound plan s)) line-in_range initial inside)
+  pub lines-in_range : (initial : List ℕ) → All (λ s. s < states q) initial → All IsLine (map (line_by bound Audited plan) initial)
+  lines-in_range initial inside = All-map IsLine (line_by bound Audited plan) initial (All-weaker (λ s. s < states q) (λ s. IsLine (line_by bound Audited plan s)) line-in_range initial inside)
 
 pub audited : {X E : Type 0} (text : X → List ℕ) (ends : X → Status) (q : Query) (initial : List ℕ) (bound : Bound) (plan : Plan)
     → IsSound q plan
     → All (λ s. Reaches q (slice_index plan.lower.items s) unit s) initial
-    → All IsLine (map (audited_line bound plan) initial)
+    → All IsLine (map (line_by bound Audited plan) initial)
     → All (λ s. IsTold q bound s (verdict_by bound plan s)) initial
     → All (λ s. verdict_by bound plan s ≡ Undecided → LeavesOpen bound (slice_index plan.lower.items s) (slice_index plan.upper.items s) 1 0) initial
     → (result : Result X E)
-    → IfOk result (λ answer. text answer ≡ report (map (audited_line bound plan) initial))
+    → IfOk result (λ answer. text answer ≡ report (map (line_by bound Audited plan) initial))
     → IfOk result (λ answer. ends answer ≡ status_of (map (verdict_by bound plan) initial))
     → IfOk result (λ answer. IsAudited q initial bound plan (text answer) (ends answer))
 audited text ends q initial bound plan sound reached lines told left_open (Ok answer) written ended = record { sound = sound; reached = reached; written = written; lines = lines; ends = ended; told = told; left_open = left_open }

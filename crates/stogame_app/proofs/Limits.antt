@@ -1,5 +1,5 @@
--- What a bracket gives is within the limits of a report and of a certificate.
-use Rattle.std.proofs.Common.{◌≡◌, ◌≤◌, ◌<◌, ◌+◌, ◌^◌, inl, inr, ℕ, Bool, true, false, List, length, All, arith, refl, sym, subst}
+-- What is printed of a plan is within the limits of a report and of a certificate.
+use Rattle.std.proofs.Common.{◌≡◌, ◌≤◌, ◌<◌, ◌+◌, inl, inr, ℕ, Bool, true, false, List, length, All, arith, refl, sym, subst}
 use Rattle.std.specs.Prelude.{slice_index, slice_index_or, Option, Some, None, IsSomeAnd}
 use Rattle.std.specs.List.{range_with_len}
 use Rattle.std.proofs.lemmas.Bool.{cases_lt}
@@ -11,18 +11,18 @@ use Rattle.game_model.specs.Game.{choices_of}
 use Rattle.game_model.specs.Query.{Query, IsQuery, states, is_goal, is_dead, side_at}
 use Rattle.game_model.specs.Limits.{unit, most_choices}
 use Rattle.game_model.specs.Ranks.{Ranked, HasRankedChoice}
-use Rattle.inductive_check.specs.Replies.{IsFirstReply}
+use Rattle.inductive_check.specs.Replies.{IsFirstReply, AreFirstReplies}
 use Rattle.inductive_check.specs.Held.{IsFirstHeld}
 use Rattle.rpatl_syntax.specs.Formula.{Tree}
 use Rattle.rpatl_syntax.specs.declared.formula.Bound.{Bound}
-use Rattle.plan_text.specs.Entries.{IsSmall, IsInRange, greatest_choice, greatest_rank, entry_at}
+use Rattle.plan_text.specs.declared.plan.Plan.{Plan}
+use Rattle.plan_text.specs.Entries.{IsSmall, IsInRange, HasStates, greatest_choice, greatest_rank, entry_at}
+use Rattle.certificate_audit.specs.Accepted.{Passes}
 use Rattle.verdicts.specs.Report.{IsLine}
-use Rattle.bracket_engine.specs.declared.bounds.Bracket.{Bracket}
-use Rattle.bracket_engine.specs.Bracket.{IsBracket}
-use Rattle.bracket_engine.specs.Choices.{AreChoices, AreRanks}
-use Rattle.bracket_engine.specs.Replies.{AreRepliesTo}
+use Rattle.verdicts.specs.declared.report.How.TheVariants.{Rounds}
+use Rattle.bracket_engine.specs.Choices.{AreChoices}
 use Rattle.stogame_app.specs.Outputs.{AreEntriesInLimits, IsInLimits}
-use Rattle.stogame_app.specs.Reports.{line_in, plan_of, certificate_of, output_of}
+use Rattle.stogame_app.specs.Printed.{line_by, certificate_of, output_of}
 
 -- 1. Choices.
 
@@ -71,38 +71,45 @@ module _ (q : Query) (posed : IsQuery q) (s : ℕ) (inside : s < states q) where
 pub at-most : (P : ℕ → Type 0) (xs : List ℕ) (s : ℕ) → All P xs → s < length xs → P (slice_index xs s)
 at-most P xs s all inside = all s 0 inside
 
-module _ (q : Query) (zero : List Bool) (bound : Bound) (initial : List ℕ) (asked : ℕ) (found : Bracket) (posed : IsQuery q) (few : asked ≤ 1000000)
-    (bounds : IsBracket q zero bound initial asked found.lower.items found.upper.items found.rounds found.stable)
-    (choices : AreChoices q found.lower.items found.choices.items) (ranks : AreRanks q found.lower.items found.choices.items found.ranks.items) (replies : AreRepliesTo q found.upper.items found.replies.items)
-    (ranks_fit : All (λ r. r ≤ greatest_rank) found.ranks.items) (inside : All (λ s. s < states q) initial) where
-  entry-in_range : (s : ℕ) → s < states q → IsInRange (entry_at (plan_of found) s)
+-- a plan that can be printed: it passes, and has choices and replies only where they are needed
+pub record IsPrintable (q : Query) (plan : Plan) : Type 0 where
+  pub posed : IsQuery q
+  pub lists : HasStates plan (states q)
+  pub passes : Passes q plan
+  pub choices : AreChoices q plan.lower.items plan.choices.items
+  pub table : ℕ → ℕ
+  pub replies : AreFirstReplies q table plan.replies.items
+  pub ranks_fit : All (λ r. r ≤ greatest_rank) plan.ranks.items
+
+module _ (q : Query) (plan : Plan) (initial : List ℕ) (rounds : ℕ) (h : IsPrintable q plan) (few : rounds ≤ 1000000) (inside : All (λ s. s < states q) initial) where
+  entry-in_range : (s : ℕ) → s < states q → IsInRange (entry_at plan s)
   entry-in_range s within = record {
-    lower = at-most (λ v. v ≤ unit) found.lower.items s bounds.lower_units (subst (λ n. s < n) (sym bounds.lower_length) within);
-    choice = choice-small q posed s within found.lower.items found.choices.items found.ranks.items choices ranks.ranked;
-    rank = at-most (λ r. r ≤ greatest_rank) found.ranks.items s ranks_fit (subst (λ n. s < n) (sym ranks.layered.as_many) within);
-    upper = at-most (λ v. v ≤ unit) found.upper.items s bounds.upper_units (subst (λ n. s < n) (sym bounds.upper_length) within);
-    reply = reply-small q posed s within (slice_index found.upper.items) _ (replies.first.each s within);
+    lower = h.passes.ranked.units s within;
+    choice = choice-small q h.posed s within plan.lower.items plan.choices.items plan.ranks.items h.choices h.passes.ranked;
+    rank = at-most (λ r. r ≤ greatest_rank) plan.ranks.items s h.ranks_fit (subst (λ n. s < n) (sym h.lists.ranks) within);
+    upper = at-most (λ v. v ≤ unit) plan.upper.items s h.passes.units (subst (λ n. s < n) (sym h.lists.upper) within);
+    reply = reply-small q h.posed s within h.table _ (h.replies.each s within);
   }
 
-  line-in_range : (s : ℕ) → s < states q → IsLine (line_in bound found s)
-  line-in_range s within = record {
-    state = omega (arith, within, posed.game.few);
-    rounds = omega (arith, bounds.few, few);
-    values = (at-most (λ v. v ≤ unit) found.lower.items s bounds.lower_units (subst (λ n. s < n) (sym bounds.lower_length) within), at-most (λ v. v ≤ unit) found.upper.items s bounds.upper_units (subst (λ n. s < n) (sym bounds.upper_length) within));
+  line-in_range : (bound : Bound) (s : ℕ) → s < states q → IsLine (line_by bound (Rounds rounds) plan s)
+  line-in_range bound s within = record {
+    state = omega (arith, within, h.posed.game.few);
+    rounds = omega (arith, few);
+    values = (h.passes.ranked.units s within, at-most (λ v. v ≤ unit) plan.upper.items s h.passes.units (subst (λ n. s < n) (sym h.lists.upper) within));
   }
 
-  entries-in_limits : (plan : Bool) (formula : Tree) → AreEntriesInLimits (certificate_of plan formula found)
+  entries-in_limits : (asked : Bool) (formula : Tree) → AreEntriesInLimits (certificate_of asked formula plan)
   entries-in_limits false formula = tt
   entries-in_limits true formula =
-      let n = length found.lower.items in (
-        omega (arith, length-map-range_with_len (entry_at (plan_of found)) 0 n, bounds.lower_length, posed.game.few),
-        All-map IsInRange (entry_at (plan_of found)) (range_with_len 0 n) (λ i d there.
+      let n = length plan.lower.items in (
+        omega (arith, length-map-range_with_len (entry_at plan) 0 n, h.lists.lower, h.posed.game.few),
+        All-map IsInRange (entry_at plan) (range_with_len 0 n) (λ i d there.
             let here : i < n = omega (arith, there, length-range_with_len 0 n) in
-            subst (λ s. IsInRange (entry_at (plan_of found) s)) (sym (get_or-range_with_len 0 n i d here)) (entry-in_range (0 + i) (omega (arith, here, bounds.lower_length)))),
+            subst (λ s. IsInRange (entry_at plan s)) (sym (get_or-range_with_len 0 n i d here)) (entry-in_range (0 + i) (omega (arith, here, h.lists.lower)))),
       )
 
-  pub found-in_limits : (plan : Bool) (formula : Tree) → formula.bound ≡ bound → IsInLimits (output_of plan formula initial found)
-  found-in_limits plan formula same = record {
-    lines = All-map IsLine (line_in formula.bound found) initial (subst (λ b. All (λ s. IsLine (line_in b found s)) initial) (sym same) (All-weaker (λ s. s < states q) (λ s. IsLine (line_in bound found s)) line-in_range initial inside));
-    entries = entries-in_limits plan formula;
+  pub printed-in_limits : (asked : Bool) (formula : Tree) → IsInLimits (output_of asked formula (Rounds rounds) initial plan)
+  printed-in_limits asked formula = record {
+    lines = All-map IsLine (line_by formula.bound (Rounds rounds) plan) initial (All-weaker (λ s. s < states q) (λ s. IsLine (line_by formula.bound (Rounds rounds) plan s)) (line-in_range formula.bound) initial inside);
+    entries = entries-in_limits asked formula;
   }

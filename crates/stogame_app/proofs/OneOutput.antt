@@ -12,7 +12,7 @@ use Rattle.plan_text.specs.Written.{certificate_text}
 use Rattle.verdicts.specs.declared.report.ReportLine.{ReportLine}
 use Rattle.verdicts.specs.Report.{IsLine, line_text, report}
 use Rattle.stogame_app.specs.Outputs.{Certificate, Output, certificate_part, output_text, AreEntriesInLimits, IsSpelledOut, IsWholeOutput}
-use Rattle.stogame_app.proofs.Labelled.{at}
+use Rattle.stogame_app.proofs.Places.{at}
 use Rattle.stogame_app.proofs.NoLineFeed.{ended-one, line-ended, formula-ended}
 
 -- no two reports have the same text, no two certificates, and no two formulas

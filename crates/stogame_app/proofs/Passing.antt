@@ -1,5 +1,5 @@
 -- The lines before a printed certificate are passed over, so it is read back, and accepted.
-use Rattle.std.proofs.Common.{◌≡◌, ◌∙◌, ◌<◌, ◌≤◌, ℕ, true, false, List, [], ◌∷◌, ◌++◌, length, Ok, refl, sym, ap, subst, append_assoc, arith}
+use Rattle.std.proofs.Common.{◌≡◌, ◌∙◌, ◌<◌, ◌≤◌, ℕ, Bool, true, false, List, [], ◌∷◌, ◌++◌, length, Ok, refl, sym, ap, subst, append_assoc, arith}
 use Rattle.std.specs.Prelude.{All, codes, decimal, bytes_eq, map}
 use Rattle.std.proofs.lemmas.List.{append_cancel_right, length-append}
 use Rattle.std.proofs.lemmas.List.Elements.{All-nil, All-cons, All-head, All-tail}
@@ -22,7 +22,11 @@ use Rattle.verdicts.specs.declared.verdict.Verdict.TheVariants.{Yes, No, Undecid
 use Rattle.verdicts.specs.declared.report.ReportLine.{ReportLine}
 use Rattle.verdicts.specs.Report.{IsLine, line_text, verdict_text, labelled, how_text, report}
 use Rattle.stogame_app.specs.declared.status.Status.{Status}
-use Rattle.stogame_app.specs.Reports.{IsReport, plan_of, line_in}
+use Rattle.command_words.specs.Words.{Check}
+use Rattle.verdicts.specs.declared.report.How.TheVariants.{Rounds}
+use Rattle.stogame_app.specs.Outputs.{output_text, IsInLimits}
+use Rattle.stogame_app.specs.Printed.{line_by, output_of}
+use Rattle.stogame_app.specs.Reports.{IsReport}
 use Rattle.stogame_app.proofs.NoLineFeed.{IsEnded, line-ended, formula-ended}
 
 -- 1. Texts that end in another byte than CR.
@@ -137,24 +141,20 @@ AreReadBack = (lines : List (List ℕ)) (entries : List Entry) → All IsPassedO
 abbrev pub AreCertificates : Type 0
 AreCertificates = (text : List ℕ) (entries : List Entry) → entries_said text (length entries) ≡ Ok entries → IsCertificate text entries
 
-pub report-accepted : AreReadBack → AreCertificates → (q : Query) (initial : List ℕ) (formula : Tree) (rounds : ℕ) (text : List ℕ) (status : Status) → IsSpellable formula → (r : IsReport q initial formula rounds true text status)
-    → IsAccepted q text (plan_of r.found)
-report-accepted read_back certificates q initial formula rounds text status spellable r =
-    let entries = entries_of (plan_of r.found) in
-    let lines = map (line_in formula.bound r.found) initial in
-    let parts : text ≡ as_lines (fronts lines formula) ++ certificate_text entries = r.written ∙ fronts-lines lines formula (certificate_text entries) in
-    let said = read_back (fronts lines formula) entries (fronts-passed lines formula r.limits.lines spellable) r.limits.entries.0 r.limits.entries.1 in
-    let bounds = r.bounds in
+pub report-accepted : AreReadBack → AreCertificates → (q : Query) (initial : List ℕ) (formula : Tree) (check : Check) (text : List ℕ) (status : Status) → check.plan ≡ true → IsSpellable formula
+    → (r : IsReport q initial formula check text status) → IsAccepted q text r.plan
+report-accepted read_back certificates q initial formula check text status planned spellable r =
+    let how = Rounds r.found.rounds in
+    let entries = entries_of r.plan in
+    let lines = map (line_by formula.bound how r.plan) initial in
+    let written = subst (λ (p : Bool). text ≡ output_text (output_of p formula how initial r.plan)) planned r.written in
+    let limits = subst (λ (p : Bool). IsInLimits (output_of p formula how initial r.plan)) planned r.limits in
+    let parts : text ≡ as_lines (fronts lines formula) ++ certificate_text entries = written ∙ fronts-lines lines formula (certificate_text entries) in
+    let said = read_back (fronts lines formula) entries (fronts-passed lines formula limits.lines spellable) limits.entries.0 limits.entries.1 in
     record {
       read = record {
-        lists = record {
-          lower = bounds.lower_length;
-          choices = r.choices.as_many;
-          ranks = r.ranks.layered.as_many;
-          upper = bounds.upper_length;
-          replies = r.replies.first.as_many;
-        };
+        lists = r.lists;
         said = certificates text entries (ap (λ (t : List ℕ). entries_said t (length entries)) parts ∙ said);
       };
-      passes = record { units = bounds.upper_units; inductive = bounds.upper_inductive; replies = r.replies.good; ranked = r.ranks.ranked };
+      passes = r.passes;
     }

@@ -1,29 +1,37 @@
--- The answer to a question, from its bracket.
+-- The answer to a question, from its bracket and the plan that is printed of it.
 use Rattle.std.proofs.Common.{◌≡◌, ◌≤◌, ◌<◌, ◌+◌, ◌-◌, ◌*◌, ◌^◌, inl, inr, ℕ, Bool, true, List, [], ◌∷◌, map, Result, Ok, Err, refl, sym, ap, ◌∙◌, arith}
-use Rattle.std.specs.Prelude.{◌||◌, if◌then◌else◌, All, IfOk, slice_index}
+use Rattle.std.specs.Prelude.{◌||◌, if◌then◌else◌, All, IfOk, slice_index, slice_index_or}
 use Rattle.std.specs.List.{list_any}
 use Rattle.std.proofs.lemmas.List.Elements.{All-weaker}
 use Rattle.std.proofs.lemmas.Simd.{map-map}
 use Rattle.game_model.specs.Limits.{unit}
 use Rattle.game_model.specs.Query.{Query, states}
-use Rattle.game_model.specs.Values.{denominator}
-use Rattle.game_model.specs.Rounded.{down_steps}
+use Rattle.game_model.specs.Values.{denominator, numerator}
+use Rattle.std.proofs.Math.Nat.{mul-le-mul_right}
+use Rattle.game_model.specs.Rounded.{down_steps, IsBelow}
 use Rattle.game_model.specs.Dual.{IsZeroSet, swapped}
+use Rattle.game_model.specs.Bounds.{IsNear}
 use Rattle.rpatl_syntax.specs.Formula.{Tree}
+use Rattle.plan_text.specs.declared.plan.Plan.{Plan}
+use Rattle.plan_text.specs.Entries.{HasStates}
+use Rattle.certificate_audit.specs.Accepted.{Passes, IsSound}
 use Rattle.rpatl_syntax.specs.declared.formula.Bound.{Bound}
 use Rattle.verdicts.specs.declared.verdict.Verdict.{Verdict}
 use Rattle.verdicts.specs.declared.verdict.Verdict.TheVariants.{Yes, No, Undecided, Bracket as Value}
 use Rattle.verdicts.specs.Verdict.{verdict_of, is_settling}
 use Rattle.verdicts.specs.Truth.{IsTrueOf, IsFalseOf, IsTold}
+use Rattle.verdicts.specs.declared.report.How.TheVariants.{Rounds}
 use Rattle.verdicts.specs.Open.{LeavesOpen}
+use Rattle.verdicts.proofs.Staying.{settled-on}
 use Rattle.bracket_engine.specs.declared.bounds.Bracket.{Bracket}
 use Rattle.bracket_engine.specs.Bracket.{IsBracket, IsNarrow}
-use Rattle.bracket_engine.specs.Choices.{AreChoices, AreRanks}
-use Rattle.bracket_engine.specs.Replies.{AreRepliesTo}
+use Rattle.bracket_engine.specs.Stop.{AreSettledAt}
+use Rattle.command_words.specs.Words.{Check}
 use Rattle.stogame_app.specs.declared.status.Status.{Status}
 use Rattle.verdicts.specs.declared.report.ReportLine.{ReportLine}
 use Rattle.stogame_app.specs.declared.status.Status.TheVariants.{Fine, SomeFalse, SomeUndecided}
-use Rattle.stogame_app.specs.Reports.{verdict_in, is_no, is_undecided, status_of, output_of, IsLeftOpen, IsReport}
+use Rattle.stogame_app.specs.Printed.{verdict_by, is_no, is_undecided, status_of, output_of}
+use Rattle.stogame_app.specs.Reports.{IsFound, IsShown, IsLeftOpen, IsReport}
 use Rattle.stogame_app.specs.Outputs.{output_text, IsInLimits}
 
 -- 1. What verdicts say is so.
@@ -49,28 +57,42 @@ OpensHere = (bound : Bound) (lower upper : ℕ) → verdict_of bound lower upper
 abbrev pub OpensWider : Type 0
 OpensWider = (bound : Bound) (lower upper n m d r : ℕ) → 1 ≤ d → n ≤ (lower + r) * d → upper * d ≤ m + r * d → LeavesOpen bound lower upper 1 0 → LeavesOpen bound n m d r
 
-module _ (here : OpensHere) (wider : OpensWider) (q : Query) (zero : List Bool) (bound : Bound) (initial : List ℕ) (asked : ℕ) (found : Bracket) where
-  narrow-open : 1 ≤ denominator q.game ^ asked → IsNarrow q zero asked (slice_index found.lower.items) (slice_index found.upper.items)
-      → (s : ℕ) → s < states q → verdict_in bound found s ≡ Undecided → IsLeftOpen q zero bound asked found s
+near-over : (v w r p x : ℕ) → x ≤ (v + r) * p → v ≤ w → x ≤ (w + r) * p
+near-over v w r p x near above = omega (arith, near, mul-le-mul_right p above)
+
+near-under : (u v p x : ℕ) → v * p ≤ x → u ≤ v → u * p ≤ x
+near-under u v p x near below = omega (arith, near, mul-le-mul_right p below)
+
+module _ (here : OpensHere) (wider : OpensWider) (q : Query) (zero : List Bool) (bound : Bound) (initial : List ℕ) (asked : ℕ) (found : Bracket) (plan : Plan)
+    (above : IsBelow q (slice_index found.base.items) (slice_index plan.lower.items)) (below : IsBelow q (slice_index plan.upper.items) (slice_index found.upper.items)) where
+  narrow-open : 1 ≤ denominator q.game ^ asked → IsNarrow q zero asked (slice_index found.base.items) (slice_index found.upper.items)
+      → (s : ℕ) → s < states q → verdict_by bound plan s ≡ Undecided → IsLeftOpen q zero bound asked plan s
   narrow-open some narrow s inside undecided =
-      let lower = slice_index found.lower.items s in
-      let upper = slice_index found.upper.items s in
+      let base = slice_index found.base.items s in
+      let lower = slice_index plan.lower.items s in
+      let power = denominator q.game ^ asked in
+      let upper = slice_index plan.upper.items s in
       let printed = here bound lower upper undecided in
       record {
         printed = printed;
-        swept = wider bound lower upper (down_steps q asked s) (unit - down_steps (swapped q zero) asked s) 1 0 (omega arith) (omega (arith, narrow.swept s inside)) (omega (arith, narrow.coswept s inside)) printed;
-        near = wider bound lower upper _ _ (denominator q.game ^ asked) asked some (narrow.near s inside) (narrow.near_above s inside) printed;
+        swept = wider bound lower upper (down_steps q asked s) (unit - down_steps (swapped q zero) asked s) 1 0 (omega arith) (omega (arith, narrow.swept s inside, above s inside)) (omega (arith, narrow.coswept s inside, below s inside)) printed;
+        near = wider bound lower upper _ _ power asked some (near-over base lower asked power (unit * numerator q asked s) (narrow.near s inside) (above s inside)) (near-under upper (slice_index found.upper.items s) power _ (narrow.near_above s inside) (below s inside)) printed;
       }
 
-  pub all-left_open : 1 ≤ denominator q.game ^ asked → IsBracket q zero bound initial asked found.lower.items found.upper.items found.rounds found.stable → All (λ s. s < states q) initial
-      → All (λ s. verdict_in bound found s ≡ Undecided → IsLeftOpen q zero bound asked found s) initial
+  pub all-left_open : 1 ≤ denominator q.game ^ asked → IsBracket q zero bound initial asked found.base.items found.upper.items found.rounds found.stable → All (λ s. s < states q) initial
+      → All (λ s. verdict_by bound plan s ≡ Undecided → IsLeftOpen q zero bound asked plan s) initial
   all-left_open some bounds inside = elim bounds.narrow_asked [
-    | inl settled ↦ All-weaker (λ s. is_settling (verdict_in bound found s) ≡ true) Q (λ s is undecided. let same : is_settling (verdict_in bound found s) ≡ is_settling Undecided = ap is_settling undecided in absurd (cc (same, is))) initial settled
+    | inl settled ↦ All-weaker (λ s. is_settling (verdict_by bound plan s) ≡ true) Q (λ s is undecided. let same : is_settling (verdict_by bound plan s) ≡ is_settling Undecided = ap is_settling undecided in absurd (cc (same, is))) initial (settled-over settled inside)
     | inr narrow ↦ All-weaker (λ s. s < states q) Q (λ s within. narrow-open some narrow s within) initial inside
   ]
     where
+      settled-over : AreSettledAt bound initial (slice_index found.base.items) (slice_index found.upper.items) → All (λ s. s < states q) initial → All (λ s. is_settling (verdict_by bound plan s) ≡ true) initial
+      settled-over settled within = λ i d there.
+          let s = slice_index_or initial i d in
+          settled-on bound (slice_index found.base.items s) (slice_index plan.lower.items s) (slice_index found.upper.items s) (slice_index plan.upper.items s) (above s (within i d there)) (below s (within i d there)) (settled i d there)
+
       Q : ℕ → Type 0
-      Q s = verdict_in bound found s ≡ Undecided → IsLeftOpen q zero bound asked found s
+      Q s = verdict_by bound plan s ≡ Undecided → IsLeftOpen q zero bound asked plan s
 
 -- 3. The status of lines is that of their verdicts.
 
@@ -92,31 +114,40 @@ verdicts-lines line_at initial lines are =
 
 -- 4. The whole answer.
 
-pub reported : {X E : Type 0} (text : X → List ℕ) (ends : X → Status) (q : Query) (zero : List Bool) (initial : List ℕ) (formula : Tree) (asked : ℕ) (plan : Bool) (found : Bracket)
-    → IsZeroSet q zero
-    → IsBracket q zero formula.bound initial asked found.lower.items found.upper.items found.rounds found.stable
-    → AreChoices q found.lower.items found.choices.items
-    → AreRanks q found.lower.items found.choices.items found.ranks.items
-    → AreRepliesTo q found.upper.items found.replies.items
-    → All (λ s. IsTold q formula.bound s (verdict_in formula.bound found s)) initial
-    → All (λ s. verdict_in formula.bound found s ≡ Undecided → IsLeftOpen q zero formula.bound asked found s) initial
-    → IsInLimits (output_of plan formula initial found)
+-- what is known of a question before its answer is written
+pub record IsReady (q : Query) (initial : List ℕ) (formula : Tree) (check : Check) (zero : List Bool) (found : Bracket) (plan : Plan) : Type 0 where
+  pub is_zero : IsZeroSet q zero
+  pub is_found : IsFound q zero formula.bound initial check.rounds found
+  pub shown : IsShown q check.traps found plan
+  pub lists : HasStates plan (states q)
+  pub near : IsNear q (slice_index plan.lower.items)
+  pub sound : IsSound q plan
+  pub passes : Passes q plan
+  pub limits : IsInLimits (output_of check.plan formula (Rounds found.rounds) initial plan)
+  pub told : All (λ s. IsTold q formula.bound s (verdict_by formula.bound plan s)) initial
+  pub left_open : All (λ s. verdict_by formula.bound plan s ≡ Undecided → IsLeftOpen q zero formula.bound check.rounds plan s) initial
+
+pub reported : {X E : Type 0} (text : X → List ℕ) (ends : X → Status) (q : Query) (initial : List ℕ) (formula : Tree) (check : Check) (zero : List Bool) (found : Bracket) (plan : Plan)
+    → IsReady q initial formula check zero found plan
     → (result : Result X E)
-    → IfOk result (λ answer. text answer ≡ output_text (output_of plan formula initial found))
-    → IfOk result (λ answer. ends answer ≡ status_of (map (verdict_in formula.bound found) initial))
-    → IfOk result (λ answer. IsReport q initial formula asked plan (text answer) (ends answer))
-reported text ends q zero initial formula asked plan found is_zero bounds choices ranks replies told left_open limits (Ok answer) written ended = record {
+    → IfOk result (λ answer. text answer ≡ output_text (output_of check.plan formula (Rounds found.rounds) initial plan))
+    → IfOk result (λ answer. ends answer ≡ status_of (map (verdict_by formula.bound plan) initial))
+    → IfOk result (λ answer. IsReport q initial formula check (text answer) (ends answer))
+reported text ends q initial formula check zero found plan ready (Ok answer) written ended = record {
   zero = zero;
-  is_zero = is_zero;
+  is_zero = ready.is_zero;
   found = found;
-  bounds = bounds;
-  choices = choices;
-  ranks = ranks;
-  replies = replies;
+  is_found = ready.is_found;
+  plan = plan;
+  shown = ready.shown;
+  lists = ready.lists;
+  near = ready.near;
+  sound = ready.sound;
+  passes = ready.passes;
   written = written;
-  limits = limits;
+  limits = ready.limits;
   ends = ended;
-  told = told;
-  left_open = left_open;
+  told = ready.told;
+  left_open = ready.left_open;
 }
-reported text ends q zero initial formula asked plan found is_zero bounds choices ranks replies told left_open limits (Err error) written ended = tt
+reported text ends q initial formula check zero found plan ready (Err error) written ended = tt

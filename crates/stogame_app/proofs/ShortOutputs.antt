@@ -19,15 +19,17 @@ use Rattle.rpatl_syntax.specs.Spelling.{spelling}
 use Rattle.plan_text.specs.Entries.{entries_of}
 use Rattle.plan_text.specs.Written.{certificate_text}
 use Rattle.verdicts.specs.Report.{report}
-use Rattle.bracket_engine.specs.declared.bounds.Bracket.{Bracket}
+use Rattle.plan_text.specs.declared.plan.Plan.{Plan}
+use Rattle.verdicts.specs.declared.report.How.TheVariants.{Rounds}
 use Rattle.formula_sets.specs.Posing.{Posing, init}
 use Rattle.command_words.specs.Words.{Asked, Check, Audit, OfCheck, OfAudit}
 use Rattle.stogame_app.specs.declared.status.Status.{Status}
-use Rattle.stogame_app.specs.Asks.{Asks}
+use Rattle.asked_files.specs.Asks.{Asks}
 use Rattle.stogame_app.specs.Outputs.{certificate_part, AreEntriesInLimits}
-use Rattle.stogame_app.specs.Reports.{IsReport, plan_of, line_in, certificate_of}
-use Rattle.stogame_app.specs.Sources.{Sources, sources_of}
-use Rattle.stogame_app.specs.Run.{IsReportOf, IsAcceptedOf}
+use Rattle.stogame_app.specs.Printed.{line_by, certificate_of}
+use Rattle.stogame_app.specs.Reports.{IsReport}
+use Rattle.asked_files.specs.Sources.{Sources, sources_of}
+use Rattle.stogame_app.specs.Commands.{IsReportOf, IsAcceptedOf}
 use Rattle.stogame_app.proofs.Passing.{AreReadBack, AreCertificates, report-accepted}
 use Rattle.stogame_app.proofs.ShortLines.{entry_bytes, joined-short, report-short, certificate-short}
 use Rattle.stogame_app.proofs.ShortSpellings.{most_spelled, spelling-short}
@@ -62,32 +64,32 @@ initial-few sources asked posing asks =
 abbrev most_behind : ℕ
 most_behind = (9 + most_spelled) + (25 + entry_bytes * most_states)
 
-part-short : (asked : Bool) (formula : Tree) (found : Bracket) → length (spelling formula) ≤ most_spelled → AreEntriesInLimits (certificate_of asked formula found) → length (certificate_part (certificate_of asked formula found)) ≤ most_behind
-part-short false formula found small are = omega arith
-part-short true formula found small are =
-    let entries = entries_of (plan_of found) in
+part-short : (asked : Bool) (formula : Tree) (plan : Plan) → length (spelling formula) ≤ most_spelled → AreEntriesInLimits (certificate_of asked formula plan) → length (certificate_part (certificate_of asked formula plan)) ≤ most_behind
+part-short false formula plan small are = omega arith
+part-short true formula plan small are =
+    let entries = entries_of plan in
     joined-short (9 + most_spelled) (25 + entry_bytes * most_states) (codes "formula " ++ (spelling formula ++ codes "\n")) (certificate_text entries)
     (joined-short 8 (most_spelled + 1) (codes "formula ") (spelling formula ++ codes "\n") (omega arith) (joined-short most_spelled 1 (spelling formula) (codes "\n") small (omega arith)))
     (certificate-short entries are.0 are.1)
 
-report-text-short : (q : Query) (initial : List ℕ) (formula : Tree) (rounds : ℕ) (plan : Bool) (text : List ℕ) (status : Status) → length initial ≤ most_states → length (spelling formula) ≤ most_spelled
-    → IsReport q initial formula rounds plan text status → length text ≤ most_bytes
-report-text-short q initial formula rounds plan text status few small r =
-    let lines = map (line_in formula.bound r.found) initial in
-    let part = certificate_part (certificate_of plan formula r.found) in
+report-text-short : (q : Query) (initial : List ℕ) (formula : Tree) (check : Check) (text : List ℕ) (status : Status) → length initial ≤ most_states → length (spelling formula) ≤ most_spelled
+    → IsReport q initial formula check text status → length text ≤ most_bytes
+report-text-short q initial formula check text status few small r =
+    let lines = map (line_by formula.bound (Rounds r.found.rounds) r.plan) initial in
+    let part = certificate_part (certificate_of check.plan formula r.plan) in
     omega (
       arith,
       few,
       ap (λ (t : List ℕ). length t) r.written,
       length-append (report lines) part,
-      length-map initial (line_in formula.bound r.found),
+      length-map initial (line_by formula.bound (Rounds r.found.rounds) r.plan),
       report-short lines r.limits.lines,
-      part-short plan formula r.found small r.limits.entries,
+      part-short check.plan formula r.plan small r.limits.entries,
     )
 
 pub printed-short : (holding : Option Holding) (check : Check) (text : List ℕ) (status : Status) → IsReportOf holding (OfCheck check) text status → length text ≤ most_bytes
 printed-short holding check text status r =
-    report-text-short r.posing.question r.posing.initial r.formula check.rounds check.plan text status (initial-few r.posed.sources check.asked r.posing r.posed.asks) (spelling-short check.asked.formula r.formula r.spelled) r.report
+    report-text-short r.posing.question r.posing.initial r.formula check text status (initial-few r.posed.sources check.asked r.posing r.posed.asks) (spelling-short check.asked.formula r.formula r.spelled) r.report
 
 -- 3. What was written is accepted.
 
@@ -100,15 +102,14 @@ pub saved-accepted : AreReadBack → AreCertificates → AreSpellable → (held 
     → audit.asked ≡ check.asked → sources_of later check.asked ≡ sources_of held check.asked → later audit.certificate ≡ Some text → IsAcceptedOf later (OfAudit audit)
 saved-accepted read_back certificates spellable held later check audit text status r planned same alike given =
     let q = r.posing.question in
-    let report = subst (λ (plan : Bool). IsReport q r.posing.initial r.formula check.rounds plan text status) planned r.report in
     let asks = subst (λ (sources : Sources). Asks sources check.asked r.posing) (r.posed.told ∙ sym alike) r.posed.asks in (
       r.posing,
-      plan_of report.found,
+      r.report.plan,
       subst (λ (asked : Asked). Asks (sources_of later asked) asked r.posing) (sym same) asks,
       record {
         text = text;
         given = given;
         short = printed-short (Some held) check text status r;
-        is_so = report-accepted read_back certificates q r.posing.initial r.formula check.rounds text status (spellable check.asked.formula r.formula r.spelled) report;
+        is_so = report-accepted read_back certificates q r.posing.initial r.formula check text status planned (spellable check.asked.formula r.formula r.spelled) r.report;
       },
     )

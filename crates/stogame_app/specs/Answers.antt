@@ -1,13 +1,27 @@
--- What was made for a command: an answer, or why there is none.
-use Rattle.std.specs.Prelude.{◌≡◌, ℕ, List, Result, Ok, Err}
+-- What is made for a command: an answer, or why there is none.
+use Rattle.std.specs.Prelude.{◌≡◌, ℕ, Bool, true, Option, Result, Err, IfOk, IsErrOf}
+use Rattle.game_outside.specs.Outside.{Holding, Rose}
+use Rattle.command_words.specs.Words.{Command}
+use Rattle.run_refusals.specs.declared.refusal.Refusal.{Refusal}
+use Rattle.asked_files.specs.declared.load.End.{End}
+use Rattle.asked_files.specs.declared.load.End.TheVariants.{ReadFault, Refused}
+use Rattle.asked_files.specs.Loading.{RefusesCaused, Takes}
+use Rattle.asked_files.specs.Sources.{WhereTold}
 use Rattle.stogame_app.specs.declared.answer.Answer.{Answer}
-use Rattle.stogame_app.specs.declared.load.End.{End}
-use Rattle.stogame_app.specs.declared.load.End.TheVariants.{OutOfMemory, ReadFault, Refused}
-use Rattle.stogame_app.specs.Refusals.{refusal_text}
+use Rattle.stogame_app.specs.Status.{IsAnswer}
+use Rattle.stogame_app.specs.Commands.{IsMissing, IsReportOf, ReadsFiles, RefusesIt}
 
--- the text that is written then: that of the answer, or the line of the refusal
-abbrev pub IsTextOf : Result Answer End → List ℕ → Type 0
-IsTextOf (Ok answer) text = text ≡ answer.text.items
-IsTextOf (Err OutOfMemory) text = ⊥
-IsTextOf (Err ReadFault) text = ⊥
-IsTextOf (Err (Refused refusal)) text = text ≡ refusal_text refusal
+-- The answer to a command, and what making it does to a shelf.
+pub record IsAnswered {S : Type 0} (held : S → Option Holding) (steady : S → Bool) (faults took : S → ℕ) (command : Command) (old new : S) (result : Result Answer End) : Type 0 where
+  -- the report of the command, and its status
+  pub answered : IfOk result (λ answer. IsReportOf (held old) command answer.text.items answer.status)
+  pub status : IfOk result (λ answer. IsAnswer answer.status)
+  -- its first refusal, and never one for want of memory
+  pub refused : (refusal : Refusal) → result ≡ Err (Refused refusal) → RefusesIt (held old) command refusal
+  pub caused : RefusesCaused result
+  -- it doesn't fail by itself, and over a steady shelf only where a text is not held
+  pub read_fault : IsErrOf result ReadFault → Rose (faults old) (faults new) × ReadsFiles command
+  pub steadily : IsErrOf result ReadFault → steady old ≡ true → WhereTold (held old) (λ held. IsMissing held command)
+  -- how much is taken of the last text
+  pub takes : ReadsFiles command → Takes result (took new)
+  pub untouched : ¬ ReadsFiles command → new ≡ old

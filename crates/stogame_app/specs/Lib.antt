@@ -1,15 +1,9 @@
 pub mod Answers
-pub mod Asks
 pub mod Audits
-pub mod InFull
-pub mod Loading
+pub mod Commands
 pub mod Made
 pub mod Outputs
-pub mod Posed
-pub mod Refusals
+pub mod Printed
 pub mod Reports
 pub mod Run
-pub mod Said
-pub mod Sources
 pub mod Status
-pub mod Texts

@@ -7,9 +7,10 @@ use Rattle.drawn_game.specs.Asked.{question_of}
 use Rattle.rpatl_syntax.specs.declared.formula.Bound.TheVariants.{AskMax}
 use Rattle.bracket_engine.specs.declared.bounds.Bracket.{Bracket}
 use Rattle.bracket_engine.specs.Bracket.{IsBracket}
+use Rattle.bracket_engine.specs.Lower.{IsLowerTable}
 use Rattle.stogame_app.specs.declared.status.Status.{Status}
 use Rattle.stogame_app.specs.declared.status.Status.TheVariants.{Fine, SomeUndecided}
-use Rattle.stogame_app.specs.Refusals.{numbered}
+use Rattle.run_refusals.specs.Refusals.{numbered}
 
 -- the sum of a table over all states, in units
 abbrev pub sum_of : List ℕ → ℕ
@@ -37,7 +38,8 @@ pub record IsMade (seed states asked : ℕ) (text : List ℕ) (status : Status) 
   pub zero : List Bool
   pub is_zero : IsZeroSet (drawn_question seed states) zero
   pub found : Bracket
-  pub bounds : IsBracket (drawn_question seed states) zero AskMax (0 ∷ []) asked found.lower.items found.upper.items found.rounds found.stable
+  pub bounds : IsBracket (drawn_question seed states) zero AskMax (0 ∷ []) asked found.base.items found.upper.items found.rounds found.stable
+  pub lower : IsLowerTable (drawn_question seed states) zero found.base.items found.lower.items found.choices.items found.ranks.items
   pub written : text ≡ summary_text seed states (count_by (λ marked. marked) zero) found.stable found.lower.items found.upper.items
   pub ends : status ≡ status_made found.stable
   pub completed : found.stable ≡ false → found.rounds ≡ asked

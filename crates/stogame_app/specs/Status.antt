@@ -1,8 +1,8 @@
 -- The exit status of each end of a run.
 use Rattle.std.specs.Prelude.{◌≡◌, ◌⊎◌, ℕ, Bool, if◌then◌else◌}
-use Rattle.stogame_app.specs.declared.refusal.Refusal.{Refusal}
-use Rattle.stogame_app.specs.declared.refusal.Refusal.TheVariants.{OfCertificate, TooLong}
-use Rattle.stogame_app.specs.declared.refusal.Text.TheVariants.{Cert}
+use Rattle.run_refusals.specs.declared.refusal.Refusal.{Refusal}
+use Rattle.run_refusals.specs.declared.refusal.Refusal.TheVariants.{OfCertificate, TooLong}
+use Rattle.run_refusals.specs.declared.refusal.Text.TheVariants.{Cert}
 use Rattle.stogame_app.specs.declared.status.Status.{Status}
 use Rattle.stogame_app.specs.declared.status.Status.TheVariants.{Fine, SomeFalse, SomeUndecided, Usage, ModelRefused, ReadFault, WriteFault, OutOfMemory, CertificateRefused}
 

@@ -3,15 +3,16 @@
 ghost use Rattle.std.specs.Prelude.{◌≡◌, ◌≤◌, ◌<◌, All, IfOk, length, map};
 ghost use Rattle.std.specs.List.{list_any};
 ghost use Rattle.game_model.specs.Limits.{unit};
-ghost use Rattle.verdicts.specs.Report.{HasValues};
-ghost use Rattle.stogame_app.specs.Reports.{is_no, is_undecided, line_at, status_of};
+ghost use Rattle.verdicts.specs.Report.{HasValues, report};
+ghost use Rattle.stogame_app.specs.Printed.{is_no, is_undecided, line_by, status_of, verdict_by};
 ghost use Rattle.stogame_app.specs.Status.{IsAnswer};
 
 use crate::status::Status;
 use game_outside::OutOfMemory;
+use plan_text::Plan;
 use rpatl_syntax::Bound;
 use std::alloc::Global;
-use verdicts::{How, ReportLine, Verdict, settle};
+use verdicts::{How, ReportLine, Verdict, report_text, settle};
 
 /// What a run writes, and how it ends then.
 #[derive(Drop)]
@@ -22,40 +23,63 @@ pub struct Answer {
     pub status: Status,
 }
 
-/// One line for each of the states, with their entries of a lower and an upper table, in units, and what these say of a
-/// bound. The only error is want of memory.
-pub fn lines_of(
+/// The report of some states: one line for each, with the bounds that a plan has, in units, and what these say of a
+/// formula's bound. The only error is want of memory.
+pub fn report_of(
     alloc: Global,
-    lower: &[u64],
-    upper: &[u64],
+    plan: &Plan,
+    how: How,
+    bound: &Bound,
+    states: &[u32],
+) -> Result<Answer, OutOfMemory>
+    requires inside { All (λ s. s < length plan.now.lower.items) states.now }
+    requires as_many { length plan.now.upper.items ≡ length plan.now.lower.items }
+    requires lower { All (λ v. v ≤ unit) plan.now.lower.items }
+    requires upper { All (λ v. v ≤ unit) plan.now.upper.items }
+    ensures text { IfOk result (λ answer. answer.text.items ≡ report (map (line_by bound.now how plan.now) states.now)) }
+    ensures status { IfOk result (λ answer. answer.status ≡ status_of (map (verdict_by bound.now plan.now) states.now)) }
+    ensures answer { IfOk result (λ answer. IsAnswer answer.status) }
+{
+    let lines = lines_of(alloc, plan, how, bound, states)?;
+    let text = report_text(alloc, &lines)?;
+    Ok(Answer {
+        text,
+        status: status_of(&lines),
+    })
+}
+
+// The lines of some states.
+fn lines_of(
+    alloc: Global,
+    plan: &Plan,
     how: How,
     bound: &Bound,
     states: &[u32],
 ) -> Result<Vec<ReportLine>, OutOfMemory>
-    requires inside { All (λ s. s < length lower.now) states.now }
-    requires as_many { length upper.now ≡ length lower.now }
-    requires lower { All (λ v. v ≤ unit) lower.now }
-    requires upper { All (λ v. v ≤ unit) upper.now }
-    ensures lines { IfOk result (λ lines. lines.items ≡ map (line_at bound.now how lower.now upper.now) states.now) }
+    requires inside { All (λ s. s < length plan.now.lower.items) states.now }
+    requires as_many { length plan.now.upper.items ≡ length plan.now.lower.items }
+    requires lower { All (λ v. v ≤ unit) plan.now.lower.items }
+    requires upper { All (λ v. v ≤ unit) plan.now.upper.items }
+    ensures lines { IfOk result (λ lines. lines.items ≡ map (line_by bound.now how plan.now) states.now) }
     ensures values { IfOk result (λ lines. All HasValues lines.items) }
 {
     let mut lines = Vec::with_capacity(alloc, states.len())?;
     for state in states {
-        let least = lower[*state as usize];
-        let most = upper[*state as usize];
+        let lower = plan.lower[*state as usize];
+        let upper = plan.upper[*state as usize];
         lines.push(ReportLine {
             state: *state,
-            lower: least,
-            upper: most,
+            lower,
+            upper,
             how,
-            verdict: settle(bound, least, most),
+            verdict: settle(bound, lower, upper),
         })?;
     }
     Ok(lines)
 }
 
-/// The status of a report: some line is False, or else some is Undecided, or none is.
-pub fn status_of(lines: &[ReportLine]) -> Status
+// The status of a report: some line is False, or else some is Undecided, or none is.
+fn status_of(lines: &[ReportLine]) -> Status
     ensures status { result ≡ status_of (map (λ line. line.verdict) lines.now) }
     ensures answer { IsAnswer result }
 {

@@ -1,19 +1,16 @@
 //! How a run ends, and what it writes then.
 
-ghost use Rattle.std.specs.Prelude.{◌≡◌, ◌≢◌, ◌⊎◌, ℕ, List, Ok, Err, IfOk};
-ghost use Rattle.game_outside.specs.Outside.{Rose, GrowsBy, GrowsByPrefix};
-ghost use Rattle.stogame_app.specs.declared.answer.Answer.{Answer};
-ghost use Rattle.stogame_app.specs.declared.refusal.Refusal.{Refusal};
-ghost use Rattle.stogame_app.specs.Refusals.{refusal_text, usage_text};
-ghost use Rattle.stogame_app.specs.InFull.{RefusalInFull};
-ghost use Rattle.stogame_app.specs.Status.{IsAnswer, IsRefusal, refused_status};
-ghost use Rattle.stogame_app.specs.Answers.{IsTextOf};
+ghost use Rattle.std.specs.Prelude.{◌≡◌, ◌≢◌, ◌⊎◌, ℕ, List, Option, Err, IfOk};
+ghost use Rattle.game_outside.specs.Outside.{Holding, Rose, GrowsBy, GrowsByPrefix};
+ghost use Rattle.command_words.specs.Words.{AreNoCommand};
+ghost use Rattle.stogame_app.specs.Status.{IsAnswer, refused_status};
+ghost use Rattle.stogame_app.specs.Run.{AnswersWords, IsEnding, RefusesWords};
 
 use crate::answer::Answer;
-use crate::load::End;
-use crate::refusal::{Refusal, Text, refusal_line, usage_line};
 use crate::status::Status;
+use asked_files::End;
 use game_outside::{Sink, write_all};
+use run_refusals::{Refusal, Text, refusal_line, usage_line};
 use std::alloc::Global;
 
 /// Writes a text, and answers the status where that succeeds.
@@ -31,10 +28,9 @@ pub fn say<K: Sink>(out: &mut K, text: &[u8], status: Status) -> Status
 
 /// Ends a run whose words denote no command.
 pub fn end_with_usage<K: Sink>(alloc: Global, out: &mut K) -> Status
-    ensures only { (result ≡ Status.Usage) ⊎ ((result ≡ Status.WriteFault) ⊎ (result ≡ Status.OutOfMemory)) }
-    ensures usage { result ≡ Status.Usage → GrowsBy (K.written out.old) (K.written out.new) usage_text }
-    ensures write_fault { result ≡ Status.WriteFault → Rose (K.faults out.old) (K.faults out.new) × GrowsByPrefix (K.written out.old) (K.written out.new) usage_text }
-    ensures memory { result ≡ Status.OutOfMemory → K.written out.new ≡ K.written out.old }
+    ensures ends { (words : List (List ℕ)) (holding : Option Holding) (taken : ℕ) → AreNoCommand words → IsEnding words holding taken (K.written out.old) (K.written out.new) result }
+    ensures read_fault { result ≢ Status.ReadFault }
+    ensures write_fault { result ≡ Status.WriteFault → Rose (K.faults out.old) (K.faults out.new) }
 {
     match usage_line(alloc) {
         Ok(line) => say(out, line.as_bytes(), Status::Usage),
@@ -46,14 +42,9 @@ pub fn end_with_usage<K: Sink>(alloc: Global, out: &mut K) -> Status
 /// by the status alone.
 pub fn end_run<K: Sink>(alloc: Global, out: &mut K, made: Result<Answer, End>) -> Status
     requires { IfOk made (λ answer. IsAnswer answer.status) }
-    ensures no_usage { result ≡ Status.Usage → ⊥ }
-    ensures answered { IsAnswer result → (answer : Answer) × (made ≡ Ok answer) × (answer.status ≡ result) × GrowsBy (K.written out.old) (K.written out.new) answer.text.items }
-    ensures refused { IsRefusal result → (refusal : Refusal) × (made ≡ Err (End.Refused refusal)) × (result ≡ refused_status refusal) × GrowsBy (K.written out.old) (K.written out.new) (refusal_text refusal) }
-    ensures in_full { (refusal : Refusal) → made ≡ Err (End.Refused refusal) → RefusalInFull refusal }
-    ensures read_fault { result ≡ Status.ReadFault → (made ≡ Err End.ReadFault) × (K.written out.new ≡ K.written out.old) }
-    ensures write_fault { result ≡ Status.WriteFault → Rose (K.faults out.old) (K.faults out.new)
-        × ((text : List ℕ) × IsTextOf made text × GrowsByPrefix (K.written out.old) (K.written out.new) text) }
-    ensures memory { result ≡ Status.OutOfMemory → K.written out.new ≡ K.written out.old }
+    ensures ends { (words : List (List ℕ)) (holding : Option Holding) (taken : ℕ) → AnswersWords words holding taken made → IsEnding words holding taken (K.written out.old) (K.written out.new) result }
+    ensures read_fault { result ≡ Status.ReadFault → made ≡ Err End.ReadFault }
+    ensures write_fault { result ≡ Status.WriteFault → Rose (K.faults out.old) (K.faults out.new) }
 {
     match made {
         Ok(answer) => say(out, &answer.text, answer.status),
@@ -65,11 +56,9 @@ pub fn end_run<K: Sink>(alloc: Global, out: &mut K, made: Result<Answer, End>) -
 
 // Ends a run with the line of a refusal.
 fn end_with_refusal<K: Sink>(alloc: Global, out: &mut K, refusal: &Refusal) -> Status
-    ensures only { (result ≡ refused_status refusal.now) ⊎ ((result ≡ Status.WriteFault) ⊎ (result ≡ Status.OutOfMemory)) }
-    ensures in_full { RefusalInFull refusal.now }
-    ensures refused { result ≡ refused_status refusal.now → GrowsBy (K.written out.old) (K.written out.new) (refusal_text refusal.now) }
-    ensures write_fault { result ≡ Status.WriteFault → Rose (K.faults out.old) (K.faults out.new) × GrowsByPrefix (K.written out.old) (K.written out.new) (refusal_text refusal.now) }
-    ensures memory { result ≡ Status.OutOfMemory → K.written out.new ≡ K.written out.old }
+    ensures ends { (words : List (List ℕ)) (holding : Option Holding) (taken : ℕ) → RefusesWords words holding taken refusal.now → IsEnding words holding taken (K.written out.old) (K.written out.new) result }
+    ensures read_fault { result ≢ Status.ReadFault }
+    ensures write_fault { result ≡ Status.WriteFault → Rose (K.faults out.old) (K.faults out.new) }
 {
     refusal.known();
     match refusal_line(alloc, refusal) {

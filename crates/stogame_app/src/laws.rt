@@ -1,40 +1,32 @@
 //! Laws of what is written. Each function does nothing; its contract is the law.
 
-ghost use Rattle.std.specs.Prelude.{◌≡◌, ◌↔◌, ◌≤◌, ℕ, List, length, true, Option, Some};
+ghost use Rattle.std.specs.Prelude.{◌≡◌, ◌≤◌, ℕ, List, length, true, Option, Some};
 ghost use Rattle.text_lines.specs.Limits.{most_bytes};
 ghost use Rattle.game_outside.specs.Outside.{Holding};
-ghost use Rattle.command_words.specs.Words.{Asked, Check, Audit, OfCheck, OfAudit};
-ghost use Rattle.formula_sets.specs.Posing.{Posing};
-ghost use Rattle.stogame_app.specs.Said.{Says};
-ghost use Rattle.stogame_app.specs.Posed.{question_said};
-ghost use Rattle.stogame_app.specs.Asks.{Asks};
-ghost use Rattle.stogame_app.specs.Sources.{Sources, sources_of};
-ghost use Rattle.stogame_app.specs.Run.{IsReportOf, IsAcceptedOf};
+ghost use Rattle.command_words.specs.Words.{Check, Audit, OfCheck, OfAudit};
+ghost use Rattle.asked_files.specs.Sources.{sources_of};
+ghost use Rattle.stogame_app.specs.Commands.{IsReportOf, IsAcceptedOf};
+ghost use Rattle.stogame_app.specs.Run.{IsEnding, IsRefusalOfWords, IsReportOfWords, Writes};
+ghost use Rattle.stogame_app.specs.Status.{IsAnswer, IsRefusal};
 ghost use Rattle.stogame_app.specs.declared.status.Status.{Status};
 ghost use Rattle.stogame_app.specs.declared.status.Status.TheVariants.{Fine};
-ghost use Rattle.stogame_app.specs.declared.refusal.Refusal.{Refusal};
-ghost use Rattle.stogame_app.specs.Refusals.{refusal_text};
-ghost use Rattle.stogame_app.specs.InFull.{RefusalInFull};
 ghost use Rattle.stogame_app.specs.Made.{IsMade};
 ghost use Rattle.stogame_app.specs.Outputs.{Output, output_text, IsWholeOutput};
 
-use bracket_engine::laws::{settled_lower_bounds_agree, settled_upper_bounds_agree};
+use bracket_engine::laws::{lower_tables_agree, settled_bases_agree, settled_upper_bounds_agree};
 use plan_text::laws::{
     certificates_are_read_back, certificates_are_what_is_read, certificates_have_one_reading,
 };
 use rpatl_syntax::laws::{formulas_of_texts_are_spellable, spellings_have_one_reading};
 use verdicts::laws::reports_have_one_reading;
 
-/// The question that texts and words pose, read one after another with the first refusal, is the one that they ask: that the
-/// texts denote a game, labels and owners, and the formula poses the question of these. So where no question is asked, what
-/// is said is the first refusal, or that a text is not held.
-pub fn questions_are_what_is_asked()
-    ensures { (sources : Sources) (asked : Asked) (posing : Posing) → (question_said sources asked ≡ Says posing) ↔ Asks sources asked posing }
-{}
-
-/// No two refusals have the same line, where their numbers have at most 64 digits. All that their types hold have at most 39.
-pub fn refusals_have_one_reading()
-    ensures { (refusal other : Refusal) → RefusalInFull refusal → RefusalInFull other → refusal_text refusal ≡ refusal_text other → refusal ≡ other }
+/// A run that ends with status 0, 1 or 2 has written the report of the command that its words denote, and one that ends with
+/// status 4 or 8 the line of its refusal.
+pub fn endings_are_told_by_their_status()
+    ensures reports { (words : List (List ℕ)) (holding : Option Holding) (taken : ℕ) (old new : Option (List ℕ)) (status : Status) → IsEnding words holding taken old new status
+        → IsAnswer status → Writes old new (λ text. IsReportOfWords words holding taken text status) }
+    ensures refusals { (words : List (List ℕ)) (holding : Option Holding) (taken : ℕ) (old new : Option (List ℕ)) (status : Status) → IsEnding words holding taken old new status
+        → IsRefusal status → Writes old new (λ text. IsRefusalOfWords words holding taken text status) }
 {}
 
 /// No two outputs have the same text: it tells each line, and the formula and each entry of the certificate.
@@ -67,6 +59,7 @@ pub fn what_check_writes_is_accepted()
 pub fn settled_games_agree()
     ensures { (seed states asked other_asked : ℕ) (text other : List ℕ) → IsMade seed states asked text Fine → IsMade seed states other_asked other Fine → text ≡ other }
 {
-    settled_lower_bounds_agree();
+    settled_bases_agree();
+    lower_tables_agree();
     settled_upper_bounds_agree();
 }

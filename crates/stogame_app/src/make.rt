@@ -7,12 +7,13 @@ ghost use Rattle.predecessors.specs.Lists.{ArePredecessors};
 ghost use Rattle.rpatl_syntax.specs.declared.formula.Bound.TheVariants.{AskMax};
 ghost use Rattle.command_words.specs.Words.{AreRunLimits, IsMakeInRange, make_of};
 ghost use Rattle.bracket_engine.specs.Bracket.{IsBracket};
+ghost use Rattle.bracket_engine.specs.Lower.{IsLowerTable};
 ghost use Rattle.stogame_app.specs.Made.{IsMade, ending, status_made, sum_of, summary_text};
 ghost use Rattle.stogame_app.specs.Status.{IsAnswer};
 
 use crate::answer::Answer;
-use crate::load::End;
 use crate::status::Status;
+use asked_files::End;
 use bracket_engine::{Bracket, bracket_over};
 use command_words::MakeWords;
 use drawn_game::draw_game;
@@ -77,7 +78,8 @@ fn bracket_in_full<R: Threads + Sync, G: Gate + Sync>(
     requires zero { IsZeroSet question.now zero.now }
     requires lists { ArePredecessors question.now.game predecessors.now }
     requires limits { AreRunLimits make.now.rounds make.now.workers }
-    ensures bounds { IfOk result (λ found. IsBracket question.now zero.now AskMax (0 ∷ []) make.now.rounds found.lower.items found.upper.items found.rounds found.stable) }
+    ensures bounds { IfOk result (λ found. IsBracket question.now zero.now AskMax (0 ∷ []) make.now.rounds found.base.items found.upper.items found.rounds found.stable) }
+    ensures lower { IfOk result (λ found. IsLowerTable question.now zero.now found.base.items found.lower.items found.choices.items found.ranks.items) }
 {
     question.known();
     let bound = Bound::AskMax;

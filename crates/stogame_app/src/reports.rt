@@ -1,34 +1,38 @@
 //! The answer to a question.
 
-ghost use Rattle.std.specs.Prelude.{◌≡◌, ◌≤◌, ◌<◌, ◌++◌, All, IfOk, OnOk, length, map};
+ghost use Rattle.std.specs.Prelude.{◌≡◌, ◌≤◌, ◌<◌, ◌++◌, All, IfOk, OnOk, length, map, slice_index};
 ghost use Rattle.game_model.specs.Query.{states};
 ghost use Rattle.game_model.specs.Limits.{unit};
+ghost use Rattle.game_model.specs.Rounded.{IsBelow};
+ghost use Rattle.predecessors.specs.Lists.{ArePredecessors};
 ghost use Rattle.rpatl_syntax.specs.Formula.{tree_of};
 ghost use Rattle.plan_text.specs.Entries.{HasStates, greatest_rank};
-ghost use Rattle.verdicts.specs.Report.{HasValues};
 ghost use Rattle.command_words.specs.Words.{AreInRange, check_of};
-ghost use Rattle.stogame_app.specs.Reports.{IsReport, certificate_of, line_in, output_of, plan_of, status_of, verdict_in};
+ghost use Rattle.stogame_app.specs.Printed.{certificate_of, output_of, status_of, verdict_by};
+ghost use Rattle.stogame_app.specs.Reports.{IsReport, IsShown, IsUpperHeld, IsUpperShown};
 ghost use Rattle.stogame_app.specs.Outputs.{certificate_part, output_text};
 ghost use Rattle.stogame_app.specs.Status.{IsAnswer};
 
-use crate::answer::{Answer, lines_of, status_of};
+use crate::answer::{Answer, report_of};
 use bracket_engine::{Bracket, bracket_over};
 use command_words::CheckWords;
 use game_model::Question;
 use game_outside::{Gate, OutOfMemory};
 use plan_text::{Plan, append, write_plan};
 use predecessors::Predecessors;
-use rpatl_syntax::{Bound, Formula, print_formula};
+use rpatl_syntax::{Formula, print_formula};
 use std::alloc::Global;
 use std::thread::Threads;
+use trap_sets::lower_traps_over;
 use verdicts::laws::{
     planned_values_are_reached, undecided_thresholds_are_left_open, verdicts_are_true,
 };
-use verdicts::{How, ReportLine, StopRule, report_text, settle};
+use verdicts::{How, StopRule, settle};
 use zero_sets::zero_set_over;
 
 /// One line for each initial state, with the bounds after at most the asked rounds and what they say of the formula's bound;
-/// behind them the certificate, where it is asked for. The only error is want of memory.
+/// the upper ones lowered to the best exits of traps, where that is asked for; and behind them the certificate, where it is
+/// asked for. The only error is want of memory.
 pub fn report<R: Threads + Sync, G: Gate + Sync>(
     rt: &R,
     alloc: Global,
@@ -40,7 +44,7 @@ pub fn report<R: Threads + Sync, G: Gate + Sync>(
 ) -> Result<Answer, OutOfMemory>
     requires inside { All (λ s. s < states question.now) initial.now }
     requires in_range { AreInRange (check_of check.now) }
-    ensures report { IfOk result (λ answer. IsReport question.now initial.now (tree_of formula.now) check.now.rounds check.now.plan answer.text.items answer.status) }
+    ensures report { IfOk result (λ answer. IsReport question.now initial.now (tree_of formula.now) (check_of check.now) answer.text.items answer.status) }
     ensures answer { IfOk result (λ answer. IsAnswer answer.status) }
 {
     let bound = formula.bound;
@@ -66,35 +70,87 @@ pub fn report<R: Threads + Sync, G: Gate + Sync>(
     planned_values_are_reached();
     verdicts_are_true();
     undecided_thresholds_are_left_open();
-    make_answer(alloc, found, formula, initial, check.plan)
+    let how = How::Rounds(found.rounds);
+    let plan = shown(alloc, question, &predecessors, check.traps, found)?;
+    make_answer(alloc, &plan, how, formula, initial, check.plan)
 }
 
-// The lines and the status of a bracket, and its certificate where it is asked for.
+// What is printed of a bracket: its tables with the strategies, and the upper one lowered to the best exits of traps, where
+// that is asked for.
+fn shown(
+    alloc: Global,
+    question: &Question,
+    predecessors: &Predecessors,
+    traps: bool,
+    found: Bracket,
+) -> Result<Plan, OutOfMemory>
+    requires lists { ArePredecessors question.now.game predecessors.now }
+    requires held { IsUpperHeld question.now found.upper.items found.replies.items }
+    ensures shown { IfOk result (λ plan. IsShown question.now traps found plan) }
+    ensures held { IfOk result (λ plan. IsUpperHeld question.now plan.upper.items plan.replies.items) }
+{
+    let upper = shown_upper(
+        alloc,
+        question,
+        predecessors,
+        traps,
+        found.upper,
+        &found.replies,
+    )?;
+    Ok(Plan {
+        lower: found.lower,
+        choices: found.choices,
+        ranks: found.ranks,
+        upper,
+        replies: found.replies,
+    })
+}
+
+// The upper table, lowered where that is asked for.
+fn shown_upper(
+    alloc: Global,
+    question: &Question,
+    predecessors: &Predecessors,
+    traps: bool,
+    upper: Vec<u64>,
+    replies: &[Option<u32>],
+) -> Result<Vec<u64>, OutOfMemory>
+    requires lists { ArePredecessors question.now.game predecessors.now }
+    requires held { IsUpperHeld question.now upper.items replies.now }
+    ensures shown { IfOk result (λ table. IsUpperShown question.now traps replies.now upper.items table.items) }
+    ensures below { IfOk result (λ table. IsBelow question.now (slice_index table.items) (slice_index upper.items)) }
+    ensures held { IfOk result (λ table. IsUpperHeld question.now table.items replies.now) }
+{
+    if traps {
+        lower_traps_over(alloc, question, predecessors, &upper, replies)
+    } else {
+        Ok(upper)
+    }
+}
+
+// The lines and the status of a plan, and its certificate where it is asked for.
 fn make_answer(
     alloc: Global,
-    found: Bracket,
+    plan: &Plan,
+    how: How,
     formula: &Formula,
     initial: &[u32],
-    plan: bool,
+    asked: bool,
 ) -> Result<Answer, OutOfMemory>
-    requires inside { All (λ s. s < length found.lower.items) initial.now }
-    requires lists { HasStates (plan_of found) (length found.lower.items) }
-    requires some { 1 ≤ length found.lower.items }
-    requires lower { All (λ v. v ≤ unit) found.lower.items }
-    requires upper { All (λ v. v ≤ unit) found.upper.items }
-    ensures ranks { All (λ r. r ≤ greatest_rank) found.ranks.items }
-    ensures text { IfOk result (λ answer. answer.text.items ≡ output_text (output_of plan (tree_of formula.now) initial.now found)) }
+    requires inside { All (λ s. s < length plan.now.lower.items) initial.now }
+    requires lists { HasStates plan.now (length plan.now.lower.items) }
+    requires some { 1 ≤ length plan.now.lower.items }
+    requires lower { All (λ v. v ≤ unit) plan.now.lower.items }
+    requires upper { All (λ v. v ≤ unit) plan.now.upper.items }
+    ensures ranks { All (λ r. r ≤ greatest_rank) plan.now.ranks.items }
+    ensures text { IfOk result (λ answer. answer.text.items ≡ output_text (output_of asked (tree_of formula.now) how initial.now plan.now)) }
     ensures answer { IfOk result (λ answer. IsAnswer answer.status) }
-    ensures status { IfOk result (λ answer. answer.status ≡ status_of (map (verdict_in (tree_of formula.now).bound found) initial.now)) }
+    ensures status { IfOk result (λ answer. answer.status ≡ status_of (map (verdict_by (tree_of formula.now).bound plan.now) initial.now)) }
 {
-    known_ranks(&found.ranks);
-    let lines = lines_in(alloc, &found, &formula.bound, initial)?;
-    let mut text = report_text(alloc, &lines)?;
-    append_certificate(alloc, &mut text, plan, formula, found)?;
-    Ok(Answer {
-        text,
-        status: status_of(&lines),
-    })
+    known_ranks(&plan.ranks);
+    let mut answer = report_of(alloc, plan, how, &formula.bound, initial)?;
+    append_certificate(alloc, &mut answer.text, asked, formula, plan)?;
+    Ok(answer)
 }
 
 // What ranks keep, since their type holds them.
@@ -102,43 +158,19 @@ fn known_ranks(ranks: &[u32])
     ensures { All (λ r. r ≤ greatest_rank) ranks.now }
 {}
 
-// The lines of the initial states.
-fn lines_in(
-    alloc: Global,
-    found: &Bracket,
-    bound: &Bound,
-    states: &[u32],
-) -> Result<Vec<ReportLine>, OutOfMemory>
-    requires inside { All (λ s. s < length found.now.lower.items) states.now }
-    requires as_many { length found.now.upper.items ≡ length found.now.lower.items }
-    requires lower { All (λ v. v ≤ unit) found.now.lower.items }
-    requires upper { All (λ v. v ≤ unit) found.now.upper.items }
-    ensures lines { IfOk result (λ lines. lines.items ≡ map (line_in bound.now found.now) states.now) }
-    ensures values { IfOk result (λ lines. All HasValues lines.items) }
-{
-    lines_of(
-        alloc,
-        &found.lower,
-        &found.upper,
-        How::Rounds(found.rounds),
-        bound,
-        states,
-    )
-}
-
-// Appends the formula and the certificate of a bracket, where it is asked for.
+// Appends the formula and the certificate, where it is asked for.
 fn append_certificate(
     alloc: Global,
     text: &mut Vec<u8>,
     asked: bool,
     formula: &Formula,
-    found: Bracket,
+    plan: &Plan,
 ) -> Result<(), OutOfMemory>
-    requires lists { HasStates (plan_of found) (length found.lower.items) }
-    requires some { 1 ≤ length found.lower.items }
-    requires lower { All (λ v. v ≤ unit) found.lower.items }
-    requires upper { All (λ v. v ≤ unit) found.upper.items }
-    ensures { OnOk result (text.new.items ≡ text.old.items ++ certificate_part (certificate_of asked (tree_of formula.now) found)) }
+    requires lists { HasStates plan.now (length plan.now.lower.items) }
+    requires some { 1 ≤ length plan.now.lower.items }
+    requires lower { All (λ v. v ≤ unit) plan.now.lower.items }
+    requires upper { All (λ v. v ≤ unit) plan.now.upper.items }
+    ensures { OnOk result (text.new.items ≡ text.old.items ++ certificate_part (certificate_of asked (tree_of formula.now) plan.now)) }
 {
     if !asked {
         return Ok(());
@@ -146,12 +178,5 @@ fn append_certificate(
     append(text, b"formula ")?;
     append(text, &print_formula(alloc, formula)?)?;
     append(text, b"\n")?;
-    let plan = Plan {
-        lower: found.lower,
-        choices: found.choices,
-        ranks: found.ranks,
-        upper: found.upper,
-        replies: found.replies,
-    };
-    append(text, &write_plan(alloc, &plan)?)
+    append(text, &write_plan(alloc, plan)?)
 }

@@ -1,34 +1,37 @@
-use Rattle.std.proofs.lemmas.Result.{IfOk-weaker}
+use Rattle.std.proofs.Common.{List, ℕ, subst}
+use Rattle.std.proofs.lemmas.Result.{err_from_is_err_and}
+use Rattle.formula_sets.specs.Seen.{posing_of}
 use Rattle.command_words.specs.Words.{asked_of_words}
-use Rattle.stogame_app.specs.declared.load.End.TheVariants.{Refused, ReadFault}
-use Rattle.stogame_app.proofs.Loading.{stays}
-use Rattle.stogame_app.proofs.Endings.{sure_reported, question_refused, loading_refused, loading_steadily, same_end, takes_short}
-use Rattle.stogame_app.proofs.Commands.{on_ok}
-use Rattle.stogame_app.proofs.Leaving.{answer_small}
+use Rattle.sure_report.specs.Sure.{IsSure}
+use Rattle.stogame_app.proofs.Answered.{sure_asks, reported, unloaded, unposed, wanting}
 use Rattle.stogame_app.proofs.sure.answer_sure.Goals as goal
 
-pub returns-in_err-loaded-clause-refused : goal.returns-in_err-loaded-clause-refused
-returns-in_err-loaded-clause-refused g c = λ refusal is.
-    loading_refused (g.H.Shelf.held c.args.shelf.now) (g.H.Shelf.steady c.args.shelf.now) (asked_of_words c.args.asked.now) c.load_model.result c.load_model.ensures.says refusal
-    (same_end c.load_model.result c.from_residual.result c.in_err-loaded.field-0.0 (Refused refusal) c.in_err-loaded.was (stays c.from_residual.result c.in_err-loaded.field-0.0 c.from_residual.ensures.1) is)
+pub returns-in_err-loaded : goal.returns-in_err-loaded
+returns-in_err-loaded g c =
+    let p = err_from_is_err_and c.from_residual.result c.from_residual.ensures.1 in
+    let e = c.in_err-loaded.ensures in
+    rw (p.1, p.2) (unloaded (sure_asks (asked_of_words c.args.asked.now)) e.refused e.steadily e.shelf e.caused)
 
-pub returns-in_err-loaded-clause-steadily : goal.returns-in_err-loaded-clause-steadily
-returns-in_err-loaded-clause-steadily g c = λ is calm.
-    loading_steadily (g.H.Shelf.held c.args.shelf.now) (g.H.Shelf.steady c.args.shelf.now) (asked_of_words c.args.asked.now) c.load_model.result c.load_model.ensures.says
-    (same_end c.load_model.result c.from_residual.result c.in_err-loaded.field-0.0 ReadFault c.in_err-loaded.was (stays c.from_residual.result c.in_err-loaded.field-0.0 c.from_residual.ensures.1) is) calm
+pub returns-in_err-posed : goal.returns-in_err-posed
+returns-in_err-posed g c =
+    let p = err_from_is_err_and c.from_residual-in_err-posed.result c.from_residual-in_err-posed.ensures.1 in
+    let loaded = c.in_ok-loaded.ensures in
+    let e = c.in_err-posed.ensures in
+    rw (p.1, p.2) (unposed (sure_asks (asked_of_words c.args.asked.now)) loaded.shelf loaded.reads e.refused e.caused e.read e.short)
 
-pub returns-clause-answered : goal.returns-clause-answered
-returns-clause-answered g c =
-    IfOk-weaker c.sure_loaded.result _ _ (λ answer report.
-    sure_reported (g.H.Shelf.held c.args.shelf.now) (g.H.Shelf.steady c.args.shelf.now) (asked_of_words c.args.asked.now) c.load_model.result c.load_model.ensures.says c.in_ok-loaded.loaded c.in_ok-loaded.was _ _ report) c.sure_loaded.ensures.answered
+pub returns-in-Ok : goal.returns-in-Ok
+returns-in-Ok g c =
+    let loaded = c.in_ok-loaded.ensures in
+    let report = c.in-Ok.report in
+    let P : List ℕ → Type 0 = λ initial. IsSure c.in_ok-posed.posed.question initial report.text.items report.all in
+    let posing = posing_of c.in_ok-posed.posed in
+    reported (sure_asks (asked_of_words c.args.asked.now)) loaded.shelf _ (record {
+      posing = posing;
+      posed = loaded.reads.asks posing c.in_ok-posed.ensures.posed;
+      all = report.all;
+      sure = subst P c.deref.ensures.value c.in-Ok.ensures;
+      ends = c.sure_status.ensures.status;
+    }) c.sure_status.ensures.answer
 
-pub returns-clause-refused : goal.returns-clause-refused
-returns-clause-refused g c = λ refusal is.
-    question_refused (g.H.Shelf.held c.args.shelf.now) (g.H.Shelf.steady c.args.shelf.now) (asked_of_words c.args.asked.now) c.load_model.result c.load_model.ensures.says c.in_ok-loaded.loaded c.in_ok-loaded.was
-    refusal (c.sure_loaded.ensures.refused refusal is)
-
-pub returns-clause-takes : goal.returns-clause-takes
-returns-clause-takes g c = takes_short c.sure_loaded.result _ (answer_small c.in_ok-loaded.loaded _ c.in_ok-loaded.ensures.shelf.takes) c.sure_loaded.ensures.short
-
-pub returns-clause-small : goal.returns-clause-small
-returns-clause-small g c = on_ok _ c.sure_loaded.result (answer_small c.in_ok-loaded.loaded _ c.in_ok-loaded.ensures.shelf.takes)
+pub returns : goal.returns
+returns g c = wanting (sure_asks (asked_of_words c.args.asked.now)) c.in_ok-loaded.ensures.shelf

@@ -1,0 +1,152 @@
+-- What is accepted is answered.
+use Rattle.std.proofs.Common.{◌≡◌, ◌<◌, ◌≤◌, ◌⊎◌, ◌↔◌, ◌∙◌, inl, inr, ℕ, Bool, true, List, length, Option, Some, None, ap, refl, subst, sym, arith}
+use Rattle.text_lines.specs.Limits.{most_bytes}
+use Rattle.game_outside.specs.Outside.{Holding, Rose}
+use Rattle.game_model.specs.Query.{Query}
+use Rattle.formula_sets.specs.Posing.{Posing}
+use Rattle.plan_text.specs.declared.plan.Plan.{Plan}
+use Rattle.certificate_audit.specs.declared.fault.AuditFault.{AuditFault}
+use Rattle.certificate_audit.specs.Accepted.{IsAccepted}
+use Rattle.certificate_audit.specs.Refused.{IsRefused}
+use Rattle.command_words.specs.Words.{Asked, Command, OfCheck, OfAudit, OfMake, OfSure, AreCommand}
+use Rattle.run_refusals.specs.declared.refusal.Text.TheVariants.{Tra, Lab, Own, Cert}
+use Rattle.run_refusals.specs.declared.refusal.Refusal.{Refusal}
+use Rattle.run_refusals.specs.declared.refusal.Refusal.TheVariants.{OfTra, OfLab, OfOwn, OfFormula, OfQuestion, OfCertificate, TooLong}
+use Rattle.asked_files.specs.Said.{NotHeld, Says}
+use Rattle.asked_files.specs.Sources.{Sources, sources_of, WhereTold}
+use Rattle.asked_files.specs.Posed.{question_said}
+use Rattle.asked_files.specs.Asks.{IsText, Asks}
+use Rattle.asked_files.specs.Questions.{PosesIt, RefusesQuestion, RefusesCertificate}
+use Rattle.stogame_app.specs.declared.status.Status.{Status}
+use Rattle.stogame_app.specs.declared.status.Status.TheVariants.{Fine, SomeFalse, SomeUndecided, Usage, ModelRefused, ReadFault, WriteFault, OutOfMemory, CertificateRefused}
+use Rattle.stogame_app.specs.Status.{IsAnswer}
+use Rattle.stogame_app.specs.Commands.{IsAcceptedOf, IsMissing, RefusesBehind, RefusesIt}
+use Rattle.stogame_app.specs.Run.{AsksShelf, IsAcceptedOfWords, IsEnding, IsMissingOfWords, RefusesWords}
+
+-- 1. A question, and a certificate.
+
+-- the question that is said is the one that is asked
+abbrev pub AreAsked : Type 0
+AreAsked = (sources : Sources) (asked : Asked) (posing : Posing) → (question_said sources asked ≡ Says posing) ↔ Asks sources asked posing
+
+-- a question that is asked is not refused
+asked_not_refused : AreAsked → (holding : Option Holding) (held : Holding) (asked : Asked) (posing : Posing) (refusal : Refusal) → holding ≡ Some held → Asks (sources_of held asked) asked posing → RefusesQuestion holding asked refusal → ⊥
+asked_not_refused are None held asked posing refusal told asks refused = cc (told)
+asked_not_refused are (Some other) held asked posing refusal told asks refused =
+    let same : other ≡ held = cc (told) in
+    let said = (are (sources_of held asked) asked posing).1 asks in
+    let alike : question_said refused.sources asked ≡ question_said (sources_of held asked) asked = ap (λ s. question_said s asked) (refused.told ∙ ap (λ h. sources_of h asked) same) in
+    let refuses = refused.refuses in
+    cc (alike, said, refuses)
+
+-- it is the only one
+asked_once : AreAsked → (held : Holding) (asked : Asked) (posing other : Posing) → Asks (sources_of held asked) asked posing → PosesIt (Some held) asked other → other ≡ posing
+asked_once are held asked posing other asks poses =
+    let first = (are (sources_of held asked) asked posing).1 asks in
+    let second = (are poses.sources asked other).1 poses.asks in
+    let alike : question_said poses.sources asked ≡ question_said (sources_of held asked) asked = ap (λ s. question_said s asked) poses.told in
+    let said : Says other ≡ Says posing = sym second ∙ alike ∙ first in
+    cc (said)
+
+-- for a question that is asked every text is held
+asked_is_held : AreAsked → (held : Holding) (asked : Asked) (posing : Posing) → Asks (sources_of held asked) asked posing → question_said (sources_of held asked) asked ≡ NotHeld → ⊥
+asked_is_held are held asked posing asks missing =
+    let said = (are (sources_of held asked) asked posing).1 asks in
+    cc (said, missing)
+
+-- the text of a source is one
+one_text : (source : Option (List ℕ)) (text other : List ℕ) → source ≡ Some text → source ≡ Some other → text ≡ other
+one_text source text other is so = let said : Some text ≡ Some other = sym is ∙ so in cc (said)
+
+-- no text is both accepted and refused
+abbrev pub AreApart : Type 0
+AreApart = (q : Query) (text : List ℕ) (plan : Plan) (fault : AuditFault) → IsAccepted q text plan → IsRefused q text fault → ⊥
+
+accepted_not_refused : AreApart → (q : Query) (source : Option (List ℕ)) (plan : Plan) (refusal : Refusal) → IsText source (λ text. IsAccepted q text plan) → RefusesCertificate q source refusal → ⊥
+accepted_not_refused apart q source plan (OfCertificate fault) accepted refused =
+    let same = one_text source refused.text accepted.text refused.given accepted.given in
+    apart q accepted.text plan fault accepted.is_so (subst (λ (t : List ℕ). IsRefused q t fault) same refused.is_so)
+accepted_not_refused apart q source plan (TooLong Cert) accepted refused =
+    let same = one_text source refused.0 accepted.text refused.1 accepted.given in
+    let short : length accepted.text ≤ most_bytes = accepted.short in
+    let long : most_bytes < length accepted.text = subst (λ (t : List ℕ). most_bytes < length t) same refused.2 in
+    omega (arith, short, long)
+accepted_not_refused apart q source plan (TooLong Tra) accepted refused = refused
+accepted_not_refused apart q source plan (TooLong Lab) accepted refused = refused
+accepted_not_refused apart q source plan (TooLong Own) accepted refused = refused
+accepted_not_refused apart q source plan (OfTra fault) accepted refused = refused
+accepted_not_refused apart q source plan (OfLab fault) accepted refused = refused
+accepted_not_refused apart q source plan (OfOwn fault) accepted refused = refused
+accepted_not_refused apart q source plan (OfFormula fault) accepted refused = refused
+accepted_not_refused apart q source plan (OfQuestion fault) accepted refused = refused
+
+command_not_refused : AreAsked → AreApart → (holding : Option Holding) (held : Holding) (command : Command) (refusal : Refusal) → holding ≡ Some held → IsAcceptedOf held command → RefusesIt holding command refusal → ⊥
+command_not_refused are apart holding held (OfMake make) refusal _ accepted refused = absurd refused
+command_not_refused are apart holding held (OfCheck check) refusal told accepted refused = asked_not_refused are holding held check.asked accepted.0 refusal told accepted.1 refused
+command_not_refused are apart holding held (OfSure asked) refusal told accepted refused = asked_not_refused are holding held asked accepted.0 refusal told accepted.1 refused
+command_not_refused are apart holding held (OfAudit audit) refusal told accepted refused = elim refused [
+  | inl question ↦ asked_not_refused are holding held audit.asked accepted.0 refusal told accepted.2 question
+  | inr behind ↦ by_behind (subst (λ (h : Option Holding). RefusesBehind h audit refusal) told behind)
+]
+  where
+    by_behind : RefusesBehind (Some held) audit refusal → ⊥
+    by_behind behind =
+        let same = asked_once are held audit.asked accepted.0 behind.posing accepted.2 behind.posed in
+        let c = behind.certificate in
+        let P : Posing → Type 0 = λ posing. RefusesCertificate posing.question c.source refusal in
+        let Q : Option (List ℕ) → Type 0 = λ source. RefusesCertificate accepted.0.question source refusal in
+        let so : RefusesCertificate accepted.0.question (held audit.certificate) refusal = subst Q c.told (subst P same c.is_so) in
+        accepted_not_refused apart accepted.0.question (held audit.certificate) accepted.1 refusal accepted.3 so
+
+command_is_held : AreAsked → (holding : Option Holding) (held : Holding) (command : Command) → holding ≡ Some held → IsAcceptedOf held command → WhereTold holding (λ h. IsMissing h command) → ⊥
+command_is_held are None held command told accepted missing = cc (told)
+command_is_held are (Some other) held command told accepted missing = of_held command accepted (subst (λ (h : Holding). IsMissing h command) same missing)
+  where
+    same : other ≡ held
+    same = cc (told)
+
+    of_held : (k : Command) → IsAcceptedOf held k → IsMissing held k → ⊥
+    of_held (OfMake make) accepted missing = absurd missing
+    of_held (OfCheck check) accepted missing = asked_is_held are held check.asked accepted.0 accepted.1 missing
+    of_held (OfSure asked) accepted missing = asked_is_held are held asked accepted.0 accepted.1 missing
+    of_held (OfAudit audit) accepted missing = elim missing [
+      | inl question ↦ asked_is_held are held audit.asked accepted.0 accepted.2 question
+      | inr behind ↦ let given = accepted.3.given in let certificate = behind.1 in cc (given, certificate)
+    ]
+
+-- 2. The words of a run.
+
+-- words denote one command
+abbrev pub AreOneCommand : Type 0
+AreOneCommand = (words : List (List ℕ)) (command other : Command) → AreCommand words command → AreCommand words other → command ≡ other
+
+module _ (are : AreAsked) (apart : AreApart) (one : AreOneCommand) {words : List (List ℕ)} {holding : Option Holding} (held : Holding) (told : holding ≡ Some held) (accepted : IsAcceptedOfWords words held) where
+  -- what is accepted of the command that other facts speak of
+  accepted_of : (command : Command) → AreCommand words command → IsAcceptedOf held command
+  accepted_of command denoted = subst (λ (k : Command). IsAcceptedOf held k) (one words accepted.command command accepted.denoted denoted) accepted.accepted
+
+  not_refused : {taken : ℕ} (refusal : Refusal) → RefusesWords words holding taken refusal → ⊥
+  not_refused refusal refused = command_not_refused are apart holding held refused.command refusal told (accepted_of refused.command refused.denoted) refused.said
+
+  not_missing : IsMissingOfWords words holding → ⊥
+  not_missing missing = command_is_held are holding held missing.command told (accepted_of missing.command missing.denoted) missing.missing
+
+  -- what is left where the others are ruled out
+  pub completed : (taken : ℕ) (old new : Option (List ℕ)) (status : Status) → IsEnding words holding taken old new status → (status ≡ ReadFault → ⊥) → (status ≡ WriteFault → ⊥) → IsAnswer status ⊎ (status ≡ OutOfMemory)
+  completed taken old new Fine ends read write = inl tt
+  completed taken old new SomeFalse ends read write = inl tt
+  completed taken old new SomeUndecided ends read write = inl tt
+  completed taken old new Usage ends read write = absurd (ends.is.no_command accepted.command accepted.denoted)
+  completed taken old new ModelRefused ends read write = absurd (not_refused ends.is.refusal ends.is.refused)
+  completed taken old new CertificateRefused ends read write = absurd (not_refused ends.is.refusal ends.is.refused)
+  completed taken old new ReadFault ends read write = absurd (read refl)
+  completed taken old new WriteFault ends read write = absurd (write refl)
+  completed taken old new OutOfMemory ends read write = inr refl
+
+  -- a text that is held and accepted is read, unless the shelf fails
+  pub is_read : {S : Type 0} {of : S → Option Holding} {steady : S → Bool} {faults took : S → ℕ} {old new : S} {status : Status} → AsksShelf of steady faults took words old new status → of old ≡ holding
+      → (steady old ≡ true) ⊎ (Rose (faults old) (faults new) → ⊥) → status ≡ ReadFault → ⊥
+  is_read shelf same calm is = elim calm [
+    | inl steady ↦ not_missing (subst (λ (h : Option Holding). IsMissingOfWords words h) same (shelf.steadily is steady))
+    | inr still ↦ still (shelf.read_fault is)
+  ]

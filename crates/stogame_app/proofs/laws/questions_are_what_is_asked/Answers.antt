@@ -1,5 +1,0 @@
-use Rattle.stogame_app.proofs.Asking.{said_asks, asks_said}
-use Rattle.stogame_app.proofs.laws.questions_are_what_is_asked.Goals as goal
-
-pub returns : goal.returns
-returns c = λ sources asked posing. (said_asks sources asked posing, asks_said sources asked posing)
