@@ -6,6 +6,7 @@ ghost use Rattle.std.specs.Bool.{OnTrue};
 
 use game_model::{Choice, Edge, Game, MOST_STATES, Question, Side};
 use std::alloc::Global;
+use std::mem::replace;
 
 /// The most choices of a state of a draft.
 const MOST_CHOICES: usize = 8;
@@ -16,14 +17,17 @@ const MOST_EDGES: usize = 8;
 /// The greatest weight of a draft.
 const MOST_WEIGHT: u64 = 1_000_000_000_000_000_000;
 
-/// The first states of a game that is being made.
+/// A game that is being made: the states that are made, and the choices so far of the next one.
 #[derive(Drop)]
 pub struct Draft {
     states: u32,
     all: Vec<Vec<Choice>>,
+    next: Vec<Choice>,
     ghost chosen: { All (λ c. 0 < length c.items) all.items },
     ghost bounded: { All (λ c. length c.items ≤ most_choices) all.items },
     ghost inside: { All (λ c. All (λ m. All (λ e. e.to < states) m.edges) c.items) all.items },
+    ghost few: { length next.items ≤ most_choices },
+    ghost within: { All (λ m. All (λ e. e.to < states) m.edges) next.items },
 }
 
 impl Draft {
@@ -32,12 +36,32 @@ impl Draft {
         Draft {
             states,
             all: Vec::new(alloc),
+            next: Vec::new(alloc),
         }
+    }
+
+    /// Adds a choice to the next state.
+    pub fn choice(&mut self, alloc: Global, edges: &[(u32, u64)]) -> Option<()> {
+        if self.next.len() >= MOST_CHOICES {
+            return None;
+        }
+        let made = choice(alloc, self.states, edges)?;
+        self.next.push(made).ok()
+    }
+
+    /// The next state is made, where it has a choice.
+    pub fn end_state(&mut self, alloc: Global) -> Option<()> {
+        if self.next.is_empty() {
+            return None;
+        }
+        let made = replace(&mut self.next, Vec::new(alloc));
+        self.all.push(made).ok()
     }
 
     /// The next state, with one choice.
     pub fn one(&mut self, alloc: Global, edges: &[(u32, u64)]) -> Option<()> {
-        self.with(alloc, &[edges])
+        self.choice(alloc, edges)?;
+        self.end_state(alloc)
     }
 
     /// The next state, with two choices.
@@ -47,18 +71,17 @@ impl Draft {
         first: &[(u32, u64)],
         second: &[(u32, u64)],
     ) -> Option<()> {
-        self.with(alloc, &[first, second])
-    }
-
-    /// The next state, with these choices.
-    pub fn with(&mut self, alloc: Global, choices: &[&[(u32, u64)]]) -> Option<()> {
-        let made = choices_with(alloc, self.states, choices)?;
-        self.all.push(made).ok()
+        self.choice(alloc, first)?;
+        self.one(alloc, second)
     }
 
     /// The game, where all its states are made.
     pub fn game(self, alloc: Global) -> Option<Game> {
-        let Draft { states, all } = self;
+        let Draft {
+            states,
+            all,
+            next: _,
+        } = self;
         if states == 0 || states > MOST_STATES || all.len() != states as usize {
             return None;
         }
@@ -66,20 +89,23 @@ impl Draft {
     }
 }
 
-// The choices with these edges, where there are some, but not too many.
-fn choices_with(alloc: Global, states: u32, lists: &[&[(u32, u64)]]) -> Option<Vec<Choice>>
-    ensures some { IfSome result (λ choices. 0 < length choices.items) }
-    ensures few { IfSome result (λ choices. length choices.items ≤ most_choices) }
-    ensures inside { IfSome result (λ choices. All (λ m. All (λ e. e.to < states) m.edges) choices.items) }
-{
-    if lists.is_empty() || lists.len() > MOST_CHOICES {
-        return None;
+/// The edges of a choice by rising successor, the parts of one successor as one.
+pub fn merged(alloc: Global, parts: &[(u32, u64)]) -> Option<Vec<(u32, u64)>> {
+    let mut sorted = parts.to_vec(alloc).ok()?;
+    sorted.sort().ok()?;
+    let mut edges: Vec<(u32, u64)> = Vec::new(alloc);
+    for (to, part) in &sorted {
+        let weight = match edges.pop() {
+            Some((last, weight)) if last == *to => weight.saturating_add(*part),
+            Some(edge) => {
+                edges.push(edge).ok()?;
+                *part
+            }
+            None => *part,
+        };
+        edges.push((*to, weight)).ok()?;
     }
-    let mut made = Vec::new(alloc);
-    for edges in lists {
-        made.push(choice(alloc, states, *edges)?).ok()?;
-    }
-    Some(made)
+    Some(edges)
 }
 
 // The choice with these edges, where there are some, but not too many, and they rise.
@@ -127,6 +153,30 @@ pub fn question(
         return None;
     }
     Some(Question::build(game, sides, goal, dead))
+}
+
+/// The question where these states are the minimiser's, these are goals and these are dead.
+pub fn question_with<'g>(
+    alloc: Global,
+    game: &'g Game,
+    minimiser: &[u32],
+    goal: &[u32],
+    dead: &[u32],
+) -> Option<Question<'g>> {
+    let mut sides = Vec::new(alloc);
+    let mut goals = Vec::new(alloc);
+    let mut deads = Vec::new(alloc);
+    for state in 0..game.states() {
+        let side = if minimiser.contains(&state) {
+            Side::Min
+        } else {
+            Side::Max
+        };
+        sides.push(side).ok()?;
+        goals.push(goal.contains(&state)).ok()?;
+        deads.push(dead.contains(&state)).ok()?;
+    }
+    question(game, sides, goals, deads)
 }
 
 // Whether no state is both.

@@ -1,7 +1,7 @@
 //! The games of the tests.
 
-use crate::draft::{Draft, question};
-use game_model::{Game, Question, Side};
+use crate::draft::{Draft, question_with};
+use game_model::{Game, Question};
 use std::alloc::Global;
 
 /// A coin is thrown again and again: at state 0 it stands with weight 2, wins with weight 1 and is lost
@@ -16,12 +16,7 @@ pub fn coin_game(alloc: Global) -> Option<Game> {
 
 /// How likely is a win? State 1 is the goal.
 pub fn coin_question(alloc: Global, game: &Game) -> Option<Question<'_>> {
-    question(
-        game,
-        vec![in alloc; Side::Max, Side::Max, Side::Max].ok()?,
-        vec![in alloc; false, true, false].ok()?,
-        vec![in alloc; false, false, false].ok()?,
-    )
+    question_with(alloc, game, &[], &[1], &[])
 }
 
 /// A randomised agreement protocol between two processes.
@@ -51,30 +46,5 @@ pub fn agreement_game(alloc: Global) -> Option<Game> {
 /// How likely can the first process make the protocol end well? State 11 is the goal, state 10 is dead, and
 /// the second process chooses at the states 1, 2, 8 and 9.
 pub fn agreement_question(alloc: Global, game: &Game) -> Option<Question<'_>> {
-    question(
-        game,
-        vec![in alloc;
-            Side::Max,
-            Side::Min,
-            Side::Min,
-            Side::Max,
-            Side::Max,
-            Side::Max,
-            Side::Max,
-            Side::Max,
-            Side::Min,
-            Side::Min,
-            Side::Max,
-            Side::Max,
-        ]
-        .ok()?,
-        vec![in alloc;
-            false, false, false, false, false, false, false, false, false, false, false, true,
-        ]
-        .ok()?,
-        vec![in alloc;
-            false, false, false, false, false, false, false, false, false, false, true, false,
-        ]
-        .ok()?,
-    )
+    question_with(alloc, game, &[1, 2, 8, 9], &[11], &[10])
 }

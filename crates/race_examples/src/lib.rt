@@ -1,21 +1,46 @@
-//! Small games, and races on them: tests of the crates below that no clause covers.
+//! Tests of the crates below, beside their clauses, over random and structured games: of worlds, workers, brackets, guesses,
+//! certificates, almost-sure sets and traps.
 #![tactic(auto)]
 
 #[cfg(test)]
+mod almost_sure_sets;
+#[cfg(test)]
 mod brackets;
+#[cfg(test)]
+mod certificates;
+#[cfg(test)]
 mod draft;
 #[cfg(test)]
-mod exact;
+mod end_components;
+#[cfg(test)]
 mod games;
+#[cfg(test)]
+mod guesses;
+#[cfg(test)]
+mod known;
+#[cfg(test)]
+mod lower_guesses;
 #[cfg(test)]
 mod mutants;
 #[cfg(test)]
+mod plain_ranks;
+#[cfg(test)]
+mod plain_tables;
+#[cfg(test)]
 mod planned;
 #[cfg(test)]
-mod random;
+mod random_games;
+#[cfg(test)]
+mod searches;
 #[cfg(test)]
 mod structured;
 #[cfg(test)]
-mod tests;
-
-pub use games::{agreement_game, agreement_question, coin_game, coin_question};
+mod thresholds;
+#[cfg(test)]
+mod traps;
+#[cfg(test)]
+mod workers;
+#[cfg(test)]
+mod worlds;
+#[cfg(test)]
+mod wrong_certificates;

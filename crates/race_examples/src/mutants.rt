@@ -74,18 +74,6 @@ fn other_ranks(rank: u32) -> [u32; 4] {
     ]
 }
 
-// This line with other bounds.
-fn add_bounds(changed: &mut Vec<Line>, line: Line) -> Option<()> {
-    for (lower, upper) in other_values(line.lower)
-        .into_iter()
-        .zip(other_values(line.upper))
-    {
-        changed.push(Line { lower, ..line }).ok()?;
-        changed.push(Line { upper, ..line }).ok()?;
-    }
-    Some(())
-}
-
 // The choices that stand in place of this one.
 fn other_choices(choice: Option<u32>) -> &'static [Option<u32>] {
     if choice.is_some() {
@@ -95,84 +83,84 @@ fn other_choices(choice: Option<u32>) -> &'static [Option<u32>] {
     }
 }
 
-// This line with other choices of the maximiser.
-fn add_choices(changed: &mut Vec<Line>, line: Line) -> Option<()> {
-    for other in other_choices(line.choice) {
-        changed
-            .push(Line {
-                choice: *other,
-                ..line
-            })
-            .ok()?;
+// This line with another entry in one of its fields, each in turn.
+fn changed_lines(alloc: Global, line: Line) -> Option<Vec<Line>> {
+    let lowers = other_values(line.lower).into_iter();
+    let uppers = other_values(line.upper).into_iter();
+    let choices = other_choices(line.choice).iter();
+    let replies = other_choices(line.reply).iter();
+    let ranks = other_ranks(line.rank).into_iter();
+    lowers
+        .map(|lower| Line { lower, ..line })
+        .chain(uppers.map(|upper| Line { upper, ..line }))
+        .chain(choices.map(|choice| Line {
+            choice: *choice,
+            ..line
+        }))
+        .chain(replies.map(|reply| Line {
+            reply: *reply,
+            ..line
+        }))
+        .chain(ranks.map(|rank| Line { rank, ..line }))
+        .filter(|other| *other != line)
+        .collect::<Vec<Line>>(alloc)
+        .ok()
+}
+
+// Adds the certificates with the line at a place changed.
+fn add_changes(
+    alloc: Global,
+    made: &mut Vec<Vec<Line>>,
+    lines: &[Line],
+    place: usize,
+    line: Line,
+) -> Option<()> {
+    for changed in changed_lines(alloc, line)? {
+        let mut mutant = lines.to_vec(alloc).ok()?;
+        *mutant.get_mut(place)? = changed;
+        made.push(mutant).ok()?;
     }
     Some(())
 }
 
-// This line with other choices of the minimiser.
-fn add_replies(changed: &mut Vec<Line>, line: Line) -> Option<()> {
-    for other in other_choices(line.reply) {
-        changed
-            .push(Line {
-                reply: *other,
-                ..line
-            })
-            .ok()?;
-    }
-    Some(())
-}
-
-// This line with other ranks.
-fn add_ranks(changed: &mut Vec<Line>, line: Line) -> Option<()> {
-    for rank in other_ranks(line.rank) {
-        changed.push(Line { rank, ..line }).ok()?;
-    }
-    Some(())
-}
-
-/// This line with another entry in one of its fields, each in turn.
-pub fn changed_lines(alloc: Global, line: Line) -> Option<Vec<Line>> {
-    let mut changed = Vec::new(alloc);
-    add_bounds(&mut changed, line)?;
-    add_choices(&mut changed, line)?;
-    add_replies(&mut changed, line)?;
-    add_ranks(&mut changed, line)?;
-    changed.retain(|other| *other != line);
-    Some(changed)
-}
-
-/// These lines with another one at a place.
-pub fn with_line(alloc: Global, lines: &[Line], place: usize, line: Line) -> Option<Vec<Line>> {
-    let mut changed = lines.to_vec(alloc).ok()?;
-    *changed.get_mut(place)? = line;
-    Some(changed)
-}
-
-// The lines before a place and at it.
-fn neighbours(lines: &[Line], place: usize) -> Option<(Line, Line)> {
-    let before = lines.get(place.checked_sub(1)?)?;
-    Some((*before, *lines.get(place)?))
-}
-
-/// These lines with the ones before a place and at it in the other order.
-pub fn with_swapped_lines(alloc: Global, lines: &[Line], place: usize) -> Option<Vec<Line>> {
-    let (before, at) = neighbours(lines, place)?;
-    let changed = with_line(alloc, lines, place, before)?;
-    with_line(alloc, &changed, place.checked_sub(1)?, at)
-}
-
-/// These lines where the states before a place and at it have each what is said of the other.
-pub fn with_swapped_states(alloc: Global, lines: &[Line], place: usize) -> Option<Vec<Line>> {
-    let (before, at) = neighbours(lines, place)?;
-    let first = Line {
-        state: before.state,
-        ..at
+// Adds the certificates with the line at a place and the next one, or what is said of their states, in the other order.
+fn add_swaps(
+    alloc: Global,
+    made: &mut Vec<Vec<Line>>,
+    lines: &[Line],
+    place: usize,
+    line: Line,
+) -> Option<()> {
+    let next = place.saturating_add(1);
+    let Some(behind) = lines.get(next).copied() else {
+        return Some(());
     };
-    let second = Line {
-        state: at.state,
-        ..before
+    let here = Line {
+        state: line.state,
+        ..behind
     };
-    let changed = with_line(alloc, lines, place, second)?;
-    with_line(alloc, &changed, place.checked_sub(1)?, first)
+    let there = Line {
+        state: behind.state,
+        ..line
+    };
+    for (first, second) in [(behind, line), (here, there)] {
+        let mut mutant = lines.to_vec(alloc).ok()?;
+        *mutant.get_mut(place)? = first;
+        *mutant.get_mut(next)? = second;
+        made.push(mutant).ok()?;
+    }
+    Some(())
+}
+
+/// The certificates that are made of one: with one line changed, or two neighbouring lines, or what is said of two
+/// neighbouring states, in the other order.
+pub fn mutants(alloc: Global, lines: &[Line]) -> Option<Vec<Vec<Line>>> {
+    let mut made = Vec::new(alloc);
+    for (place, line) in lines.iter().enumerate() {
+        add_changes(alloc, &mut made, lines, place, *line)?;
+        add_swaps(alloc, &mut made, lines, place, *line)?;
+    }
+    Some(made)
 }
 
 // A choice as it is written.

@@ -1,8 +1,7 @@
 //! Games where one side plays a plan.
 
-ghost use Rattle.std.specs.Prelude.{◌<◌, length};
+ghost use Rattle.std.specs.Prelude.{◌<◌, ◌≤◌, length};
 ghost use Rattle.game_model.specs.Game.{choices_of};
-ghost use Rattle.game_model.specs.Query.{states};
 
 use crate::draft::{Draft, question};
 use game_model::{Game, Question, Side};
@@ -34,35 +33,25 @@ fn planned_choice(given: Option<u32>, choices: u32) -> u32
     }
 }
 
-// Adds a state with the planned choice alone.
-fn add_planned(
+// Adds a state with the choices from this one up to that one.
+fn add_state(
     alloc: Global,
     draft: &mut Draft,
     game: &Game,
     state: u32,
-    given: Option<u32>,
+    from: u32,
+    to: u32,
 ) -> Option<()>
-    requires { state < length game.now }
+    requires state { state < length game.now }
+    requires to { to ≤ length (choices_of game.now state) }
 {
-    game.known();
-    let choice = planned_choice(given, game.choices_of(state));
-    draft.one(alloc, &edges_of(alloc, game, state, choice)?)
-}
-
-// Adds a state with its choices, of which there are at most two.
-fn add_whole(alloc: Global, draft: &mut Draft, game: &Game, state: u32) -> Option<()>
-    requires { state < length game.now }
-{
-    game.known();
-    let first = edges_of(alloc, game, state, 0)?;
-    match game.choices_of(state) {
-        1 => draft.one(alloc, &first),
-        2 => draft.two(alloc, &first, &edges_of(alloc, game, state, 1)?),
-        _ => None,
+    for choice in from..to {
+        draft.choice(alloc, &edges_of(alloc, game, state, choice)?)?;
     }
+    draft.end_state(alloc)
 }
 
-/// The game of a question where this side has the choices of a plan alone. Each state has at most two choices.
+/// The game of a question where this side has the choices of a plan alone.
 pub fn planned_game(
     alloc: Global,
     question: &Question<'_>,
@@ -73,11 +62,13 @@ pub fn planned_game(
     let game = question.game();
     let mut draft = Draft::new(alloc, game.states());
     for state in 0..game.states() {
+        let choices = game.choices_of(state);
         if question.side(state) == side {
             let given = plan.get(state as usize).copied().flatten();
-            add_planned(alloc, &mut draft, game, state, given)?;
+            let choice = planned_choice(given, choices);
+            add_state(alloc, &mut draft, game, state, choice, choice + 1)?;
         } else {
-            add_whole(alloc, &mut draft, game, state)?;
+            add_state(alloc, &mut draft, game, state, 0, choices)?;
         }
     }
     draft.game(alloc)

@@ -30,22 +30,3 @@ impl Model {
         )
     }
 }
-
-/// The edges of a choice by rising successor, the parts of one successor as one.
-fn merged(alloc: Global, parts: &[(u32, u64)]) -> Option<Vec<(u32, u64)>> {
-    let mut sorted = parts.to_vec(alloc).ok()?;
-    sorted.sort().ok()?;
-    let mut edges: Vec<(u32, u64)> = Vec::new(alloc);
-    for (to, part) in &sorted {
-        let weight = match edges.pop() {
-            Some((last, weight)) if last == *to => weight.saturating_add(*part),
-            Some(edge) => {
-                edges.push(edge).ok()?;
-                *part
-            }
-            None => *part,
-        };
-        edges.push((*to, weight)).ok()?;
-    }
-    Some(edges)
-}

@@ -1,6 +1,8 @@
 //! Certificates that are audited.
 
-use crate::certificates::{FIRST_OF_TWO_PLAYERS, MOST_OF_LOOP_OR_COIN};
+use crate::certificates::{
+    FIRST_OF_TWO_PLAYERS, MOST_OF_COIN_LOOP_WITH_PLAN, MOST_OF_LOOP_OR_COIN,
+};
 use crate::models::{COIN_LOOP, GOAL_AT_1};
 use crate::rows::{Row, add_words, ends, file_of_bytes, files, plain_row, runs, words};
 use game_outside::{OpenGate, SteadyShelf};
@@ -83,6 +85,10 @@ fn what_a_check_prints_is_accepted(rt: HostRuntime) -> Result<(), Fail> {
         (
             FIRST_OF_TWO_PLAYERS,
             "state 0 lower 0.650000000000000 upper 0.650000000000000 audited True\n",
+        ),
+        (
+            MOST_OF_COIN_LOOP_WITH_PLAN,
+            "state 0 lower 0.500000000000000 upper 0.500000000000000 audited Bracket\n",
         ),
     ] {
         let (_, printed) = runs(&rt, alloc, row, &OpenGate {})?;

@@ -1,6 +1,6 @@
 //! Certificates, as they are printed.
 
-use crate::models::{GOAL_AT_1, GOAL_AT_2, LOOP_OR_COIN, SECOND_OWNS_1, TWO_PLAYERS};
+use crate::models::{COIN_LOOP, GOAL_AT_1, GOAL_AT_2, LOOP_OR_COIN, SECOND_OWNS_1, TWO_PLAYERS};
 use crate::rows::{Row, writes};
 use plan_text::read_plan;
 use std::test::Fail;
@@ -34,6 +34,29 @@ pub const LOOP_OR_COIN_PLAN: &str =
 /// What is printed of the first player's threshold.
 pub const TWO_PLAYERS_PLAN: &str =
     "state 0 lower 0.650000000000000 upper 0.650000000000000 rounds 1 True\nformula <<p1>> P>=3/5 [ F \"goal\" ]\ncertificate 2 4\n0 0.650000000000000 1 1 0.650000000000000 -\n1 0.200000000000000 - 1 0.200000000000000 1\n2 1.000000000000000 - 0 1.000000000000000 -\n3 0.000000000000000 - 0 0.000000000000000 -\n";
+
+/// The coin loop, asked for the most, with its certificate.
+pub const MOST_OF_COIN_LOOP_WITH_PLAN: Row<'static> = Row {
+    tra: COIN_LOOP,
+    lab: GOAL_AT_1,
+    own: None,
+    formula: "Pmax=? [ F \"goal\" ]",
+    numbers: PLAN,
+};
+
+// One half is met in the limit alone: no number of rounds reaches it from below, and ranks vouch for it.
+#[test]
+fn a_value_that_is_met_in_the_limit_has_its_certificate(rt: HostRuntime) -> Result<(), Fail> {
+    let text =
+        "state 0 lower 0.500000000000000 upper 0.500000000000000 rounds 50 Bracket\nformula Pmax=? [ F \"goal\" ]\ncertificate 2 3\n0 0.500000000000000 0 1 0.500000000000000 -\n1 1.000000000000000 - 0 1.000000000000000 -\n2 0.000000000000000 - 0 0.000000000000000 -\n";
+    writes(
+        &rt,
+        rt.alloc(),
+        MOST_OF_COIN_LOOP_WITH_PLAN,
+        text,
+        Status::Fine,
+    )
+}
 
 #[test]
 fn a_plan_leaves_the_loop(rt: HostRuntime) -> Result<(), Fail> {

@@ -51,7 +51,7 @@ const DRAWN: [&str; 37] = [
     "--workers=0",
     "--workers=065",
     "--plan",
-    "--plan",
+    "--traps",
     "--plan=yes",
     "--help",
     "-h",
@@ -116,6 +116,7 @@ fn says_check(check: &CheckWords<'_>, plain: &PlainWords<'_>) -> bool {
         && check.rounds == plain.rounds
         && check.workers == plain.workers
         && check.plan == plain.plan
+        && check.traps == plain.traps
 }
 
 // Whether an `audit` that was read is what the plain reading says.

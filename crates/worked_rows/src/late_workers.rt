@@ -35,7 +35,7 @@ fn one_round_raises_what_another_worker_has_raised(rt: HostRuntime) -> Result<()
         "the second worker did not finish its states"
     );
     assert!(rt; ended == Status::Fine, "it ends with {ended:?}");
-    for front in ["1 0.699999999999999 ", "3 0.500000000000000 "] {
+    for front in ["1 0.699999999999999 ", "3 0.500000000000002 "] {
         let mut lines = written.split(|byte| *byte == b'\n');
         let found = lines.any(|line| line.starts_with(front.as_bytes()));
         assert!(rt; found, "no line begins with {front}");

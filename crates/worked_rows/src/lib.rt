@@ -67,6 +67,8 @@ mod thresholds;
 #[cfg(test)]
 mod transitions;
 #[cfg(test)]
+mod traps;
+#[cfg(test)]
 mod values;
 #[cfg(test)]
 mod words;

@@ -33,7 +33,7 @@ pub const LOOP_OR_COIN: &str = "3 4 5\n0 0 0 1\n0 1 1 0.5\n0 1 2 0.5\n1 0 1 1\n2
 
 /// What the coin loop reports.
 pub const COIN_LOOP_REPORT: &str =
-    "state 0 lower 0.499999999999999 upper 0.500000000000000 rounds 50 Bracket\n";
+    "state 0 lower 0.500000000000000 upper 0.500000000000000 rounds 50 Bracket\n";
 
 /// What the threshold 0.6 of the first of two players reports.
 pub const FIRST_IS_TRUE: &str =
@@ -45,4 +45,4 @@ pub const OF_THREE_STATES: &str =
 
 /// What words that denote no command report.
 pub const USAGE: &str =
-    "usage: stogame check TRA LAB FORMULA [--own FILE] [--rounds R] [--workers W] [--plan] | audit TRA LAB FORMULA CERT [--own FILE] | make SEED STATES [--rounds R] [--workers W] | sure TRA LAB FORMULA [--own FILE]\n";
+    "usage: stogame check TRA LAB FORMULA [--own FILE] [--rounds R] [--workers W] [--plan] [--traps] | audit TRA LAB FORMULA CERT [--own FILE] | make SEED STATES [--rounds R] [--workers W] | sure TRA LAB FORMULA [--own FILE]\n";

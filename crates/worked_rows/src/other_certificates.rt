@@ -69,22 +69,23 @@ fn a_certificate_of_another_model_is_refused(rt: HostRuntime) -> Result<(), Fail
     Ok(())
 }
 
+// Bounds so loose that they are right for two models.
+const LOOSE: &str =
+    "certificate 2 3\n0 0.000000000000000 - 0 0.562949953421312 -\n1 1.000000000000000 - 0 1.000000000000000 -\n2 0.000000000000000 - 0 0.000000000000000 -\n";
+
 #[test]
 fn a_certificate_that_is_right_elsewhere_is_accepted(rt: HostRuntime) -> Result<(), Fail> {
     let alloc = rt.alloc();
-    let no_rounds = Row {
-        numbers: &["--rounds", "0", "--plan"],
-        ..most(COIN_LOOP)
-    };
-    let (_, printed) = runs(&rt, alloc, no_rounds, &OpenGate {})?;
-    audit_writes(
-        &rt,
-        alloc,
-        most(LOOP_OR_COIN),
-        &printed,
-        "state 0 lower 0.000000000000000 upper 0.562949953421312 audited Bracket\n",
-        Status::Fine,
-    )?;
+    for tra in [COIN_LOOP, LOOP_OR_COIN] {
+        audit_writes(
+            &rt,
+            alloc,
+            most(tra),
+            LOOSE.as_bytes(),
+            "state 0 lower 0.000000000000000 upper 0.562949953421312 audited Bracket\n",
+            Status::Fine,
+        )?;
+    }
     let (_, printed) = runs(&rt, alloc, FIRST_OF_TWO_PLAYERS, &OpenGate {})?;
     for (formula, verdict, status) in [
         ("<<p1>> P>=0.7 [ F \"goal\" ]", "False", Status::SomeFalse),

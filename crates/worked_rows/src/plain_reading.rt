@@ -15,7 +15,7 @@ struct Taken {
 
 const CHECK: Taken = Taken {
     places: 3,
-    options: &["--own", "--rounds", "--workers", "--plan"],
+    options: &["--own", "--rounds", "--workers", "--plan", "--traps"],
 };
 
 const AUDIT: Taken = Taken {
@@ -38,6 +38,8 @@ pub struct PlainWords<'a> {
     pub workers: u32,
     /// Whether the option of this name is given.
     pub plan: bool,
+    /// Whether the option of this name is given.
+    pub traps: bool,
 }
 
 // What the words so far say.
@@ -76,6 +78,7 @@ fn words_behind<'a>(
             rounds: 10_000,
             workers: 4,
             plan: false,
+            traps: false,
         },
         given: Vec::new(alloc),
         waiting: None,
@@ -117,6 +120,7 @@ impl<'a> Reading<'a> {
         match value {
             Some(value) => self.take(name, value),
             None if name == "--plan" => self.said.plan = true,
+            None if name == "--traps" => self.said.traps = true,
             None => self.waiting = Some(name),
         }
         Ok(())

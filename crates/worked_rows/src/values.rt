@@ -30,7 +30,7 @@ fn the_coin_loop_has_one_half(rt: HostRuntime) -> Result<(), Fail> {
     )?;
     let two = "0=\"init\" 1=\"goal\"\n2: 0\n0: 0\n1: 1\n";
     let lines =
-        "state 0 lower 0.499999999999999 upper 0.500000000000000 rounds 50 Bracket\nstate 2 lower 0.000000000000000 upper 0.000000000000000 rounds 50 Bracket\n";
+        "state 0 lower 0.500000000000000 upper 0.500000000000000 rounds 50 Bracket\nstate 2 lower 0.000000000000000 upper 0.000000000000000 rounds 50 Bracket\n";
     writes(
         &rt,
         alloc,

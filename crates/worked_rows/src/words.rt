@@ -285,7 +285,7 @@ fn a_run_of_no_rounds_has_its_certificate(rt: HostRuntime) -> Result<(), Fail> {
         REACH,
     ];
     let text =
-        "state 0 lower 0.000000000000000 upper 0.562949953421312 rounds 0 Bracket\nformula Pmax=? [ F \"goal\" ]\ncertificate 2 3\n0 0.000000000000000 - 0 0.562949953421312 -\n1 1.000000000000000 - 0 1.000000000000000 -\n2 0.000000000000000 - 0 0.000000000000000 -\n";
+        "state 0 lower 0.000000000000004 upper 0.562949953421312 rounds 0 Bracket\nformula Pmax=? [ F \"goal\" ]\ncertificate 2 3\n0 0.000000000000004 0 1 0.562949953421312 -\n1 1.000000000000000 - 0 1.000000000000000 -\n2 0.000000000000000 - 0 0.000000000000000 -\n";
     writes(&rt, rt.alloc(), &given, text, Status::Fine)
 }
 

@@ -104,15 +104,15 @@ fn at_most_the_asked_rounds_are_made(rt: HostRuntime) -> Result<(), Fail> {
     for (rounds, line) in [
         (
             "0",
-            "state 0 lower 0.000000000000000 upper 0.562949953421312 rounds 0 Bracket\n",
+            "state 0 lower 0.000000000000004 upper 0.562949953421312 rounds 0 Bracket\n",
         ),
         (
             "1",
-            "state 0 lower 0.250000000000000 upper 0.531474976710656 rounds 1 Bracket\n",
+            "state 0 lower 0.250000000000004 upper 0.531474976710656 rounds 1 Bracket\n",
         ),
         (
             "+002",
-            "state 0 lower 0.375000000000000 upper 0.515737488355328 rounds 2 Bracket\n",
+            "state 0 lower 0.375000000000004 upper 0.515737488355328 rounds 2 Bracket\n",
         ),
         ("1000000", COIN_LOOP_REPORT),
     ] {

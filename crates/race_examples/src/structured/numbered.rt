@@ -1,6 +1,6 @@
 // Models from a rule of successors.
-use super::{Model, merged};
-use crate::draft::Draft;
+use super::Model;
+use crate::draft::{Draft, merged};
 use std::alloc::Global;
 
 /// The most states that are numbered.
@@ -56,17 +56,12 @@ fn add_new<S: Situation>(states: &mut Vec<S>, choice: &[(S, u64)]) -> Option<()>
     Some(())
 }
 
-// Adds the next state of a draft. No state here has more than two choices.
+// Adds the next state of a draft.
 fn add_state<S: Situation>(alloc: Global, draft: &mut Draft, states: &[S], state: S) -> Option<()> {
-    let choices = state.choices(alloc)?;
-    match choices.as_slice() {
-        [one] => draft.one(alloc, &edges_of(alloc, states, one)?),
-        [first, second] => {
-            let first = edges_of(alloc, states, first)?;
-            draft.two(alloc, &first, &edges_of(alloc, states, second)?)
-        }
-        _ => None,
+    for choice in &state.choices(alloc)? {
+        draft.choice(alloc, &edges_of(alloc, states, choice)?)?;
     }
+    draft.end_state(alloc)
 }
 
 // The edges of a choice, by numbers of states.

@@ -1,6 +1,6 @@
 // A robot on a square grid with wind.
-use super::{Model, merged};
-use crate::draft::Draft;
+use super::Model;
+use crate::draft::{Draft, merged};
 use std::alloc::Global;
 
 /// The fields of a side of the grid.
@@ -63,11 +63,10 @@ pub fn robot(alloc: Global) -> Option<Model> {
 
 // The next field, with its four choices.
 fn add_field(alloc: Global, draft: &mut Draft, field: u32) -> Option<()> {
-    let east = steered(alloc, field, Way::East)?;
-    let south = steered(alloc, field, Way::South)?;
-    let west = steered(alloc, field, Way::West)?;
-    let north = steered(alloc, field, Way::North)?;
-    draft.with(alloc, &[&east, &south, &west, &north])
+    for way in [Way::East, Way::South, Way::West, Way::North] {
+        draft.choice(alloc, &steered(alloc, field, way)?)?;
+    }
+    draft.end_state(alloc)
 }
 
 // The edges of the choice to steer this way.
