@@ -1,0 +1,49 @@
+#!/usr/bin/env python3
+"""The chain on which plain value iteration stops at a wrong number.
+
+    chain.py LENGTH NAME
+
+Source: S. Haddad and B. Monmege, Reachability in MDPs: refining convergence of value iteration, RP 2014; Interval
+iteration algorithm for MDPs and IMDPs, Theoretical Computer Science 735, 2018.
+
+State: a number from 0 to 2 LENGTH; it begins in the middle. From there it goes one step down or up, from each other
+state one step on to the same side, or back to the middle, each with 1/2. The ends keep to themselves; the goal is the
+end at 0.
+
+Value: 1/2, since both sides are alike and an end is reached almost surely. In a round the middle gains about 2 ^
+-(LENGTH + 1) at most, so value iteration that stops where no value changes by 10^-6 stops at 0 nearly for LENGTH 20,
+and below 1/2 for each smaller one.
+"""
+
+from fractions import Fraction
+
+from model import Model, write_from_words
+from question import CLOSED, Question, sure
+
+HALF = Fraction(1, 2)
+SIZES = {"small": [(3,), (10,), (20,)], "large": [(17,)]}
+MANY_ROUNDS = ("--rounds", "1000000")
+
+
+def model(length):
+    def rule(state):
+        if state in (0, 2 * length):
+            return []
+        if state == length:
+            return [[(HALF, state - 1), (HALF, state + 1)]]
+        return [[(HALF, length), (HALF, state - 1 if state < length else state + 1)]]
+
+    return Model(length, rule, {"goal": lambda state: state == 0, "end": lambda state: state in (0, 2 * length)})
+
+
+def questions(length):
+    options = MANY_ROUNDS if length in (10, 17) else ()
+    yield Question("Pmax=?", "goal", HALF, CLOSED, options=options)
+    yield Question("P>=0.5", "goal", HALF, CLOSED, options=options)
+    yield Question("P>=0.499", "goal", HALF, CLOSED, options=options)
+    yield Question("P<0.501", "goal", HALF, CLOSED, options=options)
+    yield sure("P>=1", "end", value=1, source=CLOSED)
+
+
+if __name__ == "__main__":
+    write_from_words(model, __doc__)

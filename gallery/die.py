@@ -1,0 +1,64 @@
+#!/usr/bin/env python3
+"""A fair die by tosses of a fair coin.
+
+    die.py FACES NAME
+
+Source: D. E. Knuth and A. C. Yao, The complexity of nonuniform random number generation, in: Algorithms and Complexity,
+Academic Press, 1976.
+
+State: an inner node of a tree, as the number of inner nodes on its level and its place among them; or a face. A node
+has two children, one for each side of the coin. As soon as a level has a node for each face these are the faces, and
+what is left over are the inner nodes of the next level. For six faces this is the chain of 13 states that textbooks
+show.
+
+Value: each face comes with 1 / FACES. A level with m inner nodes, each reached with x, has 2m children, each reached
+with x / 2; the faces get one each, or none does. So all faces have the same value, and the values add up to 1.
+"""
+
+from fractions import Fraction
+
+from model import Model, write_from_words
+from question import CLOSED, Question, sure
+
+HALF = Fraction(1, 2)
+SIZES = {"small": [(6,), (8,), (11,)], "large": [(1021,)]}
+
+
+def model(faces):
+    def rule(state):
+        if state[0] == "face":
+            return []
+        _, nodes, place = state
+        return [[(HALF, child(faces, nodes, 2 * place)), (HALF, child(faces, nodes, 2 * place + 1))]]
+
+    labels = {
+        "done": lambda state: state[0] == "face",
+        "one": lambda state: state == ("face", 1),
+        "even": lambda state: state[0] == "face" and state[1] % 2 == 0,
+    }
+    return Model(("node", 1, 0), rule, labels)
+
+
+def child(faces, nodes, place):
+    """The child at a place of the level below so many inner nodes; half of those left over stand before the faces."""
+    left_over = 2 * nodes - faces
+    if left_over < 0:
+        return ("node", 2 * nodes, place)
+    before = left_over // 2
+    if place < before:
+        return ("node", left_over, place)
+    if place < before + faces:
+        return ("face", place - before + 1)
+    return ("node", left_over, place - faces)
+
+
+def questions(faces):
+    one, even = Fraction(1, faces), Fraction(faces // 2, faces)
+    yield Question("Pmax=?", "one", one, "Knuth and Yao 1976")
+    yield Question(f"P>={one}", "one", one, "Knuth and Yao 1976")
+    yield Question("P>=0.5", "even", even, CLOSED)
+    yield sure("P>=1", "done", value=1, source=CLOSED)
+
+
+if __name__ == "__main__":
+    write_from_words(model, __doc__)

@@ -1,0 +1,51 @@
+#!/usr/bin/env python3
+"""A self-stabilising ring of processes.
+
+    ring.py PROCESSES NAME
+
+Source: A. Israeli and M. Jalfon, Token management schemes and random walks yield self-stabilizing mutual exclusion,
+PODC 1990.
+
+State: for each process whether it has a token. The scheduler chooses a process that has one; that process hands it to
+one of its two neighbours, to either with 1/2, and two tokens that meet become one. The ring is stable where there is
+one token. It begins with a token at each process.
+
+Value: 1 under every scheduler, the theorem of the source. A move makes two gaps a, b between tokens a + 1, b - 1 or a -
+1, b + 1, so the sum of the squares of the gaps rises by 2 on average; it never passes PROCESSES squared, its value at
+one token.
+"""
+
+from fractions import Fraction
+
+from model import Model, write_from_words
+from question import Question, sure
+
+HALF = Fraction(1, 2)
+SOURCE = "Israeli and Jalfon 1990"
+SIZES = {"small": [(3,), (7,), (9,)], "large": [(14,)]}
+
+
+def model(processes):
+    def rule(tokens):
+        holders = [process for process in range(processes) if tokens[process]]
+        return [[(HALF, handed_on(tokens, holder, step)) for step in (-1, 1)] for holder in holders]
+
+    return Model((1,) * processes, rule, {"stable": lambda tokens: sum(tokens) == 1})
+
+
+def handed_on(tokens, holder, step):
+    after = list(tokens)
+    after[holder] = 0
+    after[(holder + step) % len(tokens)] = 1
+    return tuple(after)
+
+
+def questions(processes):
+    yield Question("Pmin=?", "stable", 1, SOURCE)
+    yield Question("P>=1", "stable", 1, SOURCE)
+    yield Question("P>=0.999999", "stable", 1, SOURCE)
+    yield sure("Pmin=?", "stable", value=1, source=SOURCE)
+
+
+if __name__ == "__main__":
+    write_from_words(model, __doc__)

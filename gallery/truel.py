@@ -1,0 +1,73 @@
+#!/usr/bin/env python3
+"""A duel of three or more, in which coalitions differ.
+
+    truel.py HIT HIT HIT .. NAME
+
+Source: F. Mosteller, Fifty challenging problems in probability, 1965, problem 20: A hits with 0.3, B always and C with
+0.5.
+
+State: who is alive, and whose turn it is. They shoot in turn, A first, at a living one of their choice or into the air,
+until one is left. A coalition plays together against all others, who want the opposite.
+
+Value, of A as the last one, for the hits of the source. A alone: A has to hit B at once, who else hits A; then C and A
+shoot in turn, C first, and A wins with x = 0.5 (0.3 + 0.7 x) = 3/13: in all 0.3 * 3/13 = 9/130. A and C: C shoots into
+the air once B is hit: 0.3. A and B: B hits C, and waits for A to hit: 1. Of A or C as the last one, together: if A
+misses, B hits C and A has one shot more: 0.3 + 0.7 * 0.3 = 0.51. For other hits the values are computed in fractions.
+"""
+
+from fractions import Fraction
+from string import ascii_lowercase
+
+from model import Model, write_from_words
+from question import CLOSED, COMPUTED, Question, sure
+
+MOSTELLER = ("0.3", "1", "0.5")
+SIZES = {
+    "small": [MOSTELLER, ("1/3", "2/3", "1"), ("0.5", "0.6", "0.7", "0.8", "0.9")],
+    "large": [("0.3", "0.4", "0.5", "0.6", "0.7", "0.8", "0.9")],
+}
+
+
+def model(*hits):
+    shooters = ascii_lowercase[: len(hits)]
+    chances = dict(zip(shooters, map(Fraction, hits)))
+
+    def rule(state):
+        alive, shooter = state
+        if len(alive) == 1:
+            return []
+        air = [[(1, (alive, next_of(alive, shooter)))]]
+        return air + [shot(alive, shooter, target) for target in alive if target != shooter]
+
+    def shot(alive, shooter, target):
+        after, chance = alive.replace(target, ""), chances[shooter]
+        return [(chance, (after, next_of(after, shooter))), (1 - chance, (alive, next_of(alive, shooter)))]
+
+    labels = {"a_wins": lambda state: state[0] == "a", "a_or_c_wins": lambda state: state[0] in ("a", "c")}
+    return Model((shooters, "a"), rule, labels, shooters, lambda state: state[1])
+
+
+def next_of(alive, shooter):
+    """The living one whose turn is next."""
+    return min(alive, key=lambda name: (name <= shooter, name))
+
+
+def questions(*hits):
+    known = hits == MOSTELLER
+    asked = (
+        ("a_wins", "a", Fraction(9, 130)),
+        ("a_wins", "ac", Fraction(3, 10)),
+        ("a_wins", "ab", Fraction(1)),
+        ("a_or_c_wins", "ac", Fraction(51, 100)),
+    )
+    for goal, coalition, value in asked:
+        answer = (value, CLOSED) if known else (None, COMPUTED)
+        yield Question("Pmax=?", goal, *answer, coalition=tuple(coalition))
+    if known:
+        yield Question("P>=0.3", "a_wins", Fraction(3, 10), CLOSED, coalition=("a", "c"))
+        yield Question("P>0.3", "a_wins", Fraction(3, 10), CLOSED, coalition=("a", "c"))
+    yield sure("P>=1", "a_wins", coalition=("a", "b"))
+
+
+if __name__ == "__main__":
+    write_from_words(model, __doc__)

@@ -1,0 +1,52 @@
+#!/usr/bin/env python3
+"""Hosts that choose their own addresses: IPv4 zeroconf.
+
+    zeroconf.py PROBES HOSTS NAME
+
+Source: H. Bohnenkamp, P. van der Stok, H. Hermanns and F. Vaandrager, Cost-optimization of the IPv4 zeroconf protocol,
+DSN 2003.
+
+State: about to draw an address, or so many probes sent for one that is in use; or an end. A host draws one of 65,024
+addresses, of which HOSTS are in use, and asks PROBES times whether it is. A probe or its answer is lost with 1/10; an
+answer makes the host draw again, and after the last probe it keeps the address: a collision.
+
+Value: with q = HOSTS / 65024 and e = (1/10) ^ PROBES a draw ends in a collision with q e, and comes again with q (1 -
+e). So the chance of a collision is q e / (1 - q (1 - e)), the source's formula. Each draw is the last with 1 - q at
+least, so there is a last one.
+"""
+
+from fractions import Fraction
+
+from model import Model, write_from_words
+from question import CLOSED, Question, sure
+
+ADDRESSES = 65024
+LOST = Fraction(1, 10)
+SOURCE = "Bohnenkamp and others 2003"
+SIZES = {"small": [(4, 1000), (2, 32512), (8, 60000)], "large": [(100000, 60000)]}
+
+
+def model(probes, hosts):
+    used = Fraction(hosts, ADDRESSES)
+
+    def rule(state):
+        if state == "draw":
+            return [[(used, 0), (1 - used, "free")]]
+        if state in ("free", "collision"):
+            return []
+        return [[(LOST, state + 1 if state + 1 < probes else "collision"), (1 - LOST, "draw")]]
+
+    labels = {"collision": lambda state: state == "collision", "settled": lambda state: state in ("free", "collision")}
+    return Model("draw", rule, labels)
+
+
+def questions(probes, hosts):
+    used, lost = Fraction(hosts, ADDRESSES), LOST**probes
+    value = used * lost / (1 - used * (1 - lost))
+    yield Question("Pmax=?", "collision", value, SOURCE)
+    yield Question("P<=0.0001", "collision", value, SOURCE)
+    yield sure("P>=1", "settled", value=1, source=CLOSED)
+
+
+if __name__ == "__main__":
+    write_from_words(model, __doc__)
