@@ -1,16 +1,11 @@
 -- How many choices and edges the states below a state have: where those of the state begin.
-use Rattle.std.proofs.Common.{◌≡◌, ℕ, zero, suc, ◌+◌, ◌-◌, ◌<◌, ◌≤◌, List, ◌∷◌, length, take, sum_by, arith, refl, ◌∙◌, ap}
+use Rattle.std.proofs.Common.{◌≡◌, ℕ, zero, suc, ◌+◌, ◌-◌, ◌<◌, ◌≤◌, List, length, take, sum_by, arith, ◌∙◌, ap}
 use Rattle.std.specs.Prelude.{slice_index}
 use Rattle.std.proofs.lemmas.List.Sums.{sum_by-cons}
 use Rattle.game_model.specs.Game.{Distribution, choices_below, edges_below}
 use Rattle.game_model.specs.Span.{span}
 use Rattle.game_model.specs.Flat.{edge_at, distribution_at, choices_at, game_at, last_of, IsLaidOut}
-use Rattle.game_model.proofs.Span.{length-span}
-
-take-span : {X : Type 0} (f : ℕ → X) (a s k : ℕ) → s ≤ k → take s (span f a k) ≡ span f a s
-take-span f a zero k l = refl
-take-span f a (suc s) zero l = absurd (omega arith)
-take-span f a (suc s) (suc k) l = ap (λ xs. f a ∷ xs) (take-span f (a + 1) s k (omega arith))
+use Rattle.game_model.proofs.Span.{length-span, take-span}
 
 -- where each part ends the next begins
 telescope : {X : Type 0} (size : X → ℕ) (g : ℕ → X) (f : ℕ → ℕ) (a k : ℕ) → ((c : ℕ) → a ≤ c → c < a + k → size (g c) + f c ≡ f (c + 1)) → sum_by size (span g a k) + f a ≡ f (a + k)

@@ -1,5 +1,5 @@
 -- What contracts see of a choice and of a game, and the facts that each of them keeps.
-use Rattle.std.specs.Prelude.{◌≡◌, ℕ, ◌<◌, ◌≤◌, List, [], length, map, sum_by, take, All, slice_index, slice_index_or}
+use Rattle.std.specs.Prelude.{◌≡◌, ℕ, ◌-◌, ◌<◌, ◌≤◌, List, [], length, map, sum_by, take, drop, flat_map, All, slice_index, slice_index_or}
 use Rattle.game_model.specs.declared.game.Edge.{Edge}
 use Rattle.game_model.specs.Limits.{most_states, most_choices, total_bound}
 
@@ -49,6 +49,14 @@ choices_below game s = sum_by length (take s game)
 -- how many edges the states below this one have together
 abbrev pub edges_below : List (List Distribution) → ℕ → ℕ
 edges_below game s = sum_by (λ choices. sum_by (λ m. length m.edges) choices) (take s game)
+
+-- the successors of all edges of these choices, in order
+abbrev pub all_successors : List Distribution → List ℕ
+all_successors choices = flat_map (λ m. destinations m.edges) choices
+
+-- the successors of all edges of the states from one up to and not including another, in order
+abbrev pub successors_between : List (List Distribution) → ℕ → ℕ → List ℕ
+successors_between game from to = flat_map all_successors (take (to - from) (drop from game))
 
 -- what every game keeps
 pub record IsGame (game : List (List Distribution)) : Type 0 where

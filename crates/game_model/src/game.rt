@@ -127,7 +127,7 @@ impl Model for Game {
 }
 
 impl Game {
-    ghost use Rattle.game_model.specs.Game.{Distribution, IsGame, choices_of, choice_of, edge_of, choices_below, edges_below};
+    ghost use Rattle.game_model.specs.Game.{Distribution, IsGame, choices_of, choice_of, edge_of, choices_below, edges_below, successors_between};
 
     /// Tells a proof what every game keeps. It does nothing.
     pub fn known(&self)
@@ -201,6 +201,19 @@ impl Game {
         let from = self.first_edge[at];
         let to = self.first_edge[at + 1];
         part(&self.to, from, to)
+    }
+
+    /// The successors of all edges of the states from `from` up to and not including `to`, in order.
+    pub fn successors_between(&self, from: u32, to: u32) -> &[u32]
+        requires order { from ≤ to }
+        requires inside { to ≤ length self.now }
+        ensures list { result.now ≡ successors_between self.now from to }
+        ensures states { All (λ t. t < length self.now) result.now }
+    {
+        self.known();
+        let begin = self.first_edge[self.first_choice[from as usize] as usize];
+        let end = self.first_edge[self.first_choice[to as usize] as usize];
+        part(&self.to, begin, end)
     }
 
     /// The weights of a choice whose total fits 64 bits, in the order of its successors.
