@@ -1,5 +1,5 @@
 -- Moves that are followed to a state of a layer.
-use Rattle.std.proofs.Common.{◌≡◌, ℕ, ◌<◌, List, [], ◌∷◌, ◌++◌, length, arith, refl, sym, ap, ◌∙◌, subst, inl, inr, Option}
+use Rattle.std.proofs.Common.{ℕ, ◌<◌, List, [], ◌∷◌, ◌++◌, length, arith, refl, ◌∙◌, subst, inl, inr, Option}
 use Rattle.std.specs.Prelude.{slice_index_or}
 use Rattle.std.proofs.lemmas.List.Elements.{Contains-push_cases}
 use Rattle.game_model.specs.Game.{choices_of, choice_of, no_edge}
@@ -33,19 +33,6 @@ module _ (q : Query) (value : ℕ → ℕ) (level hand : ℕ) where
     apart = λ begin old h s c among equal left carried. elim (Contains-push_cases part m (move s c) among) [
       | inl early ↦ first.apart begin old h s c early equal (second.kept s left) carried
       | inr last ↦ second.apart begin old (first.grown begin old h) s c (0, omega arith, last) equal left carried
-    ];
-  }
-
-  -- a move to a state of another value
-  pub Follows-past : (m : Move) (ranks choices : List (Option ℕ)) (order : List ℕ) → ¬ (value hand ≡ value m.state) → Follows q value level hand (m ∷ []) ranks choices order ranks choices order
-  Follows-past m ranks choices order other = record {
-    many = refl;
-    as_many = refl;
-    kept = λ s left. left;
-    grown = λ begin old h. h;
-    apart = λ begin old h s c among equal left carried by. elim (Contains-push_cases [] m (move s c) among) [
-      | inl none ↦ absurd (omega (arith, none.1))
-      | inr is ↦ other (equal ∙ ap value (sym (ap (λ (x : Move). x.state) is)))
     ];
   }
 

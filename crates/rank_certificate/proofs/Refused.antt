@@ -87,9 +87,6 @@ ranked-above : (q : Query) (entries : ℕ → ℕ) (table : List ℕ) → IsQuer
 ranked-above q entries table posed h (choices, ranks, ranked) s inside =
     omega (arith, (Ranked-stands q table choices ranks posed ranked s inside).step, h.each s inside, down_step-same q (slice_index table) entries posed h.each s)
 
-pub falls-refused : (q : Query) (entries : ℕ → ℕ) → IsQuery q → (s : ℕ) → s < states q → down_step q entries s < entries s → IsRefused q entries
-falls-refused q entries posed s inside falls table h ranked = omega (arith, falls, ranked-above q entries table posed h ranked s inside)
-
 pub changed-refused : (q : Query) (entries : ℕ → ℕ) (table next : List ℕ) → IsQuery q → IsTable q entries table → IsTable q (lesser_step q (slice_index table)) next → (((s : ℕ) → s < states q → slice_index next s ≡ slice_index table s) → ⊥) → IsRefused q entries
 changed-refused q entries table next posed h k other list is ranked =
     other (λ s inside.

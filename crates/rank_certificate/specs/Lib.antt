@@ -5,4 +5,5 @@ pub mod Growing
 pub mod Carrying
 pub mod Growth
 pub mod LowerGuess
+pub mod Marks
 pub mod OfGuesses

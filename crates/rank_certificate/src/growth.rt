@@ -119,8 +119,8 @@ impl Growth {
         Ok(())
     }
 
-    /// Follows a move: looks at its state where that has the value of the state at hand, and the choice carries
-    /// it.
+    /// Follows a move: looks at its state where that has the value of the state at hand and no rank, and the choice
+    /// carries it.
     fn follow(
         &mut self,
         question: &Question,
@@ -142,6 +142,9 @@ impl Growth {
     {
         question.known();
         if values[hand as usize] != values[step.state as usize] {
+            return Ok(());
+        }
+        if self.ranks[step.state as usize].is_some() {
             return Ok(());
         }
         if !carries(

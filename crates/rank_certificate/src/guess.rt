@@ -37,9 +37,9 @@ pub const LAST_PLACE: u32 = 2;
 /// and nowhere more than the unit; four times the next one is the lesser of the last and of its down step. Where no
 /// table can be ranked, the guess is the given one, with these choices and the ranks of [`crate::find_ranks`].
 ///
-/// The guess is nowhere below the table, and k-step values come as near to it as one likes. A table that one state
-/// refuses is refused without ranks, and mostly without being made. The time is no part of the contract. The only
-/// error is want of memory.
+/// The guess is nowhere below the table, and k-step values come as near to it as one likes. A table of which a state
+/// falls is refused without ranks. A first table takes a step at each state, and a later one at the predecessors of
+/// what fell. The time is no part of the contract. The only error is want of memory.
 pub fn lower_guess<'a>(
     alloc: Global,
     question: &'a Question<'a>,

@@ -1,13 +1,12 @@
 //! The raised tables of one excess.
 
-ghost use Rattle.std.specs.Prelude.{◌≡◌, ℕ, ◌<◌, ◌≤◌, ◌↔◌, length, slice_index, All, IfOk, IsTrue};
+ghost use Rattle.std.specs.Prelude.{◌≡◌, ℕ, ◌<◌, ◌≤◌, length, slice_index, All, IfOk};
 ghost use Rattle.game_model.specs.Query.{IsQuery, states};
 ghost use Rattle.game_model.specs.Limits.{unit};
-ghost use Rattle.rank_certificate.specs.LowerGuess.{lesser_step, IsTable};
 
 use crate::guess::LowerGuess;
+use crate::lesser::{is_same, lesser_table, mark_again};
 use crate::table::rank_standing;
-use fixed_bellman::down_state;
 use game_model::{Marks, Question, UNIT};
 use game_outside::OutOfMemory;
 use predecessors::Predecessors;
@@ -38,9 +37,9 @@ impl Guesses<'_> {
     ghost use Rattle.rank_certificate.specs.LowerGuess.{most_steps};
     ghost use Rattle.rank_certificate.specs.OfGuesses.{first_entry_of, IsTableOf, IsRefusedOf, AreRefusedOf, IsFirstOf};
 
-    /// The first of the tables of this excess that can be ranked, with its plan; none where each is refused. A table that is
-    /// seen to be refused at some state is not made. Where no state of a table falls, all later ones are the same,
-    /// and the search for ranks decides.
+    /// The first of the tables of this excess that can be ranked, with its plan; none where each is refused. One of which
+    /// a state falls is refused. Where none falls, all later ones are the same, and the search for ranks decides.
+    /// Behind the first step only predecessors of states that fell are looked at.
     pub fn first_ranked(
         &self,
         alloc: Global,
@@ -51,17 +50,22 @@ impl Guesses<'_> {
         ensures plan { IfOk result (λ found. IfSome found (λ g. IsLayeredPlan self.now.question.now g.values.items g.plan.choices.items g.plan.ranks.items)) }
         ensures ranked { IfOk result (λ found. IfSome found (λ g. Ranked self.now.question.now g.values.items g.plan.choices.items g.plan.ranks.items)) }
     {
-        let mut made = None;
+        let states = self.question.game().states();
+        let mut marks = vec![in alloc; true; states as usize]?;
+        let mut table = self.first_table(alloc)?;
         for steps in 0..MOST_STEPS + 1 {
-            if self.refuses(steps) {
-                continue;
-            }
-            let table = self.table_after(alloc, steps, made)?;
-            let next = lesser_table(alloc, self.question, &table)?;
+            let next = lesser_table(alloc, self.question, &table, &marks)?;
             if is_same(&next, &table) {
                 return self.rank(alloc, steps, table, predecessors);
             }
-            made = Some((next, steps + 1));
+            mark_again(
+                self.question.game(),
+                predecessors,
+                &table,
+                &next,
+                &mut marks,
+            );
+            table = next;
         }
         Ok(None)
     }
@@ -93,26 +97,6 @@ impl Guesses<'_> {
         }))
     }
 
-    /// The table after so many steps down, from one that was made, if any, after fewer.
-    fn table_after(
-        &self,
-        alloc: Global,
-        steps: u32,
-        made: Option<(Vec<u64>, u32)>,
-    ) -> Result<Vec<u64>, OutOfMemory>
-        requires { IfSome made (λ m. IsTableOf self.now m.1 m.0.items × (m.1 ≤ steps)) }
-        ensures { IfOk result (λ table. IsTableOf self.now steps table.items) }
-    {
-        let (mut table, at) = match made {
-            Some(made) => made,
-            None => (self.first_table(alloc)?, 0),
-        };
-        for _step in at..steps {
-            table = lesser_table(alloc, self.question, &table)?;
-        }
-        Ok(table)
-    }
-
     /// The table before any step down.
     fn first_table(&self, alloc: Global) -> Result<Vec<u64>, OutOfMemory>
         ensures { IfOk result (λ table. IsTableOf self.now 0 table.items) }
@@ -126,7 +110,7 @@ impl Guesses<'_> {
     }
 
     /// The entry of that table at a state.
-    pub fn first_entry(&self, state: u32) -> u64
+    fn first_entry(&self, state: u32) -> u64
         requires { state < states self.now.question.now }
         ensures value { result ≡ first_entry_of self.now state }
         ensures units { result ≤ unit }
@@ -139,32 +123,4 @@ impl Guesses<'_> {
         }
         UNIT.min(self.base[state as usize] + self.excess)
     }
-}
-
-/// The lesser of a table and of its down step, at each state.
-fn lesser_table(alloc: Global, question: &Question, table: &[u64]) -> Result<Vec<u64>, OutOfMemory>
-    requires length { length table.now ≡ states question.now }
-    requires units { All (λ v. v ≤ unit) table.now }
-    ensures { IfOk result (λ next. IsTable question.now (lesser_step question.now (slice_index table.now)) next.items) }
-{
-    let states = question.game().states();
-    let mut next = Vec::with_capacity(alloc, states as usize)?;
-    for state in 0..states {
-        let step = down_state(question, state, table).0;
-        next.push(step.min(table[state as usize]))?;
-    }
-    Ok(next)
-}
-
-/// Whether two tables have the same entries.
-fn is_same(one: &[u64], other: &[u64]) -> bool
-    requires { length one.now ≡ length other.now }
-    ensures { IsTrue result ↔ ((s : ℕ) → s < length one.now → slice_index one.now s ≡ slice_index other.now s) }
-{
-    for state in 0..one.len() {
-        if one[state] != other[state] {
-            return false;
-        }
-    }
-    true
 }

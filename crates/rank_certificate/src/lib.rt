@@ -24,7 +24,7 @@ mod guess;
 mod guesses;
 pub mod laws;
 mod layers;
-mod local;
+mod lesser;
 mod met;
 mod table;
 #[cfg(test)]

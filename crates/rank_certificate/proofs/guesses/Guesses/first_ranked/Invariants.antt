@@ -1,10 +1,14 @@
-use Rattle.std.proofs.Common.{ℕ, ◌<◌, ◌≤◌}
-use Rattle.std.specs.Prelude.{IfSome}
+use Rattle.std.proofs.Common.{◌≡◌, ℕ, ◌<◌, length}
+use Rattle.std.specs.Prelude.{slice_index}
+use Rattle.game_model.specs.Query.{states}
+use Rattle.rank_certificate.specs.Marks.{AreQuiet}
 use Rattle.rank_certificate.specs.OfGuesses.{IsTableOf, IsRefusedOf}
 use Rattle.rank_certificate.proofs.guesses.Guesses.first_ranked.Given as goal
 
 abbrev pub invariant-loop-steps : goal.invariant-loop-steps
 invariant-loop-steps l = record {
-  made : IfSome l.made (λ m. IsTableOf l.self m.1 m.0.items × (m.1 ≤ l.steps));
+  table : IsTableOf l.self l.steps l.table.items;
+  many : length l.marks.items ≡ states l.self.question.now;
+  quiet : AreQuiet l.self.question.now l.marks.items (slice_index l.table.items);
   refused : (j : ℕ) → j < l.steps → IsRefusedOf l.self j;
 }
