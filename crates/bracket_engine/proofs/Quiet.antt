@@ -1,48 +1,13 @@
 -- What marks promise, kept from round to round.
-use Rattle.std.proofs.Common.{◌≡◌, ℕ, ◌*◌, ◌<◌, ◌≤◌, Bool, true, false, List, length, arith, refl, sym, ap, ◌∙◌, subst, le_trans, slice_index_or}
-use Rattle.std.proofs.lemmas.List.{get_or-map, length-map}
-use Rattle.std.proofs.lemmas.List.Elements.{recursion_from_All, All-from_get_or, Contains-get_or}
-use Rattle.std.specs.Prelude.{Contains}
-use Rattle.game_model.specs.declared.game.Edge.{Edge}
-use Rattle.game_model.specs.Game.{Distribution, choices_of, choice_of, no_distribution, no_edge}
+use Rattle.std.proofs.Common.{◌≡◌, ℕ, ◌<◌, ◌≤◌, Bool, true, false, List, arith, refl, sym, ap, ◌∙◌, le_trans, slice_index_or}
 use Rattle.game_model.specs.Query.{Query, IsQuery, states}
-use Rattle.game_model.specs.Limits.{unit}
-use Rattle.game_model.specs.Values.{weighted_sum}
-use Rattle.game_model.specs.Rounded.{down_value, down_step, IsSettled}
-use Rattle.game_model.proofs.Each.{AllByRecursion-at}
-use Rattle.game_model.proofs.Choices.{IsChoiceOf, IsChoiceOf-choice_of, AreChoicesOf-choices_of}
-use Rattle.game_model.proofs.Best.{weighted_sum-le}
-use Rattle.game_model.proofs.Rises.{bellman-le}
+use Rattle.game_model.specs.Rounded.{down_step, IsSettled}
+use Rattle.game_model.proofs.Choices.{AreChoicesOf-choices_of}
 use Rattle.game_laws.proofs.Steps.{down_step-le}
-use Rattle.round_workers.proofs.Blocks.{div-rises}
-use Rattle.predecessors.specs.Moves.{successors, LeadsTo}
+use Rattle.rank_certificate.proofs.Marks.{step-of-successors}
 use Rattle.round_workers.specs.Marks.{IsMarked}
 use Rattle.bracket_engine.specs.declared.agenda.Agenda.{Agenda}
 use Rattle.bracket_engine.specs.Agenda.{read_of, IsAgenda, IsReadAgain, AreMarkedFor}
-
--- the value of a choice looks only at its successors
-choice-of-successors : (q : Query) (v w : ℕ → ℕ) (s c : ℕ) → IsQuery q → s < states q → c < length (choices_of q.game s) → ((t : ℕ) → t < states q → LeadsTo q.game s c t → v t ≤ w t)
-    → down_value v (choice_of q.game s c) ≤ down_value w (choice_of q.game s c)
-choice-of-successors q v w s c h inside chosen each =
-    let edges : List Edge = (choice_of q.game s c).edges in
-    let fits : IsChoiceOf q.game (choice_of q.game s c) = IsChoiceOf-choice_of q.game s c h.game inside chosen in
-    let one : (p : ℕ) → p < length edges → v (slice_index_or edges p no_edge).to ≤ w (slice_index_or edges p no_edge).to =
-    λ p there.
-    let at : slice_index_or (successors q.game s c) p 0 ≡ (slice_index_or edges p no_edge).to = get_or-map (λ (e : Edge). e.to) edges p no_edge 0 there in
-    let found : Contains (successors q.game s c) (slice_index_or edges p no_edge).to = subst (λ (t : ℕ). Contains (successors q.game s c) t) at (Contains-get_or (successors q.game s c) p 0 (omega (arith, there, length-map edges (λ (e : Edge). e.to)))) in
-    each (slice_index_or edges p no_edge).to (AllByRecursion-at (λ (e : Edge). e.to < states q) edges p no_edge there fits.inside) (record { state = inside; choice = chosen; successor = found }) in
-    let sums : 1 * weighted_sum v edges ≤ 1 * weighted_sum w edges =
-    weighted_sum-le v w 1 1 edges (recursion_from_All (λ (e : Edge). 1 * v e.to ≤ 1 * w e.to) edges
-    (All-from_get_or (λ (e : Edge). 1 * v e.to ≤ 1 * w e.to) edges no_edge (λ p there. omega (arith, one p there)))) in
-    div-rises (weighted_sum v edges) (weighted_sum w edges) (choice_of q.game s c).total fits.positive (omega (arith, sums))
-
--- a step looks only at the successors of its state
-step-of-successors : (q : Query) (v w : ℕ → ℕ) (s : ℕ) → IsQuery q → s < states q → ((c t : ℕ) → t < states q → LeadsTo q.game s c t → v t ≤ w t) → down_step q v s ≤ down_step q w s
-step-of-successors q v w s h inside each =
-    let step : 1 * down_step q v s ≤ 1 * down_step q w s = bellman-le q (choices_of q.game) 1 1 unit unit (down_value v) (down_value w) s (omega arith)
-    (recursion_from_All (λ (m : Distribution). 1 * down_value v m ≤ 1 * down_value w m) (choices_of q.game s)
-    (All-from_get_or (λ (m : Distribution). 1 * down_value v m ≤ 1 * down_value w m) (choices_of q.game s) no_distribution (λ c chosen. omega (arith, choice-of-successors q v w s c h inside chosen (each c))))) in
-    omega (arith, step)
 
 -- a mark stands or not
 by-mark : (mark : Bool) (X : Type 0) → (mark ≡ true → X) → (mark ≡ false → X) → X

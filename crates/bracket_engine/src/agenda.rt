@@ -25,6 +25,8 @@ pub struct Agenda {
     pub read: Vec<u64>,
     /// The states to update in the next round.
     pub marks: Vec<bool>,
+    /// Whether all states are to be updated.
+    pub whole: bool,
     /// Those that workers marked in the last round; once the states are read, those whose values changed.
     pub more: Vec<bool>,
 }
@@ -43,7 +45,12 @@ impl Agenda {
         for state in 0..states {
             read.push(if question.is_goal(state) { UNIT } else { 0 })?;
         }
-        Ok(Agenda { read, marks, more })
+        Ok(Agenda {
+            read,
+            marks,
+            whole: true,
+            more,
+        })
     }
 }
 
@@ -59,6 +66,7 @@ fn take_marks(agenda: &mut Agenda)
         agenda.more[place] |= agenda.marks[place];
     }
     agenda.marks.fill(false);
+    agenda.whole = false;
 }
 
 /// Reads the states that were updated. How many values changed; these states have the second mark then, and no other
@@ -152,6 +160,7 @@ fn mark_all(agenda: &mut Agenda)
     ensures marked { (s : ℕ) → s < length agenda.old.marks.items → IsMarked agenda.new.marks.items s }
 {
     agenda.marks.fill(true);
+    agenda.whole = true;
     agenda.more.fill(false);
 }
 

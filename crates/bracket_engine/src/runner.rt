@@ -134,6 +134,7 @@ fn sweep<R: Threads + Sync, P: Posing + Send + Sync, G: Gate + Sync>(
         pass,
         &agenda.marks,
         &mut agenda.more,
+        agenda.whole,
         workers,
         gate,
     );

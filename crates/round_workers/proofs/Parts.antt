@@ -1,5 +1,5 @@
 -- Two neighbouring parts of a round are one part.
-use Rattle.std.proofs.Common.{◌≡◌, ℕ, ◌+◌, ◌-◌, ◌/◌, ◌<◌, ◌≤◌, Bool, List, length, arith, inl, inr, le_refl, le_trans, subst, zero-le}
+use Rattle.std.proofs.Common.{◌≡◌, ℕ, ◌+◌, ◌/◌, ◌<◌, ◌≤◌, Bool, List, length, arith, inl, inr, le_refl, le_trans, subst, zero-le}
 use Rattle.std.proofs.lemmas.Bool.{cases_lt}
 use Rattle.game_model.specs.Game.{Distribution, IsGame}
 use Rattle.game_model.specs.Query.{Query}
@@ -9,7 +9,7 @@ use Rattle.value_words.specs.Passes.{Token, GrewSeat}
 use Rattle.value_words.specs.Rule.{other_half}
 use Rattle.value_words.proofs.Parts.{other_half-many}
 use Rattle.value_words.proofs.Grown.{grew-twice}
-use Rattle.round_workers.specs.Share.{worker_of, BeginsBlock, IsSwept}
+use Rattle.round_workers.specs.Share.{BeginsBlock, IsSwept}
 use Rattle.round_workers.proofs.Blocks.{worker_of-below}
 
 -- a later worker begins no earlier

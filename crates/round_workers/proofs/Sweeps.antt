@@ -5,7 +5,7 @@ use Rattle.std.specs.List.{AllWithin}
 use Rattle.game_model.specs.Query.{Query, IsQuery}
 use Rattle.game_model.specs.Rounded.{down_step}
 use Rattle.step_core.specs.Word.{value_at}
-use Rattle.value_words.specs.Passes.{Token, GrewSeat}
+use Rattle.value_words.specs.Passes.{Token, GrewSeat, LookedSeat}
 use Rattle.value_words.proofs.Grown.{grew-twice, step-rises}
 use Rattle.round_workers.specs.Marks.{IsMarked}
 use Rattle.round_workers.specs.Share.{IsSwept}
@@ -59,3 +59,16 @@ swept-over q marks low high old order off = record {
   few = omega arith;
   parts = λ _. refl;
 }
+
+-- a stretch, after words were looked at
+pub swept-looked : (q : Query) (marks : List Bool) (low high : ℕ) (a b c : Token) (n : ℕ) → IsQuery q → LookedSeat a b → IsSwept q marks 1 low high b c n → IsSwept q marks 1 low high a c n
+swept-looked q marks low high a b c n posed h k =
+    let h_won = h.won in
+    let k_won = k.won in
+    record {
+      grew = grew-twice a b c h.grew k.grew;
+      step = λ s from to marked. le_trans (step-rises q a b s posed h.grew) (k.step s from to marked);
+      won = omega arith;
+      few = k.few;
+      parts = λ enough. let before = h.parts in k.parts (omega arith) ∙ before;
+    }

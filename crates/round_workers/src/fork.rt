@@ -8,7 +8,7 @@ ghost use Rattle.round_workers.specs.Marks.{IsMarked};
 ghost use Rattle.round_workers.specs.Share.{IsSwept, most_workers};
 ghost use Rattle.round_workers.specs.Teams.{IsTeam, AreHalves};
 
-use crate::sweep::{Rounded, meet, sweep};
+use crate::sweep::{Rounded, Task, meet, sweep};
 use crate::team::Team;
 use game_outside::Gate;
 use predecessors::Predecessors;
@@ -22,6 +22,9 @@ use value_words::{Pass, Posing, ValueTable};
 /// Where a worker raises a state, it marks for itself, in `more`, the predecessors of that state that stand behind it
 /// among its own states, and updates these too: so one worker's round with marks raises what one over all states does,
 /// where each state without a mark would not rise. A round promises nothing of `more`.
+///
+/// In a whole round each worker updates all of its states, once, and marks none: so it is to be asked for where all states
+/// are marked.
 pub fn round<R: Threads + Sync, P: Posing + Send + Sync, G: Gate + Sync>(
     rt: &R,
     table: &ValueTable<'_, P>,
@@ -29,6 +32,7 @@ pub fn round<R: Threads + Sync, P: Posing + Send + Sync, G: Gate + Sync>(
     pass: Pass<P>,
     marks: &[bool],
     more: &mut [bool],
+    whole: bool,
     workers: u32,
     gate: &G,
 ) -> Rounded<P>
@@ -46,55 +50,47 @@ pub fn round<R: Threads + Sync, P: Posing + Send + Sync, G: Gate + Sync>(
     ensures parts { workers ≤ parts_of pass → parts_of result.pass ≡ parts_of pass }
 {
     let team = Team::all(table.question().game(), workers);
-    fork(rt, table, predecessors, pass, marks, more, team, gate)
+    let task = Task {
+        table,
+        predecessors,
+        marks,
+        whole,
+        gate,
+    };
+    fork(rt, &task, pass, more, team)
 }
 
 /// The part of a team. The first of `more` is the mark of its first state.
 fn fork<R: Threads + Sync, P: Posing + Send + Sync, G: Gate + Sync>(
     rt: &R,
-    table: &ValueTable<'_, P>,
-    predecessors: &Predecessors,
+    task: &Task<'_, P, G>,
     mut pass: Pass<P>,
-    marks: &[bool],
     more: &mut [bool],
     team: Team,
-    gate: &G,
 ) -> Rounded<P>
-    requires pass { IsOf table.now pass }
-    requires predecessors { length predecessors.now ≡ states P.posed }
-    requires marks { length marks.now ≡ states P.posed }
+    requires pass { IsOf task.now.table.now pass }
     requires more { team.low + length more.old ≡ team.high }
     requires team { IsTeam P.posed.game team }
-    ensures { IsSwept P.posed marks.now (team.last - team.first) team.low team.high pass.seat result.pass.seat result.raises }
+    ensures { IsSwept P.posed task.now.marks.now (team.last - team.first) team.low team.high pass.seat result.pass.seat result.raises }
 {
     if team.last - team.first == 1 {
-        return sweep(
-            table,
-            predecessors,
-            pass,
-            marks,
-            more,
-            team.first,
-            team.low,
-            team.high,
-            gate,
-        );
+        return sweep(task, pass, more, team.first, team.low, team.high);
     }
-    let (front, back) = halves(table, team);
-    let other = table.split(&mut pass);
+    let (front, back) = halves(task.table, team);
+    let other = task.table.split(&mut pass);
     let (mine, others) = more.split_at_mut((front.high - front.low) as usize);
     let (left, right) = join(
         rt,
         move || -> Rounded<P>
-            requires { IsSync R.row × IsSend P.row × IsSync P.row × IsSync G.row × IsOf table.now pass × (length predecessors.now ≡ states P.posed) × (length marks.now ≡ states P.posed) × (front.low + length mine.now ≡ front.high) × IsTeam P.posed.game front }
-            ensures { IsSwept P.posed marks.entry.now (front.last - front.first) front.low front.high pass.seat result.pass.seat result.raises }
-        { fork(rt, table, predecessors, pass, marks, mine, front, gate) },
+            requires { IsSync R.row × IsSend P.row × IsSync P.row × IsSync G.row × IsOf task.now.table.now pass × (front.low + length mine.now ≡ front.high) × IsTeam P.posed.game front }
+            ensures { IsSwept P.posed task.entry.now.marks.now (front.last - front.first) front.low front.high pass.seat result.pass.seat result.raises }
+        { fork(rt, task, pass, mine, front) },
         move || -> Rounded<P>
-            requires { IsSync R.row × IsSend P.row × IsSync P.row × IsSync G.row × IsOf table.now other × (length predecessors.now ≡ states P.posed) × (length marks.now ≡ states P.posed) × (back.low + length others.now ≡ back.high) × IsTeam P.posed.game back }
-            ensures { IsSwept P.posed marks.entry.now (back.last - back.first) back.low back.high other.seat result.pass.seat result.raises }
-        { fork(rt, table, predecessors, other, marks, others, back, gate) },
+            requires { IsSync R.row × IsSend P.row × IsSync P.row × IsSync G.row × IsOf task.now.table.now other × (back.low + length others.now ≡ back.high) × IsTeam P.posed.game back }
+            ensures { IsSwept P.posed task.entry.now.marks.now (back.last - back.first) back.low back.high other.seat result.pass.seat result.raises }
+        { fork(rt, task, other, others, back) },
     );
-    meet(table, left, right)
+    meet(task.table, left, right)
 }
 
 /// The halves of a team of at least two workers.

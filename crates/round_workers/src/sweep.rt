@@ -3,7 +3,7 @@
 ghost use Rattle.std.specs.Prelude.{◌≡◌, ℕ, ◌+◌, ◌<◌, ◌≤◌, ◌^◌, length, MatchBool};
 ghost use Rattle.game_model.specs.Query.{states};
 ghost use Rattle.game_model.specs.Rounded.{down_step};
-ghost use Rattle.value_words.specs.Passes.{IsOf, Grew, seen_by, won_by, parts_of};
+ghost use Rattle.value_words.specs.Passes.{IsOf, Grew, Looked, seen_by, won_by, parts_of};
 ghost use Rattle.round_workers.specs.Marks.{IsMarked};
 ghost use Rattle.round_workers.specs.Share.{IsSwept};
 
@@ -11,6 +11,23 @@ use crate::marks::{STRETCH, has_mark, mark_behind};
 use game_outside::Gate;
 use predecessors::Predecessors;
 use value_words::{Pass, Posing, ValueTable};
+
+/// What the workers of a round have in common.
+#[derive(Drop)]
+pub struct Task<'r, P: Posing, G: Gate> {
+    /// The words.
+    pub table: &'r ValueTable<'r, P>,
+    /// The predecessors of each state, which a worker that raises it marks.
+    pub predecessors: &'r Predecessors,
+    /// The states to update.
+    pub marks: &'r [bool],
+    /// Whether all states are to be updated.
+    pub whole: bool,
+    /// What each worker passes before each state.
+    pub gate: &'r G,
+    ghost listed: { length predecessors.now ≡ states P.posed },
+    ghost marked: { length marks.now ≡ states P.posed },
+}
 
 /// What is left after a round: the pass, and how many exchanges it won in the round.
 #[derive(Drop)]
@@ -22,48 +39,49 @@ pub struct Rounded<P: Posing> {
 }
 
 /// Updates the marked states from `from` up to and not including `to`, in rising order, and those that it marks on the
-/// way: the first of `more` is the mark of `from`. The gate is passed before each state, marked or not.
+/// way: the first of `more` is the mark of `from`. In a whole round all states are updated, and none is marked on the
+/// way. The gate is passed before each state, marked or not.
 pub fn sweep<P: Posing, G: Gate>(
-    table: &ValueTable<'_, P>,
-    predecessors: &Predecessors,
+    task: &Task<'_, P, G>,
     mut pass: Pass<P>,
-    marks: &[bool],
     more: &mut [bool],
     worker: u32,
     from: u32,
     to: u32,
-    gate: &G,
 ) -> Rounded<P>
-    requires pass { IsOf table.now pass }
-    requires predecessors { length predecessors.now ≡ states P.posed }
-    requires marks { length marks.now ≡ states P.posed }
+    requires pass { IsOf task.now.table.now pass }
     requires more { from + length more.old ≡ to }
     requires inside { to ≤ states P.posed }
-    ensures { IsSwept P.posed marks.now 1 from to pass.seat result.pass.seat result.raises }
+    ensures { IsSwept P.posed task.now.marks.now 1 from to pass.seat result.pass.seat result.raises }
 {
     let mut raises = 0;
     let mut state = from;
     while state < to {
         let end = to.min(state + STRETCH);
-        if has_mark(marks, state, end) || has_mark(more, state - from, end - from) {
-            raises += walk(
-                table,
-                predecessors,
-                &mut pass,
-                marks,
-                more,
-                worker,
-                from,
-                state,
-                end,
-                gate,
-            );
+        if task.whole
+            || has_mark(task.marks, state, end)
+            || has_mark(more, state - from, end - from)
+        {
+            look_ahead(task, &mut pass, state, end);
+            raises += walk(task, &mut pass, more, worker, from, state, end);
         } else {
-            pass_over(worker, state, end, gate);
+            pass_over(worker, state, end, task.gate);
         }
         state = end;
     }
     Rounded { pass, raises }
+}
+
+/// In a whole round, loads the words that the steps of a stretch read, so that the memory fetches them at once.
+fn look_ahead<P: Posing, G: Gate>(task: &Task<'_, P, G>, pass: &mut Pass<P>, from: u32, to: u32)
+    requires pass { IsOf task.now.table.now pass.old }
+    requires order { from ≤ to }
+    requires inside { to ≤ states P.posed }
+    ensures { Looked pass.old pass.new }
+{
+    if task.whole {
+        task.table.look_ahead(pass, from, to);
+    }
 }
 
 /// Passes the gate before each state of a stretch.
@@ -75,63 +93,57 @@ fn pass_over<G: Gate>(worker: u32, from: u32, to: u32, gate: &G) {
 
 /// Visits each state of a stretch. How many exchanges were won.
 fn walk<P: Posing, G: Gate>(
-    table: &ValueTable<'_, P>,
-    predecessors: &Predecessors,
+    task: &Task<'_, P, G>,
     pass: &mut Pass<P>,
-    marks: &[bool],
     more: &mut [bool],
     worker: u32,
     first: u32,
     from: u32,
     to: u32,
-    gate: &G,
 ) -> u64
-    requires pass { IsOf table.now pass.old }
-    requires predecessors { length predecessors.now ≡ states P.posed }
-    requires marks { length marks.now ≡ states P.posed }
+    requires pass { IsOf task.now.table.now pass.old }
     requires first { first ≤ from }
     requires order { from ≤ to }
     requires more { to ≤ first + length more.old }
     requires inside { to ≤ states P.posed }
-    ensures { IsSwept P.posed marks.now 1 from to pass.old.seat pass.new.seat result }
+    ensures { IsSwept P.posed task.now.marks.now 1 from to pass.old.seat pass.new.seat result }
 {
     let mut raises = 0;
     for state in from..to {
-        gate.arrive(worker, state);
-        if visit(table, predecessors, pass, marks, more, first, state) {
+        task.gate.arrive(worker, state);
+        if visit(task, pass, more, first, state) {
             raises += 1;
         }
     }
     raises
 }
 
-/// Updates a state that has a mark in either list. Whether an exchange won; then its predecessors behind it are marked.
-fn visit<P: Posing>(
-    table: &ValueTable<'_, P>,
-    predecessors: &Predecessors,
+/// Updates a state that has a mark in either list; any state in a whole round. Whether an exchange won; then its predecessors
+/// behind it are marked, but in no whole round.
+fn visit<P: Posing, G: Gate>(
+    task: &Task<'_, P, G>,
     pass: &mut Pass<P>,
-    marks: &[bool],
     more: &mut [bool],
     first: u32,
     state: u32,
 ) -> bool
-    requires pass { IsOf table.now pass.old }
-    requires predecessors { length predecessors.now ≡ states P.posed }
-    requires marks { length marks.now ≡ states P.posed }
+    requires pass { IsOf task.now.table.now pass.old }
     requires state { state < states P.posed }
     requires more { (first ≤ state) × (state < first + length more.old) }
     ensures grew { Grew pass.old pass.new }
-    ensures step { IsMarked marks.now state → down_step P.posed (seen_by pass.old) state ≤ seen_by pass.new state }
+    ensures step { IsMarked task.now.marks.now state → down_step P.posed (seen_by pass.old) state ≤ seen_by pass.new state }
     ensures won { MatchBool result (won_by pass.new ≡ won_by pass.old + 1) (won_by pass.new ≡ won_by pass.old) }
     ensures parts { parts_of pass.new ≡ parts_of pass.old }
 {
-    if !marks[state as usize] && !more[(state - first) as usize] {
+    if !task.whole && !task.marks[state as usize] && !more[(state - first) as usize] {
         return false;
     }
-    if !table.update(pass, state) {
+    if !task.table.update(pass, state) {
         return false;
     }
-    mark_behind(predecessors, state, first, more);
+    if !task.whole {
+        mark_behind(task.predecessors, state, first, more);
+    }
     true
 }
 

@@ -19,6 +19,9 @@ use std::alloc::Global;
 use std::marker::{Model, PhantomData};
 use step_core::{opening_words, pack, value_of};
 
+/// So many words lie in the caches of a processor, whatever is read between.
+const MOST_NEAR: u32 = 262_144;
+
 /// The shared words of a question, under a rule.
 #[derive(Drop)]
 pub struct Ruled<'q, Q: TableRule<(), Sight, ()>, P: Posing> {
@@ -129,6 +132,20 @@ impl<'q, P: Posing> ValueTable<'q, P> {
         }
     }
 
+    /// Loads the words of the successors of the states from `from` up to and not including `to`, and keeps nothing:
+    /// steps there then find these words near. Where all words are few they are near, and none is loaded.
+    pub fn look_ahead(&self, pass: &mut Pass<P>, from: u32, to: u32)
+        requires pass { IsOf self.now pass.old }
+        requires order { from ≤ to }
+        requires inside { to ≤ states P.posed }
+        ensures looked { Looked pass.old pass.new }
+    {
+        let game = self.question.game();
+        if game.states() > MOST_NEAR {
+            self.look_at(pass, game.successors_between(from, to));
+        }
+    }
+
     /// A second pass, which has seen the same and has won nothing. Each of the two has about half of the
     /// parts; a single part is lost.
     pub fn split(&self, pass: &mut Pass<P>) -> Pass<P>
@@ -194,6 +211,17 @@ impl<'q, P: Posing> ValueTable<'q, P> {
         self.table
             .shared
             .load::<Loading>(&mut pass.seat, state as usize)
+    }
+
+    // Loads the words of these states.
+    fn look_at(&self, pass: &mut Pass<P>, wanted: &[u32])
+        requires pass { IsOf self.now pass.old }
+        requires inside { All (λ s. s < states P.posed) wanted.now }
+        ensures looked { Looked pass.old pass.new }
+    {
+        for state in wanted {
+            self.load(pass, *state);
+        }
     }
 
     // Tries to exchange the word that the pass has seen for one of greater value.

@@ -4,7 +4,7 @@ use Rattle.std.proofs.lemmas.Bool.{cases_eq}
 use Rattle.std.proofs.lemmas.List.{length-set}
 use Rattle.predecessors.specs.Moves.{move}
 use Rattle.round_workers.specs.Marks.{IsMarked}
-use Rattle.bracket_engine.proofs.Marking.{predecessor-inside, all-marked, mark-kept, mark-set}
+use Rattle.rank_certificate.proofs.Marks.{predecessor-inside, all-marked, mark-kept, mark-set}
 use Rattle.bracket_engine.proofs.agenda.mark_predecessors.Goals as goal
 
 pub index_mut-requires : goal.index_mut-requires

@@ -5,7 +5,7 @@ use Rattle.round_workers.proofs.fork.+fn-fork-join+arg2+fn-fork-join+arg3+fork.G
 pub returns : goal.returns
 returns g t c =
     let q = g.P.Posing.posed in
-    let marks = c.args.marks.now in
+    let marks = c.args.task.now.marks.now in
     let team = c.args.team in
     let front = c.halves.result.0 in
     let back = c.halves.result.1 in

@@ -6,7 +6,7 @@ abbrev pub invariant-loop-state : goal.invariant-loop-state
 invariant-loop-state g l = record {
   from : l.from ≤ l.state;
   upto : l.state ≤ l.to;
-  swept : IsSwept g.P.Posing.posed l.marks 1 l.from l.state l.fn.pass.seat l.pass.seat l.raises;
+  swept : IsSwept g.P.Posing.posed l.task.marks.now 1 l.from l.state l.fn.pass.seat l.pass.seat l.raises;
 }
 
 abbrev pub decreases-loop-state : goal.decreases-loop-state
