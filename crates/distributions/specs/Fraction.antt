@@ -1,5 +1,5 @@
 -- What contracts see of a fraction, and the order of fractions.
-use Rattle.std.specs.Prelude.{◌≡◌, ◌≤◌, ℕ, ◌*◌, ◌/◌}
+use Rattle.std.specs.Prelude.{◌≡◌, ◌≤◌, ℕ, ◌*◌, ◌-◌, ◌/◌}
 use Rattle.std.specs.Int.{IsGcd}
 use Rattle.std.specs.Ordering.{nat_cmp}
 use Rattle.std.specs.declared.cmp.Ordering.{Ordering}
@@ -25,6 +25,10 @@ SameValue f g = f.num * g.den ≡ g.num * f.den
 -- the fraction of the same value in lowest terms; 0 is 0 over 1
 abbrev pub lowest : Fraction → Fraction
 lowest f = record { num = f.num / gcd f.num f.den; den = f.den / gcd f.num f.den }
+
+-- the number 1 less a number, which is at most 1
+abbrev pub rest_of : Fraction → Fraction
+rest_of f = record { num = f.den - f.num; den = f.den }
 
 -- the order of two fractions
 abbrev pub fraction_cmp : Fraction → Fraction → Ordering

@@ -3,7 +3,7 @@
 ghost use Rattle.std.specs.Prelude.{◌≡◌, ◌<◌, ◌≤◌, ◌+◌, ◌*◌, ◌^◌};
 ghost use Rattle.std.specs.Int.{IsGcd};
 ghost use Rattle.distributions.specs.Limits.{finest, most_value};
-ghost use Rattle.distributions.specs.Fraction.{fraction_cmp, IsFraction};
+ghost use Rattle.distributions.specs.Fraction.{fraction_cmp, rest_of, IsFraction};
 
 use std::cmp::Ordering;
 use std::marker::Model;
@@ -63,6 +63,14 @@ impl Frac {
     {
         self.den
     }
+
+    /// The number 1 less this one.
+    pub fn rest(&self) -> Frac
+        requires { self.now.num ≤ self.now.den }
+        ensures { result ≡ rest_of self.now }
+    {
+        Frac::of(self.den - self.num, self.den)
+    }
 }
 
 /// The order of two fractions by value.
@@ -96,5 +104,23 @@ fn wide_product(a: u128, b: u128) -> Wide
     Wide {
         high: a_high * b_high * WORD + middle,
         low: lowest % WORD,
+    }
+}
+
+#[cfg(test)]
+mod tests {
+    use super::*;
+    use crate::number::read_number;
+    use std::test::Fail;
+
+    #[test]
+    fn rests_make_one(rt: HostRuntime) -> Result<(), Fail> {
+        let share = read_number(b"3/8").ok().ok_or("no share")?;
+        if share.num() <= share.den() {
+            let rest = share.rest();
+            assert_eq!(rt; (rest.num(), rest.den()), (5, 8));
+            return Ok(());
+        }
+        Err(Fail::new("above one"))
     }
 }

@@ -16,7 +16,7 @@ use Rattle.formula_sets.specs.declared.fault.PoseFault.{PoseFault}
 use Rattle.formula_sets.specs.declared.question.Posed.{Posed}
 use Rattle.formula_sets.specs.Truth.{holds, unknown_label}
 use Rattle.formula_sets.specs.Sides.{side_of, members_of, unknown_player}
-use Rattle.formula_sets.specs.Posing.{Posing, Poses, init, formula_labels, is_lost, at_states, question_of, with_initial, posed_with, pose_said, Gives}
+use Rattle.formula_sets.specs.Posing.{Posing, IsSetUp, Poses, init, formula_labels, is_lost, at_states, question_with, question_of, some_state, known_with, initial_said, made_of, pose_said, Gives}
 use Rattle.formula_sets.specs.Seen.{posing_of}
 
 -- 1. What is said at each state.
@@ -61,66 +61,109 @@ refused-none test (name ∷ names) h =
     ap (λ b. cond (not b) (Some name) (find (λ n. not (test n)) names)) (h 0 name (omega arith))
     ∙ refused-none test names (λ k d l. h (suc k) d (omega arith))
 
--- 3. From what is said to the relation.
+-- 3. What is said of the initial states.
 
-ok-same : (p q : Posing) → ◌≡◌ {A = Result Posing PoseFault} (Ok p) (Ok q) → p ≡ q
-ok-same p q e = cc
+module _ (l : Labelling) (o : Ownership) (f : Tree) where
+  -- the names are there, and these are the initial states
+  pub record IsBegun (initial : List ℕ) : Type 0 where
+    pub labels : All (λ name. is_known l name ≡ true) (formula_labels f)
+    pub players : All (λ name. is_player o name ≡ true) (members_of f.coalition)
+    pub starts : initial ≡ states_with l init
+    pub some : initial ≢ []
 
-module _ (game : List (List Distribution)) (l : Labelling) (o : Ownership) (f : Tree) where
-  begun : (initial : List ℕ) (p : Posing) → states_with l init ≡ initial → unknown_label l (formula_labels f) ≡ None → unknown_player o (members_of f.coalition) ≡ None
-      → with_initial (question_of game l o f) initial ≡ Ok p → Poses game l o f p
-  begun [] p starts label player is = cc
-  begun (s ∷ states) p starts label player is =
-      let n = length game in
-      let P : Posing → Type 0 = λ x. Poses game l o f x in
-      subst P (ok-same (record { question = question_of game l o f; initial = s ∷ states }) p is) (record {
+  begun : (found initial : List ℕ) → found ≡ states_with l init → unknown_label l (formula_labels f) ≡ None → unknown_player o (members_of f.coalition) ≡ None → some_state found ≡ Ok initial → IsBegun initial
+  begun [] initial starts label player is = cc
+  begun (s ∷ found) initial starts label player is =
+      let P : List ℕ → Type 0 = λ xs. IsBegun xs in
+      let same : s ∷ found ≡ initial = cc in
+      subst P same (record {
         labels = none-refused (is_known l) (formula_labels f) label;
         players = none-refused (is_player o) (members_of f.coalition) player;
-        game_same = refl;
-        side_count = length-at_states (side_of f.coalition f.bound o) n;
-        goal_count = length-at_states (holds l f.right) n;
-        dead_count = length-at_states (is_lost l f) n;
-        sides = λ s h. at_states-at (side_of f.coalition f.bound o) n s Max h;
-        goals = λ s h. at_states-at (holds l f.right) n s false h;
-        deads = λ s h. at_states-at (is_lost l f) n s false h;
-        starts = sym starts;
+        starts = starts;
         some = λ e. cc e;
       })
 
-  said : (label player : Option (List ℕ)) (p : Posing) → unknown_label l (formula_labels f) ≡ label → unknown_player o (members_of f.coalition) ≡ player
-      → posed_with label player (with_initial (question_of game l o f) (states_with l init)) ≡ Ok p → Poses game l o f p
-  said (Some label) player p known played is = cc
-  said None (Some player) p known played is = cc
-  said None None p known played is = begun (states_with l init) p refl known played is
+  said : (label player : Option (List ℕ)) (initial : List ℕ) → unknown_label l (formula_labels f) ≡ label → unknown_player o (members_of f.coalition) ≡ player
+      → known_with label player (some_state (states_with l init)) ≡ Ok initial → IsBegun initial
+  said (Some label) player initial known played is = cc
+  said None (Some player) initial known played is = cc
+  said None None initial known played is = begun (states_with l init) initial refl known played is
+
+  pub initial-found : (initial : List ℕ) → initial_said l o f ≡ Ok initial → IsBegun initial
+  initial-found initial is = said (unknown_label l (formula_labels f)) (unknown_player o (members_of f.coalition)) initial refl refl is
+
+  begins : (initial : List ℕ) → initial ≢ [] → some_state initial ≡ Ok initial
+  begins [] some = absurd (some refl)
+  begins (s ∷ states) some = refl
+
+  pub initial-again : (initial : List ℕ) → IsBegun initial → initial_said l o f ≡ Ok initial
+  initial-again initial h =
+      ap (λ label. known_with label (unknown_player o (members_of f.coalition)) (some_state (states_with l init))) (refused-none (is_known l) (formula_labels f) h.labels)
+      ∙ ap (λ player. known_with None player (some_state (states_with l init))) (refused-none (is_player o) (members_of f.coalition) h.players)
+      ∙ ap some_state (sym h.starts)
+      ∙ begins initial h.some
+
+  -- what is made of them
+  pub made-found : {X : Type 0} (make : List ℕ → X) (said : Result (List ℕ) PoseFault) (x : X) → initial_said l o f ≡ said → made_of make said ≡ Ok x → (initial : List ℕ) × (make initial ≡ x) × IsBegun initial
+  made-found make (Ok initial) x is made = (initial, (cc), initial-found initial is)
+  made-found make (Err fault) x is made = absurd (cc)
+
+-- 4. The question, whatever the path.
+
+module _ (game : List (List Distribution)) (l : Labelling) (o : Ownership) (f : Tree) where
+  pub set_up : (goals deads : List Bool) (initial : List ℕ) → length goals ≡ length game → length deads ≡ length game → IsBegun l o f initial
+      → IsSetUp game l o f (question_with game o f goals deads) initial
+  set_up goals deads initial goal_count dead_count h = record {
+    labels = h.labels;
+    players = h.players;
+    game_same = refl;
+    side_count = length-at_states (side_of f.coalition f.bound o) (length game);
+    goal_count = goal_count;
+    dead_count = dead_count;
+    sides = λ s k. at_states-at (side_of f.coalition f.bound o) (length game) s Max k;
+    starts = h.starts;
+    some = h.some;
+  }
+
+  pub is_begun : (question : Query) (initial : List ℕ) → IsSetUp game l o f question initial → IsBegun l o f initial
+  is_begun question initial h = record { labels = h.labels; players = h.players; starts = h.starts; some = h.some }
+
+  pub question-same : (question : Query) (initial : List ℕ) (goals deads : List Bool) → IsSetUp game l o f question initial → question.goals ≡ goals → question.deads ≡ deads
+      → question_with game o f goals deads ≡ question
+  question-same question initial goals deads h goals_are deads_are =
+      let sides = fill_by_all (side_of f.coalition f.bound o) question.sides (length game) Max h.side_count h.sides in
+      let query : List (List Distribution) → List Side → List Bool → List Bool → Query = λ g s a b. record { game = g; sides = s; goals = a; deads = b } in
+      ap (λ g. query g (at_states (side_of f.coalition f.bound o) (length game)) goals deads) (sym h.game_same)
+      ∙ ap (λ s. query question.game s goals deads) (sym sides)
+      ∙ ap (λ a. query question.game question.sides a deads) (sym goals_are)
+      ∙ ap (λ b. query question.game question.sides question.goals b) (sym deads_are)
+
+  -- 5. The question of `U` and `F`.
+
+  posing : List ℕ → Posing
+  posing initial = record { question = question_of game l o f; initial = initial }
 
   pub pose-found : (p : Posing) → pose_said game l o f ≡ Ok p → Poses game l o f p
-  pose-found p is = said (unknown_label l (formula_labels f)) (unknown_player o (members_of f.coalition)) p refl refl is
-
-  -- 4. From the relation to what is said.
-
-  question-same : (p : Posing) → Poses game l o f p → question_of game l o f ≡ p.question
-  question-same p h =
+  unfolding posing
+  pose-found p is =
       let n = length game in
-      let sides = fill_by_all (side_of f.coalition f.bound o) p.question.sides n Max h.side_count h.sides in
-      let goals = fill_by_all (holds l f.right) p.question.goals n false h.goal_count h.goals in
-      let deads = fill_by_all (is_lost l f) p.question.deads n false h.dead_count h.deads in
-      let query : List (List Distribution) → List Side → List Bool → List Bool → Query = λ g s a b. record { game = g; sides = s; goals = a; deads = b } in
-      ap (λ g. query g (at_states (side_of f.coalition f.bound o) n) (at_states (holds l f.right) n) (at_states (is_lost l f) n)) (sym h.game_same)
-      ∙ ap (λ s. query p.question.game s (at_states (holds l f.right) n) (at_states (is_lost l f) n)) (sym sides)
-      ∙ ap (λ a. query p.question.game p.question.sides a (at_states (is_lost l f) n)) (sym goals)
-      ∙ ap (λ b. query p.question.game p.question.sides p.question.goals b) (sym deads)
-
-  begins : (question : Query) (initial : List ℕ) → initial ≢ [] → with_initial question initial ≡ Ok (record { question = question; initial = initial })
-  begins question [] some = absurd (some refl)
-  begins question (s ∷ states) some = refl
+      let made = made-found l o f posing (initial_said l o f) p refl is in
+      let P : Posing → Type 0 = λ x. Poses game l o f x in
+      subst P made.1 (record {
+        set_up = set_up (at_states (holds l f.right) n) (at_states (is_lost l f) n) made.0 (length-at_states (holds l f.right) n) (length-at_states (is_lost l f) n) made.2;
+        goals = λ s h. at_states-at (holds l f.right) n s false h;
+        deads = λ s h. at_states-at (is_lost l f) n s false h;
+      })
 
   pub pose-again : (p : Posing) → Poses game l o f p → pose_said game l o f ≡ Ok p
+  unfolding posing
   pose-again p h =
-      ap (λ label. posed_with label (unknown_player o (members_of f.coalition)) (with_initial (question_of game l o f) (states_with l init))) (refused-none (is_known l) (formula_labels f) h.labels)
-      ∙ ap (λ player. posed_with None player (with_initial (question_of game l o f) (states_with l init))) (refused-none (is_player o) (members_of f.coalition) h.players)
-      ∙ ap (λ q. with_initial q (states_with l init)) (question-same p h)
-      ∙ ap (λ states. with_initial p.question states) (sym h.starts)
-      ∙ begins p.question p.initial h.some
+      let n = length game in
+      let goals = fill_by_all (holds l f.right) p.question.goals n false h.set_up.goal_count h.goals in
+      let deads = fill_by_all (is_lost l f) p.question.deads n false h.set_up.dead_count h.deads in
+      let same = question-same p.question p.initial (at_states (holds l f.right) n) (at_states (is_lost l f) n) h.set_up goals deads in
+      let whole : Query → Result Posing PoseFault = λ q. Ok (record { question = q; initial = p.initial }) in
+      ap (made_of posing) (initial-again l o f p.initial (is_begun p.question p.initial h.set_up)) ∙ ap whole same
 
   pub given-found : (result : Result Posed PoseFault) → Gives posing_of result (pose_said game l o f) → IfOk result (λ posed. Poses game l o f (posing_of posed))
   given-found (Ok posed) given = pose-found (posing_of posed) given

@@ -1,3 +1,4 @@
 pub mod Finding
 pub mod Asking
+pub mod AskingNext
 pub mod Inside

@@ -1,10 +1,13 @@
 -- The question that a formula poses.
-use Rattle.std.specs.Prelude.{◌≡◌, ◌≢◌, ◌<◌, ◌⊎◌, ℕ, Bool, true, not, ◌&&◌, List, [], ◌∷◌, ◌++◌, length, map, Option, Some, None, Result, Ok, Err, All, codes}
+use Rattle.std.specs.Prelude.{◌≡◌, ◌≢◌, ◌<◌, ◌⊎◌, ℕ, Bool, true, false, not, ◌&&◌, List, [], ◌∷◌, ◌++◌, length, map, slice_index, Option, Some, None, Result, Ok, Err, All, if◌then◌else◌, codes}
 use Rattle.std.specs.List.{range_with_len}
 use Rattle.game_model.specs.Game.{Distribution}
+use Rattle.game_model.specs.Limits.{unit}
 use Rattle.game_model.specs.Query.{Query, is_goal, is_dead, side_at}
 use Rattle.label_reader.specs.Labels.{Labelling, is_known, states_with}
 use Rattle.label_reader.specs.Owners.{Ownership, is_player}
+use Rattle.rpatl_syntax.specs.declared.formula.PathKind.{PathKind}
+use Rattle.rpatl_syntax.specs.declared.formula.PathKind.TheVariants.{Until, Within, Next, Always}
 use Rattle.rpatl_syntax.specs.Formula.{Tree}
 use Rattle.formula_sets.specs.declared.fault.PoseFault.{PoseFault}
 use Rattle.formula_sets.specs.declared.fault.PoseFault.TheVariants.{OutOfMemory, UnknownLabel, UnknownPlayer, NoInit}
@@ -15,6 +18,19 @@ use Rattle.formula_sets.specs.Sides.{side_of, members_of, unknown_player}
 pub record Posing : Type 0 where
   pub question : Query
   pub initial : List ℕ
+
+-- a question of one step, the table from which its values begin, in units, and its initial states
+pub record NextPosing : Type 0 where
+  pub question : Query
+  pub opening : List ℕ
+  pub initial : List ℕ
+
+-- the path is `left U right`, with or without a bound on its steps
+abbrev pub IsUntil : PathKind → Type 0
+IsUntil Until = Unit {0}
+IsUntil (Within steps) = Unit {0}
+IsUntil Next = ⊥
+IsUntil Always = ⊥
 
 -- the label of the initial states
 abbrev pub init : List ℕ
@@ -28,20 +44,36 @@ formula_labels f = labels_in f.left ++ labels_in f.right
 abbrev pub is_lost : Labelling → Tree → ℕ → Bool
 is_lost l f s = not (holds l f.right s) && not (holds l f.left s)
 
+-- where the right side holds, probability 1, in units
+abbrev pub opening_at : Labelling → Tree → ℕ → ℕ
+opening_at l f s = if holds l f.right s then unit else 0
+
 -- 1. The question, as a relation.
 
-pub record Poses (game : List (List Distribution)) (l : Labelling) (o : Ownership) (f : Tree) (p : Posing) : Type 0 where
+-- whatever the path: the names in the formula are there, and the question is of this game, with the formula's sides and the initial states
+pub record IsSetUp (game : List (List Distribution)) (l : Labelling) (o : Ownership) (f : Tree) (question : Query) (initial : List ℕ) : Type 0 where
   pub labels : All (λ name. is_known l name ≡ true) (formula_labels f)
   pub players : All (λ name. is_player o name ≡ true) (members_of f.coalition)
-  pub game_same : p.question.game ≡ game
-  pub side_count : length p.question.sides ≡ length game
-  pub goal_count : length p.question.goals ≡ length game
-  pub dead_count : length p.question.deads ≡ length game
-  pub sides : (s : ℕ) → s < length game → side_at p.question s ≡ side_of f.coalition f.bound o s
+  pub game_same : question.game ≡ game
+  pub side_count : length question.sides ≡ length game
+  pub goal_count : length question.goals ≡ length game
+  pub dead_count : length question.deads ≡ length game
+  pub sides : (s : ℕ) → s < length game → side_at question s ≡ side_of f.coalition f.bound o s
+  pub starts : initial ≡ states_with l init
+  pub some : initial ≢ []
+
+pub record Poses (game : List (List Distribution)) (l : Labelling) (o : Ownership) (f : Tree) (p : Posing) : Type 0 where
+  pub set_up : IsSetUp game l o f p.question p.initial
   pub goals : (s : ℕ) → s < length game → is_goal p.question s ≡ holds l f.right s
   pub deads : (s : ℕ) → s < length game → is_dead p.question s ≡ is_lost l f s
-  pub starts : p.initial ≡ states_with l init
-  pub some : p.initial ≢ []
+
+-- with `X`: no marks, and an opening table
+pub record PosesNext (game : List (List Distribution)) (l : Labelling) (o : Ownership) (f : Tree) (p : NextPosing) : Type 0 where
+  pub set_up : IsSetUp game l o f p.question p.initial
+  pub goals : (s : ℕ) → s < length game → is_goal p.question s ≡ false
+  pub deads : (s : ℕ) → s < length game → is_dead p.question s ≡ false
+  pub opening_count : length p.opening ≡ length game
+  pub opening : (s : ℕ) → s < length game → slice_index p.opening s ≡ opening_at l f s
 
 -- 2. The question or the first fault.
 
@@ -49,27 +81,44 @@ pub record Poses (game : List (List Distribution)) (l : Labelling) (o : Ownershi
 abbrev pub at_states : {X : Type 0} → (ℕ → X) → ℕ → List X
 at_states value n = map value (range_with_len 0 n)
 
+-- the question of the game with the formula's sides, and these goals and dead states
+abbrev pub question_with : List (List Distribution) → Ownership → Tree → List Bool → List Bool → Query
+question_with game o f goals deads = record { game = game; sides = at_states (side_of f.coalition f.bound o) (length game); goals = goals; deads = deads }
+
 abbrev pub question_of : List (List Distribution) → Labelling → Ownership → Tree → Query
-question_of game l o f = record {
-  game = game;
-  sides = at_states (side_of f.coalition f.bound o) (length game);
-  goals = at_states (holds l f.right) (length game);
-  deads = at_states (is_lost l f) (length game);
-}
+question_of game l o f = question_with game o f (at_states (holds l f.right) (length game)) (at_states (is_lost l f) (length game))
 
-abbrev pub with_initial : Query → List ℕ → Result Posing PoseFault
-with_initial question [] = Err NoInit
-with_initial question (s ∷ states) = Ok (record { question = question; initial = s ∷ states })
+abbrev pub unmarked : ℕ → List Bool
+unmarked states = at_states (λ s. false) states
 
-abbrev pub posed_with : Option (List ℕ) → Option (List ℕ) → Result Posing PoseFault → Result Posing PoseFault
-posed_with (Some label) player posing = Err (UnknownLabel label)
-posed_with None (Some player) posing = Err (UnknownPlayer player)
-posed_with None None posing = posing
+abbrev pub next_question_of : List (List Distribution) → Ownership → Tree → Query
+next_question_of game o f = question_with game o f (unmarked (length game)) (unmarked (length game))
+
+abbrev pub some_state : List ℕ → Result (List ℕ) PoseFault
+some_state [] = Err NoInit
+some_state (s ∷ states) = Ok (s ∷ states)
+
+abbrev pub known_with : Option (List ℕ) → Option (List ℕ) → Result (List ℕ) PoseFault → Result (List ℕ) PoseFault
+known_with (Some label) player initial = Err (UnknownLabel label)
+known_with None (Some player) initial = Err (UnknownPlayer player)
+known_with None None initial = initial
+
+-- the initial states, or the first fault
+abbrev pub initial_said : Labelling → Ownership → Tree → Result (List ℕ) PoseFault
+initial_said l o f = known_with (unknown_label l (formula_labels f)) (unknown_player o (members_of f.coalition)) (some_state (states_with l init))
+
+-- what is made of initial states, or the fault
+abbrev pub made_of : {X : Type 0} → (List ℕ → X) → Result (List ℕ) PoseFault → Result X PoseFault
+made_of make (Ok initial) = Ok (make initial)
+made_of make (Err fault) = Err fault
 
 -- the question that is posed, or the first fault
 abbrev pub pose_said : List (List Distribution) → Labelling → Ownership → Tree → Result Posing PoseFault
-pose_said game l o f =
-    posed_with (unknown_label l (formula_labels f)) (unknown_player o (members_of f.coalition)) (with_initial (question_of game l o f) (states_with l init))
+pose_said game l o f = made_of (λ initial. record { question = question_of game l o f; initial = initial }) (initial_said l o f)
+
+-- the same with `X`
+abbrev pub pose_next_said : List (List Distribution) → Labelling → Ownership → Tree → Result NextPosing PoseFault
+pose_next_said game l o f = made_of (λ initial. record { question = next_question_of game o f; opening = at_states (opening_at l f) (length game); initial = initial }) (initial_said l o f)
 
 -- 3. What a call answers: what is said, or that memory ran out.
 abbrev pub Gives : {X Y : Type 0} → (X → Y) → Result X PoseFault → Result Y PoseFault → Type 0

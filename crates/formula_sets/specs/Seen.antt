@@ -1,6 +1,10 @@
 -- What contracts see of a posed question.
 use Rattle.formula_sets.specs.declared.question.Posed.{Posed}
-use Rattle.formula_sets.specs.Posing.{Posing}
+use Rattle.formula_sets.specs.declared.next.PosedNext.{PosedNext}
+use Rattle.formula_sets.specs.Posing.{Posing, NextPosing}
 
 abbrev pub posing_of : Posed → Posing
 posing_of p = record { question = p.question; initial = p.initial.items }
+
+abbrev pub next_posing_of : PosedNext → NextPosing
+next_posing_of p = record { question = p.question; opening = p.opening.items; initial = p.initial.items }

@@ -5,10 +5,12 @@ ghost use Rattle.game_model.specs.Game.{Distribution};
 ghost use Rattle.label_reader.specs.Labels.{Labelling};
 ghost use Rattle.label_reader.specs.Owners.{Ownership};
 ghost use Rattle.rpatl_syntax.specs.Formula.{Tree};
-ghost use Rattle.formula_sets.specs.Posing.{Posing, Poses, pose_said};
+ghost use Rattle.formula_sets.specs.Posing.{Posing, NextPosing, Poses, PosesNext, pose_said, pose_next_said};
 
 /// The question that is posed is the one that the formula poses.
 pub fn questions_are_those_that_a_formula_poses()
-    ensures { (game : List (List Distribution)) (l : Labelling) (o : Ownership) (f : Tree) (p : Posing) →
+    ensures until { (game : List (List Distribution)) (l : Labelling) (o : Ownership) (f : Tree) (p : Posing) →
         (pose_said game l o f ≡ Ok p) ↔ Poses game l o f p }
+    ensures next { (game : List (List Distribution)) (l : Labelling) (o : Ownership) (f : Tree) (p : NextPosing) →
+        (pose_next_said game l o f ≡ Ok p) ↔ PosesNext game l o f p }
 {}

@@ -5,7 +5,7 @@ ghost use Rattle.game_model.specs.Query.{states};
 ghost use Rattle.rpatl_syntax.specs.Formula.{state_of, tree_of};
 ghost use Rattle.formula_sets.specs.Truth.{holds};
 ghost use Rattle.formula_sets.specs.Sides.{side_of};
-ghost use Rattle.formula_sets.specs.Posing.{Posing, Poses, at_states, is_lost, question_of, pose_said, Gives};
+ghost use Rattle.formula_sets.specs.Posing.{Posing, Poses, IsUntil, at_states, is_lost, question_of, initial_said, pose_said, Gives};
 ghost use Rattle.formula_sets.specs.Seen.{posing_of};
 
 use crate::fault::PoseFault;
@@ -23,8 +23,8 @@ pub struct Posed<'g> {
     pub initial: Vec<u32>,
 }
 
-// The sides of so many states.
-fn sides_of(
+/// The sides of so many states.
+pub fn sides_of(
     alloc: Global,
     owners: &Owners,
     formula: &Formula,
@@ -103,16 +103,14 @@ fn question_in<'g>(
     Ok(Question::build(game, sides, goals, deads))
 }
 
-fn first_answer<'g>(
+/// The states with the label `init`, rising, or the first reason why a formula poses no question.
+pub fn initial_of(
     alloc: Global,
-    game: &'g Game,
     labels: &Labels,
     owners: &Owners,
     formula: &Formula,
-) -> Result<Posed<'g>, PoseFault>
-    requires labels { labels.now.states ≡ length game.now }
-    requires owners { length owners.now.owners ≡ length game.now }
-    ensures { Gives posing_of result (pose_said game.now labels.now owners.now (tree_of formula.now)) }
+) -> Result<Vec<u32>, PoseFault>
+    ensures { Gives (λ initial. initial.items) result (initial_said labels.now owners.now (tree_of formula.now)) }
 {
     if let Some(name) = unknown_label_of(labels, formula) {
         return Err(PoseFault::label(alloc, name));
@@ -126,13 +124,28 @@ fn first_answer<'g>(
     if initial.is_empty() {
         return Err(PoseFault::NoInit);
     }
+    Ok(initial)
+}
+
+fn first_answer<'g>(
+    alloc: Global,
+    game: &'g Game,
+    labels: &Labels,
+    owners: &Owners,
+    formula: &Formula,
+) -> Result<Posed<'g>, PoseFault>
+    requires labels { labels.now.states ≡ length game.now }
+    requires owners { length owners.now.owners ≡ length game.now }
+    ensures { Gives posing_of result (pose_said game.now labels.now owners.now (tree_of formula.now)) }
+{
+    let initial = initial_of(alloc, labels, owners, formula)?;
     let Ok(question) = question_in(alloc, game, labels, owners, formula) else {
         return Err(PoseFault::OutOfMemory);
     };
     Ok(Posed { question, initial })
 }
 
-/// The question that a formula poses of a game whose states have these labels and owners.
+/// The question that a formula with `U` or `F` poses of a game whose states have these labels and owners.
 pub fn pose<'g>(
     alloc: Global,
     game: &'g Game,
@@ -140,6 +153,7 @@ pub fn pose<'g>(
     owners: &Owners,
     formula: &Formula,
 ) -> Result<Posed<'g>, PoseFault>
+    requires kind { IsUntil formula.now.kind }
     requires labels { labels.now.states ≡ length game.now }
     requires owners { length owners.now.owners ≡ length game.now }
     // What is posed is what the formula asks, or its first fault.
@@ -150,63 +164,4 @@ pub fn pose<'g>(
 {
     labels.known();
     first_answer(alloc, game, labels, owners, formula)
-}
-
-#[cfg(test)]
-mod tests {
-    use super::*;
-    use game_model::{Choice, Edge};
-    use game_outside::OutOfMemory;
-    use label_reader::read_labels;
-    use rpatl_syntax::read_formula;
-    use std::test::Fail;
-
-    // One state that stays where it is.
-    fn one_state(alloc: Global) -> Result<Game, OutOfMemory>
-        ensures { IfOk result (λ game. length game ≡ 1) }
-    {
-        let mut edges = Vec::new(alloc);
-        edges.push(Edge { to: 0, weight: 1 })?;
-        let mut choices = Vec::new(alloc);
-        choices.push(Choice::of_edges(edges))?;
-        let mut states = Vec::new(alloc);
-        states.push(choices)?;
-        Game::from_choices(alloc, states)
-    }
-
-    fn labels_of_one_state(alloc: Global) -> Result<Labels, &'static str>
-        ensures { IfOk result (λ labels. labels.states ≡ 1) }
-    {
-        match read_labels(alloc, b"0=\"init\" 1=\"goal\"\n0: 0\n", 1) {
-            Ok(labels) => Ok(labels),
-            Err(_) => Err("no labels"),
-        }
-    }
-
-    fn owner_of_one_state(alloc: Global) -> Result<Owners, &'static str>
-        ensures { IfOk result (λ owners. length owners.owners ≡ 1) }
-    {
-        match Owners::single(alloc, 1) {
-            Ok(owners) => Ok(owners),
-            Err(_) => Err("no owners"),
-        }
-    }
-
-    #[test]
-    fn a_formula_poses_a_question(rt: HostRuntime) -> Result<(), Fail> {
-        let alloc = rt.alloc();
-        let game = one_state(alloc)?;
-        let labels = labels_of_one_state(alloc)?;
-        let owners = owner_of_one_state(alloc)?;
-        let formula = read_formula(alloc, "<<p0>> P<=0.5 [ F \"goal\" ]")
-            .ok()
-            .ok_or("no formula")?;
-        let posed = pose(alloc, &game, &labels, &owners, &formula)
-            .ok()
-            .ok_or("no question")?;
-        assert_eq!(rt; posed.initial.as_slice(), [0].as_slice());
-        assert!(rt; posed.question.side(0) == Side::Min);
-        assert!(rt; !posed.question.is_goal(0) && !posed.question.is_dead(0));
-        Ok(())
-    }
 }

@@ -10,6 +10,7 @@ pub mod NoBlanks
 pub mod Blanks
 pub mod Reaching
 pub mod BlankFormulas
+pub mod Mirrored
 pub mod Naming
 pub mod Needs
 pub mod Numerals
@@ -17,3 +18,10 @@ pub mod Passing
 pub mod Printing
 pub mod Reread
 pub mod Spans
+pub mod Orders
+pub mod Steps
+pub mod StatesAgain
+pub mod PathsAgain
+pub mod CoalitionsFound
+pub mod PathsFound
+pub mod PathsReread

@@ -1,18 +1,22 @@
--- A printed fraction is a number of its value.
-use Rattle.std.proofs.Common.{◌≡◌, ◌∙◌, ◌+◌, ◌-◌, ◌*◌, ◌/◌, ◌%◌, ◌^◌, ◌<◌, ◌≤◌, inl, ℕ, List, [], ◌∷◌, ◌++◌, length, Bool, true, false, cond, refl, ap, sym, arith, nat_lt}
+-- A printed fraction is a number of its value, and so is a printed number of steps.
+use Rattle.std.proofs.Common.{◌≡◌, ◌∙◌, ◌+◌, ◌-◌, ◌*◌, ◌/◌, ◌%◌, ◌^◌, ◌<◌, ◌≤◌, inl, ℕ, List, [], ◌∷◌, ◌++◌, length, Bool, true, false, cond, Some, None, refl, ap, sym, arith, nat_lt}
 use Rattle.std.specs.Prelude.{◌==◌, ◌||◌, codes, decimal}
 use Rattle.std.proofs.lemmas.Fmt.{decimal_by_steps_wide, length-decimal-le_wide}
 use Rattle.std.proofs.lemmas.List.{append-nil}
 use Rattle.std.proofs.lemmas.Bool.Decides.{nat_tests}
-use Rattle.text_lines.specs.Text.{all_digits, value_onto, is_digit}
+use Rattle.text_lines.specs.Text.{all_digits, value_onto, is_digit, number_of}
 use Rattle.distributions.specs.Limits.{finest, most_digits}
 use Rattle.distributions.specs.Fraction.{Fraction}
 use Rattle.distributions.specs.Number.{Decimal, Quotient, no_exponent, AreDigits, Denotes}
 use Rattle.distributions.proofs.Spelled.{value_append}
+use Rattle.rpatl_syntax.specs.Limits.{most_steps}
+use Rattle.rpatl_syntax.specs.Rules.{IsSteps}
 use Rattle.rpatl_syntax.specs.Spelling.{fraction_spelling}
 use Rattle.rpatl_syntax.specs.Spellable.{IsShare}
 use Rattle.rpatl_syntax.proofs.Fronts.{both_true, parts_true}
 use Rattle.rpatl_syntax.proofs.Laying.{in_fraction, all_in_fraction}
+
+-- 1. Fractions.
 
 -- the digits of a number
 pub record Numeral (n : ℕ) (digits : List ℕ) : Type 0 where
@@ -144,3 +148,26 @@ fraction_text p is = by_test (p.den == 1) refl
     by_test : (t : Bool) → (p.den == 1) ≡ t → FractionText p (cond t (decimal p.num) (decimal p.num ++ (codes "/" ++ decimal p.den)))
     by_test true e = whole_text p is (den_one p.den e)
     by_test false e = quotient_text p is
+
+-- 2. Steps.
+
+-- the text of a number of steps
+pub record StepsText (k : ℕ) (text : List ℕ) : Type 0 where
+  pub first : ℕ
+  pub others : List ℕ
+  pub whole : text ≡ first ∷ others
+  pub digit : is_digit first ≡ true
+  pub rest : all_in_fraction others ≡ true
+  pub steps : IsSteps text k
+
+number_is : (n : ℕ) (digits : List ℕ) (m : Numeral n digits) → number_of digits ≡ Some n
+number_is n digits m =
+    ap number_of m.whole
+    ∙ ap (λ t. cond t (Some (value_onto 0 (m.first ∷ m.others))) None) (ap all_digits (sym m.whole) ∙ m.all)
+    ∙ ap (λ (v : ℕ). Some v) (ap (value_onto 0) (sym m.whole) ∙ m.value)
+
+pub steps_text : (k : ℕ) → k ≤ most_steps → StepsText k (decimal k)
+steps_text k h =
+    let n = numeral k (omega (arith, h)) in
+    let head = first_digit k (decimal k) n in
+    record { first = n.first; others = n.others; whole = n.whole; digit = head.0; rest = digits_in_fraction n.others head.1; steps = record { value = number_is k (decimal k) n; small = h } }

@@ -7,22 +7,22 @@ use Rattle.std.proofs.lemmas.List.{append-nil}
 use Rattle.distributions.specs.Fraction.{Fraction}
 use Rattle.rpatl_syntax.specs.declared.formula.Bound.{Bound}
 use Rattle.rpatl_syntax.specs.declared.formula.Bound.TheVariants.{AtLeast, Above, AtMost, Below, AskMax, AskMin}
-use Rattle.rpatl_syntax.specs.Formula.{State, True, False, Label, Not, And, Or, Implies, Tree}
+use Rattle.rpatl_syntax.specs.Formula.{Tree}
 use Rattle.rpatl_syntax.specs.Grammar.{formula, formula_said, is_number}
 use Rattle.rpatl_syntax.specs.Laws.{AreTokens}
 use Rattle.rpatl_syntax.specs.TokenRules.{IsSpelling}
-use Rattle.rpatl_syntax.specs.Limits.{longest, most_nested}
-use Rattle.rpatl_syntax.specs.Rules.{between, IsState, with_commas, IsWord, IsCoalition, IsComparison, IsBound, IsPath, reach, until as until_path, IsFormula, Denotes}
-use Rattle.rpatl_syntax.specs.Spellable.{IsWholeWord, HasWords, IsShare, HasShare, need, IsSide, IsSpellable}
+use Rattle.rpatl_syntax.specs.Limits.{longest}
+use Rattle.rpatl_syntax.specs.Rules.{with_commas, IsWord, IsCoalition, IsComparison, IsBound, IsFormula, Denotes}
+use Rattle.rpatl_syntax.specs.Spellable.{IsWholeWord, HasWords, IsShare, HasShare, IsSpellable}
 use Rattle.rpatl_syntax.specs.Spelling.{state_spelling, path_spelling, names_spelling, coalition_spelling, fraction_spelling, bound_spelling, spelling}
 use Rattle.text_lines.specs.Text.{is_digit}
 use Rattle.rpatl_syntax.specs.Tokens.{tokens_from, tokens_of}
 use Rattle.rpatl_syntax.proofs.Denoted.{ends_with}
 use Rattle.rpatl_syntax.proofs.Again.{formula_again, formula_said_again}
 use Rattle.rpatl_syntax.proofs.Cutting.{tokens_cut, cut_spelled}
-use Rattle.rpatl_syntax.proofs.Needs.{Suits, state_suits, all_left, all_right, need-below, word_kept}
-use Rattle.rpatl_syntax.proofs.Printing.{state_tokens, printed_state}
-use Rattle.rpatl_syntax.proofs.Laying.{Lays, spaced, lays_append, lays_token, lays_blank, lays_spaced, lays_both, lays_state, lays_names, lays_number, lays_above, lays_below}
+use Rattle.rpatl_syntax.proofs.Needs.{all_left, all_right, word_kept}
+use Rattle.rpatl_syntax.proofs.PathsReread.{CanBeSpelled, path_kept, path_tokens, lays_path, path_derived}
+use Rattle.rpatl_syntax.proofs.Laying.{Lays, spaced, lays_append, lays_token, lays_blank, lays_spaced, lays_names, lays_number, lays_above, lays_below}
 use Rattle.rpatl_syntax.proofs.Numerals.{fraction_text}
 
 -- 1. What is read can be spelled.
@@ -50,13 +50,6 @@ bound_kept us (Below p) d = share_of (codes "<") us p d
 bound_kept us AskMax d = tt
 bound_kept us AskMin d = tt
 
-side : (x : State) → Suits 0 most_nested x → IsSide x
-side x s = record { names = s.names; nests = omega (arith, need-below 0 x (need x), s.nests) }
-
-path_kept : (us : List (List ℕ)) (x y : State) → IsPath us x y → AllByRecursion IsSpelling us → IsSide x × IsSide y
-path_kept _ _ _ (reach us y d) a = (record { nests = omega arith; names = tt }, side y (state_suits most_nested us y d a.1))
-path_kept _ _ _ (until_path us vs x y d e) a = (side x (state_suits most_nested us x d (all_left us (codes "U" ∷ vs) a)), side y (state_suits most_nested vs y e (let b = all_right us (codes "U" ∷ vs) a in b.1)))
-
 pub spellable : (text : List ℕ) (f : Tree) → Denotes text f → IsSpellable f
 spellable text f d =
     let g = d.formula in
@@ -64,12 +57,13 @@ spellable text f d =
     let all : AllByRecursion IsSpelling (g.team ++ (g.asks ++ codes "[" ∷ (g.sides ++ codes "]" ∷ []))) = subst P g.whole (cut_spelled text d.tokens d.cut) in
     let behind_team = all_right g.team (g.asks ++ codes "[" ∷ (g.sides ++ codes "]" ∷ [])) all in
     let behind_bound = all_right g.asks (codes "[" ∷ (g.sides ++ codes "]" ∷ [])) behind_team in
-    let sides = path_kept g.sides f.left f.right g.path (all_left g.sides (codes "]" ∷ []) behind_bound.1) in
+    let sides = path_kept g.sides f.kind f.left f.right g.path (all_left g.sides (codes "]" ∷ []) behind_bound.1) in
     record {
       words = coalition_kept g.team f.coalition g.coalition (all_left g.team (g.asks ++ codes "[" ∷ (g.sides ++ codes "]" ∷ [])) all);
       share = bound_kept g.asks f.bound g.bound;
-      left = sides.0;
-      right = sides.1;
+      kind = sides.form;
+      left = sides.left;
+      right = sides.right;
     }
 
 -- 2. The tokens of its spelling.
@@ -86,12 +80,8 @@ bound_tokens (Below p) = codes "P" ∷ codes "<" ∷ fraction_spelling p ∷ []
 bound_tokens AskMax = codes "Pmax" ∷ codes "=?" ∷ []
 bound_tokens AskMin = codes "Pmin" ∷ codes "=?" ∷ []
 
-abbrev pub path_tokens : State → State → List (List ℕ)
-path_tokens True right = codes "F" ∷ state_tokens right
-path_tokens left right = between (state_tokens left) (codes "U") (state_tokens right)
-
 abbrev pub formula_tokens : Tree → List (List ℕ)
-formula_tokens f = team_tokens f.coalition ++ (bound_tokens f.bound ++ codes "[" ∷ (path_tokens f.left f.right ++ codes "]" ∷ []))
+formula_tokens f = team_tokens f.coalition ++ (bound_tokens f.bound ++ codes "[" ∷ (path_tokens f.kind f.left f.right ++ codes "]" ∷ []))
 
 lays_nothing : (rest : List ℕ) → Lays [] [] rest
 lays_nothing rest = λ place. let e : place ≡ place + length {A = ℕ} [] = omega arith in ap (λ p. tokens_from p 0 rest) e
@@ -128,33 +118,19 @@ lays_bound AskMax is rest =
 lays_bound AskMin is rest =
     lays_append (codes "Pmin") (codes "=?") (codes "Pmin" ∷ []) (codes "=?" ∷ []) (32 ∷ rest) (lays_token 80 (109 ∷ 105 ∷ 110 ∷ []) (61 ∷ 63 ∷ 32 ∷ rest) refl) (lays_token 61 (63 ∷ []) (32 ∷ rest) refl)
 
-lays_until : (x y : State) (rest : List ℕ) → IsSide x → IsSide y
-    → Lays (state_spelling x ++ (codes " U " ++ state_spelling y)) (between (state_tokens x) (codes "U") (state_tokens y)) (32 ∷ rest)
-lays_until x y rest a b =
-    lays_both (state_spelling x) (state_spelling y) (codes "U") (state_tokens x) (state_tokens y) (32 ∷ rest)
-    (lays_state x a.names ((spaced (codes "U") ++ state_spelling y) ++ 32 ∷ rest) refl) (λ more. lays_token 85 [] (32 ∷ more) refl) (lays_state y b.names (32 ∷ rest) refl)
-
-lays_path : (x y : State) (rest : List ℕ) → IsSide x → IsSide y → Lays (path_spelling x (state_spelling y)) (path_tokens x y) (32 ∷ rest)
-lays_path True y rest a b =
-    lays_append (codes "F") (32 ∷ state_spelling y) (codes "F" ∷ []) (state_tokens y) (32 ∷ rest) (lays_token 70 [] ((32 ∷ state_spelling y) ++ 32 ∷ rest) refl)
-    (lays_append (32 ∷ []) (state_spelling y) [] (state_tokens y) (32 ∷ rest) (lays_blank (state_spelling y ++ 32 ∷ rest)) (lays_state y b.names (32 ∷ rest) refl))
-lays_path False y rest a b = lays_until False y rest a b
-lays_path (Label name) y rest a b = lays_until (Label name) y rest a b
-lays_path (Not x) y rest a b = lays_until (Not x) y rest a b
-lays_path (And x z) y rest a b = lays_until (And x z) y rest a b
-lays_path (Or x z) y rest a b = lays_until (Or x z) y rest a b
-lays_path (Implies x z) y rest a b = lays_until (Implies x z) y rest a b
+spellable_path : (f : Tree) → IsSpellable f → CanBeSpelled f.kind f.left f.right
+spellable_path f is = record { form = is.kind; left = is.left; right = is.right }
 
 lays_formula : (f : Tree) → IsSpellable f → Lays (spelling f) (formula_tokens f) []
 lays_formula f is =
     let closing : Lays (codes " ]") (codes "]" ∷ []) [] = lays_append (32 ∷ []) (codes "]") [] (codes "]" ∷ []) [] (lays_blank (codes "]")) (lays_token 93 [] [] refl) in
-    let sides = path_spelling f.left (state_spelling f.right) in
-    let inner = lays_append sides (codes " ]") (path_tokens f.left f.right) (codes "]" ∷ []) [] (lays_path f.left f.right (codes "]") is.left is.right) closing in
-    let opened = lays_append (spaced (codes "[")) (sides ++ codes " ]") (codes "[" ∷ []) (path_tokens f.left f.right ++ codes "]" ∷ []) []
+    let sides = path_spelling f.kind f.left (state_spelling f.right) in
+    let inner = lays_append sides (codes " ]") (path_tokens f.kind f.left f.right) (codes "]" ∷ []) [] (lays_path f.kind f.left f.right (codes "]") (spellable_path f is)) closing in
+    let opened = lays_append (spaced (codes "[")) (sides ++ codes " ]") (codes "[" ∷ []) (path_tokens f.kind f.left f.right ++ codes "]" ∷ []) []
     (lays_spaced (codes "[") ((sides ++ codes " ]") ++ []) (lays_token 91 [] (32 ∷ ((sides ++ codes " ]") ++ [])) refl)) inner in
-    let asked = lays_append (bound_spelling f.bound) (codes " [ " ++ (sides ++ codes " ]")) (bound_tokens f.bound) (codes "[" ∷ (path_tokens f.left f.right ++ codes "]" ∷ [])) []
+    let asked = lays_append (bound_spelling f.bound) (codes " [ " ++ (sides ++ codes " ]")) (bound_tokens f.bound) (codes "[" ∷ (path_tokens f.kind f.left f.right ++ codes "]" ∷ [])) []
     (lays_bound f.bound is.share (91 ∷ 32 ∷ ((sides ++ codes " ]") ++ []))) opened in
-    lays_append (coalition_spelling f.coalition) (bound_spelling f.bound ++ (codes " [ " ++ (sides ++ codes " ]"))) (team_tokens f.coalition) (bound_tokens f.bound ++ codes "[" ∷ (path_tokens f.left f.right ++ codes "]" ∷ [])) []
+    lays_append (coalition_spelling f.coalition) (bound_spelling f.bound ++ (codes " [ " ++ (sides ++ codes " ]"))) (team_tokens f.coalition) (bound_tokens f.bound ++ codes "[" ∷ (path_tokens f.kind f.left f.right ++ codes "]" ∷ [])) []
     (lays_team f.coalition is.words ((bound_spelling f.bound ++ (codes " [ " ++ (sides ++ codes " ]"))) ++ [])) asked
 
 -- 3. Those tokens are derived.
@@ -180,18 +156,6 @@ bound_derived (Below p) is = share_derived (codes "<") p is
 bound_derived AskMax is = refl
 bound_derived AskMin is = refl
 
-state_derived : (x : State) → IsSide x → IsState most_nested (state_tokens x) x
-state_derived x a = printed_state most_nested x a.nests
-
-path_derived : (x y : State) → IsSide x → IsSide y → IsPath (path_tokens x y) x y
-path_derived True y a b = reach (state_tokens y) y (state_derived y b)
-path_derived False y a b = until_path (state_tokens False) (state_tokens y) False y (state_derived False a) (state_derived y b)
-path_derived (Label name) y a b = until_path (state_tokens (Label name)) (state_tokens y) (Label name) y (state_derived (Label name) a) (state_derived y b)
-path_derived (Not x) y a b = until_path (state_tokens (Not x)) (state_tokens y) (Not x) y (state_derived (Not x) a) (state_derived y b)
-path_derived (And x z) y a b = until_path (state_tokens (And x z)) (state_tokens y) (And x z) y (state_derived (And x z) a) (state_derived y b)
-path_derived (Or x z) y a b = until_path (state_tokens (Or x z)) (state_tokens y) (Or x z) y (state_derived (Or x z) a) (state_derived y b)
-path_derived (Implies x z) y a b = until_path (state_tokens (Implies x z)) (state_tokens y) (Implies x z) y (state_derived (Implies x z) a) (state_derived y b)
-
 tokens_spelled : (f : Tree) → IsSpellable f → AreTokens (tokens_of (spelling f)) (formula_tokens f)
 tokens_spelled f is =
     let P : List ℕ → Type 0 = λ text. AreTokens (tokens_of text) (formula_tokens f) in
@@ -201,11 +165,11 @@ tokens_derived : (f : Tree) → IsSpellable f → IsFormula (formula_tokens f) f
 tokens_derived f is = record {
   team = team_tokens f.coalition;
   asks = bound_tokens f.bound;
-  sides = path_tokens f.left f.right;
+  sides = path_tokens f.kind f.left f.right;
   whole = refl;
   coalition = team_derived f.coalition is.words;
   bound = bound_derived f.bound is.share;
-  path = path_derived f.left f.right is.left is.right;
+  path = path_derived f.kind f.left f.right (spellable_path f is);
 }
 
 -- 4. What is read from a spelling.

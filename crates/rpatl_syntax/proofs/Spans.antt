@@ -83,3 +83,7 @@ follows_ok sign (Then place spelling rest) after e =
       | inl t ↦ let same : rest ≡ after = cc t.1 in (place, ap (λ s. Then place s rest) (same_bytes spelling sign t.0) ∙ ap (λ r. Then place sign r) same)
       | inr f ↦ cc f.1
     ]
+
+-- another token stands next than this sign
+pub no_sign : (sign first : List ℕ) (others : List (List ℕ)) (ts rest : Tokens) → bytes_eq first sign ≡ false → Spans ts (first ∷ others) rest → follows sign ts ≡ None
+no_sign sign first others ts rest e s = ap (follows sign) s.2 ∙ ap (λ b. cond b (Some s.1) None) e

@@ -10,7 +10,8 @@ use Rattle.rpatl_syntax.specs.declared.fault.FormulaFault.{FormulaFault}
 use Rattle.rpatl_syntax.specs.declared.formula.StateFormula.{StateFormula}
 use Rattle.rpatl_syntax.specs.declared.formula.Names.{Names}
 use Rattle.rpatl_syntax.specs.declared.formula.Bound.{Bound}
-use Rattle.rpatl_syntax.specs.Formula.{State, state_of, names_of}
+use Rattle.rpatl_syntax.specs.declared.formula.PathKind.{PathKind}
+use Rattle.rpatl_syntax.specs.Formula.{State, Path, state_of, names_of}
 use Rattle.rpatl_syntax.specs.Tokens.{count_of, Tokens, Finish, Broken, Then, Token, tokens_from}
 
 abbrev pub tokens_at : Cursor → Tokens
@@ -36,8 +37,11 @@ team_at read = (option_map names_of read.0, tokens_at read.1)
 abbrev pub bound_at : Bound × Cursor → Bound × Tokens
 bound_at read = (read.0, tokens_at read.1)
 
-abbrev pub sides_at : StateFormula × StateFormula × Cursor → (State × State) × Tokens
-sides_at read = ((state_of read.0, state_of read.1), tokens_at read.2)
+abbrev pub kind_at : PathKind × Cursor → PathKind × Tokens
+kind_at read = (read.0, tokens_at read.1)
+
+abbrev pub path_at : PathKind × StateFormula × StateFormula × Cursor → Path × Tokens
+path_at read = (record { kind = read.0; left = state_of read.1; right = state_of read.2 }, tokens_at read.3)
 
 -- what is left has fewer tokens than this
 abbrev pub Shortens : {X : Type 0} → Result (X × Cursor) FormulaFault → ℕ → Type 0

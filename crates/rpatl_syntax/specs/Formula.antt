@@ -4,6 +4,7 @@ use Rattle.rpatl_syntax.specs.declared.formula.StateFormula.{StateFormula}
 use Rattle.rpatl_syntax.specs.declared.formula.StateFormula.TheVariants.{All, Nothing, Named, Negated', Both', Either', Implied'}
 use Rattle.rpatl_syntax.specs.declared.formula.Bound.{Bound}
 use Rattle.rpatl_syntax.specs.declared.formula.Names.{Names}
+use Rattle.rpatl_syntax.specs.declared.formula.PathKind.{PathKind}
 use Rattle.rpatl_syntax.specs.declared.formula.Formula.{Formula}
 
 -- A state formula.
@@ -16,10 +17,17 @@ pub data State : Type 0 where
   Or : (x y : State) → State
   Implies : (x y : State) → State
 
--- A formula: `left U right`, with a bound on its probability, for the players of a coalition where there is one.
+-- What is asked of a path, and its two sides.
+pub record Path : Type 0 where
+  pub kind : PathKind
+  pub left : State
+  pub right : State
+
+-- A formula: a bound on the probability of the paths of a kind, `left U right` or its kin, for the players of a coalition where there is one.
 pub record Tree : Type 0 where
   pub coalition : Option (List (List ℕ))
   pub bound : Bound
+  pub kind : PathKind
   pub left : State
   pub right : State
 
@@ -38,4 +46,4 @@ names_of names = names.list.items
 
 -- The tree of a formula in memory.
 abbrev pub tree_of : Formula → Tree
-tree_of f = record { coalition = option_map names_of f.coalition; bound = f.bound; left = state_of f.left; right = state_of f.right }
+tree_of f = record { coalition = option_map names_of f.coalition; bound = f.bound; kind = f.kind; left = state_of f.left; right = state_of f.right }

@@ -6,13 +6,15 @@ use Rattle.distributions.specs.declared.number.NumberFault.TheVariants.{TooLarge
 use Rattle.distributions.specs.Number.{number_said}
 use Rattle.rpatl_syntax.specs.declared.fault.FormulaFault.{FormulaFault}
 use Rattle.rpatl_syntax.specs.declared.fault.FormulaCause.{FormulaCause}
-use Rattle.rpatl_syntax.specs.declared.fault.FormulaCause.TheVariants.{End, Unexpected, TooDeep, BadNumber, ThresholdOutOfRange, TooLong, NotYet}
+use Rattle.rpatl_syntax.specs.declared.fault.FormulaCause.TheVariants.{End, Unexpected, TooDeep, BadNumber, ThresholdOutOfRange, TooLong, NotYet, BadSteps}
 use Rattle.rpatl_syntax.specs.declared.formula.Bound.{Bound}
 use Rattle.rpatl_syntax.specs.declared.formula.Bound.TheVariants.{AtLeast, Above, AtMost, Below, AskMax, AskMin}
+use Rattle.rpatl_syntax.specs.declared.formula.PathKind.{PathKind}
+use Rattle.rpatl_syntax.specs.declared.formula.PathKind.TheVariants.{Until, Within, Next, Always}
 use Rattle.rpatl_syntax.specs.Fault.{fault_at, ◌>>=◌}
-use Rattle.rpatl_syntax.specs.Formula.{State, True, False, Label, Not, And, Or, Implies, Tree}
-use Rattle.rpatl_syntax.specs.Limits.{longest, most_nested}
-use Rattle.text_lines.specs.Text.{is_digit}
+use Rattle.rpatl_syntax.specs.Formula.{State, True, False, Label, Not, And, Or, Implies, Path, Tree}
+use Rattle.rpatl_syntax.specs.Limits.{longest, most_nested, most_steps}
+use Rattle.text_lines.specs.Text.{is_digit, number_of}
 use Rattle.rpatl_syntax.specs.Tokens.{Tokens, Finish, Broken, Then, Token, tokens_of, count_of, begins_word}
 
 -- what is read from the left: a value, and the tokens behind it, or the first fault
@@ -186,20 +188,38 @@ bound ts = next ts >>= λ token.
     else if is token (codes "Pmin") then asked AskMin token.after
     else fails token Unexpected
 
--- path = "F" state | state "U" state
+-- path = "F" [ "<=" number ] state | state "U" [ "<=" number ] state | "X" state | "G" state
 
--- a state formula behind `F` or `U`
-abbrev pub reached : Reading State
-reached ts = next ts >>= λ token. if is token (codes "<=") then fails token NotYet else state ts
+-- a whole number, which is not too great
+abbrev pub steps_of : Token → Option ℕ → Result ℕ FormulaFault
+steps_of token None = fails token BadSteps
+steps_of token (Some k) = if nat_lt most_steps k then fails token BadSteps else Ok k
 
-abbrev pub until : State → Reading (State × State)
-until left ts = reached ts >>= λ right. Ok ((left, right.0), right.1)
+abbrev pub steps : Token → Result ℕ FormulaFault
+steps token = if is_number token.spelling then steps_of token (number_of token.spelling) else fails token Unexpected
 
-abbrev pub path : Reading (State × State)
+-- what stands behind `<=`
+abbrev pub within : Reading PathKind
+within ts = next ts >>= λ token. steps token >>= λ k. Ok (Within k, token.after)
+
+-- [ "<=" number ]
+abbrev pub deadline : Reading PathKind
+deadline ts = where_next (follows (codes "<=") ts) (Ok (Until, ts)) within
+
+-- the right side
+abbrev pub right_side : PathKind → State → Reading Path
+right_side kind left ts = state ts >>= λ right. Ok (record { kind = kind; left = left; right = right.0 }, right.1)
+
+-- what stands behind `F` or `U`
+abbrev pub reached : State → Reading Path
+reached left ts = deadline ts >>= λ kind. right_side kind.0 left kind.1
+
+abbrev pub path : Reading Path
 path ts = next ts >>= λ token.
-    if is token (codes "F") then until True token.after
-    else if is token (codes "X") || is token (codes "G") then fails token NotYet
-    else state ts >>= λ left. behind (codes "U") left.1 >>= λ after. until left.0 after
+    if is token (codes "F") then reached True token.after
+    else if is token (codes "X") then right_side Next True token.after
+    else if is token (codes "G") then right_side Always True token.after
+    else state ts >>= λ left. behind (codes "U") left.1 >>= λ after. reached left.0 after
 
 -- formula = [ coalition ] bound "[" path "]", and nothing behind it
 
@@ -208,12 +228,16 @@ finished tree (Finish place) = Ok tree
 finished tree (Broken fault) = Err fault
 finished tree (Then place spelling rest) = Err (fault_at place Unexpected)
 
+-- a formula of its parts
+abbrev pub tree_with : Option (List (List ℕ)) → Bound → Path → Tree
+tree_with team asks p = record { coalition = team; bound = asks; kind = p.kind; left = p.left; right = p.right }
+
 abbrev pub behind_bound : Option (List (List ℕ)) → Bound → Tokens → Result Tree FormulaFault
 behind_bound team asks ts = do
   opened ← behind (codes "[") ts
   sides ← path opened
   closing ← behind (codes "]") sides.1
-  finished (record { coalition = team; bound = asks; left = sides.0.0; right = sides.0.1 }) closing
+  finished (tree_with team asks sides.0) closing
 
 abbrev pub formula : Tokens → Result Tree FormulaFault
 formula ts = do

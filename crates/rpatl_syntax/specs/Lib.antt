@@ -1,5 +1,6 @@
 pub mod Bounds
 pub mod Cursor
+pub mod Dual
 pub mod Fault
 pub mod Formula
 pub mod Grammar

@@ -9,6 +9,10 @@ longest = 4096
 abbrev pub most_nested : ℕ
 most_nested = 64
 
+-- the most steps of `F<=` and `U<=`: each is a sweep over all states of a model
+abbrev pub most_steps : ℕ
+most_steps = 1000000
+
 -- the most bytes of a quoted name, as in label files
 abbrev pub longest_name : ℕ
 longest_name = 255

@@ -5,9 +5,12 @@ use Rattle.distributions.specs.Fraction.{Fraction}
 use Rattle.distributions.specs.Number.{Denotes as DenotesNumber}
 use Rattle.rpatl_syntax.specs.declared.formula.Bound.{Bound}
 use Rattle.rpatl_syntax.specs.declared.formula.Bound.TheVariants.{AtLeast, Above, AtMost, Below, AskMax, AskMin}
+use Rattle.rpatl_syntax.specs.declared.formula.PathKind.{PathKind}
+use Rattle.rpatl_syntax.specs.declared.formula.PathKind.TheVariants.{Until, Within, Next, Always}
 use Rattle.rpatl_syntax.specs.Formula.{State, True, False, Label, Not, And, Or, Implies, Tree}
-use Rattle.rpatl_syntax.specs.Limits.{longest, most_nested}
+use Rattle.rpatl_syntax.specs.Limits.{longest, most_nested, most_steps}
 use Rattle.rpatl_syntax.specs.TokenRules.{AreCut}
+use Rattle.text_lines.specs.Text.{number_of}
 use Rattle.rpatl_syntax.specs.Grammar.{is_word, is_number, is_quoted, unquoted}
 
 -- a token between two others
@@ -72,10 +75,20 @@ IsBound ts (Below p) = IsComparison (codes "<") ts p
 IsBound ts AskMax = ts ≡ codes "Pmax" ∷ codes "=?" ∷ []
 IsBound ts AskMin = ts ≡ codes "Pmin" ∷ codes "=?" ∷ []
 
--- path = "F" state | state "U" state
-pub data IsPath : List (List ℕ) → State → State → Type 0 where
-  reach : (ts : List (List ℕ)) (y : State) → IsState most_nested ts y → IsPath (codes "F" ∷ ts) True y
-  until : (ts us : List (List ℕ)) (x y : State) → IsState most_nested ts x → IsState most_nested us y → IsPath (between ts (codes "U") us) x y
+-- a whole number of this value, which is not too great
+pub record IsSteps (token : List ℕ) (k : ℕ) : Type 0 where
+  pub value : number_of token ≡ Some k
+  pub small : k ≤ most_steps
+
+-- path = "F" [ "<=" number ] state | state "U" [ "<=" number ] state | "X" state | "G" state
+pub data IsPath : List (List ℕ) → PathKind → State → State → Type 0 where
+  reach : (ts : List (List ℕ)) (y : State) → IsState most_nested ts y → IsPath (codes "F" ∷ ts) Until True y
+  reach_within : (token : List ℕ) (ts : List (List ℕ)) (k : ℕ) (y : State) → IsSteps token k → IsState most_nested ts y → IsPath (codes "F" ∷ codes "<=" ∷ token ∷ ts) (Within k) True y
+  until : (ts us : List (List ℕ)) (x y : State) → IsState most_nested ts x → IsState most_nested us y → IsPath (between ts (codes "U") us) Until x y
+  until_within : (ts : List (List ℕ)) (token : List ℕ) (us : List (List ℕ)) (k : ℕ) (x y : State) → IsState most_nested ts x → IsSteps token k → IsState most_nested us y
+      → IsPath (between ts (codes "U") (codes "<=" ∷ token ∷ us)) (Within k) x y
+  next : (ts : List (List ℕ)) (y : State) → IsState most_nested ts y → IsPath (codes "X" ∷ ts) Next True y
+  always : (ts : List (List ℕ)) (y : State) → IsState most_nested ts y → IsPath (codes "G" ∷ ts) Always True y
 
 -- formula = [ coalition ] bound "[" path "]"
 pub record IsFormula (ts : List (List ℕ)) (f : Tree) : Type 0 where
@@ -85,7 +98,7 @@ pub record IsFormula (ts : List (List ℕ)) (f : Tree) : Type 0 where
   pub whole : ts ≡ team ++ (asks ++ codes "[" ∷ (sides ++ codes "]" ∷ []))
   pub coalition : IsCoalition team f.coalition
   pub bound : IsBound asks f.bound
-  pub path : IsPath sides f.left f.right
+  pub path : IsPath sides f.kind f.left f.right
 
 -- The text spells this formula.
 pub record Denotes (text : List ℕ) (f : Tree) : Type 0 where

@@ -4,10 +4,12 @@ use Rattle.std.specs.List.{list_all, AllByRecursion}
 use Rattle.distributions.specs.Fraction.{Fraction, IsFraction}
 use Rattle.rpatl_syntax.specs.declared.formula.Bound.{Bound}
 use Rattle.rpatl_syntax.specs.declared.formula.Bound.TheVariants.{AtLeast, Above, AtMost, Below, AskMax, AskMin}
+use Rattle.rpatl_syntax.specs.declared.formula.PathKind.{PathKind}
+use Rattle.rpatl_syntax.specs.declared.formula.PathKind.TheVariants.{Until, Within, Next, Always}
 use Rattle.rpatl_syntax.specs.Formula.{State, True, False, Label, Not, And, Or, Implies, Tree}
 use Rattle.rpatl_syntax.specs.Grammar.{is_word}
 use Rattle.rpatl_syntax.specs.TokenRules.{IsName}
-use Rattle.rpatl_syntax.specs.Limits.{most_nested}
+use Rattle.rpatl_syntax.specs.Limits.{most_nested, most_steps}
 use Rattle.rpatl_syntax.specs.Spelling.{strength_of}
 use Rattle.rpatl_syntax.specs.Tokens.{in_word}
 
@@ -58,14 +60,22 @@ need (And x y) = max (need_in 2 x (need x)) (need_in 3 y (need y))
 need (Or x y) = max (need_in 1 x (need x)) (need_in 2 y (need y))
 need (Implies x y) = max (need_in 0 x (need x)) (need_in 1 y (need y))
 
--- a side of `left U right`: its labels can be quoted, and its spelling does not nest too deep
+-- a side of a path: its labels can be quoted, and its spelling does not nest too deep
 pub record IsSide (x : State) : Type 0 where
   pub names : HasNames x
   pub nests : need x ≤ most_nested
+
+-- the kind of a path with such a left side: the steps are not too many, and `X` and `G` have no left side
+abbrev pub HasKind : PathKind → State → Type 0
+HasKind Until left = Unit {0}
+HasKind (Within k) left = k ≤ most_steps
+HasKind Next left = left ≡ True
+HasKind Always left = left ≡ True
 
 -- The grammar can spell each part of the formula.
 pub record IsSpellable (f : Tree) : Type 0 where
   pub words : HasWords f.coalition
   pub share : HasShare f.bound
+  pub kind : HasKind f.kind f.left
   pub left : IsSide f.left
   pub right : IsSide f.right

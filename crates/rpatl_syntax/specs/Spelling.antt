@@ -3,6 +3,8 @@ use Rattle.std.specs.Prelude.{ℕ, ◌==◌, nat_lt, List, [], ◌∷◌, ◌++�
 use Rattle.distributions.specs.Fraction.{Fraction}
 use Rattle.rpatl_syntax.specs.declared.formula.Bound.{Bound}
 use Rattle.rpatl_syntax.specs.declared.formula.Bound.TheVariants.{AtLeast, Above, AtMost, Below, AskMax, AskMin}
+use Rattle.rpatl_syntax.specs.declared.formula.PathKind.{PathKind}
+use Rattle.rpatl_syntax.specs.declared.formula.PathKind.TheVariants.{Until, Within, Next, Always}
 use Rattle.rpatl_syntax.specs.Formula.{State, True, False, Label, Not, And, Or, Implies, Tree}
 
 -- how tightly the outermost sign binds: `=>`, `|`, `&`, and then `!` and what has no sign
@@ -29,10 +31,20 @@ state_spelling (And x y) = in_place 2 x (state_spelling x) ++ (codes " & " ++ in
 state_spelling (Or x y) = in_place 1 x (state_spelling x) ++ (codes " | " ++ in_place 2 y (state_spelling y))
 state_spelling (Implies x y) = in_place 0 x (state_spelling x) ++ (codes " => " ++ in_place 1 y (state_spelling y))
 
--- `F y` where the left side is `true`, else `x U y`
-abbrev pub path_spelling : State → List ℕ → List ℕ
-path_spelling True right = codes "F " ++ right
-path_spelling left right = state_spelling left ++ (codes " U " ++ right)
+-- `F` where the left side is `true`, else `x U`
+abbrev pub until_spelling : State → List ℕ
+until_spelling True = codes "F"
+until_spelling left = state_spelling left ++ codes " U"
+
+-- what stands before the right side: `F`, `x U`, `F<=k`, `x U<=k`, `X` or `G`
+abbrev pub kind_spelling : PathKind → State → List ℕ
+kind_spelling Until left = until_spelling left
+kind_spelling (Within k) left = until_spelling left ++ (codes "<=" ++ decimal k)
+kind_spelling Next left = codes "X"
+kind_spelling Always left = codes "G"
+
+abbrev pub path_spelling : PathKind → State → List ℕ → List ℕ
+path_spelling kind left right = kind_spelling kind left ++ (codes " " ++ right)
 
 abbrev pub names_spelling : List (List ℕ) → List ℕ
 names_spelling [] = []
@@ -56,4 +68,4 @@ bound_spelling AskMin = codes "Pmin=?"
 
 -- The spelling of a formula.
 abbrev pub spelling : Tree → List ℕ
-spelling f = coalition_spelling f.coalition ++ (bound_spelling f.bound ++ (codes " [ " ++ (path_spelling f.left (state_spelling f.right) ++ codes " ]")))
+spelling f = coalition_spelling f.coalition ++ (bound_spelling f.bound ++ (codes " [ " ++ (path_spelling f.kind f.left (state_spelling f.right) ++ codes " ]")))

@@ -22,8 +22,10 @@ pub enum FormulaCause {
     ThresholdOutOfRange,
     /// The text has more than `LONGEST` bytes, which is the place.
     TooLong,
-    /// `X`, `G`, a bound on the steps of `F` or `U`, or a formula inside a state formula.
+    /// `P`, `Pmax`, `Pmin` or `<<` where a state formula may begin: a formula inside a state formula.
     NotYet,
+    /// The number of steps behind `F<=` or `U<=` is not a whole number, or is above `MOST_STEPS`.
+    BadSteps,
 }
 
 /// A cause, and the offset in bytes of the token that it speaks of.

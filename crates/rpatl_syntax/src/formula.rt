@@ -72,11 +72,25 @@ pub struct Names {
     pub list: Vec<Name>,
 }
 
-/// `left U right`, under a bound, for a coalition of players where one is named. `F right` has `All` on the left.
+/// What a formula asks of a path: `left U right` and its kin.
+#[derive(Clone, Copy, Debug, PartialEq, Eq)]
+pub enum PathKind {
+    /// `left U right`: a state of the right side is reached, past states of the left side alone. `F right` has `All` on the left.
+    Until,
+    /// `left U<=k right`: the same, within so many steps. `F<=k right` has `All` on the left.
+    Within(u32),
+    /// `X right`: the next state is of the right side. The left side is `All`.
+    Next,
+    /// `G right`: every state is of the right side. The left side is `All`.
+    Always,
+}
+
+/// A bound on the probability of paths, for a coalition of players where one is named.
 #[derive(Drop)]
 pub struct Formula {
     pub coalition: Option<Names>,
     pub bound: Bound,
+    pub kind: PathKind,
     pub left: StateFormula,
     pub right: StateFormula,
 }

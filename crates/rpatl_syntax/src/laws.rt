@@ -1,21 +1,24 @@
 //! Laws of formulas and their tokens. Each function does nothing; its contract is the law.
-ghost use Rattle.std.specs.Prelude.{◌≡◌, ◌≤◌, ◌++◌, ◌↔◌, ℕ, List, None, Ok, length};
+ghost use Rattle.std.specs.Prelude.{◌≡◌, ◌≤◌, ◌-◌, ◌++◌, ◌↔◌, ℕ, List, None, Ok, length};
+ghost use Rattle.rpatl_syntax.specs.declared.formula.Bound.{Bound};
+ghost use Rattle.rpatl_syntax.specs.Dual.{dual_bound, IsAtMostOne, Keeps};
 ghost use Rattle.rpatl_syntax.specs.Formula.{Tree};
 ghost use Rattle.rpatl_syntax.specs.Grammar.{formula_said};
 ghost use Rattle.rpatl_syntax.specs.Laws.{AreTokens, AreAlike, IsBlank, StandsAt, spellings_of, cause_of};
-ghost use Rattle.rpatl_syntax.specs.Limits.{longest, most_nested, longest_name};
+ghost use Rattle.rpatl_syntax.specs.Limits.{longest, most_nested, most_steps, longest_name};
 ghost use Rattle.rpatl_syntax.specs.Rules.{Denotes};
 ghost use Rattle.rpatl_syntax.specs.Spellable.{IsSpellable};
 ghost use Rattle.rpatl_syntax.specs.Spelling.{spelling};
 ghost use Rattle.rpatl_syntax.specs.TokenRules.{AreCut};
 ghost use Rattle.rpatl_syntax.specs.Tokens.{tokens_of};
 
-use crate::limits::{LONGEST, LONGEST_NAME, MOST_NESTED};
+use crate::limits::{LONGEST, LONGEST_NAME, MOST_NESTED, MOST_STEPS};
 
 /// The limits of the code are those of the definitions.
 pub fn limits()
     ensures text { LONGEST ≡ longest }
     ensures nesting { MOST_NESTED ≡ most_nested }
+    ensures steps { MOST_STEPS ≡ most_steps }
     ensures name { LONGEST_NAME ≡ longest_name }
 {}
 
@@ -59,4 +62,19 @@ pub fn formulas_of_texts_are_spellable()
 /// No two formulas that can be spelled have the same spelling.
 pub fn spellings_have_one_reading()
     ensures { (tree other : Tree) → IsSpellable tree → IsSpellable other → spelling tree ≡ spelling other → tree ≡ other }
+{}
+
+/// A threshold of a formula that a text denotes is at most 1, as `dual` requires it.
+pub fn thresholds_are_at_most_one()
+    ensures { (text : List ℕ) (tree : Tree) → Denotes text tree → IsAtMostOne tree.bound }
+{}
+
+/// What is left of a whole keeps the dual of a bound exactly where the part that was taken keeps the bound.
+pub fn rests_keep_duals()
+    ensures { (bound : Bound) (n whole : ℕ) → IsAtMostOne bound → n ≤ whole → Keeps (dual_bound bound) (whole - n) whole ↔ Keeps bound n whole }
+{}
+
+/// The dual of the dual of a bound is the bound.
+pub fn duals_of_duals()
+    ensures { (bound : Bound) → IsAtMostOne bound → dual_bound (dual_bound bound) ≡ bound }
 {}

@@ -1,18 +1,21 @@
-//! Reachability formulas of PCTL (Hansson and Jonsson 1994) and rPATL (Chen et al. 2013), spelled as PRISM spells them.
+//! Formulas of PCTL (Hansson and Jonsson 1994) and rPATL (Chen et al. 2013) on one path operator, spelled as PRISM spells
+//! them: `F` and `U`, with a deadline in steps or without, `X` and `G`.
 //!
 //! `read_formula` gives the formula that a text spells, or the first fault of the text with its offset. `print_formula`
-//! gives the one spelling of a formula, from which it is read again. The rules of the grammar are `IsFormula` of
+//! gives the one spelling of a formula, from which it is read again. `dual` gives the formula by which one with `G` is judged. The rules of the grammar are `IsFormula` of
 //! `specs/Rules.antt`, over the tokens of `specs/TokenRules.antt`; contracts see a formula as a `Tree` of
 //! `specs/Formula.antt`, by `tree_of`. Which names stand for labels or players of a model is not looked at here.
 #![tactic(auto)]
 
 mod cursor;
+mod duals;
 mod fault;
 mod formula;
 mod front;
 pub mod laws;
 mod levels;
 mod limits;
+mod paths;
 mod print;
 mod read;
 mod states;
@@ -20,8 +23,9 @@ mod states;
 mod tests;
 mod tokens;
 
+pub use duals::dual;
 pub use fault::{FormulaCause, FormulaFault};
-pub use formula::{Bound, Formula, Names, StateFormula};
-pub use limits::{LONGEST, LONGEST_NAME, MOST_NESTED};
+pub use formula::{Bound, Formula, Names, PathKind, StateFormula};
+pub use limits::{LONGEST, LONGEST_NAME, MOST_NESTED, MOST_STEPS};
 pub use print::print_formula;
 pub use read::read_formula;

@@ -6,5 +6,8 @@ pub const LONGEST: usize = 4096;
 /// The most `(` and `!` that may be open at once.
 pub const MOST_NESTED: u32 = 64;
 
+/// The most steps of `F<=` and `U<=`.
+pub const MOST_STEPS: u32 = 1_000_000;
+
 /// The most bytes of a quoted name.
 pub const LONGEST_NAME: usize = 255;

@@ -5,9 +5,9 @@ ghost use Rattle.rpatl_syntax.specs.Formula.{state_of, tree_of, names_of};
 ghost use Rattle.rpatl_syntax.specs.Grammar.{formula_said};
 ghost use Rattle.rpatl_syntax.specs.Limits.{longest};
 ghost use Rattle.rpatl_syntax.specs.Spellable.{IsSpellable};
-ghost use Rattle.rpatl_syntax.specs.Spelling.{strength_of, in_place, state_spelling, path_spelling, names_spelling, coalition_spelling, fraction_spelling, bound_spelling, spelling};
+ghost use Rattle.rpatl_syntax.specs.Spelling.{strength_of, in_place, state_spelling, until_spelling, kind_spelling, path_spelling, names_spelling, coalition_spelling, fraction_spelling, bound_spelling, spelling};
 
-use crate::formula::{Bound, Formula, Names, StateFormula};
+use crate::formula::{Bound, Formula, Names, PathKind, StateFormula};
 use distributions::Frac;
 use game_outside::{Name, OutOfMemory};
 use itoa::Buffer;
@@ -29,7 +29,7 @@ fn spell(alloc: Global, formula: &Formula) -> Result<Vec<u8>, OutOfMemory>
     put_coalition(&mut out, &formula.coalition)?;
     put_bound(&mut out, &formula.bound)?;
     put(&mut out, " [ ")?;
-    put_path(&mut out, &formula.left, &formula.right)?;
+    put_path(&mut out, formula.kind, &formula.left, &formula.right)?;
     put(&mut out, " ]")?;
     Ok(out)
 }
@@ -93,17 +93,46 @@ fn put_number(out: &mut Vec<u8>, number: u128) -> Result<(), OutOfMemory>
     put(out, digits.format(number))
 }
 
-fn put_path(out: &mut Vec<u8>, left: &StateFormula, right: &StateFormula) -> Result<(), OutOfMemory>
-    ensures { OnOk result (out.new.items ≡ out.old.items ++ path_spelling (state_of left.now) (state_spelling (state_of right.now))) }
+fn put_path(
+    out: &mut Vec<u8>,
+    kind: PathKind,
+    left: &StateFormula,
+    right: &StateFormula,
+) -> Result<(), OutOfMemory>
+    ensures { OnOk result (out.new.items ≡ out.old.items ++ path_spelling kind (state_of left.now) (state_spelling (state_of right.now))) }
+{
+    put_kind(out, kind, left)?;
+    put(out, " ")?;
+    put_state(out, right)
+}
+
+// What stands before the right side.
+fn put_kind(out: &mut Vec<u8>, kind: PathKind, left: &StateFormula) -> Result<(), OutOfMemory>
+    ensures { OnOk result (out.new.items ≡ out.old.items ++ kind_spelling kind (state_of left.now)) }
+{
+    match kind {
+        PathKind::Until => put_until(out, left),
+        PathKind::Within(steps) => {
+            put_until(out, left)?;
+            put(out, "<=")?;
+            put_number(out, u128::from(steps))
+        }
+        PathKind::Next => put(out, "X"),
+        PathKind::Always => put(out, "G"),
+    }
+}
+
+// `F`, or the left side and `U`.
+fn put_until(out: &mut Vec<u8>, left: &StateFormula) -> Result<(), OutOfMemory>
+    ensures { OnOk result (out.new.items ≡ out.old.items ++ until_spelling (state_of left.now)) }
 {
     match left {
-        StateFormula::All => put(out, "F ")?,
+        StateFormula::All => put(out, "F"),
         _ => {
             put_state(out, left)?;
-            put(out, " U ")?;
+            put(out, " U")
         }
     }
-    put_state(out, right)
 }
 
 #[cycle(printed)]

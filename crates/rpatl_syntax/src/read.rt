@@ -4,15 +4,15 @@ ghost use Rattle.std.specs.Prelude.{◌≡◌, ◌<◌, ◌+◌, ◌-◌, ◌++�
 ghost use Rattle.rpatl_syntax.specs.Fault.{Gives, Says, IsOutOfMemory};
 ghost use Rattle.rpatl_syntax.specs.Formula.{Tree, tree_of, names_of};
 ghost use Rattle.rpatl_syntax.specs.Bounds.{bound_with};
-ghost use Rattle.rpatl_syntax.specs.Grammar.{names, coalition, threshold, comparison, bound, reached, path, compared, behind_bound, formula, formula_said, is_word, is_number};
+ghost use Rattle.rpatl_syntax.specs.Grammar.{names, coalition, threshold, comparison, bound, compared, behind_bound, formula, formula_said, is_word};
 ghost use Rattle.rpatl_syntax.specs.Rules.{Denotes};
-ghost use Rattle.rpatl_syntax.specs.Cursor.{tokens_at, token_of, state_at, names_at, team_at, bound_at, sides_at};
+ghost use Rattle.rpatl_syntax.specs.Cursor.{tokens_at, token_of, names_at, team_at, bound_at};
 
 use crate::cursor::Cursor;
 use crate::fault::{FormulaCause, FormulaFault};
-use crate::formula::{Bound, Comparison, Formula, Names, StateFormula};
+use crate::formula::{Bound, Comparison, Formula, Names};
 use crate::limits::LONGEST;
-use crate::states::read_state;
+use crate::paths::read_path;
 use crate::tokens::{Lead, Token, behind, behind_if, next_lead, next_token};
 use distributions::{Frac, NumberFault, read_number};
 use game_outside::Name;
@@ -65,12 +65,13 @@ fn behind_bound(
     ensures { Gives tree_of result (behind_bound (option_map names_of coalition) bound (tokens_at cursor.entry)) }
 {
     let rest = behind(cursor, "[")?;
-    let (left, right, rest) = read_path(alloc, rest)?;
+    let (kind, left, right, rest) = read_path(alloc, rest)?;
     let rest = behind(rest, "]")?;
     match next_lead(rest) {
         Lead::Finish(_) => Ok(Formula {
             coalition,
             bound,
+            kind,
             left,
             right,
         }),
@@ -124,12 +125,6 @@ fn begins_word(spelling: &[u8]) -> bool
     ensures { result ≡ is_word spelling.now }
 {
     matches!(spelling, [b, ..] if b.is_ascii_alphabetic() || *b == b'_')
-}
-
-fn begins_number(spelling: &[u8]) -> bool
-    ensures { result ≡ is_number spelling.now }
-{
-    matches!(spelling, [b, ..] if b.is_ascii_digit())
 }
 
 fn add_name(alloc: Global, list: &mut Vec<Name>, word: &[u8]) -> Result<(), FormulaFault>
@@ -194,7 +189,7 @@ fn read_threshold<'a>(
 fn threshold_in(token: &Token<'_>) -> Result<Frac, FormulaFault>
     ensures { Says (λ value. value) result (threshold (token_of token.now)) }
 {
-    if !begins_number(token.spelling) {
+    if !token.is_number() {
         return Err(token.fault(FormulaCause::Unexpected));
     }
     match read_number(token.spelling) {
@@ -205,39 +200,4 @@ fn threshold_in(token: &Token<'_>) -> Result<Frac, FormulaFault>
         Err(NumberFault::TooLarge) => Err(token.fault(FormulaCause::ThresholdOutOfRange)),
         Err(fault) => Err(token.fault(FormulaCause::BadNumber(fault))),
     }
-}
-
-// The two sides of `left U right`, where `F right` has `true` on the left.
-fn read_path<'a>(
-    alloc: Global,
-    cursor: Cursor<'a>,
-) -> Result<(StateFormula, StateFormula, Cursor<'a>), FormulaFault>
-    ensures { Gives sides_at result (path (tokens_at cursor.entry)) }
-{
-    let token = next_token(cursor)?;
-    if token.is("F") {
-        let (right, rest) = read_reached(alloc, token.after)?;
-        return Ok((StateFormula::All, right, rest));
-    }
-    if token.is("X") || token.is("G") {
-        return Err(token.fault(FormulaCause::NotYet));
-    }
-    let (left, rest) = read_state(alloc, cursor)?;
-    let rest = behind(rest, "U")?;
-    let (right, rest) = read_reached(alloc, rest)?;
-    Ok((left, right, rest))
-}
-
-// The state formula behind `F` or `U`.
-fn read_reached<'a>(
-    alloc: Global,
-    cursor: Cursor<'a>,
-) -> Result<(StateFormula, Cursor<'a>), FormulaFault>
-    ensures { Gives state_at result (reached (tokens_at cursor.entry)) }
-{
-    let token = next_token(cursor)?;
-    if token.is("<=") {
-        return Err(token.fault(FormulaCause::NotYet));
-    }
-    read_state(alloc, cursor)
 }

@@ -197,12 +197,35 @@ const SPELLED: [(&str, &str); 66] = [
     ("P>=0e5 [ F \"a\" ]", "P>=0 [ F \"a\" ]"),
 ];
 
+// Formulas with a deadline, `X` or `G`, each with its spelling.
+const PATHS: [(&str, &str); 11] = [
+    ("Pmax=? [ F<=2 \"goal\" ]", "Pmax=? [ F<=2 \"goal\" ]"),
+    ("Pmax=?[F<=007\"a\"]", "Pmax=? [ F<=7 \"a\" ]"),
+    ("Pmin=? [ F <= 0 true ]", "Pmin=? [ F<=0 true ]"),
+    (
+        "P>0.5 [ F<=0001000000 !\"a\" ]",
+        "P>1/2 [ F<=1000000 !\"a\" ]",
+    ),
+    ("Pmax=? [ \"a\" U<=3 \"b\" ]", "Pmax=? [ \"a\" U<=3 \"b\" ]"),
+    ("Pmax=? [ true U<=3 \"b\" ]", "Pmax=? [ F<=3 \"b\" ]"),
+    (
+        "Pmax=?[\"a\"|\"b\"U<=10(\"c\")]",
+        "Pmax=? [ \"a\" | \"b\" U<=10 \"c\" ]",
+    ),
+    ("P>=0.5 [ X \"goal\" ]", "P>=1/2 [ X \"goal\" ]"),
+    ("Pmax=? [ X(\"a\" & true) ]", "Pmax=? [ X \"a\" & true ]"),
+    ("<<X,G>>Pmin=?[G\"a\"]", "<<X,G>> Pmin=? [ G \"a\" ]"),
+    (
+        "P<=1/4 [ G !\"a\" => false ]",
+        "P<=1/4 [ G !\"a\" => false ]",
+    ),
+];
+
 // Texts that are no formula, each with its fault.
-const REFUSED: [(&str, u32, FormulaCause); 44] = [
+const REFUSED: [(&str, u32, FormulaCause); 58] = [
     ("Pmax=? [ F goal ]", 11, FormulaCause::Unexpected),
     ("P>=1.5 [ F true ]", 3, FormulaCause::ThresholdOutOfRange),
     ("P>=0.5 [ F \"goal\"", 17, FormulaCause::End),
-    ("P>=0.5 [ X \"goal\" ]", 9, FormulaCause::NotYet),
     ("", 0, FormulaCause::End),
     (" ", 1, FormulaCause::End),
     ("P", 1, FormulaCause::End),
@@ -245,9 +268,6 @@ const REFUSED: [(&str, u32, FormulaCause); 44] = [
         3,
         FormulaCause::BadNumber(NumberFault::TooManyDigits),
     ),
-    ("Pmax=? [ G \"a\" ]", 9, FormulaCause::NotYet),
-    ("Pmax=? [ F<=5 \"a\" ]", 10, FormulaCause::NotYet),
-    ("Pmax=? [ \"a\" U<=5 \"b\" ]", 14, FormulaCause::NotYet),
     ("Pmax=? [ F P>=1 [ F \"a\" ] ]", 11, FormulaCause::NotYet),
     ("Pmax=? [ F Pmax=? [ F \"a\" ] ]", 11, FormulaCause::NotYet),
     (
@@ -267,6 +287,32 @@ const REFUSED: [(&str, u32, FormulaCause); 44] = [
     ("Pmax=? [ F \"a\" & ]", 17, FormulaCause::Unexpected),
     ("Pmax=? [ F \"a\" && \"b\" ]", 16, FormulaCause::Unexpected),
     ("Pmax=? [ F \"a\" <= \"b\" ]", 15, FormulaCause::Unexpected),
+    ("Pmax=? [ F<=1.5 \"goal\" ]", 12, FormulaCause::BadSteps),
+    ("Pmax=? [ F<=1/1 \"goal\" ]", 12, FormulaCause::BadSteps),
+    ("Pmax=? [ F<=5x ]", 12, FormulaCause::BadSteps),
+    ("Pmax=? [ F <= 1000001 \"a\" ]", 14, FormulaCause::BadSteps),
+    (
+        "Pmax=? [ F<=18446744073709551617 \"a\" ]",
+        12,
+        FormulaCause::BadSteps,
+    ),
+    ("Pmax=? [ \"a\" U<=1e3 \"b\" ]", 16, FormulaCause::BadSteps),
+    ("Pmax=? [ F<=\"goal\" ]", 12, FormulaCause::Unexpected),
+    ("Pmax=? [ \"a\" U<=x \"b\" ]", 16, FormulaCause::Unexpected),
+    ("Pmax=? [ F<=-1 \"a\" ]", 12, FormulaCause::Unexpected),
+    ("Pmax=? [ F<=", 12, FormulaCause::End),
+    ("Pmax=? [ F<=5", 13, FormulaCause::End),
+    ("Pmax=? [ F<5 \"a\" ]", 10, FormulaCause::Unexpected),
+    (
+        "P>=0.5 [ F \"a\" U<=3 \"b\" ]",
+        15,
+        FormulaCause::Unexpected,
+    ),
+    ("Pmax=? [ X<=3 \"a\" ]", 10, FormulaCause::Unexpected),
+    ("Pmax=? [ G ]", 11, FormulaCause::Unexpected),
+    ("Pmax=? [ \"a\" X \"b\" ]", 13, FormulaCause::Unexpected),
+    ("Pmax=? [ X \"a\" U \"b\" ]", 15, FormulaCause::Unexpected),
+    ("Pmax=? [ G P>=1 [ F \"a\" ] ]", 11, FormulaCause::NotYet),
 ];
 
 // What a text is printed as, or nothing where it is refused.
@@ -280,22 +326,26 @@ fn printed(alloc: Global, text: &str) -> Result<Option<Vec<u8>>, FormulaFault> {
     }
 }
 
+// A text and its spelling are both read, and printed so.
+fn is_spelled(alloc: Global, text: &str, spelling: &str) -> bool {
+    let first = printed(alloc, text);
+    let again = printed(alloc, spelling);
+    matches!(first, Ok(Some(ref v)) if v.as_slice() == spelling.as_bytes())
+        && matches!(again, Ok(Some(ref v)) if v.as_slice() == spelling.as_bytes())
+}
+
 #[test]
-fn formulas_are_read_printed_and_read_again(rt: HostRuntime) -> Result<(), Fail> {
-    let alloc = rt.alloc();
+fn formulas_are_read_printed_and_read_again(rt: HostRuntime) {
     for (text, spelling) in SPELLED {
-        let first = printed(alloc, text);
-        assert!(rt;
-            matches!(first, Ok(Some(ref v)) if v.as_slice() == spelling.as_bytes()),
-            "{text}"
-        );
-        let again = printed(alloc, spelling);
-        assert!(rt;
-            matches!(again, Ok(Some(ref v)) if v.as_slice() == spelling.as_bytes()),
-            "{spelling}"
-        );
+        assert!(rt; is_spelled(rt.alloc(), text, spelling), "{text}");
     }
-    Ok(())
+}
+
+#[test]
+fn paths_are_read_printed_and_read_again(rt: HostRuntime) {
+    for (text, spelling) in PATHS {
+        assert!(rt; is_spelled(rt.alloc(), text, spelling), "{text}");
+    }
 }
 
 #[test]

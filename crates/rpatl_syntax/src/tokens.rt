@@ -2,7 +2,7 @@
 
 ghost use Rattle.std.specs.Prelude.{◌≡◌, ◌≤◌, ◌<◌, ◌+◌, length, take, drop, bytes_eq, option_map};
 ghost use Rattle.rpatl_syntax.specs.Fault.{Says, fault_at};
-ghost use Rattle.rpatl_syntax.specs.Grammar.{next, behind, follows};
+ghost use Rattle.rpatl_syntax.specs.Grammar.{next, behind, follows, is_number};
 ghost use Rattle.rpatl_syntax.specs.Tokens.{Finish, Broken, Then, tokens_from};
 ghost use Rattle.rpatl_syntax.specs.Limits.{longest};
 ghost use Rattle.rpatl_syntax.specs.Cursor.{tokens_at, token_of, Leads};
@@ -33,6 +33,13 @@ impl<'a> Token<'a> {
         ensures { result ≡ bytes_eq self.now.spelling.now spelling.now }
     {
         self.spelling == spelling.as_bytes()
+    }
+
+    /// The token is a number: it begins with a digit.
+    pub fn is_number(&self) -> bool
+        ensures { result ≡ is_number self.now.spelling.now }
+    {
+        matches!(self.spelling, [b, ..] if b.is_ascii_digit())
     }
 
     /// A fault of this token.

@@ -1,0 +1,123 @@
+//! The question that a formula with `X` poses.
+
+ghost use Rattle.std.specs.Prelude.{◌≡◌, ◌<◌, ◌≤◌, Ok, All, IfOk, length};
+ghost use Rattle.game_model.specs.Limits.{unit};
+ghost use Rattle.game_model.specs.Query.{states};
+ghost use Rattle.rpatl_syntax.specs.declared.formula.PathKind.TheVariants.{Next};
+ghost use Rattle.rpatl_syntax.specs.Formula.{tree_of};
+ghost use Rattle.formula_sets.specs.Posing.{NextPosing, PosesNext, at_states, opening_at, unmarked, next_question_of, pose_next_said, Gives};
+ghost use Rattle.formula_sets.specs.Seen.{next_posing_of};
+
+use crate::fault::PoseFault;
+use crate::labels::holds_at_state;
+use crate::question::{initial_of, sides_of};
+use game_model::{Game, Question, UNIT};
+use label_reader::{Labels, Owners};
+use rpatl_syntax::Formula;
+use std::alloc::{AllocError, Global};
+
+/// A question of one step, whose states have no marks, and the initial states of its game, rising.
+#[derive(Drop)]
+pub struct PosedNext<'g> {
+    pub question: Question<'g>,
+    /// The table from which the step is taken, in units by state: probability 1 where the right side holds, else 0.
+    pub opening: Vec<u64>,
+    pub initial: Vec<u32>,
+}
+
+fn opening_at_state(labels: &Labels, formula: &Formula, state: u32) -> u64
+    requires { state < labels.now.states }
+    ensures { result ≡ opening_at labels.now (tree_of formula.now) state }
+{
+    if holds_at_state(labels, &formula.right, state) {
+        UNIT
+    } else {
+        0
+    }
+}
+
+fn opening_of(
+    alloc: Global,
+    labels: &Labels,
+    formula: &Formula,
+    states: u32,
+) -> Result<Vec<u64>, AllocError>
+    requires { labels.now.states ≡ states }
+    ensures { IfOk result (λ v. v.items ≡ at_states (opening_at labels.now (tree_of formula.now)) states) }
+{
+    let mut opening = Vec::with_capacity(alloc, states as usize)?;
+    for state in 0..states {
+        opening.push(opening_at_state(labels, formula, state))?;
+    }
+    Ok(opening)
+}
+
+#[tactic(auto, using(crate::proofs::AskingNext::none_marked))]
+fn no_marks(alloc: Global, states: u32) -> Result<Vec<bool>, AllocError>
+    ensures { IfOk result (λ v. v.items ≡ unmarked states) }
+{
+    vec![in alloc; false; states as usize]
+}
+
+fn question_in<'g>(
+    alloc: Global,
+    game: &'g Game,
+    owners: &Owners,
+    formula: &Formula,
+) -> Result<Question<'g>, AllocError>
+    requires { length owners.now.owners ≡ length game.now }
+    ensures { IfOk result (λ question. question ≡ next_question_of game.now owners.now (tree_of formula.now)) }
+{
+    let states = game.states();
+    let sides = sides_of(alloc, owners, formula, states)?;
+    let goals = no_marks(alloc, states)?;
+    let deads = no_marks(alloc, states)?;
+    Ok(Question::build(game, sides, goals, deads))
+}
+
+fn first_answer<'g>(
+    alloc: Global,
+    game: &'g Game,
+    labels: &Labels,
+    owners: &Owners,
+    formula: &Formula,
+) -> Result<PosedNext<'g>, PoseFault>
+    requires labels { labels.now.states ≡ length game.now }
+    requires owners { length owners.now.owners ≡ length game.now }
+    ensures { Gives next_posing_of result (pose_next_said game.now labels.now owners.now (tree_of formula.now)) }
+{
+    let initial = initial_of(alloc, labels, owners, formula)?;
+    let Ok(question) = question_in(alloc, game, owners, formula) else {
+        return Err(PoseFault::OutOfMemory);
+    };
+    let Ok(opening) = opening_of(alloc, labels, formula, game.states()) else {
+        return Err(PoseFault::OutOfMemory);
+    };
+    Ok(PosedNext {
+        question,
+        opening,
+        initial,
+    })
+}
+
+/// The question that a formula with `X` poses of a game whose states have these labels and owners, and the table from which its step is taken.
+pub fn pose_next<'g>(
+    alloc: Global,
+    game: &'g Game,
+    labels: &Labels,
+    owners: &Owners,
+    formula: &Formula,
+) -> Result<PosedNext<'g>, PoseFault>
+    requires kind { formula.now.kind ≡ Next }
+    requires labels { labels.now.states ≡ length game.now }
+    requires owners { length owners.now.owners ≡ length game.now }
+    // What is posed is what the formula asks, or its first fault.
+    ensures found { IfOk result (λ posed. PosesNext game.now labels.now owners.now (tree_of formula.now) (next_posing_of posed)) }
+    ensures only { (p : NextPosing) → PosesNext game.now labels.now owners.now (tree_of formula.now) p → Gives next_posing_of result (Ok p) }
+    ensures exact { Gives next_posing_of result (pose_next_said game.now labels.now owners.now (tree_of formula.now)) }
+    ensures inside { IfOk result (λ posed. All (λ s. s < states posed.question) posed.initial.items) }
+    ensures opening { IfOk result (λ posed. (length posed.opening.items ≡ states posed.question) × All (λ v. v ≤ unit) posed.opening.items) }
+{
+    labels.known();
+    first_answer(alloc, game, labels, owners, formula)
+}

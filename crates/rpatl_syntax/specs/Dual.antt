@@ -1,0 +1,38 @@
+-- The dual of a formula: what it says of the paths that come to a state where the right side fails.
+use Rattle.std.specs.Prelude.{ℕ, ◌*◌, ◌<◌, ◌≤◌}
+use Rattle.distributions.specs.Fraction.{rest_of}
+use Rattle.rpatl_syntax.specs.declared.formula.Bound.{Bound}
+use Rattle.rpatl_syntax.specs.declared.formula.Bound.TheVariants.{AtLeast, Above, AtMost, Below, AskMax, AskMin}
+use Rattle.rpatl_syntax.specs.declared.formula.PathKind.TheVariants.{Until}
+use Rattle.rpatl_syntax.specs.Formula.{True, Not, Tree}
+
+-- the threshold, where there is one, is at most 1
+abbrev pub IsAtMostOne : Bound → Type 0
+IsAtMostOne (AtLeast p) = p.num ≤ p.den
+IsAtMostOne (Above p) = p.num ≤ p.den
+IsAtMostOne (AtMost p) = p.num ≤ p.den
+IsAtMostOne (Below p) = p.num ≤ p.den
+IsAtMostOne AskMax = Unit {0}
+IsAtMostOne AskMin = Unit {0}
+
+-- n parts of a whole keep the bound; a question for a value has none to keep
+abbrev pub Keeps : Bound → ℕ → ℕ → Type 0
+Keeps (AtLeast p) n whole = p.num * whole ≤ n * p.den
+Keeps (Above p) n whole = p.num * whole < n * p.den
+Keeps (AtMost p) n whole = n * p.den ≤ p.num * whole
+Keeps (Below p) n whole = n * p.den < p.num * whole
+Keeps AskMax n whole = Unit {0}
+Keeps AskMin n whole = Unit {0}
+
+-- the bound that 1 less a probability keeps where the probability keeps this one
+abbrev pub dual_bound : Bound → Bound
+dual_bound (AtLeast p) = AtMost (rest_of p)
+dual_bound (Above p) = Below (rest_of p)
+dual_bound (AtMost p) = AtLeast (rest_of p)
+dual_bound (Below p) = Above (rest_of p)
+dual_bound AskMax = AskMin
+dual_bound AskMin = AskMax
+
+-- of `G y` the dual bound on `F !y`
+abbrev pub dual_of : Tree → Tree
+dual_of f = record { coalition = f.coalition; bound = dual_bound f.bound; kind = Until; left = True; right = Not f.right }

@@ -1,0 +1,102 @@
+//! The formula by which `G` is judged.
+
+ghost use Rattle.std.specs.Prelude.{◌≡◌, IfOk};
+ghost use Rattle.rpatl_syntax.specs.Dual.{dual_bound, dual_of, IsAtMostOne};
+ghost use Rattle.rpatl_syntax.specs.Formula.{state_of, tree_of, names_of};
+
+use crate::formula::{Bound, Formula, Names, PathKind, StateFormula};
+use game_outside::{Name, OutOfMemory};
+use std::alloc::Global;
+
+/// The formula by which one with `G y` is judged. It has the same coalition and the path `F !y`, whose probability is 1 less that of
+/// `G y`, so it has the threshold `1 - p`, with `>=` exchanged with `<=`, `>` with `<`, and `Pmax=?` with `Pmin=?`.
+pub fn dual(alloc: Global, formula: &Formula) -> Result<Formula, OutOfMemory>
+    requires always { formula.now.kind ≡ PathKind.Always }
+    requires share { IsAtMostOne formula.now.bound }
+    ensures { IfOk result (λ other. tree_of other ≡ dual_of (tree_of formula.now)) }
+{
+    let coalition = match &formula.coalition {
+        None => None,
+        Some(names) => Some(copied_names(alloc, names)?),
+    };
+    Ok(Formula {
+        coalition,
+        bound: mirrored(&formula.bound),
+        kind: PathKind::Until,
+        left: StateFormula::All,
+        right: StateFormula::Negated(copied_place(alloc, &formula.right)?),
+    })
+}
+
+// The bound on 1 less the probability.
+fn mirrored(bound: &Bound) -> Bound
+    requires { IsAtMostOne bound.now }
+    ensures { result ≡ dual_bound bound.now }
+{
+    match bound {
+        Bound::AtLeast(threshold) => Bound::AtMost(threshold.rest()),
+        Bound::Above(threshold) => Bound::Below(threshold.rest()),
+        Bound::AtMost(threshold) => Bound::AtLeast(threshold.rest()),
+        Bound::Below(threshold) => Bound::Above(threshold.rest()),
+        Bound::AskMax => Bound::AskMin,
+        Bound::AskMin => Bound::AskMax,
+    }
+}
+
+fn copied_names(alloc: Global, names: &Names) -> Result<Names, OutOfMemory>
+    ensures { IfOk result (λ copy. names_of copy ≡ names_of names.now) }
+{
+    let mut list = Vec::new(alloc);
+    for name in &names.list {
+        list.push(Name::from_bytes(alloc, name.as_bytes())?)?;
+    }
+    Ok(Names { list })
+}
+
+#[cycle(copied)]
+fn copied_state(alloc: Global, state: &StateFormula) -> Result<StateFormula, OutOfMemory>
+    ensures { IfOk result (λ copy. state_of copy ≡ state_of state.now) }
+{
+    match state {
+        StateFormula::All => Ok(StateFormula::All),
+        StateFormula::Nothing => Ok(StateFormula::Nothing),
+        StateFormula::Named(name) => {
+            let name = Name::from_bytes(alloc, name.as_bytes())?;
+            Ok(StateFormula::Named(name))
+        }
+        StateFormula::Negated(x) => {
+            let x = copied_place(alloc, x)?;
+            Ok(StateFormula::Negated(x))
+        }
+        StateFormula::Both(x, y) => {
+            let x = copied_place(alloc, x)?;
+            let y = copied_place(alloc, y)?;
+            Ok(StateFormula::Both(x, y))
+        }
+        StateFormula::Either(x, y) => {
+            let x = copied_place(alloc, x)?;
+            let y = copied_place(alloc, y)?;
+            Ok(StateFormula::Either(x, y))
+        }
+        StateFormula::Implied(x, y) => {
+            let x = copied_place(alloc, x)?;
+            let y = copied_place(alloc, y)?;
+            Ok(StateFormula::Implied(x, y))
+        }
+    }
+}
+
+// A copy in memory of its own.
+#[cycle(copied)]
+fn copied_place(alloc: Global, state: &StateFormula) -> Result<Box<StateFormula>, OutOfMemory>
+    ensures { IfOk result (λ place. state_of place.value ≡ state_of state.now) }
+{
+    let copy = copied_state(alloc, state)?;
+    match Box::new(alloc, copy) {
+        Ok(place) => Ok(place),
+        Err(_) => Err(OutOfMemory {}),
+    }
+}
+
+#[cfg(test)]
+mod tests;
