@@ -1,0 +1,5 @@
+pub mod Limits
+pub mod Steps
+pub mod Exact
+pub mod Parts
+pub mod OfTables
