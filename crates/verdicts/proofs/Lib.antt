@@ -1,3 +1,5 @@
+pub mod Fractions
+pub mod Mirrored
 pub mod Numbers
 pub mod Opening
 pub mod Reached

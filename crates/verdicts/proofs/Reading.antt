@@ -8,9 +8,9 @@ use Rattle.plan_text.specs.Fixed.{fixed, last_digits, unit_digits}
 use Rattle.verdicts.specs.declared.verdict.Verdict.{Verdict}
 use Rattle.verdicts.specs.declared.verdict.Verdict.TheVariants.{Yes, No, Undecided, Bracket}
 use Rattle.verdicts.specs.declared.report.How.{How}
-use Rattle.verdicts.specs.declared.report.How.TheVariants.{Rounds, Audited}
+use Rattle.verdicts.specs.declared.report.How.TheVariants.{Rounds, Steps, Audited}
 use Rattle.verdicts.specs.declared.report.ReportLine.{ReportLine}
-use Rattle.verdicts.specs.Report.{HasRounds, IsLine, verdict_text, how_text, line_text, report}
+use Rattle.verdicts.specs.Report.{HasCount, IsLine, verdict_text, how_text, line_text, report}
 use Rattle.verdicts.proofs.Numbers.{number-one}
 
 -- no two values have the same text
@@ -45,12 +45,24 @@ value-one one u v r s hu hv e =
 
 -- 2. The words are told apart by a byte.
 
-how-one : (a b : How) (r s : List ℕ) → HasRounds a → HasRounds b → how_text a ++ 32 ∷ r ≡ how_text b ++ 32 ∷ s → (a ≡ b) × (r ≡ s)
+-- the byte behind the first space: of ` rounds `, ` steps ` or ` audited`
+read_how : List ℕ → ℕ
+read_how text = get_or text 1 0
+
+how-one : (a b : How) (r s : List ℕ) → HasCount a → HasCount b → how_text a ++ 32 ∷ r ≡ how_text b ++ 32 ∷ s → (a ≡ b) × (r ≡ s)
+unfolding read_how
 how-one (Rounds m) (Rounds n) r s hm hn e =
     let parts = number-one m n r s (omega arith) (omega arith) (append_cancel_left (codes " rounds ") (decimal m ++ 32 ∷ r) (decimal n ++ 32 ∷ s) e) in
     (ap (λ k. Rounds k) parts.0, parts.1)
-how-one (Rounds m) Audited r s hm hn e = let second : ◌≡◌ {A = ℕ} 114 97 = ap (λ (t : List ℕ). get_or t 1 0) e in absurd (omega arith)
-how-one Audited (Rounds n) r s hm hn e = let second : ◌≡◌ {A = ℕ} 97 114 = ap (λ (t : List ℕ). get_or t 1 0) e in absurd (omega arith)
+how-one (Steps m) (Steps n) r s hm hn e =
+    let parts = number-one m n r s (omega arith) (omega arith) (append_cancel_left (codes " steps ") (decimal m ++ 32 ∷ r) (decimal n ++ 32 ∷ s) e) in
+    (ap (λ k. Steps k) parts.0, parts.1)
+how-one (Rounds m) (Steps n) r s hm hn e = let second : ◌≡◌ {A = ℕ} 114 115 = ap read_how e in absurd (omega arith)
+how-one (Rounds m) Audited r s hm hn e = let second : ◌≡◌ {A = ℕ} 114 97 = ap read_how e in absurd (omega arith)
+how-one (Steps m) (Rounds n) r s hm hn e = let second : ◌≡◌ {A = ℕ} 115 114 = ap read_how e in absurd (omega arith)
+how-one (Steps m) Audited r s hm hn e = let second : ◌≡◌ {A = ℕ} 115 97 = ap read_how e in absurd (omega arith)
+how-one Audited (Rounds n) r s hm hn e = let second : ◌≡◌ {A = ℕ} 97 114 = ap read_how e in absurd (omega arith)
+how-one Audited (Steps n) r s hm hn e = let second : ◌≡◌ {A = ℕ} 97 115 = ap read_how e in absurd (omega arith)
 how-one Audited Audited r s hm hn e = (refl, append_cancel_left (codes " audited ") r s e)
 
 read_verdict : ℕ → Option Verdict
@@ -98,7 +110,7 @@ line-one one a b r s ha hb e =
     let state = number-one a.state b.state _ _ (omega (arith, ha.state)) (omega (arith, hb.state)) (append_cancel_left (codes "state ") _ _ e) in
     let lower = value-one one a.lower b.lower _ _ ha.values.0 hb.values.0 (append_cancel_left (codes "lower ") _ _ state.1) in
     let upper = value-one one a.upper b.upper _ _ ha.values.1 hb.values.1 (append_cancel_left (codes " upper ") _ _ lower.1) in
-    let how = how-one a.how b.how _ _ ha.rounds hb.rounds upper.1 in
+    let how = how-one a.how b.how _ _ ha.count hb.count upper.1 in
     let verdict = verdict-one a.verdict b.verdict _ _ how.1 in
     (same_line a b state.0 lower.0 upper.0 how.0 verdict.0, append_cancel_left (codes "\n") _ _ verdict.1)
 

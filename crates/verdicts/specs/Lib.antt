@@ -3,3 +3,4 @@ pub mod Stop
 pub mod Truth
 pub mod Verdict
 pub mod Open
+pub mod Exact

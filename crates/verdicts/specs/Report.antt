@@ -5,22 +5,23 @@ use Rattle.plan_text.specs.Fixed.{fixed}
 use Rattle.verdicts.specs.declared.verdict.Verdict.{Verdict}
 use Rattle.verdicts.specs.declared.verdict.Verdict.TheVariants.{Yes, No, Undecided, Bracket}
 use Rattle.verdicts.specs.declared.report.How.{How}
-use Rattle.verdicts.specs.declared.report.How.TheVariants.{Rounds, Audited}
+use Rattle.verdicts.specs.declared.report.How.TheVariants.{Rounds, Steps, Audited}
 use Rattle.verdicts.specs.declared.report.ReportLine.{ReportLine}
 
 -- both bounds are values: at most the unit
 abbrev pub HasValues : ReportLine → Type 0
 HasValues line = (line.lower ≤ unit) × (line.upper ≤ unit)
 
--- a number of rounds, where one is named, has 32 bits
-abbrev pub HasRounds : How → Type 0
-HasRounds (Rounds rounds) = rounds < 2 ^ 32
-HasRounds Audited = Unit {0}
+-- a number of rounds or steps, where one is named, has 32 bits
+abbrev pub HasCount : How → Type 0
+HasCount (Rounds rounds) = rounds < 2 ^ 32
+HasCount (Steps steps) = steps < 2 ^ 32
+HasCount Audited = Unit {0}
 
 -- a line as its types hold it, whose bounds are values
 pub record IsLine (line : ReportLine) : Type 0 where
   pub state : line.state < 2 ^ 32
-  pub rounds : HasRounds line.how
+  pub count : HasCount line.how
   pub values : HasValues line
 
 abbrev pub verdict_text : Verdict → List ℕ
@@ -31,6 +32,7 @@ verdict_text Bracket = codes "Bracket"
 
 abbrev pub how_text : How → List ℕ
 how_text (Rounds rounds) = codes " rounds " ++ decimal rounds
+how_text (Steps steps) = codes " steps " ++ decimal steps
 how_text Audited = codes " audited"
 
 -- a label and a value

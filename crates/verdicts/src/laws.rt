@@ -1,13 +1,15 @@
 //! Laws of verdicts and reports. Each function does nothing of its own; its contract is the law.
 
-ghost use Rattle.std.specs.Prelude.{◌≡◌, ◌<◌, ◌≤◌, ◌+◌, ◌*◌, ℕ, true, List, All, Option};
+ghost use Rattle.std.specs.Prelude.{◌≡◌, ◌<◌, ◌≤◌, ◌+◌, ◌-◌, ◌*◌, ℕ, true, List, All, Option};
 ghost use Rattle.game_model.specs.Query.{Query, IsQuery, states};
 ghost use Rattle.game_model.specs.Limits.{unit};
 ghost use Rattle.game_model.specs.Bounds.{IsHigh, Reaches};
 ghost use Rattle.game_model.specs.Ranks.{ReachesUnder};
 ghost use Rattle.rpatl_syntax.specs.declared.formula.Bound.{Bound};
+ghost use Rattle.rpatl_syntax.specs.Dual.{IsAtMostOne, dual_bound};
 ghost use Rattle.verdicts.specs.declared.report.ReportLine.{ReportLine};
 ghost use Rattle.verdicts.specs.declared.verdict.Verdict.TheVariants.{Yes, No, Undecided};
+ghost use Rattle.verdicts.specs.Exact.{IsRight};
 ghost use Rattle.verdicts.specs.Open.{LeavesOpen};
 ghost use Rattle.verdicts.specs.Report.{IsLine, report};
 ghost use Rattle.verdicts.specs.Truth.{IsTrueOf, IsFalseOf};
@@ -26,6 +28,16 @@ pub fn verdicts_are_true()
     laws::high_tables_are_not_exceeded();
     laws::high_tables_are_not_reached();
 }
+
+/// A verdict over bounds of a fraction is true: the bound holds of the fraction where the verdict is yes, and does not where it is no.
+pub fn verdicts_of_fractions_are_right()
+    ensures { (bound : Bound) (n d lower upper : ℕ) → 1 ≤ d → lower * d ≤ unit * n → unit * n ≤ upper * d → IsRight bound n d (verdict_of bound lower upper) }
+{}
+
+/// What bounds say of a bound on 1 less the value is what they say of its dual on the value.
+pub fn mirrored_verdicts_are_those_of_the_dual()
+    ensures { (bound : Bound) (lower upper : ℕ) → IsAtMostOne bound → lower ≤ unit → upper ≤ unit → verdict_of bound (unit - upper) (unit - lower) ≡ verdict_of (dual_bound bound) lower upper }
+{}
 
 /// No bound both holds and fails of a value.
 pub fn no_bound_holds_and_fails()

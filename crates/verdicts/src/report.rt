@@ -14,6 +14,8 @@ use std::alloc::Global;
 pub enum How {
     /// So many rounds of value iteration were completed.
     Rounds(u32),
+    /// So many steps: as many as the formula names, and one of `X`.
+    Steps(u32),
     /// A certificate was checked.
     Audited,
 }
@@ -55,6 +57,10 @@ impl How {
             How::Rounds(rounds) => {
                 append(text, b" rounds ")?;
                 append_number(text, rounds)
+            }
+            How::Steps(steps) => {
+                append(text, b" steps ")?;
+                append_number(text, steps)
             }
             How::Audited => append(text, b" audited"),
         }
@@ -127,12 +133,19 @@ mod tests {
                 how: How::Audited,
                 verdict: Verdict::No,
             },
+            ReportLine {
+                state: 3,
+                lower: 375_000_000_000_000,
+                upper: 375_000_000_000_000,
+                how: How::Steps(2),
+                verdict: Verdict::Yes,
+            },
         ];
         let Ok(text) = report_text(rt.alloc(), &lines) else {
             return Err(Fail::new("no memory"));
         };
         let expected =
-            b"state 0 lower 0.499999999999999 upper 1.000000000000000 rounds 40 Bracket\nstate 12 lower 0.000000000000000 upper 0.000000000000000 audited False\n";
+            b"state 0 lower 0.499999999999999 upper 1.000000000000000 rounds 40 Bracket\nstate 12 lower 0.000000000000000 upper 0.000000000000000 audited False\nstate 3 lower 0.375000000000000 upper 0.375000000000000 steps 2 True\n";
         assert_eq!(rt; text.as_slice(), expected.as_slice());
         Ok(())
     }
