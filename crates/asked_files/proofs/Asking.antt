@@ -1,5 +1,5 @@
 -- What texts and words say by cases is what they ask.
-use Rattle.std.proofs.Common.{◌≡◌, ℕ, List, length, Option, Some, None, Result, Ok, Err, refl, sym, ap, subst, ◌∙◌}
+use Rattle.std.proofs.Common.{◌≡◌, ℕ, Bool, true, false, cond, List, length, Option, Some, None, Result, Ok, Err, refl, sym, ap, subst, ◌∙◌}
 use Rattle.game_model.specs.Game.{Distribution}
 use Rattle.distributions.proofs.Said.{number-found, number-again}
 use Rattle.distributions.proofs.Chosen.{choice-found, choice-again}
@@ -16,17 +16,23 @@ use Rattle.rpatl_syntax.specs.Grammar.{formula_said}
 use Rattle.rpatl_syntax.specs.Rules.{Denotes as DenotesFormula}
 use Rattle.rpatl_syntax.proofs.Denoted.{formula_denoted}
 use Rattle.rpatl_syntax.proofs.Again.{formula_said_again}
-use Rattle.formula_sets.specs.Posing.{Posing, pose_said}
+use Rattle.rpatl_syntax.specs.declared.formula.PathKind.{PathKind}
+use Rattle.rpatl_syntax.specs.declared.formula.PathKind.TheVariants.{Until, Within, Next, Always}
+use Rattle.rpatl_syntax.specs.Dual.{dual_of}
+use Rattle.formula_sets.specs.Posing.{pose_said, pose_next_said}
 use Rattle.formula_sets.proofs.Asking.{pose-found, pose-again}
+use Rattle.formula_sets.proofs.AskingNext.{pose_next-found, pose_next-again}
 use Rattle.run_refusals.specs.declared.refusal.Refusal.{Refusal}
-use Rattle.run_refusals.specs.declared.refusal.Refusal.TheVariants.{OfTra, OfLab, OfOwn, OfFormula, OfQuestion}
+use Rattle.run_refusals.specs.declared.refusal.Refusal.TheVariants.{OfTra, OfLab, OfOwn, OfFormula, OfQuestion, WrongKind}
 use Rattle.run_refusals.specs.declared.refusal.Text.{Text}
 use Rattle.run_refusals.specs.declared.refusal.Text.TheVariants.{Tra, Lab, Own}
 use Rattle.command_words.specs.Words.{Asked}
+use Rattle.asked_files.specs.declared.problem.Paths.{Paths}
+use Rattle.asked_files.specs.Problems.{Problem, OfUntil, OfWithin, OfNext, OfAlways, PosesProblem, takes}
 use Rattle.asked_files.specs.Said.{Said, NotHeld, Refuses, Says, and_then, read_said}
 use Rattle.asked_files.specs.Sources.{Sources}
 use Rattle.asked_files.specs.Texts.{text_said, game_said, labels_said, owners_said}
-use Rattle.asked_files.specs.Posed.{formula_read, Reading, reading_with, behind_owners, behind_labels, behind_game, reading_said, posed, question_said}
+use Rattle.asked_files.specs.Posed.{formula_read, Reading, reading_with, behind_owners, behind_labels, behind_game, reading_said, posed_by, where_taken, posed, problem_said}
 use Rattle.asked_files.specs.Asks.{IsText, AreOwners, Asks}
 use Rattle.asked_files.proofs.Lengths.{short_says, says_short}
 
@@ -74,16 +80,50 @@ formula_is text tree is = formula_denoted text tree (was_read OfFormula (formula
 is_formula : (text : List ℕ) (tree : Tree) → DenotesFormula text tree → formula_read text ≡ Says tree
 is_formula text tree denotes = ap (read_said OfFormula) (formula_said_again text tree denotes)
 
--- 3. The question.
+-- 3. The problem.
 
--- texts and a formula that are read, and pose the question, ask it
-asks_read : (sources : Sources) (asked : Asked) (posing : Posing) (game : List (List Distribution)) (labels : Labelling) (owners : Ownership) (formula : Tree) (reading : Reading) → game_said sources.tra ≡ Says game
+-- what is posed of a reader's answer
+posed_ok : {X F : Type 0} (refusal : F → Refusal) (result : Result X F) (make : X → Problem) (problem : Problem) → and_then (read_said refusal result) (λ x. Says (make x)) ≡ Says problem → (x : X) × (result ≡ Ok x) × (make x ≡ problem)
+posed_ok refusal (Ok x) make problem is = (x, refl, cc (is))
+posed_ok refusal (Err fault) make problem is = cc (is)
+
+module _ (game : List (List Distribution)) (labels : Labelling) (owners : Ownership) where
+  poses_by : (kind : PathKind) (formula : Tree) (problem : Problem) → formula.kind ≡ kind → posed_by kind (reading_with game labels owners formula) ≡ Says problem → PosesProblem game labels owners formula problem
+  poses_by Until formula problem of is =
+      let r = posed_ok OfQuestion (pose_said game labels owners formula) OfUntil problem is in
+      subst (PosesProblem game labels owners formula) r.2 (of, pose-found game labels owners formula r.0 r.1)
+  poses_by (Within k) formula problem of is =
+      let r = posed_ok OfQuestion (pose_said game labels owners formula) (OfWithin k) problem is in
+      subst (PosesProblem game labels owners formula) r.2 (of, pose-found game labels owners formula r.0 r.1)
+  poses_by Next formula problem of is =
+      let r = posed_ok OfQuestion (pose_next_said game labels owners formula) OfNext problem is in
+      subst (PosesProblem game labels owners formula) r.2 (of, pose_next-found game labels owners formula r.0 r.1)
+  poses_by Always formula problem of is =
+      let r = posed_ok OfQuestion (pose_said game labels owners (dual_of formula)) OfAlways problem is in
+      subst (PosesProblem game labels owners formula) r.2 (of, pose-found game labels owners (dual_of formula) r.0 r.1)
+
+  posed_again : (formula : Tree) (problem : Problem) → PosesProblem game labels owners formula problem → posed_by formula.kind (reading_with game labels owners formula) ≡ Says problem
+  posed_again formula (OfUntil p) poses = rw poses.0 (ap (λ r. and_then (read_said OfQuestion r) (λ x. Says (OfUntil x))) (pose-again game labels owners formula p poses.1))
+  posed_again formula (OfWithin k p) poses = rw poses.0 (ap (λ r. and_then (read_said OfQuestion r) (λ x. Says (OfWithin k x))) (pose-again game labels owners formula p poses.1))
+  posed_again formula (OfNext p) poses = rw poses.0 (ap (λ r. and_then (read_said OfQuestion r) (λ x. Says (OfNext x))) (pose_next-again game labels owners formula p poses.1))
+  posed_again formula (OfAlways p) poses = rw poses.0 (ap (λ r. and_then (read_said OfQuestion r) (λ x. Says (OfAlways x))) (pose-again game labels owners (dual_of formula) p poses.1))
+
+-- a problem that is said is taken
+was_taken : (taken : Bool) (problem other : Problem) → cond taken (Says problem) (Refuses WrongKind) ≡ Says other → (taken ≡ true) × (problem ≡ other)
+was_taken true problem other is = (refl, cc (is))
+was_taken false problem other is = cc (is)
+
+-- texts and a formula that are read, and pose the problem, ask it
+asks_read : (paths : Paths) (sources : Sources) (asked : Asked) (problem : Problem) (game : List (List Distribution)) (labels : Labelling) (owners : Ownership) (formula : Tree) (reading : Reading) → game_said sources.tra ≡ Says game
     → labels_said sources.lab (length game) ≡ Says labels → owners_said asked.own sources.own (length game) ≡ Says owners → formula_read asked.formula ≡ Says formula
-    → Says (reading_with game labels owners formula) ≡ Says reading → posed reading ≡ Says posing → Asks sources asked posing
-asks_read sources asked posing game labels owners formula reading of_tra of_lab of_own of_formula whole poses =
+    → Says (reading_with game labels owners formula) ≡ Says reading → posed paths reading ≡ Says problem → Asks paths sources asked problem
+asks_read paths sources asked problem game labels owners formula reading of_tra of_lab of_own of_formula whole poses =
     let is : reading_with game labels owners formula ≡ reading = cc (whole) in
-    let P : Reading → Type 0 = λ r. posed r ≡ Says posing in
-    let said : posed (reading_with game labels owners formula) ≡ Says posing = subst P (sym is) poses in
+    let P : Reading → Type 0 = λ r. posed paths r ≡ Says problem in
+    let said : posed paths (reading_with game labels owners formula) ≡ Says problem = subst P (sym is) poses in
+    let kind = formula.kind in
+    let r = behind (posed_by kind (reading_with game labels owners formula)) (λ p. where_taken paths kind p) problem said in
+    let taken = was_taken (takes paths kind) r.0 problem r.2 in
     record {
       game = game;
       labels = labels;
@@ -93,22 +133,23 @@ asks_read sources asked posing game labels owners formula reading of_tra of_lab 
       lab = text_is Lab OfLab (λ bytes. labels_of bytes (length game)) (λ bytes l. DenotesLabels bytes (length game) l) sources.lab labels (λ bytes. labels_of-found bytes (length game) labels) of_lab;
       own = owners_are asked.own sources.own (length game) owners of_own;
       spelled = formula_is asked.formula formula of_formula;
-      poses = pose-found game labels owners formula posing (was_read OfQuestion (pose_said game labels owners formula) posing said);
+      poses = subst (PosesProblem game labels owners formula) taken.1 (poses_by game labels owners kind formula r.0 refl r.1);
+      taken = taken.0;
     }
 
--- the question that is said is asked
-pub said_asks : (sources : Sources) (asked : Asked) (posing : Posing) → question_said sources asked ≡ Says posing → Asks sources asked posing
-said_asks sources asked posing is =
-    let whole = behind (reading_said sources asked) (λ reading. posed reading) posing is in
+-- the problem that is said is asked
+pub said_asks : (paths : Paths) (sources : Sources) (asked : Asked) (problem : Problem) → problem_said paths sources asked ≡ Says problem → Asks paths sources asked problem
+said_asks paths sources asked problem is =
+    let whole = behind (reading_said sources asked) (λ reading. posed paths reading) problem is in
     let of_tra = behind (game_said sources.tra) (λ game. behind_game sources asked game) whole.0 whole.1 in
     let of_lab = behind (labels_said sources.lab (length of_tra.0)) (λ labels. behind_labels sources asked of_tra.0 labels) whole.0 of_tra.2 in
     let of_own = behind (owners_said asked.own sources.own (length of_tra.0)) (λ owners. behind_owners asked of_tra.0 of_lab.0 owners) whole.0 of_lab.2 in
     let of_formula = behind (formula_read asked.formula) (λ formula. Says (reading_with of_tra.0 of_lab.0 of_own.0 formula)) whole.0 of_own.2 in
-    asks_read sources asked posing of_tra.0 of_lab.0 of_own.0 of_formula.0 whole.0 of_tra.1 of_lab.1 of_own.1 of_formula.1 of_formula.2 whole.2
+    asks_read paths sources asked problem of_tra.0 of_lab.0 of_own.0 of_formula.0 whole.0 of_tra.1 of_lab.1 of_own.1 of_formula.1 of_formula.2 whole.2
 
--- and the question that is asked is said
-pub asks_said : (sources : Sources) (asked : Asked) (posing : Posing) → Asks sources asked posing → question_said sources asked ≡ Says posing
-asks_said sources asked posing asks =
+-- and the problem that is asked is said
+pub asks_said : (paths : Paths) (sources : Sources) (asked : Asked) (problem : Problem) → Asks paths sources asked problem → problem_said paths sources asked ≡ Says problem
+asks_said paths sources asked problem asks =
     let of_tra = is_text Tra OfTra game_of (λ bytes g. DenotesGame bytes g) sources.tra asks.game (λ bytes. text_again number-again choice-again bytes asks.game) asks.tra in
     let of_lab = is_text Lab OfLab (λ bytes. labels_of bytes (length asks.game)) (λ bytes l. DenotesLabels bytes (length asks.game) l) sources.lab asks.labels (λ bytes. labels_of-again bytes (length asks.game) asks.labels) asks.lab in
     let of_own = are_owners asked.own sources.own (length asks.game) asks.owners asks.own in
@@ -117,4 +158,6 @@ asks_said sources asked posing asks =
     ap (λ s. and_then s (λ game. behind_game sources asked game)) of_tra ∙ ap (λ s. and_then s (λ labels. behind_labels sources asked asks.game labels)) of_lab
     ∙ ap (λ s. and_then s (λ owners. behind_owners asked asks.game asks.labels owners)) of_own ∙ ap (λ s. and_then s (λ formula. Says (reading_with asks.game asks.labels asks.owners formula))) of_formula
     in
-    ap (λ s. and_then s (λ reading. posed reading)) read ∙ ap (read_said OfQuestion) (pose-again asks.game asks.labels asks.owners asks.formula posing asks.poses)
+    let kind = asks.formula.kind in
+    ap (λ s. and_then s (λ reading. posed paths reading)) read ∙ ap (λ s. and_then s (λ p. where_taken paths kind p)) (posed_again asks.game asks.labels asks.owners asks.formula problem asks.poses)
+    ∙ ap (λ (b : Bool). cond b (Says problem) (Refuses WrongKind)) asks.taken

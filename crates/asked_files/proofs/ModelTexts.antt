@@ -12,7 +12,7 @@ use Rattle.asked_files.specs.declared.load.End.{End}
 use Rattle.asked_files.specs.declared.load.End.TheVariants.{Refused}
 use Rattle.asked_files.specs.Loading.{Loads}
 use Rattle.asked_files.specs.Said.{Said, NotHeld, Refuses, Says, and_then}
-use Rattle.asked_files.specs.Sources.{Sources, held_own, sources_of, WhereTold, AreSources}
+use Rattle.asked_files.specs.Sources.{Sources, held_own, WhereTold, AreSources}
 use Rattle.asked_files.specs.Texts.{game_said, labels_said, owners_said}
 use Rattle.asked_files.specs.Posed.{Reading, formula_read, reading_with, behind_owners, behind_labels, behind_game, reading_said, posed}
 use Rattle.asked_files.specs.Questions.{LacksText, Reads, ReadsAs}
@@ -111,17 +111,15 @@ pub reads : (holding : Option Holding) (asked : Asked) (reading : Reading) → R
 reads holding asked reading said spelled = record {
   said = said;
   spelled = spelled;
-  asks = λ posing is. record {
+  asks = λ paths problem is. record {
     sources = said.sources;
     told = said.told;
-    asks = said_asks said.sources asked posing (ap (λ s. and_then s (λ r. posed r)) said.says ∙ is);
+    asks = said_asks paths said.sources asked problem (ap (λ s. and_then s (λ r. posed paths r)) said.says ∙ is);
   };
-  refuses = λ refusal is. record { sources = said.sources; told = said.told; refuses = ap (λ s. and_then s (λ r. posed r)) said.says ∙ is };
+  refuses = λ paths refusal is. record { sources = said.sources; told = said.told; refuses = ap (λ s. and_then s (λ r. posed paths r)) said.says ∙ is };
 }
 
 -- where the holding is told, it lacks a text that is not held
 pub lacks : (holding : Option Holding) (asked : Asked) → ReadsAs holding asked NotHeld → LacksText holding asked
 lacks None asked said = tt
-lacks (Some held) asked said =
-    let missing : reading_said (sources_of held asked) asked ≡ NotHeld = subst (λ (s : Sources). reading_said s asked ≡ NotHeld) said.told said.says in
-    ap (λ s. and_then s (λ r. posed r)) missing
+lacks (Some held) asked said = subst (λ (s : Sources). reading_said s asked ≡ NotHeld) said.told said.says

@@ -1,5 +1,5 @@
--- The question that texts and words ask, as a relation.
-use Rattle.std.specs.Prelude.{◌≡◌, ◌≤◌, ℕ, List, length, Option, Some, None}
+-- The problem that texts and words ask, as a relation.
+use Rattle.std.specs.Prelude.{◌≡◌, ◌≤◌, ℕ, true, List, length, Option, Some, None}
 use Rattle.text_lines.specs.Limits.{most_bytes}
 use Rattle.game_model.specs.Game.{Distribution}
 use Rattle.tra_reader.specs.Text.{Denotes as DenotesGame}
@@ -8,8 +8,9 @@ use Rattle.label_reader.specs.Labels.{Labelling}
 use Rattle.label_reader.specs.Owners.{Ownership}
 use Rattle.rpatl_syntax.specs.Formula.{Tree}
 use Rattle.rpatl_syntax.specs.Rules.{Denotes as DenotesFormula}
-use Rattle.formula_sets.specs.Posing.{Posing, Poses}
 use Rattle.command_words.specs.Words.{Asked}
+use Rattle.asked_files.specs.declared.problem.Paths.{Paths}
+use Rattle.asked_files.specs.Problems.{Problem, PosesProblem, takes}
 use Rattle.asked_files.specs.Sources.{Sources}
 use Rattle.asked_files.specs.Texts.{single_owner}
 
@@ -25,8 +26,8 @@ abbrev pub AreOwners : Option (List ℕ) → Option (List ℕ) → ℕ → Owner
 AreOwners None source states owners = owners ≡ single_owner states
 AreOwners (Some name) source states owners = IsText source (λ text. DenotesOwners text states owners)
 
--- The transition text denotes a game, the label text labels of its states, and the owner text owners of them; the formula poses the question of these.
-pub record Asks (sources : Sources) (asked : Asked) (posing : Posing) : Type 0 where
+-- The transition text denotes a game, the label text labels of its states, and the owner text owners of them; the formula poses the problem of these, and has a path that the command takes.
+pub record Asks (paths : Paths) (sources : Sources) (asked : Asked) (problem : Problem) : Type 0 where
   pub game : List (List Distribution)
   pub labels : Labelling
   pub owners : Ownership
@@ -35,4 +36,5 @@ pub record Asks (sources : Sources) (asked : Asked) (posing : Posing) : Type 0 w
   pub lab : IsText sources.lab (λ text. DenotesLabels text (length game) labels)
   pub own : AreOwners asked.own sources.own (length game) owners
   pub spelled : DenotesFormula asked.formula formula
-  pub poses : Poses game labels owners formula posing
+  pub poses : PosesProblem game labels owners formula problem
+  pub taken : takes paths formula.kind ≡ true

@@ -1,7 +1,9 @@
 pub mod Asks
 pub mod Loading
 pub mod Posed
+pub mod Problems
 pub mod Questions
 pub mod Said
+pub mod SeenProblems
 pub mod Sources
 pub mod Texts

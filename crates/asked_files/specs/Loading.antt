@@ -39,6 +39,12 @@ RefusesCaused (Err (Refused refusal)) = IsCaused refusal
 abbrev pub IsTooLong : {X : Type 0} → Result X End → Type 0
 IsTooLong {X} result = (text : Text) × (result ≡ Err (Refused (TooLong text)))
 
+-- what asks nothing of a shelf: it has no fault of reading, refuses nothing for want of memory, and nothing as too long
+pub record ReadsNothing {X : Type 0} (result : Result X End) : Type 0 where
+  pub read : IsErrOf result ReadFault → ⊥
+  pub caused : RefusesCaused result
+  pub short : IsTooLong result → ⊥
+
 -- how much is taken of the last text that loading reads: it is too long exactly where that is more than the limit
 pub record Takes {X : Type 0} (result : Result X End) (taken : ℕ) : Type 0 where
   pub most : taken ≤ most_bytes + piece_size

@@ -1,15 +1,20 @@
--- The question that the words and the texts of a command pose, or their first refusal.
-use Rattle.std.specs.Prelude.{◌≡◌, ℕ, List, length}
+-- The problem that the words and the texts of a command pose, or their first refusal.
+use Rattle.std.specs.Prelude.{◌≡◌, ℕ, List, length, if◌then◌else◌}
 use Rattle.game_model.specs.Game.{Distribution}
 use Rattle.label_reader.specs.Labels.{Labelling}
 use Rattle.label_reader.specs.Owners.{Ownership}
 use Rattle.rpatl_syntax.specs.Formula.{Tree, tree_of}
 use Rattle.rpatl_syntax.specs.Grammar.{formula_said}
-use Rattle.formula_sets.specs.Posing.{Posing, pose_said}
-use Rattle.run_refusals.specs.declared.refusal.Refusal.TheVariants.{OfFormula, OfQuestion}
+use Rattle.rpatl_syntax.specs.Dual.{dual_of}
+use Rattle.rpatl_syntax.specs.declared.formula.PathKind.{PathKind}
+use Rattle.rpatl_syntax.specs.declared.formula.PathKind.TheVariants.{Until, Within, Next, Always}
+use Rattle.formula_sets.specs.Posing.{pose_said, pose_next_said}
+use Rattle.run_refusals.specs.declared.refusal.Refusal.TheVariants.{OfFormula, OfQuestion, WrongKind}
 use Rattle.asked_files.specs.declared.model.Loaded.{Loaded}
 use Rattle.command_words.specs.Words.{Asked}
-use Rattle.asked_files.specs.Said.{Said, Says, and_then, read_said}
+use Rattle.asked_files.specs.declared.problem.Paths.{Paths}
+use Rattle.asked_files.specs.Problems.{Problem, OfUntil, OfWithin, OfNext, OfAlways, takes}
+use Rattle.asked_files.specs.Said.{Said, Refuses, Says, and_then, read_said}
 use Rattle.asked_files.specs.Sources.{Sources}
 use Rattle.asked_files.specs.Texts.{game_said, labels_said, owners_said}
 
@@ -49,10 +54,20 @@ behind_game sources asked game = and_then (labels_said sources.lab (length game)
 abbrev pub reading_said : Sources → Asked → Said Reading
 reading_said sources asked = and_then (game_said sources.tra) (λ game. behind_game sources asked game)
 
--- the question that a reading poses
-abbrev pub posed : Reading → Said Posing
-posed reading = read_said OfQuestion (pose_said reading.game reading.labels reading.owners reading.formula)
+-- the problem that a reading poses, by the kind of its paths
+abbrev pub posed_by : PathKind → Reading → Said Problem
+posed_by Until r = and_then (read_said OfQuestion (pose_said r.game r.labels r.owners r.formula)) (λ posing. Says (OfUntil posing))
+posed_by (Within steps) r = and_then (read_said OfQuestion (pose_said r.game r.labels r.owners r.formula)) (λ posing. Says (OfWithin steps posing))
+posed_by Next r = and_then (read_said OfQuestion (pose_next_said r.game r.labels r.owners r.formula)) (λ posing. Says (OfNext posing))
+posed_by Always r = and_then (read_said OfQuestion (pose_said r.game r.labels r.owners (dual_of r.formula))) (λ posing. Says (OfAlways posing))
 
--- the question that these texts and words pose, or their first refusal
-abbrev pub question_said : Sources → Asked → Said Posing
-question_said sources asked = and_then (reading_said sources asked) (λ reading. posed reading)
+-- it is refused where the command does not take such paths
+abbrev pub where_taken : Paths → PathKind → Problem → Said Problem
+where_taken paths kind problem = if takes paths kind then Says problem else Refuses WrongKind
+
+abbrev pub posed : Paths → Reading → Said Problem
+posed paths reading = and_then (posed_by reading.formula.kind reading) (λ problem. where_taken paths reading.formula.kind problem)
+
+-- the problem that these texts and words pose to a command that takes such paths, or their first refusal
+abbrev pub problem_said : Paths → Sources → Asked → Said Problem
+problem_said paths sources asked = and_then (reading_said sources asked) (λ reading. posed paths reading)

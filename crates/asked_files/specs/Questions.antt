@@ -4,36 +4,37 @@ use Rattle.text_lines.specs.Limits.{most_bytes}
 use Rattle.game_outside.specs.Outside.{Holding}
 use Rattle.game_model.specs.Query.{Query}
 use Rattle.rpatl_syntax.specs.Rules.{Denotes}
-use Rattle.formula_sets.specs.Posing.{Posing}
 use Rattle.certificate_audit.specs.Refused.{IsRefused}
 use Rattle.command_words.specs.Words.{Asked}
 use Rattle.run_refusals.specs.declared.refusal.Refusal.{Refusal}
 use Rattle.run_refusals.specs.declared.refusal.Refusal.TheVariants.{OfCertificate, TooLong}
 use Rattle.run_refusals.specs.declared.refusal.Text.TheVariants.{Cert}
+use Rattle.asked_files.specs.declared.problem.Paths.{Paths}
+use Rattle.asked_files.specs.Problems.{Problem}
 use Rattle.asked_files.specs.Said.{Said, NotHeld, Refuses, Says}
 use Rattle.asked_files.specs.Sources.{Sources, WhereTold, AreSources, sources_of}
-use Rattle.asked_files.specs.Posed.{Reading, reading_said, posed, question_said}
+use Rattle.asked_files.specs.Posed.{Reading, reading_said, posed, problem_said}
 use Rattle.asked_files.specs.Asks.{IsText, Asks}
 
--- 1. The question.
+-- 1. The problem.
 
--- there are texts, which are those that are held where this is told, that ask this question with the words
-pub record PosesIt (holding : Option Holding) (asked : Asked) (posing : Posing) : Type 0 where
+-- there are texts, which are those that are held where this is told, that ask this problem with the words, of a command that takes such paths
+pub record PosesIt (holding : Option Holding) (asked : Asked) (paths : Paths) (problem : Problem) : Type 0 where
   pub sources : Sources
   pub told : AreSources holding asked sources
-  pub asks : Asks sources asked posing
+  pub asks : Asks paths sources asked problem
 
 -- there are such texts of which, with the words, this is the first refusal
-pub record RefusesQuestion (holding : Option Holding) (asked : Asked) (refusal : Refusal) : Type 0 where
+pub record RefusesQuestion (holding : Option Holding) (asked : Asked) (paths : Paths) (refusal : Refusal) : Type 0 where
   pub sources : Sources
   pub told : AreSources holding asked sources
-  pub refuses : question_said sources asked ≡ Refuses refusal
+  pub refuses : problem_said paths sources asked ≡ Refuses refusal
 
--- where the holding is told, it lacks a text that the question needs, and those before it are accepted
+-- where the holding is told, it lacks a text that is needed, and those before it are accepted
 abbrev pub LacksText : Option Holding → Asked → Type 0
-LacksText holding asked = WhereTold holding (λ held. question_said (sources_of held asked) asked ≡ NotHeld)
+LacksText holding asked = WhereTold holding (λ held. reading_said (sources_of held asked) asked ≡ NotHeld)
 
--- 2. What is read before the question is posed.
+-- 2. What is read before the problem is posed.
 
 -- there are such texts that with the words say this of a game, labels, owners and a formula
 pub record ReadsAs (holding : Option Holding) (asked : Asked) (said : Said Reading) : Type 0 where
@@ -41,12 +42,12 @@ pub record ReadsAs (holding : Option Holding) (asked : Asked) (said : Said Readi
   pub told : AreSources holding asked sources
   pub says : reading_said sources asked ≡ said
 
--- They say this reading. Its formula is the one that the words spell; the question that it poses is the one that is asked, and where it poses none, so is the refusal.
+-- They say this reading. Its formula is the one that the words spell; the problem that it poses to a command is the one that is asked, and where it poses none, so is the refusal.
 pub record Reads (holding : Option Holding) (asked : Asked) (reading : Reading) : Type 0 where
   pub said : ReadsAs holding asked (Says reading)
   pub spelled : Denotes asked.formula reading.formula
-  pub asks : (posing : Posing) → posed reading ≡ Says posing → PosesIt holding asked posing
-  pub refuses : (refusal : Refusal) → posed reading ≡ Refuses refusal → RefusesQuestion holding asked refusal
+  pub asks : (paths : Paths) (problem : Problem) → posed paths reading ≡ Says problem → PosesIt holding asked paths problem
+  pub refuses : (paths : Paths) (refusal : Refusal) → posed paths reading ≡ Refuses refusal → RefusesQuestion holding asked paths refusal
 
 -- 3. The certificate of an audit.
 

@@ -1,24 +1,30 @@
-//! What a command names, loaded: a game, its labels, its owners and a formula.
+//! What a command names, loaded: a game, its labels, its owners and a formula; and the problem that these pose.
 
 ghost use Rattle.std.specs.Prelude.{◌≡◌, ◌≢◌, ◌<◌, All, Err, IfOk, IsErrOf, true};
 ghost use Rattle.game_model.specs.Query.{states};
+ghost use Rattle.rpatl_syntax.specs.Dual.{IsAtMostOne, dual_of};
 ghost use Rattle.rpatl_syntax.specs.Formula.{tree_of};
 ghost use Rattle.rpatl_syntax.specs.Rules.{Denotes};
-ghost use Rattle.formula_sets.specs.Seen.{posing_of};
+ghost use Rattle.formula_sets.specs.Posing.{IsUntil, pose_said, pose_next_said};
+ghost use Rattle.formula_sets.specs.Seen.{posing_of, next_posing_of};
 ghost use Rattle.command_words.specs.Words.{asked_of_words};
 ghost use Rattle.run_refusals.specs.declared.refusal.Refusal.{Refusal};
-ghost use Rattle.asked_files.specs.Said.{Refuses, Says};
-ghost use Rattle.asked_files.specs.Loading.{LoadingLeaves, Loads, IsTooLong, RefusesCaused};
-ghost use Rattle.asked_files.specs.Posed.{HasSizes, formula_read, posed, reading_of};
+ghost use Rattle.asked_files.specs.Said.{Refuses, read_said};
+ghost use Rattle.asked_files.specs.Loading.{LoadingLeaves, Loads, IsTooLong, ReadsNothing, RefusesCaused};
+ghost use Rattle.asked_files.specs.Posed.{HasSizes, formula_read, posed, posed_by, reading_of};
+ghost use Rattle.asked_files.specs.Problems.{initial_of, question_of};
+ghost use Rattle.asked_files.specs.SeenProblems.{HasDual, IsOfKind, problem_of};
 ghost use Rattle.asked_files.specs.Questions.{LacksText, Reads, ReadsAs};
 
 use crate::load::{End, load_game, load_labels, load_owners};
+use crate::problem::{Paths, Problem};
 use command_words::AskedWords;
-use formula_sets::{PoseFault, Posed, pose};
+use formula_sets::{PoseFault, Posed, PosedNext, pose, pose_next};
 use game_model::Game;
 use game_outside::Shelf;
 use label_reader::{Labels, Owners};
-use rpatl_syntax::{Formula, FormulaCause, read_formula};
+use rpatl_syntax::laws::thresholds_are_at_most_one;
+use rpatl_syntax::{Formula, FormulaCause, PathKind, dual, read_formula};
 use run_refusals::Refusal;
 use std::alloc::Global;
 
@@ -35,10 +41,13 @@ pub struct Loaded {
 fn load_formula(alloc: Global, text: &str) -> Result<Formula, End>
     ensures says { Loads tree_of result (formula_read text.now) }
     ensures spelled { IfOk result (λ formula. Denotes text.now (tree_of formula)) }
+    ensures share { IfOk result (λ formula. IsAtMostOne formula.bound) }
     ensures read { IsErrOf result End.ReadFault → ⊥ }
     ensures caused { RefusesCaused result }
     ensures short { IsTooLong result → ⊥ }
 {
+    // A law: this call does nothing.
+    thresholds_are_at_most_one();
     match read_formula(alloc, text) {
         Ok(formula) => Ok(formula),
         Err(fault) => match fault.cause {
@@ -56,6 +65,7 @@ pub fn load_model<H: Shelf>(
 ) -> Result<Loaded, End>
     ensures reads { IfOk result (λ loaded. Reads (H.held shelf.old) (asked_of_words asked.now) (reading_of loaded)) }
     ensures sizes { IfOk result (λ loaded. HasSizes loaded.game loaded.labels loaded.owners) }
+    ensures share { IfOk result (λ loaded. IsAtMostOne loaded.formula.bound) }
     ensures refused { (refusal : Refusal) → result ≡ Err (End.Refused refusal) → ReadsAs (H.held shelf.old) (asked_of_words asked.now) (Refuses refusal) }
     ensures steadily { IsErrOf result End.ReadFault → H.steady shelf.old ≡ true → LacksText (H.held shelf.old) (asked_of_words asked.now) }
     ensures shelf { LoadingLeaves H.held H.steady H.faults H.taken shelf.old shelf.new result }
@@ -73,17 +83,85 @@ pub fn load_model<H: Shelf>(
     })
 }
 
-/// The question that what was loaded poses.
-pub fn pose_loaded(alloc: Global, loaded: &Loaded) -> Result<Posed<'_>, End>
-    requires { HasSizes loaded.now.game loaded.now.labels loaded.now.owners }
-    ensures posed { IfOk result (λ it. posed (reading_of loaded.now) ≡ Says (posing_of it)) }
-    ensures inside { IfOk result (λ posed. All (λ s. s < states posed.question) posed.initial.items) }
-    ensures refused { (refusal : Refusal) → result ≡ Err (End.Refused refusal) → posed (reading_of loaded.now) ≡ Refuses refusal }
-    ensures read { IsErrOf result End.ReadFault → ⊥ }
-    ensures caused { RefusesCaused result }
-    ensures short { IsTooLong result → ⊥ }
+/// The problem that what was loaded poses to a command that takes such paths.
+pub fn pose_loaded(alloc: Global, loaded: &Loaded, paths: Paths) -> Result<Problem<'_>, End>
+    requires sizes { HasSizes loaded.now.game loaded.now.labels loaded.now.owners }
+    requires share { IsAtMostOne loaded.now.formula.bound }
+    ensures says { Loads problem_of result (posed paths (reading_of loaded.now)) }
+    ensures kind { IfOk result (IsOfKind loaded.now.formula.kind) }
+    ensures dual { IfOk result (HasDual (tree_of loaded.now.formula)) }
+    ensures inside { IfOk result (λ it. All (λ s. s < states (question_of (problem_of it))) (initial_of (problem_of it))) }
+    ensures nothing { ReadsNothing result }
 {
-    match pose(
+    let problem = pose_kind(alloc, loaded)?;
+    if paths.takes(loaded.formula.kind) {
+        Ok(problem)
+    } else {
+        Err(End::Refused(Refusal::WrongKind))
+    }
+}
+
+// The problem of what was loaded, by the kind of its paths.
+fn pose_kind(alloc: Global, loaded: &Loaded) -> Result<Problem<'_>, End>
+    requires sizes { HasSizes loaded.now.game loaded.now.labels loaded.now.owners }
+    requires share { IsAtMostOne loaded.now.formula.bound }
+    ensures says { Loads problem_of result (posed_by loaded.now.formula.kind (reading_of loaded.now)) }
+    ensures kind { IfOk result (IsOfKind loaded.now.formula.kind) }
+    ensures dual { IfOk result (HasDual (tree_of loaded.now.formula)) }
+    ensures inside { IfOk result (λ it. All (λ s. s < states (question_of (problem_of it))) (initial_of (problem_of it))) }
+    ensures nothing { ReadsNothing result }
+{
+    match loaded.formula.kind {
+        PathKind::Until => Ok(Problem::Until(pose_reach(alloc, loaded, &loaded.formula)?)),
+        PathKind::Within(steps) => {
+            let posed = pose_reach(alloc, loaded, &loaded.formula)?;
+            Ok(Problem::Within(posed, steps))
+        }
+        PathKind::Next => Ok(Problem::Next(pose_step(alloc, loaded)?)),
+        PathKind::Always => {
+            let dual = dual_of_formula(alloc, &loaded.formula)?;
+            let posed = pose_reach(alloc, loaded, &dual)?;
+            Ok(Problem::Always(posed, dual))
+        }
+    }
+}
+
+// The dual of a formula.
+fn dual_of_formula(alloc: Global, formula: &Formula) -> Result<Formula, End>
+    requires always { formula.now.kind ≡ PathKind.Always }
+    requires share { IsAtMostOne formula.now.bound }
+    ensures dual { IfOk result (λ it. tree_of it ≡ dual_of (tree_of formula.now)) }
+    ensures memory { (end : End) → result ≡ Err end → end ≡ End.OutOfMemory }
+{
+    match dual(alloc, formula) {
+        Ok(formula) => Ok(formula),
+        Err(_) => Err(End::OutOfMemory),
+    }
+}
+
+// The question of a formula whose goals are reached.
+fn pose_reach<'g>(alloc: Global, loaded: &'g Loaded, formula: &Formula) -> Result<Posed<'g>, End>
+    requires sizes { HasSizes loaded.now.game loaded.now.labels loaded.now.owners }
+    requires kind { IsUntil formula.now.kind }
+    ensures says { Loads posing_of result (read_said Refusal.OfQuestion (pose_said loaded.now.game loaded.now.labels loaded.now.owners (tree_of formula.now))) }
+    ensures inside { IfOk result (λ posed. All (λ s. s < states posed.question) posed.initial.items) }
+    ensures nothing { ReadsNothing result }
+{
+    match pose(alloc, &loaded.game, &loaded.labels, &loaded.owners, formula) {
+        Ok(posed) => Ok(posed),
+        Err(fault) => Err(end_of_question(fault)),
+    }
+}
+
+// The question of a formula with `X`.
+fn pose_step(alloc: Global, loaded: &Loaded) -> Result<PosedNext<'_>, End>
+    requires sizes { HasSizes loaded.now.game loaded.now.labels loaded.now.owners }
+    requires kind { loaded.now.formula.kind ≡ PathKind.Next }
+    ensures says { Loads next_posing_of result (read_said Refusal.OfQuestion (pose_next_said loaded.now.game loaded.now.labels loaded.now.owners (tree_of loaded.now.formula))) }
+    ensures inside { IfOk result (λ posed. All (λ s. s < states posed.question) posed.initial.items) }
+    ensures nothing { ReadsNothing result }
+{
+    match pose_next(
         alloc,
         &loaded.game,
         &loaded.labels,

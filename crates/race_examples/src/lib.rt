@@ -5,6 +5,8 @@
 #[cfg(test)]
 mod almost_sure_sets;
 #[cfg(test)]
+mod bounded_games;
+#[cfg(test)]
 mod brackets;
 #[cfg(test)]
 mod certificates;

@@ -132,7 +132,7 @@ fn repeat<P: Posing + Send + Sync, R: Threads + Sync>(
     ensures { Grew pass result }
 {
     for _turn in 0..count {
-        pass = round(rt, table, predecessors, pass, marks, more, 2, gate).pass;
+        pass = round(rt, table, predecessors, pass, marks, more, true, 2, gate).pass;
     }
     pass
 }

@@ -39,6 +39,11 @@ question-one (question.UnknownPlayer name) (question.UnknownPlayer other) e = le
 question-one question.NoInit question.NoInit e = refl
 question-one a b e = absurd (omega (arith, at e 0, at e 7))
 
+-- no fault of a question reads as that its path is of the wrong kind
+pub question-not_kind : (fault : PoseFault) → question_text fault ≡ codes "WrongKind" → ⊥
+question-not_kind question.OutOfMemory e = omega (arith, at e 0)
+question-not_kind fault e = omega (arith, at e 0)
+
 pub formula-one : (a b : FormulaCause) → formula_text a ≡ formula_text b → a ≡ b
 formula-one formula.OutOfMemory formula.OutOfMemory e = refl
 formula-one formula.Unexpected formula.Unexpected e = refl
@@ -48,6 +53,7 @@ formula-one (formula.BadNumber fault) (formula.BadNumber other) e = let same = n
 formula-one formula.ThresholdOutOfRange formula.ThresholdOutOfRange e = refl
 formula-one formula.TooLong formula.TooLong e = refl
 formula-one formula.NotYet formula.NotYet e = refl
+formula-one formula.BadSteps formula.BadSteps e = refl
 formula-one a b e = absurd (omega (arith, at e 0, at e 3))
 
 pub lab-one : (a b : LabCause) → LabInFull a → LabInFull b → lab_text a ≡ lab_text b → a ≡ b

@@ -19,12 +19,12 @@ use Rattle.certificate_audit.specs.declared.fault.AuditFault.TheVariants as audi
 use Rattle.run_refusals.specs.declared.refusal.Text.{Text}
 use Rattle.run_refusals.specs.declared.refusal.Text.TheVariants.{Tra, Lab, Own, Cert}
 use Rattle.run_refusals.specs.declared.refusal.Refusal.{Refusal}
-use Rattle.run_refusals.specs.declared.refusal.Refusal.TheVariants.{OfTra, OfLab, OfOwn, OfFormula, OfQuestion, OfCertificate, TooLong}
-use Rattle.run_refusals.specs.Refusals.{refused_line, certificate_refused, refusal_text, question_text, plan_cause_text, upper_text, ranks_text}
+use Rattle.run_refusals.specs.declared.refusal.Refusal.TheVariants.{OfTra, OfLab, OfOwn, OfFormula, OfQuestion, WrongKind, OfCertificate, TooLong}
+use Rattle.run_refusals.specs.Refusals.{refused_line, certificate_refused, refusal_text, question_line, question_text, plan_cause_text, upper_text, ranks_text}
 use Rattle.run_refusals.specs.InFull.{IsInFull, CertificateInFull, RefusalInFull}
 use Rattle.verdicts.proofs.Numbers.{number-one}
 use Rattle.run_refusals.proofs.Labelled.{at}
-use Rattle.run_refusals.proofs.OneCause.{tra-one, lab-one, formula-one, question-one, tra-not_long, lab-not_long, plan_cause-one, upper-one, ranks-one, plan_cause-not_upper, plan_cause-not_ranks, upper-not_ranks, plan_cause-not_long, upper-not_long, ranks-not_long}
+use Rattle.run_refusals.proofs.OneCause.{tra-one, lab-one, formula-one, question-one, question-not_kind, tra-not_long, lab-not_long, plan_cause-one, upper-one, ranks-one, plan_cause-not_upper, plan_cause-not_ranks, upper-not_ranks, plan_cause-not_long, upper-not_long, ranks-not_long}
 
 -- a number, and a cause to the end of the line
 numbered_cause-one : (m n : ℕ) (cause other : List ℕ) → IsInFull m → IsInFull n → decimal m ++ 32 ∷ (cause ++ codes "\n") ≡ decimal n ++ 32 ∷ (other ++ codes "\n") → (m ≡ n) × (cause ≡ other)
@@ -124,6 +124,7 @@ kind_read line = if get_or line 8 0 == 102 then 1 else (if get_or line 8 0 == 11
 abbrev kind_of : Refusal → ℕ
 kind_of (OfFormula fault) = 1
 kind_of (OfQuestion fault) = 2
+kind_of WrongKind = 2
 kind_of refusal = 0
 
 kind_read-line : (refusal : Refusal) → kind_read (refusal_text refusal) ≡ kind_of refusal
@@ -146,6 +147,9 @@ formula_fault : (fault other : FormulaFault) → fault.place ≡ other.place →
 formula_fault fault other place cause =
     let made : ℕ → FormulaCause → FormulaFault = λ l c. record { place = l; cause = c } in
     ap (λ l. made l fault.cause) place ∙ ap (λ c. made other.place c) cause
+
+question_cause-one : (cause other : List ℕ) → question_line cause ≡ question_line other → cause ≡ other
+question_cause-one cause other e = append_cancel_right cause other (codes "\n") (append_cancel_left (codes "refused question line 0 ") _ _ e)
 
 pub refusal-one : (a b : Refusal) → RefusalInFull a → RefusalInFull b → refusal_text a ≡ refusal_text b → a ≡ b
 refusal-one (OfTra fault) (OfTra other) ha hb e =
@@ -176,9 +180,10 @@ refusal-one (OfCertificate other) (OfOwn fault) ha hb e = absurd (not_certificat
 refusal-one (OfFormula fault) (OfFormula other) ha hb e =
     let parts = numbered_cause-one fault.place other.place _ _ ha hb (append_cancel_left (codes "refused formula place ") _ _ e) in
     ap OfFormula (formula_fault fault other parts.0 (formula-one fault.cause other.cause parts.1))
-refusal-one (OfQuestion fault) (OfQuestion other) ha hb e =
-    let cause = append_cancel_right (question_text fault) (question_text other) (codes "\n") (append_cancel_left (codes "refused question line 0 ") _ _ e) in
-    ap OfQuestion (question-one fault other cause)
+refusal-one (OfQuestion fault) (OfQuestion other) ha hb e = ap OfQuestion (question-one fault other (question_cause-one (question_text fault) (question_text other) e))
+refusal-one WrongKind WrongKind ha hb e = refl
+refusal-one (OfQuestion fault) WrongKind ha hb e = absurd (question-not_kind fault (question_cause-one (question_text fault) (codes "WrongKind") e))
+refusal-one WrongKind (OfQuestion fault) ha hb e = absurd (question-not_kind fault (question_cause-one (question_text fault) (codes "WrongKind") (sym e)))
 refusal-one a b ha hb e =
     let kind : kind_of a ≡ kind_of b = sym (kind_read-line a) ∙ ap kind_read e ∙ kind_read-line b in
     absurd (omega (arith, kind, at e 8))

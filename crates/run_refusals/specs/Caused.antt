@@ -6,7 +6,7 @@ use Rattle.rpatl_syntax.specs.declared.fault.FormulaCause.TheVariants as formula
 use Rattle.formula_sets.specs.declared.fault.PoseFault.TheVariants as question
 use Rattle.certificate_audit.specs.Refused.{IsWant}
 use Rattle.run_refusals.specs.declared.refusal.Refusal.{Refusal}
-use Rattle.run_refusals.specs.declared.refusal.Refusal.TheVariants.{OfTra, OfLab, OfOwn, OfFormula, OfQuestion, OfCertificate, TooLong}
+use Rattle.run_refusals.specs.declared.refusal.Refusal.TheVariants.{OfTra, OfLab, OfOwn, OfFormula, OfQuestion, WrongKind, OfCertificate, TooLong}
 
 -- a text, a formula or a question is at fault, and not memory
 abbrev pub IsCaused : Refusal → Type 0
@@ -15,5 +15,6 @@ IsCaused (OfLab fault) = fault.cause ≢ lab.OutOfMemory
 IsCaused (OfOwn fault) = fault.cause ≢ lab.OutOfMemory
 IsCaused (OfFormula fault) = fault.cause ≢ formula.OutOfMemory
 IsCaused (OfQuestion fault) = fault ≢ question.OutOfMemory
+IsCaused WrongKind = Unit {0}
 IsCaused (OfCertificate fault) = ¬ IsWant fault
 IsCaused (TooLong text) = Unit {0}

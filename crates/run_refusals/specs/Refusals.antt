@@ -24,7 +24,7 @@ use Rattle.certificate_audit.specs.declared.fault.AuditFault.TheVariants as audi
 use Rattle.run_refusals.specs.declared.refusal.Text.{Text}
 use Rattle.run_refusals.specs.declared.refusal.Text.TheVariants.{Tra, Lab, Own, Cert}
 use Rattle.run_refusals.specs.declared.refusal.Refusal.{Refusal}
-use Rattle.run_refusals.specs.declared.refusal.Refusal.TheVariants.{OfTra, OfLab, OfOwn, OfFormula, OfQuestion, OfCertificate, TooLong}
+use Rattle.run_refusals.specs.declared.refusal.Refusal.TheVariants.{OfTra, OfLab, OfOwn, OfFormula, OfQuestion, WrongKind, OfCertificate, TooLong}
 
 -- a name and a number behind it
 abbrev pub numbered : List ℕ → ℕ → List ℕ
@@ -89,6 +89,7 @@ formula_text (formula.BadNumber fault) = codes "BadNumber " ++ number_text fault
 formula_text formula.ThresholdOutOfRange = codes "ThresholdOutOfRange"
 formula_text formula.TooLong = codes "TooLong"
 formula_text formula.NotYet = codes "NotYet"
+formula_text formula.BadSteps = codes "BadSteps"
 
 abbrev pub question_text : PoseFault → List ℕ
 question_text question.OutOfMemory = codes "OutOfMemory"
@@ -134,9 +135,13 @@ refused_line text line cause = codes "refused " ++ (name_of_text text ++ (number
 abbrev pub formula_refused : FormulaFault → List ℕ
 formula_refused fault = codes "refused formula place " ++ (decimal fault.place ++ (32 ∷ (formula_text fault.cause ++ codes "\n")))
 
+-- why a question is refused
+abbrev pub question_line : List ℕ → List ℕ
+question_line cause = codes "refused question line 0 " ++ (cause ++ codes "\n")
+
 -- a fault of the question; a name is printed as its bytes
 abbrev pub question_refused : PoseFault → List ℕ
-question_refused fault = codes "refused question line 0 " ++ (question_text fault ++ codes "\n")
+question_refused fault = question_line (question_text fault)
 
 -- a fault of a certificate: of its text, with the line, or of what it says, with the state
 abbrev pub certificate_refused : AuditFault → List ℕ
@@ -150,6 +155,7 @@ refusal_text (OfLab fault) = refused_line Lab fault.line (lab_text fault.cause)
 refusal_text (OfOwn fault) = refused_line Own fault.line (lab_text fault.cause)
 refusal_text (OfFormula fault) = formula_refused fault
 refusal_text (OfQuestion fault) = question_refused fault
+refusal_text WrongKind = question_line (codes "WrongKind")
 refusal_text (OfCertificate fault) = certificate_refused fault
 refusal_text (TooLong text) = refused_line text 0 (codes "TooLong")
 

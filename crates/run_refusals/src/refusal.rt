@@ -50,6 +50,8 @@ pub enum Refusal {
     OfFormula(FormulaFault),
     /// The formula poses no question.
     OfQuestion(PoseFault),
+    /// The command takes no formula with such a path.
+    WrongKind,
     /// A fault of the certificate.
     OfCertificate(AuditFault),
     /// A file has more bytes than are read.
@@ -75,6 +77,7 @@ pub fn refusal_line(alloc: Global, refusal: &Refusal) -> Result<Vec<u8>, AllocEr
         }
         Refusal::OfFormula(fault) => formula_line(alloc, fault),
         Refusal::OfQuestion(fault) => question_line(alloc, fault),
+        Refusal::WrongKind => question_cause(alloc, b"WrongKind", b""),
         Refusal::OfCertificate(fault) => certificate_line(alloc, *fault),
         Refusal::TooLong(text) => refused(alloc, *text, 0, "TooLong"),
     }

@@ -3,21 +3,23 @@ use Rattle.std.proofs.Common.{◌≡◌, ◌≤◌, ◌∙◌, inl, inr, ℕ, Bo
 use Rattle.std.specs.Prelude.{IfOk, IsErrOf}
 use Rattle.text_lines.specs.Limits.{most_bytes}
 use Rattle.game_outside.specs.Outside.{Holding}
-use Rattle.formula_sets.specs.Posing.{Posing}
 use Rattle.command_words.specs.Words.{Asked, Check, Audit, Command, OfCheck, OfAudit, OfSure}
 use Rattle.run_refusals.specs.declared.refusal.Refusal.{Refusal}
 use Rattle.run_refusals.specs.declared.refusal.Refusal.TheVariants.{TooLong}
 use Rattle.asked_files.specs.declared.load.End.{End}
 use Rattle.asked_files.specs.declared.load.End.TheVariants.{OutOfMemory, ReadFault, Refused}
-use Rattle.asked_files.specs.Said.{NotHeld, Refuses, and_then}
+use Rattle.asked_files.specs.declared.problem.Paths.{Paths}
+use Rattle.asked_files.specs.declared.problem.Paths.TheVariants.{Unbounded, Reaching}
+use Rattle.asked_files.specs.Problems.{Problem, question_of}
+use Rattle.asked_files.specs.Said.{Said, NotHeld, Refuses, and_then}
 use Rattle.asked_files.specs.Sources.{Sources, HasSource, WhereTold, sources_of}
-use Rattle.asked_files.specs.Loading.{IsTooLong, LoadingLeaves, RefusesCaused, Takes}
-use Rattle.asked_files.specs.Posed.{Reading, posed, question_said}
+use Rattle.asked_files.specs.Loading.{IsTooLong, LoadingLeaves, Loads, ReadsNothing, RefusesCaused, Takes}
+use Rattle.asked_files.specs.Posed.{Reading, posed, reading_said}
 use Rattle.asked_files.specs.Asks.{Asks}
 use Rattle.asked_files.specs.Questions.{LacksText, PosesIt, Reads, ReadsAs, RefusesCertificate, RefusesQuestion}
 use Rattle.stogame_app.specs.declared.answer.Answer.{Answer}
 use Rattle.stogame_app.specs.Status.{IsAnswer}
-use Rattle.stogame_app.specs.Commands.{IsMissing, IsReportOf, ReadsFiles, RefusesIt}
+use Rattle.stogame_app.specs.Commands.{IsMissing, IsReportOf, ReadsFiles, RefusesIt, check_paths}
 use Rattle.stogame_app.specs.Answers.{IsAnswered}
 
 -- 1. An end is the same of another answer.
@@ -47,38 +49,42 @@ answer_small x taken takes = grind arith
 -- 2. A question, and what is held.
 
 -- the first refusal of what is read is that of the question
-reading_refuses : (holding : Option Holding) (asked : Asked) (refusal : Refusal) → ReadsAs holding asked (Refuses refusal) → RefusesQuestion holding asked refusal
-reading_refuses holding asked refusal said = record { sources = said.sources; told = said.told; refuses = ap (λ s. and_then s (λ reading. posed reading)) said.says }
+reading_refuses : (holding : Option Holding) (asked : Asked) (paths : Paths) (refusal : Refusal) → ReadsAs holding asked (Refuses refusal) → RefusesQuestion holding asked paths refusal
+reading_refuses holding asked paths refusal said = record { sources = said.sources; told = said.told; refuses = ap (λ s. and_then s (λ reading. posed paths reading)) said.says }
+
+-- what is refused is said
+is_refused : {X Y : Type 0} (view : X → Y) (said : Said Y) (end : End) (refusal : Refusal) → ◌≡◌ {A = Result X End} (Err end) (Err (Refused refusal)) → Loads view (Err end) said → said ≡ Refuses refusal
+is_refused {X} view said end refusal is loads = subst (λ (r : Result X End). Loads view r said) is loads
 
 where_told : (holding : Option Holding) (P Q : Holding → Type 0) → ((held : Holding) → P held → Q held) → WhereTold holding P → WhereTold holding Q
 where_told None P Q weaker is = tt
 where_told (Some held) P Q weaker is = weaker held is
 
 -- the question that is posed is asked by the texts that are held, and the certificate is not held
-lacks_certificate : (holding : Option Holding) (audit : Audit) (posing : Posing) → PosesIt holding audit.asked posing → WhereTold holding (λ held. held audit.certificate ≡ None) → WhereTold holding (λ held. IsMissing held (OfAudit audit))
-lacks_certificate None audit posing poses none = tt
-lacks_certificate (Some held) audit posing poses none = inr ((posing, subst (λ (s : Sources). Asks s audit.asked posing) poses.told poses.asks), none)
+lacks_certificate : (holding : Option Holding) (audit : Audit) (problem : Problem) → PosesIt holding audit.asked Unbounded problem → WhereTold holding (λ held. held audit.certificate ≡ None) → WhereTold holding (λ held. IsMissing held (OfAudit audit))
+lacks_certificate None audit problem poses none = tt
+lacks_certificate (Some held) audit problem poses none = inr ((problem, subst (λ (s : Sources). Asks Unbounded s audit.asked problem) poses.told poses.asks), none)
 
--- 3. A command that asks the question of these words: a refusal of the question is one of the command, and so is a text that is not held.
-pub record AsksQuestion (command : Command) (asked : Asked) : Type 0 where
+-- 3. A command that takes such paths and asks the problem of these words: a refusal of the problem is one of the command, and so is a text that is not held.
+pub record AsksQuestion (command : Command) (asked : Asked) (paths : Paths) : Type 0 where
   pub reads : ReadsFiles command
-  pub refuses : (holding : Option Holding) (refusal : Refusal) → RefusesQuestion holding asked refusal → RefusesIt holding command refusal
+  pub refuses : (holding : Option Holding) (refusal : Refusal) → RefusesQuestion holding asked paths refusal → RefusesIt holding command refusal
   pub lacks : (holding : Option Holding) → LacksText holding asked → WhereTold holding (λ held. IsMissing held command)
 
-pub check_asks : (check : Check) → AsksQuestion (OfCheck check) check.asked
+pub check_asks : (check : Check) → AsksQuestion (OfCheck check) check.asked (check_paths check)
 check_asks check = record { reads = tt; refuses = λ holding refusal refused. refused; lacks = λ holding lacks. lacks }
 
-pub sure_asks : (asked : Asked) → AsksQuestion (OfSure asked) asked
+pub sure_asks : (asked : Asked) → AsksQuestion (OfSure asked) asked Reaching
 sure_asks asked = record { reads = tt; refuses = λ holding refusal refused. refused; lacks = λ holding lacks. lacks }
 
-pub audit_asks : (audit : Audit) → AsksQuestion (OfAudit audit) audit.asked
+pub audit_asks : (audit : Audit) → AsksQuestion (OfAudit audit) audit.asked Unbounded
 audit_asks audit = record {
   reads = tt;
   refuses = λ holding refusal refused. inl refused;
-  lacks = λ holding lacks. where_told holding (λ held. question_said (sources_of held audit.asked) audit.asked ≡ NotHeld) (λ held. IsMissing held (OfAudit audit)) (λ held missing. inl missing) lacks;
+  lacks = λ holding lacks. where_told holding (λ held. reading_said (sources_of held audit.asked) audit.asked ≡ NotHeld) (λ held. IsMissing held (OfAudit audit)) (λ held missing. inl missing) lacks;
 }
 
-module _ {S : Type 0} {held : S → Option Holding} {steady : S → Bool} {faults took : S → ℕ} {command : Command} {asked : Asked} {old new : S} (asks : AsksQuestion command asked) where
+module _ {S : Type 0} {held : S → Option Holding} {steady : S → Bool} {faults took : S → ℕ} {command : Command} {asked : Asked} {paths : Paths} {old new : S} (asks : AsksQuestion command asked paths) where
   -- where a text was not loaded
   pub unloaded : {X : Type 0} {end : End} → ((refusal : Refusal) → ◌≡◌ {A = Result X End} (Err end) (Err (Refused refusal)) → ReadsAs (held old) asked (Refuses refusal))
       → (IsErrOf {T = X} (Err end) ReadFault → steady old ≡ true → LacksText (held old) asked) → LoadingLeaves {X = X} held steady faults took old new (Err end) → RefusesCaused {X = X} (Err end)
@@ -86,7 +92,7 @@ module _ {S : Type 0} {held : S → Option Holding} {steady : S → Bool} {fault
   unloaded {X} {end} refused steadily leaves caused = record {
     answered = tt;
     status = tt;
-    refused = λ refusal is. asks.refuses (held old) refusal (reading_refuses (held old) asked refusal (refused refusal (same_end end (Refused refusal) is)));
+    refused = λ refusal is. asks.refuses (held old) refusal (reading_refuses (held old) asked paths refusal (refused refusal (same_end end (Refused refusal) is)));
     caused = same_caused X Answer end caused;
     read_fault = λ is. (leaves.read_fault (same_end end ReadFault is), asks.reads);
     steadily = λ is calm. asks.lacks (held old) (steadily (same_end end ReadFault is) calm);
@@ -110,13 +116,12 @@ module _ {S : Type 0} {held : S → Option Holding} {steady : S → Bool} {fault
         untouched = λ none. absurd (none asks.reads);
       }
 
-  -- where the question was not posed
-  pub unposed : {X Y : Type 0} {x : X} {end : End} {reading : Reading} → LoadingLeaves held steady faults took old new (Ok x) → Reads (held old) asked reading
-      → ((refusal : Refusal) → ◌≡◌ {A = Result Y End} (Err end) (Err (Refused refusal)) → posed reading ≡ Refuses refusal) → RefusesCaused {X = Y} (Err end) → (IsErrOf {T = Y} (Err end) ReadFault → ⊥) → (IsTooLong {X = Y} (Err end) → ⊥)
-      → IsAnswered held steady faults took command old new (Err end)
-  unposed {X} {Y} {x} {end} leaves reads refused caused read short =
-      behind leaves (Err end) tt tt (λ refusal is. asks.refuses (held old) refusal (reads.refuses refusal (refused refusal (same_end end (Refused refusal) is)))) (same_caused Y Answer end caused)
-      (λ is. read (same_end end ReadFault is)) (λ long. short (long.0, same_end end (Refused (TooLong long.0)) long.1))
+  -- where the problem was not posed
+  pub unposed : {X Y : Type 0} {x : X} {end : End} {reading : Reading} (view : Y → Problem) → LoadingLeaves held steady faults took old new (Ok x) → Reads (held old) asked reading → Loads view (Err end) (posed paths reading)
+      → ReadsNothing {X = Y} (Err end) → IsAnswered held steady faults took command old new (Err end)
+  unposed {X} {Y} {x} {end} {reading} view leaves reads loads nothing =
+      behind leaves (Err end) tt tt (λ refusal is. asks.refuses (held old) refusal (reads.refuses paths refusal (is_refused view (posed paths reading) end refusal (same_end end (Refused refusal) is) loads)))
+      (same_caused Y Answer end nothing.caused) (λ is. nothing.read (same_end end ReadFault is)) (λ long. nothing.short (long.0, same_end end (Refused (TooLong long.0)) long.1))
 
   -- where memory was wanting
   pub wanting : {X : Type 0} {x : X} → LoadingLeaves held steady faults took old new (Ok x) → IsAnswered held steady faults took command old new (Err OutOfMemory)
@@ -139,21 +144,21 @@ module _ {S X : Type 0} {held : S → Option Holding} {steady : S → Bool} {fau
   }
 
   -- where it was not loaded
-  pub uncertified : {Y : Type 0} {end : End} (audit : Audit) (posing : Posing) → PosesIt (held old) audit.asked posing
-      → ((refusal : Refusal) → ◌≡◌ {A = Result Y End} (Err end) (Err (Refused refusal)) → HasSource (held middle) audit.certificate (λ source. RefusesCertificate posing.question source refusal))
+  pub uncertified : {Y : Type 0} {end : End} (audit : Audit) (problem : Problem) → PosesIt (held old) audit.asked Unbounded problem
+      → ((refusal : Refusal) → ◌≡◌ {A = Result Y End} (Err end) (Err (Refused refusal)) → HasSource (held middle) audit.certificate (λ source. RefusesCertificate (question_of problem) source refusal))
       → (IsErrOf {T = Y} (Err end) ReadFault → steady middle ≡ true → WhereTold (held middle) (λ held. held audit.certificate ≡ None)) → LoadingLeaves {X = Y} held steady faults took middle new (Err end) → RefusesCaused {X = Y} (Err end)
       → IsAnswered held steady faults took (OfAudit audit) old new (Err end)
-  uncertified {Y} {end} audit posing poses refused steadily rest caused = record {
+  uncertified {Y} {end} audit problem poses refused steadily rest caused = record {
     answered = tt;
     status = tt;
     refused = λ refusal is. inr (record {
-      posing = posing;
+      problem = problem;
       posed = poses;
-      certificate = subst (λ (h : Option Holding). HasSource h audit.certificate (λ source. RefusesCertificate posing.question source refusal)) leaves.kept.held (refused refusal (same_end end (Refused refusal) is));
+      certificate = subst (λ (h : Option Holding). HasSource h audit.certificate (λ source. RefusesCertificate (question_of problem) source refusal)) leaves.kept.held (refused refusal (same_end end (Refused refusal) is));
     });
     caused = same_caused Y Answer end caused;
     read_fault = λ is. (omega (arith, leaves.kept.later, rest.read_fault (same_end end ReadFault is)), tt);
-    steadily = λ is calm. lacks_certificate (held old) audit posing poses
+    steadily = λ is calm. lacks_certificate (held old) audit problem poses
         (subst (λ (h : Option Holding). WhereTold h (λ held. held audit.certificate ≡ None)) leaves.kept.held (steadily (same_end end ReadFault is) (leaves.kept.steady ∙ calm)));
     takes = λ reads. same_takes end (took new) rest.takes;
     untouched = λ none. absurd (none tt);

@@ -3,7 +3,6 @@ use Rattle.std.proofs.Common.{◌≡◌, ◌<◌, ◌≤◌, ◌⊎◌, ◌↔�
 use Rattle.text_lines.specs.Limits.{most_bytes}
 use Rattle.game_outside.specs.Outside.{Holding, Rose}
 use Rattle.game_model.specs.Query.{Query}
-use Rattle.formula_sets.specs.Posing.{Posing}
 use Rattle.plan_text.specs.declared.plan.Plan.{Plan}
 use Rattle.certificate_audit.specs.declared.fault.AuditFault.{AuditFault}
 use Rattle.certificate_audit.specs.Accepted.{IsAccepted}
@@ -11,48 +10,53 @@ use Rattle.certificate_audit.specs.Refused.{IsRefused}
 use Rattle.command_words.specs.Words.{Asked, Command, OfCheck, OfAudit, OfMake, OfSure, AreCommand}
 use Rattle.run_refusals.specs.declared.refusal.Text.TheVariants.{Tra, Lab, Own, Cert}
 use Rattle.run_refusals.specs.declared.refusal.Refusal.{Refusal}
-use Rattle.run_refusals.specs.declared.refusal.Refusal.TheVariants.{OfTra, OfLab, OfOwn, OfFormula, OfQuestion, OfCertificate, TooLong}
-use Rattle.asked_files.specs.Said.{NotHeld, Says}
+use Rattle.run_refusals.specs.declared.refusal.Refusal.TheVariants.{OfTra, OfLab, OfOwn, OfFormula, OfQuestion, WrongKind, OfCertificate, TooLong}
+use Rattle.asked_files.specs.declared.problem.Paths.{Paths}
+use Rattle.asked_files.specs.declared.problem.Paths.TheVariants.{Unbounded, Reaching}
+use Rattle.asked_files.specs.Problems.{Problem, question_of}
+use Rattle.asked_files.specs.Said.{NotHeld, Says, and_then}
 use Rattle.asked_files.specs.Sources.{Sources, sources_of, WhereTold}
-use Rattle.asked_files.specs.Posed.{question_said}
+use Rattle.asked_files.specs.Posed.{posed, problem_said, reading_said}
 use Rattle.asked_files.specs.Asks.{IsText, Asks}
 use Rattle.asked_files.specs.Questions.{PosesIt, RefusesQuestion, RefusesCertificate}
 use Rattle.stogame_app.specs.declared.status.Status.{Status}
 use Rattle.stogame_app.specs.declared.status.Status.TheVariants.{Fine, SomeFalse, SomeUndecided, Usage, ModelRefused, ReadFault, WriteFault, OutOfMemory, CertificateRefused}
 use Rattle.stogame_app.specs.Status.{IsAnswer}
-use Rattle.stogame_app.specs.Commands.{IsAcceptedOf, IsMissing, RefusesBehind, RefusesIt}
+use Rattle.stogame_app.specs.Commands.{IsAcceptedOf, IsMissing, RefusesBehind, RefusesIt, check_paths}
 use Rattle.stogame_app.specs.Run.{AsksShelf, IsAcceptedOfWords, IsEnding, IsMissingOfWords, RefusesWords}
 
 -- 1. A question, and a certificate.
 
--- the question that is said is the one that is asked
+-- the problem that is said is the one that is asked
 abbrev pub AreAsked : Type 0
-AreAsked = (sources : Sources) (asked : Asked) (posing : Posing) → (question_said sources asked ≡ Says posing) ↔ Asks sources asked posing
+AreAsked = (paths : Paths) (sources : Sources) (asked : Asked) (problem : Problem) → (problem_said paths sources asked ≡ Says problem) ↔ Asks paths sources asked problem
 
--- a question that is asked is not refused
-asked_not_refused : AreAsked → (holding : Option Holding) (held : Holding) (asked : Asked) (posing : Posing) (refusal : Refusal) → holding ≡ Some held → Asks (sources_of held asked) asked posing → RefusesQuestion holding asked refusal → ⊥
-asked_not_refused are None held asked posing refusal told asks refused = cc (told)
-asked_not_refused are (Some other) held asked posing refusal told asks refused =
+-- a problem that is asked is not refused
+asked_not_refused : AreAsked → (holding : Option Holding) (held : Holding) (asked : Asked) (paths : Paths) (problem : Problem) (refusal : Refusal) → holding ≡ Some held → Asks paths (sources_of held asked) asked problem
+    → RefusesQuestion holding asked paths refusal → ⊥
+asked_not_refused are None held asked paths problem refusal told asks refused = cc (told)
+asked_not_refused are (Some other) held asked paths problem refusal told asks refused =
     let same : other ≡ held = cc (told) in
-    let said = (are (sources_of held asked) asked posing).1 asks in
-    let alike : question_said refused.sources asked ≡ question_said (sources_of held asked) asked = ap (λ s. question_said s asked) (refused.told ∙ ap (λ h. sources_of h asked) same) in
+    let said = (are paths (sources_of held asked) asked problem).1 asks in
+    let alike : problem_said paths refused.sources asked ≡ problem_said paths (sources_of held asked) asked = ap (λ s. problem_said paths s asked) (refused.told ∙ ap (λ h. sources_of h asked) same) in
     let refuses = refused.refuses in
     cc (alike, said, refuses)
 
 -- it is the only one
-asked_once : AreAsked → (held : Holding) (asked : Asked) (posing other : Posing) → Asks (sources_of held asked) asked posing → PosesIt (Some held) asked other → other ≡ posing
-asked_once are held asked posing other asks poses =
-    let first = (are (sources_of held asked) asked posing).1 asks in
-    let second = (are poses.sources asked other).1 poses.asks in
-    let alike : question_said poses.sources asked ≡ question_said (sources_of held asked) asked = ap (λ s. question_said s asked) poses.told in
-    let said : Says other ≡ Says posing = sym second ∙ alike ∙ first in
+asked_once : AreAsked → (held : Holding) (asked : Asked) (paths : Paths) (problem other : Problem) → Asks paths (sources_of held asked) asked problem → PosesIt (Some held) asked paths other → other ≡ problem
+asked_once are held asked paths problem other asks poses =
+    let first = (are paths (sources_of held asked) asked problem).1 asks in
+    let second = (are paths poses.sources asked other).1 poses.asks in
+    let alike : problem_said paths poses.sources asked ≡ problem_said paths (sources_of held asked) asked = ap (λ s. problem_said paths s asked) poses.told in
+    let said : Says other ≡ Says problem = sym second ∙ alike ∙ first in
     cc (said)
 
--- for a question that is asked every text is held
-asked_is_held : AreAsked → (held : Holding) (asked : Asked) (posing : Posing) → Asks (sources_of held asked) asked posing → question_said (sources_of held asked) asked ≡ NotHeld → ⊥
-asked_is_held are held asked posing asks missing =
-    let said = (are (sources_of held asked) asked posing).1 asks in
-    cc (said, missing)
+-- for a problem that is asked every text is held
+asked_is_held : AreAsked → (held : Holding) (asked : Asked) (paths : Paths) (problem : Problem) → Asks paths (sources_of held asked) asked problem → reading_said (sources_of held asked) asked ≡ NotHeld → ⊥
+asked_is_held are held asked paths problem asks missing =
+    let said = (are paths (sources_of held asked) asked problem).1 asks in
+    let none : problem_said paths (sources_of held asked) asked ≡ NotHeld = ap (λ s. and_then s (λ reading. posed paths reading)) missing in
+    cc (said, none)
 
 -- the text of a source is one
 one_text : (source : Option (List ℕ)) (text other : List ℕ) → source ≡ Some text → source ≡ Some other → text ≡ other
@@ -79,24 +83,25 @@ accepted_not_refused apart q source plan (OfLab fault) accepted refused = refuse
 accepted_not_refused apart q source plan (OfOwn fault) accepted refused = refused
 accepted_not_refused apart q source plan (OfFormula fault) accepted refused = refused
 accepted_not_refused apart q source plan (OfQuestion fault) accepted refused = refused
+accepted_not_refused apart q source plan WrongKind accepted refused = refused
 
 command_not_refused : AreAsked → AreApart → (holding : Option Holding) (held : Holding) (command : Command) (refusal : Refusal) → holding ≡ Some held → IsAcceptedOf held command → RefusesIt holding command refusal → ⊥
 command_not_refused are apart holding held (OfMake make) refusal _ accepted refused = absurd refused
-command_not_refused are apart holding held (OfCheck check) refusal told accepted refused = asked_not_refused are holding held check.asked accepted.0 refusal told accepted.1 refused
-command_not_refused are apart holding held (OfSure asked) refusal told accepted refused = asked_not_refused are holding held asked accepted.0 refusal told accepted.1 refused
+command_not_refused are apart holding held (OfCheck check) refusal told accepted refused = asked_not_refused are holding held check.asked (check_paths check) accepted.0 refusal told accepted.1 refused
+command_not_refused are apart holding held (OfSure asked) refusal told accepted refused = asked_not_refused are holding held asked Reaching accepted.0 refusal told accepted.1 refused
 command_not_refused are apart holding held (OfAudit audit) refusal told accepted refused = elim refused [
-  | inl question ↦ asked_not_refused are holding held audit.asked accepted.0 refusal told accepted.2 question
+  | inl question ↦ asked_not_refused are holding held audit.asked Unbounded accepted.0 refusal told accepted.2 question
   | inr behind ↦ by_behind (subst (λ (h : Option Holding). RefusesBehind h audit refusal) told behind)
 ]
   where
     by_behind : RefusesBehind (Some held) audit refusal → ⊥
     by_behind behind =
-        let same = asked_once are held audit.asked accepted.0 behind.posing accepted.2 behind.posed in
+        let same = asked_once are held audit.asked Unbounded accepted.0 behind.problem accepted.2 behind.posed in
         let c = behind.certificate in
-        let P : Posing → Type 0 = λ posing. RefusesCertificate posing.question c.source refusal in
-        let Q : Option (List ℕ) → Type 0 = λ source. RefusesCertificate accepted.0.question source refusal in
-        let so : RefusesCertificate accepted.0.question (held audit.certificate) refusal = subst Q c.told (subst P same c.is_so) in
-        accepted_not_refused apart accepted.0.question (held audit.certificate) accepted.1 refusal accepted.3 so
+        let P : Problem → Type 0 = λ problem. RefusesCertificate (question_of problem) c.source refusal in
+        let Q : Option (List ℕ) → Type 0 = λ source. RefusesCertificate (question_of accepted.0) source refusal in
+        let so : RefusesCertificate (question_of accepted.0) (held audit.certificate) refusal = subst Q c.told (subst P same c.is_so) in
+        accepted_not_refused apart (question_of accepted.0) (held audit.certificate) accepted.1 refusal accepted.3 so
 
 command_is_held : AreAsked → (holding : Option Holding) (held : Holding) (command : Command) → holding ≡ Some held → IsAcceptedOf held command → WhereTold holding (λ h. IsMissing h command) → ⊥
 command_is_held are None held command told accepted missing = cc (told)
@@ -107,10 +112,10 @@ command_is_held are (Some other) held command told accepted missing = of_held co
 
     of_held : (k : Command) → IsAcceptedOf held k → IsMissing held k → ⊥
     of_held (OfMake make) accepted missing = absurd missing
-    of_held (OfCheck check) accepted missing = asked_is_held are held check.asked accepted.0 accepted.1 missing
-    of_held (OfSure asked) accepted missing = asked_is_held are held asked accepted.0 accepted.1 missing
+    of_held (OfCheck check) accepted missing = asked_is_held are held check.asked (check_paths check) accepted.0 accepted.1 missing
+    of_held (OfSure asked) accepted missing = asked_is_held are held asked Reaching accepted.0 accepted.1 missing
     of_held (OfAudit audit) accepted missing = elim missing [
-      | inl question ↦ asked_is_held are held audit.asked accepted.0 accepted.2 question
+      | inl question ↦ asked_is_held are held audit.asked Unbounded accepted.0 accepted.2 question
       | inr behind ↦ let given = accepted.3.given in let certificate = behind.1 in cc (given, certificate)
     ]
 

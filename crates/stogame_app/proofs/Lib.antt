@@ -7,10 +7,14 @@ pub mod Endings
 pub mod Limits
 pub mod NoLineFeed
 pub mod OneOutput
+pub mod Openings
 pub mod Passing
 pub mod Places
+pub mod PlainParts
 pub mod Reported
-pub mod Shown
+pub mod Rests
 pub mod ShortLines
 pub mod ShortOutputs
 pub mod ShortSpellings
+pub mod Shown
+pub mod Swept

@@ -14,7 +14,8 @@ use Rattle.game_model.specs.Ranks.{Ranked, HasRankedChoice}
 use Rattle.inductive_check.specs.Replies.{IsFirstReply, AreFirstReplies}
 use Rattle.inductive_check.specs.Held.{IsFirstHeld}
 use Rattle.rpatl_syntax.specs.Formula.{Tree}
-use Rattle.rpatl_syntax.specs.declared.formula.Bound.{Bound}
+use Rattle.rpatl_syntax.specs.declared.formula.PathKind.{PathKind}
+use Rattle.rpatl_syntax.specs.declared.formula.PathKind.TheVariants.{Until, Within, Next, Always}
 use Rattle.plan_text.specs.declared.plan.Plan.{Plan}
 use Rattle.plan_text.specs.Entries.{IsSmall, IsInRange, HasStates, greatest_choice, greatest_rank, entry_at}
 use Rattle.certificate_audit.specs.Accepted.{Passes}
@@ -22,7 +23,7 @@ use Rattle.verdicts.specs.Report.{IsLine}
 use Rattle.verdicts.specs.declared.report.How.TheVariants.{Rounds}
 use Rattle.bracket_engine.specs.Choices.{AreChoices}
 use Rattle.stogame_app.specs.Outputs.{AreEntriesInLimits, IsInLimits}
-use Rattle.stogame_app.specs.Printed.{line_by, certificate_of, output_of}
+use Rattle.stogame_app.specs.Printed.{printed_lower, printed_upper, line_by, certificate_of, output_of}
 
 -- 1. Choices.
 
@@ -71,6 +72,17 @@ module _ (q : Query) (posed : IsQuery q) (s : ℕ) (inside : s < states q) where
 pub at-most : (P : ℕ → Type 0) (xs : List ℕ) (s : ℕ) → All P xs → s < length xs → P (slice_index xs s)
 at-most P xs s all inside = all s 0 inside
 
+-- the bounds of a plan that passes are units
+pub plan-units : (q : Query) (plan : Plan) → HasStates plan (states q) → Passes q plan → (s : ℕ) → s < states q → (slice_index plan.lower.items s ≤ unit) × (slice_index plan.upper.items s ≤ unit)
+plan-units q plan lists passes s within = (passes.ranked.units s within, at-most (λ v. v ≤ unit) plan.upper.items s passes.units (subst (λ n. s < n) (sym lists.upper) within))
+
+-- printed bounds are units
+pub printed-units : (kind : PathKind) (lower upper : ℕ) → lower ≤ unit → upper ≤ unit → (printed_lower kind lower upper ≤ unit) × (printed_upper kind lower upper ≤ unit)
+printed-units Until lower upper low high = (low, high)
+printed-units (Within steps) lower upper low high = (low, high)
+printed-units Next lower upper low high = (low, high)
+printed-units Always lower upper low high = (omega arith, omega arith)
+
 -- a plan that can be printed: it passes, and has choices and replies only where they are needed
 pub record IsPrintable (q : Query) (plan : Plan) : Type 0 where
   pub posed : IsQuery q
@@ -91,11 +103,11 @@ module _ (q : Query) (plan : Plan) (initial : List ℕ) (rounds : ℕ) (h : IsPr
     reply = reply-small q h.posed s within h.table _ (h.replies.each s within);
   }
 
-  line-in_range : (bound : Bound) (s : ℕ) → s < states q → IsLine (line_by bound (Rounds rounds) plan s)
-  line-in_range bound s within = record {
+  line-in_range : (f : Tree) (s : ℕ) → s < states q → IsLine (line_by f (Rounds rounds) plan.lower.items plan.upper.items s)
+  line-in_range f s within = record {
     state = omega (arith, within, h.posed.game.few);
-    rounds = omega (arith, few);
-    values = (h.passes.ranked.units s within, at-most (λ v. v ≤ unit) plan.upper.items s h.passes.units (subst (λ n. s < n) (sym h.lists.upper) within));
+    count = omega (arith, few);
+    values = let units = plan-units q plan h.lists h.passes s within in printed-units f.kind _ _ units.0 units.1;
   }
 
   entries-in_limits : (asked : Bool) (formula : Tree) → AreEntriesInLimits (certificate_of asked formula plan)
@@ -110,6 +122,7 @@ module _ (q : Query) (plan : Plan) (initial : List ℕ) (rounds : ℕ) (h : IsPr
 
   pub printed-in_limits : (asked : Bool) (formula : Tree) → IsInLimits (output_of asked formula (Rounds rounds) initial plan)
   printed-in_limits asked formula = record {
-    lines = All-map IsLine (line_by formula.bound (Rounds rounds) plan) initial (All-weaker (λ s. s < states q) (λ s. IsLine (line_by formula.bound (Rounds rounds) plan s)) (line-in_range formula.bound) initial inside);
+    lines = All-map IsLine (line_by formula (Rounds rounds) plan.lower.items plan.upper.items) initial
+        (All-weaker (λ s. s < states q) (λ s. IsLine (line_by formula (Rounds rounds) plan.lower.items plan.upper.items s)) (line-in_range formula) initial inside);
     entries = entries-in_limits asked formula;
   }

@@ -12,17 +12,20 @@ use Rattle.rpatl_syntax.specs.declared.formula.Bound.TheVariants.{AtLeast, Above
 use Rattle.rpatl_syntax.specs.Formula.{State, True, False, Label, Not, And, Or, Implies, Tree}
 use Rattle.rpatl_syntax.specs.TokenRules.{is_name_byte}
 use Rattle.rpatl_syntax.specs.Tokens.{in_word}
-use Rattle.rpatl_syntax.specs.Spelling.{strength_of, in_place, state_spelling, path_spelling, names_spelling, coalition_spelling, fraction_spelling, bound_spelling, spelling}
-use Rattle.rpatl_syntax.specs.Spellable.{IsWholeWord, HasWords, IsShare, HasShare, HasNames, IsSpellable}
+use Rattle.rpatl_syntax.specs.declared.formula.PathKind.{PathKind}
+use Rattle.rpatl_syntax.specs.declared.formula.PathKind.TheVariants.{Until, Within, Next, Always}
+use Rattle.rpatl_syntax.specs.Spelling.{strength_of, in_place, state_spelling, until_spelling, kind_spelling, path_spelling, names_spelling, coalition_spelling, fraction_spelling, bound_spelling, spelling}
+use Rattle.rpatl_syntax.specs.Spellable.{IsWholeWord, HasWords, HasKind, HasNames}
 use Rattle.rpatl_syntax.proofs.Fronts.{parts_true}
 use Rattle.plan_text.specs.Fixed.{fixed}
 use Rattle.plan_text.proofs.WrittenFields.{AreFrom, IsField-fixed}
 use Rattle.verdicts.specs.declared.verdict.Verdict.{Verdict}
 use Rattle.verdicts.specs.declared.verdict.Verdict.TheVariants.{Yes, No, Undecided, Bracket}
 use Rattle.verdicts.specs.declared.report.How.{How}
-use Rattle.verdicts.specs.declared.report.How.TheVariants.{Rounds, Audited}
+use Rattle.verdicts.specs.declared.report.How.TheVariants.{Rounds, Steps, Audited}
 use Rattle.verdicts.specs.declared.report.ReportLine.{ReportLine}
-use Rattle.verdicts.specs.Report.{HasRounds, IsLine, how_text, ending, line_text}
+use Rattle.stogame_app.proofs.PlainParts.{IsFine, HasFine, HasPlainParts}
+use Rattle.verdicts.specs.Report.{HasCount, IsLine, how_text, ending, line_text}
 
 -- 1. Texts without a line feed.
 
@@ -78,8 +81,9 @@ ended-one text other r s a b e =
 
 -- 3. The line of a state.
 
-how-HasNo : (how : How) → HasRounds how → HasNo 10 (how_text how)
+how-HasNo : (how : How) → HasCount how → HasNo 10 (how_text how)
 how-HasNo (Rounds rounds) small = HasNo-append (codes " rounds ") (decimal rounds) (plain (codes " rounds ") refl) (decimal-HasNo rounds (omega arith))
+how-HasNo (Steps steps) small = HasNo-append (codes " steps ") (decimal steps) (plain (codes " steps ") refl) (decimal-HasNo steps (omega arith))
 how-HasNo Audited small = plain (codes " audited") refl
 
 ending-ended : (verdict : Verdict) → IsEnded (ending verdict)
@@ -96,7 +100,7 @@ line-ended line is =
     behind (codes "state " ++ decimal line.state) _ (HasNo-append (codes "state ") (decimal line.state) (plain (codes "state ") refl) (decimal-HasNo line.state (omega (arith, is.state))))
     (behind (codes " lower " ++ fixed line.lower) _ (labelled-HasNo (codes " lower ") line.lower refl)
     (behind (codes " upper " ++ fixed line.upper) _ (labelled-HasNo (codes " upper ") line.upper refl)
-    (behind (how_text line.how) _ (how-HasNo line.how is.rounds) (ending-ended line.verdict))))
+    (behind (how_text line.how) _ (how-HasNo line.how is.count) (ending-ended line.verdict))))
 
 -- 4. The line of a formula.
 
@@ -112,20 +116,20 @@ coalition-HasNo None words = tt
 coalition-HasNo (Some names) words =
     HasNo-append (codes "<<") (names_spelling names ++ codes ">> ") (plain (codes "<<") refl) (HasNo-append (names_spelling names) (codes ">> ") (names-HasNo names words) (plain (codes ">> ") refl))
 
-fraction-HasNo : (p : Fraction) → IsShare p → HasNo 10 (fraction_spelling p)
-fraction-HasNo p share = by (p.den == 1)
+fraction-HasNo : (p : Fraction) → IsFine p → HasNo 10 (fraction_spelling p)
+fraction-HasNo p fine = by (p.den == 1)
   where
     of_num : HasNo 10 (decimal p.num)
-    of_num = decimal-HasNo p.num (omega (arith, share.small, share.fraction.fine))
+    of_num = decimal-HasNo p.num (omega (arith, fine.0, fine.1))
 
     of_den : HasNo 10 (decimal p.den)
-    of_den = decimal-HasNo p.den (omega (arith, share.fraction.fine))
+    of_den = decimal-HasNo p.den (omega (arith, fine.1))
 
     by : (b : Bool) → HasNo 10 (if b then decimal p.num else decimal p.num ++ (codes "/" ++ decimal p.den))
     by true = of_num
     by false = HasNo-append (decimal p.num) (codes "/" ++ decimal p.den) of_num (HasNo-append (codes "/") (decimal p.den) (plain (codes "/") refl) of_den)
 
-bound-HasNo : (bound : Bound) → HasShare bound → HasNo 10 (bound_spelling bound)
+bound-HasNo : (bound : Bound) → HasFine bound → HasNo 10 (bound_spelling bound)
 bound-HasNo (AtLeast p) share = HasNo-append (codes "P>=") (fraction_spelling p) (plain (codes "P>=") refl) (fraction-HasNo p share)
 bound-HasNo (Above p) share = HasNo-append (codes "P>") (fraction_spelling p) (plain (codes "P>") refl) (fraction-HasNo p share)
 bound-HasNo (AtMost p) share = HasNo-append (codes "P<=") (fraction_spelling p) (plain (codes "P<=") refl) (fraction-HasNo p share)
@@ -152,18 +156,26 @@ state-HasNo (And x y) names = joined-HasNo _ (codes " & ") _ (in_place-HasNo 2 x
 state-HasNo (Or x y) names = joined-HasNo _ (codes " | ") _ (in_place-HasNo 1 x _ (state-HasNo x names.0)) refl (in_place-HasNo 2 y _ (state-HasNo y names.1))
 state-HasNo (Implies x y) names = joined-HasNo _ (codes " => ") _ (in_place-HasNo 0 x _ (state-HasNo x names.0)) refl (in_place-HasNo 1 y _ (state-HasNo y names.1))
 
-path-HasNo : (left : State) (right : List ℕ) → HasNames left → HasNo 10 right → HasNo 10 (path_spelling left right)
-path-HasNo True right names none = HasNo-append (codes "F ") right (plain (codes "F ") refl) none
-path-HasNo left right names none = joined-HasNo (state_spelling left) (codes " U ") right (state-HasNo left names) refl none
+until-HasNo : (left : State) → HasNames left → HasNo 10 (until_spelling left)
+until-HasNo True names = plain (codes "F") refl
+until-HasNo left names = HasNo-append (state_spelling left) (codes " U") (state-HasNo left names) (plain (codes " U") refl)
 
-spelling-HasNo : (f : Tree) → IsSpellable f → HasNo 10 (spelling f)
+kind-HasNo : (kind : PathKind) (left : State) → HasKind kind left → HasNames left → HasNo 10 (kind_spelling kind left)
+kind-HasNo Until left few names = until-HasNo left names
+kind-HasNo (Within steps) left few names =
+    HasNo-append (until_spelling left) (codes "<=" ++ decimal steps) (until-HasNo left names) (HasNo-append (codes "<=") (decimal steps) (plain (codes "<=") refl) (decimal-HasNo steps (omega (arith, few))))
+kind-HasNo Next left few names = plain (codes "X") refl
+kind-HasNo Always left few names = plain (codes "G") refl
+
+spelling-HasNo : (f : Tree) → HasPlainParts f → HasNo 10 (spelling f)
 spelling-HasNo f is =
     HasNo-append (coalition_spelling f.coalition) _ (coalition-HasNo f.coalition is.words)
-    (HasNo-append (bound_spelling f.bound) _ (bound-HasNo f.bound is.share)
+    (HasNo-append (bound_spelling f.bound) _ (bound-HasNo f.bound is.fine)
     (HasNo-append (codes " [ ") _ (plain (codes " [ ") refl)
-    (HasNo-append (path_spelling f.left (state_spelling f.right)) (codes " ]") (path-HasNo f.left (state_spelling f.right) is.left.names (state-HasNo f.right is.right.names)) (plain (codes " ]") refl))))
+    (HasNo-append (path_spelling f.kind f.left (state_spelling f.right)) (codes " ]")
+    (joined-HasNo (kind_spelling f.kind f.left) (codes " ") (state_spelling f.right) (kind-HasNo f.kind f.left is.kind is.left) refl (state-HasNo f.right is.right)) (plain (codes " ]") refl))))
 
 -- the line `formula F`
-pub formula-ended : (f : Tree) → IsSpellable f → IsEnded (codes "formula " ++ (spelling f ++ codes "\n"))
+pub formula-ended : (f : Tree) → HasPlainParts f → IsEnded (codes "formula " ++ (spelling f ++ codes "\n"))
 formula-ended f is =
     behind (codes "formula ") (spelling f ++ codes "\n") (plain (codes "formula ") refl) (record { front = spelling f; none = spelling-HasNo f is; whole = refl })

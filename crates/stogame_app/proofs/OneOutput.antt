@@ -12,6 +12,7 @@ use Rattle.plan_text.specs.Written.{certificate_text}
 use Rattle.verdicts.specs.declared.report.ReportLine.{ReportLine}
 use Rattle.verdicts.specs.Report.{IsLine, line_text, report}
 use Rattle.stogame_app.specs.Outputs.{Certificate, Output, certificate_part, output_text, AreEntriesInLimits, IsSpelledOut, IsWholeOutput}
+use Rattle.stogame_app.proofs.PlainParts.{spellable-plain}
 use Rattle.stogame_app.proofs.Places.{at}
 use Rattle.stogame_app.proofs.NoLineFeed.{ended-one, line-ended, formula-ended}
 
@@ -49,7 +50,7 @@ lines-one one (a ∷ lines) (b ∷ others) r s ha hb hr hs e =
 certificate-one : CertificatesOne → SpellingsOne → (a b : Certificate) → AreEntriesInLimits (Some a) → AreEntriesInLimits (Some b) → IsSpelledOut (Some a) → IsSpelledOut (Some b) → certificate_part (Some a) ≡ certificate_part (Some b) → a ≡ b
 certificate-one one spelled_one a b of_a of_b spell_a spell_b e =
     let parts = ended-one (codes "formula " ++ (spelling a.formula ++ codes "\n")) (codes "formula " ++ (spelling b.formula ++ codes "\n")) (certificate_text a.entries) (certificate_text b.entries)
-    (formula-ended a.formula spell_a) (formula-ended b.formula spell_b) e in
+    (formula-ended a.formula (spellable-plain a.formula spell_a)) (formula-ended b.formula (spellable-plain b.formula spell_b)) e in
     let spelled = append_cancel_right (spelling a.formula) (spelling b.formula) (codes "\n") (append_cancel_left (codes "formula ") _ _ parts.0) in
     let made : Tree → List Entry → Certificate = λ f entries. record { formula = f; entries = entries } in
     ap (λ f. made f a.entries) (spelled_one a.formula b.formula spell_a spell_b spelled)

@@ -9,7 +9,6 @@ use Rattle.text_lines.specs.Text.{fields_of}
 use Rattle.text_lines.specs.Laws.{HasNo, EndsInNoCr}
 use Rattle.text_lines.proofs.FieldLaws.{fields_of-parted}
 use Rattle.rpatl_syntax.specs.Formula.{Tree}
-use Rattle.rpatl_syntax.specs.Spellable.{IsSpellable}
 use Rattle.rpatl_syntax.specs.Spelling.{state_spelling, path_spelling, coalition_spelling, bound_spelling, spelling}
 use Rattle.plan_text.specs.Entries.{Entry, IsInRange, entries_of}
 use Rattle.plan_text.specs.Written.{certificate_text}
@@ -27,6 +26,8 @@ use Rattle.verdicts.specs.declared.report.How.TheVariants.{Rounds}
 use Rattle.stogame_app.specs.Outputs.{output_text, IsInLimits}
 use Rattle.stogame_app.specs.Printed.{line_by, output_of}
 use Rattle.stogame_app.specs.Reports.{IsReport}
+use Rattle.asked_files.specs.Problems.{answered}
+use Rattle.stogame_app.proofs.PlainParts.{HasPlainParts}
 use Rattle.stogame_app.proofs.NoLineFeed.{IsEnded, line-ended, formula-ended}
 
 -- 1. Texts that end in another byte than CR.
@@ -98,10 +99,10 @@ line-passed line is =
 
 -- 4. The line of the formula.
 
-formula-passed : (f : Tree) → IsSpellable f → IsPassedOver (codes "formula" ++ 32 ∷ spelling f)
+formula-passed : (f : Tree) → HasPlainParts f → IsPassedOver (codes "formula" ++ 32 ∷ spelling f)
 formula-passed f is =
     let last : List ℕ = codes " ]" in
-    let path = path_spelling f.left (state_spelling f.right) in
+    let path = path_spelling f.kind f.left (state_spelling f.right) in
     let ends : EndsInNoCr last = λ same. omega (arith, same) in
     let some : 0 < length last = omega arith in
     let some_path = some-behind path last some in
@@ -118,7 +119,7 @@ fronts : List ReportLine → Tree → List (List ℕ)
 fronts [] f = (codes "formula" ++ 32 ∷ spelling f) ∷ []
 fronts (line ∷ lines) f = (codes "state" ++ 32 ∷ behind_state line) ∷ fronts lines f
 
-fronts-passed : (lines : List ReportLine) (f : Tree) → All IsLine lines → IsSpellable f → All IsPassedOver (fronts lines f)
+fronts-passed : (lines : List ReportLine) (f : Tree) → All IsLine lines → HasPlainParts f → All IsPassedOver (fronts lines f)
 unfolding fronts
 fronts-passed [] f are is = All-cons IsPassedOver (codes "formula" ++ 32 ∷ spelling f) [] (formula-passed f is) (All-nil IsPassedOver)
 fronts-passed (line ∷ lines) f are is =
@@ -141,20 +142,20 @@ AreReadBack = (lines : List (List ℕ)) (entries : List Entry) → All IsPassedO
 abbrev pub AreCertificates : Type 0
 AreCertificates = (text : List ℕ) (entries : List Entry) → entries_said text (length entries) ≡ Ok entries → IsCertificate text entries
 
-pub report-accepted : AreReadBack → AreCertificates → (q : Query) (initial : List ℕ) (formula : Tree) (check : Check) (text : List ℕ) (status : Status) → check.plan ≡ true → IsSpellable formula
-    → (r : IsReport q initial formula check text status) → IsAccepted q text r.plan
-report-accepted read_back certificates q initial formula check text status planned spellable r =
+pub report-accepted : AreReadBack → AreCertificates → (q : Query) (initial : List ℕ) (f : Tree) (check : Check) (text : List ℕ) (status : Status) → check.plan ≡ true → HasPlainParts (answered f)
+    → (r : IsReport q initial f check text status) → IsAccepted q text r.plan
+report-accepted read_back certificates q initial f check text status planned parts r =
     let how = Rounds r.found.rounds in
     let entries = entries_of r.plan in
-    let lines = map (line_by formula.bound how r.plan) initial in
-    let written = subst (λ (p : Bool). text ≡ output_text (output_of p formula how initial r.plan)) planned r.written in
-    let limits = subst (λ (p : Bool). IsInLimits (output_of p formula how initial r.plan)) planned r.limits in
-    let parts : text ≡ as_lines (fronts lines formula) ++ certificate_text entries = written ∙ fronts-lines lines formula (certificate_text entries) in
-    let said = read_back (fronts lines formula) entries (fronts-passed lines formula limits.lines spellable) limits.entries.0 limits.entries.1 in
+    let lines = map (line_by f how r.plan.lower.items r.plan.upper.items) initial in
+    let written = subst (λ (p : Bool). text ≡ output_text (output_of p f how initial r.plan)) planned r.written in
+    let limits = subst (λ (p : Bool). IsInLimits (output_of p f how initial r.plan)) planned r.limits in
+    let as_parts : text ≡ as_lines (fronts lines (answered f)) ++ certificate_text entries = written ∙ fronts-lines lines (answered f) (certificate_text entries) in
+    let said = read_back (fronts lines (answered f)) entries (fronts-passed lines (answered f) limits.lines parts) limits.entries.0 limits.entries.1 in
     record {
       read = record {
         lists = r.lists;
-        said = certificates text entries (ap (λ (t : List ℕ). entries_said t (length entries)) parts ∙ said);
+        said = certificates text entries (ap (λ (t : List ℕ). entries_said t (length entries)) as_parts ∙ said);
       };
       passes = r.passes;
     }

@@ -30,7 +30,11 @@ use Rattle.command_words.specs.Words.{Check}
 use Rattle.stogame_app.specs.declared.status.Status.{Status}
 use Rattle.verdicts.specs.declared.report.ReportLine.{ReportLine}
 use Rattle.stogame_app.specs.declared.status.Status.TheVariants.{Fine, SomeFalse, SomeUndecided}
-use Rattle.stogame_app.specs.Printed.{verdict_by, is_no, is_undecided, status_of, output_of}
+use Rattle.rpatl_syntax.specs.declared.formula.PathKind.{PathKind}
+use Rattle.rpatl_syntax.specs.declared.formula.PathKind.TheVariants.{Until, Within, Next, Always}
+use Rattle.rpatl_syntax.specs.Dual.{IsAtMostOne, dual_bound}
+use Rattle.asked_files.specs.Problems.{answered_by, answered}
+use Rattle.stogame_app.specs.Printed.{printed_lower, printed_upper, verdict_with, verdict_by, is_no, is_undecided, status_of, output_of}
 use Rattle.stogame_app.specs.Reports.{IsFound, IsShown, IsLeftOpen, IsReport}
 use Rattle.stogame_app.specs.Outputs.{output_text, IsInLimits}
 
@@ -48,7 +52,24 @@ pub all-told : (q : Query) (bound : Bound) (verdict : ℕ → Verdict) (initial 
 all-told q bound verdict initial if_yes if_no inside =
     All-weaker (λ s. s < states q) (λ s. IsTold q bound s (verdict s)) (λ s within. is-told q bound s (verdict s) (if_yes s within) (if_no s within)) initial inside
 
+-- what the printed bounds say is what the bounds of the question that is answered say of its bound
+abbrev pub Mirrors : Type 0
+Mirrors = (bound : Bound) (lower upper : ℕ) → IsAtMostOne bound → lower ≤ unit → upper ≤ unit → verdict_of bound (unit - upper) (unit - lower) ≡ verdict_of (dual_bound bound) lower upper
+
+pub verdict-answered : Mirrors → (f : Tree) → IsAtMostOne f.bound → (lower upper : ℕ) → lower ≤ unit → upper ≤ unit → verdict_with f lower upper ≡ verdict_of (answered f).bound lower upper
+verdict-answered mirrors f share lower upper low high = by f.kind
+  where
+    by : (kind : PathKind) → verdict_of f.bound (printed_lower kind lower upper) (printed_upper kind lower upper) ≡ verdict_of (answered_by kind f).bound lower upper
+    by Until = refl
+    by (Within steps) = refl
+    by Next = refl
+    by Always = mirrors f.bound lower upper share low high
+
 -- 2. What is undecided is left open.
+
+-- what the bounds of a plan say
+abbrev pub verdict_at : Bound → Plan → ℕ → Verdict
+verdict_at bound plan s = verdict_of bound (slice_index plan.lower.items s) (slice_index plan.upper.items s)
 
 -- the laws of undecided thresholds
 abbrev pub OpensHere : Type 0
@@ -66,7 +87,7 @@ near-under u v p x near below = omega (arith, near, mul-le-mul_right p below)
 module _ (here : OpensHere) (wider : OpensWider) (q : Query) (zero : List Bool) (bound : Bound) (initial : List ℕ) (asked : ℕ) (found : Bracket) (plan : Plan)
     (above : IsBelow q (slice_index found.base.items) (slice_index plan.lower.items)) (below : IsBelow q (slice_index plan.upper.items) (slice_index found.upper.items)) where
   narrow-open : 1 ≤ denominator q.game ^ asked → IsNarrow q zero asked (slice_index found.base.items) (slice_index found.upper.items)
-      → (s : ℕ) → s < states q → verdict_by bound plan s ≡ Undecided → IsLeftOpen q zero bound asked plan s
+      → (s : ℕ) → s < states q → verdict_at bound plan s ≡ Undecided → IsLeftOpen q zero bound asked plan s
   narrow-open some narrow s inside undecided =
       let base = slice_index found.base.items s in
       let lower = slice_index plan.lower.items s in
@@ -80,19 +101,19 @@ module _ (here : OpensHere) (wider : OpensWider) (q : Query) (zero : List Bool) 
       }
 
   pub all-left_open : 1 ≤ denominator q.game ^ asked → IsBracket q zero bound initial asked found.base.items found.upper.items found.rounds found.stable → All (λ s. s < states q) initial
-      → All (λ s. verdict_by bound plan s ≡ Undecided → IsLeftOpen q zero bound asked plan s) initial
+      → All (λ s. verdict_at bound plan s ≡ Undecided → IsLeftOpen q zero bound asked plan s) initial
   all-left_open some bounds inside = elim bounds.narrow_asked [
-    | inl settled ↦ All-weaker (λ s. is_settling (verdict_by bound plan s) ≡ true) Q (λ s is undecided. let same : is_settling (verdict_by bound plan s) ≡ is_settling Undecided = ap is_settling undecided in absurd (cc (same, is))) initial (settled-over settled inside)
+    | inl settled ↦ All-weaker (λ s. is_settling (verdict_at bound plan s) ≡ true) Q (λ s is undecided. let same : is_settling (verdict_at bound plan s) ≡ is_settling Undecided = ap is_settling undecided in absurd (cc (same, is))) initial (settled-over settled inside)
     | inr narrow ↦ All-weaker (λ s. s < states q) Q (λ s within. narrow-open some narrow s within) initial inside
   ]
     where
-      settled-over : AreSettledAt bound initial (slice_index found.base.items) (slice_index found.upper.items) → All (λ s. s < states q) initial → All (λ s. is_settling (verdict_by bound plan s) ≡ true) initial
+      settled-over : AreSettledAt bound initial (slice_index found.base.items) (slice_index found.upper.items) → All (λ s. s < states q) initial → All (λ s. is_settling (verdict_at bound plan s) ≡ true) initial
       settled-over settled within = λ i d there.
           let s = slice_index_or initial i d in
           settled-on bound (slice_index found.base.items s) (slice_index plan.lower.items s) (slice_index found.upper.items s) (slice_index plan.upper.items s) (above s (within i d there)) (below s (within i d there)) (settled i d there)
 
       Q : ℕ → Type 0
-      Q s = verdict_by bound plan s ≡ Undecided → IsLeftOpen q zero bound asked plan s
+      Q s = verdict_at bound plan s ≡ Undecided → IsLeftOpen q zero bound asked plan s
 
 -- 3. The status of lines is that of their verdicts.
 
@@ -115,25 +136,25 @@ verdicts-lines line_at initial lines are =
 -- 4. The whole answer.
 
 -- what is known of a question before its answer is written
-pub record IsReady (q : Query) (initial : List ℕ) (formula : Tree) (check : Check) (zero : List Bool) (found : Bracket) (plan : Plan) : Type 0 where
+pub record IsReady (q : Query) (initial : List ℕ) (f : Tree) (check : Check) (zero : List Bool) (found : Bracket) (plan : Plan) : Type 0 where
   pub is_zero : IsZeroSet q zero
-  pub is_found : IsFound q zero formula.bound initial check.rounds found
+  pub is_found : IsFound q zero (answered f).bound initial check.rounds found
   pub shown : IsShown q check.traps found plan
   pub lists : HasStates plan (states q)
   pub near : IsNear q (slice_index plan.lower.items)
   pub sound : IsSound q plan
   pub passes : Passes q plan
-  pub limits : IsInLimits (output_of check.plan formula (Rounds found.rounds) initial plan)
-  pub told : All (λ s. IsTold q formula.bound s (verdict_by formula.bound plan s)) initial
-  pub left_open : All (λ s. verdict_by formula.bound plan s ≡ Undecided → IsLeftOpen q zero formula.bound check.rounds plan s) initial
+  pub limits : IsInLimits (output_of check.plan f (Rounds found.rounds) initial plan)
+  pub told : All (λ s. IsTold q (answered f).bound s (verdict_by f plan.lower.items plan.upper.items s)) initial
+  pub left_open : All (λ s. verdict_by f plan.lower.items plan.upper.items s ≡ Undecided → IsLeftOpen q zero (answered f).bound check.rounds plan s) initial
 
-pub reported : {X E : Type 0} (text : X → List ℕ) (ends : X → Status) (q : Query) (initial : List ℕ) (formula : Tree) (check : Check) (zero : List Bool) (found : Bracket) (plan : Plan)
-    → IsReady q initial formula check zero found plan
+pub reported : {X E : Type 0} (text : X → List ℕ) (ends : X → Status) (q : Query) (initial : List ℕ) (f : Tree) (check : Check) (zero : List Bool) (found : Bracket) (plan : Plan)
+    → IsReady q initial f check zero found plan
     → (result : Result X E)
-    → IfOk result (λ answer. text answer ≡ output_text (output_of check.plan formula (Rounds found.rounds) initial plan))
-    → IfOk result (λ answer. ends answer ≡ status_of (map (verdict_by formula.bound plan) initial))
-    → IfOk result (λ answer. IsReport q initial formula check (text answer) (ends answer))
-reported text ends q initial formula check zero found plan ready (Ok answer) written ended = record {
+    → IfOk result (λ answer. text answer ≡ output_text (output_of check.plan f (Rounds found.rounds) initial plan))
+    → IfOk result (λ answer. ends answer ≡ status_of (map (verdict_by f plan.lower.items plan.upper.items) initial))
+    → IfOk result (λ answer. IsReport q initial f check (text answer) (ends answer))
+reported text ends q initial f check zero found plan ready (Ok answer) written ended = record {
   zero = zero;
   is_zero = ready.is_zero;
   found = found;
@@ -150,4 +171,4 @@ reported text ends q initial formula check zero found plan ready (Ok answer) wri
   told = ready.told;
   left_open = ready.left_open;
 }
-reported text ends q initial formula check zero found plan ready (Err error) written ended = tt
+reported text ends q initial f check zero found plan ready (Err error) written ended = tt

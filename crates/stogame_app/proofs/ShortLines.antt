@@ -11,9 +11,9 @@ use Rattle.plan_text.specs.Written.{choice_text, behind_space, entry_text, entry
 use Rattle.verdicts.specs.declared.verdict.Verdict.{Verdict}
 use Rattle.verdicts.specs.declared.verdict.Verdict.TheVariants.{Yes, No, Undecided, Bracket}
 use Rattle.verdicts.specs.declared.report.How.{How}
-use Rattle.verdicts.specs.declared.report.How.TheVariants.{Rounds, Audited}
+use Rattle.verdicts.specs.declared.report.How.TheVariants.{Rounds, Steps, Audited}
 use Rattle.verdicts.specs.declared.report.ReportLine.{ReportLine}
-use Rattle.verdicts.specs.Report.{HasRounds, IsLine, labelled, how_text, ending, line_text, report}
+use Rattle.verdicts.specs.Report.{HasCount, IsLine, labelled, how_text, ending, line_text, report}
 
 -- 1. Parts of lines.
 
@@ -39,8 +39,9 @@ fixed-short units = omega (arith, length-last_digits unit_digits (units % unit))
 
 -- 2. The line of a state in a report.
 
-how-short : (how : How) → HasRounds how → length (how_text how) ≤ 18
+how-short : (how : How) → HasCount how → length (how_text how) ≤ 18
 how-short (Rounds rounds) small = joined-short 8 10 (codes " rounds ") (decimal rounds) (omega arith) (decimal-short rounds (omega arith))
+how-short (Steps steps) small = joined-short 8 10 (codes " steps ") (decimal steps) (omega arith) (decimal-short steps (omega arith))
 how-short Audited small = omega arith
 
 ending-short : (verdict : Verdict) → length (ending verdict) ≤ 11
@@ -57,7 +58,7 @@ line-short line is =
     joined-short 16 ((7 + value_bytes) + ((7 + value_bytes) + 29)) (codes "state " ++ decimal line.state) _ (joined-short 6 10 (codes "state ") (decimal line.state) (omega arith) (decimal-short line.state (omega (arith, is.state))))
     (joined-short (7 + value_bytes) ((7 + value_bytes) + 29) (labelled (codes " lower ") line.lower) _ (joined-short 7 value_bytes (codes " lower ") (fixed line.lower) (omega arith) (fixed-short line.lower))
     (joined-short (7 + value_bytes) 29 (labelled (codes " upper ") line.upper) _ (joined-short 7 value_bytes (codes " upper ") (fixed line.upper) (omega arith) (fixed-short line.upper))
-    (joined-short 18 11 (how_text line.how) (ending line.verdict) (how-short line.how is.rounds) (ending-short line.verdict))))
+    (joined-short 18 11 (how_text line.how) (ending line.verdict) (how-short line.how is.count) (ending-short line.verdict))))
 
 -- a report has at most so many bytes for each line
 pub report-short : (lines : List ReportLine) → All IsLine lines → length (report lines) ≤ line_bytes * length lines

@@ -1,6 +1,6 @@
 -- What `check` writes is no longer than a text may be that is read, so an audit of the same question accepts it.
 use Rattle.std.proofs.Common.{◌≡◌, ◌∙◌, ◌≤◌, ◌+◌, ◌*◌, ℕ, Bool, true, false, List, [], ◌∷◌, ◌++◌, length, map, bytes_eq, Option, Some, if◌then◌else◌, sym, ap, subst, arith}
-use Rattle.std.specs.Prelude.{codes}
+use Rattle.std.specs.Prelude.{◌||◌, All, codes}
 use Rattle.std.proofs.lemmas.List.{length-append, length-map}
 use Rattle.text_lines.specs.Limits.{most_bytes}
 use Rattle.game_outside.specs.Outside.{Holding}
@@ -12,6 +12,7 @@ use Rattle.label_reader.specs.Header.{Item}
 use Rattle.label_reader.specs.Lines.{StateLine}
 use Rattle.label_reader.specs.Labels.{Label, marks_of, marked_from, states_with, Labelling}
 use Rattle.label_reader.specs.Denotes.{AreLabels, DenotesLabels}
+use Rattle.label_reader.specs.Owners.{Ownership}
 use Rattle.rpatl_syntax.specs.Formula.{Tree}
 use Rattle.rpatl_syntax.specs.Rules.{Denotes}
 use Rattle.rpatl_syntax.specs.Spellable.{IsSpellable}
@@ -20,18 +21,26 @@ use Rattle.plan_text.specs.Entries.{entries_of}
 use Rattle.plan_text.specs.Written.{certificate_text}
 use Rattle.verdicts.specs.Report.{report}
 use Rattle.plan_text.specs.declared.plan.Plan.{Plan}
-use Rattle.verdicts.specs.declared.report.How.TheVariants.{Rounds}
-use Rattle.formula_sets.specs.Posing.{Posing, init}
+use Rattle.certificate_audit.specs.Accepted.{IsAccepted}
+use Rattle.verdicts.specs.declared.report.How.{How}
+use Rattle.verdicts.specs.declared.report.How.TheVariants.{Rounds, Steps}
+use Rattle.verdicts.specs.Report.{IsLine}
+use Rattle.formula_sets.specs.Posing.{init}
 use Rattle.command_words.specs.Words.{Asked, Check, Audit, OfCheck, OfAudit}
 use Rattle.stogame_app.specs.declared.status.Status.{Status}
 use Rattle.asked_files.specs.Asks.{Asks}
 use Rattle.stogame_app.specs.Outputs.{certificate_part, AreEntriesInLimits}
 use Rattle.stogame_app.specs.Printed.{line_by, certificate_of}
+use Rattle.asked_files.specs.declared.problem.Paths.{Paths}
+use Rattle.asked_files.specs.declared.problem.Paths.TheVariants.{Any, Unbounded}
+use Rattle.asked_files.specs.Problems.{Problem, OfUntil, OfWithin, OfNext, OfAlways, PosesProblem, question_of, initial_of, answered, takes}
 use Rattle.stogame_app.specs.Reports.{IsReport}
+use Rattle.stogame_app.specs.Sweeps.{IsSweepReport}
 use Rattle.asked_files.specs.Sources.{Sources, sources_of}
-use Rattle.stogame_app.specs.Commands.{IsReportOf, IsAcceptedOf}
+use Rattle.stogame_app.specs.Commands.{IsReportOf, IsReportOn, IsAcceptedOf, check_paths}
 use Rattle.stogame_app.proofs.Passing.{AreReadBack, AreCertificates, report-accepted}
-use Rattle.stogame_app.proofs.ShortLines.{entry_bytes, joined-short, report-short, certificate-short}
+use Rattle.stogame_app.proofs.ShortLines.{entry_bytes, line_bytes, joined-short, report-short, certificate-short}
+use Rattle.stogame_app.proofs.PlainParts.{HasPlainParts, spellable-plain, answered-plain}
 use Rattle.stogame_app.proofs.ShortSpellings.{most_spelled, spelling-short}
 
 -- 1. There are no more initial states than a game has states.
@@ -54,9 +63,16 @@ labelled-few text n l name denotes = omega (arith, marked-few 0 (marks_of l.labe
 game-few : (text : List ℕ) (game : List (List Distribution)) → DenotesGame text game → length game ≤ most_states
 game-few text game denotes = omega (arith, denotes.states, denotes.is_header.few)
 
-initial-few : (sources : Sources) (asked : Asked) (posing : Posing) → Asks sources asked posing → length posing.initial ≤ most_states
-initial-few sources asked posing asks =
-    omega (arith, ap (λ (states : List ℕ). length states) asks.poses.starts, labelled-few asks.lab.text (length asks.game) asks.labels init asks.lab.is_so, game-few asks.tra.text asks.game asks.tra.is_so)
+-- the initial states of a problem are those with the label
+problem-starts : (game : List (List Distribution)) (labels : Labelling) (owners : Ownership) (f : Tree) (problem : Problem) → PosesProblem game labels owners f problem → initial_of problem ≡ states_with labels init
+problem-starts game labels owners f (OfUntil p) poses = poses.1.set_up.starts
+problem-starts game labels owners f (OfWithin k p) poses = poses.1.set_up.starts
+problem-starts game labels owners f (OfNext p) poses = poses.1.set_up.starts
+problem-starts game labels owners f (OfAlways p) poses = poses.1.set_up.starts
+
+initial-few : (paths : Paths) (sources : Sources) (asked : Asked) (problem : Problem) → Asks paths sources asked problem → length (initial_of problem) ≤ most_states
+initial-few paths sources asked problem asks =
+    omega (arith, ap (λ (states : List ℕ). length states) (problem-starts asks.game asks.labels asks.owners asks.formula problem asks.poses), labelled-few asks.lab.text (length asks.game) asks.labels init asks.lab.is_so, game-few asks.tra.text asks.game asks.tra.is_so)
 
 -- 2. The text of a report.
 
@@ -64,52 +80,77 @@ initial-few sources asked posing asks =
 abbrev most_behind : ℕ
 most_behind = (9 + most_spelled) + (25 + entry_bytes * most_states)
 
-part-short : (asked : Bool) (formula : Tree) (plan : Plan) → length (spelling formula) ≤ most_spelled → AreEntriesInLimits (certificate_of asked formula plan) → length (certificate_part (certificate_of asked formula plan)) ≤ most_behind
-part-short false formula plan small are = omega arith
-part-short true formula plan small are =
+part-short : (asked : Bool) (f : Tree) (plan : Plan) → length (spelling (answered f)) ≤ most_spelled → AreEntriesInLimits (certificate_of asked f plan) → length (certificate_part (certificate_of asked f plan)) ≤ most_behind
+part-short false f plan small are = omega arith
+part-short true f plan small are =
     let entries = entries_of plan in
-    joined-short (9 + most_spelled) (25 + entry_bytes * most_states) (codes "formula " ++ (spelling formula ++ codes "\n")) (certificate_text entries)
-    (joined-short 8 (most_spelled + 1) (codes "formula ") (spelling formula ++ codes "\n") (omega arith) (joined-short most_spelled 1 (spelling formula) (codes "\n") small (omega arith)))
+    let spelled = spelling (answered f) in
+    joined-short (9 + most_spelled) (25 + entry_bytes * most_states) (codes "formula " ++ (spelled ++ codes "\n")) (certificate_text entries)
+    (joined-short 8 (most_spelled + 1) (codes "formula ") (spelled ++ codes "\n") (omega arith) (joined-short most_spelled 1 spelled (codes "\n") small (omega arith)))
     (certificate-short entries are.0 are.1)
 
-report-text-short : (q : Query) (initial : List ℕ) (formula : Tree) (check : Check) (text : List ℕ) (status : Status) → length initial ≤ most_states → length (spelling formula) ≤ most_spelled
-    → IsReport q initial formula check text status → length text ≤ most_bytes
-report-text-short q initial formula check text status few small r =
-    let lines = map (line_by formula.bound (Rounds r.found.rounds) r.plan) initial in
-    let part = certificate_part (certificate_of check.plan formula r.plan) in
+-- the lines of the initial states
+lines-short : (initial : List ℕ) (f : Tree) (how : How) (lower upper : List ℕ) → length initial ≤ most_states → All IsLine (map (line_by f how lower upper) initial) → length (report (map (line_by f how lower upper) initial)) ≤ line_bytes * most_states
+lines-short initial f how lower upper few are = omega (arith, few, length-map initial (line_by f how lower upper), report-short (map (line_by f how lower upper) initial) are)
+
+report-text-short : (q : Query) (initial : List ℕ) (f : Tree) (check : Check) (text : List ℕ) (status : Status) → length initial ≤ most_states → length (spelling (answered f)) ≤ most_spelled
+    → IsReport q initial f check text status → length text ≤ most_bytes
+report-text-short q initial f check text status few small r =
+    let lines = map (line_by f (Rounds r.found.rounds) r.plan.lower.items r.plan.upper.items) initial in
+    let part = certificate_part (certificate_of check.plan f r.plan) in
     omega (
       arith,
-      few,
       ap (λ (t : List ℕ). length t) r.written,
       length-append (report lines) part,
-      length-map initial (line_by formula.bound (Rounds r.found.rounds) r.plan),
-      report-short lines r.limits.lines,
-      part-short check.plan formula r.plan small r.limits.entries,
+      lines-short initial f (Rounds r.found.rounds) r.plan.lower.items r.plan.upper.items few r.limits.lines,
+      part-short check.plan f r.plan small r.limits.entries,
     )
 
-pub printed-short : (holding : Option Holding) (check : Check) (text : List ℕ) (status : Status) → IsReportOf holding (OfCheck check) text status → length text ≤ most_bytes
-printed-short holding check text status r =
-    report-text-short r.posing.question r.posing.initial r.formula check text status (initial-few r.posed.sources check.asked r.posing r.posed.asks) (spelling-short check.asked.formula r.formula r.spelled) r.report
+sweep-text-short : (q : Query) (opening : ℕ → ℕ) (steps : ℕ) (numerators : ℕ → ℕ) (initial : List ℕ) (f : Tree) (text : List ℕ) (status : Status) → length initial ≤ most_states
+    → IsSweepReport q opening steps numerators initial f text status → length text ≤ most_bytes
+sweep-text-short q opening steps numerators initial f text status few r =
+    omega (arith, ap (λ (t : List ℕ). length t) r.written, lines-short initial f (Steps steps) r.lower r.upper few r.lines)
 
--- 3. What was written is accepted.
+problem-short : (problem : Problem) (f : Tree) (check : Check) (text : List ℕ) (status : Status) → length (initial_of problem) ≤ most_states → length (spelling (answered f)) ≤ most_spelled
+    → IsReportOn problem f check text status → length text ≤ most_bytes
+problem-short (OfUntil p) f check text status few small r = report-text-short p.question p.initial f check text status few small r
+problem-short (OfAlways p) f check text status few small r = report-text-short p.question p.initial f check text status few small r
+problem-short (OfWithin k p) f check text status few small r = sweep-text-short _ _ _ _ p.initial f text status few r
+problem-short (OfNext p) f check text status few small r = sweep-text-short _ _ _ _ p.initial f text status few r
 
 -- every formula that a text denotes can be spelled
 abbrev pub AreSpellable : Type 0
 AreSpellable = (text : List ℕ) (formula : Tree) → Denotes text formula → IsSpellable formula
 
--- a later shelf holds what was written, and the same texts for the question
+pub printed-short : AreSpellable → (holding : Option Holding) (check : Check) (text : List ℕ) (status : Status) → IsReportOf holding (OfCheck check) text status → length text ≤ most_bytes
+printed-short spellable holding check text status r =
+    problem-short r.problem r.formula check text status (initial-few (check_paths check) r.posed.sources check.asked r.problem r.posed.asks)
+    (spelling-short check.asked.formula r.formula r.spelled (spellable-plain r.formula (spellable check.asked.formula r.formula r.spelled))) r.report
+
+-- 3. What was written is accepted.
+
+-- a certificate is asked for of paths without a bound on the steps alone
+planned-paths : (check : Check) → check.plan ≡ true → check_paths check ≡ Unbounded
+planned-paths check planned = ap (λ b. if b || check.traps then Unbounded else Any) planned
+
+-- a certificate that was written is accepted, by the kind of the paths
+problem-accepted : AreReadBack → AreCertificates → (game : List (List Distribution)) (labels : Labelling) (owners : Ownership) (g : Tree) (problem : Problem) (f : Tree) (check : Check) (text : List ℕ) (status : Status) → check.plan ≡ true
+    → PosesProblem game labels owners g problem → takes Unbounded g.kind ≡ true → HasPlainParts (answered f) → IsReportOn problem f check text status → (plan : Plan) × IsAccepted (question_of problem) text plan
+problem-accepted read_back certificates game labels owners g (OfUntil p) f check text status planned poses taken parts r = (r.plan, report-accepted read_back certificates p.question p.initial f check text status planned parts r)
+problem-accepted read_back certificates game labels owners g (OfAlways p) f check text status planned poses taken parts r = (r.plan, report-accepted read_back certificates p.question p.initial f check text status planned parts r)
+problem-accepted read_back certificates game labels owners g (OfWithin k p) f check text status planned poses taken parts r = let not : takes Unbounded g.kind ≡ false = ap (takes Unbounded) poses.0 in absurd (cc (not, taken))
+problem-accepted read_back certificates game labels owners g (OfNext p) f check text status planned poses taken parts r = let not : takes Unbounded g.kind ≡ false = ap (takes Unbounded) poses.0 in absurd (cc (not, taken))
+
+-- a later shelf holds what was written, and the same texts for the problem
 pub saved-accepted : AreReadBack → AreCertificates → AreSpellable → (held later : Holding) (check : Check) (audit : Audit) (text : List ℕ) (status : Status) → IsReportOf (Some held) (OfCheck check) text status → check.plan ≡ true
     → audit.asked ≡ check.asked → sources_of later check.asked ≡ sources_of held check.asked → later audit.certificate ≡ Some text → IsAcceptedOf later (OfAudit audit)
 saved-accepted read_back certificates spellable held later check audit text status r planned same alike given =
-    let q = r.posing.question in
-    let asks = subst (λ (sources : Sources). Asks sources check.asked r.posing) (r.posed.told ∙ sym alike) r.posed.asks in (
-      r.posing,
-      r.report.plan,
-      subst (λ (asked : Asked). Asks (sources_of later asked) asked r.posing) (sym same) asks,
-      record {
-        text = text;
-        given = given;
-        short = printed-short (Some held) check text status r;
-        is_so = report-accepted read_back certificates q r.posing.initial r.formula check text status planned (spellable check.asked.formula r.formula r.spelled) r.report;
-      },
+    let at_sources = subst (λ (sources : Sources). Asks (check_paths check) sources check.asked r.problem) (r.posed.told ∙ sym alike) r.posed.asks in
+    let asks = subst (λ (paths : Paths). Asks paths (sources_of later check.asked) check.asked r.problem) (planned-paths check planned) at_sources in
+    let parts = answered-plain r.formula (spellable-plain r.formula (spellable check.asked.formula r.formula r.spelled)) in
+    let accepted = problem-accepted read_back certificates asks.game asks.labels asks.owners asks.formula r.problem r.formula check text status planned asks.poses asks.taken parts r.report in (
+      r.problem,
+      accepted.0,
+      subst (λ (asked : Asked). Asks Unbounded (sources_of later asked) asked r.problem) (sym same) asks,
+      record { text = text; given = given; short = printed-short spellable (Some held) check text status r; is_so = accepted.1 },
     )

@@ -1,5 +1,5 @@
 -- How long the spelling of a formula is at most: ten bytes for each byte of the text that denotes it, and some for its threshold.
-use Rattle.std.proofs.Common.{◌≡◌, ◌<◌, ◌≤◌, ◌+◌, ◌-◌, ◌*◌, ◌^◌, ℕ, Bool, true, false, List, [], ◌∷◌, ◌++◌, length, drop, Option, Some, None, ap, arith}
+use Rattle.std.proofs.Common.{◌≡◌, ◌<◌, ◌≤◌, ◌+◌, ◌-◌, ◌*◌, ◌^◌, ℕ, Bool, true, false, List, [], ◌∷◌, ◌++◌, length, drop, Option, Some, None, refl, ap, arith}
 use Rattle.std.specs.Prelude.{◌==◌, nat_lt, codes, decimal, if◌then◌else◌}
 use Rattle.std.proofs.lemmas.List.{length-append, length-take}
 use Rattle.std.proofs.lemmas.Fmt.{length-decimal-le_wide}
@@ -8,10 +8,15 @@ use Rattle.rpatl_syntax.specs.declared.formula.Bound.{Bound}
 use Rattle.rpatl_syntax.specs.declared.formula.Bound.TheVariants.{AtLeast, Above, AtMost, Below, AskMax, AskMin}
 use Rattle.rpatl_syntax.specs.Formula.{State, True, False, Label, Not, And, Or, Implies, Tree}
 use Rattle.rpatl_syntax.specs.Grammar.{is_quoted, unquoted}
+use Rattle.rpatl_syntax.specs.declared.formula.PathKind.{PathKind}
+use Rattle.rpatl_syntax.specs.declared.formula.PathKind.TheVariants.{Until, Within, Next, Always}
+use Rattle.rpatl_syntax.specs.Dual.{dual_of}
 use Rattle.rpatl_syntax.specs.Limits.{longest}
-use Rattle.rpatl_syntax.specs.Rules.{between, IsState, IsEither, IsBoth, IsUnary, plain_state, implies, plain_either, or, plain_both, and, negation, brackets, everywhere, nowhere, label, with_commas, IsCoalition, IsComparison, IsBound, IsPath, reach, until, IsFormula, Denotes}
-use Rattle.rpatl_syntax.specs.Spelling.{strength_of, in_place, state_spelling, path_spelling, names_spelling, coalition_spelling, fraction_spelling, bound_spelling, spelling}
+use Rattle.rpatl_syntax.specs.Rules.{between, IsState, IsEither, IsBoth, IsUnary, plain_state, implies, plain_either, or, plain_both, and, negation, brackets, everywhere, nowhere, label, with_commas, IsCoalition, IsPath, reach, reach_within, until, until_within, next, always, IsFormula, Denotes}
+use Rattle.rpatl_syntax.specs.Spelling.{strength_of, in_place, state_spelling, until_spelling, path_spelling, names_spelling, coalition_spelling, fraction_spelling, bound_spelling, spelling}
 use Rattle.rpatl_syntax.specs.TokenRules.{AreCut, nothing, blank, token}
+use Rattle.asked_files.specs.Problems.{answered_by, answered}
+use Rattle.stogame_app.proofs.PlainParts.{IsFine, HasFine, HasPlainParts, answered-plain}
 use Rattle.stogame_app.proofs.ShortLines.{joined-short}
 
 -- 1. Tokens are together no longer than the text that is cut into them.
@@ -81,18 +86,41 @@ mutual
 
 -- 3. The parts of a formula.
 
-sides-short : (left : State) (right : List ℕ) → length (path_spelling left right) ≤ length (state_spelling left) + (3 + length right)
-sides-short True right = omega arith
-sides-short False right = omega (arith, length-append (state_spelling False) (codes " U " ++ right))
-sides-short (Label name) right = omega (arith, length-append (state_spelling (Label name)) (codes " U " ++ right))
-sides-short (Not x) right = omega (arith, length-append (state_spelling (Not x)) (codes " U " ++ right))
-sides-short (And x y) right = omega (arith, length-append (state_spelling (And x y)) (codes " U " ++ right))
-sides-short (Or x y) right = omega (arith, length-append (state_spelling (Or x y)) (codes " U " ++ right))
-sides-short (Implies x y) right = omega (arith, length-append (state_spelling (Implies x y)) (codes " U " ++ right))
+until-short : (left : State) → length (until_spelling left) ≤ length (state_spelling left) + 2
+until-short True = omega arith
+until-short False = omega arith
+until-short (Label name) = omega (arith, length-append (state_spelling (Label name)) (codes " U"))
+until-short (Not x) = omega (arith, length-append (state_spelling (Not x)) (codes " U"))
+until-short (And x y) = omega (arith, length-append (state_spelling (And x y)) (codes " U"))
+until-short (Or x y) = omega (arith, length-append (state_spelling (Or x y)) (codes " U"))
+until-short (Implies x y) = omega (arith, length-append (state_spelling (Implies x y)) (codes " U"))
 
-path-short : (ts : List (List ℕ)) (left right : State) → IsPath ts left right → length (path_spelling left (state_spelling right)) ≤ 10 * bytes_in ts
-path-short _ _ _ (reach ts y d) = omega (arith, state-fits _ ts y d)
-path-short _ _ _ (until ts us x y d e) = omega (arith, sides-short x (state_spelling y), state-fits _ ts x d, state-fits _ us y e, bytes_in-append ts (codes "U" ∷ us))
+-- a number of steps
+steps-short : (k : ℕ) → k ≤ 1000000 → length (decimal k) ≤ 7
+steps-short k few = length-decimal-le_wide 7 k (omega arith) (omega (arith, few)) (omega (arith, few))
+
+within-short : (left : State) (k : ℕ) (right : List ℕ) → k ≤ 1000000 → length (path_spelling (Within k) left right) ≤ length (until_spelling left) + (10 + length right)
+within-short left k right few =
+    omega (arith, length-append (until_spelling left ++ (codes "<=" ++ decimal k)) (codes " " ++ right), length-append (until_spelling left) (codes "<=" ++ decimal k), steps-short k few)
+
+path-short : (ts : List (List ℕ)) (kind : PathKind) (left right : State) → IsPath ts kind left right → length (path_spelling kind left (state_spelling right)) ≤ 10 * bytes_in ts
+path-short _ _ _ _ (reach ts y d) = omega (arith, state-fits _ ts y d)
+path-short _ _ _ _ (reach_within number ts k y few d) = omega (arith, within-short True k (state_spelling y) few.small, state-fits _ ts y d)
+path-short _ _ _ _ (until ts us x y d e) =
+    omega (arith, length-append (until_spelling x) (codes " " ++ state_spelling y), until-short x, state-fits _ ts x d, state-fits _ us y e, bytes_in-append ts (codes "U" ∷ us))
+path-short _ _ _ _ (until_within ts number us k x y d few e) =
+    omega (arith, within-short x k (state_spelling y) few.small, until-short x, state-fits _ ts x d, state-fits _ us y e, bytes_in-append ts (codes "U" ∷ codes "<=" ∷ number ∷ us))
+path-short _ _ _ _ (next ts y d) = omega (arith, state-fits _ ts y d)
+path-short _ _ _ _ (always ts y d) = omega (arith, state-fits _ ts y d)
+
+-- the path of the dual of `G`
+dual-short : (ts : List (List ℕ)) (kind : PathKind) (left right : State) → IsPath ts kind left right → kind ≡ Always → length (path_spelling Until True (state_spelling (Not right))) ≤ 10 * bytes_in ts
+dual-short _ _ _ _ (reach ts y d) is = absurd (cc (is))
+dual-short _ _ _ _ (reach_within number ts k y few d) is = absurd (cc (is))
+dual-short _ _ _ _ (until ts us x y d e) is = absurd (cc (is))
+dual-short _ _ _ _ (until_within ts number us k x y d few e) is = absurd (cc (is))
+dual-short _ _ _ _ (next ts y d) is = absurd (cc (is))
+dual-short _ _ _ _ (always ts y d) is = omega (arith, in_place-short 3 y (state_spelling y), state-fits _ ts y d)
 
 names-short : (names : List (List ℕ)) → length (names_spelling names) ≤ bytes_in (with_commas names)
 names-short [] = omega arith
@@ -108,32 +136,37 @@ coalition-short ts (Some names) is =
 decimal-short : (n : ℕ) → n < 10 ^ 64 → length (decimal n) ≤ 64
 decimal-short n small = length-decimal-le_wide 64 n (omega arith) small small
 
-fraction-short : (p : Fraction) → p.num < 10 ^ 64 → p.den < 10 ^ 64 → length (fraction_spelling p) ≤ 129
-fraction-short p num den = by (p.den == 1)
+fraction-short : (p : Fraction) → IsFine p → length (fraction_spelling p) ≤ 129
+fraction-short p fine = by (p.den == 1)
   where
+    of_num : length (decimal p.num) ≤ 64
+    of_num = decimal-short p.num (omega (arith, fine.0, fine.1))
+
+    of_den : length (decimal p.den) ≤ 64
+    of_den = decimal-short p.den (omega (arith, fine.1))
+
     by : (b : Bool) → length (if b then decimal p.num else decimal p.num ++ (codes "/" ++ decimal p.den)) ≤ 129
-    by true = omega (arith, decimal-short p.num num)
-    by false = joined-short 64 65 (decimal p.num) (codes "/" ++ decimal p.den) (decimal-short p.num num) (joined-short 1 64 (codes "/") (decimal p.den) (omega arith) (decimal-short p.den den))
+    by true = omega (arith, of_num)
+    by false = joined-short 64 65 (decimal p.num) (codes "/" ++ decimal p.den) of_num (joined-short 1 64 (codes "/") (decimal p.den) (omega arith) of_den)
 
-compared-short : (word sign : List ℕ) (ts : List (List ℕ)) (p : Fraction) → length word ≤ 3 → IsComparison sign ts p → length (word ++ fraction_spelling p) ≤ 132
-compared-short word sign ts p small is =
-    let threshold = is.2 in
-    let fine = threshold.value.fraction.fine in
-    joined-short 3 129 word (fraction_spelling p) small (fraction-short p (omega (arith, threshold.small, fine)) (omega (arith, fine)))
+compared-short : (word : List ℕ) (p : Fraction) → length word ≤ 3 → IsFine p → length (word ++ fraction_spelling p) ≤ 132
+compared-short word p small fine = joined-short 3 129 word (fraction_spelling p) small (fraction-short p fine)
 
-bound-short : (ts : List (List ℕ)) (bound : Bound) → IsBound ts bound → length (bound_spelling bound) ≤ 132
-bound-short ts (AtLeast p) is = compared-short (codes "P>=") (codes ">=") ts p (omega arith) is
-bound-short ts (Above p) is = compared-short (codes "P>") (codes ">") ts p (omega arith) is
-bound-short ts (AtMost p) is = compared-short (codes "P<=") (codes "<=") ts p (omega arith) is
-bound-short ts (Below p) is = compared-short (codes "P<") (codes "<") ts p (omega arith) is
-bound-short ts AskMax is = omega arith
-bound-short ts AskMin is = omega arith
+bound-short : (bound : Bound) → HasFine bound → length (bound_spelling bound) ≤ 132
+bound-short (AtLeast p) fine = compared-short (codes "P>=") p (omega arith) fine
+bound-short (Above p) fine = compared-short (codes "P>") p (omega arith) fine
+bound-short (AtMost p) fine = compared-short (codes "P<=") p (omega arith) fine
+bound-short (Below p) fine = compared-short (codes "P<") p (omega arith) fine
+bound-short AskMax fine = omega arith
+bound-short AskMin fine = omega arith
 
 -- 4. The whole formula.
 
-parts-short : (ts : List (List ℕ)) (f : Tree) → IsFormula ts f → length (spelling f) ≤ 10 * bytes_in ts + 138
-parts-short ts f is =
-    let path = path_spelling f.left (state_spelling f.right) in
+-- a formula for the coalition of these tokens, with a path that is no longer than theirs
+parts-short : (ts : List (List ℕ)) (f g : Tree) (is : IsFormula ts f) → g.coalition ≡ f.coalition → HasFine g.bound → length (path_spelling g.kind g.left (state_spelling g.right)) ≤ 10 * bytes_in is.sides
+    → length (spelling g) ≤ 10 * bytes_in ts + 138
+parts-short ts f g is same fine short =
+    let path = path_spelling g.kind g.left (state_spelling g.right) in
     let behind_bound = codes " [ " ++ (path ++ codes " ]") in
     omega (
       arith,
@@ -141,17 +174,28 @@ parts-short ts f is =
       bytes_in-append is.team (is.asks ++ codes "[" ∷ (is.sides ++ codes "]" ∷ [])),
       bytes_in-append is.asks (codes "[" ∷ (is.sides ++ codes "]" ∷ [])),
       bytes_in-append is.sides (codes "]" ∷ []),
-      length-append (coalition_spelling f.coalition) (bound_spelling f.bound ++ behind_bound),
-      length-append (bound_spelling f.bound) behind_bound,
+      length-append (coalition_spelling g.coalition) (bound_spelling g.bound ++ behind_bound),
+      length-append (bound_spelling g.bound) behind_bound,
       length-append path (codes " ]"),
+      ap (λ c. length (coalition_spelling c)) same,
       coalition-short is.team f.coalition is.coalition,
-      bound-short is.asks f.bound is.bound,
-      path-short is.sides f.left f.right is.path,
+      bound-short g.bound fine,
+      short,
     )
 
--- the most bytes of the spelling of a formula that was read
+-- the formula whose question is answered
+answered-short : (ts : List (List ℕ)) (f : Tree) → IsFormula ts f → HasPlainParts (answered f) → length (spelling (answered f)) ≤ 10 * bytes_in ts + 138
+answered-short ts f is parts = by f.kind refl parts
+  where
+    by : (kind : PathKind) → f.kind ≡ kind → HasPlainParts (answered_by kind f) → length (spelling (answered_by kind f)) ≤ 10 * bytes_in ts + 138
+    by Until of plain = parts-short ts f f is refl plain.fine (path-short is.sides f.kind f.left f.right is.path)
+    by (Within k) of plain = parts-short ts f f is refl plain.fine (path-short is.sides f.kind f.left f.right is.path)
+    by Next of plain = parts-short ts f f is refl plain.fine (path-short is.sides f.kind f.left f.right is.path)
+    by Always of plain = parts-short ts f (dual_of f) is refl plain.fine (dual-short is.sides f.kind f.left f.right is.path of)
+
+-- the most bytes of the spelling of a formula that was read, or of its dual
 abbrev pub most_spelled : ℕ
 most_spelled = 10 * longest + 138
 
-pub spelling-short : (text : List ℕ) (f : Tree) → Denotes text f → length (spelling f) ≤ most_spelled
-spelling-short text f denotes = omega (arith, denotes.short, cut-short text denotes.tokens denotes.cut, parts-short denotes.tokens f denotes.formula)
+pub spelling-short : (text : List ℕ) (f : Tree) → Denotes text f → HasPlainParts f → length (spelling (answered f)) ≤ most_spelled
+spelling-short text f denotes parts = omega (arith, denotes.short, cut-short text denotes.tokens denotes.cut, answered-short denotes.tokens f denotes.formula (answered-plain f parts))

@@ -1,21 +1,27 @@
 -- What a command is answered: its report, its first refusal, or that a text is not held.
-use Rattle.std.specs.Prelude.{◌≡◌, ◌⊎◌, ℕ, Bool, List, Option, None}
+use Rattle.std.specs.Prelude.{◌≡◌, ◌⊎◌, ◌||◌, ℕ, Bool, List, Option, None, slice_index, if◌then◌else◌}
 use Rattle.game_outside.specs.Outside.{Holding}
-use Rattle.formula_sets.specs.Posing.{Posing}
+use Rattle.game_model.specs.Rounded.{opening}
+use Rattle.game_model.specs.Values.{numerator}
+use Rattle.bounded_rounds.specs.Exact.{next_numerator}
 use Rattle.rpatl_syntax.specs.Formula.{Tree}
 use Rattle.rpatl_syntax.specs.Rules.{Denotes}
 use Rattle.plan_text.specs.declared.plan.Plan.{Plan}
 use Rattle.certificate_audit.specs.Accepted.{IsAccepted}
 use Rattle.command_words.specs.Words.{Asked, Check, Audit, Command, OfCheck, OfAudit, OfMake, OfSure, AreInRange, IsMakeInRange}
 use Rattle.run_refusals.specs.declared.refusal.Refusal.{Refusal}
+use Rattle.asked_files.specs.declared.problem.Paths.{Paths}
+use Rattle.asked_files.specs.declared.problem.Paths.TheVariants.{Any, Unbounded, Reaching}
+use Rattle.asked_files.specs.Problems.{Problem, OfUntil, OfWithin, OfNext, OfAlways, question_of, initial_of}
 use Rattle.asked_files.specs.Said.{NotHeld}
 use Rattle.asked_files.specs.Sources.{HasSource, sources_of}
-use Rattle.asked_files.specs.Posed.{question_said}
+use Rattle.asked_files.specs.Posed.{reading_said}
 use Rattle.asked_files.specs.Asks.{IsText, Asks}
 use Rattle.asked_files.specs.Questions.{PosesIt, RefusesQuestion, RefusesCertificate}
 use Rattle.stogame_app.specs.declared.status.Status.{Status}
 use Rattle.stogame_app.specs.Status.{sure_status}
 use Rattle.stogame_app.specs.Reports.{IsReport}
+use Rattle.stogame_app.specs.Sweeps.{IsSweepReport, opens}
 use Rattle.stogame_app.specs.Audits.{IsAudit}
 use Rattle.stogame_app.specs.Made.{IsMade}
 use Rattle.sure_report.specs.Sure.{IsSure}
@@ -34,30 +40,41 @@ ReadsFiles (OfAudit audit) = Unit {0}
 ReadsFiles (OfMake make) = ⊥
 ReadsFiles (OfSure asked) = Unit {0}
 
+-- a certificate, and upper bounds lowered at traps, are of paths without a bound on the steps
+abbrev pub check_paths : Check → Paths
+check_paths check = if check.plan || check.traps then Unbounded else Any
+
 -- 1. Reports.
 
--- the report of `check`: of the question that the texts and the words pose, by the formula that the words spell, with a certificate where one is asked for
+-- the answer to a problem, by the kind of its paths
+abbrev pub IsReportOn : Problem → Tree → Check → List ℕ → Status → Type 0
+IsReportOn (OfUntil p) f check text status = IsReport p.question p.initial f check text status
+IsReportOn (OfAlways p) f check text status = IsReport p.question p.initial f check text status
+IsReportOn (OfWithin steps p) f check text status = IsSweepReport p.question (opening p.question) steps (numerator p.question steps) p.initial f text status
+IsReportOn (OfNext p) f check text status = IsSweepReport p.question (slice_index p.opening) 1 (next_numerator p.question (opens p.opening)) p.initial f text status
+
+-- the report of `check`: of the problem that the texts and the words pose, by the formula that the words spell, with a certificate where one is asked for
 pub record IsReportOfCheck (holding : Option Holding) (check : Check) (text : List ℕ) (status : Status) : Type 0 where
-  pub posing : Posing
-  pub posed : PosesIt holding check.asked posing
+  pub problem : Problem
+  pub posed : PosesIt holding check.asked (check_paths check) problem
   pub formula : Tree
   pub spelled : Denotes check.asked.formula formula
-  pub report : IsReport posing.question posing.initial formula check text status
+  pub report : IsReportOn problem formula check text status
 
 -- the report of `audit`: of such a question, by such a formula, from the text under the name of the certificate
 pub record IsReportOfAudit (holding : Option Holding) (audit : Audit) (text : List ℕ) (status : Status) : Type 0 where
-  pub posing : Posing
-  pub posed : PosesIt holding audit.asked posing
+  pub problem : Problem
+  pub posed : PosesIt holding audit.asked Unbounded problem
   pub formula : Tree
   pub spelled : Denotes audit.asked.formula formula
-  pub certificate : HasSource holding audit.certificate (λ source. IsText source (λ bytes. IsAudit posing.question posing.initial formula.bound bytes text status))
+  pub certificate : HasSource holding audit.certificate (λ source. IsText source (λ bytes. IsAudit (question_of problem) (initial_of problem) formula bytes text status))
 
 -- the report of `sure`: of such a question
 pub record IsReportOfSure (holding : Option Holding) (asked : Asked) (text : List ℕ) (status : Status) : Type 0 where
-  pub posing : Posing
-  pub posed : PosesIt holding asked posing
+  pub problem : Problem
+  pub posed : PosesIt holding asked Reaching problem
   pub all : Bool
-  pub sure : IsSure posing.question posing.initial text all
+  pub sure : IsSure (question_of problem) (initial_of problem) text all
   pub ends : status ≡ sure_status all
 
 -- the report of a command; that of `make` is of the game that a seed draws
@@ -69,32 +86,32 @@ IsReportOf holding (OfSure asked) text status = IsReportOfSure holding asked tex
 
 -- 2. Refusals.
 
--- the question is posed, and this is the first refusal of the text under the name of the certificate
+-- the problem is posed, and this is the first refusal of the text under the name of the certificate
 pub record RefusesBehind (holding : Option Holding) (audit : Audit) (refusal : Refusal) : Type 0 where
-  pub posing : Posing
-  pub posed : PosesIt holding audit.asked posing
-  pub certificate : HasSource holding audit.certificate (λ source. RefusesCertificate posing.question source refusal)
+  pub problem : Problem
+  pub posed : PosesIt holding audit.asked Unbounded problem
+  pub certificate : HasSource holding audit.certificate (λ source. RefusesCertificate (question_of problem) source refusal)
 
--- the first refusal of a command: of the question, or else, for an audit, of the certificate
+-- the first refusal of a command: of the problem, or else, for an audit, of the certificate
 abbrev pub RefusesIt : Option Holding → Command → Refusal → Type 0
-RefusesIt holding (OfCheck check) refusal = RefusesQuestion holding check.asked refusal
-RefusesIt holding (OfAudit audit) refusal = RefusesQuestion holding audit.asked refusal ⊎ RefusesBehind holding audit refusal
+RefusesIt holding (OfCheck check) refusal = RefusesQuestion holding check.asked (check_paths check) refusal
+RefusesIt holding (OfAudit audit) refusal = RefusesQuestion holding audit.asked Unbounded refusal ⊎ RefusesBehind holding audit refusal
 RefusesIt holding (OfMake make) refusal = ⊥
-RefusesIt holding (OfSure asked) refusal = RefusesQuestion holding asked refusal
+RefusesIt holding (OfSure asked) refusal = RefusesQuestion holding asked Reaching refusal
 
 -- 3. Texts that are held.
 
 -- a text that a command needs is not held, and those before it are accepted
 abbrev pub IsMissing : Holding → Command → Type 0
-IsMissing held (OfCheck check) = question_said (sources_of held check.asked) check.asked ≡ NotHeld
-IsMissing held (OfAudit audit) = (question_said (sources_of held audit.asked) audit.asked ≡ NotHeld)
-    ⊎ (((posing : Posing) × Asks (sources_of held audit.asked) audit.asked posing) × (held audit.certificate ≡ None))
+IsMissing held (OfCheck check) = reading_said (sources_of held check.asked) check.asked ≡ NotHeld
+IsMissing held (OfAudit audit) = (reading_said (sources_of held audit.asked) audit.asked ≡ NotHeld)
+    ⊎ (((problem : Problem) × Asks Unbounded (sources_of held audit.asked) audit.asked problem) × (held audit.certificate ≡ None))
 IsMissing held (OfMake make) = ⊥
-IsMissing held (OfSure asked) = question_said (sources_of held asked) asked ≡ NotHeld
+IsMissing held (OfSure asked) = reading_said (sources_of held asked) asked ≡ NotHeld
 
 -- all that a command needs is held and accepted
 abbrev pub IsAcceptedOf : Holding → Command → Type 0
-IsAcceptedOf held (OfCheck check) = (posing : Posing) × Asks (sources_of held check.asked) check.asked posing
-IsAcceptedOf held (OfAudit audit) = (posing : Posing) × (plan : Plan) × Asks (sources_of held audit.asked) audit.asked posing × IsText (held audit.certificate) (λ text. IsAccepted posing.question text plan)
+IsAcceptedOf held (OfCheck check) = (problem : Problem) × Asks (check_paths check) (sources_of held check.asked) check.asked problem
+IsAcceptedOf held (OfAudit audit) = (problem : Problem) × (plan : Plan) × Asks Unbounded (sources_of held audit.asked) audit.asked problem × IsText (held audit.certificate) (λ text. IsAccepted (question_of problem) text plan)
 IsAcceptedOf held (OfMake make) = Unit {0}
-IsAcceptedOf held (OfSure asked) = (posing : Posing) × Asks (sources_of held asked) asked posing
+IsAcceptedOf held (OfSure asked) = (problem : Problem) × Asks Reaching (sources_of held asked) asked problem

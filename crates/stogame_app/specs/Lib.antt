@@ -1,3 +1,4 @@
+pub mod Always
 pub mod Answers
 pub mod Audits
 pub mod Commands
@@ -7,3 +8,4 @@ pub mod Printed
 pub mod Reports
 pub mod Run
 pub mod Status
+pub mod Sweeps

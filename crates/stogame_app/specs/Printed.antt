@@ -1,7 +1,9 @@
--- What is printed of a plan: a line for each initial state with what its bounds say, and the certificate.
-use Rattle.std.specs.Prelude.{ℕ, Bool, true, false, List, map, slice_index, Option, Some, None, if◌then◌else◌}
+-- What is printed of two tables: a line for each initial state with what its bounds say, and the certificate.
+use Rattle.std.specs.Prelude.{ℕ, ◌-◌, Bool, true, false, List, map, slice_index, Option, Some, None, if◌then◌else◌}
 use Rattle.std.specs.List.{list_any}
-use Rattle.rpatl_syntax.specs.declared.formula.Bound.{Bound}
+use Rattle.game_model.specs.Limits.{unit}
+use Rattle.rpatl_syntax.specs.declared.formula.PathKind.{PathKind}
+use Rattle.rpatl_syntax.specs.declared.formula.PathKind.TheVariants.{Until, Within, Next, Always}
 use Rattle.rpatl_syntax.specs.Formula.{Tree}
 use Rattle.plan_text.specs.declared.plan.Plan.{Plan}
 use Rattle.plan_text.specs.Entries.{entries_of}
@@ -10,24 +12,47 @@ use Rattle.verdicts.specs.declared.report.ReportLine.{ReportLine}
 use Rattle.verdicts.specs.declared.report.How.{How}
 use Rattle.verdicts.specs.declared.verdict.Verdict.{Verdict}
 use Rattle.verdicts.specs.declared.verdict.Verdict.TheVariants.{Yes, No, Undecided, Bracket as Value}
+use Rattle.asked_files.specs.Problems.{answered}
 use Rattle.stogame_app.specs.Outputs.{Certificate, Output}
 use Rattle.stogame_app.specs.declared.status.Status.{Status}
 use Rattle.stogame_app.specs.declared.status.Status.TheVariants.{Fine, SomeFalse, SomeUndecided}
 
--- what the bounds of a state say
-abbrev pub verdict_by : Bound → Plan → ℕ → Verdict
-verdict_by bound plan s = verdict_of bound (slice_index plan.lower.items s) (slice_index plan.upper.items s)
+-- bounds of the dual of `G`, of which 1 less the value is asked
+abbrev pub is_mirrored : PathKind → Bool
+is_mirrored Until = false
+is_mirrored (Within steps) = false
+is_mirrored Next = false
+is_mirrored Always = true
 
--- the line of a state
-abbrev pub line_by : Bound → How → Plan → ℕ → ReportLine
-line_by bound how plan s = record { state = s; lower = slice_index plan.lower.items s; upper = slice_index plan.upper.items s; how = how; verdict = verdict_by bound plan s }
+-- the printed lower bound: the lower one, or 1 less the upper bound of the dual
+abbrev pub printed_lower : PathKind → ℕ → ℕ → ℕ
+printed_lower kind lower upper = if is_mirrored kind then unit - upper else lower
 
+-- the printed upper bound: the upper one, or 1 less the lower bound of the dual
+abbrev pub printed_upper : PathKind → ℕ → ℕ → ℕ
+printed_upper kind lower upper = if is_mirrored kind then unit - lower else upper
+
+-- what the printed bounds say
+abbrev pub verdict_with : Tree → ℕ → ℕ → Verdict
+verdict_with f lower upper = verdict_of f.bound (printed_lower f.kind lower upper) (printed_upper f.kind lower upper)
+
+abbrev pub line_with : Tree → How → ℕ → ℕ → ℕ → ReportLine
+line_with f how s lower upper = record { state = s; lower = printed_lower f.kind lower upper; upper = printed_upper f.kind lower upper; how = how; verdict = verdict_with f lower upper }
+
+-- the verdict and the line of a state, by two tables
+abbrev pub verdict_by : Tree → List ℕ → List ℕ → ℕ → Verdict
+verdict_by f lower upper s = verdict_with f (slice_index lower s) (slice_index upper s)
+
+abbrev pub line_by : Tree → How → List ℕ → List ℕ → ℕ → ReportLine
+line_by f how lower upper s = line_with f how s (slice_index lower s) (slice_index upper s)
+
+-- a certificate is that of the question which is answered
 abbrev pub certificate_of : Bool → Tree → Plan → Option Certificate
-certificate_of asked formula plan = if asked then Some (record { formula = formula; entries = entries_of plan }) else None
+certificate_of asked f plan = if asked then Some (record { formula = answered f; entries = entries_of plan }) else None
 
 -- one line for each initial state, and the certificate where it is asked for
 abbrev pub output_of : Bool → Tree → How → List ℕ → Plan → Output
-output_of asked formula how initial plan = record { lines = map (line_by formula.bound how plan) initial; certificate = certificate_of asked formula plan }
+output_of asked f how initial plan = record { lines = map (line_by f how plan.lower.items plan.upper.items) initial; certificate = certificate_of asked f plan }
 
 abbrev pub is_no : Verdict → Bool
 is_no No = true

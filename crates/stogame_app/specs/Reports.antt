@@ -22,6 +22,7 @@ use Rattle.bracket_engine.specs.Lower.{IsLowerTable}
 use Rattle.bracket_engine.specs.Choices.{AreChoices, AreRanks}
 use Rattle.bracket_engine.specs.Replies.{AreRepliesTo}
 use Rattle.trap_sets.specs.Lowered.{IsLoweredTable}
+use Rattle.asked_files.specs.Problems.{answered}
 use Rattle.command_words.specs.Words.{Check}
 use Rattle.stogame_app.specs.Outputs.{output_text, IsInLimits}
 use Rattle.stogame_app.specs.Printed.{verdict_by, output_of, status_of}
@@ -63,7 +64,7 @@ pub record IsShown (q : Query) (traps : Bool) (found : Bracket) (plan : Plan) : 
   pub upper : IsUpperShown q traps found.replies.items found.upper.items plan.upper.items
   pub below : IsBelow q (slice_index plan.upper.items) (slice_index found.upper.items)
 
--- the threshold is left open at a state by the printed bounds, by the down steps of as many rounds as were asked for, and by the values of as many steps, with a unit for each round
+-- the threshold is left open at a state by the bounds of the plan, by the down steps of as many rounds as were asked for, and by the values of as many steps, with a unit for each round
 pub record IsLeftOpen (q : Query) (zero : List Bool) (bound : Bound) (asked : ℕ) (plan : Plan) (s : ℕ) : Type 0 where
   pub printed : LeavesOpen bound (slice_index plan.lower.items s) (slice_index plan.upper.items s) 1 0
   pub swept : LeavesOpen bound (down_steps q asked s) (unit - down_steps (swapped q zero) asked s) 1 0
@@ -71,12 +72,12 @@ pub record IsLeftOpen (q : Query) (zero : List Bool) (bound : Bound) (asked : �
 
 -- 3. The answer.
 
--- the text and the status are the answer to a question: they are those of a bracket after at most the asked rounds
-pub record IsReport (q : Query) (initial : List ℕ) (formula : Tree) (check : Check) (text : List ℕ) (status : Status) : Type 0 where
+-- the text and the status are the answer to a question: they are those of a bracket after at most the asked rounds. Of `G` the question is that of its dual, and the bounds are mirrored when they are printed.
+pub record IsReport (q : Query) (initial : List ℕ) (f : Tree) (check : Check) (text : List ℕ) (status : Status) : Type 0 where
   pub zero : List Bool
   pub is_zero : IsZeroSet q zero
   pub found : Bracket
-  pub is_found : IsFound q zero formula.bound initial check.rounds found
+  pub is_found : IsFound q zero (answered f).bound initial check.rounds found
   pub plan : Plan
   pub shown : IsShown q check.traps found plan
   pub lists : HasStates plan (states q)
@@ -85,10 +86,10 @@ pub record IsReport (q : Query) (initial : List ℕ) (formula : Tree) (check : C
   -- each upper bound is at least every k-step value; the minimiser's choices hold every opponent to it, and the maximiser's reach the lower bound, less any 1/m
   pub sound : IsSound q plan
   pub passes : Passes q plan
-  pub written : text ≡ output_text (output_of check.plan formula (Rounds found.rounds) initial plan)
-  pub limits : IsInLimits (output_of check.plan formula (Rounds found.rounds) initial plan)
-  pub ends : status ≡ status_of (map (verdict_by formula.bound plan) initial)
+  pub written : text ≡ output_text (output_of check.plan f (Rounds found.rounds) initial plan)
+  pub limits : IsInLimits (output_of check.plan f (Rounds found.rounds) initial plan)
+  pub ends : status ≡ status_of (map (verdict_by f plan.lower.items plan.upper.items) initial)
   -- True is true and False is false
-  pub told : All (λ s. IsTold q formula.bound s (verdict_by formula.bound plan s)) initial
-  -- Undecided is said only where no bracket that the asked rounds promise settles the threshold
-  pub left_open : All (λ s. verdict_by formula.bound plan s ≡ Undecided → IsLeftOpen q zero formula.bound check.rounds plan s) initial
+  pub told : All (λ s. IsTold q (answered f).bound s (verdict_by f plan.lower.items plan.upper.items s)) initial
+  -- Undecided is said only where no bracket that the asked rounds promise settles the threshold; of `G` that of the dual
+  pub left_open : All (λ s. verdict_by f plan.lower.items plan.upper.items s ≡ Undecided → IsLeftOpen q zero (answered f).bound check.rounds plan s) initial

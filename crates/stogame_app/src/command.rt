@@ -29,12 +29,14 @@ use std::thread::Threads;
 /// for each initial state, rising, and the certificate where the words ask for it; `audit` writes these lines from a certificate
 /// of any origin that the question accepts, and computes no bracket; `sure` lists the states from which a goal is reached almost
 /// surely, whose k-step values come within any 1/m of 1; `make` writes one line about the bracket of a game that a seed draws.
-/// With `check` and `audit` k-step values come within any 1/m of each printed lower bound, or are above it, and each upper
-/// bound is at least every one; with `--traps` it is lowered to the best exits of traps. The minimiser's choices of the certificate hold every opponent to the upper bounds, and
-/// the maximiser's reach the lower ones, less any 1/m, within some horizon; True and False are printed exactly where the bounds
-/// settle the threshold, and are then true and false, whatever the schedule of the workers, who pass the gate before each state.
-/// What is not accepted is refused by one line that names the cause and its place. The whole output is made in
-/// memory first and written once.
+/// With `check` and `audit`, `F` and `U`, k-step values come within any 1/m of each printed lower bound, or are above it, and each
+/// upper bound is at least every one; with `--traps` it is lowered to the best exits of traps. The minimiser's choices of the
+/// certificate hold every opponent to the upper bounds, and the maximiser's reach the lower ones, less any 1/m, within some
+/// horizon; True and False are printed exactly where the bounds settle the threshold, and are then true and false, whatever the
+/// schedule of the workers, who pass a gate before states. Of `G` all this is so of its dual, and 1 less its bounds is printed.
+/// With `F<=k`, `U<=k` and `X` exactly so many steps are made, and the k-step value, or the next one, lies between the bounds.
+/// What is not accepted is refused by one line that names the cause and its place. The whole output is made in memory first and
+/// written once.
 pub fn run<R: Threads + Sync, H: Shelf, K: Sink, G: Gate + Sync>(
     rt: &R,
     alloc: Global,

@@ -1,8 +1,14 @@
 //! Laws of what is written. Each function does nothing; its contract is the law.
 
-ghost use Rattle.std.specs.Prelude.{◌≡◌, ◌≤◌, ℕ, List, length, true, Option, Some};
+ghost use Rattle.std.specs.Prelude.{◌≡◌, ◌<◌, ◌≤◌, ◌-◌, ℕ, List, length, slice_index, true, Option, Some};
 ghost use Rattle.text_lines.specs.Limits.{most_bytes};
 ghost use Rattle.game_outside.specs.Outside.{Holding};
+ghost use Rattle.game_model.specs.Bounds.{Reaches};
+ghost use Rattle.game_model.specs.Limits.{unit};
+ghost use Rattle.game_model.specs.Query.{Query, states};
+ghost use Rattle.plan_text.specs.declared.plan.Plan.{Plan};
+ghost use Rattle.plan_text.specs.Entries.{HasStates};
+ghost use Rattle.certificate_audit.specs.Accepted.{IsSound, Passes};
 ghost use Rattle.command_words.specs.Words.{Check, Audit, OfCheck, OfAudit};
 ghost use Rattle.asked_files.specs.Sources.{sources_of};
 ghost use Rattle.stogame_app.specs.Commands.{IsReportOf, IsAcceptedOf};
@@ -11,6 +17,7 @@ ghost use Rattle.stogame_app.specs.Status.{IsAnswer, IsRefusal};
 ghost use Rattle.stogame_app.specs.declared.status.Status.{Status};
 ghost use Rattle.stogame_app.specs.declared.status.Status.TheVariants.{Fine};
 ghost use Rattle.stogame_app.specs.Made.{IsMade};
+ghost use Rattle.stogame_app.specs.Always.{IsBelowRest, IsNearRest};
 ghost use Rattle.stogame_app.specs.Outputs.{Output, output_text, IsWholeOutput};
 
 use bracket_engine::laws::{lower_tables_agree, settled_bases_agree, settled_upper_bounds_agree};
@@ -38,10 +45,20 @@ pub fn outputs_have_one_reading()
     spellings_have_one_reading();
 }
 
+/// Bounds that are mirrored when they are printed, of `G`, are sound: the lower one is at most 1 less every k-step value of the
+/// dual, and 1 less some k-step value, less any 1/m, is at most the upper one. So it is of every plan that passes, of a bracket
+/// and of a certificate of any origin.
+pub fn mirrored_bounds_are_sound()
+    ensures { (q : Query) (plan : Plan) (s : ℕ) → HasStates plan (states q) → Passes q plan → IsSound q plan → s < states q → Reaches q (slice_index plan.lower.items s) unit s
+        → IsBelowRest q s (unit - slice_index plan.upper.items s) × IsNearRest q s (unit - slice_index plan.lower.items s) }
+{}
+
 /// What `check` writes is no longer than a text may be, with a certificate and without: so `audit` does not refuse it as too long.
 pub fn printed_certificates_are_short()
     ensures { (holding : Option Holding) (check : Check) (text : List ℕ) (status : Status) → IsReportOf holding (OfCheck check) text status → length text ≤ most_bytes }
-{}
+{
+    formulas_of_texts_are_spellable();
+}
 
 /// What `check` writes with `--plan` is accepted by an audit of the same question, in the whole output as it stands, over a shelf
 /// that holds it and the same texts for the question. So `complete` of `run` says that the audit answers.

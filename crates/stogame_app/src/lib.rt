@@ -17,6 +17,7 @@ mod make;
 mod reports;
 mod status;
 mod sure;
+mod sweeps;
 
 pub use command::run;
 pub use status::Status;

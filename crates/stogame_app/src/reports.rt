@@ -5,9 +5,11 @@ ghost use Rattle.game_model.specs.Query.{states};
 ghost use Rattle.game_model.specs.Limits.{unit};
 ghost use Rattle.game_model.specs.Rounded.{IsBelow};
 ghost use Rattle.predecessors.specs.Lists.{ArePredecessors};
+ghost use Rattle.rpatl_syntax.specs.Dual.{IsAtMostOne};
 ghost use Rattle.rpatl_syntax.specs.Formula.{tree_of};
 ghost use Rattle.plan_text.specs.Entries.{HasStates, greatest_rank};
 ghost use Rattle.command_words.specs.Words.{AreInRange, check_of};
+ghost use Rattle.asked_files.specs.Problems.{answered as answered_of};
 ghost use Rattle.stogame_app.specs.Printed.{certificate_of, output_of, status_of, verdict_by};
 ghost use Rattle.stogame_app.specs.Reports.{IsReport, IsShown, IsUpperHeld, IsUpperShown};
 ghost use Rattle.stogame_app.specs.Outputs.{certificate_part, output_text};
@@ -25,10 +27,18 @@ use std::alloc::Global;
 use std::thread::Threads;
 use trap_sets::lower_traps_over;
 use verdicts::laws::{
-    planned_values_are_reached, undecided_thresholds_are_left_open, verdicts_are_true,
+    mirrored_verdicts_are_those_of_the_dual, planned_values_are_reached,
+    undecided_thresholds_are_left_open, verdicts_are_true,
 };
 use verdicts::{How, StopRule, settle};
 use zero_sets::zero_set_over;
+
+/// A formula as the words spell it, and the one whose question is answered: of `G` the dual, else the same.
+#[derive(Clone, Copy)]
+pub struct Formulas<'a> {
+    pub spelled: &'a Formula,
+    pub answered: &'a Formula,
+}
 
 /// One line for each initial state, with the bounds after at most the asked rounds and what they say of the formula's bound;
 /// the upper ones lowered to the best exits of traps, where that is asked for; and behind them the certificate, where it is
@@ -38,16 +48,18 @@ pub fn report<R: Threads + Sync, G: Gate + Sync>(
     alloc: Global,
     question: &Question,
     initial: &[u32],
-    formula: &Formula,
+    formulas: Formulas<'_>,
     check: &CheckWords<'_>,
     gate: &G,
 ) -> Result<Answer, OutOfMemory>
     requires inside { All (λ s. s < states question.now) initial.now }
     requires in_range { AreInRange (check_of check.now) }
-    ensures report { IfOk result (λ answer. IsReport question.now initial.now (tree_of formula.now) (check_of check.now) answer.text.items answer.status) }
+    requires same { tree_of formulas.answered.now ≡ answered_of (tree_of formulas.spelled.now) }
+    requires share { IsAtMostOne formulas.spelled.now.bound }
+    ensures report { IfOk result (λ answer. IsReport question.now initial.now (tree_of formulas.entry.spelled.now) (check_of check.now) answer.text.items answer.status) }
     ensures answer { IfOk result (λ answer. IsAnswer answer.status) }
 {
-    let bound = formula.bound;
+    let bound = formulas.answered.bound;
     let predecessors = Predecessors::of_game(alloc, question.game())?;
     let zero = zero_set_over(alloc, question, &predecessors)?;
     let stop = StopRule::of_bound(bound, |lower, upper| {
@@ -65,14 +77,15 @@ pub fn report<R: Threads + Sync, G: Gate + Sync>(
         initial,
         gate,
     )?;
-    // What a question keeps, and three laws: these calls do nothing.
+    // What a question keeps, and four laws: these calls do nothing.
     question.known();
     planned_values_are_reached();
     verdicts_are_true();
     undecided_thresholds_are_left_open();
+    mirrored_verdicts_are_those_of_the_dual();
     let how = How::Rounds(found.rounds);
     let plan = shown(alloc, question, &predecessors, check.traps, found)?;
-    make_answer(alloc, &plan, how, formula, initial, check.plan)
+    make_answer(alloc, &plan, how, formulas, initial, check.plan)
 }
 
 // What is printed of a bracket: its tables with the strategies, and the upper one lowered to the best exits of traps, where
@@ -133,23 +146,31 @@ fn make_answer(
     alloc: Global,
     plan: &Plan,
     how: How,
-    formula: &Formula,
+    formulas: Formulas<'_>,
     initial: &[u32],
     asked: bool,
 ) -> Result<Answer, OutOfMemory>
+    requires same { tree_of formulas.answered.now ≡ answered_of (tree_of formulas.spelled.now) }
     requires inside { All (λ s. s < length plan.now.lower.items) initial.now }
     requires lists { HasStates plan.now (length plan.now.lower.items) }
     requires some { 1 ≤ length plan.now.lower.items }
     requires lower { All (λ v. v ≤ unit) plan.now.lower.items }
     requires upper { All (λ v. v ≤ unit) plan.now.upper.items }
     ensures ranks { All (λ r. r ≤ greatest_rank) plan.now.ranks.items }
-    ensures text { IfOk result (λ answer. answer.text.items ≡ output_text (output_of asked (tree_of formula.now) how initial.now plan.now)) }
+    ensures text { IfOk result (λ answer. answer.text.items ≡ output_text (output_of asked (tree_of formulas.entry.spelled.now) how initial.now plan.now)) }
     ensures answer { IfOk result (λ answer. IsAnswer answer.status) }
-    ensures status { IfOk result (λ answer. answer.status ≡ status_of (map (verdict_by (tree_of formula.now).bound plan.now) initial.now)) }
+    ensures status { IfOk result (λ answer. answer.status ≡ status_of (map (verdict_by (tree_of formulas.entry.spelled.now) plan.now.lower.items plan.now.upper.items) initial.now)) }
 {
     known_ranks(&plan.ranks);
-    let mut answer = report_of(alloc, plan, how, &formula.bound, initial)?;
-    append_certificate(alloc, &mut answer.text, asked, formula, plan)?;
+    let mut answer = report_of(
+        alloc,
+        formulas.spelled,
+        how,
+        &plan.lower,
+        &plan.upper,
+        initial,
+    )?;
+    append_certificate(alloc, &mut answer.text, asked, formulas, plan)?;
     Ok(answer)
 }
 
@@ -163,20 +184,21 @@ fn append_certificate(
     alloc: Global,
     text: &mut Vec<u8>,
     asked: bool,
-    formula: &Formula,
+    formulas: Formulas<'_>,
     plan: &Plan,
 ) -> Result<(), OutOfMemory>
+    requires same { tree_of formulas.answered.now ≡ answered_of (tree_of formulas.spelled.now) }
     requires lists { HasStates plan.now (length plan.now.lower.items) }
     requires some { 1 ≤ length plan.now.lower.items }
     requires lower { All (λ v. v ≤ unit) plan.now.lower.items }
     requires upper { All (λ v. v ≤ unit) plan.now.upper.items }
-    ensures { OnOk result (text.new.items ≡ text.old.items ++ certificate_part (certificate_of asked (tree_of formula.now) plan.now)) }
+    ensures { OnOk result (text.new.items ≡ text.old.items ++ certificate_part (certificate_of asked (tree_of formulas.entry.spelled.now) plan.now)) }
 {
     if !asked {
         return Ok(());
     }
     append(text, b"formula ")?;
-    append(text, &print_formula(alloc, formula)?)?;
+    append(text, &print_formula(alloc, formulas.answered)?)?;
     append(text, b"\n")?;
     append(text, &write_plan(alloc, plan)?)
 }

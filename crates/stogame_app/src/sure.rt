@@ -7,7 +7,7 @@ ghost use Rattle.stogame_app.specs.Answers.{IsAnswered};
 
 use crate::answer::Answer;
 use crate::status::Status;
-use asked_files::{End, load_model, pose_loaded};
+use asked_files::{End, Paths, load_model, pose_loaded};
 use command_words::AskedWords;
 use game_outside::Shelf;
 use std::alloc::Global;
@@ -22,8 +22,8 @@ pub fn answer_sure<H: Shelf>(
     ensures { IsAnswered H.held H.steady H.faults H.taken (OfSure (asked_of_words asked.now)) shelf.old shelf.new result }
 {
     let loaded = load_model(alloc, shelf, asked)?;
-    let posed = pose_loaded(alloc, &loaded)?;
-    match sure_report(alloc, &posed.question, &posed.initial) {
+    let problem = pose_loaded(alloc, &loaded, Paths::Reaching)?;
+    match sure_report(alloc, problem.question(), problem.initial()) {
         Ok(report) => Ok(Answer {
             text: report.text,
             status: sure_status(report.all),

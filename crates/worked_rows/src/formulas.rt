@@ -25,9 +25,8 @@ fn formulas_are_refused_at_their_place(rt: HostRuntime) -> Result<(), Fail> {
         ("Pmax=? [ F goal ]", "11 Unexpected"),
         ("P>=1.5 [ F true ]", "3 ThresholdOutOfRange"),
         ("P>=0.5 [ F \"goal\"", "17 End"),
-        ("P>=0.5 [ X \"goal\" ]", "9 NotYet"),
         ("P>=1/0 [ F true ]", "3 BadNumber ZeroDenominator"),
-        ("P>=0.5 [ F<=3 \"goal\" ]", "10 NotYet"),
+        ("P>=0.5 [ F<=3.5 \"goal\" ]", "12 BadSteps"),
         ("P>=0.5 [ F P>=0.5 [ F \"goal\" ] ]", "11 NotYet"),
     ] {
         refused(&rt, rt.alloc(), formula, cause)?;

@@ -53,6 +53,8 @@ mod old_certificates;
 #[cfg(test)]
 mod other_certificates;
 #[cfg(test)]
+mod paths;
+#[cfg(test)]
 mod pieces;
 #[cfg(test)]
 mod plain_reading;

@@ -68,6 +68,18 @@ fn sure_states_are_listed(rt: HostRuntime) -> Result<(), Fail> {
             "refused question line 0 UnknownLabel none\n",
             Status::ModelRefused,
         ),
+        (
+            FORK,
+            "Pmax=? [ F<=2 \"goal\" ]",
+            "refused question line 0 WrongKind\n",
+            Status::ModelRefused,
+        ),
+        (
+            FORK,
+            "Pmax=? [ G \"goal\" ]",
+            "refused question line 0 WrongKind\n",
+            Status::ModelRefused,
+        ),
     ] {
         sure_writes(&rt, alloc, plain_row(tra, GOAL_AT_1, formula), text, status)?;
     }

@@ -1,13 +1,14 @@
-use Rattle.std.proofs.Common.{List, ℕ, Option, subst}
+use Rattle.std.proofs.Common.{Option, subst}
 use Rattle.std.proofs.lemmas.Result.{err_from_is_err_and}
 use Rattle.game_outside.specs.Outside.{Holding}
 use Rattle.rpatl_syntax.specs.Formula.{tree_of}
-use Rattle.formula_sets.specs.Seen.{posing_of}
 use Rattle.certificate_audit.specs.Accepted.{IsAccepted}
 use Rattle.command_words.specs.Words.{audit_of}
+use Rattle.asked_files.specs.declared.problem.Paths.TheVariants.{Unbounded}
 use Rattle.asked_files.specs.Asks.{IsText}
+use Rattle.asked_files.specs.Problems.{question_of, initial_of}
+use Rattle.asked_files.specs.SeenProblems.{problem_of}
 use Rattle.asked_files.specs.Sources.{HasSource}
-use Rattle.stogame_app.specs.Audits.{IsAudited}
 use Rattle.stogame_app.proofs.Answered.{audit_asks, more_loaded, reported, uncertified, unloaded, unposed, wanting}
 use Rattle.stogame_app.proofs.AuditedTexts.{accepted_audited}
 use Rattle.stogame_app.proofs.audit.answer_audit.Goals as goal
@@ -18,23 +19,20 @@ returns-in_err-loaded g c =
     let e = c.in_err-loaded.ensures in
     rw (p.1, p.2) (unloaded (audit_asks (audit_of c.args.audit.now)) e.refused e.steadily e.shelf e.caused)
 
-pub returns-in_err-posed : goal.returns-in_err-posed
-returns-in_err-posed g c =
-    let p = err_from_is_err_and c.from_residual-in_err-posed.result c.from_residual-in_err-posed.ensures.1 in
+pub returns-in_err-problem : goal.returns-in_err-problem
+returns-in_err-problem g c =
+    let p = err_from_is_err_and c.from_residual-in_err-problem.result c.from_residual-in_err-problem.ensures.1 in
     let loaded = c.in_ok-loaded.ensures in
-    let e = c.in_err-posed.ensures in
-    rw (p.1, p.2) (unposed (audit_asks (audit_of c.args.audit.now)) loaded.shelf loaded.reads e.refused e.caused e.read e.short)
+    let e = c.in_err-problem.ensures in
+    rw (p.1, p.2) (unposed (audit_asks (audit_of c.args.audit.now)) problem_of loaded.shelf loaded.reads e.says e.nothing)
 
 pub returns-in_err-plan : goal.returns-in_err-plan
 returns-in_err-plan g c =
     let p = err_from_is_err_and c.from_residual-in_err-plan.result c.from_residual-in_err-plan.ensures.1 in
     let loaded = c.in_ok-loaded.ensures in
-    let posing = posing_of c.in_ok-posed.posed in
+    let problem = problem_of c.in_ok-problem.problem in
     let e = c.in_err-plan.ensures in
-    rw (p.1, p.2) (uncertified loaded.shelf (audit_of c.args.audit.now) posing (loaded.reads.asks posing c.in_ok-posed.ensures.posed) e.refused e.steadily e.shelf e.caused)
-
-pub audit_report-requires-clause-inside : goal.audit_report-requires-clause-inside
-audit_report-requires-clause-inside g c = rw c.deref.ensures.value c.in_ok-posed.ensures.inside
+    rw (p.1, p.2) (uncertified loaded.shelf (audit_of c.args.audit.now) problem (loaded.reads.asks Unbounded problem c.in_ok-problem.ensures.says) (rw c.question.ensures at e.refused) e.steadily e.shelf e.caused)
 
 pub returns-in-Ok : goal.returns-in-Ok
 returns-in-Ok g c =
@@ -42,19 +40,18 @@ returns-in-Ok g c =
     let answer = c.in-Ok.answer in
     let holding = g.H.Shelf.held c.args.shelf.now in
     let name = c.args.audit.now.certificate.now in
-    let question = c.in_ok-posed.posed.question in
+    let problem = problem_of c.in_ok-problem.problem in
+    let question = question_of problem in
     let formula = tree_of c.in_ok-loaded.loaded.formula in
     let plan = c.in_ok-plan.plan in
-    let P : List ℕ → Type 0 = λ initial. IsAudited question initial formula.bound plan answer.text.items answer.status in
     let Q : Option Holding → Type 0 = λ h. HasSource h name (λ source. IsText source (λ bytes. IsAccepted question bytes plan)) in
-    let posing = posing_of c.in_ok-posed.posed in
     reported (audit_asks (audit_of c.args.audit.now)) (more_loaded loaded.shelf c.in_ok-plan.ensures.shelf) answer (record {
-      posing = posing;
-      posed = loaded.reads.asks posing c.in_ok-posed.ensures.posed;
+      problem = problem;
+      posed = loaded.reads.asks Unbounded problem c.in_ok-problem.ensures.says;
       formula = formula;
       spelled = loaded.reads.spelled;
-      certificate = accepted_audited holding name question posing.initial formula.bound plan answer.text.items answer.status
-          (subst Q loaded.shelf.kept.held c.in_ok-plan.ensures.accepted) (subst P c.deref.ensures.value c.in-Ok.ensures.audited);
+      certificate = accepted_audited holding name question (initial_of problem) formula plan answer.text.items answer.status
+          (subst Q loaded.shelf.kept.held (rw c.question.ensures at c.in_ok-plan.ensures.accepted)) (rw (c.question-2.ensures, c.initial.ensures) at c.in-Ok.ensures.audited);
     }) c.in-Ok.ensures.answer
 
 pub returns : goal.returns

@@ -1,10 +1,10 @@
-use Rattle.std.proofs.Common.{List, ℕ, subst}
 use Rattle.std.proofs.lemmas.Result.{err_from_is_err_and}
 use Rattle.rpatl_syntax.specs.Formula.{tree_of}
-use Rattle.formula_sets.specs.Seen.{posing_of}
 use Rattle.command_words.specs.Words.{check_of}
-use Rattle.stogame_app.specs.Reports.{IsReport}
+use Rattle.asked_files.specs.SeenProblems.{problem_of}
+use Rattle.stogame_app.specs.Commands.{check_paths}
 use Rattle.stogame_app.proofs.Answered.{check_asks, reported, unloaded, unposed, wanting}
+use Rattle.stogame_app.proofs.Openings.{has-opening}
 use Rattle.stogame_app.proofs.check.answer_check.Goals as goal
 
 pub returns-in_err-loaded : goal.returns-in_err-loaded
@@ -13,26 +13,31 @@ returns-in_err-loaded g c =
     let e = c.in_err-loaded.ensures in
     rw (p.1, p.2) (unloaded (check_asks (check_of c.args.check.now)) e.refused e.steadily e.shelf e.caused)
 
-pub returns-in_err-posed : goal.returns-in_err-posed
-returns-in_err-posed g c =
-    let p = err_from_is_err_and c.from_residual-in_err-posed.result c.from_residual-in_err-posed.ensures.1 in
+pub returns-in_err-problem : goal.returns-in_err-problem
+returns-in_err-problem g c =
+    let p = err_from_is_err_and c.from_residual-in_err-problem.result c.from_residual-in_err-problem.ensures.1 in
     let loaded = c.in_ok-loaded.ensures in
-    let e = c.in_err-posed.ensures in
-    rw (p.1, p.2) (unposed (check_asks (check_of c.args.check.now)) loaded.shelf loaded.reads e.refused e.caused e.read e.short)
+    let e = c.in_err-problem.ensures in
+    rw (p.1, p.2) (unposed (check_asks (check_of c.args.check.now)) problem_of loaded.shelf loaded.reads (rw c.check_paths.ensures at e.says) e.nothing)
+
+pub report_on-requires-clause-opening : goal.report_on-requires-clause-opening
+report_on-requires-clause-opening g c =
+    let asks = c.in_ok-loaded.ensures.reads.asks (check_paths (check_of c.args.check.now)) (problem_of c.in_ok-problem.problem) (rw c.check_paths.ensures at c.in_ok-problem.ensures.says) in
+    λ κs live. has-opening _ _ _ _ c.in_ok-problem.problem asks.asks.poses
+
+pub report_on-requires-clause-steps : goal.report_on-requires-clause-steps
+report_on-requires-clause-steps g c = λ κs live. (c.formulas_of_texts_are_spellable.ensures _ _ c.in_ok-loaded.ensures.reads.spelled).kind
 
 pub returns-in-Ok : goal.returns-in-Ok
 returns-in-Ok g c =
     let loaded = c.in_ok-loaded.ensures in
-    let answer = c.in-Ok.answer in
-    let formula = tree_of c.in_ok-loaded.loaded.formula in
-    let P : List ℕ → Type 0 = λ initial. IsReport c.in_ok-posed.posed.question initial formula (check_of c.args.check.now) answer.text.items answer.status in
-    let posing = posing_of c.in_ok-posed.posed in
-    reported (check_asks (check_of c.args.check.now)) loaded.shelf answer (record {
-      posing = posing;
-      posed = loaded.reads.asks posing c.in_ok-posed.ensures.posed;
-      formula = formula;
+    let problem = problem_of c.in_ok-problem.problem in
+    reported (check_asks (check_of c.args.check.now)) loaded.shelf c.in-Ok.answer (record {
+      problem = problem;
+      posed = loaded.reads.asks (check_paths (check_of c.args.check.now)) problem (rw c.check_paths.ensures at c.in_ok-problem.ensures.says);
+      formula = tree_of c.in_ok-loaded.loaded.formula;
       spelled = loaded.reads.spelled;
-      report = subst P c.deref.ensures.value c.in-Ok.ensures.report;
+      report = c.in-Ok.ensures.report;
     }) c.in-Ok.ensures.answer
 
 pub returns : goal.returns

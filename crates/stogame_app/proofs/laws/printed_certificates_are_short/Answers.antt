@@ -2,4 +2,4 @@ use Rattle.stogame_app.proofs.ShortOutputs.{printed-short}
 use Rattle.stogame_app.proofs.laws.printed_certificates_are_short.Goals as goal
 
 pub returns : goal.returns
-returns c = printed-short
+returns c = printed-short c.formulas_of_texts_are_spellable.ensures

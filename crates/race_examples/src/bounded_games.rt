@@ -1,0 +1,120 @@
+//! Bounded values compared with the definition, and with each other for every number of workers.
+
+use crate::random_games::{Draw, Shape, random_game, random_question};
+use bounded_rounds::{Sweep, bounded};
+use game_model::{Question, UNIT};
+use game_outside::OpenGate;
+use reference_values::numerators;
+use std::alloc::Global;
+use std::test::Fail;
+use std::thread::Threads;
+
+/// Games whose denominators are small, so that the values of some steps fit 128 bits.
+const FEW_TOSSES: Shape = Shape {
+    least_states: 2,
+    most_states: 6,
+    most_choices: 3,
+    most_successors: 3,
+    most_weight: 2,
+    most_tosses: 4,
+};
+
+/// The table that iteration opens with.
+fn opening(alloc: Global, question: &Question<'_>) -> Option<Vec<u64>> {
+    let mut table = Vec::new(alloc);
+    for state in 0..question.game().states() {
+        table
+            .push(if question.is_goal(state) { UNIT } else { 0 })
+            .ok()?;
+    }
+    Some(table)
+}
+
+// The sweep of so many steps by so many workers.
+fn sweep_of<R: Threads + Sync>(
+    rt: &R,
+    alloc: Global,
+    question: &Question<'_>,
+    table: &[u64],
+    steps: u32,
+    workers: u32,
+) -> Option<Sweep> {
+    let fits = table.len() == question.game().states() as usize
+        && table.iter().all(|value| *value <= UNIT)
+        && steps <= 1_000_000
+        && 1 <= workers
+        && workers <= 64;
+    if !fits {
+        return None;
+    }
+    bounded(rt, alloc, question, table, steps, workers, &OpenGate {}).ok()
+}
+
+// Whether the bounds of a value lie around it, each at most so many units from it; none where a product does not fit. The
+// value is a numerator over the numerator of 1.
+fn are_around(lower: u64, upper: u64, numerator: u128, one: u128, steps: u32) -> Option<bool> {
+    let low = u128::from(lower).checked_mul(one)?;
+    let high = u128::from(upper).checked_mul(one)?;
+    let exact = u128::from(UNIT).checked_mul(numerator)?;
+    let margin = u128::from(steps).checked_mul(one)?;
+    Some(
+        low <= exact
+            && exact <= high
+            && exact.checked_sub(low)? <= margin
+            && high.checked_sub(exact)? <= margin,
+    )
+}
+
+// The numerator of 1 among those of all states: that of a goal.
+fn numerator_of_one(question: &Question<'_>, numerators: &[u128]) -> Option<u128> {
+    for state in 0..question.game().states() {
+        if question.is_goal(state) {
+            return numerators.get(state as usize).copied();
+        }
+    }
+    None
+}
+
+// Whether the tables of a sweep lie around these numerators at all states.
+fn is_swept_around(sweep: &Sweep, numerators: &[u128], one: u128, steps: u32) -> Option<bool> {
+    let mut all = sweep.lower.len() == numerators.len() && sweep.upper.len() == numerators.len();
+    for (place, numerator) in numerators.iter().enumerate() {
+        let lower = sweep.lower.get(place).copied()?;
+        let upper = sweep.upper.get(place).copied()?;
+        all &= are_around(lower, upper, *numerator, one, steps)?;
+    }
+    Some(all)
+}
+
+// Compares the bounds of up to four steps of a question with its values, by one worker and by several.
+fn has_its_values<R: Threads + Sync>(
+    rt: &R,
+    alloc: Global,
+    question: &Question<'_>,
+) -> Option<bool> {
+    let table = opening(alloc, question)?;
+    for steps in 0..5 {
+        let exact = numerators(alloc, question, steps).ok()?;
+        let one = numerator_of_one(question, &exact)?;
+        let alone = sweep_of(rt, alloc, question, &table, steps, 1)?;
+        let shared = sweep_of(rt, alloc, question, &table, steps, 3)?;
+        let same = alone.lower == shared.lower && alone.upper == shared.upper;
+        if !same || !is_swept_around(&alone, &exact, one, steps)? {
+            return Some(false);
+        }
+    }
+    Some(true)
+}
+
+#[test]
+fn bounded_values_of_random_games_are_those_of_the_definition(rt: HostRuntime) -> Result<(), Fail> {
+    let alloc = rt.alloc();
+    let mut draw = Draw::new(37);
+    for number in 0..300 {
+        let game = random_game(alloc, &mut draw, &FEW_TOSSES).ok_or("no game")?;
+        let question = random_question(alloc, &mut draw, &game).ok_or("no question")?;
+        let agrees = has_its_values(&rt, alloc, &question).ok_or("no values")?;
+        assert!(rt; agrees, "game {number}");
+    }
+    Ok(())
+}

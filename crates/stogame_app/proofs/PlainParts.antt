@@ -1,0 +1,61 @@
+-- Formulas whose parts are plain: what the grammar can spell, and the dual of that.
+use Rattle.std.proofs.Common.{◌≤◌, arith}
+use Rattle.distributions.specs.Fraction.{Fraction}
+use Rattle.distributions.specs.Limits.{finest}
+use Rattle.rpatl_syntax.specs.declared.formula.Bound.{Bound}
+use Rattle.rpatl_syntax.specs.declared.formula.Bound.TheVariants.{AtLeast, Above, AtMost, Below, AskMax, AskMin}
+use Rattle.rpatl_syntax.specs.declared.formula.PathKind.{PathKind}
+use Rattle.rpatl_syntax.specs.declared.formula.PathKind.TheVariants.{Until, Within, Next, Always}
+use Rattle.rpatl_syntax.specs.Dual.{dual_bound}
+use Rattle.rpatl_syntax.specs.Formula.{Tree}
+use Rattle.rpatl_syntax.specs.Spellable.{HasWords, HasShare, HasKind, HasNames, IsSpellable}
+use Rattle.asked_files.specs.Problems.{answered_by, answered}
+
+-- a threshold is at most 1, and its denominator not too great
+abbrev pub IsFine : Fraction → Type 0
+IsFine p = (p.num ≤ p.den) × (p.den ≤ finest)
+
+abbrev pub HasFine : Bound → Type 0
+HasFine (AtLeast p) = IsFine p
+HasFine (Above p) = IsFine p
+HasFine (AtMost p) = IsFine p
+HasFine (Below p) = IsFine p
+HasFine AskMax = Unit {0}
+HasFine AskMin = Unit {0}
+
+-- words, a fine threshold, few steps and names that can be quoted
+pub record HasPlainParts (f : Tree) : Type 0 where
+  pub words : HasWords f.coalition
+  pub fine : HasFine f.bound
+  pub kind : HasKind f.kind f.left
+  pub left : HasNames f.left
+  pub right : HasNames f.right
+
+share-fine : (bound : Bound) → HasShare bound → HasFine bound
+share-fine (AtLeast p) share = (share.small, share.fraction.fine)
+share-fine (Above p) share = (share.small, share.fraction.fine)
+share-fine (AtMost p) share = (share.small, share.fraction.fine)
+share-fine (Below p) share = (share.small, share.fraction.fine)
+share-fine AskMax share = tt
+share-fine AskMin share = tt
+
+pub spellable-plain : (f : Tree) → IsSpellable f → HasPlainParts f
+spellable-plain f is = record { words = is.words; fine = share-fine f.bound is.share; kind = is.kind; left = is.left.names; right = is.right.names }
+
+dual-fine : (bound : Bound) → HasFine bound → HasFine (dual_bound bound)
+dual-fine (AtLeast p) fine = (omega arith, fine.1)
+dual-fine (Above p) fine = (omega arith, fine.1)
+dual-fine (AtMost p) fine = (omega arith, fine.1)
+dual-fine (Below p) fine = (omega arith, fine.1)
+dual-fine AskMax fine = tt
+dual-fine AskMin fine = tt
+
+-- so has the formula whose question is answered
+pub answered-plain : (f : Tree) → HasPlainParts f → HasPlainParts (answered f)
+answered-plain f parts = by f.kind
+  where
+    by : (kind : PathKind) → HasPlainParts (answered_by kind f)
+    by Until = parts
+    by (Within steps) = parts
+    by Next = parts
+    by Always = record { words = parts.words; fine = dual-fine f.bound parts.fine; kind = tt; left = tt; right = parts.right }
