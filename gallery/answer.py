@@ -13,6 +13,7 @@ from question import Question
 from table import shown
 
 STATUSES_OF_ANSWERS = (0, 1, 2)
+UNIT = Fraction(1, 10**15)
 BUILT = Path(__file__).resolve().parent.parent / "crates" / "stogame" / "out" / "stogame"
 
 
@@ -80,7 +81,9 @@ def independent_values(model, question, computed):
         return [question.value]
     if question.command == "sure" and question.value == 1:
         return [1] * len(model)
-    key = (question.goal, question.safe, tuple(Problem(model, question).maximises))
+    if question.path == "G":
+        return [1 - value for value in independent_values(model, question.dual(), computed)]
+    key = (question.path, question.steps, question.goal, question.safe, tuple(Problem(model, question).maximises))
     if key not in computed:
         computed[key] = exact_values(model, question)
     return computed[key]
@@ -99,6 +102,18 @@ def judge_bracket(answer, lines):
     lower, upper = map(Fraction, answer.bracket())
     if not lower <= answer.value <= upper:
         answer.faults.append(f"the bracket misses the value {shown(answer.value)}")
+    judge_steps(answer, max(answer.value - lower, upper - answer.value))
     told = {"True": True, "False": False}.get(answer.verdict())
     if told is not None and told != answer.question.is_true_of(answer.value):
         answer.faults.append(f"the verdict is wrong of the value {shown(answer.value)}")
+
+
+def judge_steps(answer, distance):
+    """With a bound on the steps the line names it, and each bound is within so many units of the value."""
+    steps = answer.question.horizon()
+    if steps is None:
+        return
+    if answer.line.split()[6:8] != ["steps", str(steps)]:
+        answer.faults.append(f"the line does not say that {steps} steps were made")
+    if distance > steps * UNIT:
+        answer.faults.append(f"a bound is more than {steps} units from the value {shown(answer.value)}")

@@ -12,17 +12,22 @@ end at 0.
 
 Value: 1/2, since both sides are alike and an end is reached almost surely. In a round the middle gains about 2 ^
 -(LENGTH + 1) at most, so value iteration that stops where no value changes by 10^-6 stops at 0 nearly for LENGTH 20,
-and below 1/2 for each smaller one.
+and below 1/2 for each smaller one. What it has reached by then is the value within so many steps. An end is reached
+within k steps with f(k), by symmetry twice that value: f(k) = f(k - 2) / 2 + .. + f(k - LENGTH) / 2 ^ (LENGTH - 1) + 1
+/ 2 ^ (LENGTH - 1) for k >= LENGTH, else 0, since the first step back to the middle is step 2, or 3, .. or LENGTH, or
+there is none.
 """
 
 from fractions import Fraction
 
 from model import Model, write_from_words
-from question import CLOSED, Question, sure
+from question import CLOSED, COMPUTED, Question, sure
 
 HALF = Fraction(1, 2)
 SIZES = {"small": [(3,), (10,), (20,)], "large": [(17,)]}
 MANY_ROUNDS = ("--rounds", "1000000")
+RECURSION = COMPUTED + ", by the rule"
+STOPS = {3: 92, 10: 8846, 20: 20}
 
 
 def model(length):
@@ -36,6 +41,14 @@ def model(length):
     return Model(length, rule, {"goal": lambda state: state == 0, "end": lambda state: state in (0, 2 * length)})
 
 
+def reached_within(length, steps):
+    """The value within so many steps; the last values of f(k) are kept, in units of 1 / 2 ^ k."""
+    last = [0] * length
+    for step in range(length, steps + 1):
+        last = last[1:] + [2 * sum(last[:-1]) + 2 ** (step - length + 1)]
+    return Fraction(last[-1], 2 ** (steps + 1))
+
+
 def questions(length):
     options = MANY_ROUNDS if length in (10, 17) else ()
     yield Question("Pmax=?", "goal", HALF, CLOSED, options=options)
@@ -43,6 +56,10 @@ def questions(length):
     yield Question("P>=0.499", "goal", HALF, CLOSED, options=options)
     yield Question("P<0.501", "goal", HALF, CLOSED, options=options)
     yield sure("P>=1", "end", value=1, source=CLOSED)
+    if length in STOPS:
+        stopped = reached_within(length, STOPS[length])
+        yield Question("Pmax=?", "goal", stopped, RECURSION, steps=STOPS[length])
+        yield Question("P>=0.499", "goal", stopped, RECURSION, steps=STOPS[length])
 
 
 if __name__ == "__main__":

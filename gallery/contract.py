@@ -16,6 +16,8 @@ has one bit here; with more, the last bits are released so.
 Value: B gets the contract at release j of A with 1 / 2^j for j <= n, and else at the next one; A likewise, of B's
 releases. Both get it at the same one with t = 1/4 + .. + 1/4^n + 1/4^n = 1/3 + (2/3) / 4^n, and then B is first. So B
 is first with (1 + t) / 2 = 2/3 + (1/3) / 4^n, and may stop there; A is first with what is left of 1, where B goes on.
+A's release j is step 2n + 2j - 1, and B is first at it with 1 / 2^j * 1 / 2^(j-1), so within 4n steps he cheats with
+2/4 + .. + 2/4^n = (2/3) (1 - 1/4^n).
 """
 
 from fractions import Fraction
@@ -69,6 +71,10 @@ def questions(pairs):
     yield Question(f"P<={cheated}", "b_cheats", cheated, CLOSED)
     yield Question(f"P<{cheated}", "b_cheats", cheated, CLOSED)
     yield Question("P<=2/3", "b_cheats", cheated, CLOSED)
+    early, steps = Fraction(2, 3) * (1 - Fraction(1, 4**pairs)), 4 * pairs
+    yield Question("Pmax=?", "b_cheats", early, CLOSED, steps=steps)
+    yield Question("P<=2/3", "b_cheats", early, CLOSED, steps=steps)
+    yield Question("P>=1/3", "!b_cheats", 1 - cheated, CLOSED, path="G")
 
 
 if __name__ == "__main__":

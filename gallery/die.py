@@ -12,7 +12,9 @@ what is left over are the inner nodes of the next level. For six faces this is t
 show.
 
 Value: each face comes with 1 / FACES. A level with m inner nodes, each reached with x, has 2m children, each reached
-with x / 2; the faces get one each, or none does. So all faces have the same value, and the values add up to 1.
+with x / 2; the faces get one each, or none does. So all faces have the same value, and the values add up to 1. Level k
+has 2^k mod FACES inner nodes, so within k tosses each face comes with floor(2^k / FACES) / 2^k, the first k binary
+digits of 1 / FACES.
 """
 
 from fractions import Fraction
@@ -21,6 +23,7 @@ from model import Model, write_from_words
 from question import CLOSED, Question, sure
 
 HALF = Fraction(1, 2)
+SOURCE = "Knuth and Yao 1976"
 SIZES = {"small": [(6,), (8,), (11,)], "large": [(1021,)]}
 
 
@@ -52,12 +55,21 @@ def child(faces, nodes, place):
     return ("node", left_over, place - faces)
 
 
+def face_within(faces, tosses):
+    """The chance of a face within so many tosses."""
+    return Fraction(2**tosses // faces, 2**tosses)
+
+
 def questions(faces):
     one, even = Fraction(1, faces), Fraction(faces // 2, faces)
-    yield Question("Pmax=?", "one", one, "Knuth and Yao 1976")
-    yield Question(f"P>={one}", "one", one, "Knuth and Yao 1976")
+    yield Question("Pmax=?", "one", one, SOURCE)
+    yield Question(f"P>={one}", "one", one, SOURCE)
     yield Question("P>=0.5", "even", even, CLOSED)
     yield sure("P>=1", "done", value=1, source=CLOSED)
+    for bound, steps in (("Pmax=?", 20), (f"P>={one}", 40)):
+        yield Question(bound, "one", face_within(faces, steps), SOURCE, steps=steps)
+    first_level = (faces - 1).bit_length()
+    yield Question("P>=3/4", "done", faces * face_within(faces, first_level), CLOSED, steps=first_level)
 
 
 if __name__ == "__main__":

@@ -4,6 +4,9 @@ The maximiser's choices are improved against the minimiser's best answer, and th
 Howard 1960 for one player, Hoffman and Karp 1966 for two). Each pair of strategies is valued by elimination of one
 state after another from its linear equations. The last table is what a strategy of the maximiser is worth, so at most
 the values of the game; and a step changes nothing in it, so it is at least the least such table, which the values are.
+
+Values within so many steps are found backward, from the goals alone, by the best choice of each step (dynamic
+programming: Bellman 1957). Both sides know how many steps are left.
 """
 
 from fractions import Fraction
@@ -18,7 +21,7 @@ class Problem:
         self.choices = [[list(choice.items()) for choice in choices] for choices in model.choices]
         owners = [model.players[owner] for owner in model.owners] or [None] * len(model)
         self.maximises = [question.maximises(owner) for owner in owners]
-        self.goals = set(model.labels[question.goal])
+        self.goals = states_of(model, question.goal)
         safe = states_of(model, question.safe) if question.safe else set(range(len(model)))
         self.dead = set(range(len(model))) - safe - self.goals
 
@@ -41,7 +44,37 @@ def weighted_sum(choice, values):
 
 def exact_values(model, question):
     """The value of each state of the model."""
+    if question.path == "G":
+        return [1 - value for value in exact_values(model, question.dual())]
     problem = Problem(model, question)
+    if question.path == "X":
+        return stepped(problem, problem.choices, goals_alone(problem), range(len(problem)))
+    return values_in_the_end(problem) if question.steps is None else values_within(problem, question.steps)
+
+
+def goals_alone(problem):
+    return [Fraction(state in problem.goals) for state in range(len(problem))]
+
+
+def values_within(problem, steps):
+    """The values where a goal has to be reached within so many steps."""
+    values = goals_alone(problem)
+    for _ in range(steps):
+        values = stepped(problem, problem.choices, values, filter(problem.is_open, range(len(problem))))
+    return values
+
+
+def stepped(problem, choices, values, states):
+    """The table of one step more: at these states what the best choice makes of the table, elsewhere the same."""
+    after = list(values)
+    for state in states:
+        best = max if problem.maximises[state] else min
+        after[state] = best(weighted_sum(choice, values) for choice in choices[state])
+    return after
+
+
+def values_in_the_end(problem):
+    """The values where a goal may be reached at any time."""
     strategy = first_strategy(problem)
     while True:
         values = answered(problem, strategy)
@@ -178,10 +211,7 @@ def plain_value_iteration(model, question, difference):
     values = [1.0 if state in problem.goals else 0.0 for state in range(len(problem))]
     of_first, change = [values[0]], difference
     while change >= difference:
-        after = list(values)
-        for state in filter(problem.is_open, range(len(problem))):
-            best = max if problem.maximises[state] else min
-            after[state] = best(weighted_sum(choice, values) for choice in choices[state])
+        after = stepped(problem, choices, values, filter(problem.is_open, range(len(problem))))
         change = max(abs(new - old) for new, old in zip(after, values))
         values = after
         of_first.append(values[0])

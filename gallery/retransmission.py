@@ -12,7 +12,9 @@ acknowledgement with 0.01; then the frame is sent again, at most RETRIES times, 
 alternating bit and the receiver are left out, since the sender's end does not depend on them.
 
 Value: a try fails with f = 1 - 0.98 * 0.99 = 0.0298, a frame with f ^ (RETRIES + 1), and the file where some frame
-does: 1 - (1 - f ^ (RETRIES + 1)) ^ FRAMES.
+does: 1 - (1 - f ^ (RETRIES + 1)) ^ FRAMES. A lost frame takes 2 steps, a lost acknowledgement 3. So within 2 FRAMES
+steps nothing may be lost, (1 - f) ^ FRAMES; within 3 more one thing, FRAMES f times as much besides; and within 2
+(RETRIES + 1) steps only frames can have failed.
 """
 
 from fractions import Fraction
@@ -47,12 +49,18 @@ def model(frames, retries):
 
 
 def questions(frames, retries):
-    failed_frame = (1 - (1 - FRAME_LOST) * (1 - ANSWER_LOST)) ** (retries + 1)
+    failed_try = 1 - (1 - FRAME_LOST) * (1 - ANSWER_LOST)
+    failed_frame = failed_try ** (retries + 1)
     failed = 1 - (1 - failed_frame) ** frames
     yield Question("Pmax=?", "given_up", failed, CLOSED)
     yield Question("Pmax=?", "given_up", failed_frame, CLOSED, safe="first")
     yield Question("P<=0.001", "given_up", failed, CLOSED)
     yield Question("P<1e-7", "given_up", failed, CLOSED)
+    at_once, shortest = (1 - failed_try) ** frames, 2 * (retries + 1)
+    yield Question("P>=0.5", "done", at_once, CLOSED, steps=2 * frames)
+    yield Question("Pmax=?", "done", at_once * (1 + frames * failed_try), CLOSED, steps=2 * frames + 3)
+    yield Question("Pmax=?", "given_up", FRAME_LOST ** (retries + 1), CLOSED, safe="first", steps=shortest)
+    yield Question("P>=0.9999", "!given_up", 1 - failed, CLOSED, path="G")
 
 
 if __name__ == "__main__":

@@ -12,17 +12,20 @@ one token. It begins with a token at each process.
 
 Value: 1 under every scheduler, the theorem of the source. A move makes two gaps a, b between tokens a + 1, b - 1 or a -
 1, b + 1, so the sum of the squares of the gaps rises by 2 on average; it never passes PROCESSES squared, its value at
-one token.
+one token. So an end takes (PROCESSES squared - PROCESSES) / 2 steps on average under every scheduler, and twice as many
+are not enough with at most 1/2 (Markov's inequality). How far a scheduler moves the chance of an end within so many
+steps is computed in fractions, backward.
 """
 
 from fractions import Fraction
 
 from model import Model, write_from_words
-from question import Question, sure
+from question import BACKWARD, Question, sure
 
 HALF = Fraction(1, 2)
 SOURCE = "Israeli and Jalfon 1990"
 SIZES = {"small": [(3,), (7,), (9,)], "large": [(14,)]}
+FEW = 9
 
 
 def model(processes):
@@ -45,6 +48,11 @@ def questions(processes):
     yield Question("P>=1", "stable", 1, SOURCE)
     yield Question("P>=0.999999", "stable", 1, SOURCE)
     yield sure("Pmin=?", "stable", value=1, source=SOURCE)
+    if processes <= FEW:
+        mean = (processes**2 - processes) // 2
+        yield Question("Pmin=?", "stable", source=BACKWARD, steps=mean)
+        yield Question("Pmax=?", "stable", source=BACKWARD, steps=mean)
+        yield Question("P>=0.5", "stable", source=BACKWARD, steps=2 * mean)
 
 
 if __name__ == "__main__":

@@ -10,14 +10,15 @@ State: the field. The robot steers in one of four directions; it gets there with
 way with 0.1 each; at the border it stays where it is. It begins in one corner, and the goal is the far one. One field
 in five is a pit, drawn from the seed, which it never leaves; next to the first field there is none.
 
-Value: computed in fractions by strategy iteration.
+Value: computed in fractions by strategy iteration, and backward where there is a deadline. The goal is 2 (SIDE - 1)
+steps away.
 """
 
 import random
 from fractions import Fraction
 
 from model import Model, write_from_words
-from question import Question, sure
+from question import BACKWARD, Question, sure
 
 STEPS = [(0, 1), (1, 0), (0, -1), (-1, 0)]
 AHEAD, ASIDE = Fraction(8, 10), Fraction(1, 10)
@@ -58,6 +59,11 @@ def questions(side, seed):
     yield Question("P<=0.9", "goal")
     yield Question("Pmin=?", "pit")
     yield sure("Pmax=?", "goal")
+    away = 2 * (side - 1)
+    yield Question("Pmax=?", "goal", source=BACKWARD, steps=away)
+    yield Question("Pmax=?", "goal", source=BACKWARD, steps=2 * away)
+    yield Question("P<=0.7", "goal", source=BACKWARD, steps=2 * away)
+    yield Question("Pmax=?", "!pit", path="G")
 
 
 if __name__ == "__main__":

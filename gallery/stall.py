@@ -13,7 +13,9 @@ the play wins or loses 1 with 1/2 each; at 2 STAKE max has won, at 0 all is lost
 
 Value: in the play the stake stays the same on average and comes to an end, so it is won with 1/2. Min never pays, and
 so max plays: 1/2. In the two rooms the upper values 0.9 hold each other up, since max could stall there for ever; only
-that stalling wins nothing brings them down.
+that stalling wins nothing brings them down. Within m tosses the play is won with h(STAKE) - h(3 STAKE) + h(5 STAKE) -
+.., by repeated reflection, where h(a) = P(S >= a) + P(S > a) is the chance that the sum of tosses is a within m of
+them; S is their sum after all m. One step leads to the play.
 """
 
 from fractions import Fraction
@@ -39,12 +41,28 @@ def model(stake):
     return Model(FIRST_ROOM, rule, labels, ["max", "min"], lambda state: "min" if state == SECOND_ROOM else "max")
 
 
+def won_within(stake, tosses):
+    """The chance to win the play within so many tosses: the signs of the h(a) to which a sum adds come to 0 or 1."""
+
+    def signs(height):
+        return (height // stake + 1) // 2 % 2
+
+    ways, won = 1, 0
+    for heads in range(tosses, tosses // 2, -1):
+        height = 2 * heads - tosses
+        won += ways * (signs(height) + signs(height - 1))
+        ways = ways * heads // (tosses - heads + 1)
+    return Fraction(won, 2**tosses)
+
+
 def questions(stake):
     rounds = MANY_ROUNDS if stake > FEW else ()
     for options in (rounds, (*rounds, "--traps")):
         yield Question("Pmax=?", "won", HALF, CLOSED, coalition=("max",), options=options)
         yield Question("P>0.6", "won", HALF, CLOSED, coalition=("max",), options=options)
     yield Question("P>=0.5", "won", HALF, CLOSED, coalition=("max",), options=rounds)
+    for bound, tosses in (("Pmax=?", stake**2), ("P>0.6", 4 * stake**2)):
+        yield Question(bound, "won", won_within(stake, tosses), CLOSED, coalition=("max",), steps=tosses + 1)
 
 
 if __name__ == "__main__":

@@ -13,13 +13,15 @@ Value, of A as the last one, for the hits of the source. A alone: A has to hit B
 shoot in turn, C first, and A wins with x = 0.5 (0.3 + 0.7 x) = 3/13: in all 0.3 * 3/13 = 9/130. A and C: C shoots into
 the air once B is hit: 0.3. A and B: B hits C, and waits for A to hit: 1. Of A or C as the last one, together: if A
 misses, B hits C and A has one shot more: 0.3 + 0.7 * 0.3 = 0.51. For other hits the values are computed in fractions.
+Within 2j + 1 shots the sums of these series end at their j-th term: 9/130 (1 - 0.35^j), 0.3 (1 - 0.7^j) and 1 - 0.7^j.
+For other hits these are computed backward.
 """
 
 from fractions import Fraction
 from string import ascii_lowercase
 
 from model import Model, write_from_words
-from question import CLOSED, COMPUTED, Question, sure
+from question import BACKWARD, CLOSED, COMPUTED, Question, sure
 
 MOSTELLER = ("0.3", "1", "0.5")
 SIZES = {
@@ -67,6 +69,20 @@ def questions(*hits):
         yield Question("P>=0.3", "a_wins", Fraction(3, 10), CLOSED, coalition=("a", "c"))
         yield Question("P>0.3", "a_wins", Fraction(3, 10), CLOSED, coalition=("a", "c"))
     yield sure("P>=1", "a_wins", coalition=("a", "b"))
+    yield from questions_of_shots(3 * len(hits), known)
+
+
+def questions_of_shots(shots, known):
+    """How likely A is the last one within so many shots, and never."""
+    alone, together = 1 - Fraction("0.35") ** 4, 1 - Fraction("0.7") ** 4
+    for coalition, value in (("a", Fraction(9, 130) * alone), ("ac", Fraction(3, 10) * together), ("ab", together)):
+        answer = (value, CLOSED) if known else (None, BACKWARD)
+        yield Question("Pmax=?", "a_wins", *answer, coalition=tuple(coalition), steps=shots)
+    for steps in (13, 15) if known else ():
+        value = 1 - Fraction("0.7") ** (steps // 2)
+        yield Question("P>=0.9", "a_wins", value, CLOSED, coalition=("a", "b"), steps=steps)
+    answer = (Fraction(121, 130), CLOSED) if known else (None, COMPUTED)
+    yield Question("Pmax=?", "!a_wins", *answer, coalition=("b", "c"), path="G")
 
 
 if __name__ == "__main__":

@@ -12,13 +12,14 @@ moves the robot one field. It begins in one corner, and the goal is the far one.
 the seed; next to the first field there is none.
 
 Value: computed in fractions by strategy iteration for both players. Where the robot may wait for ever in a safe place,
-upper values stay up.
+upper values stay up. With a deadline it is computed backward. The goal is 2 (SIDE - 1) steps of the robot away, and as
+many of the wind lie between.
 """
 
 from fractions import Fraction
 
 from model import Model, write_from_words
-from question import Question, sure
+from question import BACKWARD, Question, sure
 from robot import STEPS, drawn_pits, moved
 
 STEP, GUST = Fraction(9, 10), Fraction(1, 4)
@@ -49,6 +50,11 @@ def questions(side, seed):
         yield Question("P>0.4", "goal", coalition=("robot",), options=options)
     yield Question("Pmax=?", "pit", coalition=("wind",))
     yield sure("Pmax=?", "goal", coalition=("robot", "wind"))
+    away = 4 * (side - 1)
+    yield Question("Pmax=?", "goal", source=BACKWARD, coalition=("robot",), steps=away)
+    yield Question("Pmax=?", "goal", source=BACKWARD, coalition=("robot",), steps=2 * away)
+    yield Question("P>0.4", "goal", source=BACKWARD, coalition=("robot",), steps=2 * away)
+    yield Question("Pmax=?", "!pit", coalition=("robot",), path="G")
 
 
 if __name__ == "__main__":

@@ -12,7 +12,8 @@ answer makes the host draw again, and after the last probe it keeps the address:
 
 Value: with q = HOSTS / 65024 and e = (1/10) ^ PROBES a draw ends in a collision with q e, and comes again with q (1 -
 e). So the chance of a collision is q e / (1 - q (1 - e)), the source's formula. Each draw is the last with 1 - q at
-least, so there is a last one.
+least, so there is a last one. The first step settles it with 1 - q. Within PROBES + 1 steps the first draw alone can
+end in a collision: q e.
 """
 
 from fractions import Fraction
@@ -24,6 +25,7 @@ ADDRESSES = 65024
 LOST = Fraction(1, 10)
 SOURCE = "Bohnenkamp and others 2003"
 SIZES = {"small": [(4, 1000), (2, 32512), (8, 60000)], "large": [(100000, 60000)]}
+FEW = 8
 
 
 def model(probes, hosts):
@@ -46,6 +48,10 @@ def questions(probes, hosts):
     yield Question("Pmax=?", "collision", value, SOURCE)
     yield Question("P<=0.0001", "collision", value, SOURCE)
     yield sure("P>=1", "settled", value=1, source=CLOSED)
+    yield Question("P>=0.5", "settled", 1 - used, CLOSED, path="X")
+    if probes <= FEW:
+        yield Question("Pmax=?", "collision", used * lost, CLOSED, steps=probes + 1)
+    yield Question("P>=0.999", "!collision", 1 - value, SOURCE, path="G")
 
 
 if __name__ == "__main__":
