@@ -1,16 +1,23 @@
 -- What a step leaves of parts of tables, and of whole tables.
-use Rattle.std.proofs.Common.{◌≡◌, ℕ, ◌+◌, ◌-◌, ◌/◌, ◌<◌, ◌≤◌, Bool, true, false, List, length, ◌++◌, arith, ap, refl, sym, subst, ◌∙◌, inl, inr, zero-add}
-use Rattle.std.specs.Prelude.{slice_index}
+use Rattle.std.proofs.Common.{◌≡◌, ℕ, ◌+◌, ◌-◌, ◌/◌, ◌<◌, ◌≤◌, Bool, true, false, List, [], ◌∷◌, length, ◌++◌, arith, ap, refl, sym, subst, ◌∙◌, inl, inr, zero-add, set, ◌≢◌, below_more, take, drop, append-nil}
+use Rattle.std.specs.Prelude.{slice_index, All}
 use mathlib.Core.Bool.{◌||◌}
 use Rattle.std.proofs.lemmas.Bool.{cases_lt}
-use Rattle.std.proofs.lemmas.List.{get_or_append_left, get_or-append_right, ext_get_or}
-use Rattle.std.proofs.lemmas.List.Elements.{All-from_get_or}
+use Rattle.std.proofs.Math.ListN.{get_or-map}
+use Rattle.std.proofs.lemmas.List.{get_or_append_left, get_or-append_right, ext_get_or, length-map, map-append, map-set, drop_all, take_all, get_or-set_same, get_or-set_other}
+use Rattle.std.proofs.lemmas.List.Elements.{All-from_get_or, All-map}
 use Rattle.game_model.specs.Query.{Query, IsQuery, states}
 use Rattle.game_model.specs.Limits.{unit}
 use Rattle.game_model.specs.Rounded.{down_step, up_step}
+use Rattle.fixed_bellman.specs.declared.bounds.Bounds.{Bounds}
+use Rattle.fixed_bellman.specs.Bounds.{lowers, uppers, AreUnits}
 use Rattle.bounded_rounds.specs.Steps.{IsSweep}
-use Rattle.bounded_rounds.specs.Parts.{IsTable, IsStretch, IsStepped}
+use Rattle.bounded_rounds.specs.Parts.{opened, IsTable, IsStretch, IsStepped}
 use Rattle.bounded_rounds.proofs.Stepping.{Agree, steps_from-next, steps_from-rests, steps_from-same}
+
+-- the bounds past the end of a list
+abbrev no_bounds : Bounds
+no_bounds = record { lower = 0; upper = 0 }
 
 -- the states of two parts in a row
 pub IsStretch-both : (step table : ℕ → ℕ) (first second m n : ℕ) (part rest : List ℕ) (front back changed : Bool) → length part ≡ m → second ≡ first + m → IsStretch step table first m part front → IsStretch step table second n rest back
@@ -37,18 +44,76 @@ none-of true b h = absurd (cc)
 none-of false true h = absurd (cc)
 none-of false false h = (refl, refl)
 
-pub IsStepped-both : (q : Query) (lower upper : ℕ → ℕ) (first second m n count : ℕ) (part_lower part_upper rest_lower rest_upper : List ℕ) (front back : Bool) → length part_lower ≡ m → length part_upper ≡ m → second ≡ first + m → m + n ≡ count
-    → IsStepped q lower upper first m part_lower part_upper front → IsStepped q lower upper second n rest_lower rest_upper back
-    → IsStepped q lower upper first count (part_lower ++ rest_lower) (part_upper ++ rest_upper) (front || back)
-IsStepped-both q lower upper first second m n count part_lower part_upper rest_lower rest_upper front back many_lower many_upper there all h k =
-    subst (λ (j : ℕ). IsStepped q lower upper first j (part_lower ++ rest_lower) (part_upper ++ rest_upper) (front || back)) all record {
-      down = IsStretch-both (down_step q lower) lower first second m n part_lower rest_lower front back (front || back) many_lower there h.down k.down (none-of front back);
-      up = IsStretch-both (up_step q upper) upper first second m n part_upper rest_upper front back (front || back) many_upper there h.up k.up (none-of front back);
+pub IsStepped-both : (q : Query) (table : List Bounds) (first second m n count : ℕ) (part rest : List Bounds) (front back : Bool) → length part ≡ m → second ≡ first + m → m + n ≡ count
+    → IsStepped q table first m part front → IsStepped q table second n rest back → IsStepped q table first count (part ++ rest) (front || back)
+IsStepped-both q table first second m n count part rest front back many there all h k =
+    let lower : (b : Bounds) → ℕ = λ b. b.lower in
+    let upper : (b : Bounds) → ℕ = λ b. b.upper in
+    subst (λ (j : ℕ). IsStepped q table first j (part ++ rest) (front || back)) all record {
+      down = rw (map-append lower part rest) (IsStretch-both (down_step q (slice_index (lowers table))) (slice_index (lowers table)) first second m n (lowers part) (lowers rest) front back (front || back) (length-map part lower ∙ many) there h.down k.down (none-of front back));
+      up = rw (map-append upper part rest) (IsStretch-both (up_step q (slice_index (uppers table))) (slice_index (uppers table)) first second m n (uppers part) (uppers rest) front back (front || back) (length-map part upper ∙ many) there h.up k.up (none-of front back));
+    }
+
+-- one more state
+IsStretch-more : (step table : ℕ → ℕ) (first count value : ℕ) (part : List ℕ) (changed new : Bool) → count < length part → IsStretch step table first count part changed → value ≡ step (first + count) → value ≤ unit
+    → (new ≡ false → value ≡ table (first + count)) → IsStretch step table first (count + 1) (set part count value) (changed || new)
+IsStretch-more step table first count value part changed new there h is small rest = record {
+  values = each (λ k x. x ≡ step (first + k)) h.values is;
+  units = each (λ k x. x ≤ unit) h.units small;
+  same = λ none. let apart = none-of changed new none in each (λ k x. x ≡ table (first + k)) (h.same apart.0) (rest apart.1);
+}
+  where
+    each : (P : ℕ → ℕ → Type 0) → ((k : ℕ) → k < count → P k (slice_index part k)) → P count value → (k : ℕ) → k < count + 1 → P k (slice_index (set part count value) k)
+    each P early last = below_more (λ k. P k (slice_index (set part count value) k)) count
+        (λ k l. subst (P k) (sym (get_or-set_other part count k value 0 (let apart : k ≢ count = omega arith in apart))) (early k l))
+        (subst (P count) (sym (get_or-set_same part count value 0 there)) last)
+
+pub IsStepped-more : (q : Query) (table : List Bounds) (first count : ℕ) (next : List Bounds) (changed new : Bool) (b : Bounds) → count < length next → IsStepped q table first count next changed
+    → b.lower ≡ down_step q (slice_index (lowers table)) (first + count) → b.upper ≡ up_step q (slice_index (uppers table)) (first + count) → AreUnits b
+    → (new ≡ false → (b.lower ≡ slice_index (lowers table) (first + count)) × (b.upper ≡ slice_index (uppers table) (first + count))) → IsStepped q table first (count + 1) (set next count b) (changed || new)
+IsStepped-more q table first count next changed new b there h down up units same =
+    let lower : (d : Bounds) → ℕ = λ d. d.lower in
+    let upper : (d : Bounds) → ℕ = λ d. d.upper in record {
+      down = rw (map-set lower next count b) (IsStretch-more (down_step q (slice_index (lowers table))) (slice_index (lowers table)) first count b.lower (lowers next) changed new (omega (arith, length-map next lower)) h.down down units.0 (λ no. (same no).0));
+      up = rw (map-set upper next count b) (IsStretch-more (up_step q (slice_index (uppers table))) (slice_index (uppers table)) first count b.upper (uppers next) changed new (omega (arith, length-map next upper)) h.up up units.1 (λ no. (same no).1));
     }
 
 -- whole tables
-pub IsTable-stretch : (q : Query) (step table : ℕ → ℕ) (next : List ℕ) (changed : Bool) → length next ≡ states q → IsStretch step table 0 (states q) next changed → IsTable q next
-IsTable-stretch q step table next changed many h = record { many = many; units = All-from_get_or (λ v. v ≤ unit) next 0 (λ k l. h.units k (omega arith)) }
+pub IsTable-step : (q : Query) (table next : List Bounds) (changed : Bool) → length next ≡ states q → IsStepped q table 0 (states q) next changed → IsTable q next
+IsTable-step q table next changed many h = record {
+  many = many;
+  units = All-from_get_or AreUnits next no_bounds (λ k l. (
+    omega (arith, get_or-map (λ (b : Bounds). b.lower) next k no_bounds, h.down.units k (omega (arith, many, l))),
+    omega (arith, get_or-map (λ (b : Bounds). b.upper) next k no_bounds, h.up.units k (omega (arith, many, l))),
+  ));
+}
+
+-- the table that a sweep opens with
+pub lowers-opened : (opening : List ℕ) → lowers (opened opening) ≡ opening
+lowers-opened [] = refl
+lowers-opened (v ∷ opening) = ap (λ xs. v ∷ xs) (lowers-opened opening)
+
+pub uppers-opened : (opening : List ℕ) → uppers (opened opening) ≡ opening
+uppers-opened [] = refl
+uppers-opened (v ∷ opening) = ap (λ xs. v ∷ xs) (uppers-opened opening)
+
+pub IsTable-opened : (q : Query) (opening : List ℕ) → length opening ≡ states q → All (λ v. v ≤ unit) opening → IsTable q (opened opening)
+IsTable-opened q opening many units = record {
+  many = length-map opening (λ (v : ℕ). let b : Bounds = record { lower = v; upper = v } in b) ∙ many;
+  units = All-map AreUnits (λ (v : ℕ). let b : Bounds = record { lower = v; upper = v } in b) opening (λ i d l. (units i d l, units i d l));
+}
+
+-- a whole list that was lent as a slice has what was written there
+pub written_back : (new old : List Bounds) (len : ℕ) → length new ≡ length old → len ≡ length old → take len (new ++ drop (length new) old) ≡ new
+written_back new old len same whole =
+    let P : List Bounds → Type 0 = λ rest. take len (new ++ rest) ≡ new in
+    subst P (sym (drop_all (length new) old (omega arith))) (ap (λ (xs : List Bounds). take len xs) (append-nil new) ∙ take_all len new (omega arith))
+
+pub lowers-units : (table : List Bounds) → All AreUnits table → All (λ v. v ≤ unit) (lowers table)
+lowers-units table units = All-map (λ v. v ≤ unit) (λ (b : Bounds). b.lower) table (λ i d l. (units i d l).0)
+
+pub uppers-units : (table : List Bounds) → All AreUnits table → All (λ v. v ≤ unit) (uppers table)
+uppers-units table units = All-map (λ v. v ≤ unit) (λ (b : Bounds). b.upper) table (λ i d l. (units i d l).1)
 
 Agree-step : (q : Query) (step table : ℕ → ℕ) (next : List ℕ) (changed : Bool) → IsStretch step table 0 (states q) next changed → Agree q (slice_index next) step
 Agree-step q step table next changed h s inside = h.values s inside ∙ ap step (zero-add s)
@@ -57,23 +122,23 @@ Agree-rest : (q : Query) (step table : ℕ → ℕ) (next : List ℕ) (changed :
 Agree-rest q step table next changed h none s inside = sym (h.same none s inside ∙ ap table (zero-add s)) ∙ Agree-step q step table next changed h s inside
 
 -- one step more
-pub IsSweep-next : (q : Query) (opening : ℕ → ℕ) (k : ℕ) (lower upper next_lower next_upper : List ℕ) (changed : Bool) → IsQuery q → IsSweep q opening k lower upper
-    → length next_lower ≡ states q → length next_upper ≡ states q → IsStepped q (slice_index lower) (slice_index upper) 0 (states q) next_lower next_upper changed → IsSweep q opening (k + 1) next_lower next_upper
-IsSweep-next q opening k lower upper next_lower next_upper changed posed sweep lowers uppers stepped = record {
-  lowers = lowers;
-  uppers = uppers;
-  down = steps_from-next (λ x w. x / w) q posed opening (slice_index lower) (slice_index next_lower) k sweep.down (Agree-step q _ _ next_lower changed stepped.down);
-  up = steps_from-next (λ x w. (x + (w - 1)) / w) q posed opening (slice_index upper) (slice_index next_upper) k sweep.up (Agree-step q _ _ next_upper changed stepped.up);
+pub IsSweep-next : (q : Query) (opening : ℕ → ℕ) (k : ℕ) (table next : List Bounds) (changed : Bool) → IsQuery q → IsSweep q opening k (lowers table) (uppers table)
+    → length next ≡ states q → IsStepped q table 0 (states q) next changed → IsSweep q opening (k + 1) (lowers next) (uppers next)
+IsSweep-next q opening k table next changed posed sweep many stepped = record {
+  lowers = length-map next (λ (b : Bounds). b.lower) ∙ many;
+  uppers = length-map next (λ (b : Bounds). b.upper) ∙ many;
+  down = steps_from-next (λ x w. x / w) q posed opening (slice_index (lowers table)) (slice_index (lowers next)) k sweep.down (Agree-step q _ _ (lowers next) changed stepped.down);
+  up = steps_from-next (λ x w. (x + (w - 1)) / w) q posed opening (slice_index (uppers table)) (slice_index (uppers next)) k sweep.up (Agree-step q _ _ (uppers next) changed stepped.up);
 }
 
 -- where a step changes nothing, so do all steps behind it
-pub IsSweep-rests : (q : Query) (opening : ℕ → ℕ) (k n : ℕ) (lower upper next_lower next_upper : List ℕ) (changed : Bool) → IsQuery q → k ≤ n → IsSweep q opening k lower upper
-    → IsStepped q (slice_index lower) (slice_index upper) 0 (states q) next_lower next_upper changed → changed ≡ false → IsSweep q opening n lower upper
-IsSweep-rests q opening k n lower upper next_lower next_upper changed posed order sweep stepped none = record {
+pub IsSweep-rests : (q : Query) (opening : ℕ → ℕ) (k n : ℕ) (table next : List Bounds) (changed : Bool) → IsQuery q → k ≤ n → IsSweep q opening k (lowers table) (uppers table)
+    → IsStepped q table 0 (states q) next changed → changed ≡ false → IsSweep q opening n (lowers table) (uppers table)
+IsSweep-rests q opening k n table next changed posed order sweep stepped none = record {
   lowers = sweep.lowers;
   uppers = sweep.uppers;
-  down = steps_from-rests (λ x w. x / w) q posed opening (slice_index lower) k n order sweep.down (Agree-rest q _ _ next_lower changed stepped.down none);
-  up = steps_from-rests (λ x w. (x + (w - 1)) / w) q posed opening (slice_index upper) k n order sweep.up (Agree-rest q _ _ next_upper changed stepped.up none);
+  down = steps_from-rests (λ x w. x / w) q posed opening (slice_index (lowers table)) k n order sweep.down (Agree-rest q _ _ (lowers next) changed stepped.down none);
+  up = steps_from-rests (λ x w. (x + (w - 1)) / w) q posed opening (slice_index (uppers table)) k n order sweep.up (Agree-rest q _ _ (uppers next) changed stepped.up none);
 }
 
 Agree-one : (q : Query) (value : ℕ → ℕ) (table other : List ℕ) → length table ≡ states q → length other ≡ states q → Agree q (slice_index table) value → Agree q (slice_index other) value → table ≡ other

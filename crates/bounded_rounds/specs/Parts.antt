@@ -1,13 +1,19 @@
--- Tables of units, and what a step leaves of a part of them.
-use Rattle.std.specs.Prelude.{◌≡◌, ℕ, ◌+◌, ◌<◌, ◌≤◌, Bool, false, List, length, slice_index, All}
+-- Tables of bounds, and what a step leaves of a part of them.
+use Rattle.std.specs.Prelude.{◌≡◌, ℕ, ◌+◌, ◌<◌, ◌≤◌, Bool, false, List, length, map, slice_index, All}
 use Rattle.game_model.specs.Query.{Query, states}
 use Rattle.game_model.specs.Limits.{unit}
 use Rattle.game_model.specs.Rounded.{down_step, up_step}
+use Rattle.fixed_bellman.specs.declared.bounds.Bounds.{Bounds}
+use Rattle.fixed_bellman.specs.Bounds.{lowers, uppers, AreUnits}
 
--- a number of units for each state
-pub record IsTable (q : Query) (table : List ℕ) : Type 0 where
+-- the bounds whose lower and whose upper ones are both these numbers
+abbrev pub opened : List ℕ → List Bounds
+opened opening = map (λ v. record { lower = v; upper = v }) opening
+
+-- two numbers of units for each state
+pub record IsTable (q : Query) (table : List Bounds) : Type 0 where
   pub many : length table ≡ states q
-  pub units : All (λ v. v ≤ unit) table
+  pub units : All AreUnits table
 
 -- the first entries of a part are the steps of so many states in a row from this one on, in units. Where nothing changed they are also the entries of the table
 pub record IsStretch (step table : ℕ → ℕ) (first count : ℕ) (part : List ℕ) (changed : Bool) : Type 0 where
@@ -15,7 +21,7 @@ pub record IsStretch (step table : ℕ → ℕ) (first count : ℕ) (part : List
   pub units : (k : ℕ) → k < count → slice_index part k ≤ unit
   pub same : changed ≡ false → (k : ℕ) → k < count → slice_index part k ≡ table (first + k)
 
--- the steps of two tables at so many states in a row from this one on
-pub record IsStepped (q : Query) (lower upper : ℕ → ℕ) (first count : ℕ) (next_lower next_upper : List ℕ) (changed : Bool) : Type 0 where
-  pub down : IsStretch (down_step q lower) lower first count next_lower changed
-  pub up : IsStretch (up_step q upper) upper first count next_upper changed
+-- the steps of both bounds at so many states in a row from this one on
+pub record IsStepped (q : Query) (table : List Bounds) (first count : ℕ) (next : List Bounds) (changed : Bool) : Type 0 where
+  pub down : IsStretch (down_step q (slice_index (lowers table))) (slice_index (lowers table)) first count (lowers next) changed
+  pub up : IsStretch (up_step q (slice_index (uppers table))) (slice_index (uppers table)) first count (uppers next) changed

@@ -1,56 +1,112 @@
 //! The steps of one worker.
 
-ghost use Rattle.std.specs.Prelude.{◌≡◌, ◌<◌, ◌≤◌, length, slice_index, false};
+ghost use Rattle.std.specs.Prelude.{◌≡◌, ◌+◌, ◌<◌, ◌≤◌, length, slice_index, All, false};
 ghost use Rattle.game_model.specs.Query.{states};
-ghost use Rattle.game_model.specs.Limits.{unit};
 ghost use Rattle.game_model.specs.Rounded.{down_step, up_step};
-ghost use Rattle.bounded_rounds.specs.OfTables.{ArePartsFrom, IsStepOf};
+ghost use Rattle.fixed_bellman.specs.Bounds.{lowers, uppers, AreUnits};
+ghost use Rattle.bounded_rounds.specs.OfTables.{IsPartFrom, IsStepOf};
 
 use crate::tables::Tables;
-use fixed_bellman::{down_state, up_state};
+use fixed_bellman::{Bounds, step_bounds};
+use game_model::UNIT;
 use game_outside::Gate;
 
-/// The steps of both tables at the states in a row from `first` on, by one worker, who passes the gate before each of
-/// them. Where it answers no, each of them is the entry of its table.
+/// How many states are stepped between two looks ahead.
+const STRETCH: usize = 64;
+
+/// The most states whose table stays near the processor: with more, looking ahead pays.
+const MOST_NEAR: u32 = 131_072;
+
+/// The steps at the states in a row from `first` on, by one worker, who passes the gate before each of them. Where it
+/// answers no, each of them is the entry of the table.
 pub fn step_part<G: Gate>(
     tables: Tables<'_>,
     gate: &G,
     worker: u32,
     first: u32,
-    next_lower: &mut [u64],
-    next_upper: &mut [u64],
+    next: &mut [Bounds],
 ) -> bool
-    requires { ArePartsFrom tables first next_lower.old next_upper.old }
-    ensures { IsStepOf tables.entry first (length next_lower.old) next_lower.new next_upper.new result }
+    requires { IsPartFrom tables first next.old }
+    ensures { IsStepOf tables.entry first (length next.old) next.new result }
 {
     tables.question.known();
     let mut changed = false;
-    for place in 0..next_lower.len() {
+    let mut from = 0;
+    while from < next.len() {
+        let to = next.len().min(from + STRETCH);
+        let before = changed | look_ahead(tables, first + from as u32, first + to as u32);
+        changed = step_stretch(tables, gate, worker, first, next, from, to, before);
+        from = to;
+    }
+    changed
+}
+
+/// Reads the entries of the successors of a stretch of states, so that the memory fetches them at once. No entry is above
+/// the unit, so it answers no; since it answers, the compiler keeps the reads.
+fn look_ahead(tables: Tables<'_>, from: u32, to: u32) -> bool
+    requires order { from ≤ to }
+    requires inside { to ≤ states tables.question.now }
+    ensures { result ≡ false }
+{
+    let game = tables.question.game();
+    game.states() > MOST_NEAR && has_excess(tables.table, game.successors_between(from, to))
+}
+
+/// Whether an entry of these states is above the unit.
+fn has_excess(table: &[Bounds], wanted: &[u32]) -> bool
+    requires inside { All (λ s. s < length table.now) wanted.now }
+    requires units { All AreUnits table.now }
+    ensures { result ≡ false }
+{
+    for state in wanted {
+        if table[*state as usize].upper > UNIT {
+            return true;
+        }
+    }
+    false
+}
+
+/// The steps at the states in a row from place `from` to place `to` of a part that has those below `from`.
+fn step_stretch<G: Gate>(
+    tables: Tables<'_>,
+    gate: &G,
+    worker: u32,
+    first: u32,
+    next: &mut [Bounds],
+    from: usize,
+    to: usize,
+    before: bool,
+) -> bool
+    requires part { IsPartFrom tables first next.old }
+    requires order { from ≤ to }
+    requires inside { to ≤ length next.old }
+    requires before { IsStepOf tables first from next.old before }
+    ensures { IsStepOf tables.entry first to next.new result }
+{
+    tables.question.known();
+    let mut changed = before;
+    for place in from..to {
         let state = first + place as u32;
         gate.arrive(worker, state);
-        let (down, up, new) = step_state(tables, state);
-        next_lower[place] = down;
-        next_upper[place] = up;
+        let (bounds, new) = step_state(tables, state);
+        next[place] = bounds;
         changed |= new;
     }
     changed
 }
 
-/// The down step of the lower table and the up step of the upper table at a state, and whether one of them is not the
-/// entry there.
-fn step_state(tables: Tables<'_>, state: u32) -> (u64, u64, bool)
+/// The step of both bounds of a state, and whether one of them is not the entry there.
+fn step_state(tables: Tables<'_>, state: u32) -> (Bounds, bool)
     requires { state < states tables.question.now }
-    ensures down { result.0 ≡ down_step tables.entry.question.now (slice_index tables.entry.lower.now) state }
-    ensures up { result.1 ≡ up_step tables.entry.question.now (slice_index tables.entry.upper.now) state }
-    ensures units { (result.0 ≤ unit) × (result.1 ≤ unit) }
-    ensures same { result.2 ≡ false → (result.0 ≡ slice_index tables.entry.lower.now state) × (result.1 ≡ slice_index tables.entry.upper.now state) }
+    ensures down { result.0.lower ≡ down_step tables.entry.question.now (slice_index (lowers tables.entry.table.now)) state }
+    ensures up { result.0.upper ≡ up_step tables.entry.question.now (slice_index (uppers tables.entry.table.now)) state }
+    ensures units { AreUnits result.0 }
+    ensures same { result.1 ≡ false → (result.0.lower ≡ slice_index (lowers tables.entry.table.now) state) × (result.0.upper ≡ slice_index (uppers tables.entry.table.now) state) }
 {
-    let (down, _first) = down_state(tables.question, state, tables.lower);
-    let up = up_state(tables.question, state, tables.upper);
-    let place = state as usize;
+    let bounds = step_bounds(tables.question, state, tables.table);
+    let old = tables.table[state as usize];
     (
-        down,
-        up,
-        down != tables.lower[place] || up != tables.upper[place],
+        bounds,
+        bounds.lower != old.lower || bounds.upper != old.upper,
     )
 }

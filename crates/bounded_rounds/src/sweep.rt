@@ -3,15 +3,17 @@
 ghost use Rattle.std.specs.Prelude.{◌≡◌, ◌≤◌, length, slice_index, All, IfOk};
 ghost use Rattle.game_model.specs.Query.{states};
 ghost use Rattle.game_model.specs.Limits.{unit};
+ghost use Rattle.fixed_bellman.specs.Bounds.{lowers, uppers, AreUnits};
 ghost use Rattle.bounded_rounds.specs.Limits.{most_steps, most_workers};
-ghost use Rattle.bounded_rounds.specs.Parts.{IsTable, IsStepped};
+ghost use Rattle.bounded_rounds.specs.Parts.{opened, IsTable, IsStepped};
 ghost use Rattle.bounded_rounds.specs.Steps.{IsSweep};
 
 use crate::fork::step_chunks;
 use crate::tables::Tables;
+use fixed_bellman::Bounds;
 use game_model::Question;
 use game_outside::{Gate, OutOfMemory};
-use std::alloc::Global;
+use std::alloc::{AllocError, Global};
 use std::mem;
 use std::thread::Threads;
 
@@ -31,7 +33,7 @@ pub struct Sweep {
 /// They are the same for every number of workers and every schedule. With no steps both are the opening table. The only
 /// error is want of memory.
 ///
-/// Each step reads one pair of tables and writes another. Where W workers take part, worker w has the states from w times
+/// Each step reads one table of bounds and writes another. Where W workers take part, worker w has the states from w times
 /// the number of states over W, rounded up, and passes the gate before each of them. All workers take part in the first
 /// step; later on there are fewer where the game is small.
 pub fn bounded<R: Threads + Sync, G: Gate + Sync>(
@@ -52,74 +54,81 @@ pub fn bounded<R: Threads + Sync, G: Gate + Sync>(
 {
     let first = open(alloc, opening)?;
     let spare = open(alloc, opening)?;
-    Ok(iterate(rt, question, first, spare, steps, workers, gate))
+    let table = iterate(rt, question, first, spare, steps, workers, gate);
+    Ok(parted(alloc, &table)?)
 }
 
-/// The opening table as lower and upper table.
-fn open(alloc: Global, opening: &[u64]) -> Result<Sweep, OutOfMemory>
-    ensures lower { IfOk result (λ sweep. sweep.lower.items ≡ opening.now) }
-    ensures upper { IfOk result (λ sweep. sweep.upper.items ≡ opening.now) }
+/// The opening table as lower and upper bounds.
+fn open(alloc: Global, opening: &[u64]) -> Result<Vec<Bounds>, AllocError>
+    ensures { IfOk result (λ table. table.items ≡ opened opening.now) }
 {
-    let lower = opening.to_vec(alloc)?;
-    let upper = opening.to_vec(alloc)?;
+    opening
+        .iter()
+        .map(|value| Bounds {
+            lower: *value,
+            upper: *value,
+        })
+        .collect(alloc)
+}
+
+/// The lower bounds, or the upper ones.
+/// The bounds as a lower and an upper table.
+fn parted(alloc: Global, table: &[Bounds]) -> Result<Sweep, AllocError>
+    ensures lower { IfOk result (λ sweep. sweep.lower.items ≡ lowers table.now) }
+    ensures upper { IfOk result (λ sweep. sweep.upper.items ≡ uppers table.now) }
+{
+    let lower = table.iter().map(|bounds| bounds.lower).collect(alloc)?;
+    let upper = table.iter().map(|bounds| bounds.upper).collect(alloc)?;
     Ok(Sweep { lower, upper })
 }
 
-/// The steps, from one pair of tables to the other and back. A step that changes neither table is the last: so are all
-/// steps behind it.
+/// The steps, from one table to the other and back. A step that changes nothing is the last: so are all steps behind it.
 fn iterate<R: Threads + Sync, G: Gate + Sync>(
     rt: &R,
     question: &Question,
-    mut sweep: Sweep,
-    mut next: Sweep,
+    mut table: Vec<Bounds>,
+    mut next: Vec<Bounds>,
     steps: u32,
     workers: u32,
     gate: &G,
-) -> Sweep
-    requires lower { IsTable question.now sweep.lower.items }
-    requires upper { IsTable question.now sweep.upper.items }
-    requires same { sweep.upper.items ≡ sweep.lower.items }
-    requires next { (length next.lower.items ≡ states question.now) × (length next.upper.items ≡ states question.now) }
+) -> Vec<Bounds>
+    requires table { IsTable question.now table.items }
+    requires same { uppers table.items ≡ lowers table.items }
+    requires next { length next.items ≡ states question.now }
     requires workers { 1 ≤ workers }
-    ensures sweep { IsSweep question.now (slice_index sweep.lower.items) steps result.lower.items result.upper.items }
-    ensures units { All (λ v. v ≤ unit) result.lower.items × All (λ v. v ≤ unit) result.upper.items }
+    ensures sweep { IsSweep question.now (slice_index (lowers table.items)) steps (lowers result.items) (uppers result.items) }
+    ensures units { All AreUnits result.items }
 {
     question.known();
     let mut used = workers;
     for _done in 0..steps {
-        if !step(rt, question, &sweep, &mut next, used, gate) {
-            return sweep;
+        if !step(rt, question, &table, &mut next, used, gate) {
+            return table;
         }
-        mem::swap(&mut sweep, &mut next);
+        mem::swap(&mut table, &mut next);
         used = busy_workers(question, workers);
     }
-    sweep
+    table
 }
 
-/// The next tables, by so many workers. Whether one of their entries is another than before.
+/// The next table, by so many workers. Whether one of its entries is another than before.
 fn step<R: Threads + Sync, G: Gate + Sync>(
     rt: &R,
     question: &Question,
-    sweep: &Sweep,
-    next: &mut Sweep,
+    table: &[Bounds],
+    next: &mut [Bounds],
     workers: u32,
     gate: &G,
 ) -> bool
-    requires lower { IsTable question.now sweep.now.lower.items }
-    requires upper { IsTable question.now sweep.now.upper.items }
-    requires next { (length next.old.lower.items ≡ states question.now) × (length next.old.upper.items ≡ states question.now) }
+    requires table { IsTable question.now table.now }
+    requires next { length next.old ≡ states question.now }
     requires workers { 1 ≤ workers }
-    ensures many { (length next.new.lower.items ≡ states question.now) × (length next.new.upper.items ≡ states question.now) }
-    ensures stepped { IsStepped question.now (slice_index sweep.now.lower.items) (slice_index sweep.now.upper.items) 0 (states question.now) next.new.lower.items next.new.upper.items result }
+    ensures { IsStepped question.now table.now 0 (states question.now) next.new result }
 {
     question.known();
-    let tables = Tables {
-        question,
-        lower: &sweep.lower,
-        upper: &sweep.upper,
-    };
+    let tables = Tables { question, table };
     let size = question.game().states().div_ceil(workers);
-    step_chunks(rt, tables, gate, size, 0, &mut next.lower, &mut next.upper)
+    step_chunks(rt, tables, gate, size, 0, next)
 }
 
 /// How many workers a step after the first has: one, and one more for each so many edges.

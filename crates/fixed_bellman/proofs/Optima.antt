@@ -7,7 +7,7 @@ use Rattle.game_model.specs.declared.game.Side.TheVariants.{Min}
 use Rattle.game_model.specs.Game.{Distribution, IsDistribution, no_distribution, choices_of}
 use Rattle.game_model.specs.Values.{better, optimum, weighted_sum}
 use Rattle.game_model.specs.Limits.{unit}
-use Rattle.game_model.specs.Rounded.{up_value}
+use Rattle.game_model.specs.Rounded.{down_value, up_value}
 use Rattle.game_model.proofs.Rising.{total-pos}
 use Rattle.fixed_bellman.proofs.Sums.{weighted_sum-whole}
 
@@ -22,6 +22,11 @@ up-units sum total m positive h =
 
 pub up_value-units : (choice : Distribution) (table : List ℕ) → IsDistribution choice → All (λ v. v ≤ unit) table → up_value (slice_index table) choice ≤ unit
 up_value-units choice table h units = up-units (weighted_sum (slice_index table) choice.edges) choice.total unit (total-pos choice h) (whole-total choice table h units)
+
+pub down_value-most : (choice : Distribution) (table : List ℕ) → IsDistribution choice → All (λ v. v ≤ unit) table → down_value (slice_index table) choice ≤ unit
+down_value-most choice table h units =
+    let below : weighted_sum (slice_index table) choice.edges / choice.total < unit + 1 = (div-lt_iff_lt-mul (total-pos choice h)).1 (omega (arith, whole-total choice table h units, total-pos choice h)) in
+    omega arith
 
 -- the least value of all, as the loop finds it from a top that the first value does not pass
 pub least-whole : (f : Distribution → ℕ) (xs : List Distribution) (p best top : ℕ) → 0 < length xs → length xs ≤ p → f (slice_index_or xs 0 no_distribution) ≤ top

@@ -1,8 +1,10 @@
 -- Weighted sums over values that may rise while they are read.
-use Rattle.std.specs.Prelude.{ℕ, ◌*◌, ◌≤◌, List, [], ◌∷◌, sum_by}
+use Rattle.std.specs.Prelude.{ℕ, ◌*◌, ◌≤◌, List, [], ◌∷◌, sum_by, slice_index}
 use Rattle.game_model.specs.declared.game.Edge.{Edge}
 use Rattle.game_model.specs.Limits.{unit}
 use Rattle.game_model.specs.Values.{weighted_sum}
+use Rattle.fixed_bellman.specs.declared.bounds.Bounds.{Bounds}
+use Rattle.fixed_bellman.specs.Bounds.{lowers, uppers}
 
 -- the edges with these successors and weights
 abbrev pub edges_of : List ℕ → List ℕ → List Edge
@@ -19,3 +21,8 @@ pub record IsSumBetween (edges : List Edge) (old new : ℕ → ℕ) (sum : ℕ) 
   pub low : weighted_sum old edges ≤ sum
   pub high : sum ≤ weighted_sum new edges
   pub whole : sum ≤ sum_by (λ e. e.weight) edges * unit
+
+-- weighted sums of units over the lower and over the upper bounds
+pub record AreSums (edges : List Edge) (table : List Bounds) (low high : ℕ) : Type 0 where
+  pub lower : IsSumBetween edges (slice_index (lowers table)) (slice_index (lowers table)) low
+  pub upper : IsSumBetween edges (slice_index (uppers table)) (slice_index (uppers table)) high

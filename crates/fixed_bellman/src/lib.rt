@@ -4,12 +4,14 @@
 //! [`down_state`] and [`up_state`] are a step at one state, [`down_choice`] and [`up_choice`] the value of
 //! one choice. Iteration wants less: [`raised_state`] is the down step where it is above the entry of its
 //! table. It compares before it divides, so a state that does not rise costs a sum and a comparison for a
-//! choice, and no division. [`settled`] says that no state rises. [`step_above`] is the one kernel, over
-//! values that may rise while they are read ([`Values`]): a table, or words that are shared. No call takes
-//! memory.
+//! choice, and no division. [`settled`] says that no state rises. [`step_above`] is the kernel of down steps, over
+//! values that may rise while they are read ([`Values`]): a table, or words that are shared. [`step_bounds`] is the
+//! step of lower and upper bounds that lie side by side ([`Bounds`]). No call takes memory.
 #![tactic(auto)]
 
 mod above;
+mod bound_sums;
+mod bounds;
 mod choice;
 mod down;
 mod quotient;
@@ -18,6 +20,7 @@ mod up;
 mod values;
 
 pub use above::step_above;
+pub use bounds::{Bounds, step_bounds};
 pub use choice::{down_choice, up_choice};
 pub use down::{down_state, raised_state, settled};
 pub use quotient::Quotient;

@@ -1,13 +1,19 @@
 //! The value of a choice before it is rounded.
 
-ghost use Rattle.std.specs.Prelude.{◌≡◌, ◌+◌, ◌*◌, ◌/◌, ◌^◌, ◌<◌, ◌≤◌, IsTrue, ◌↔◌};
+ghost use Rattle.std.specs.Prelude.{◌≡◌, ◌+◌, ◌*◌, ◌/◌, ◌<◌, ◌≤◌, IsTrue, ◌↔◌};
 ghost use Rattle.game_model.specs.Limits.{unit, total_bound};
+
+use game_model::UNIT;
+use std::num::{nearest_u64_to_f64, saturating_f64_to_u64};
 
 /// The greatest total whose product with the unit fits 64 bits.
 pub const MOST_NARROW: u128 = 18_446;
 
-/// Half a word, as a power of two.
-const HALF: u128 = 4_294_967_296;
+/// A word, as a power of two.
+const WORD: u128 = 18_446_744_073_709_551_616;
+
+/// The same in floating point.
+const FLOAT_WORD: f64 = 18_446_744_073_709_551_616.0;
 
 /// A weighted sum of units over its total. It is compared with no division.
 #[derive(Clone, Copy)]
@@ -102,28 +108,53 @@ impl Quotient {
     }
 }
 
-// A quotient of at most one more than the unit: a total of half a word needs no wide division.
+/// The quotient of a number by a total, from an estimate. Whatever the estimate is, exact products correct it.
 fn divided(above: u128, total: u128) -> u64
     requires positive { 0 < total }
+    requires small { total < total_bound }
     requires fits { above < total * (unit + 1) }
     ensures { result ≡ above / total }
 {
-    if total < HALF {
-        return divided_by_halves(above, total as u64);
-    }
-    (above / total) as u64
+    let guess = lowered(above, total, estimate(above, total).min(UNIT));
+    raised(above, total, guess)
 }
 
-// Long division in two digits of half a word.
-fn divided_by_halves(above: u128, total: u64) -> u64
+/// The quotient in floating point, mostly at most one off.
+fn estimate(above: u128, total: u128) -> u64 {
+    saturating_f64_to_u64(float_of(above) / float_of(total))
+}
+
+/// A number in floating point.
+fn float_of(number: u128) -> f64 {
+    let high = nearest_u64_to_f64((number / WORD) as u64);
+    let low = nearest_u64_to_f64((number % WORD) as u64);
+    high * FLOAT_WORD + low
+}
+
+/// The first number from a guess downward whose product with the total is not above a number.
+fn lowered(above: u128, total: u128, mut guess: u64) -> u64
+    requires small { total < total_bound }
+    requires units { guess ≤ unit }
+    ensures units { result ≤ unit }
+    ensures below { result * total ≤ above }
+{
+    while u128::from(guess) * total > above {
+        guess -= 1;
+    }
+    guess
+}
+
+/// The quotient of a number by a total, from a guess upward.
+fn raised(above: u128, total: u128, mut guess: u64) -> u64
     requires positive { 0 < total }
-    requires half { total < 2 ^ 32 }
     requires fits { above < total * (unit + 1) }
+    requires below { guess * total ≤ above }
     ensures { result ≡ above / total }
 {
-    let high = (above / HALF) as u64;
-    let low = (above % HALF) as u64;
-    let half = HALF as u64;
-    let rest = high % total * half + low;
-    high / total * half + rest / total
+    let mut rest = above - u128::from(guess) * total;
+    while rest >= total {
+        rest -= total;
+        guess += 1;
+    }
+    guess
 }

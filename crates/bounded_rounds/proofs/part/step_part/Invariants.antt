@@ -1,6 +1,12 @@
-use Rattle.std.specs.Prelude.{slice_index}
+use Rattle.std.proofs.Common.{◌-◌, ◌≤◌, length}
 use Rattle.bounded_rounds.specs.Parts.{IsStepped}
 use Rattle.bounded_rounds.proofs.part.step_part.Given as goal
 
-abbrev pub invariant-loop-place : goal.invariant-loop-place
-invariant-loop-place g l = IsStepped l.tables.question.now (slice_index l.tables.lower.now) (slice_index l.tables.upper.now) l.first l.place l.next_lower l.next_upper l.changed
+abbrev pub invariant-loop-from : goal.invariant-loop-from
+invariant-loop-from g l = record {
+  inside : l.from ≤ length l.next;
+  stepped : IsStepped l.tables.question.now l.tables.table.now l.first l.from l.next l.changed;
+}
+
+abbrev pub decreases-loop-from : goal.decreases-loop-from
+decreases-loop-from g l = length l.next - l.from

@@ -1,37 +1,46 @@
-use Rattle.std.proofs.Common.{ℕ, slice_index, arith, refl, ap, List}
+use Rattle.std.proofs.Common.{◌≡◌, ℕ, slice_index, length, arith, refl, ap, subst, ◌∙◌, List}
+use Rattle.std.proofs.lemmas.List.{length-map}
+use Rattle.fixed_bellman.specs.declared.bounds.Bounds.{Bounds}
+use Rattle.fixed_bellman.specs.Bounds.{lowers}
+use Rattle.game_model.specs.Query.{states}
+use Rattle.bounded_rounds.specs.Parts.{IsStepped}
 use Rattle.bounded_rounds.specs.Steps.{steps_from}
-use Rattle.bounded_rounds.proofs.Parts.{IsSweep-next, IsSweep-rests, IsTable-stretch}
+use Rattle.bounded_rounds.proofs.Parts.{IsSweep-next, IsSweep-rests, IsTable-step, written_back}
 use Rattle.bounded_rounds.proofs.sweep.iterate.Goals as goal
 
 pub loop-done-init : goal.loop-done-init
 unfolding steps_from
 loop-done-init g c = record {
-  sweep = record { lowers = c.requires.lower.many; uppers = c.requires.upper.many; down = λ s inside. refl; up = λ s inside. ap (λ (xs : List ℕ). slice_index xs s) c.requires.same };
-  lower = c.requires.lower;
-  upper = c.requires.upper;
-  next_lower = c.requires.next.0;
-  next_upper = c.requires.next.1;
+  sweep = record {
+    lowers = length-map c.args.table.items (λ (b : Bounds). b.lower) ∙ c.requires.table.many;
+    uppers = length-map c.args.table.items (λ (b : Bounds). b.upper) ∙ c.requires.table.many;
+    down = λ s inside. refl;
+    up = λ s inside. ap (λ (xs : List ℕ). slice_index xs s) c.requires.same;
+  };
+  table = c.requires.table;
+  next = c.requires.next;
   used = c.requires.workers;
 }
 
 pub returns-then-not-step-clause-sweep : goal.returns-then-not-step-clause-sweep
 returns-then-not-step-clause-sweep g c =
     let more = c.loop-done-test.true in
-    IsSweep-rests c.args.question.now (slice_index c.args.sweep.lower.items) c.loop-done._done c.args.steps c.loop-done.sweep.lower.items c.loop-done.sweep.upper.items
-    c.step.new.next.lower.items c.step.new.next.upper.items c.step.result c.known.ensures (omega arith) c.loop-done.invariant.sweep c.step.ensures.stepped c.if-not-step.true
+    let q = c.args.question.now in
+    let stepped = subst (λ (t : List Bounds). IsStepped q t 0 (states q) c.step.new.next c.step.result) c.deref.ensures.value c.step.ensures in
+    IsSweep-rests q (slice_index (lowers c.args.table.items)) c.loop-done._done c.args.steps c.loop-done.table.items
+    c.step.new.next c.step.result c.known.ensures (omega arith) c.loop-done.invariant.sweep stepped c.if-not-step.true
 
 pub loop-done-preserved : goal.loop-done-preserved
 loop-done-preserved g c =
     let q = c.args.question.now in
     let h = c.loop-done.invariant in
-    let lower = c.step.new.next.lower.items in
-    let upper = c.step.new.next.upper.items in
-    let step = c.step.ensures in
-    rw (c.swap.ensures.x_after, c.swap.ensures.y_after) record {
-      sweep = IsSweep-next q (slice_index c.args.sweep.lower.items) c.loop-done._done c.loop-done.sweep.lower.items c.loop-done.sweep.upper.items lower upper c.step.result c.known.ensures h.sweep step.many.0 step.many.1 step.stepped;
-      lower = IsTable-stretch q _ _ lower c.step.result step.many.0 step.stepped.down;
-      upper = IsTable-stretch q _ _ upper c.step.result step.many.1 step.stepped.up;
-      next_lower = h.lower.many;
-      next_upper = h.upper.many;
+    let next : List Bounds = c.step.new.next in
+    let many : length next ≡ states q = omega (arith, c.step.auto.next, c.deref_mut.ensures.value, h.next) in
+    let stepped = subst (λ (t : List Bounds). IsStepped q t 0 (states q) next c.step.result) c.deref.ensures.value c.step.ensures in
+    let back = written_back next c.loop-done.next.items c.loop-done.next.len (omega (arith, many, h.next)) (omega (arith, c.loop-done.next.ok)) in
+    rw (c.swap.ensures.x_after, c.swap.ensures.y_after, back) record {
+      sweep = IsSweep-next q (slice_index (lowers c.args.table.items)) c.loop-done._done c.loop-done.table.items next c.step.result c.known.ensures h.sweep many stepped;
+      table = IsTable-step q c.loop-done.table.items next c.step.result many stepped;
+      next = h.table.many;
       used = c.busy_workers-used.ensures.some;
     }

@@ -1,7 +1,5 @@
-use Rattle.std.proofs.Common.{◌≡◌, ℕ, ◌≤◌, ◌<◌, ◌*◌, List, length, get_or, refl, arith}
+use Rattle.std.proofs.Common.{ℕ, ◌≤◌, ◌<◌, List, length, get_or, arith}
 use Rattle.game_model.specs.declared.game.Edge.{Edge}
-use Rattle.game_model.specs.Game.{no_edge}
-use Rattle.game_model.specs.Limits.{unit}
 use Rattle.fixed_bellman.specs.Sums.{edges_of}
 use Rattle.fixed_bellman.proofs.Edges.{length-edges_of, get_or-edges_of}
 use Rattle.fixed_bellman.proofs.Sums.{IsSumBetween-more, IsSumBetween-all, narrow-fits}

@@ -1,7 +1,6 @@
-use Rattle.std.proofs.Common.{◌≡◌, ◌≤◌, ◌<◌, ℕ, List, length, subst, sym, ap, arith}
+use Rattle.std.proofs.Common.{arith}
 use Rattle.game_model.specs.Game.{Distribution, IsDistribution, choice_of}
-use Rattle.fixed_bellman.specs.Sums.{IsSumBetween}
-use Rattle.fixed_bellman.proofs.Edges.{as_many, are-total, all-to, sum-of-edges}
+use Rattle.fixed_bellman.proofs.Edges.{are-total, all-to, sum-of-edges}
 use Rattle.fixed_bellman.proofs.sum.sum_of.Goals as goal
 
 pub narrow_sum-requires-clause-fits : goal.narrow_sum-requires-clause-fits

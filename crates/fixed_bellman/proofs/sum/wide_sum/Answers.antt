@@ -1,7 +1,7 @@
 use Rattle.std.proofs.Common.{◌≤◌, ◌<◌, ℕ, List, length, arith}
 use Rattle.game_model.specs.declared.game.Edge.{Edge}
 use Rattle.game_model.specs.Game.{choice_of}
-use Rattle.fixed_bellman.proofs.Sums.{IsSumBetween-more, IsSumBetween-all}
+use Rattle.fixed_bellman.proofs.Sums.{IsSumBetween-more}
 use Rattle.fixed_bellman.proofs.sum.wide_sum.Goals as goal
 
 pub loop-place-preserved : goal.loop-place-preserved
