@@ -7,8 +7,7 @@ use Rattle.rpatl_syntax.specs.Fault.{fault_at}
 use Rattle.rpatl_syntax.specs.Tokens.{Tokens, Finish, Broken, Then}
 use Rattle.rpatl_syntax.specs.Grammar.{is_word, follows, where_next, names, further_names, with_name, some_names, coalition}
 use Rattle.rpatl_syntax.specs.Rules.{with_commas, IsWord, IsCoalition}
-use Rattle.rpatl_syntax.proofs.Spans.{Found, chosen, bind_ok, follows_ok, same_bytes}
-use Rattle.rpatl_syntax.proofs.Derived.{same_read}
+use Rattle.rpatl_syntax.proofs.Spans.{same_read, Found, chosen, bind_ok, follows_ok, same_bytes}
 
 abbrev more_commas : List (List ℕ) → List (List ℕ)
 more_commas [] = []

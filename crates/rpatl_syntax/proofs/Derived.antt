@@ -1,28 +1,22 @@
--- What is read is derived by the rules of the grammar.
-use Rattle.std.proofs.Common.{◌≡◌, inl, inr, ℕ, zero, suc, List, [], ◌∷◌, ◌++◌, Bool, true, false, cond, Option, Some, None, Result, Ok, Err, refl, ap, sym, subst}
+-- What is read as a state formula is derived by the rules of the grammar.
+use Rattle.std.proofs.Common.{◌≡◌, ◌≤◌, inl, inr, ℕ, zero, suc, List, [], ◌∷◌, ◌++◌, Bool, true, false, cond, Option, Some, None, Ok, refl, ap, sym, subst, arith}
 use Rattle.std.specs.Prelude.{codes, ◌||◌}
-use Rattle.rpatl_syntax.specs.declared.fault.FormulaFault.{FormulaFault}
-use Rattle.rpatl_syntax.specs.declared.fault.FormulaCause.TheVariants.{NotYet, Unexpected}
+use Rattle.rpatl_syntax.specs.declared.fault.FormulaCause.TheVariants.{Unexpected}
+use Rattle.rpatl_syntax.specs.declared.levels.Level.{Level}
+use Rattle.rpatl_syntax.specs.declared.levels.Level.TheVariants.{Implication, Disjunction, Conjunction}
 use Rattle.rpatl_syntax.specs.Fault.{◌>>=◌}
-use Rattle.rpatl_syntax.specs.Formula.{State, True, False, Label, Not, And, Or, Implies}
-use Rattle.rpatl_syntax.specs.Limits.{most_nested}
+use Rattle.rpatl_syntax.specs.Formula.{State, True, False, Label, Not, And, Or, Implies, Path, Tree}
+use Rattle.rpatl_syntax.specs.Levels.{operand_of}
 use Rattle.rpatl_syntax.specs.Tokens.{Tokens, Then, Token, count_of}
-use Rattle.rpatl_syntax.specs.Grammar.{Reading, next, behind, is, is_quoted, unquoted, begins_formula, fails, plain, opens, unary, follows, where_next, further, joined, both, either, implied, negated, closed, nested, state}
-use Rattle.rpatl_syntax.specs.Rules.{between, IsState, IsEither, IsBoth, IsUnary, plain_state, implies, plain_either, or, plain_both, and, negation, brackets, everywhere, nowhere, label}
-use Rattle.rpatl_syntax.proofs.Spans.{Spans, Found, spans_append, chosen, bind_ok, next_ok, behind_ok, follows_ok, same_bytes}
+use Rattle.rpatl_syntax.specs.Grammar.{Reading, next, behind, is, is_quoted, unquoted, begins_formula, fails, plain, opens, coalition, inner_bound, tree_with, inner_of, inner, sides, bracketed, path, unary, follows, where_next, further, joined, both, either, implied, negated, closed, inside_of, nested}
+use Rattle.rpatl_syntax.specs.Rules.{between, IsCoalition, IsState, IsEither, IsBoth, IsUnary, IsPath, plain_state, implies, plain_either, or, plain_both, and, negation, brackets, everywhere, nowhere, label, inside}
+use Rattle.rpatl_syntax.proofs.Spans.{Spans, Found, same_read, read, spans_append, spans_count, chosen, bind_ok, next_ok, behind_ok, follows_ok, same_bytes}
+use Rattle.rpatl_syntax.proofs.CoalitionsFound.{coalition_found}
+use Rattle.rpatl_syntax.proofs.BoundsFound.{IsInnerBound, inner_bound_found}
+use Rattle.rpatl_syntax.proofs.PathsFound.{path_found}
 
-abbrev pub read : {X : Type 0} → X → Tokens → Result (X × Tokens) FormulaFault
-read x rest = Ok (x, rest)
-
-abbrev pub Of : {X : Type 0} → (List (List ℕ) → X → Type 0) → Tokens → Result (X × Tokens) FormulaFault → Type 0
-Of Spells ts (Ok r) = Found Spells ts r.0 r.1
-Of Spells ts (Err fault) = ⊥
-
--- one value and what stands behind it, as they are read
-pub same_read : {X : Type 0} (Spells : List (List ℕ) → X → Type 0) (ts : Tokens) (x y : X) (us rest : Tokens) → Found Spells ts x us → read x us ≡ read y rest → Found Spells ts y rest
-same_read {X} Spells ts x y us rest found e =
-    let P : Result (X × Tokens) FormulaFault → Type 0 = λ r. Of Spells ts r in
-    subst P e found
+fewer : (Spells : List (List ℕ) → State → Type 0) (ts : Tokens) (x : State) (rest : Tokens) → Found Spells ts x rest → count_of rest ≤ count_of ts
+fewer Spells ts x rest found = omega (arith, spans_count found.tokens ts rest found.spans)
 
 -- what further operands make of what was read
 further_found : (sign : List ℕ) (join : State → State → State) (operand : Reading State) (Whole Part : List (List ℕ) → State → Type 0)
@@ -70,23 +64,69 @@ plain_found room token x rest e =
       | inl t ↦ let P : List ℕ → Type 0 = λ s. IsUnary room (s ∷ []) True in alone room token True x rest (subst P (sym (same_bytes _ _ t.0)) (everywhere room)) t.1
       | inr t ↦ elim (chosen (is token (codes "false")) (Ok (False, token.after)) _ (Ok (x, rest)) t.1) [
         | inl f ↦ let P : List ℕ → Type 0 = λ s. IsUnary room (s ∷ []) False in alone room token False x rest (subst P (sym (same_bytes _ _ f.0)) (nowhere room)) f.1
-        | inr f ↦ elim (chosen (is_quoted token.spelling) (Ok (Label (unquoted token.spelling), token.after)) _ (Ok (x, rest)) f.1) [
+        | inr f ↦ elim (chosen (is_quoted token.spelling) (Ok (Label (unquoted token.spelling), token.after)) (fails token Unexpected) (Ok (x, rest)) f.1) [
           | inl q ↦ alone room token (Label (unquoted token.spelling)) x rest (label room token.spelling q.0) q.1
-          | inr q ↦ elim (chosen (begins_formula token) (fails token NotYet) (fails token Unexpected) (Ok (x, rest)) q.1) [ inl n ↦ cc n.1 | inr n ↦ cc n.1 ]
+          | inr q ↦ cc q.1
         ]
       ]
     ]
 
--- a prefix operator or what stands alone
-unary_found : (room : ℕ) → ((token : Token) (x : State) (rest : Tokens) → opens token ≡ true → nested room token ≡ Ok (x, rest) → Found (IsUnary room) (Then token.place token.spelling token.after) x rest)
-    → (ts : Tokens) (x : State) (rest : Tokens) → unary (nested room) ts ≡ Ok (x, rest) → Found (IsUnary room) ts x rest
-unary_found room inside ts x rest e =
-    let b = bind_ok (next ts) (λ token. cond (opens token) (nested room token) (plain token)) (x, rest) e in
-    let P : Tokens → Type 0 = λ t. Found (IsUnary room) t x rest in
-    subst P (sym (next_ok ts b.value b.first)) (elim (chosen (opens b.value) (nested room b.value) (plain b.value) (Ok (x, rest)) b.then_) [
-      | inl t ↦ inside b.value x rest t.0 t.1
-      | inr t ↦ plain_found room b.value x rest t.1
+-- a path between `[` and `]`, with one room less
+pub record IsSides (room : ℕ) (us : List (List ℕ)) (p : Path) : Type 0 where
+  pub less : ℕ
+  pub room_is : room ≡ suc less
+  pub sides : List (List ℕ)
+  pub whole : us ≡ codes "[" ∷ (sides ++ codes "]" ∷ [])
+  pub path : IsPath less sides p.kind p.left p.right
+
+-- what is read behind signs that open is derived
+pub record Finds (room : ℕ) : Type 0 where
+  pub state : (token : Token) (x : State) (rest : Tokens) → opens token ≡ true → (nested room).state token ≡ Ok (x, rest) → Found (IsUnary room) (Then token.place token.spelling token.after) x rest
+  pub path : (token : Token) (p : Path) (rest : Tokens) → is token (codes "[") ≡ true → (nested room).path token ≡ Ok (p, rest) → Found (IsSides room) (Then token.place token.spelling token.after) p rest
+
+pub sides_found : (room : ℕ) → Finds room → (ts : Tokens) (p : Path) (rest : Tokens) → sides (nested room) ts ≡ Ok (p, rest) → Found (IsSides room) ts p rest
+sides_found room finds ts p rest e =
+    let b = bind_ok (next ts) (λ token. cond (is token (codes "[")) ((nested room).path token) (fails token Unexpected)) (p, rest) e in
+    let P : Tokens → Type 0 = λ t. Found (IsSides room) t p rest in
+    subst P (sym (next_ok ts b.value b.first)) (elim (chosen (is b.value (codes "[")) ((nested room).path b.value) (fails b.value Unexpected) (Ok (p, rest)) b.then_) [
+      | inl t ↦ finds.path b.value p rest t.0 t.1
+      | inr t ↦ cc t.1
     ])
+
+-- the rule of a formula inside
+inside_rule : (room : ℕ) (team asks us : List (List ℕ)) (f : Tree) → IsCoalition team f.coalition → IsInnerBound asks f.bound → IsSides room us (record { kind = f.kind; left = f.left; right = f.right }) → IsUnary room (team ++ (asks ++ us)) (inner_of f)
+inside_rule room team asks us f names bound s =
+    let P : ℕ → Type 0 = λ r. IsUnary r (team ++ (asks ++ us)) (inner_of f) in
+    let Q : List (List ℕ) → Type 0 = λ vs. IsUnary (suc s.less) (team ++ (asks ++ vs)) (inner_of f) in
+    subst P (sym s.room_is) (subst Q (sym s.whole) (inside s.less team asks s.sides f names bound.0 bound.1 s.path))
+
+inner_found : (room : ℕ) → Finds room → (ts : Tokens) (x : State) (rest : Tokens) → inner (nested room) ts ≡ Ok (x, rest) → Found (IsUnary room) ts x rest
+inner_found room finds ts x rest e =
+    let a = bind_ok (coalition ts) (λ team. inner_bound team.1 >>= λ asks. sides (nested room) asks.1 >>= λ p. Ok (inner_of (tree_with team.0 asks.0 p.0), p.1)) (x, rest) e in
+    let b = bind_ok (inner_bound a.value.1) (λ asks. sides (nested room) asks.1 >>= λ p. Ok (inner_of (tree_with a.value.0 asks.0 p.0), p.1)) (x, rest) a.then_ in
+    let c = bind_ok (sides (nested room) b.value.1) (λ p. Ok (inner_of (tree_with a.value.0 b.value.0 p.0), p.1)) (x, rest) b.then_ in
+    let team = coalition_found ts a.value.0 a.value.1 a.first in
+    let asks = inner_bound_found a.value.1 b.value.0 b.value.1 b.first in
+    let both = sides_found room finds b.value.1 c.value.0 c.value.1 c.first in
+    same_read (IsUnary room) ts (inner_of (tree_with a.value.0 b.value.0 c.value.0)) x c.value.1 rest
+    (record {
+      tokens = team.tokens ++ (asks.tokens ++ both.tokens);
+      spans = spans_append team.tokens (asks.tokens ++ both.tokens) ts a.value.1 c.value.1 team.spans (spans_append asks.tokens both.tokens a.value.1 b.value.1 c.value.1 asks.spans both.spans);
+      spells = inside_rule room team.tokens asks.tokens both.tokens (tree_with a.value.0 b.value.0 c.value.0) team.spells asks.spells both.spells;
+    })
+    c.then_
+
+-- a prefix operator, a formula inside or what stands alone
+unary_found : (room : ℕ) → Finds room → (ts : Tokens) (x : State) (rest : Tokens) → unary (nested room) ts ≡ Ok (x, rest) → Found (IsUnary room) ts x rest
+unary_found room finds ts x rest e =
+    let b = bind_ok (next ts) (λ token. cond (opens token) ((nested room).state token) (cond (begins_formula token) (inner (nested room) ts) (plain token))) (x, rest) e in
+    elim (chosen (opens b.value) ((nested room).state b.value) _ (Ok (x, rest)) b.then_) [
+      | inl t ↦ let P : Tokens → Type 0 = λ t. Found (IsUnary room) t x rest in subst P (sym (next_ok ts b.value b.first)) (finds.state b.value x rest t.0 t.1)
+      | inr t ↦ elim (chosen (begins_formula b.value) (inner (nested room) ts) (plain b.value) (Ok (x, rest)) t.1) [
+        | inl f ↦ inner_found room finds ts x rest f.1
+        | inr f ↦ let P : Tokens → Type 0 = λ t. Found (IsUnary room) t x rest in subst P (sym (next_ok ts b.value b.first)) (plain_found room b.value x rest f.1)
+      ]
+    ]
 
 both_found : (room : ℕ) (operand : Reading State) → ((ts : Tokens) (x : State) (rest : Tokens) → operand ts ≡ Ok (x, rest) → Found (IsUnary room) ts x rest)
     → (ts : Tokens) (x : State) (rest : Tokens) → both operand ts ≡ Ok (x, rest) → Found (IsBoth room) ts x rest
@@ -134,15 +174,39 @@ other_sign : (a b : Bool) → (a || b) ≡ true → a ≡ false → b ≡ true
 other_sign true b e f = cc
 other_sign false b e f = e
 
-nested_found : (room : ℕ) (token : Token) (x : State) (rest : Tokens) → opens token ≡ true → nested room token ≡ Ok (x, rest) → Found (IsUnary room) (Then token.place token.spelling token.after) x rest
-unfolding nested
-nested_found zero token x rest o e = cc e
-nested_found (suc room) token x rest o e =
+state_opened : (room : ℕ) → Finds room → (token : Token) (x : State) (rest : Tokens) → opens token ≡ true → inside_of (nested room) token ≡ Ok (x, rest) → Found (IsUnary (suc room)) (Then token.place token.spelling token.after) x rest
+state_opened room finds token x rest o e =
     elim (chosen (is token (codes "!")) (negated (unary (nested room) token.after)) (closed (implied (unary (nested room)) token.after)) (Ok (x, rest)) e) [
-      | inl t ↦ negated_found room token x rest (unary_found room (nested_found room)) t.0 t.1
-      | inr t ↦ closed_found room token x rest (unary_found room (nested_found room)) (other_sign (is token (codes "!")) (is token (codes "(")) o t.0) t.1
+      | inl t ↦ negated_found room token x rest (unary_found room finds) t.0 t.1
+      | inr t ↦ closed_found room token x rest (unary_found room finds) (other_sign (is token (codes "!")) (is token (codes "(")) o t.0) t.1
     ]
 
--- a state formula that is read is derived
-pub state_found : (ts : Tokens) (x : State) (rest : Tokens) → state ts ≡ Ok (x, rest) → Found (IsState most_nested) ts x rest
-state_found ts x rest e = implied_found most_nested (unary (nested most_nested)) (unary_found most_nested (nested_found most_nested)) ts x rest e
+path_opened : (room : ℕ) → Finds room → (token : Token) (p : Path) (rest : Tokens) → is token (codes "[") ≡ true → bracketed (implied (unary (nested room))) token ≡ Ok (p, rest) → Found (IsSides (suc room)) (Then token.place token.spelling token.after) p rest
+path_opened room finds token p rest o e =
+    let state : Reading State = implied (unary (nested room)) in
+    let b = bind_ok (path state token.after) (λ q. behind (codes "]") q.1 >>= λ after. Ok (q.0, after)) (p, rest) e in
+    let c = bind_ok (behind (codes "]") b.value.1) (λ after. Ok (b.value.0, after)) (p, rest) b.then_ in
+    let at = behind_ok (codes "]") b.value.1 c.value c.first in
+    let inner = path_found room state (implied_found room (unary (nested room)) (unary_found room finds)) token.after b.value.0 b.value.1 b.first in
+    let close : Spans b.value.1 (codes "]" ∷ []) c.value = (at.0, c.value, at.1, refl) in
+    same_read (IsSides (suc room)) (Then token.place token.spelling token.after) b.value.0 p c.value rest
+    (record {
+      tokens = codes "[" ∷ (inner.tokens ++ codes "]" ∷ []);
+      spans = (token.place, token.after, ap (λ s. Then token.place s token.after) (same_bytes _ _ o), spans_append inner.tokens (codes "]" ∷ []) token.after b.value.1 c.value inner.spans close);
+      spells = record { less = room; room_is = refl; sides = inner.tokens; whole = refl; path = inner.spells };
+    })
+    c.then_
+
+pub finds : (room : ℕ) → Finds room
+unfolding nested
+finds zero = record { state = λ token x rest o e. cc e; path = λ token p rest o e. cc e }
+finds (suc room) = record {
+  state = λ token x rest o e. state_opened room (finds room) token x rest o e;
+  path = λ token p rest o e. path_opened room (finds room) token p rest o e;
+}
+
+-- what an operand leaves has no more tokens
+pub operand_shortens : (level : Level) (room : ℕ) (ts : Tokens) (x : State) (rest : Tokens) → operand_of level (unary (nested room)) ts ≡ Ok (x, rest) → count_of rest ≤ count_of ts
+operand_shortens Implication room ts x rest e = fewer (IsEither room) ts x rest (either_found room (unary (nested room)) (unary_found room (finds room)) ts x rest e)
+operand_shortens Disjunction room ts x rest e = fewer (IsBoth room) ts x rest (both_found room (unary (nested room)) (unary_found room (finds room)) ts x rest e)
+operand_shortens Conjunction room ts x rest e = fewer (IsUnary room) ts x rest (unary_found room (finds room) ts x rest e)

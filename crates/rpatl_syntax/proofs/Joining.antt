@@ -8,7 +8,7 @@ use Rattle.rpatl_syntax.specs.declared.fault.FormulaCause.TheVariants.{TooDeep}
 use Rattle.rpatl_syntax.specs.Fault.{fault_at, ◌>>=◌}
 use Rattle.rpatl_syntax.specs.Formula.{State}
 use Rattle.rpatl_syntax.specs.Tokens.{Tokens, Finish, Broken, Then, Token, count_of}
-use Rattle.rpatl_syntax.specs.Grammar.{Reading, follows, further, joined, where_next, nested, inside_of}
+use Rattle.rpatl_syntax.specs.Grammar.{Reading, follows, further, joined, where_next, implied, unary, nested, inside_of, bracketed}
 
 -- how many calls of the parser may be open below a level
 abbrev pub rank_of : Level → ℕ
@@ -72,13 +72,23 @@ ended sign join operand left ts said at e = by_most at.most at.is
     by_most (suc most) is = sym is ∙ ap (λ o. where_next o (Ok (left, ts)) (λ a. operand a >>= λ x. further sign join operand most (join left x.0) x.1)) e
 
 -- where there is room
-pub nested_within : (room : ℕ) (token : Token) → 0 < room → nested room token ≡ inside_of (nested (room - 1)) token
+pub nested_within : (room : ℕ) (token : Token) → 0 < room → (nested room).state token ≡ inside_of (nested (room - 1)) token
 unfolding nested
 nested_within zero token h = absurd (omega (arith, h))
 nested_within (suc room) token h = let e : suc room - 1 ≡ room = omega arith in ap (λ n. inside_of (nested n) token) (sym e)
 
+pub path_within : (room : ℕ) (token : Token) → 0 < room → (nested room).path token ≡ bracketed (implied (unary (nested (room - 1)))) token
+unfolding nested
+path_within zero token h = absurd (omega (arith, h))
+path_within (suc room) token h = let e : suc room - 1 ≡ room = omega arith in ap (λ n. bracketed (implied (unary (nested n))) token) (sym e)
+
 -- where there is none
-pub nested_without : (room : ℕ) (token : Token) → room ≡ 0 → nested room token ≡ Err (fault_at token.place TooDeep)
+pub nested_without : (room : ℕ) (token : Token) → room ≡ 0 → (nested room).state token ≡ Err (fault_at token.place TooDeep)
 unfolding nested
 nested_without zero token h = refl
 nested_without (suc room) token h = absurd (omega (arith, h))
+
+pub path_without : (room : ℕ) (token : Token) → room ≡ 0 → (nested room).path token ≡ Err (fault_at token.place TooDeep)
+unfolding nested
+path_without zero token h = refl
+path_without (suc room) token h = absurd (omega (arith, h))

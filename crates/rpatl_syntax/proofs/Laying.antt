@@ -1,22 +1,19 @@
--- The tokens of printed text.
-use Rattle.std.proofs.Common.{◌≡◌, ◌∙◌, ◌+◌, ℕ, List, [], ◌∷◌, ◌++◌, length, Bool, true, false, cond, refl, ap, sym, subst, arith, nat_lt, append_assoc}
+-- The tokens of printed signs, names and numbers.
+use Rattle.std.proofs.Common.{◌≡◌, ◌∙◌, ◌+◌, ℕ, List, [], ◌∷◌, ◌++◌, length, Bool, true, false, cond, refl, ap, sym, subst, arith, append_assoc}
 use Rattle.std.specs.Prelude.{◌==◌, ◌||◌, ◌&&◌, codes}
 use Rattle.std.specs.List.{list_all, AllByRecursion}
 use Rattle.std.proofs.lemmas.List.{length-append}
 use Rattle.std.proofs.lemmas.Bool.Decides.{nat_tests}
 use Rattle.text_lines.specs.Text.{is_digit}
 use Rattle.rpatl_syntax.specs.declared.front.Front.TheVariants.{Spelling}
-use Rattle.rpatl_syntax.specs.Formula.{State, True, False, Label, Not, And, Or, Implies}
-use Rattle.rpatl_syntax.specs.Spelling.{strength_of, in_place, state_spelling, names_spelling}
-use Rattle.rpatl_syntax.specs.Tokens.{tokens_from, front_from, in_word, is_letter, in_number, word_length, number_length, name_from, is_long_sign}
-use Rattle.rpatl_syntax.specs.TokenRules.{IsName}
+use Rattle.rpatl_syntax.specs.Spelling.{names_spelling}
+use Rattle.rpatl_syntax.specs.Tokens.{tokens_from, front_from, in_word, is_letter, in_number, word_length, number_length, is_long_sign}
 use Rattle.rpatl_syntax.specs.Grammar.{is_word}
-use Rattle.rpatl_syntax.specs.Rules.{between, with_commas}
-use Rattle.rpatl_syntax.specs.Spellable.{IsWholeWord, HasNames}
+use Rattle.rpatl_syntax.specs.Rules.{with_commas}
+use Rattle.rpatl_syntax.specs.Spellable.{IsWholeWord}
 use Rattle.rpatl_syntax.proofs.Spans.{Spans, spans_append}
-use Rattle.rpatl_syntax.proofs.Fronts.{parts_true, front_word, front_number, name_reads}
+use Rattle.rpatl_syntax.proofs.Fronts.{parts_true, front_word, front_number}
 use Rattle.rpatl_syntax.proofs.Cutting.{token_read}
-use Rattle.rpatl_syntax.proofs.Printing.{tokens_in, state_tokens}
 
 -- wherever the text stands before rest, these are its tokens
 abbrev pub Lays : List ℕ → List (List ℕ) → List ℕ → Type 0
@@ -43,17 +40,21 @@ Ends rest = word_length rest ≡ 0
 
 -- signs
 
-lays_open : (rest : List ℕ) → Lays (codes "(") (codes "(" ∷ []) rest
+pub lays_open : (rest : List ℕ) → Lays (codes "(") (codes "(" ∷ []) rest
 lays_open [] = lays_token 40 [] [] refl
 lays_open (c ∷ rest) = lays_token 40 [] (c ∷ rest) refl
 
-lays_close : (rest : List ℕ) → Lays (codes ")") (codes ")" ∷ []) rest
+pub lays_close : (rest : List ℕ) → Lays (codes ")") (codes ")" ∷ []) rest
 lays_close [] = lays_token 41 [] [] refl
 lays_close (c ∷ rest) = lays_token 41 [] (c ∷ rest) refl
 
-lays_not : (rest : List ℕ) → Lays (codes "!") (codes "!" ∷ []) rest
+pub lays_not : (rest : List ℕ) → Lays (codes "!") (codes "!" ∷ []) rest
 lays_not [] = lays_token 33 [] [] refl
 lays_not (c ∷ rest) = lays_token 33 [] (c ∷ rest) refl
+
+pub lays_bracket : (rest : List ℕ) → Lays (codes "]") (codes "]" ∷ []) rest
+lays_bracket [] = lays_token 93 [] [] refl
+lays_bracket (c ∷ rest) = lays_token 93 [] (c ∷ rest) refl
 
 pub lays_comma : (rest : List ℕ) → Lays (codes ",") (codes "," ∷ []) rest
 lays_comma [] = lays_token 44 [] [] refl
@@ -67,55 +68,6 @@ pub lays_spaced : (sign rest : List ℕ) → Lays sign (sign ∷ []) (32 ∷ res
 lays_spaced sign rest lays =
     lays_append (32 ∷ []) (sign ++ 32 ∷ []) [] (sign ∷ []) rest (lays_blank ((sign ++ 32 ∷ []) ++ rest))
     (lays_append sign (32 ∷ []) (sign ∷ []) [] rest lays (lays_blank rest))
-
--- state formulas
-
-lays_label : (name rest : List ℕ) → IsName name → Lays (34 ∷ (name ++ 34 ∷ [])) ((34 ∷ (name ++ 34 ∷ [])) ∷ []) rest
-lays_label name rest is =
-    let size : 0 + length name + 2 ≡ length (name ++ 34 ∷ []) + 1 = omega (arith, length-append name (34 ∷ [])) in
-    lays_token 34 (name ++ 34 ∷ []) rest
-    (ap (λ t. name_from 0 t) (append_assoc name (34 ∷ []) rest) ∙ name_reads name 0 rest is.bytes (omega (arith, is.short)) (omega (arith, is.some)) ∙ ap (λ k. Spelling k) size)
-
-lays_true : (rest : List ℕ) → Ends rest → Lays (codes "true") (codes "true" ∷ []) rest
-lays_true rest e = lays_token 116 (114 ∷ 117 ∷ 101 ∷ []) rest (ap (λ n. Spelling (n + 1 + 1 + 1 + 1)) e)
-
-lays_false : (rest : List ℕ) → Ends rest → Lays (codes "false") (codes "false" ∷ []) rest
-lays_false rest e = lays_token 102 (97 ∷ 108 ∷ 115 ∷ 101 ∷ []) rest (ap (λ n. Spelling (n + 1 + 1 + 1 + 1 + 1)) e)
-
--- a text in brackets or without
-lays_in : (b : Bool) (text : List ℕ) (us : List (List ℕ)) → ((rest : List ℕ) → Ends rest → Lays text us rest)
-    → (rest : List ℕ) → Ends rest → Lays (cond b (codes "(" ++ (text ++ codes ")")) text) (cond b (codes "(" ∷ (us ++ codes ")" ∷ [])) us) rest
-lays_in false text us lays rest e = lays rest e
-lays_in true text us lays rest e =
-    lays_append (codes "(") (text ++ codes ")") (codes "(" ∷ []) (us ++ codes ")" ∷ []) rest (lays_open ((text ++ codes ")") ++ rest))
-    (lays_append text (codes ")") us (codes ")" ∷ []) rest (lays (codes ")" ++ rest) refl) (lays_close rest))
-
-lays_place : (least : ℕ) (x : State) → ((rest : List ℕ) → Ends rest → Lays (state_spelling x) (state_tokens x) rest)
-    → (rest : List ℕ) → Ends rest → Lays (in_place least x (state_spelling x)) (tokens_in least x (state_tokens x)) rest
-lays_place least x lays rest e = lays_in (nat_lt (strength_of x) least) (state_spelling x) (state_tokens x) lays rest e
-
--- two operands with a sign between them
-pub lays_both : (left right sign : List ℕ) (us vs : List (List ℕ)) (rest : List ℕ) → Lays left us ((spaced sign ++ right) ++ rest) → ((more : List ℕ) → Lays sign (sign ∷ []) (32 ∷ more)) → Lays right vs rest
-    → Lays (left ++ (spaced sign ++ right)) (between us sign vs) rest
-lays_both left right sign us vs rest a s b =
-    lays_append left (spaced sign ++ right) us (sign ∷ vs) rest a (lays_append (spaced sign) right (sign ∷ []) vs rest (lays_spaced sign (right ++ rest) (s (right ++ rest))) b)
-
-pub lays_state : (x : State) → HasNames x → (rest : List ℕ) → Ends rest → Lays (state_spelling x) (state_tokens x) rest
-lays_state True names rest e = lays_true rest e
-lays_state False names rest e = lays_false rest e
-lays_state (Label name) names rest e = lays_label name rest names
-lays_state (Not x) names rest e =
-    lays_append (codes "!") (in_place 3 x (state_spelling x)) (codes "!" ∷ []) (tokens_in 3 x (state_tokens x)) rest (lays_not (in_place 3 x (state_spelling x) ++ rest))
-    (lays_place 3 x (lays_state x names) rest e)
-lays_state (And x y) names rest e =
-    lays_both (in_place 2 x (state_spelling x)) (in_place 3 y (state_spelling y)) (codes "&") _ _ rest
-    (lays_place 2 x (lays_state x names.0) _ refl) (λ more. lays_token 38 [] (32 ∷ more) refl) (lays_place 3 y (lays_state y names.1) rest e)
-lays_state (Or x y) names rest e =
-    lays_both (in_place 1 x (state_spelling x)) (in_place 2 y (state_spelling y)) (codes "|") _ _ rest
-    (lays_place 1 x (lays_state x names.0) _ refl) (λ more. lays_token 124 [] (32 ∷ more) refl) (lays_place 2 y (lays_state y names.1) rest e)
-lays_state (Implies x y) names rest e =
-    lays_both (in_place 0 x (state_spelling x)) (in_place 1 y (state_spelling y)) (codes "=>") _ _ rest
-    (lays_place 0 x (lays_state x names.0) _ refl) (λ more. lays_token 61 (62 ∷ []) (32 ∷ more) refl) (lays_place 1 y (lays_state y names.1) rest e)
 
 -- names
 

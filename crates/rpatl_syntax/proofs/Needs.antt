@@ -1,25 +1,22 @@
 -- How deep a printed state formula nests, and that what was read nests no deeper.
-use Rattle.std.proofs.Common.{◌≡◌, ◌∙◌, ◌+◌, ◌-◌, ◌≤◌, ℕ, List, [], ◌∷◌, ◌++◌, length, take, Bool, true, false, cond, refl, ap, sym, subst, arith, nat_lt}
-use Rattle.std.specs.Prelude.{◌||◌, codes}
-use Rattle.std.specs.List.{list_all, AllByRecursion}
+use Rattle.std.proofs.Common.{◌≡◌, ◌+◌, ◌≤◌, ℕ, suc, List, [], ◌∷◌, ◌++◌, Bool, true, false, cond, refl, arith, nat_lt}
+use Rattle.std.specs.Prelude.{codes, max}
+use Rattle.std.specs.List.{AllByRecursion}
 use Rattle.std.proofs.Math.Nat.{max-le}
-use Rattle.std.proofs.Math.Seq.{take-append_seam}
-use Rattle.std.proofs.lemmas.List.{length-append}
 use Rattle.std.proofs.lemmas.Bool.Decides.{nat_tests}
-use Rattle.text_lines.specs.Text.{is_digit}
-use Rattle.rpatl_syntax.specs.Formula.{State}
+use Rattle.rpatl_syntax.specs.declared.formula.PathKind.{PathKind}
+use Rattle.rpatl_syntax.specs.Formula.{State, True}
+use Rattle.rpatl_syntax.specs.Limits.{most_nested}
 use Rattle.rpatl_syntax.specs.Spelling.{strength_of}
-use Rattle.rpatl_syntax.specs.Tokens.{in_word}
-use Rattle.rpatl_syntax.specs.TokenRules.{IsName, IsSpelling, word, number, quoted_name, long_sign, short_sign}
-use Rattle.rpatl_syntax.specs.Grammar.{is_word, is_quoted, unquoted}
-use Rattle.rpatl_syntax.specs.Rules.{IsState, IsEither, IsBoth, IsUnary, plain_state, implies, plain_either, or, plain_both, and, negation, brackets, everywhere, nowhere, label}
-use Rattle.rpatl_syntax.specs.Spellable.{IsWholeWord, HasNames, need_in, need}
-use Rattle.rpatl_syntax.proofs.Fronts.{both_true, word_no_quote, digit_no_quote, digit_begins_no_word, long_is_other, short_is_other}
+use Rattle.rpatl_syntax.specs.TokenRules.{IsSpelling}
+use Rattle.rpatl_syntax.specs.Rules.{IsState, IsEither, IsBoth, IsUnary, IsPath, plain_state, implies, plain_either, or, plain_both, and, negation, brackets, everywhere, nowhere, label, inside, reach, reach_within, until, until_within, next, always}
+use Rattle.rpatl_syntax.specs.Spellable.{HasParts, HasKind, HasHead, IsSide, need_in, need}
+use Rattle.rpatl_syntax.proofs.Kept.{all_left, all_right, label_kept, coalition_kept, threshold_kept}
 
--- in such a place so many open `(` and `!` suffice
+-- in such a place so many open `(`, `!` and `[` suffice
 pub record Suits (least room : ℕ) (x : State) : Type 0 where
   pub nests : need_in least x (need x) ≤ room
-  pub names : HasNames x
+  pub parts : HasParts x
 
 test_below : (b : Bool) (n : ℕ) → n ≤ cond b (n + 1) n
 test_below true n = omega arith
@@ -48,72 +45,80 @@ need-rises : (less least : ℕ) (x : State) (n : ℕ) → less ≤ least → nee
 need-rises less least x n h = tests_rise (nat_lt (strength_of x) less) (nat_lt (strength_of x) least) n (lt_rises (strength_of x) less least h)
 
 looser : (less least room : ℕ) (x : State) → less ≤ least → Suits least room x → Suits less room x
-looser less least room x h s = record { nests = omega (arith, need-rises less least x (need x) h, s.nests); names = s.names }
+looser less least room x h s = record { nests = omega (arith, need-rises less least x (need x) h, s.nests); parts = s.parts }
 
-pub all_left : (ts us : List (List ℕ)) → AllByRecursion IsSpelling (ts ++ us) → AllByRecursion IsSpelling ts
-all_left [] us a = tt
-all_left (t ∷ ts) us a = (a.0, all_left ts us a.1)
+all_states : (room : ℕ) → Suits 0 room True
+all_states room = record { nests = omega arith; parts = tt }
 
-pub all_right : (ts us : List (List ℕ)) → AllByRecursion IsSpelling (ts ++ us) → AllByRecursion IsSpelling us
-all_right [] us a = a
-all_right (t ∷ ts) us a = all_right ts us a.1
+-- a path: its kind, and both sides
+pub record PathSuits (room : ℕ) (kind : PathKind) (x y : State) : Type 0 where
+  pub kind_is : HasKind kind x
+  pub left : Suits 0 room x
+  pub right : Suits 0 room y
 
-pub unquoted-quoted : (name : List ℕ) → unquoted (34 ∷ (name ++ 34 ∷ [])) ≡ name
-unquoted-quoted name =
-    let size : length (34 ∷ (name ++ 34 ∷ [])) - 2 ≡ length name = omega (arith, length-append name (34 ∷ [])) in
-    ap (λ n. take n (name ++ 34 ∷ [])) size ∙ take-append_seam name (34 ∷ [])
-
--- a spelling that begins with `"` is that of a quoted name
-quoted_kept : (token : List ℕ) → IsSpelling token → is_quoted token ≡ true → (name : List ℕ) × (token ≡ 34 ∷ (name ++ 34 ∷ [])) × IsName name
-quoted_kept _ (word b bytes w a) q = cc (q, word_no_quote b w)
-quoted_kept _ (number b bytes d a) q = cc (q, digit_no_quote b d)
-quoted_kept _ (quoted_name name is) q = (name, refl, is)
-quoted_kept _ (long_sign b c e) q = cc (q, (long_is_other b c [] e).quote)
-quoted_kept _ (short_sign b e) q = cc (q, (short_is_other b [] e).quote)
-
-label_kept : (token : List ℕ) → is_quoted token ≡ true → IsSpelling token → IsName (unquoted token)
-label_kept token q s =
-    let n = quoted_kept token s q in
-    let P : List ℕ → Type 0 = λ t. IsName t in
-    subst P (sym (ap unquoted n.1 ∙ unquoted-quoted n.0)) n.2
-
--- a spelling that begins with a letter or `_` is that of a word
-pub word_kept : (token : List ℕ) → IsSpelling token → is_word token ≡ true → IsWholeWord token
-word_kept _ (word b bytes w a) e = record { begins = e; bytes = both_true (in_word b) (list_all in_word bytes) (ap (λ t. t || is_digit b) w) a }
-word_kept _ (number b bytes d a) e = cc (e, digit_begins_no_word b d)
-word_kept _ (quoted_name name is) e = cc e
-word_kept _ (long_sign b c f) e = cc (e, (long_is_other b c [] f).word)
-word_kept _ (short_sign b f) e = cc (e, (short_is_other b [] f).word)
+inner_needs : (room : ℕ) (x y : State) → need_in 0 x (need x) ≤ room → need_in 0 y (need y) ≤ room → max (need x) (need y) + 1 ≤ suc room
+inner_needs room x y a b =
+    let left : need x ≤ room = omega (arith, need-below 0 x (need x), a) in
+    let right : need y ≤ room = omega (arith, need-below 0 y (need y), b) in
+    omega (arith, max-le left right)
 
 mutual
   unary_suits : (room : ℕ) (us : List (List ℕ)) (x : State) → IsUnary room us x → AllByRecursion IsSpelling us → Suits 3 room x
   unary_suits _ _ _ (negation room us x d) a =
       let inner = unary_suits room us x d a.1 in
-      record { nests = omega (arith, inner.nests); names = inner.names }
+      record { nests = omega (arith, inner.nests); parts = inner.parts }
   unary_suits _ _ _ (brackets room us x d) a =
       let inner = state_suits room us x d (all_left us (codes ")" ∷ []) a.1) in
-      record { nests = omega (arith, need-below 0 x (need x), need-above 3 x (need x), inner.nests); names = inner.names }
-  unary_suits _ _ _ (everywhere room) a = record { nests = omega arith; names = tt }
-  unary_suits _ _ _ (nowhere room) a = record { nests = omega arith; names = tt }
-  unary_suits _ _ _ (label room token q) a = record { nests = omega arith; names = label_kept token q a.0 }
+      record { nests = omega (arith, need-below 0 x (need x), need-above 3 x (need x), inner.nests); parts = inner.parts }
+  unary_suits _ _ _ (everywhere room) a = record { nests = omega arith; parts = tt }
+  unary_suits _ _ _ (nowhere room) a = record { nests = omega arith; parts = tt }
+  unary_suits _ _ _ (label room token q) a = record { nests = omega arith; parts = label_kept token q a.0 }
+  unary_suits _ _ _ (inside room team asks us f n b c d) a =
+      let back = codes "[" ∷ (us ++ codes "]" ∷ []) in
+      let behind_team = all_right team (asks ++ back) a in
+      let behind_bound = all_right asks back behind_team in
+      let sides = path_suits room us f.kind f.left f.right d (all_left us (codes "]" ∷ []) behind_bound.1) in
+      let head : HasHead f.coalition f.bound f.kind f.left = record { words = coalition_kept team f.coalition n (all_left team (asks ++ back) a); threshold = threshold_kept asks f.bound b c; kind_is = sides.kind_is } in
+      record { nests = inner_needs room f.left f.right sides.left.nests sides.right.nests; parts = (head, sides.left.parts, sides.right.parts) }
 
   both_suits : (room : ℕ) (us : List (List ℕ)) (x : State) → IsBoth room us x → AllByRecursion IsSpelling us → Suits 2 room x
   both_suits _ _ _ (plain_both room us x d) a = looser 2 3 room x (omega arith) (unary_suits room us x d a)
   both_suits _ _ _ (and room us vs x y d e) a =
       let left = both_suits room us x d (all_left us (codes "&" ∷ vs) a) in
       let right = unary_suits room vs y e (let b = all_right us (codes "&" ∷ vs) a in b.1) in
-      record { nests = max-le left.nests right.nests; names = (left.names, right.names) }
+      record { nests = max-le left.nests right.nests; parts = (left.parts, right.parts) }
 
   either_suits : (room : ℕ) (us : List (List ℕ)) (x : State) → IsEither room us x → AllByRecursion IsSpelling us → Suits 1 room x
   either_suits _ _ _ (plain_either room us x d) a = looser 1 2 room x (omega arith) (both_suits room us x d a)
   either_suits _ _ _ (or room us vs x y d e) a =
       let left = either_suits room us x d (all_left us (codes "|" ∷ vs) a) in
       let right = both_suits room vs y e (let b = all_right us (codes "|" ∷ vs) a in b.1) in
-      record { nests = max-le left.nests right.nests; names = (left.names, right.names) }
+      record { nests = max-le left.nests right.nests; parts = (left.parts, right.parts) }
 
   pub state_suits : (room : ℕ) (us : List (List ℕ)) (x : State) → IsState room us x → AllByRecursion IsSpelling us → Suits 0 room x
   state_suits _ _ _ (plain_state room us x d) a = looser 0 1 room x (omega arith) (either_suits room us x d a)
   state_suits _ _ _ (implies room us vs x y d e) a =
       let left = state_suits room us x d (all_left us (codes "=>" ∷ vs) a) in
       let right = either_suits room vs y e (let b = all_right us (codes "=>" ∷ vs) a in b.1) in
-      record { nests = max-le left.nests right.nests; names = (left.names, right.names) }
+      record { nests = max-le left.nests right.nests; parts = (left.parts, right.parts) }
+
+  pub path_suits : (room : ℕ) (us : List (List ℕ)) (kind : PathKind) (x y : State) → IsPath room us kind x y → AllByRecursion IsSpelling us → PathSuits room kind x y
+  path_suits _ _ _ _ _ (reach room us y d) a = record { kind_is = tt; left = all_states room; right = state_suits room us y d a.1 }
+  path_suits _ _ _ _ _ (reach_within room token us k y n d) a =
+      let b = a.1 in
+      let c = b.1 in
+      record { kind_is = n.small; left = all_states room; right = state_suits room us y d c.1 }
+  path_suits _ _ _ _ _ (until room us vs x y d e) a =
+      let b = all_right us (codes "U" ∷ vs) a in
+      record { kind_is = tt; left = state_suits room us x d (all_left us (codes "U" ∷ vs) a); right = state_suits room vs y e b.1 }
+  path_suits _ _ _ _ _ (until_within room us token vs k x y d n e) a =
+      let b = all_right us (codes "U" ∷ codes "<=" ∷ token ∷ vs) a in
+      let c = b.1 in
+      let g = c.1 in
+      record { kind_is = n.small; left = state_suits room us x d (all_left us (codes "U" ∷ codes "<=" ∷ token ∷ vs) a); right = state_suits room vs y e g.1 }
+  path_suits _ _ _ _ _ (next room us y d) a = record { kind_is = refl; left = all_states room; right = state_suits room us y d a.1 }
+  path_suits _ _ _ _ _ (always room us y d) a = record { kind_is = refl; left = all_states room; right = state_suits room us y d a.1 }
+
+-- a side of a path
+pub side : (x : State) → Suits 0 most_nested x → IsSide x
+side x s = record { parts = s.parts; nests = omega (arith, need-below 0 x (need x), s.nests) }

@@ -7,17 +7,20 @@ use Rattle.rpatl_syntax.specs.declared.formula.PathKind.{PathKind}
 use Rattle.rpatl_syntax.specs.declared.formula.PathKind.TheVariants.{Until, Within, Next, Always}
 use Rattle.rpatl_syntax.specs.Fault.{◌>>=◌}
 use Rattle.rpatl_syntax.specs.Formula.{State, True, Path}
-use Rattle.rpatl_syntax.specs.Limits.{most_nested, most_steps}
+use Rattle.rpatl_syntax.specs.Limits.{most_steps}
 use Rattle.rpatl_syntax.specs.Tokens.{Tokens, Then, Token}
-use Rattle.rpatl_syntax.specs.Grammar.{next, behind, is, is_number, fails, follows, where_next, state, steps_of, steps, within, right_side, reached, path}
+use Rattle.rpatl_syntax.specs.Grammar.{Reading, next, behind, is, is_number, fails, follows, where_next, steps_of, steps, within, right_side, reached, path}
 use Rattle.rpatl_syntax.specs.Rules.{between, IsState, IsSteps, IsPath, reach, reach_within, until, until_within, next as next_path, always}
-use Rattle.rpatl_syntax.proofs.Spans.{Spans, Found, spans_append, chosen, bind_ok, next_ok, behind_ok, follows_ok, same_bytes}
-use Rattle.rpatl_syntax.proofs.Derived.{same_read, state_found}
+use Rattle.rpatl_syntax.proofs.Spans.{Spans, Found, same_read, spans_append, chosen, bind_ok, next_ok, behind_ok, follows_ok, same_bytes}
 use Rattle.rpatl_syntax.proofs.Orders.{le_from}
 use Rattle.rpatl_syntax.proofs.PathsAgain.{path_of}
 
-abbrev pub Spells : List (List ℕ) → Path → Type 0
-Spells us p = IsPath us p.kind p.left p.right
+abbrev pub Spells : ℕ → List (List ℕ) → Path → Type 0
+Spells room us p = IsPath room us p.kind p.left p.right
+
+-- what is read as a state formula is derived
+abbrev pub FindsStates : ℕ → Reading State → Type 0
+FindsStates room state = (ts : Tokens) (x : State) (rest : Tokens) → state ts ≡ Ok (x, rest) → Found (IsState room) ts x rest
 
 -- 1. Deadlines.
 
@@ -61,34 +64,34 @@ within_found ts kind rest e =
 
 -- 2. The right side.
 
-right_found : (kind : PathKind) (x : State) (Whole : List (List ℕ) → Path → Type 0) → ((us : List (List ℕ)) (y : State) → IsState most_nested us y → Whole us (path_of kind x y))
-    → (ts : Tokens) (p : Path) (rest : Tokens) → right_side kind x ts ≡ Ok (p, rest) → Found Whole ts p rest
-right_found kind x Whole spells ts p rest e =
+right_found : (room : ℕ) (state : Reading State) → FindsStates room state → (kind : PathKind) (x : State) (Whole : List (List ℕ) → Path → Type 0) → ((us : List (List ℕ)) (y : State) → IsState room us y → Whole us (path_of kind x y))
+    → (ts : Tokens) (p : Path) (rest : Tokens) → right_side state kind x ts ≡ Ok (p, rest) → Found Whole ts p rest
+right_found room state found kind x Whole spells ts p rest e =
     let b = bind_ok (state ts) (λ right. Ok (path_of kind x right.0, right.1)) (p, rest) e in
-    let right = state_found ts b.value.0 b.value.1 b.first in
+    let right = found ts b.value.0 b.value.1 b.first in
     same_read Whole ts (path_of kind x b.value.0) p b.value.1 rest (record { tokens = right.tokens; spans = right.spans; spells = spells right.tokens b.value.0 right.spells }) b.then_
 
 -- what stands behind `F` or `U` makes such a path
-record Reaches (x : State) (Whole : List (List ℕ) → Path → Type 0) : Type 0 where
-  pub open_ : (us : List (List ℕ)) (y : State) → IsState most_nested us y → Whole us (path_of Until x y)
-  pub bounded : (token : List ℕ) (us : List (List ℕ)) (k : ℕ) (y : State) → IsSteps token k → IsState most_nested us y → Whole (codes "<=" ∷ token ∷ us) (path_of (Within k) x y)
+record Reaches (room : ℕ) (x : State) (Whole : List (List ℕ) → Path → Type 0) : Type 0 where
+  pub open_ : (us : List (List ℕ)) (y : State) → IsState room us y → Whole us (path_of Until x y)
+  pub bounded : (token : List ℕ) (us : List (List ℕ)) (k : ℕ) (y : State) → IsSteps token k → IsState room us y → Whole (codes "<=" ∷ token ∷ us) (path_of (Within k) x y)
 
-reached_found : (x : State) (Whole : List (List ℕ) → Path → Type 0) → Reaches x Whole → (ts : Tokens) (p : Path) (rest : Tokens) → reached x ts ≡ Ok (p, rest) → Found Whole ts p rest
-reached_found x Whole r ts p rest e = by_sign (follows (codes "<=") ts) refl e
+reached_found : (room : ℕ) (state : Reading State) → FindsStates room state → (x : State) (Whole : List (List ℕ) → Path → Type 0) → Reaches room x Whole → (ts : Tokens) (p : Path) (rest : Tokens) → reached state x ts ≡ Ok (p, rest) → Found Whole ts p rest
+reached_found room state found x Whole r ts p rest e = by_sign (follows (codes "<=") ts) refl e
   where
-    by_sign : (o : Option Tokens) → follows (codes "<=") ts ≡ o → (where_next o (Ok (Until, ts)) within >>= λ kind. right_side kind.0 x kind.1) ≡ Ok (p, rest) → Found Whole ts p rest
-    by_sign None none e = right_found Until x Whole r.open_ ts p rest e
+    by_sign : (o : Option Tokens) → follows (codes "<=") ts ≡ o → (where_next o (Ok (Until, ts)) within >>= λ kind. right_side state kind.0 x kind.1) ≡ Ok (p, rest) → Found Whole ts p rest
+    by_sign None none e = right_found room state found Until x Whole r.open_ ts p rest e
     by_sign (Some after) some e =
         let at = follows_ok (codes "<=") ts after some in
-        let b = bind_ok (within after) (λ kind. right_side kind.0 x kind.1) (p, rest) e in
+        let b = bind_ok (within after) (λ kind. right_side state kind.0 x kind.1) (p, rest) e in
         let w = within_found after b.value.0 b.value.1 b.first in
         let n = w.spells in
         let Behind : List (List ℕ) → Path → Type 0 = λ us q. Whole (codes "<=" ∷ (w.tokens ++ us)) q in
-        let P : List (List ℕ) → PathKind → Type 0 = λ vs kind. (us : List (List ℕ)) (y : State) → IsState most_nested us y → Whole (codes "<=" ∷ (vs ++ us)) (path_of kind x y) in
+        let P : List (List ℕ) → PathKind → Type 0 = λ vs kind. (us : List (List ℕ)) (y : State) → IsState room us y → Whole (codes "<=" ∷ (vs ++ us)) (path_of kind x y) in
         let Q : PathKind → Type 0 = λ kind. P w.tokens kind in
         let R : List (List ℕ) → Type 0 = λ vs. P vs (Within n.steps) in
         let spells : Q b.value.0 = subst Q (sym n.within) (subst R (sym n.whole) (λ us y d. r.bounded n.token us n.steps y n.is d)) in
-        let inner = right_found b.value.0 x Behind spells b.value.1 p rest b.then_ in
+        let inner = right_found room state found b.value.0 x Behind spells b.value.1 p rest b.then_ in
         record {
           tokens = codes "<=" ∷ (w.tokens ++ inner.tokens);
           spans = (at.0, after, at.1, spans_append w.tokens inner.tokens after b.value.1 rest w.spans inner.spans);
@@ -98,25 +101,25 @@ reached_found x Whole r ts p rest e = by_sign (follows (codes "<=") ts) refl e
 -- 3. Paths.
 
 -- a word that begins a path, and what is read behind it
-word_found : (word : List ℕ) (ts : Tokens) (token : Token) (p : Path) (rest : Tokens) → next ts ≡ Ok token → is token word ≡ true → Found (λ us q. Spells (word ∷ us) q) token.after p rest → Found Spells ts p rest
-word_found word ts token p rest n w behind_it = record {
+word_found : (room : ℕ) (word : List ℕ) (ts : Tokens) (token : Token) (p : Path) (rest : Tokens) → next ts ≡ Ok token → is token word ≡ true → Found (λ us q. Spells room (word ∷ us) q) token.after p rest → Found (Spells room) ts p rest
+word_found room word ts token p rest n w behind_it = record {
   tokens = word ∷ behind_it.tokens;
   spans = (token.place, token.after, next_ok ts token n ∙ ap (λ s. Then token.place s token.after) (same_bytes _ _ w), behind_it.spans);
   spells = behind_it.spells;
 }
 
-until_found : (ts : Tokens) (p : Path) (rest : Tokens) → (state ts >>= λ left. behind (codes "U") left.1 >>= λ after. reached left.0 after) ≡ Ok (p, rest) → Found Spells ts p rest
-until_found ts p rest e =
-    let b = bind_ok (state ts) (λ left. behind (codes "U") left.1 >>= λ after. reached left.0 after) (p, rest) e in
-    let c = bind_ok (behind (codes "U") b.value.1) (λ after. reached b.value.0 after) (p, rest) b.then_ in
-    let left = state_found ts b.value.0 b.value.1 b.first in
+until_found : (room : ℕ) (state : Reading State) → FindsStates room state → (ts : Tokens) (p : Path) (rest : Tokens) → (state ts >>= λ left. behind (codes "U") left.1 >>= λ after. reached state left.0 after) ≡ Ok (p, rest) → Found (Spells room) ts p rest
+until_found room state found ts p rest e =
+    let b = bind_ok (state ts) (λ left. behind (codes "U") left.1 >>= λ after. reached state left.0 after) (p, rest) e in
+    let c = bind_ok (behind (codes "U") b.value.1) (λ after. reached state b.value.0 after) (p, rest) b.then_ in
+    let left = found ts b.value.0 b.value.1 b.first in
     let at = behind_ok (codes "U") b.value.1 c.value c.first in
-    let Whole : List (List ℕ) → Path → Type 0 = λ us q. Spells (between left.tokens (codes "U") us) q in
-    let reaches : Reaches b.value.0 Whole = record {
-      open_ = λ us y d. until left.tokens us b.value.0 y left.spells d;
-      bounded = λ token us k y n d. until_within left.tokens token us k b.value.0 y left.spells n d;
+    let Whole : List (List ℕ) → Path → Type 0 = λ us q. Spells room (between left.tokens (codes "U") us) q in
+    let reaches : Reaches room b.value.0 Whole = record {
+      open_ = λ us y d. until room left.tokens us b.value.0 y left.spells d;
+      bounded = λ token us k y n d. until_within room left.tokens token us k b.value.0 y left.spells n d;
     } in
-    let right = reached_found b.value.0 Whole reaches c.value p rest c.then_ in
+    let right = reached_found room state found b.value.0 Whole reaches c.value p rest c.then_ in
     let behind_left : Spans b.value.1 (codes "U" ∷ right.tokens) rest = (at.0, c.value, at.1, right.spans) in
     record {
       tokens = between left.tokens (codes "U") right.tokens;
@@ -124,17 +127,17 @@ until_found ts p rest e =
       spells = right.spells;
     }
 
-pub path_found : (ts : Tokens) (p : Path) (rest : Tokens) → path ts ≡ Ok (p, rest) → Found Spells ts p rest
-path_found ts p rest e =
-    let left = state ts >>= λ left. behind (codes "U") left.1 >>= λ after. reached left.0 after in
-    let b = bind_ok (next ts) (λ token. cond (is token (codes "F")) (reached True token.after) (cond (is token (codes "X")) (right_side Next True token.after) (cond (is token (codes "G")) (right_side Always True token.after) left))) (p, rest) e in
-    elim (chosen (is b.value (codes "F")) (reached True b.value.after) _ (Ok (p, rest)) b.then_) [
-      | inl t ↦ word_found (codes "F") ts b.value p rest b.first t.0 (reached_found True _ (record { open_ = reach; bounded = reach_within }) b.value.after p rest t.1)
-      | inr t ↦ elim (chosen (is b.value (codes "X")) (right_side Next True b.value.after) _ (Ok (p, rest)) t.1) [
-        | inl t ↦ word_found (codes "X") ts b.value p rest b.first t.0 (right_found Next True _ next_path b.value.after p rest t.1)
-        | inr t ↦ elim (chosen (is b.value (codes "G")) (right_side Always True b.value.after) left (Ok (p, rest)) t.1) [
-          | inl t ↦ word_found (codes "G") ts b.value p rest b.first t.0 (right_found Always True _ always b.value.after p rest t.1)
-          | inr t ↦ until_found ts p rest t.1
+pub path_found : (room : ℕ) (state : Reading State) → FindsStates room state → (ts : Tokens) (p : Path) (rest : Tokens) → path state ts ≡ Ok (p, rest) → Found (Spells room) ts p rest
+path_found room state found ts p rest e =
+    let left = state ts >>= λ left. behind (codes "U") left.1 >>= λ after. reached state left.0 after in
+    let b = bind_ok (next ts) (λ token. cond (is token (codes "F")) (reached state True token.after) (cond (is token (codes "X")) (right_side state Next True token.after) (cond (is token (codes "G")) (right_side state Always True token.after) left))) (p, rest) e in
+    elim (chosen (is b.value (codes "F")) (reached state True b.value.after) _ (Ok (p, rest)) b.then_) [
+      | inl t ↦ word_found room (codes "F") ts b.value p rest b.first t.0 (reached_found room state found True _ (record { open_ = reach room; bounded = reach_within room }) b.value.after p rest t.1)
+      | inr t ↦ elim (chosen (is b.value (codes "X")) (right_side state Next True b.value.after) _ (Ok (p, rest)) t.1) [
+        | inl t ↦ word_found room (codes "X") ts b.value p rest b.first t.0 (right_found room state found Next True _ (next_path room) b.value.after p rest t.1)
+        | inr t ↦ elim (chosen (is b.value (codes "G")) (right_side state Always True b.value.after) left (Ok (p, rest)) t.1) [
+          | inl t ↦ word_found room (codes "G") ts b.value p rest b.first t.0 (right_found room state found Always True _ (always room) b.value.after p rest t.1)
+          | inr t ↦ until_found room state found ts p rest t.1
         ]
       ]
     ]

@@ -19,6 +19,19 @@ pub record Found {X : Type 0} (Spells : List (List ℕ) → X → Type 0) (ts : 
   pub spans : Spans ts tokens rest
   pub spells : Spells tokens x
 
+abbrev pub read : {X : Type 0} → X → Tokens → Result (X × Tokens) FormulaFault
+read x rest = Ok (x, rest)
+
+abbrev pub Of : {X : Type 0} → (List (List ℕ) → X → Type 0) → Tokens → Result (X × Tokens) FormulaFault → Type 0
+Of Spells ts (Ok r) = Found Spells ts r.0 r.1
+Of Spells ts (Err fault) = ⊥
+
+-- one value and what stands behind it, as they are read
+pub same_read : {X : Type 0} (Spells : List (List ℕ) → X → Type 0) (ts : Tokens) (x y : X) (us rest : Tokens) → Found Spells ts x us → read x us ≡ read y rest → Found Spells ts y rest
+same_read {X} Spells ts x y us rest found e =
+    let P : Result (X × Tokens) FormulaFault → Type 0 = λ r. Of Spells ts r in
+    subst P e found
+
 pub spans_append : (us vs : List (List ℕ)) (ts mid rest : Tokens) → Spans ts us mid → Spans mid vs rest → Spans ts (us ++ vs) rest
 spans_append [] vs ts mid rest a b = let P : Tokens → Type 0 = λ t. Spans t vs rest in subst P (sym a) b
 spans_append (u ∷ us) vs ts mid rest a b = (a.0, a.1, a.2, spans_append us vs a.1 mid rest a.3 b)

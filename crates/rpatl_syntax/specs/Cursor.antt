@@ -1,18 +1,17 @@
 -- What a place in a text leads to.
-use Rattle.std.specs.Prelude.{◌≡◌, ◌<◌, ◌≤◌, ℕ, List, Option, option_map, Result, IfOk}
+use Rattle.std.specs.Prelude.{◌≡◌, ◌<◌, ◌≤◌, ℕ, List, Option, option_map}
 use Rattle.rpatl_syntax.specs.declared.front.Front.{Front}
 use Rattle.rpatl_syntax.specs.declared.front.Front.TheVariants.{Blank, Spelling, Unclosed, Strange}
 use Rattle.rpatl_syntax.specs.declared.cursor.Cursor.{Cursor}
 use Rattle.rpatl_syntax.specs.declared.tokens.Token.{Token as Cut}
 use Rattle.rpatl_syntax.specs.declared.tokens.Lead.{Lead}
 use Rattle.rpatl_syntax.specs.declared.tokens.Lead.TheVariants.{Token as Next, Finish as Ended, Broken as Stopped}
-use Rattle.rpatl_syntax.specs.declared.fault.FormulaFault.{FormulaFault}
 use Rattle.rpatl_syntax.specs.declared.formula.StateFormula.{StateFormula}
 use Rattle.rpatl_syntax.specs.declared.formula.Names.{Names}
 use Rattle.rpatl_syntax.specs.declared.formula.Bound.{Bound}
 use Rattle.rpatl_syntax.specs.declared.formula.PathKind.{PathKind}
 use Rattle.rpatl_syntax.specs.Formula.{State, Path, state_of, names_of}
-use Rattle.rpatl_syntax.specs.Tokens.{count_of, Tokens, Finish, Broken, Then, Token, tokens_from}
+use Rattle.rpatl_syntax.specs.Tokens.{Tokens, Finish, Broken, Then, Token, tokens_from}
 
 abbrev pub tokens_at : Cursor → Tokens
 tokens_at c = tokens_from c.place 0 c.rest.now
@@ -42,10 +41,6 @@ kind_at read = (read.0, tokens_at read.1)
 
 abbrev pub path_at : PathKind × StateFormula × StateFormula × Cursor → Path × Tokens
 path_at read = (record { kind = read.0; left = state_of read.1; right = state_of read.2 }, tokens_at read.3)
-
--- what is left has fewer tokens than this
-abbrev pub Shortens : {X : Type 0} → Result (X × Cursor) FormulaFault → ℕ → Type 0
-Shortens result most = IfOk result (λ read. count_of (tokens_at read.1) < most)
 
 -- a token at the front has some bytes, and at most so many
 abbrev pub Fits : Front → ℕ → Type 0

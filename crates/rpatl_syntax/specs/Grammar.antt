@@ -6,13 +6,13 @@ use Rattle.distributions.specs.declared.number.NumberFault.TheVariants.{TooLarge
 use Rattle.distributions.specs.Number.{number_said}
 use Rattle.rpatl_syntax.specs.declared.fault.FormulaFault.{FormulaFault}
 use Rattle.rpatl_syntax.specs.declared.fault.FormulaCause.{FormulaCause}
-use Rattle.rpatl_syntax.specs.declared.fault.FormulaCause.TheVariants.{End, Unexpected, TooDeep, BadNumber, ThresholdOutOfRange, TooLong, NotYet, BadSteps}
+use Rattle.rpatl_syntax.specs.declared.fault.FormulaCause.TheVariants.{End, Unexpected, TooDeep, BadNumber, ThresholdOutOfRange, TooLong, BadSteps, AskInside}
 use Rattle.rpatl_syntax.specs.declared.formula.Bound.{Bound}
 use Rattle.rpatl_syntax.specs.declared.formula.Bound.TheVariants.{AtLeast, Above, AtMost, Below, AskMax, AskMin}
 use Rattle.rpatl_syntax.specs.declared.formula.PathKind.{PathKind}
 use Rattle.rpatl_syntax.specs.declared.formula.PathKind.TheVariants.{Until, Within, Next, Always}
 use Rattle.rpatl_syntax.specs.Fault.{fault_at, ◌>>=◌}
-use Rattle.rpatl_syntax.specs.Formula.{State, True, False, Label, Not, And, Or, Implies, Path, Tree}
+use Rattle.rpatl_syntax.specs.Formula.{State, True, False, Label, Not, And, Or, Implies, Inner, Path, Tree}
 use Rattle.rpatl_syntax.specs.Limits.{longest, most_nested, most_steps}
 use Rattle.text_lines.specs.Text.{is_digit, number_of}
 use Rattle.rpatl_syntax.specs.Tokens.{Tokens, Finish, Broken, Then, Token, tokens_of, count_of, begins_word}
@@ -54,27 +54,6 @@ is_quoted spelling = begins_with (λ b. b == 34) spelling
 abbrev pub unquoted : List ℕ → List ℕ
 unquoted spelling = take (length spelling - 2) (drop 1 spelling)
 
--- unary = "!" unary | "(" state ")" | "true" | "false" | quoted name
-
--- what stands where a state formula may begin once formulas nest
-abbrev pub begins_formula : Token → Bool
-begins_formula token = is token (codes "P") || is token (codes "Pmax") || is token (codes "Pmin") || is token (codes "<<")
-
-abbrev pub plain : Token → Result (State × Tokens) FormulaFault
-plain token =
-    if is token (codes "true") then Ok (True, token.after)
-    else if is token (codes "false") then Ok (False, token.after)
-    else if is_quoted token.spelling then Ok (Label (unquoted token.spelling), token.after)
-    else if begins_formula token then fails token NotYet
-    else fails token Unexpected
-
-abbrev pub opens : Token → Bool
-opens token = is token (codes "!") || is token (codes "(")
-
--- where inside reads what a `!` or a `(` begins
-abbrev pub unary : (Token → Result (State × Tokens) FormulaFault) → Reading State
-unary inside ts = next ts >>= λ token. if opens token then inside token else plain token
-
 -- the next token is this sign
 abbrev pub follows : List ℕ → Tokens → Option Tokens
 follows sign (Finish place) = None
@@ -85,47 +64,6 @@ follows sign (Then place spelling rest) = if bytes_eq spelling sign then Some re
 abbrev pub where_next : {X : Type 0} → Option Tokens → X → (Tokens → X) → X
 where_next None without with_sign = without
 where_next (Some after) without with_sign = with_sign after
-
--- Further operands, each behind a sign, which groups to the left. Their number is below the number of tokens that are left.
-abbrev pub further : List ℕ → (State → State → State) → Reading State → ℕ → State → Reading State
-further sign join operand zero left ts = Ok (left, ts)
-further sign join operand (suc most) left ts =
-    where_next (follows sign ts) (Ok (left, ts)) (λ after. operand after >>= λ right. further sign join operand most (join left right.0) right.1)
-
--- operand { sign operand }
-abbrev pub joined : List ℕ → (State → State → State) → Reading State → Reading State
-joined sign join operand ts = operand ts >>= λ left. further sign join operand (count_of left.1) left.0 left.1
-
--- both = unary { "&" unary }
-abbrev pub both : Reading State → Reading State
-both operand = joined (codes "&") And operand
-
--- either = both { "|" both }
-abbrev pub either : Reading State → Reading State
-either operand = joined (codes "|") Or (both operand)
-
--- state = either { "=>" either }
-abbrev pub implied : Reading State → Reading State
-implied operand = joined (codes "=>") Implies (either operand)
-
-abbrev pub negated : Result (State × Tokens) FormulaFault → Result (State × Tokens) FormulaFault
-negated read = read >>= λ x. Ok (Not x.0, x.1)
-
--- behind a state formula, the `)` that closes it
-abbrev pub closed : Result (State × Tokens) FormulaFault → Result (State × Tokens) FormulaFault
-closed read = read >>= λ x. behind (codes ")") x.1 >>= λ after. Ok (x.0, after)
-
--- what a `!` or a `(` begins, where inside reads what stands in it
-abbrev pub inside_of : (Token → Result (State × Tokens) FormulaFault) → Token → Result (State × Tokens) FormulaFault
-inside_of inside token = if is token (codes "!") then negated (unary inside token.after) else closed (implied (unary inside) token.after)
-
--- The same where so many more `!` and `(` may be open at once.
-unfoldable pub nested : ℕ → Token → Result (State × Tokens) FormulaFault
-nested zero token = fails token TooDeep
-nested (suc room) token = inside_of (nested room) token
-
-abbrev pub state : Reading State
-state = implied (unary (nested most_nested))
 
 -- coalition = "<<" [ word { "," word } ] ">>"
 
@@ -188,7 +126,14 @@ bound ts = next ts >>= λ token.
     else if is token (codes "Pmin") then asked AskMin token.after
     else fails token Unexpected
 
--- path = "F" [ "<=" number ] state | state "U" [ "<=" number ] state | "X" state | "G" state
+-- of a formula inside: a comparison alone
+abbrev pub inner_bound : Reading Bound
+inner_bound ts = next ts >>= λ token.
+    if is token (codes "P") then comparison token.after
+    else if is token (codes "Pmax") || is token (codes "Pmin") then fails token AskInside
+    else fails token Unexpected
+
+-- path = "F" [ "<=" number ] state | state "U" [ "<=" number ] state | "X" state | "G" state, where state reads a state formula
 
 -- a whole number, which is not too great
 abbrev pub steps_of : Token → Option ℕ → Result ℕ FormulaFault
@@ -207,19 +152,103 @@ abbrev pub deadline : Reading PathKind
 deadline ts = where_next (follows (codes "<=") ts) (Ok (Until, ts)) within
 
 -- the right side
-abbrev pub right_side : PathKind → State → Reading Path
-right_side kind left ts = state ts >>= λ right. Ok (record { kind = kind; left = left; right = right.0 }, right.1)
+abbrev pub right_side : Reading State → PathKind → State → Reading Path
+right_side state kind left ts = state ts >>= λ right. Ok (record { kind = kind; left = left; right = right.0 }, right.1)
 
 -- what stands behind `F` or `U`
-abbrev pub reached : State → Reading Path
-reached left ts = deadline ts >>= λ kind. right_side kind.0 left kind.1
+abbrev pub reached : Reading State → State → Reading Path
+reached state left ts = deadline ts >>= λ kind. right_side state kind.0 left kind.1
 
-abbrev pub path : Reading Path
-path ts = next ts >>= λ token.
-    if is token (codes "F") then reached True token.after
-    else if is token (codes "X") then right_side Next True token.after
-    else if is token (codes "G") then right_side Always True token.after
-    else state ts >>= λ left. behind (codes "U") left.1 >>= λ after. reached left.0 after
+abbrev pub path : Reading State → Reading Path
+path state ts = next ts >>= λ token.
+    if is token (codes "F") then reached state True token.after
+    else if is token (codes "X") then right_side state Next True token.after
+    else if is token (codes "G") then right_side state Always True token.after
+    else state ts >>= λ left. behind (codes "U") left.1 >>= λ after. reached state left.0 after
+
+-- behind a path, the `]` that closes it
+abbrev pub bracketed : Reading State → Token → Result (Path × Tokens) FormulaFault
+bracketed state token = path state token.after >>= λ p. behind (codes "]") p.1 >>= λ after. Ok (p.0, after)
+
+-- unary = "!" unary | "(" state ")" | "true" | "false" | quoted name | formula, whose bound is a comparison
+
+-- what begins a formula inside
+abbrev pub begins_formula : Token → Bool
+begins_formula token = is token (codes "P") || is token (codes "Pmax") || is token (codes "Pmin") || is token (codes "<<")
+
+abbrev pub plain : Token → Result (State × Tokens) FormulaFault
+plain token =
+    if is token (codes "true") then Ok (True, token.after)
+    else if is token (codes "false") then Ok (False, token.after)
+    else if is_quoted token.spelling then Ok (Label (unquoted token.spelling), token.after)
+    else fails token Unexpected
+
+abbrev pub opens : Token → Bool
+opens token = is token (codes "!") || is token (codes "(")
+
+-- What signs that open lead to: a `!` or a `(` to a state formula, the `[` of a formula to its path and `]`.
+pub record Inside : Type 0 where
+  pub state : Token → Result (State × Tokens) FormulaFault
+  pub path : Token → Result (Path × Tokens) FormulaFault
+
+-- "[" path "]"
+abbrev pub sides : Inside → Reading Path
+sides inside ts = next ts >>= λ token. if is token (codes "[") then inside.path token else fails token Unexpected
+
+-- a formula of its parts
+abbrev pub tree_with : Option (List (List ℕ)) → Bound → Path → Tree
+tree_with team asks p = record { coalition = team; bound = asks; kind = p.kind; left = p.left; right = p.right }
+
+abbrev pub inner_of : Tree → State
+inner_of f = Inner f.coalition f.bound f.kind f.left f.right
+
+abbrev pub inner : Inside → Reading State
+inner inside ts = do
+  team ← coalition ts
+  asks ← inner_bound team.1
+  p ← sides inside asks.1
+  Ok (inner_of (tree_with team.0 asks.0 p.0), p.1)
+
+abbrev pub unary : Inside → Reading State
+unary inside ts = next ts >>= λ token. if opens token then inside.state token else if begins_formula token then inner inside ts else plain token
+
+-- Further operands, each behind a sign, which groups to the left. Their number is below the number of tokens that are left.
+abbrev pub further : List ℕ → (State → State → State) → Reading State → ℕ → State → Reading State
+further sign join operand zero left ts = Ok (left, ts)
+further sign join operand (suc most) left ts =
+    where_next (follows sign ts) (Ok (left, ts)) (λ after. operand after >>= λ right. further sign join operand most (join left right.0) right.1)
+
+-- operand { sign operand }
+abbrev pub joined : List ℕ → (State → State → State) → Reading State → Reading State
+joined sign join operand ts = operand ts >>= λ left. further sign join operand (count_of left.1) left.0 left.1
+
+-- both = unary { "&" unary }
+abbrev pub both : Reading State → Reading State
+both operand = joined (codes "&") And operand
+
+-- either = both { "|" both }
+abbrev pub either : Reading State → Reading State
+either operand = joined (codes "|") Or (both operand)
+
+-- state = either { "=>" either }
+abbrev pub implied : Reading State → Reading State
+implied operand = joined (codes "=>") Implies (either operand)
+
+abbrev pub negated : Result (State × Tokens) FormulaFault → Result (State × Tokens) FormulaFault
+negated read = read >>= λ x. Ok (Not x.0, x.1)
+
+-- behind a state formula, the `)` that closes it
+abbrev pub closed : Result (State × Tokens) FormulaFault → Result (State × Tokens) FormulaFault
+closed read = read >>= λ x. behind (codes ")") x.1 >>= λ after. Ok (x.0, after)
+
+-- what a `!` or a `(` begins, where inside reads what stands in it
+abbrev pub inside_of : Inside → Token → Result (State × Tokens) FormulaFault
+inside_of inside token = if is token (codes "!") then negated (unary inside token.after) else closed (implied (unary inside) token.after)
+
+-- What they lead to where so many more `!`, `(` and `[` may be open at once.
+unfoldable pub nested : ℕ → Inside
+nested zero = record { state = λ token. fails token TooDeep; path = λ token. fails token TooDeep }
+nested (suc room) = record { state = inside_of (nested room); path = bracketed (implied (unary (nested room))) }
 
 -- formula = [ coalition ] bound "[" path "]", and nothing behind it
 
@@ -228,16 +257,9 @@ finished tree (Finish place) = Ok tree
 finished tree (Broken fault) = Err fault
 finished tree (Then place spelling rest) = Err (fault_at place Unexpected)
 
--- a formula of its parts
-abbrev pub tree_with : Option (List (List ℕ)) → Bound → Path → Tree
-tree_with team asks p = record { coalition = team; bound = asks; kind = p.kind; left = p.left; right = p.right }
-
+-- this `[` is not among those that are counted
 abbrev pub behind_bound : Option (List (List ℕ)) → Bound → Tokens → Result Tree FormulaFault
-behind_bound team asks ts = do
-  opened ← behind (codes "[") ts
-  sides ← path opened
-  closing ← behind (codes "]") sides.1
-  finished (tree_with team asks sides.0) closing
+behind_bound team asks ts = sides (nested (suc most_nested)) ts >>= λ p. finished (tree_with team asks p.0) p.1
 
 abbrev pub formula : Tokens → Result Tree FormulaFault
 formula ts = do

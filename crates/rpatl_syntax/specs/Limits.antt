@@ -5,7 +5,7 @@ use Rattle.std.specs.Prelude.{ℕ}
 abbrev pub longest : ℕ
 longest = 4096
 
--- the most `(` and `!` that may be open at once: each is a call deeper for who reads
+-- the most `(`, `!` and `[` of formulas inside that may be open at once: each is a call deeper for who reads
 abbrev pub most_nested : ℕ
 most_nested = 64
 

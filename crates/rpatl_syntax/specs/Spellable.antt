@@ -6,7 +6,7 @@ use Rattle.rpatl_syntax.specs.declared.formula.Bound.{Bound}
 use Rattle.rpatl_syntax.specs.declared.formula.Bound.TheVariants.{AtLeast, Above, AtMost, Below, AskMax, AskMin}
 use Rattle.rpatl_syntax.specs.declared.formula.PathKind.{PathKind}
 use Rattle.rpatl_syntax.specs.declared.formula.PathKind.TheVariants.{Until, Within, Next, Always}
-use Rattle.rpatl_syntax.specs.Formula.{State, True, False, Label, Not, And, Or, Implies, Tree}
+use Rattle.rpatl_syntax.specs.Formula.{State, True, False, Label, Not, And, Or, Implies, Inner, Tree}
 use Rattle.rpatl_syntax.specs.Grammar.{is_word}
 use Rattle.rpatl_syntax.specs.TokenRules.{IsName}
 use Rattle.rpatl_syntax.specs.Limits.{most_nested, most_steps}
@@ -36,21 +36,44 @@ HasShare (Below p) = IsShare p
 HasShare AskMax = Unit {0}
 HasShare AskMin = Unit {0}
 
--- each label has a name that can be quoted
-abbrev pub HasNames : State → Type 0
-HasNames True = Unit {0}
-HasNames False = Unit {0}
-HasNames (Label name) = IsName name
-HasNames (Not x) = HasNames x
-HasNames (And x y) = HasNames x × HasNames y
-HasNames (Or x y) = HasNames x × HasNames y
-HasNames (Implies x y) = HasNames x × HasNames y
+-- a formula inside compares with a threshold
+abbrev pub HasThreshold : Bound → Type 0
+HasThreshold (AtLeast p) = IsShare p
+HasThreshold (Above p) = IsShare p
+HasThreshold (AtMost p) = IsShare p
+HasThreshold (Below p) = IsShare p
+HasThreshold AskMax = ⊥
+HasThreshold AskMin = ⊥
+
+-- the kind of a path with such a left side: the steps are not too many, and `X` and `G` have no left side
+abbrev pub HasKind : PathKind → State → Type 0
+HasKind Until left = Unit {0}
+HasKind (Within k) left = k ≤ most_steps
+HasKind Next left = left ≡ True
+HasKind Always left = left ≡ True
+
+-- what stands before the sides of a formula inside
+pub record HasHead (team : Option (List (List ℕ))) (bound : Bound) (kind : PathKind) (left : State) : Type 0 where
+  pub words : HasWords team
+  pub threshold : HasThreshold bound
+  pub kind_is : HasKind kind left
+
+-- each label has a name that can be quoted, and each formula inside has a head that can be spelled
+abbrev pub HasParts : State → Type 0
+HasParts True = Unit {0}
+HasParts False = Unit {0}
+HasParts (Label name) = IsName name
+HasParts (Not x) = HasParts x
+HasParts (And x y) = HasParts x × HasParts y
+HasParts (Or x y) = HasParts x × HasParts y
+HasParts (Implies x y) = HasParts x × HasParts y
+HasParts (Inner team bound kind left right) = HasHead team bound kind left × HasParts left × HasParts right
 
 -- in a place for formulas that bind at least so tightly: one more where it takes brackets
 abbrev pub need_in : ℕ → State → ℕ → ℕ
 need_in least x inner = if nat_lt (strength_of x) least then inner + 1 else inner
 
--- the most `(` and `!` that are open at once in the spelling, which has no brackets but those that it needs
+-- the most `(`, `!` and `[` inside that are open at once in the spelling, which has no brackets but those that it needs
 abbrev pub need : State → ℕ
 need True = 0
 need False = 0
@@ -59,18 +82,12 @@ need (Not x) = need_in 3 x (need x) + 1
 need (And x y) = max (need_in 2 x (need x)) (need_in 3 y (need y))
 need (Or x y) = max (need_in 1 x (need x)) (need_in 2 y (need y))
 need (Implies x y) = max (need_in 0 x (need x)) (need_in 1 y (need y))
+need (Inner team bound kind left right) = max (need left) (need right) + 1
 
--- a side of a path: its labels can be quoted, and its spelling does not nest too deep
+-- a side of a path: its parts can be spelled, and its spelling does not nest too deep
 pub record IsSide (x : State) : Type 0 where
-  pub names : HasNames x
+  pub parts : HasParts x
   pub nests : need x ≤ most_nested
-
--- the kind of a path with such a left side: the steps are not too many, and `X` and `G` have no left side
-abbrev pub HasKind : PathKind → State → Type 0
-HasKind Until left = Unit {0}
-HasKind (Within k) left = k ≤ most_steps
-HasKind Next left = left ≡ True
-HasKind Always left = left ≡ True
 
 -- The grammar can spell each part of the formula.
 pub record IsSpellable (f : Tree) : Type 0 where

@@ -1,6 +1,6 @@
 //! The formula by which `G` is judged.
 
-ghost use Rattle.std.specs.Prelude.{◌≡◌, IfOk};
+ghost use Rattle.std.specs.Prelude.{◌≡◌, IfOk, option_map};
 ghost use Rattle.rpatl_syntax.specs.Dual.{dual_bound, dual_of, IsAtMostOne};
 ghost use Rattle.rpatl_syntax.specs.Formula.{state_of, tree_of, names_of};
 
@@ -15,12 +15,8 @@ pub fn dual(alloc: Global, formula: &Formula) -> Result<Formula, OutOfMemory>
     requires share { IsAtMostOne formula.now.bound }
     ensures { IfOk result (λ other. tree_of other ≡ dual_of (tree_of formula.now)) }
 {
-    let coalition = match &formula.coalition {
-        None => None,
-        Some(names) => Some(copied_names(alloc, names)?),
-    };
     Ok(Formula {
-        coalition,
+        coalition: copied_team(alloc, &formula.coalition)?,
         bound: mirrored(&formula.bound),
         kind: PathKind::Until,
         left: StateFormula::All,
@@ -40,6 +36,15 @@ fn mirrored(bound: &Bound) -> Bound
         Bound::Below(threshold) => Bound::Above(threshold.rest()),
         Bound::AskMax => Bound::AskMin,
         Bound::AskMin => Bound::AskMax,
+    }
+}
+
+fn copied_team(alloc: Global, team: &Option<Names>) -> Result<Option<Names>, OutOfMemory>
+    ensures { IfOk result (λ copy. option_map names_of copy ≡ option_map names_of team.now) }
+{
+    match team {
+        None => Ok(None),
+        Some(names) => Ok(Some(copied_names(alloc, names)?)),
     }
 }
 
@@ -83,7 +88,31 @@ fn copied_state(alloc: Global, state: &StateFormula) -> Result<StateFormula, Out
             let y = copied_place(alloc, y)?;
             Ok(StateFormula::Implied(x, y))
         }
+        StateFormula::Inner(formula) => {
+            let copy = copied_formula(alloc, formula)?;
+            match Box::new(alloc, copy) {
+                Ok(place) => Ok(StateFormula::Inner(place)),
+                Err(_) => Err(OutOfMemory {}),
+            }
+        }
     }
+}
+
+// A copy with sides of its own.
+#[cycle(copied)]
+fn copied_formula(alloc: Global, formula: &Formula) -> Result<Formula, OutOfMemory>
+    ensures { IfOk result (λ copy. tree_of copy ≡ tree_of formula.now) }
+{
+    let coalition = copied_team(alloc, &formula.coalition)?;
+    let left = copied_state(alloc, &formula.left)?;
+    let right = copied_state(alloc, &formula.right)?;
+    Ok(Formula {
+        coalition,
+        bound: formula.bound,
+        kind: formula.kind,
+        left,
+        right,
+    })
 }
 
 // A copy in memory of its own.

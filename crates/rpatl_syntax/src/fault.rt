@@ -14,7 +14,7 @@ pub enum FormulaCause {
     Unexpected,
     /// The text ends where a token has to stand, or inside a quoted name; the place is the text's length.
     End,
-    /// A `(` or `!` of which too many would be open at once.
+    /// A `(`, a `!` or the `[` of a formula inside, of which too many would be open at once.
     TooDeep,
     /// The threshold is no number, for this reason.
     BadNumber(NumberFault),
@@ -22,10 +22,10 @@ pub enum FormulaCause {
     ThresholdOutOfRange,
     /// The text has more than `LONGEST` bytes, which is the place.
     TooLong,
-    /// `P`, `Pmax`, `Pmin` or `<<` where a state formula may begin: a formula inside a state formula.
-    NotYet,
     /// The number of steps behind `F<=` or `U<=` is not a whole number, or is above `MOST_STEPS`.
     BadSteps,
+    /// `Pmax` or `Pmin` as the bound of a formula inside, which has to compare with a threshold.
+    AskInside,
 }
 
 /// A cause, and the offset in bytes of the token that it speaks of.

@@ -5,7 +5,8 @@ ghost use Rattle.std.specs.Prelude.{◌≡◌};
 use distributions::Frac;
 use game_outside::Name;
 
-/// A property of states: labels and their combinations.
+/// A property of states: labels, formulas inside, and their combinations.
+#[cycle(formula)]
 #[derive(Drop)]
 pub enum StateFormula {
     /// `true`: every state.
@@ -22,6 +23,8 @@ pub enum StateFormula {
     Either(Box<StateFormula>, Box<StateFormula>),
     /// `x => y`
     Implied(Box<StateFormula>, Box<StateFormula>),
+    /// The states where a formula is true, as `P>=0.5 [ F "goal" ]`.
+    Inner(Box<Formula>),
 }
 
 /// What is asked of the probability: that it keeps a threshold, or its greatest or least value.
@@ -86,6 +89,7 @@ pub enum PathKind {
 }
 
 /// A bound on the probability of paths, for a coalition of players where one is named.
+#[cycle(formula)]
 #[derive(Drop)]
 pub struct Formula {
     pub coalition: Option<Names>,

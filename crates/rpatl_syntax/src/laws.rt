@@ -2,7 +2,7 @@
 ghost use Rattle.std.specs.Prelude.{◌≡◌, ◌≤◌, ◌-◌, ◌++◌, ◌↔◌, ℕ, List, None, Ok, length};
 ghost use Rattle.rpatl_syntax.specs.declared.formula.Bound.{Bound};
 ghost use Rattle.rpatl_syntax.specs.Dual.{dual_bound, IsAtMostOne, Keeps};
-ghost use Rattle.rpatl_syntax.specs.Formula.{Tree};
+ghost use Rattle.rpatl_syntax.specs.Formula.{Tree, formulas_inside};
 ghost use Rattle.rpatl_syntax.specs.Grammar.{formula_said};
 ghost use Rattle.rpatl_syntax.specs.Laws.{AreTokens, AreAlike, IsBlank, StandsAt, spellings_of, cause_of};
 ghost use Rattle.rpatl_syntax.specs.Limits.{longest, most_nested, most_steps, longest_name};
@@ -62,6 +62,11 @@ pub fn formulas_of_texts_are_spellable()
 /// No two formulas that can be spelled have the same spelling.
 pub fn spellings_have_one_reading()
     ensures { (tree other : Tree) → IsSpellable tree → IsSpellable other → spelling tree ≡ spelling other → tree ≡ other }
+{}
+
+/// A formula that a text denotes has no more formulas inside than a text may have bytes.
+pub fn formulas_inside_are_few()
+    ensures { (text : List ℕ) (tree : Tree) → Denotes text tree → formulas_inside tree ≤ longest }
 {}
 
 /// A threshold of a formula that a text denotes is at most 1, as `dual` requires it.

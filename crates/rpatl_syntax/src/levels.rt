@@ -1,12 +1,12 @@
-//! The operators of state formulas, from the one that binds weakest.
+//! The operators of state formulas, from the one that binds weakest, and what stands under them.
 
-ghost use Rattle.std.specs.Prelude.{◌≡◌, MatchResult};
+ghost use Rattle.std.specs.Prelude.{◌≡◌, MatchResult, option_map};
 ghost use Rattle.rpatl_syntax.specs.Fault.{IsOutOfMemory};
-ghost use Rattle.rpatl_syntax.specs.Formula.{state_of, Not};
+ghost use Rattle.rpatl_syntax.specs.Formula.{state_of, names_of, Not, Inner};
 ghost use Rattle.rpatl_syntax.specs.Levels.{sign_of, join_of};
 
 use crate::fault::{FormulaCause, FormulaFault};
-use crate::formula::StateFormula;
+use crate::formula::{Bound, Formula, Names, PathKind, StateFormula};
 use std::alloc::Global;
 
 /// What an operator makes of two state formulas.
@@ -54,6 +54,30 @@ pub fn negation(alloc: Global, state: StateFormula) -> Result<StateFormula, Form
 {
     let state = boxed(alloc, state)?;
     Ok(StateFormula::Negated(state))
+}
+
+/// A formula of its parts as a state formula: the states where it is true.
+pub fn inner(
+    alloc: Global,
+    coalition: Option<Names>,
+    bound: Bound,
+    kind: PathKind,
+    left: StateFormula,
+    right: StateFormula,
+) -> Result<StateFormula, FormulaFault>
+    ensures { MatchResult result (λ whole. state_of whole ≡ Inner (option_map names_of coalition) bound kind (state_of left) (state_of right)) IsOutOfMemory }
+{
+    let formula = Formula {
+        coalition,
+        bound,
+        kind,
+        left,
+        right,
+    };
+    match Box::new(alloc, formula) {
+        Ok(place) => Ok(StateFormula::Inner(place)),
+        Err(_) => Err(FormulaFault::new(0, FormulaCause::OutOfMemory)),
+    }
 }
 
 fn boxed(alloc: Global, state: StateFormula) -> Result<Box<StateFormula>, FormulaFault>

@@ -3,7 +3,7 @@
 /// The most bytes of a text.
 pub const LONGEST: usize = 4096;
 
-/// The most `(` and `!` that may be open at once.
+/// The most `(`, `!` and `[` of formulas inside that may be open at once.
 pub const MOST_NESTED: u32 = 64;
 
 /// The most steps of `F<=` and `U<=`.

@@ -5,7 +5,7 @@ ghost use Rattle.rpatl_syntax.specs.Formula.{state_of, tree_of, names_of};
 ghost use Rattle.rpatl_syntax.specs.Grammar.{formula_said};
 ghost use Rattle.rpatl_syntax.specs.Limits.{longest};
 ghost use Rattle.rpatl_syntax.specs.Spellable.{IsSpellable};
-ghost use Rattle.rpatl_syntax.specs.Spelling.{strength_of, in_place, state_spelling, until_spelling, kind_spelling, path_spelling, names_spelling, coalition_spelling, fraction_spelling, bound_spelling, spelling};
+ghost use Rattle.rpatl_syntax.specs.Spelling.{strength_of, in_place, state_spelling, until_spelling, kind_spelling, names_spelling, coalition_spelling, fraction_spelling, bound_spelling, spelling};
 
 use crate::formula::{Bound, Formula, Names, PathKind, StateFormula};
 use distributions::Frac;
@@ -26,12 +26,21 @@ fn spell(alloc: Global, formula: &Formula) -> Result<Vec<u8>, OutOfMemory>
     ensures { IfOk result (λ text. text.items ≡ spelling (tree_of formula.now)) }
 {
     let mut out = Vec::new(alloc);
-    put_coalition(&mut out, &formula.coalition)?;
-    put_bound(&mut out, &formula.bound)?;
-    put(&mut out, " [ ")?;
-    put_path(&mut out, formula.kind, &formula.left, &formula.right)?;
-    put(&mut out, " ]")?;
+    put_formula(&mut out, formula)?;
     Ok(out)
+}
+
+#[cycle(printed)]
+fn put_formula(out: &mut Vec<u8>, formula: &Formula) -> Result<(), OutOfMemory>
+    ensures { OnOk result (out.new.items ≡ out.old.items ++ spelling (tree_of formula.now)) }
+{
+    put_coalition(out, &formula.coalition)?;
+    put_bound(out, &formula.bound)?;
+    put(out, " [ ")?;
+    put_kind(out, formula.kind, &formula.left)?;
+    put(out, " ")?;
+    put_state(out, &formula.right)?;
+    put(out, " ]")
 }
 
 fn put_coalition(out: &mut Vec<u8>, coalition: &Option<Names>) -> Result<(), OutOfMemory>
@@ -93,22 +102,10 @@ fn put_number(out: &mut Vec<u8>, number: u128) -> Result<(), OutOfMemory>
     put(out, digits.format(number))
 }
 
-fn put_path(
-    out: &mut Vec<u8>,
-    kind: PathKind,
-    left: &StateFormula,
-    right: &StateFormula,
-) -> Result<(), OutOfMemory>
-    ensures { OnOk result (out.new.items ≡ out.old.items ++ path_spelling kind (state_of left.now) (state_spelling (state_of right.now))) }
-{
-    put_kind(out, kind, left)?;
-    put(out, " ")?;
-    put_state(out, right)
-}
-
 // What stands before the right side.
+#[cycle(printed)]
 fn put_kind(out: &mut Vec<u8>, kind: PathKind, left: &StateFormula) -> Result<(), OutOfMemory>
-    ensures { OnOk result (out.new.items ≡ out.old.items ++ kind_spelling kind (state_of left.now)) }
+    ensures { OnOk result (out.new.items ≡ out.old.items ++ kind_spelling kind (state_of left.now) (state_spelling (state_of left.now))) }
 {
     match kind {
         PathKind::Until => put_until(out, left),
@@ -123,8 +120,9 @@ fn put_kind(out: &mut Vec<u8>, kind: PathKind, left: &StateFormula) -> Result<()
 }
 
 // `F`, or the left side and `U`.
+#[cycle(printed)]
 fn put_until(out: &mut Vec<u8>, left: &StateFormula) -> Result<(), OutOfMemory>
-    ensures { OnOk result (out.new.items ≡ out.old.items ++ until_spelling (state_of left.now)) }
+    ensures { OnOk result (out.new.items ≡ out.old.items ++ until_spelling (state_of left.now) (state_spelling (state_of left.now))) }
 {
     match left {
         StateFormula::All => put(out, "F"),
@@ -166,6 +164,7 @@ fn put_state(out: &mut Vec<u8>, state: &StateFormula) -> Result<(), OutOfMemory>
             put(out, " => ")?;
             put_operand(out, 1, y)
         }
+        StateFormula::Inner(formula) => put_formula(out, formula),
     }
 }
 

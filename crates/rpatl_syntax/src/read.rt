@@ -1,21 +1,19 @@
 //! Formulas.
 
-ghost use Rattle.std.specs.Prelude.{◌≡◌, ◌<◌, ◌+◌, ◌-◌, ◌++◌, ◌∷◌, [], option_map, Ok, IfOk, OnOk, IfErr};
-ghost use Rattle.rpatl_syntax.specs.Fault.{Gives, Says, IsOutOfMemory};
+ghost use Rattle.std.specs.Prelude.{◌≡◌, option_map, Ok, IfOk};
+ghost use Rattle.rpatl_syntax.specs.Fault.{Gives};
 ghost use Rattle.rpatl_syntax.specs.Formula.{Tree, tree_of, names_of};
-ghost use Rattle.rpatl_syntax.specs.Bounds.{bound_with};
-ghost use Rattle.rpatl_syntax.specs.Grammar.{names, coalition, threshold, comparison, bound, compared, behind_bound, formula, formula_said, is_word};
+ghost use Rattle.rpatl_syntax.specs.Grammar.{formula, formula_said, behind_bound};
 ghost use Rattle.rpatl_syntax.specs.Rules.{Denotes};
-ghost use Rattle.rpatl_syntax.specs.Cursor.{tokens_at, token_of, names_at, team_at, bound_at};
+ghost use Rattle.rpatl_syntax.specs.Cursor.{tokens_at};
 
 use crate::cursor::Cursor;
 use crate::fault::{FormulaCause, FormulaFault};
-use crate::formula::{Bound, Comparison, Formula, Names};
-use crate::limits::LONGEST;
-use crate::paths::read_path;
-use crate::tokens::{Lead, Token, behind, behind_if, next_lead, next_token};
-use distributions::{Frac, NumberFault, read_number};
-use game_outside::Name;
+use crate::formula::{Bound, Formula, Names};
+use crate::heads::{read_bound, read_coalition};
+use crate::limits::{LONGEST, MOST_NESTED};
+use crate::states::read_sides;
+use crate::tokens::{Lead, next_lead};
 use std::alloc::Global;
 
 /// The formula that a text spells, or the first fault of the text.
@@ -55,7 +53,7 @@ fn whole(alloc: Global, cursor: Cursor<'_>) -> Result<Formula, FormulaFault>
     }
 }
 
-// The path, and the end of the text behind it.
+// The two sides, and the end of the text behind them. This `[` is not among those that are counted, so there is room for one more.
 fn behind_bound(
     alloc: Global,
     coalition: Option<Names>,
@@ -64,9 +62,7 @@ fn behind_bound(
 ) -> Result<Formula, FormulaFault>
     ensures { Gives tree_of result (behind_bound (option_map names_of coalition) bound (tokens_at cursor.entry)) }
 {
-    let rest = behind(cursor, "[")?;
-    let (kind, left, right, rest) = read_path(alloc, rest)?;
-    let rest = behind(rest, "]")?;
+    let (kind, left, right, rest) = read_sides(alloc, MOST_NESTED + 1, cursor)?;
     match next_lead(rest) {
         Lead::Finish(_) => Ok(Formula {
             coalition,
@@ -77,127 +73,5 @@ fn behind_bound(
         }),
         Lead::Token(token) => Err(token.fault(FormulaCause::Unexpected)),
         Lead::Broken(fault) => Err(fault),
-    }
-}
-
-// The names of a coalition, where one stands.
-fn read_coalition<'a>(
-    alloc: Global,
-    cursor: Cursor<'a>,
-) -> Result<(Option<Names>, Cursor<'a>), FormulaFault>
-    ensures { Gives team_at result (coalition (tokens_at cursor.entry)) }
-{
-    let Some(inside) = behind_if(cursor, "<<") else {
-        return Ok((None, cursor));
-    };
-    if let Some(after) = behind_if(inside, ">>") {
-        let list = Vec::new(alloc);
-        return Ok((Some(Names { list }), after));
-    }
-    let (names, after) = read_names(alloc, inside)?;
-    Ok((Some(names), after))
-}
-
-// One or more names, and `>>` behind them.
-fn read_names<'a>(alloc: Global, cursor: Cursor<'a>) -> Result<(Names, Cursor<'a>), FormulaFault>
-    ensures { Gives names_at result (names (tokens_at cursor.entry)) }
-{
-    let mut list = Vec::new(alloc);
-    let mut rest = cursor;
-    loop {
-        let word = next_token(rest)?;
-        if !begins_word(word.spelling) {
-            return Err(word.fault(FormulaCause::Unexpected));
-        }
-        add_name(alloc, &mut list, word.spelling)?;
-        let sign = next_token(word.after)?;
-        if sign.is(">>") {
-            return Ok((Names { list }, sign.after));
-        }
-        if !sign.is(",") {
-            return Err(sign.fault(FormulaCause::Unexpected));
-        }
-        rest = sign.after;
-    }
-}
-
-fn begins_word(spelling: &[u8]) -> bool
-    ensures { result ≡ is_word spelling.now }
-{
-    matches!(spelling, [b, ..] if b.is_ascii_alphabetic() || *b == b'_')
-}
-
-fn add_name(alloc: Global, list: &mut Vec<Name>, word: &[u8]) -> Result<(), FormulaFault>
-    ensures ok { OnOk result (list.new.items ≡ list.old.items ++ word.now ∷ []) }
-    ensures err { IfErr result IsOutOfMemory }
-{
-    let Ok(name) = Name::from_bytes(alloc, word) else {
-        return Err(FormulaFault::new(0, FormulaCause::OutOfMemory));
-    };
-    match list.push(name) {
-        Ok(()) => Ok(()),
-        Err(_) => Err(FormulaFault::new(0, FormulaCause::OutOfMemory)),
-    }
-}
-
-// A bound on the probability.
-fn read_bound<'a>(cursor: Cursor<'a>) -> Result<(Bound, Cursor<'a>), FormulaFault>
-    ensures { Says bound_at result (bound (tokens_at cursor.entry)) }
-{
-    let token = next_token(cursor)?;
-    if token.is("P") {
-        read_comparison(token.after)
-    } else if token.is("Pmax") {
-        Ok((Bound::AskMax, behind(token.after, "=?")?))
-    } else if token.is("Pmin") {
-        Ok((Bound::AskMin, behind(token.after, "=?")?))
-    } else {
-        Err(token.fault(FormulaCause::Unexpected))
-    }
-}
-
-fn read_comparison<'a>(cursor: Cursor<'a>) -> Result<(Bound, Cursor<'a>), FormulaFault>
-    ensures { Says bound_at result (comparison (tokens_at cursor.entry)) }
-{
-    let sign = next_token(cursor)?;
-    if sign.is(">=") {
-        read_threshold(Comparison::AtLeast, sign.after)
-    } else if sign.is(">") {
-        read_threshold(Comparison::Above, sign.after)
-    } else if sign.is("<=") {
-        read_threshold(Comparison::AtMost, sign.after)
-    } else if sign.is("<") {
-        read_threshold(Comparison::Below, sign.after)
-    } else {
-        Err(sign.fault(FormulaCause::Unexpected))
-    }
-}
-
-// The threshold of a comparison.
-fn read_threshold<'a>(
-    comparison: Comparison,
-    cursor: Cursor<'a>,
-) -> Result<(Bound, Cursor<'a>), FormulaFault>
-    ensures { Says bound_at result (compared (bound_with comparison) (tokens_at cursor.entry)) }
-{
-    let token = next_token(cursor)?;
-    let threshold = threshold_in(&token)?;
-    Ok((comparison.bound(threshold), token.after))
-}
-
-// A number that is at most 1.
-fn threshold_in(token: &Token<'_>) -> Result<Frac, FormulaFault>
-    ensures { Says (λ value. value) result (threshold (token_of token.now)) }
-{
-    if !token.is_number() {
-        return Err(token.fault(FormulaCause::Unexpected));
-    }
-    match read_number(token.spelling) {
-        Ok(value) if value.num() > value.den() => {
-            Err(token.fault(FormulaCause::ThresholdOutOfRange))
-        }
-        Ok(value) => Ok(value),
-        Err(NumberFault::TooLarge) => Err(token.fault(FormulaCause::ThresholdOutOfRange)),
-        Err(fault) => Err(token.fault(FormulaCause::BadNumber(fault))),
     }
 }

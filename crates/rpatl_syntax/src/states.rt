@@ -1,17 +1,18 @@
-//! State formulas.
+//! State formulas, the formulas inside them and their paths.
 
-ghost use Rattle.std.specs.Prelude.{◌≡◌, ◌<◌, ◌+◌, MatchResult};
+ghost use Rattle.std.specs.Prelude.{◌≡◌, MatchResult, option_map};
 ghost use Rattle.rpatl_syntax.specs.Fault.{Gives, IsOutOfMemory};
-ghost use Rattle.rpatl_syntax.specs.Grammar.{plain, unary, nested, state, unquoted};
+ghost use Rattle.rpatl_syntax.specs.Formula.{state_of, names_of};
+ghost use Rattle.rpatl_syntax.specs.Grammar.{plain, begins_formula, unary, inner, sides, nested, implied, right_side, reached, path, unquoted};
 ghost use Rattle.rpatl_syntax.specs.Levels.{level_of, operand_of};
-ghost use Rattle.rpatl_syntax.specs.Tokens.{count_of};
-ghost use Rattle.rpatl_syntax.specs.Cursor.{tokens_at, token_of, state_at, Shortens};
+ghost use Rattle.rpatl_syntax.specs.Cursor.{tokens_at, token_of, state_at, path_at};
 
 use crate::cursor::Cursor;
+use crate::deadlines::read_deadline;
 use crate::fault::{FormulaCause, FormulaFault};
-use crate::formula::StateFormula;
-use crate::levels::{Level, negation};
-use crate::limits::MOST_NESTED;
+use crate::formula::{PathKind, StateFormula};
+use crate::heads::{read_coalition, read_inner_bound};
+use crate::levels::{Level, inner, negation};
 use crate::tokens::{Token, behind, behind_if, next_token};
 use game_outside::Name;
 use std::alloc::Global;
@@ -19,17 +20,12 @@ use std::alloc::Global;
 /// A state formula, and what is left behind it.
 pub type Read<'a> = Result<(StateFormula, Cursor<'a>), FormulaFault>;
 
-/// The state formula at the front.
-pub fn read_state<'a>(alloc: Global, cursor: Cursor<'a>) -> Read<'a>
-    ensures { Gives state_at result (state (tokens_at cursor.entry)) }
-{
-    level_state(alloc, Level::Implication, MOST_NESTED, cursor)
-}
+/// The kind of a path, its two sides, and what is left behind it.
+pub type ReadPath<'a> = Result<(PathKind, StateFormula, StateFormula, Cursor<'a>), FormulaFault>;
 
 // `true`, `false` or a quoted name.
 fn plain_state<'a>(alloc: Global, token: Token<'a>) -> Read<'a>
-    ensures value { Gives state_at result (plain (token_of token.entry)) }
-    ensures shorter { Shortens result (count_of (tokens_at token.entry.after) + 1) }
+    ensures { Gives state_at result (plain (token_of token.entry)) }
 {
     if token.is("true") {
         Ok((StateFormula::All, token.after))
@@ -38,8 +34,6 @@ fn plain_state<'a>(alloc: Global, token: Token<'a>) -> Read<'a>
     } else if let [b'"', ..] = token.spelling {
         let name = label(alloc, token.spelling)?;
         Ok((StateFormula::Named(name), token.after))
-    } else if token.is("P") || token.is("Pmax") || token.is("Pmin") || token.is("<<") {
-        Err(token.fault(FormulaCause::NotYet))
     } else {
         Err(token.fault(FormulaCause::Unexpected))
     }
@@ -59,12 +53,11 @@ fn label(alloc: Global, spelling: &[u8]) -> Result<Name, FormulaFault>
     }
 }
 
-// Operands of a level, with its sign between them.
+// Operands of a level, with its sign between them, where so many more `!`, `(` and `[` may be open.
 #[tactic(auto, using(crate::proofs::Joining::begun, crate::proofs::Joining::went_on, crate::proofs::Joining::broke_off, crate::proofs::Joining::ended))]
 #[cycle(state)]
 fn level_state<'a>(alloc: Global, level: Level, room: u32, cursor: Cursor<'a>) -> Read<'a>
-    ensures value { Gives state_at result (level_of level (unary (nested room)) (tokens_at cursor.entry)) }
-    ensures shorter { Shortens result (count_of (tokens_at cursor.entry)) }
+    ensures { Gives state_at result (level_of level (unary (nested room)) (tokens_at cursor.entry)) }
 {
     let (mut left, mut rest) = operand_state(alloc, level, room, cursor)?;
     while let Some(after) = behind_if(rest, level.sign()) {
@@ -78,8 +71,7 @@ fn level_state<'a>(alloc: Global, level: Level, room: u32, cursor: Cursor<'a>) -
 // What stands between the signs of a level.
 #[cycle(state)]
 fn operand_state<'a>(alloc: Global, level: Level, room: u32, cursor: Cursor<'a>) -> Read<'a>
-    ensures value { Gives state_at result (operand_of level (unary (nested room)) (tokens_at cursor.entry)) }
-    ensures shorter { Shortens result (count_of (tokens_at cursor.entry)) }
+    ensures { Gives state_at result (operand_of level (unary (nested room)) (tokens_at cursor.entry)) }
 {
     match level {
         Level::Implication => level_state(alloc, Level::Disjunction, room, cursor),
@@ -90,23 +82,29 @@ fn operand_state<'a>(alloc: Global, level: Level, room: u32, cursor: Cursor<'a>)
 
 #[cycle(state)]
 fn unary_state<'a>(alloc: Global, room: u32, cursor: Cursor<'a>) -> Read<'a>
-    ensures value { Gives state_at result (unary (nested room) (tokens_at cursor.entry)) }
-    ensures shorter { Shortens result (count_of (tokens_at cursor.entry)) }
+    ensures { Gives state_at result (unary (nested room) (tokens_at cursor.entry)) }
 {
     let token = next_token(cursor)?;
     if token.is("!") || token.is("(") {
         nested_state(alloc, room, token)
+    } else if begins_formula(&token) {
+        inner_state(alloc, room, cursor)
     } else {
         plain_state(alloc, token)
     }
 }
 
-// What a `!` or a `(` begins, where so many more may be open.
+fn begins_formula(token: &Token<'_>) -> bool
+    ensures { result ≡ begins_formula (token_of token.now) }
+{
+    token.is("P") || token.is("Pmax") || token.is("Pmin") || token.is("<<")
+}
+
+// What a `!` or a `(` begins.
 #[tactic(auto, using(crate::proofs::Joining::nested_within, crate::proofs::Joining::nested_without))]
 #[cycle(state)]
 fn nested_state<'a>(alloc: Global, room: u32, token: Token<'a>) -> Read<'a>
-    ensures value { Gives state_at result (nested room (token_of token.entry)) }
-    ensures shorter { Shortens result (count_of (tokens_at token.entry.after) + 1) }
+    ensures { Gives state_at result ((nested room).state (token_of token.entry)) }
 {
     if room == 0 {
         return Err(token.fault(FormulaCause::TooDeep));
@@ -119,4 +117,95 @@ fn nested_state<'a>(alloc: Global, room: u32, token: Token<'a>) -> Read<'a>
         let rest = behind(rest, ")")?;
         Ok((state, rest))
     }
+}
+
+// A formula inside.
+#[cycle(state)]
+fn inner_state<'a>(alloc: Global, room: u32, cursor: Cursor<'a>) -> Read<'a>
+    ensures { Gives state_at result (inner (nested room) (tokens_at cursor.entry)) }
+{
+    let (coalition, rest) = read_coalition(alloc, cursor)?;
+    match read_inner_bound(rest) {
+        Ok((bound, rest)) => {
+            let (kind, left, right, rest) = read_sides(alloc, room, rest)?;
+            let state = inner(alloc, coalition, bound, kind, left, right)?;
+            Ok((state, rest))
+        }
+        Err(fault) => Err(fault),
+    }
+}
+
+/// The path between `[` and `]`, where so many more `!`, `(` and `[` may be open, this `[` among them.
+#[tactic(auto, using(crate::proofs::Joining::path_within, crate::proofs::Joining::path_without))]
+#[cycle(state)]
+pub fn read_sides<'a>(alloc: Global, room: u32, cursor: Cursor<'a>) -> ReadPath<'a>
+    ensures { Gives path_at result (sides (nested room) (tokens_at cursor.entry)) }
+{
+    let token = next_token(cursor)?;
+    if !token.is("[") {
+        return Err(token.fault(FormulaCause::Unexpected));
+    }
+    if room == 0 {
+        return Err(token.fault(FormulaCause::TooDeep));
+    }
+    let (kind, left, right, rest) = read_path(alloc, room - 1, token.after)?;
+    let rest = behind(rest, "]")?;
+    Ok((kind, left, right, rest))
+}
+
+// A path. `F`, `X` and `G` have `true` on the left.
+#[cycle(state)]
+fn read_path<'a>(alloc: Global, room: u32, cursor: Cursor<'a>) -> ReadPath<'a>
+    ensures { Gives path_at result (path (implied (unary (nested room))) (tokens_at cursor.entry)) }
+{
+    let token = next_token(cursor)?;
+    if token.is("F") {
+        return read_reached(alloc, room, StateFormula::All, token.after);
+    }
+    if token.is("X") {
+        return read_right(alloc, room, PathKind::Next, StateFormula::All, token.after);
+    }
+    if token.is("G") {
+        return read_right(
+            alloc,
+            room,
+            PathKind::Always,
+            StateFormula::All,
+            token.after,
+        );
+    }
+    let (left, rest) = level_state(alloc, Level::Implication, room, cursor)?;
+    let rest = behind(rest, "U")?;
+    read_reached(alloc, room, left, rest)
+}
+
+// What stands behind `F` or `U`.
+#[cycle(state)]
+fn read_reached<'a>(
+    alloc: Global,
+    room: u32,
+    left: StateFormula,
+    cursor: Cursor<'a>,
+) -> ReadPath<'a>
+    ensures { Gives path_at result (reached (implied (unary (nested room))) (state_of left) (tokens_at cursor.entry)) }
+{
+    match read_deadline(cursor) {
+        Ok((kind, rest)) => read_right(alloc, room, kind, left, rest),
+        Err(fault) => Err(fault),
+    }
+}
+
+// The right side of a path.
+#[cycle(state)]
+fn read_right<'a>(
+    alloc: Global,
+    room: u32,
+    kind: PathKind,
+    left: StateFormula,
+    cursor: Cursor<'a>,
+) -> ReadPath<'a>
+    ensures { Gives path_at result (right_side (implied (unary (nested room))) kind (state_of left) (tokens_at cursor.entry)) }
+{
+    let (right, rest) = level_state(alloc, Level::Implication, room, cursor)?;
+    Ok((kind, left, right, rest))
 }

@@ -221,8 +221,68 @@ const PATHS: [(&str, &str); 11] = [
     ),
 ];
 
+// Formulas with formulas inside, each with its spelling.
+const INSIDE: [(&str, &str); 14] = [
+    (
+        "P>=0.5 [ F P>=0.5 [ F \"goal\" ] ]",
+        "P>=1/2 [ F P>=1/2 [ F \"goal\" ] ]",
+    ),
+    (
+        "Pmax=?[F<<p1,p2>>P>0.25[X\"a\"]]",
+        "Pmax=? [ F <<p1,p2>> P>1/4 [ X \"a\" ] ]",
+    ),
+    (
+        "<<p1>> P>0 [ G <<>> P<=1 [ F<=7 true ] ]",
+        "<<p1>> P>0 [ G <<>> P<=1 [ F<=7 true ] ]",
+    ),
+    (
+        "Pmax=? [ X P<1[\"a\"U\"b\"] ]",
+        "Pmax=? [ X P<1 [ \"a\" U \"b\" ] ]",
+    ),
+    (
+        "Pmin=? [ F<=3 P<=0.1[\"a\"U<=20\"b\"] ]",
+        "Pmin=? [ F<=3 P<=1/10 [ \"a\" U<=20 \"b\" ] ]",
+    ),
+    (
+        "Pmax=? [ P>=1 [ F \"a\" ] U P>=1 [ G \"b\" ] ]",
+        "Pmax=? [ P>=1 [ F \"a\" ] U P>=1 [ G \"b\" ] ]",
+    ),
+    (
+        "Pmax=? [ \"a\" | <<x>> P>0 [ X true ] U<=2 \"b\" ]",
+        "Pmax=? [ \"a\" | <<x>> P>0 [ X true ] U<=2 \"b\" ]",
+    ),
+    (
+        "Pmax=? [ F !P>=1 [ F \"a\" ] ]",
+        "Pmax=? [ F !P>=1 [ F \"a\" ] ]",
+    ),
+    (
+        "Pmax=? [ F !(<<x>>P>=1 [ F \"a\" ]) ]",
+        "Pmax=? [ F !<<x>> P>=1 [ F \"a\" ] ]",
+    ),
+    (
+        "Pmax=? [ F (P>=1 [ F \"a\" ]) & (P<1 [ F \"b\" ]) & \"c\" ]",
+        "Pmax=? [ F P>=1 [ F \"a\" ] & P<1 [ F \"b\" ] & \"c\" ]",
+    ),
+    (
+        "Pmax=? [ F \"a\" & (\"b\" | P>0[X!\"c\"]) ]",
+        "Pmax=? [ F \"a\" & (\"b\" | P>0 [ X !\"c\" ]) ]",
+    ),
+    (
+        "Pmax=? [ F P>0 [ X \"a\" ] => P>0 [ X \"b\" ] => false ]",
+        "Pmax=? [ F P>0 [ X \"a\" ] => P>0 [ X \"b\" ] => false ]",
+    ),
+    (
+        "Pmax=? [ F P>0 [ X P>0 [ X P>0 [ X \"a\" ] ] ] ]",
+        "Pmax=? [ F P>0 [ X P>0 [ X P>0 [ X \"a\" ] ] ] ]",
+    ),
+    (
+        "Pmax=? [ F P>0[true U P>0[(true) U (\"a\"&\"b\")]] ]",
+        "Pmax=? [ F P>0 [ F P>0 [ F \"a\" & \"b\" ] ] ]",
+    ),
+];
+
 // Texts that are no formula, each with its fault.
-const REFUSED: [(&str, u32, FormulaCause); 58] = [
+const REFUSED: [(&str, u32, FormulaCause); 65] = [
     ("Pmax=? [ F goal ]", 11, FormulaCause::Unexpected),
     ("P>=1.5 [ F true ]", 3, FormulaCause::ThresholdOutOfRange),
     ("P>=0.5 [ F \"goal\"", 17, FormulaCause::End),
@@ -268,18 +328,37 @@ const REFUSED: [(&str, u32, FormulaCause); 58] = [
         3,
         FormulaCause::BadNumber(NumberFault::TooManyDigits),
     ),
-    ("Pmax=? [ F P>=1 [ F \"a\" ] ]", 11, FormulaCause::NotYet),
-    ("Pmax=? [ F Pmax=? [ F \"a\" ] ]", 11, FormulaCause::NotYet),
+    (
+        "P>=0.5 [ F Pmax=? [ F \"goal\" ] ]",
+        11,
+        FormulaCause::AskInside,
+    ),
     (
         "Pmax=? [ Pmin=? [ F \"a\" ] U \"b\" ]",
         9,
-        FormulaCause::NotYet,
+        FormulaCause::AskInside,
     ),
     (
-        "Pmax=? [ F !<<x>>P>=1 [ F \"a\" ] ]",
-        12,
-        FormulaCause::NotYet,
+        "Pmax=? [ F !<<x>>Pmin=? [ F \"a\" ] ]",
+        17,
+        FormulaCause::AskInside,
     ),
+    (
+        "Pmax=? [ F P>=1 [ G Pmax [ X true ] ] ]",
+        20,
+        FormulaCause::AskInside,
+    ),
+    ("Pmax=? [ F P=? [ F \"a\" ] ]", 12, FormulaCause::Unexpected),
+    ("Pmax=? [ F <<x>> \"a\" ]", 17, FormulaCause::Unexpected),
+    ("Pmax=? [ F <<x P>=1 [", 15, FormulaCause::Unexpected),
+    (
+        "Pmax=? [ F P>=1.5 [ F \"a\" ] ]",
+        14,
+        FormulaCause::ThresholdOutOfRange,
+    ),
+    ("Pmax=? [ F P>=1 \"a\" ]", 16, FormulaCause::Unexpected),
+    ("Pmax=? [ F P>=1 [ \"a\" ] ]", 22, FormulaCause::Unexpected),
+    ("Pmax=? [ F P>=1 [ F \"a\" ]", 25, FormulaCause::End),
     ("Pmax=? [ F X \"a\" ]", 11, FormulaCause::Unexpected),
     ("Pmax=? [ \"a\" ]", 13, FormulaCause::Unexpected),
     ("Pmax=? [ \"a\" \"b\" ]", 13, FormulaCause::Unexpected),
@@ -312,7 +391,7 @@ const REFUSED: [(&str, u32, FormulaCause); 58] = [
     ("Pmax=? [ G ]", 11, FormulaCause::Unexpected),
     ("Pmax=? [ \"a\" X \"b\" ]", 13, FormulaCause::Unexpected),
     ("Pmax=? [ X \"a\" U \"b\" ]", 15, FormulaCause::Unexpected),
-    ("Pmax=? [ G P>=1 [ F \"a\" ] ]", 11, FormulaCause::NotYet),
+    ("Pmax=? [ G P>=1 ]", 16, FormulaCause::Unexpected),
 ];
 
 // What a text is printed as, or nothing where it is refused.
@@ -349,6 +428,13 @@ fn paths_are_read_printed_and_read_again(rt: HostRuntime) {
 }
 
 #[test]
+fn formulas_inside_are_read_printed_and_read_again(rt: HostRuntime) {
+    for (text, spelling) in INSIDE {
+        assert!(rt; is_spelled(rt.alloc(), text, spelling), "{text}");
+    }
+}
+
+#[test]
 fn each_fault_has_its_place(rt: HostRuntime) {
     let alloc = rt.alloc();
     for (text, place, cause) in REFUSED {
@@ -360,7 +446,7 @@ fn each_fault_has_its_place(rt: HostRuntime) {
     }
 }
 
-// A text of a front, and then a piece so many times.
+// A text with a piece so many times at its end.
 fn repeated(alloc: Global, front: &str, piece: &str, count: usize) -> Result<String, Fail> {
     let mut text = String::from_str(alloc, front)?;
     for _ in 0..count {
@@ -372,22 +458,53 @@ fn repeated(alloc: Global, front: &str, piece: &str, count: usize) -> Result<Str
 #[test]
 fn limits_are_kept(rt: HostRuntime) -> Result<(), Fail> {
     let alloc = rt.alloc();
-    for (front, piece, count, place, cause) in [
-        ("Pmax=? [ F ", "(", 65, 75, FormulaCause::TooDeep),
-        ("Pmax=? [ F ", "(", 64, 75, FormulaCause::End),
-        ("Pmax=? [ F ", "!", 65, 75, FormulaCause::TooDeep),
-        ("Pmax=? [ F ", "!(", 33, 75, FormulaCause::TooDeep),
-        ("", " ", 4097, 4096, FormulaCause::TooLong),
-        ("", " ", 4096, 4096, FormulaCause::End),
-        ("Pmax=? [ F \"", "a", 256, 11, FormulaCause::Unexpected),
-        ("Pmax=? [ F \"", "a", 255, 267, FormulaCause::End),
+    for (front, piece, count, back, place, cause) in [
+        ("Pmax=? [ F ", "(", 65, "", 75, FormulaCause::TooDeep),
+        ("Pmax=? [ F ", "(", 64, "", 75, FormulaCause::End),
+        ("Pmax=? [ F ", "!", 65, "", 75, FormulaCause::TooDeep),
+        ("Pmax=? [ F ", "!(", 33, "", 75, FormulaCause::TooDeep),
+        ("Pmax=? [ F ", "P>=1[X ", 65, "", 463, FormulaCause::TooDeep),
+        ("Pmax=? [ F ", "P>=1[X ", 64, "", 459, FormulaCause::End),
+        (
+            "Pmax=? [ F ",
+            "!",
+            64,
+            "<<a>>P>=1[",
+            84,
+            FormulaCause::TooDeep,
+        ),
+        ("Pmax=? [ F ", "!", 63, "<<a>>P>=1[", 84, FormulaCause::End),
+        ("Pmax=? [ F ", "(", 64, "Pmax", 75, FormulaCause::AskInside),
+        (
+            "Pmax=? [ F ",
+            "(",
+            64,
+            "P>=1 F",
+            80,
+            FormulaCause::Unexpected,
+        ),
+        ("", " ", 4097, "", 4096, FormulaCause::TooLong),
+        ("", " ", 4096, "", 4096, FormulaCause::End),
+        ("Pmax=? [ F \"", "a", 256, "", 11, FormulaCause::Unexpected),
+        ("Pmax=? [ F \"", "a", 255, "", 267, FormulaCause::End),
     ] {
-        let text = repeated(alloc, front, piece, count)?;
+        let mut text = repeated(alloc, front, piece, count)?;
+        text.push_str(back)?;
         let fault = FormulaFault { place, cause };
         assert!(rt;
             matches!(printed(alloc, text.as_str()), Err(found) if found == fault),
-            "{piece} {count}"
+            "{piece} {count} {back}"
         );
     }
+    Ok(())
+}
+
+#[test]
+fn sixty_four_formulas_inside_one_another_are_read(rt: HostRuntime) -> Result<(), Fail> {
+    let alloc = rt.alloc();
+    let mut text = repeated(alloc, "Pmax=? [ F ", "P>=1 [ X ", 64)?;
+    text.push_str("true")?;
+    text.push_str(repeated(alloc, " ]", " ]", 64)?.as_str())?;
+    assert!(rt; is_spelled(alloc, text.as_str(), text.as_str()));
     Ok(())
 }

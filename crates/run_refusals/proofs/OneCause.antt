@@ -52,8 +52,8 @@ formula-one formula.TooDeep formula.TooDeep e = refl
 formula-one (formula.BadNumber fault) (formula.BadNumber other) e = let same = number_fault-one fault other (append_cancel_left (codes "BadNumber ") _ _ e) in cc
 formula-one formula.ThresholdOutOfRange formula.ThresholdOutOfRange e = refl
 formula-one formula.TooLong formula.TooLong e = refl
-formula-one formula.NotYet formula.NotYet e = refl
 formula-one formula.BadSteps formula.BadSteps e = refl
+formula-one formula.AskInside formula.AskInside e = refl
 formula-one a b e = absurd (omega (arith, at e 0, at e 3))
 
 pub lab-one : (a b : LabCause) → LabInFull a → LabInFull b → lab_text a ≡ lab_text b → a ≡ b

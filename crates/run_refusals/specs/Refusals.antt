@@ -88,8 +88,8 @@ formula_text formula.TooDeep = codes "TooDeep"
 formula_text (formula.BadNumber fault) = codes "BadNumber " ++ number_text fault
 formula_text formula.ThresholdOutOfRange = codes "ThresholdOutOfRange"
 formula_text formula.TooLong = codes "TooLong"
-formula_text formula.NotYet = codes "NotYet"
 formula_text formula.BadSteps = codes "BadSteps"
+formula_text formula.AskInside = codes "AskInside"
 
 abbrev pub question_text : PoseFault → List ℕ
 question_text question.OutOfMemory = codes "OutOfMemory"

@@ -123,8 +123,8 @@ pub fn formula_cause(alloc: Global, cause: FormulaCause) -> Result<String, Alloc
         }
         FormulaCause::ThresholdOutOfRange => String::from_str(alloc, "ThresholdOutOfRange"),
         FormulaCause::TooLong => String::from_str(alloc, "TooLong"),
-        FormulaCause::NotYet => String::from_str(alloc, "NotYet"),
         FormulaCause::BadSteps => String::from_str(alloc, "BadSteps"),
+        FormulaCause::AskInside => String::from_str(alloc, "AskInside"),
     }
 }
 

@@ -42,6 +42,10 @@ fn each_bound_has_its_dual(rt: HostRuntime) -> Result<(), Fail> {
         ("<<p1>> P<=1 [ G !\"a\" ]", "<<p1>> P>=0 [ F !!\"a\" ]"),
         ("<<>> P<0 [ G true ]", "<<>> P>1 [ F !true ]"),
         (
+            "P>=0.25 [ G P>0 [ X \"a\" ] ]",
+            "P<=3/4 [ F !P>0 [ X \"a\" ] ]",
+        ),
+        (
             "<<p1,p2>> Pmax=? [ G \"a\" | false ]",
             "<<p1,p2>> Pmin=? [ F !(\"a\" | false) ]",
         ),

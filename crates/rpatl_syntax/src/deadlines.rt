@@ -1,0 +1,38 @@
+//! Deadlines of paths.
+
+ghost use Rattle.std.specs.Prelude.{◌≡◌};
+ghost use Rattle.rpatl_syntax.specs.Fault.{Says};
+ghost use Rattle.rpatl_syntax.specs.Grammar.{steps, deadline};
+ghost use Rattle.rpatl_syntax.specs.Cursor.{tokens_at, token_of, kind_at};
+
+use crate::cursor::Cursor;
+use crate::fault::{FormulaCause, FormulaFault};
+use crate::formula::PathKind;
+use crate::limits::MOST_STEPS;
+use crate::tokens::{Token, behind_if, next_token};
+use text_lines::whole;
+
+/// The number of steps that `<=` sets a path, where one stands.
+pub fn read_deadline<'a>(cursor: Cursor<'a>) -> Result<(PathKind, Cursor<'a>), FormulaFault>
+    ensures { Says kind_at result (deadline (tokens_at cursor.entry)) }
+{
+    let Some(behind_sign) = behind_if(cursor, "<=") else {
+        return Ok((PathKind::Until, cursor));
+    };
+    let token = next_token(behind_sign)?;
+    let steps = steps_in(&token)?;
+    Ok((PathKind::Within(steps), token.after))
+}
+
+// A whole number of steps, which are not too many.
+fn steps_in(token: &Token<'_>) -> Result<u32, FormulaFault>
+    ensures { Says (λ value. value) result (steps (token_of token.now)) }
+{
+    if !token.is_number() {
+        return Err(token.fault(FormulaCause::Unexpected));
+    }
+    match whole(token.spelling) {
+        Some(steps) if steps <= u64::from(MOST_STEPS) => Ok(steps as u32),
+        _ => Err(token.fault(FormulaCause::BadSteps)),
+    }
+}
