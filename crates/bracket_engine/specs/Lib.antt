@@ -2,6 +2,7 @@ pub mod Limits
 pub mod Lower
 pub mod Agenda
 pub mod Bracket
+pub mod Found
 pub mod Choices
 pub mod Race
 pub mod Replies

@@ -15,8 +15,8 @@ use Rattle.rpatl_syntax.specs.Formula.{Tree}
 use Rattle.formula_sets.specs.declared.fault.PoseFault.{PoseFault}
 use Rattle.formula_sets.specs.declared.question.Posed.{Posed}
 use Rattle.formula_sets.specs.Truth.{holds, unknown_label}
-use Rattle.formula_sets.specs.Sides.{side_of, members_of, unknown_player}
-use Rattle.formula_sets.specs.Posing.{Posing, IsSetUp, Poses, init, formula_labels, is_lost, at_states, question_with, question_of, some_state, known_with, initial_said, made_of, pose_said, Gives}
+use Rattle.formula_sets.specs.Sides.{side_of, unknown_player}
+use Rattle.formula_sets.specs.Posing.{Posing, IsSetUp, Poses, init, formula_labels, formula_players, is_lost, at_states, question_with, question_of, some_state, known_with, initial_said, made_of, pose_said, Gives}
 use Rattle.formula_sets.specs.Seen.{posing_of}
 
 -- 1. What is said at each state.
@@ -67,30 +67,30 @@ module _ (l : Labelling) (o : Ownership) (f : Tree) where
   -- the names are there, and these are the initial states
   pub record IsBegun (initial : List ℕ) : Type 0 where
     pub labels : All (λ name. is_known l name ≡ true) (formula_labels f)
-    pub players : All (λ name. is_player o name ≡ true) (members_of f.coalition)
+    pub players : All (λ name. is_player o name ≡ true) (formula_players f)
     pub starts : initial ≡ states_with l init
     pub some : initial ≢ []
 
-  begun : (found initial : List ℕ) → found ≡ states_with l init → unknown_label l (formula_labels f) ≡ None → unknown_player o (members_of f.coalition) ≡ None → some_state found ≡ Ok initial → IsBegun initial
+  begun : (found initial : List ℕ) → found ≡ states_with l init → unknown_label l (formula_labels f) ≡ None → unknown_player o (formula_players f) ≡ None → some_state found ≡ Ok initial → IsBegun initial
   begun [] initial starts label player is = cc
   begun (s ∷ found) initial starts label player is =
       let P : List ℕ → Type 0 = λ xs. IsBegun xs in
       let same : s ∷ found ≡ initial = cc in
       subst P same (record {
         labels = none-refused (is_known l) (formula_labels f) label;
-        players = none-refused (is_player o) (members_of f.coalition) player;
+        players = none-refused (is_player o) (formula_players f) player;
         starts = starts;
         some = λ e. cc e;
       })
 
-  said : (label player : Option (List ℕ)) (initial : List ℕ) → unknown_label l (formula_labels f) ≡ label → unknown_player o (members_of f.coalition) ≡ player
+  said : (label player : Option (List ℕ)) (initial : List ℕ) → unknown_label l (formula_labels f) ≡ label → unknown_player o (formula_players f) ≡ player
       → known_with label player (some_state (states_with l init)) ≡ Ok initial → IsBegun initial
   said (Some label) player initial known played is = cc
   said None (Some player) initial known played is = cc
   said None None initial known played is = begun (states_with l init) initial refl known played is
 
   pub initial-found : (initial : List ℕ) → initial_said l o f ≡ Ok initial → IsBegun initial
-  initial-found initial is = said (unknown_label l (formula_labels f)) (unknown_player o (members_of f.coalition)) initial refl refl is
+  initial-found initial is = said (unknown_label l (formula_labels f)) (unknown_player o (formula_players f)) initial refl refl is
 
   begins : (initial : List ℕ) → initial ≢ [] → some_state initial ≡ Ok initial
   begins [] some = absurd (some refl)
@@ -98,8 +98,8 @@ module _ (l : Labelling) (o : Ownership) (f : Tree) where
 
   pub initial-again : (initial : List ℕ) → IsBegun initial → initial_said l o f ≡ Ok initial
   initial-again initial h =
-      ap (λ label. known_with label (unknown_player o (members_of f.coalition)) (some_state (states_with l init))) (refused-none (is_known l) (formula_labels f) h.labels)
-      ∙ ap (λ player. known_with None player (some_state (states_with l init))) (refused-none (is_player o) (members_of f.coalition) h.players)
+      ap (λ label. known_with label (unknown_player o (formula_players f)) (some_state (states_with l init))) (refused-none (is_known l) (formula_labels f) h.labels)
+      ∙ ap (λ player. known_with None player (some_state (states_with l init))) (refused-none (is_player o) (formula_players f) h.players)
       ∙ ap some_state (sym h.starts)
       ∙ begins initial h.some
 

@@ -12,7 +12,13 @@ use Rattle.rpatl_syntax.specs.Formula.{Tree}
 use Rattle.formula_sets.specs.declared.fault.PoseFault.{PoseFault}
 use Rattle.formula_sets.specs.declared.fault.PoseFault.TheVariants.{OutOfMemory, UnknownLabel, UnknownPlayer, NoInit}
 use Rattle.formula_sets.specs.Truth.{holds, labels_in, unknown_label}
-use Rattle.formula_sets.specs.Sides.{side_of, members_of, unknown_player}
+use Rattle.formula_sets.specs.Sides.{side_of, members_of, players_in, unknown_player}
+
+-- a game whose states have labels and owners
+pub record Model : Type 0 where
+  pub game : List (List Distribution)
+  pub labels : Labelling
+  pub owners : Ownership
 
 -- a question, and its initial states
 pub record Posing : Type 0 where
@@ -40,6 +46,10 @@ init = codes "init"
 abbrev pub formula_labels : Tree → List (List ℕ)
 formula_labels f = labels_in f.left ++ labels_in f.right
 
+-- the players that a formula names, in the order of the text
+abbrev pub formula_players : Tree → List (List ℕ)
+formula_players f = members_of f.coalition ++ (players_in f.left ++ players_in f.right)
+
 -- neither side holds at the state
 abbrev pub is_lost : Labelling → Tree → ℕ → Bool
 is_lost l f s = not (holds l f.right s) && not (holds l f.left s)
@@ -53,7 +63,7 @@ opening_at l f s = if holds l f.right s then unit else 0
 -- whatever the path: the names in the formula are there, and the question is of this game, with the formula's sides and the initial states
 pub record IsSetUp (game : List (List Distribution)) (l : Labelling) (o : Ownership) (f : Tree) (question : Query) (initial : List ℕ) : Type 0 where
   pub labels : All (λ name. is_known l name ≡ true) (formula_labels f)
-  pub players : All (λ name. is_player o name ≡ true) (members_of f.coalition)
+  pub players : All (λ name. is_player o name ≡ true) (formula_players f)
   pub game_same : question.game ≡ game
   pub side_count : length question.sides ≡ length game
   pub goal_count : length question.goals ≡ length game
@@ -105,7 +115,7 @@ known_with None None initial = initial
 
 -- the initial states, or the first fault
 abbrev pub initial_said : Labelling → Ownership → Tree → Result (List ℕ) PoseFault
-initial_said l o f = known_with (unknown_label l (formula_labels f)) (unknown_player o (members_of f.coalition)) (some_state (states_with l init))
+initial_said l o f = known_with (unknown_label l (formula_labels f)) (unknown_player o (formula_players f)) (some_state (states_with l init))
 
 -- what is made of initial states, or the fault
 abbrev pub made_of : {X : Type 0} → (List ℕ → X) → Result (List ℕ) PoseFault → Result X PoseFault

@@ -1,5 +1,5 @@
 -- Who chooses at each state.
-use Rattle.std.specs.Prelude.{ℕ, Bool, not, List, [], Option, Some, None, bytes_eq, find, if◌then◌else◌}
+use Rattle.std.specs.Prelude.{ℕ, Bool, not, List, [], ◌++◌, Option, Some, None, bytes_eq, find, if◌then◌else◌}
 use Rattle.std.specs.List.{list_any}
 use Rattle.game_model.specs.declared.game.Side.{Side}
 use Rattle.game_model.specs.declared.game.Side.TheVariants.{Max, Min}
@@ -7,6 +7,7 @@ use Rattle.game_model.specs.Dual.{other_side}
 use Rattle.label_reader.specs.Owners.{Ownership, owner_of, is_player}
 use Rattle.rpatl_syntax.specs.declared.formula.Bound.{Bound}
 use Rattle.rpatl_syntax.specs.declared.formula.Bound.TheVariants.{AtLeast, Above, AtMost, Below, AskMax, AskMin}
+use Rattle.rpatl_syntax.specs.Formula.{State, True, False, Label, Not, And, Or, Implies, Inner}
 
 -- the side of a coalition: it tries to keep the bound, or to reach what is asked
 abbrev pub coalition_side : Bound → Side
@@ -38,6 +39,17 @@ side_of (Some names) bound owners s = if is_member names (owner_of owners s) the
 abbrev pub members_of : Option (List (List ℕ)) → List (List ℕ)
 members_of None = []
 members_of (Some names) = names
+
+-- the players that a state formula names, in the order of the text
+abbrev pub players_in : State → List (List ℕ)
+players_in True = []
+players_in False = []
+players_in (Label name) = []
+players_in (Not x) = players_in x
+players_in (And x y) = players_in x ++ players_in y
+players_in (Or x y) = players_in x ++ players_in y
+players_in (Implies x y) = players_in x ++ players_in y
+players_in (Inner team bound kind left right) = members_of team ++ (players_in left ++ players_in right)
 
 -- the first of these players that there is not
 abbrev pub unknown_player : Ownership → List (List ℕ) → Option (List ℕ)

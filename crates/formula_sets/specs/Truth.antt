@@ -1,9 +1,9 @@
 -- Where state formulas hold, and the labels that they name.
 use Rattle.std.specs.Prelude.{ℕ, Bool, true, false, not, ◌&&◌, ◌||◌, List, [], ◌∷◌, ◌++◌, Option, find}
 use Rattle.label_reader.specs.Labels.{Labelling, holds_at, is_known}
-use Rattle.rpatl_syntax.specs.Formula.{State, True, False, Label, Not, And, Or, Implies}
+use Rattle.rpatl_syntax.specs.Formula.{State, True, False, Label, Not, And, Or, Implies, Inner}
 
--- the state formula holds at the state
+-- the state formula holds at the state; labels alone say nothing of a formula inside
 abbrev pub holds : Labelling → State → ℕ → Bool
 holds l True s = true
 holds l False s = false
@@ -12,6 +12,7 @@ holds l (Not x) s = not (holds l x s)
 holds l (And x y) s = holds l x s && holds l y s
 holds l (Or x y) s = holds l x s || holds l y s
 holds l (Implies x y) s = not (holds l x s) || holds l y s
+holds l (Inner team bound kind left right) s = false
 
 -- the labels that it names, in the order of the text
 abbrev pub labels_in : State → List (List ℕ)
@@ -22,6 +23,7 @@ labels_in (Not x) = labels_in x
 labels_in (And x y) = labels_in x ++ labels_in y
 labels_in (Or x y) = labels_in x ++ labels_in y
 labels_in (Implies x y) = labels_in x ++ labels_in y
+labels_in (Inner team bound kind left right) = labels_in left ++ labels_in right
 
 -- the first of these labels that there is not
 abbrev pub unknown_label : Labelling → List (List ℕ) → Option (List ℕ)

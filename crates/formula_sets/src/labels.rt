@@ -9,7 +9,7 @@ use game_outside::Name;
 use label_reader::Labels;
 use rpatl_syntax::{Formula, StateFormula};
 
-/// Whether a state formula holds at a state.
+/// Whether a state formula holds at a state. Labels alone say nothing of a formula inside: it holds nowhere.
 pub fn holds_at_state(labels: &Labels, formula: &StateFormula, state: u32) -> bool
     requires { state < labels.now.states }
     ensures { result ≡ holds labels.now (state_of formula.now) state }
@@ -28,6 +28,7 @@ pub fn holds_at_state(labels: &Labels, formula: &StateFormula, state: u32) -> bo
         StateFormula::Implied(x, y) => {
             !holds_at_state(labels, x, state) || holds_at_state(labels, y, state)
         }
+        StateFormula::Inner(_) => false,
     }
 }
 
@@ -49,6 +50,9 @@ fn first_unknown<'a>(labels: &Labels, formula: &'a StateFormula) -> Option<&'a N
         StateFormula::Both(x, y) => first_unknown(labels, x).or(first_unknown(labels, y)),
         StateFormula::Either(x, y) => first_unknown(labels, x).or(first_unknown(labels, y)),
         StateFormula::Implied(x, y) => first_unknown(labels, x).or(first_unknown(labels, y)),
+        StateFormula::Inner(inner) => {
+            first_unknown(labels, &inner.left).or(first_unknown(labels, &inner.right))
+        }
     }
 }
 

@@ -17,6 +17,7 @@
 
 mod bounds;
 mod fault;
+mod flat;
 mod labels;
 pub mod laws;
 mod next;
@@ -26,5 +27,6 @@ mod sides;
 mod tests;
 
 pub use fault::PoseFault;
+pub use flat::is_flat;
 pub use next::{PosedNext, pose_next};
-pub use question::{Posed, pose};
+pub use question::{Posed, initial_of, pose, sides_of};

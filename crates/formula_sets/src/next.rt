@@ -4,7 +4,7 @@ ghost use Rattle.std.specs.Prelude.{◌≡◌, ◌<◌, ◌≤◌, Ok, All, IfOk
 ghost use Rattle.game_model.specs.Limits.{unit};
 ghost use Rattle.game_model.specs.Query.{states};
 ghost use Rattle.rpatl_syntax.specs.declared.formula.PathKind.TheVariants.{Next};
-ghost use Rattle.rpatl_syntax.specs.Formula.{tree_of};
+ghost use Rattle.rpatl_syntax.specs.Formula.{IsFlat, tree_of};
 ghost use Rattle.formula_sets.specs.Posing.{NextPosing, PosesNext, at_states, opening_at, unmarked, next_question_of, pose_next_said, Gives};
 ghost use Rattle.formula_sets.specs.Seen.{next_posing_of};
 
@@ -111,6 +111,7 @@ pub fn pose_next<'g>(
     requires kind { formula.now.kind ≡ Next }
     requires labels { labels.now.states ≡ length game.now }
     requires owners { length owners.now.owners ≡ length game.now }
+    requires flat { IsFlat (tree_of formula.now) }
     // What is posed is what the formula asks, or its first fault.
     ensures found { IfOk result (λ posed. PosesNext game.now labels.now owners.now (tree_of formula.now) (next_posing_of posed)) }
     ensures only { (p : NextPosing) → PosesNext game.now labels.now owners.now (tree_of formula.now) p → Gives next_posing_of result (Ok p) }

@@ -2,7 +2,7 @@
 
 ghost use Rattle.std.specs.Prelude.{◌≡◌, ◌<◌, ◌&&◌, not, Ok, All, IfOk, length};
 ghost use Rattle.game_model.specs.Query.{states};
-ghost use Rattle.rpatl_syntax.specs.Formula.{state_of, tree_of};
+ghost use Rattle.rpatl_syntax.specs.Formula.{IsFlat, state_of, tree_of};
 ghost use Rattle.formula_sets.specs.Truth.{holds};
 ghost use Rattle.formula_sets.specs.Sides.{side_of};
 ghost use Rattle.formula_sets.specs.Posing.{Posing, Poses, IsUntil, at_states, is_lost, question_of, initial_said, pose_said, Gives};
@@ -110,8 +110,10 @@ pub fn initial_of(
     owners: &Owners,
     formula: &Formula,
 ) -> Result<Vec<u32>, PoseFault>
-    ensures { Gives (λ initial. initial.items) result (initial_said labels.now owners.now (tree_of formula.now)) }
+    ensures said { Gives (λ initial. initial.items) result (initial_said labels.now owners.now (tree_of formula.now)) }
+    ensures inside { IfOk result (λ initial. All (λ s. s < labels.now.states) initial.items) }
 {
+    labels.known();
     if let Some(name) = unknown_label_of(labels, formula) {
         return Err(PoseFault::label(alloc, name));
     }
@@ -156,6 +158,7 @@ pub fn pose<'g>(
     requires kind { IsUntil formula.now.kind }
     requires labels { labels.now.states ≡ length game.now }
     requires owners { length owners.now.owners ≡ length game.now }
+    requires flat { IsFlat (tree_of formula.now) }
     // What is posed is what the formula asks, or its first fault.
     ensures found { IfOk result (λ posed. Poses game.now labels.now owners.now (tree_of formula.now) (posing_of posed)) }
     ensures only { (p : Posing) → Poses game.now labels.now owners.now (tree_of formula.now) p → Gives posing_of result (Ok p) }

@@ -1,14 +1,15 @@
 //! Who chooses at each state.
 
 ghost use Rattle.std.specs.Prelude.{◌≡◌, ◌<◌, option_copied, option_map, length};
-ghost use Rattle.rpatl_syntax.specs.Formula.{names_of, tree_of};
-ghost use Rattle.formula_sets.specs.Sides.{is_member, members_of, side_of, unknown_player};
+ghost use Rattle.rpatl_syntax.specs.Formula.{names_of, state_of, tree_of};
+ghost use Rattle.formula_sets.specs.Posing.{formula_players};
+ghost use Rattle.formula_sets.specs.Sides.{is_member, members_of, players_in, side_of, unknown_player};
 
 use crate::bounds::{coalition_side_of, common_side_of};
 use game_model::Side;
 use game_outside::Name;
 use label_reader::Owners;
-use rpatl_syntax::{Bound, Formula, Names};
+use rpatl_syntax::{Bound, Formula, Names, StateFormula};
 
 fn is_member_of(names: &[Name], name: &[u8]) -> bool
     ensures { result ≡ is_member names.now name.now }
@@ -51,12 +52,39 @@ fn first_stranger<'a>(owners: &Owners, names: &'a [Name]) -> Option<&'a Name>
     None
 }
 
-/// The first player of a formula's coalition that there is not.
-pub fn unknown_player_of<'a>(owners: &Owners, formula: &'a Formula) -> Option<&'a Name>
-    ensures { option_copied result ≡ unknown_player owners.now (members_of (tree_of formula.now).coalition) }
+// The first player of a coalition that there is not.
+fn first_stranger_of<'a>(owners: &Owners, coalition: &'a Option<Names>) -> Option<&'a Name>
+    ensures { option_copied result ≡ unknown_player owners.now (members_of (option_map names_of coalition.now)) }
 {
-    match &formula.coalition {
+    match coalition {
         None => None,
         Some(names) => first_stranger(owners, &names.list),
     }
+}
+
+// The first player in a state formula that there is not.
+#[tactic(auto, using(crate::proofs::Finding::first_stranger_of))]
+fn first_stranger_in<'a>(owners: &Owners, formula: &'a StateFormula) -> Option<&'a Name>
+    ensures { option_copied result ≡ unknown_player owners.now (players_in (state_of formula.now)) }
+{
+    match formula {
+        StateFormula::All | StateFormula::Nothing | StateFormula::Named(_) => None,
+        StateFormula::Negated(x) => first_stranger_in(owners, x),
+        StateFormula::Both(x, y) | StateFormula::Either(x, y) | StateFormula::Implied(x, y) => {
+            first_stranger_in(owners, x).or(first_stranger_in(owners, y))
+        }
+        StateFormula::Inner(inner) => first_stranger_of(owners, &inner.coalition).or(
+            first_stranger_in(owners, &inner.left).or(first_stranger_in(owners, &inner.right)),
+        ),
+    }
+}
+
+/// The first player that a formula names and that there is not.
+#[tactic(auto, using(crate::proofs::Finding::first_stranger_of))]
+pub fn unknown_player_of<'a>(owners: &Owners, formula: &'a Formula) -> Option<&'a Name>
+    ensures { option_copied result ≡ unknown_player owners.now (formula_players (tree_of formula.now)) }
+{
+    first_stranger_of(owners, &formula.coalition).or(first_stranger_in(owners, &formula.left).or(
+        first_stranger_in(owners, &formula.right),
+    ))
 }

@@ -1,0 +1,26 @@
+//! Whether formulas stand inside a formula.
+
+ghost use Rattle.std.specs.Prelude.{◌≡◌, ◌&&◌};
+ghost use Rattle.rpatl_syntax.specs.Formula.{is_flat, state_of};
+
+use rpatl_syntax::{Formula, StateFormula};
+
+/// Whether no formula stands inside the sides of a formula.
+pub fn is_flat(formula: &Formula) -> bool
+    ensures { result ≡ (is_flat (state_of formula.now.left) && is_flat (state_of formula.now.right)) }
+{
+    is_flat_state(&formula.left) && is_flat_state(&formula.right)
+}
+
+fn is_flat_state(state: &StateFormula) -> bool
+    ensures { result ≡ is_flat (state_of state.now) }
+{
+    match state {
+        StateFormula::All | StateFormula::Nothing | StateFormula::Named(_) => true,
+        StateFormula::Negated(x) => is_flat_state(x),
+        StateFormula::Both(x, y) | StateFormula::Either(x, y) | StateFormula::Implied(x, y) => {
+            is_flat_state(x) && is_flat_state(y)
+        }
+        StateFormula::Inner(_) => false,
+    }
+}

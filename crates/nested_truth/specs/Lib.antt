@@ -1,0 +1,8 @@
+pub mod Truth
+pub mod Rest
+pub mod Bands
+pub mod Runs
+pub mod Sound
+pub mod Coarse
+pub mod Nested
+pub mod Seen

@@ -1,0 +1,60 @@
+-- When formulas are true at the states of a model. A formula inside a state formula holds where it is true.
+use Rattle.std.specs.Prelude.{◌≡◌, ◌<◌, ◌^◌, ◌↔◌, ◌&&◌, ◌||◌, ℕ, Bool, true, false, not, length}
+use Rattle.game_model.specs.Query.{Query}
+use Rattle.game_model.specs.Values.{denominator, numerator}
+use Rattle.label_reader.specs.Labels.{Labelling, holds_at}
+use Rattle.rpatl_syntax.specs.declared.formula.PathKind.{PathKind}
+use Rattle.rpatl_syntax.specs.declared.formula.PathKind.TheVariants.{Until, Within, Next, Always}
+use Rattle.rpatl_syntax.specs.Dual.{Keeps, dual_bound, dual_of}
+use Rattle.rpatl_syntax.specs.Formula.{State, True, False, Label, Not, And, Or, Implies, Inner, Tree}
+use Rattle.formula_sets.specs.Posing.{Model, at_states, question_with, next_question_of}
+use Rattle.bounded_rounds.specs.Exact.{next_numerator}
+use Rattle.verdicts.specs.Truth.{IsTrueOf}
+
+abbrev pub states : Model → ℕ
+states m = length m.game
+
+-- the formula, as a formula inside a state formula
+abbrev pub inside_of : Tree → State
+inside_of f = Inner f.coalition f.bound f.kind f.left f.right
+
+-- where each formula is said to be true
+abbrev pub Told : Type 0
+Told = Tree → ℕ → Bool
+
+-- the state formula holds at a state, where formulas inside hold as told
+abbrev pub holds : Labelling → Told → State → ℕ → Bool
+holds l told True s = true
+holds l told False s = false
+holds l told (Label name) s = holds_at l name s
+holds l told (Not x) s = not (holds l told x s)
+holds l told (And x y) s = holds l told x s && holds l told y s
+holds l told (Or x y) s = holds l told x s || holds l told y s
+holds l told (Implies x y) s = not (holds l told x s) || holds l told y s
+holds l told (Inner team bound kind left right) s = told (record { coalition = team; bound = bound; kind = kind; left = left; right = right }) s
+
+-- the question of a formula whose sides hold at these states
+abbrev pub question_by : Model → Tree → (ℕ → Bool) → (ℕ → Bool) → Query
+question_by m f left right = question_with m.game m.owners f (at_states right (states m)) (at_states (λ s. not (right s) && not (left s)) (states m))
+
+abbrev pub everywhere : ℕ → Bool
+everywhere s = true
+
+-- the question by which `G y` is judged, where y holds at these states: that of `F !y`
+abbrev pub dual_question_by : Model → Tree → (ℕ → Bool) → Query
+dual_question_by m f right = question_by m (dual_of f) everywhere (λ s. not (right s))
+
+-- the formula, with a path of this kind whose sides hold at these states, is true at a state
+abbrev pub IsTrueBy : PathKind → Model → Tree → (ℕ → Bool) → (ℕ → Bool) → ℕ → Type 0
+IsTrueBy Until m f left right s = IsTrueOf (question_by m f left right) f.bound s
+IsTrueBy (Within k) m f left right s = Keeps f.bound (numerator (question_by m f left right) k s) (denominator m.game ^ k)
+IsTrueBy Next m f left right s = Keeps f.bound (next_numerator (next_question_of m.game m.owners f) right s) (denominator m.game)
+IsTrueBy Always m f left right s = IsTrueOf (dual_question_by m f right) (dual_bound f.bound) s
+
+-- the formula is true at a state, where formulas inside hold as told
+abbrev pub IsTrue : Model → Told → Tree → ℕ → Type 0
+IsTrue m told f s = IsTrueBy f.kind m f (holds m.labels told f.left) (holds m.labels told f.right) s
+
+-- What is told is the truth: of each formula that it is true at exactly the states where it is. There are no two such tellings.
+abbrev pub IsTruth : Model → Told → Type 0
+IsTruth m told = (f : Tree) (s : ℕ) → s < states m → (told f s ≡ true) ↔ IsTrue m told f s

@@ -1,0 +1,44 @@
+//! Bounds that runs find.
+
+ghost use Rattle.std.specs.Prelude.{◌≡◌, IfOk};
+ghost use Rattle.bracket_engine.specs.Bracket.{rests_of};
+
+use game_model::UNIT;
+use game_outside::OutOfMemory;
+use std::alloc::{AllocError, Global};
+use verdicts::How;
+
+/// A lower and an upper bound for each state, in units, and how many rounds or steps the lower ones come from; where they are mirrored, the upper ones.
+#[derive(Drop)]
+pub struct Bounds {
+    pub lower: Vec<u64>,
+    pub upper: Vec<u64>,
+    pub how: How,
+}
+
+impl Bounds {
+    ghost use Rattle.nested_truth.specs.Runs.{mirrored};
+    ghost use Rattle.nested_truth.specs.Seen.{band_in};
+
+    /// 1 less the bounds: those of what does not happen.
+    pub fn mirrored(&self, alloc: Global) -> Result<Bounds, OutOfMemory>
+        ensures band { IfOk result (λ bounds. band_in bounds ≡ mirrored (band_in self.now)) }
+        ensures how { IfOk result (λ bounds. bounds.how ≡ self.now.how) }
+    {
+        Ok(Bounds {
+            lower: rests(alloc, &self.upper)?,
+            upper: rests(alloc, &self.lower)?,
+            how: self.how,
+        })
+    }
+}
+
+// The unit less each value.
+fn rests(alloc: Global, values: &[u64]) -> Result<Vec<u64>, AllocError>
+    ensures { IfOk result (λ rests. rests.items ≡ rests_of values.now) }
+{
+    values
+        .iter()
+        .map(|value| UNIT.saturating_sub(*value))
+        .collect(alloc)
+}

@@ -1,0 +1,125 @@
+//! What bounds say of a formula inside.
+
+ghost use Rattle.std.specs.Prelude.{◌≡◌, IfOk, length};
+ghost use Rattle.nested_truth.specs.Bands.{is_no, is_undecided, is_yes, judgement, undecided_at};
+ghost use Rattle.nested_truth.specs.Seen.{AreAlike, IsBand, band_in, seen};
+
+use crate::bounds::Bounds;
+use crate::known::KnownSets;
+use rpatl_syntax::Bound;
+use std::alloc::{AllocError, Global};
+use verdicts::{Verdict, settle};
+
+/// What is known of a state formula, and what was left open inside it.
+#[derive(Drop)]
+pub struct Judged {
+    pub sets: KnownSets,
+    /// How many formulas stand inside, at any depth.
+    pub inner: u32,
+    /// How many pairs of one of them and a state are left undecided.
+    pub undecided: u32,
+}
+
+impl Judged {
+    ghost use Rattle.std.specs.Prelude.{ℕ, ◌+◌, ◌<◌, ◌^◌};
+    ghost use Rattle.rpatl_syntax.specs.Formula.{State, Not, And, Or, Implies};
+    ghost use Rattle.formula_sets.specs.Posing.{Model};
+    ghost use Rattle.nested_truth.specs.Seen.{IsJudged};
+
+    /// What is known of `!x`.
+    pub fn negated(self) -> Judged
+        ensures { (m : Model) (asked : ℕ) (x : State) → IsJudged m asked x self → IsJudged m asked (Not x) result }
+    {
+        Judged {
+            sets: self.sets.negated(),
+            inner: self.inner,
+            undecided: self.undecided,
+        }
+    }
+
+    /// What is known of `x & y`.
+    pub fn both(self, other: Judged) -> Judged
+        requires states { length other.sets.sure.items ≡ length self.sets.sure.items }
+        requires inner { self.inner + other.inner < 2 ^ 32 }
+        requires undecided { self.undecided + other.undecided < 2 ^ 32 }
+        ensures { (m : Model) (asked : ℕ) (x y : State) → IsJudged m asked x self → IsJudged m asked y other → IsJudged m asked (And x y) result }
+    {
+        Judged {
+            sets: self.sets.both(&other.sets),
+            inner: self.inner + other.inner,
+            undecided: self.undecided + other.undecided,
+        }
+    }
+
+    /// What is known of `x | y`.
+    pub fn either(self, other: Judged) -> Judged
+        requires states { length other.sets.sure.items ≡ length self.sets.sure.items }
+        requires inner { self.inner + other.inner < 2 ^ 32 }
+        requires undecided { self.undecided + other.undecided < 2 ^ 32 }
+        ensures { (m : Model) (asked : ℕ) (x y : State) → IsJudged m asked x self → IsJudged m asked y other → IsJudged m asked (Or x y) result }
+    {
+        Judged {
+            sets: self.sets.either(&other.sets),
+            inner: self.inner + other.inner,
+            undecided: self.undecided + other.undecided,
+        }
+    }
+
+    /// What is known of `x => y`.
+    pub fn implied(self, other: Judged) -> Judged
+        requires states { length other.sets.sure.items ≡ length self.sets.sure.items }
+        requires inner { self.inner + other.inner < 2 ^ 32 }
+        requires undecided { self.undecided + other.undecided < 2 ^ 32 }
+        ensures { (m : Model) (asked : ℕ) (x y : State) → IsJudged m asked x self → IsJudged m asked y other → IsJudged m asked (Implies x y) result }
+    {
+        Judged {
+            sets: self.sets.negated().either(&other.sets),
+            inner: self.inner + other.inner,
+            undecided: self.undecided + other.undecided,
+        }
+    }
+}
+
+/// Where a bound surely holds and where it possibly does, by bounds of the value at each of so many states; and at how many
+/// of them these leave it undecided.
+pub fn judged_by(
+    alloc: Global,
+    bound: &Bound,
+    bounds: &Bounds,
+    states: u32,
+) -> Result<(KnownSets, u32), AllocError>
+    requires { IsBand states (band_in bounds.now) }
+    ensures states { IfOk result (λ found. length found.0.sure.items ≡ states) }
+    ensures known { IfOk result (λ found. AreAlike states (judgement bound.now (band_in bounds.now)) (seen found.0)) }
+    ensures undecided { IfOk result (λ found. found.1 ≡ undecided_at bound.now (band_in bounds.now) states) }
+{
+    let mut sure = Vec::with_capacity(alloc, states as usize)?;
+    let mut possible = Vec::with_capacity(alloc, states as usize)?;
+    let mut undecided: u32 = 0;
+    for state in 0..states {
+        let place = state as usize;
+        let verdict = settle(bound, bounds.lower[place], bounds.upper[place]);
+        sure.push(is_yes(verdict))?;
+        possible.push(!is_no(verdict))?;
+        undecided += u32::from(is_undecided(verdict));
+    }
+    Ok((KnownSets { sure, possible }, undecided))
+}
+
+fn is_yes(verdict: Verdict) -> bool
+    ensures { result ≡ is_yes verdict }
+{
+    matches!(verdict, Verdict::Yes)
+}
+
+fn is_no(verdict: Verdict) -> bool
+    ensures { result ≡ is_no verdict }
+{
+    matches!(verdict, Verdict::No)
+}
+
+fn is_undecided(verdict: Verdict) -> bool
+    ensures { result ≡ is_undecided verdict }
+{
+    matches!(verdict, Verdict::Undecided)
+}

@@ -1,0 +1,150 @@
+//! What is known of a state formula.
+
+ghost use Rattle.std.specs.Prelude.{◌≡◌, ◌<◌, ◌&&◌, ◌||◌, ◌↔◌, ℕ, not, length, slice_index_or, true, false, IfOk};
+ghost use Rattle.label_reader.specs.Labels.{holds_at};
+ghost use Rattle.formula_sets.specs.Posing.{at_states};
+
+use game_outside::Name;
+use label_reader::Labels;
+use std::alloc::{AllocError, Global};
+
+/// Where a state formula surely holds, and where it possibly does: two marks for each state.
+#[derive(Drop)]
+pub struct KnownSets {
+    /// Where it surely holds.
+    pub sure: Vec<bool>,
+    /// Where it possibly holds.
+    pub possible: Vec<bool>,
+    ghost even: { length possible.items ≡ length sure.items },
+}
+
+impl KnownSets {
+    ghost use Rattle.nested_truth.specs.Bands.{exactly, negated, both, either};
+    ghost use Rattle.nested_truth.specs.Seen.{AreAlike, seen};
+
+    /// It is known to hold at all of so many states, or at none.
+    pub fn constant(alloc: Global, holds: bool, states: u32) -> Result<KnownSets, AllocError>
+        ensures states { IfOk result (λ sets. length sets.sure.items ≡ states) }
+        ensures known { IfOk result (λ sets. AreAlike states (exactly (λ s. holds)) (seen sets)) }
+    {
+        let sure = vec![in alloc; holds; states as usize]?;
+        let possible = vec![in alloc; holds; states as usize]?;
+        Ok(KnownSets { sure, possible })
+    }
+
+    /// It is known to hold where the label with this name does.
+    pub fn of_label(
+        alloc: Global,
+        labels: &Labels,
+        name: &Name,
+        states: u32,
+    ) -> Result<KnownSets, AllocError>
+        requires { labels.now.states ≡ states }
+        ensures states { IfOk result (λ sets. length sets.sure.items ≡ states) }
+        ensures known { IfOk result (λ sets. AreAlike states (exactly (holds_at labels.now name.now)) (seen sets)) }
+    {
+        let sure = marks_of(alloc, labels, name, states)?;
+        let possible = marks_of(alloc, labels, name, states)?;
+        Ok(KnownSets { sure, possible })
+    }
+
+    /// The negation.
+    pub fn negated(self) -> KnownSets
+        ensures states { length result.sure.items ≡ length self.sure.items }
+        ensures known { AreAlike (length self.sure.items) (negated (seen self)) (seen result) }
+    {
+        let KnownSets {
+            mut sure,
+            mut possible,
+        } = self;
+        negate(&mut sure);
+        negate(&mut possible);
+        KnownSets {
+            sure: possible,
+            possible: sure,
+        }
+    }
+
+    /// Both hold.
+    pub fn both(self, other: &KnownSets) -> KnownSets
+        requires { length other.now.sure.items ≡ length self.sure.items }
+        ensures states { length result.sure.items ≡ length self.sure.items }
+        ensures known { AreAlike (length self.sure.items) (both (seen self) (seen other.now)) (seen result) }
+    {
+        let KnownSets {
+            mut sure,
+            mut possible,
+        } = self;
+        intersect(&mut sure, &other.sure);
+        intersect(&mut possible, &other.possible);
+        KnownSets { sure, possible }
+    }
+
+    /// One of them holds.
+    pub fn either(self, other: &KnownSets) -> KnownSets
+        requires { length other.now.sure.items ≡ length self.sure.items }
+        ensures states { length result.sure.items ≡ length self.sure.items }
+        ensures known { AreAlike (length self.sure.items) (either (seen self) (seen other.now)) (seen result) }
+    {
+        let KnownSets {
+            mut sure,
+            mut possible,
+        } = self;
+        unite(&mut sure, &other.sure);
+        unite(&mut possible, &other.possible);
+        KnownSets { sure, possible }
+    }
+}
+
+/// Whether two lists of marks are the same.
+pub fn are_equal(one: &[bool], other: &[bool]) -> bool
+    ensures { (result ≡ true) ↔ (one.now ≡ other.now) }
+{
+    one == other
+}
+
+// Where the label with this name holds.
+fn marks_of(
+    alloc: Global,
+    labels: &Labels,
+    name: &Name,
+    states: u32,
+) -> Result<Vec<bool>, AllocError>
+    requires { labels.now.states ≡ states }
+    ensures { IfOk result (λ v. v.items ≡ at_states (holds_at labels.now name.now) states) }
+{
+    let mut marks = Vec::with_capacity(alloc, states as usize)?;
+    for state in 0..states {
+        marks.push(labels.holds(name.as_bytes(), state))?;
+    }
+    Ok(marks)
+}
+
+// Exchanges the marked places with the others.
+fn negate(marks: &mut [bool])
+    ensures { (s : ℕ) → s < length marks.old → slice_index_or marks.new s false ≡ not (slice_index_or marks.old s false) }
+{
+    for mark in marks.iter_mut() {
+        *mark = !*mark;
+    }
+}
+
+// Keeps the marks that others have, too.
+fn intersect(marks: &mut [bool], others: &[bool])
+    requires { length others.now ≡ length marks.old }
+    ensures { (s : ℕ) → s < length marks.old → slice_index_or marks.new s false ≡ (slice_index_or marks.old s false && slice_index_or others.now s false) }
+{
+    for place in 0..marks.len() {
+        marks[place] = marks[place] && others[place];
+    }
+}
+
+// Adds the marks of others.
+fn unite(marks: &mut [bool], others: &[bool])
+    requires { length others.now ≡ length marks.old }
+    ensures { (s : ℕ) → s < length marks.old → slice_index_or marks.new s false ≡ (slice_index_or marks.old s false || slice_index_or others.now s false) }
+{
+    for place in 0..marks.len() {
+        marks[place] = marks[place] || others[place];
+    }
+}

@@ -1,0 +1,99 @@
+//! The bounds of a formula whose sides are known in part.
+
+ghost use Rattle.std.specs.Prelude.{◌≡◌, ◌<◌, All, IfOk, length};
+ghost use Rattle.predecessors.specs.Lists.{ArePredecessors};
+ghost use Rattle.rpatl_syntax.specs.Formula.{state_of, tree_of};
+ghost use Rattle.rpatl_syntax.specs.Spellable.{HasKind, HasShare};
+ghost use Rattle.nested_truth.specs.Bands.{Known};
+ghost use Rattle.nested_truth.specs.Runs.{AreFoundBy};
+ghost use Rattle.nested_truth.specs.Seen.{IsBand, band_in, model_of, seen};
+
+use crate::bounds::Bounds;
+use crate::known::KnownSets;
+use crate::questions::Questions;
+use crate::races::race;
+use crate::setting::Setting;
+use crate::sweeps::{next_sweep, sweep};
+use game_outside::{Gate, OutOfMemory};
+use rpatl_syntax::{Formula, PathKind, dual};
+use std::alloc::Global;
+use std::thread::Threads;
+
+/// The bounds of a formula, from what is known of its sides. A run ends where the threshold is settled at all of the states
+/// from which it starts.
+pub fn bounds_of<R: Threads + Sync, G: Gate + Sync>(
+    rt: &R,
+    alloc: Global,
+    setting: Setting<'_>,
+    formula: &Formula,
+    left: &KnownSets,
+    right: KnownSets,
+    starts: &[u32],
+    gate: &G,
+) -> Result<Bounds, OutOfMemory>
+    requires kind { HasKind formula.now.kind (state_of formula.now.left) }
+    requires share { HasShare formula.now.bound }
+    requires lists { ArePredecessors setting.game.now setting.predecessors.now }
+    requires left { length left.now.sure.items ≡ length setting.game.now }
+    requires right { length right.sure.items ≡ length setting.game.now }
+    requires starts { All (λ s. s < length setting.game.now) starts.now }
+    ensures found { IfOk result (λ bounds. AreFoundBy formula.now.kind (model_of setting.entry) (tree_of formula.now) (seen left.now) (seen right) starts.now setting.entry.rounds (band_in bounds) bounds.how) }
+    ensures band { IfOk result (λ bounds. IsBand (length setting.entry.game.now) (band_in bounds)) }
+{
+    match formula.kind {
+        PathKind::Until => reached(rt, alloc, setting, formula, left, &right, starts, gate),
+        PathKind::Within(steps) => {
+            let questions = Questions::of_formula(alloc, setting, formula, left, &right)?;
+            sweep(rt, alloc, setting, &questions, steps, gate)
+        }
+        PathKind::Next => next_sweep(rt, alloc, setting, formula, &right, gate),
+        PathKind::Always => always(rt, alloc, setting, formula, right, starts, gate),
+    }
+}
+
+// The bounds of a formula without a bound on the steps.
+fn reached<R: Threads + Sync, G: Gate + Sync>(
+    rt: &R,
+    alloc: Global,
+    setting: Setting<'_>,
+    formula: &Formula,
+    left: &KnownSets,
+    right: &KnownSets,
+    starts: &[u32],
+    gate: &G,
+) -> Result<Bounds, OutOfMemory>
+    requires lists { ArePredecessors setting.game.now setting.predecessors.now }
+    requires left { length left.now.sure.items ≡ length setting.game.now }
+    requires right { length right.now.sure.items ≡ length setting.game.now }
+    requires starts { All (λ s. s < length setting.game.now) starts.now }
+    ensures found { IfOk result (λ bounds. AreFoundBy PathKind.Until (model_of setting.entry) (tree_of formula.now) (seen left.now) (seen right.now) starts.now setting.entry.rounds (band_in bounds) bounds.how) }
+    ensures band { IfOk result (λ bounds. IsBand (length setting.entry.game.now) (band_in bounds)) }
+{
+    let questions = Questions::of_formula(alloc, setting, formula, left, right)?;
+    race(rt, alloc, setting, &questions, formula.bound, starts, gate)
+}
+
+// The bounds of a formula with `G`: 1 less those of its dual.
+fn always<R: Threads + Sync, G: Gate + Sync>(
+    rt: &R,
+    alloc: Global,
+    setting: Setting<'_>,
+    formula: &Formula,
+    right: KnownSets,
+    starts: &[u32],
+    gate: &G,
+) -> Result<Bounds, OutOfMemory>
+    requires kind { formula.now.kind ≡ PathKind.Always }
+    requires share { HasShare formula.now.bound }
+    requires lists { ArePredecessors setting.game.now setting.predecessors.now }
+    requires right { length right.sure.items ≡ length setting.game.now }
+    requires starts { All (λ s. s < length setting.game.now) starts.now }
+    ensures found { IfOk result (λ bounds. (left : Known) → AreFoundBy PathKind.Always (model_of setting.entry) (tree_of formula.now) left (seen right) starts.now setting.entry.rounds (band_in bounds) bounds.how) }
+    ensures band { IfOk result (λ bounds. IsBand (length setting.entry.game.now) (band_in bounds)) }
+{
+    let dual = dual(alloc, formula)?;
+    let left = KnownSets::constant(alloc, true, setting.game.states())?;
+    let right = right.negated();
+    let found = reached(rt, alloc, setting, &dual, &left, &right, starts, gate)?;
+    found.mirrored(alloc)
+}

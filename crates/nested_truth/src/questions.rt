@@ -1,0 +1,120 @@
+//! The two questions of a formula whose sides are known in part.
+
+ghost use Rattle.std.specs.Prelude.{◌≡◌, ◌≢◌, ◌<◌, ◌&&◌, ◌↔◌, ℕ, not, length, slice_index_or, true, false, IfOk, IfSome};
+ghost use Rattle.game_model.specs.Query.{states};
+ghost use Rattle.rpatl_syntax.specs.Formula.{tree_of};
+ghost use Rattle.formula_sets.specs.Posing.{at_states, next_question_of, question_with, unmarked};
+
+use crate::known::{KnownSets, are_equal};
+use crate::setting::Setting;
+use formula_sets::sides_of;
+use game_model::Question;
+use game_outside::OutOfMemory;
+use rpatl_syntax::Formula;
+use std::alloc::{AllocError, Global};
+
+/// The question of the sure states, and that of the possible ones where it is another.
+#[derive(Drop)]
+pub struct Questions<'g> {
+    /// The question of the sure states.
+    pub low: Question<'g>,
+    /// The question of the possible states, where it is another.
+    pub high: Option<Question<'g>>,
+}
+
+impl<'g> Questions<'g> {
+    ghost use Rattle.nested_truth.specs.Runs.{pessimistic, optimistic};
+    ghost use Rattle.nested_truth.specs.Seen.{high_or, model_of, seen};
+
+    /// The questions of a formula, from what is known of its sides.
+    pub fn of_formula(
+        alloc: Global,
+        setting: Setting<'g>,
+        formula: &Formula,
+        left: &KnownSets,
+        right: &KnownSets,
+    ) -> Result<Questions<'g>, OutOfMemory>
+        requires left { length left.now.sure.items ≡ length setting.game.now }
+        requires right { length right.now.sure.items ≡ length setting.game.now }
+        ensures low { IfOk result (λ questions. questions.low ≡ pessimistic (model_of setting.entry) (tree_of formula.now) (seen left.now) (seen right.now)) }
+        ensures other { IfOk result (λ questions. IfSome questions.high (λ question. questions.low ≢ question)) }
+        ensures high { IfOk result (λ questions. high_or questions.low questions.high ≡ optimistic (model_of setting.entry) (tree_of formula.now) (seen left.now) (seen right.now)) }
+    {
+        let low_deads = lost(alloc, &left.sure, &right.sure)?;
+        let high_deads = lost(alloc, &left.possible, &right.possible)?;
+        let same = are_same(&right.sure, &right.possible, &low_deads, &high_deads);
+        let low = question_in(alloc, setting, formula, &right.sure, low_deads)?;
+        if same {
+            return Ok(Questions { low, high: None });
+        }
+        let high = question_in(alloc, setting, formula, &right.possible, high_deads)?;
+        Ok(Questions {
+            low,
+            high: Some(high),
+        })
+    }
+}
+
+// Whether the goals of two questions are the same, and their dead states.
+fn are_same(goals: &[bool], others: &[bool], deads: &[bool], other_deads: &[bool]) -> bool
+    ensures { (result ≡ true) ↔ ((goals.now ≡ others.now) × (deads.now ≡ other_deads.now)) }
+{
+    are_equal(goals, others) && are_equal(deads, other_deads)
+}
+
+// Where neither side holds.
+fn lost(alloc: Global, left: &[bool], right: &[bool]) -> Result<Vec<bool>, AllocError>
+    requires { length left.now ≡ length right.now }
+    ensures { IfOk result (λ v. v.items ≡ at_states (λ s. not (slice_index_or right.now s false) && not (slice_index_or left.now s false)) (length right.now)) }
+{
+    let mut marks = Vec::with_capacity(alloc, right.len())?;
+    for place in 0..right.len() {
+        marks.push(neither(right[place], left[place]))?;
+    }
+    Ok(marks)
+}
+
+fn neither(one: bool, other: bool) -> bool
+    ensures { result ≡ (not one && not other) }
+{
+    !one && !other
+}
+
+// The question of a formula with these goals and dead states.
+fn question_in<'g>(
+    alloc: Global,
+    setting: Setting<'g>,
+    formula: &Formula,
+    goals: &[bool],
+    deads: Vec<bool>,
+) -> Result<Question<'g>, OutOfMemory>
+    requires goals { length goals.now ≡ length setting.game.now }
+    requires deads { length deads.items ≡ length setting.game.now }
+    requires apart { (s : ℕ) → slice_index_or goals.now s false ≡ true → slice_index_or deads.items s false ≡ false }
+    ensures { IfOk result (λ question. question ≡ question_with setting.entry.game.now setting.entry.owners.now (tree_of formula.now) goals.now deads.items) }
+{
+    let sides = sides_of(alloc, setting.owners, formula, setting.game.states())?;
+    let goals = goals.to_vec(alloc)?;
+    Ok(Question::build(setting.game, sides, goals, deads))
+}
+
+/// The question of a formula with `X`: it has no marks.
+pub fn next_question<'g>(
+    alloc: Global,
+    setting: Setting<'g>,
+    formula: &Formula,
+) -> Result<Question<'g>, OutOfMemory>
+    ensures { IfOk result (λ question. question ≡ next_question_of setting.entry.game.now setting.entry.owners.now (tree_of formula.now)) }
+{
+    let states = setting.game.states();
+    let goals = no_marks(alloc, states)?;
+    let deads = no_marks(alloc, states)?;
+    question_in(alloc, setting, formula, &goals, deads)
+}
+
+#[tactic(auto, using(formula_sets::proofs::AskingNext::none_marked))]
+fn no_marks(alloc: Global, states: u32) -> Result<Vec<bool>, AllocError>
+    ensures { IfOk result (λ v. v.items ≡ unmarked states) }
+{
+    vec![in alloc; false; states as usize]
+}

@@ -1,0 +1,32 @@
+//! What the runs of a formula have in common.
+
+ghost use Rattle.std.specs.Prelude.{◌≡◌, ◌≤◌, length};
+ghost use Rattle.std.specs.List.{range_with_len};
+ghost use Rattle.bracket_engine.specs.Limits.{most_rounds};
+ghost use Rattle.bounded_rounds.specs.Limits.{most_workers};
+
+use game_model::Game;
+use label_reader::{Labels, Owners};
+use predecessors::Predecessors;
+
+/// A game with labels and owners, and how it is run.
+#[derive(Clone, Copy)]
+pub struct Setting<'a> {
+    pub game: &'a Game,
+    pub labels: &'a Labels,
+    pub owners: &'a Owners,
+    /// For each state the choices that lead to it.
+    pub predecessors: &'a Predecessors,
+    /// Every state, rising.
+    pub everywhere: &'a [u32],
+    /// The most rounds of a run.
+    pub rounds: u32,
+    /// The most workers of a round or a step.
+    pub workers: u32,
+    ghost labelled: { labels.now.states ≡ length game.now },
+    ghost owned: { length owners.now.owners ≡ length game.now },
+    ghost starts: { everywhere.now ≡ range_with_len 0 (length game.now) },
+    ghost few: { rounds ≤ most_rounds },
+    ghost some_workers: { 1 ≤ workers },
+    ghost few_workers: { workers ≤ most_workers },
+}

@@ -1,0 +1,111 @@
+//! What is known of state formulas, from bounds of the formulas inside.
+
+ghost use Rattle.std.specs.Prelude.{◌≤◌, IfOk, if◌then◌else◌};
+ghost use Rattle.predecessors.specs.Lists.{ArePredecessors};
+ghost use Rattle.rpatl_syntax.specs.Formula.{True, False, Label, formulas_in, state_of, tree_of};
+ghost use Rattle.rpatl_syntax.specs.Limits.{longest};
+ghost use Rattle.rpatl_syntax.specs.Spellable.{HasParts};
+ghost use Rattle.nested_truth.specs.Truth.{inside_of};
+ghost use Rattle.nested_truth.specs.Seen.{IsJudged, model_of};
+
+use crate::judging::{Judged, judged_by};
+use crate::known::KnownSets;
+use crate::operators::bounds_of;
+use crate::setting::Setting;
+use game_outside::{Gate, Name, OutOfMemory};
+use rpatl_syntax::{Formula, StateFormula};
+use std::alloc::Global;
+use std::thread::Threads;
+
+/// What is known of a state formula. Each formula inside is answered first, at every state.
+#[cycle(judged)]
+pub fn judge<R: Threads + Sync, G: Gate + Sync>(
+    rt: &R,
+    alloc: Global,
+    setting: Setting<'_>,
+    formula: &StateFormula,
+    gate: &G,
+) -> Result<Judged, OutOfMemory>
+    requires lists { ArePredecessors setting.game.now setting.predecessors.now }
+    requires few { formulas_in (state_of formula.now) ≤ longest }
+    requires parts { HasParts (state_of formula.now) }
+    ensures { IfOk result (IsJudged (model_of setting.entry) setting.entry.rounds (state_of formula.now)) }
+{
+    setting.game.known();
+    match formula {
+        StateFormula::All => constant(alloc, setting, true),
+        StateFormula::Nothing => constant(alloc, setting, false),
+        StateFormula::Named(name) => labelled(alloc, setting, name),
+        StateFormula::Negated(x) => Ok(judge(rt, alloc, setting, x, gate)?.negated()),
+        StateFormula::Both(x, y) => {
+            let x = judge(rt, alloc, setting, x, gate)?;
+            let y = judge(rt, alloc, setting, y, gate)?;
+            Ok(x.both(y))
+        }
+        StateFormula::Either(x, y) => {
+            let x = judge(rt, alloc, setting, x, gate)?;
+            let y = judge(rt, alloc, setting, y, gate)?;
+            Ok(x.either(y))
+        }
+        StateFormula::Implied(x, y) => {
+            let x = judge(rt, alloc, setting, x, gate)?;
+            let y = judge(rt, alloc, setting, y, gate)?;
+            Ok(x.implied(y))
+        }
+        StateFormula::Inner(inside) => judge_inside(rt, alloc, setting, inside, gate),
+    }
+}
+
+// What is known of a formula inside: what its bounds say at every state.
+#[cycle(judged)]
+fn judge_inside<R: Threads + Sync, G: Gate + Sync>(
+    rt: &R,
+    alloc: Global,
+    setting: Setting<'_>,
+    formula: &Formula,
+    gate: &G,
+) -> Result<Judged, OutOfMemory>
+    requires lists { ArePredecessors setting.game.now setting.predecessors.now }
+    requires few { formulas_in (inside_of (tree_of formula.now)) ≤ longest }
+    requires parts { HasParts (inside_of (tree_of formula.now)) }
+    ensures { IfOk result (IsJudged (model_of setting.entry) setting.entry.rounds (inside_of (tree_of formula.now))) }
+{
+    setting.game.known();
+    let left = judge(rt, alloc, setting, &formula.left, gate)?;
+    let right = judge(rt, alloc, setting, &formula.right, gate)?;
+    let inner = left.inner + right.inner + 1;
+    let before = left.undecided + right.undecided;
+    let starts = setting.everywhere;
+    let bounds = bounds_of(
+        rt, alloc, setting, formula, &left.sets, right.sets, starts, gate,
+    )?;
+    let (sets, undecided) = judged_by(alloc, &formula.bound, &bounds, setting.game.states())?;
+    Ok(Judged {
+        sets,
+        inner,
+        undecided: undecided + before,
+    })
+}
+
+// `true` and `false`: known at every state.
+fn constant(alloc: Global, setting: Setting<'_>, holds: bool) -> Result<Judged, OutOfMemory>
+    ensures { IfOk result (IsJudged (model_of setting.entry) setting.entry.rounds (if holds then True else False)) }
+{
+    Ok(Judged {
+        sets: KnownSets::constant(alloc, holds, setting.game.states())?,
+        inner: 0,
+        undecided: 0,
+    })
+}
+
+// A label: known at every state.
+fn labelled(alloc: Global, setting: Setting<'_>, name: &Name) -> Result<Judged, OutOfMemory>
+    ensures { IfOk result (IsJudged (model_of setting.entry) setting.entry.rounds (Label name.now)) }
+{
+    let states = setting.game.states();
+    Ok(Judged {
+        sets: KnownSets::of_label(alloc, setting.labels, name, states)?,
+        inner: 0,
+        undecided: 0,
+    })
+}
