@@ -1,5 +1,5 @@
 -- What texts and words say by cases is what they ask.
-use Rattle.std.proofs.Common.{◌≡◌, ℕ, Bool, true, false, cond, List, length, Option, Some, None, Result, Ok, Err, refl, sym, ap, subst, ◌∙◌}
+use Rattle.std.proofs.Common.{◌≡◌, ◌&&◌, ℕ, Bool, true, false, cond, List, length, Option, Some, None, Result, Ok, Err, refl, sym, ap, subst, ◌∙◌}
 use Rattle.game_model.specs.Game.{Distribution}
 use Rattle.distributions.proofs.Said.{number-found, number-again}
 use Rattle.distributions.proofs.Chosen.{choice-found, choice-again}
@@ -11,7 +11,7 @@ use Rattle.label_reader.specs.Owners.{Ownership}
 use Rattle.label_reader.specs.Texts.{labels_of, owners_of}
 use Rattle.label_reader.proofs.LabelLaws.{labels_of-found, labels_of-again}
 use Rattle.label_reader.proofs.OwnerLaws.{owners_of-found, owners_of-again}
-use Rattle.rpatl_syntax.specs.Formula.{Tree}
+use Rattle.rpatl_syntax.specs.Formula.{Tree, is_flat, IsFlat}
 use Rattle.rpatl_syntax.specs.Grammar.{formula_said}
 use Rattle.rpatl_syntax.specs.Rules.{Denotes as DenotesFormula}
 use Rattle.rpatl_syntax.proofs.Denoted.{formula_denoted}
@@ -19,7 +19,7 @@ use Rattle.rpatl_syntax.proofs.Again.{formula_said_again}
 use Rattle.rpatl_syntax.specs.declared.formula.PathKind.{PathKind}
 use Rattle.rpatl_syntax.specs.declared.formula.PathKind.TheVariants.{Until, Within, Next, Always}
 use Rattle.rpatl_syntax.specs.Dual.{dual_of}
-use Rattle.formula_sets.specs.Posing.{pose_said, pose_next_said}
+use Rattle.formula_sets.specs.Posing.{Model, initial_said, pose_said, pose_next_said}
 use Rattle.formula_sets.proofs.Asking.{pose-found, pose-again}
 use Rattle.formula_sets.proofs.AskingNext.{pose_next-found, pose_next-again}
 use Rattle.run_refusals.specs.declared.refusal.Refusal.{Refusal}
@@ -28,11 +28,11 @@ use Rattle.run_refusals.specs.declared.refusal.Text.{Text}
 use Rattle.run_refusals.specs.declared.refusal.Text.TheVariants.{Tra, Lab, Own}
 use Rattle.command_words.specs.Words.{Asked}
 use Rattle.asked_files.specs.declared.problem.Paths.{Paths}
-use Rattle.asked_files.specs.Problems.{Problem, OfUntil, OfWithin, OfNext, OfAlways, PosesProblem, takes}
+use Rattle.asked_files.specs.Problems.{Problem, OfUntil, OfWithin, OfNext, OfAlways, OfNested, PosesProblem, takes_formula}
 use Rattle.asked_files.specs.Said.{Said, NotHeld, Refuses, Says, and_then, read_said}
 use Rattle.asked_files.specs.Sources.{Sources}
 use Rattle.asked_files.specs.Texts.{text_said, game_said, labels_said, owners_said}
-use Rattle.asked_files.specs.Posed.{formula_read, Reading, reading_with, behind_owners, behind_labels, behind_game, reading_said, posed_by, where_taken, posed, problem_said}
+use Rattle.asked_files.specs.Posed.{formula_read, Reading, reading_with, behind_owners, behind_labels, behind_game, reading_said, posed_by, nested_posed, any_posed, where_taken, posed, problem_said}
 use Rattle.asked_files.specs.Asks.{IsText, AreOwners, Asks}
 use Rattle.asked_files.proofs.Lengths.{short_says, says_short}
 
@@ -87,26 +87,54 @@ posed_ok : {X F : Type 0} (refusal : F → Refusal) (result : Result X F) (make 
 posed_ok refusal (Ok x) make problem is = (x, refl, cc (is))
 posed_ok refusal (Err fault) make problem is = cc (is)
 
-module _ (game : List (List Distribution)) (labels : Labelling) (owners : Ownership) where
-  poses_by : (kind : PathKind) (formula : Tree) (problem : Problem) → formula.kind ≡ kind → posed_by kind (reading_with game labels owners formula) ≡ Says problem → PosesProblem game labels owners formula problem
-  poses_by Until formula problem of is =
-      let r = posed_ok OfQuestion (pose_said game labels owners formula) OfUntil problem is in
-      subst (PosesProblem game labels owners formula) r.2 (of, pose-found game labels owners formula r.0 r.1)
-  poses_by (Within k) formula problem of is =
-      let r = posed_ok OfQuestion (pose_said game labels owners formula) (OfWithin k) problem is in
-      subst (PosesProblem game labels owners formula) r.2 (of, pose-found game labels owners formula r.0 r.1)
-  poses_by Next formula problem of is =
-      let r = posed_ok OfQuestion (pose_next_said game labels owners formula) OfNext problem is in
-      subst (PosesProblem game labels owners formula) r.2 (of, pose_next-found game labels owners formula r.0 r.1)
-  poses_by Always formula problem of is =
-      let r = posed_ok OfQuestion (pose_said game labels owners (dual_of formula)) OfAlways problem is in
-      subst (PosesProblem game labels owners formula) r.2 (of, pose-found game labels owners (dual_of formula) r.0 r.1)
+-- one of two problems
+not_flat : (flat : Bool) → flat ≡ false → ¬ (flat ≡ true)
+not_flat flat is so = cc (is, so)
 
-  posed_again : (formula : Tree) (problem : Problem) → PosesProblem game labels owners formula problem → posed_by formula.kind (reading_with game labels owners formula) ≡ Says problem
-  posed_again formula (OfUntil p) poses = rw poses.0 (ap (λ r. and_then (read_said OfQuestion r) (λ x. Says (OfUntil x))) (pose-again game labels owners formula p poses.1))
-  posed_again formula (OfWithin k p) poses = rw poses.0 (ap (λ r. and_then (read_said OfQuestion r) (λ x. Says (OfWithin k x))) (pose-again game labels owners formula p poses.1))
-  posed_again formula (OfNext p) poses = rw poses.0 (ap (λ r. and_then (read_said OfQuestion r) (λ x. Says (OfNext x))) (pose_next-again game labels owners formula p poses.1))
-  posed_again formula (OfAlways p) poses = rw poses.0 (ap (λ r. and_then (read_said OfQuestion r) (λ x. Says (OfAlways x))) (pose-again game labels owners (dual_of formula) p poses.1))
+is_not_flat : (flat : Bool) → ¬ (flat ≡ true) → flat ≡ false
+is_not_flat true wrong = absurd (wrong refl)
+is_not_flat false wrong = refl
+
+module _ (game : List (List Distribution)) (labels : Labelling) (owners : Ownership) where
+  abbrev model : Model
+  model = record { game = game; labels = labels; owners = owners }
+
+  poses_by : (kind : PathKind) (formula : Tree) (problem : Problem) → IsFlat formula → formula.kind ≡ kind → posed_by kind (reading_with game labels owners formula) ≡ Says problem → PosesProblem game labels owners formula problem
+  poses_by Until formula problem flat of is =
+      let r = posed_ok OfQuestion (pose_said game labels owners formula) OfUntil problem is in
+      subst (PosesProblem game labels owners formula) r.2 (flat, of, pose-found game labels owners formula r.0 r.1)
+  poses_by (Within k) formula problem flat of is =
+      let r = posed_ok OfQuestion (pose_said game labels owners formula) (OfWithin k) problem is in
+      subst (PosesProblem game labels owners formula) r.2 (flat, of, pose-found game labels owners formula r.0 r.1)
+  poses_by Next formula problem flat of is =
+      let r = posed_ok OfQuestion (pose_next_said game labels owners formula) OfNext problem is in
+      subst (PosesProblem game labels owners formula) r.2 (flat, of, pose_next-found game labels owners formula r.0 r.1)
+  poses_by Always formula problem flat of is =
+      let r = posed_ok OfQuestion (pose_said game labels owners (dual_of formula)) OfAlways problem is in
+      subst (PosesProblem game labels owners formula) r.2 (flat, of, pose-found game labels owners (dual_of formula) r.0 r.1)
+
+  -- with formulas inside, or with none
+  any_poses : (formula : Tree) (problem : Problem) (flat : Bool) → (is_flat formula.left && is_flat formula.right) ≡ flat
+      → cond flat (posed_by formula.kind (reading_with game labels owners formula)) (nested_posed (reading_with game labels owners formula)) ≡ Says problem → PosesProblem game labels owners formula problem
+  any_poses formula problem true of is = poses_by formula.kind formula problem of refl is
+  any_poses formula problem false of is =
+      let r = posed_ok OfQuestion (initial_said labels owners formula) (OfNested model) problem is in
+      subst (PosesProblem game labels owners formula) r.2 (not_flat (is_flat formula.left && is_flat formula.right) of, refl, r.1)
+
+  abbrev any_by : Tree → Bool → Said Problem
+  any_by formula flat = cond flat (posed_by formula.kind (reading_with game labels owners formula)) (nested_posed (reading_with game labels owners formula))
+
+  flat_again : (formula : Tree) (problem : Problem) → IsFlat formula → posed_by formula.kind (reading_with game labels owners formula) ≡ Says problem → any_posed (reading_with game labels owners formula) ≡ Says problem
+  flat_again formula problem flat is = ap (any_by formula) flat ∙ is
+
+  posed_again : (formula : Tree) (problem : Problem) → PosesProblem game labels owners formula problem → any_posed (reading_with game labels owners formula) ≡ Says problem
+  posed_again formula (OfUntil p) (flat, of, poses) = flat_again formula (OfUntil p) flat (rw of (ap (λ r. and_then (read_said OfQuestion r) (λ x. Says (OfUntil x))) (pose-again game labels owners formula p poses)))
+  posed_again formula (OfWithin k p) (flat, of, poses) = flat_again formula (OfWithin k p) flat (rw of (ap (λ r. and_then (read_said OfQuestion r) (λ x. Says (OfWithin k x))) (pose-again game labels owners formula p poses)))
+  posed_again formula (OfNext p) (flat, of, poses) = flat_again formula (OfNext p) flat (rw of (ap (λ r. and_then (read_said OfQuestion r) (λ x. Says (OfNext x))) (pose_next-again game labels owners formula p poses)))
+  posed_again formula (OfAlways p) (flat, of, poses) = flat_again formula (OfAlways p) flat (rw of (ap (λ r. and_then (read_said OfQuestion r) (λ x. Says (OfAlways x))) (pose-again game labels owners (dual_of formula) p poses)))
+  posed_again formula (OfNested m initial) (nested, of, said) =
+      ap (any_by formula) (is_not_flat (is_flat formula.left && is_flat formula.right) nested)
+      ∙ (ap (λ r. and_then (read_said OfQuestion r) (λ x. Says (OfNested model x))) said ∙ ap (λ m. Says (OfNested m initial)) (sym of))
 
 -- a problem that is said is taken
 was_taken : (taken : Bool) (problem other : Problem) → cond taken (Says problem) (Refuses WrongKind) ≡ Says other → (taken ≡ true) × (problem ≡ other)
@@ -121,9 +149,8 @@ asks_read paths sources asked problem game labels owners formula reading of_tra 
     let is : reading_with game labels owners formula ≡ reading = cc (whole) in
     let P : Reading → Type 0 = λ r. posed paths r ≡ Says problem in
     let said : posed paths (reading_with game labels owners formula) ≡ Says problem = subst P (sym is) poses in
-    let kind = formula.kind in
-    let r = behind (posed_by kind (reading_with game labels owners formula)) (λ p. where_taken paths kind p) problem said in
-    let taken = was_taken (takes paths kind) r.0 problem r.2 in
+    let r = behind (any_posed (reading_with game labels owners formula)) (λ p. where_taken (takes_formula paths formula) p) problem said in
+    let taken = was_taken (takes_formula paths formula) r.0 problem r.2 in
     record {
       game = game;
       labels = labels;
@@ -133,7 +160,7 @@ asks_read paths sources asked problem game labels owners formula reading of_tra 
       lab = text_is Lab OfLab (λ bytes. labels_of bytes (length game)) (λ bytes l. DenotesLabels bytes (length game) l) sources.lab labels (λ bytes. labels_of-found bytes (length game) labels) of_lab;
       own = owners_are asked.own sources.own (length game) owners of_own;
       spelled = formula_is asked.formula formula of_formula;
-      poses = subst (PosesProblem game labels owners formula) taken.1 (poses_by game labels owners kind formula r.0 refl r.1);
+      poses = subst (PosesProblem game labels owners formula) taken.1 (any_poses game labels owners formula r.0 (is_flat formula.left && is_flat formula.right) refl r.1);
       taken = taken.0;
     }
 
@@ -158,6 +185,5 @@ asks_said paths sources asked problem asks =
     ap (λ s. and_then s (λ game. behind_game sources asked game)) of_tra ∙ ap (λ s. and_then s (λ labels. behind_labels sources asked asks.game labels)) of_lab
     ∙ ap (λ s. and_then s (λ owners. behind_owners asked asks.game asks.labels owners)) of_own ∙ ap (λ s. and_then s (λ formula. Says (reading_with asks.game asks.labels asks.owners formula))) of_formula
     in
-    let kind = asks.formula.kind in
-    ap (λ s. and_then s (λ reading. posed paths reading)) read ∙ ap (λ s. and_then s (λ p. where_taken paths kind p)) (posed_again asks.game asks.labels asks.owners asks.formula problem asks.poses)
+    ap (λ s. and_then s (λ reading. posed paths reading)) read ∙ ap (λ s. and_then s (λ p. where_taken (takes_formula paths asks.formula) p)) (posed_again asks.game asks.labels asks.owners asks.formula problem asks.poses)
     ∙ ap (λ (b : Bool). cond b (Says problem) (Refuses WrongKind)) asks.taken

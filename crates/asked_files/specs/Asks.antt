@@ -10,7 +10,7 @@ use Rattle.rpatl_syntax.specs.Formula.{Tree}
 use Rattle.rpatl_syntax.specs.Rules.{Denotes as DenotesFormula}
 use Rattle.command_words.specs.Words.{Asked}
 use Rattle.asked_files.specs.declared.problem.Paths.{Paths}
-use Rattle.asked_files.specs.Problems.{Problem, PosesProblem, takes}
+use Rattle.asked_files.specs.Problems.{Problem, PosesProblem, takes_formula}
 use Rattle.asked_files.specs.Sources.{Sources}
 use Rattle.asked_files.specs.Texts.{single_owner}
 
@@ -26,7 +26,7 @@ abbrev pub AreOwners : Option (List ℕ) → Option (List ℕ) → ℕ → Owner
 AreOwners None source states owners = owners ≡ single_owner states
 AreOwners (Some name) source states owners = IsText source (λ text. DenotesOwners text states owners)
 
--- The transition text denotes a game, the label text labels of its states, and the owner text owners of them; the formula poses the problem of these, and has a path that the command takes.
+-- The transition text denotes a game, the label text labels of its states, and the owner text owners of them; the formula poses the problem of these, and the command takes it.
 pub record Asks (paths : Paths) (sources : Sources) (asked : Asked) (problem : Problem) : Type 0 where
   pub game : List (List Distribution)
   pub labels : Labelling
@@ -37,4 +37,4 @@ pub record Asks (paths : Paths) (sources : Sources) (asked : Asked) (problem : P
   pub own : AreOwners asked.own sources.own (length game) owners
   pub spelled : DenotesFormula asked.formula formula
   pub poses : PosesProblem game labels owners formula problem
-  pub taken : takes paths formula.kind ≡ true
+  pub taken : takes_formula paths formula ≡ true

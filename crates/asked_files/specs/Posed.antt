@@ -1,19 +1,19 @@
 -- The problem that the words and the texts of a command pose, or their first refusal.
-use Rattle.std.specs.Prelude.{◌≡◌, ℕ, List, length, if◌then◌else◌}
+use Rattle.std.specs.Prelude.{◌≡◌, ◌&&◌, ℕ, Bool, List, length, if◌then◌else◌}
 use Rattle.game_model.specs.Game.{Distribution}
 use Rattle.label_reader.specs.Labels.{Labelling}
 use Rattle.label_reader.specs.Owners.{Ownership}
-use Rattle.rpatl_syntax.specs.Formula.{Tree, tree_of}
+use Rattle.rpatl_syntax.specs.Formula.{Tree, is_flat, tree_of}
 use Rattle.rpatl_syntax.specs.Grammar.{formula_said}
 use Rattle.rpatl_syntax.specs.Dual.{dual_of}
 use Rattle.rpatl_syntax.specs.declared.formula.PathKind.{PathKind}
 use Rattle.rpatl_syntax.specs.declared.formula.PathKind.TheVariants.{Until, Within, Next, Always}
-use Rattle.formula_sets.specs.Posing.{pose_said, pose_next_said}
+use Rattle.formula_sets.specs.Posing.{initial_said, pose_said, pose_next_said}
 use Rattle.run_refusals.specs.declared.refusal.Refusal.TheVariants.{OfFormula, OfQuestion, WrongKind}
 use Rattle.asked_files.specs.declared.model.Loaded.{Loaded}
 use Rattle.command_words.specs.Words.{Asked}
 use Rattle.asked_files.specs.declared.problem.Paths.{Paths}
-use Rattle.asked_files.specs.Problems.{Problem, OfUntil, OfWithin, OfNext, OfAlways, takes}
+use Rattle.asked_files.specs.Problems.{Problem, OfUntil, OfWithin, OfNext, OfAlways, OfNested, takes_formula}
 use Rattle.asked_files.specs.Said.{Said, Refuses, Says, and_then, read_said}
 use Rattle.asked_files.specs.Sources.{Sources}
 use Rattle.asked_files.specs.Texts.{game_said, labels_said, owners_said}
@@ -61,12 +61,19 @@ posed_by (Within steps) r = and_then (read_said OfQuestion (pose_said r.game r.l
 posed_by Next r = and_then (read_said OfQuestion (pose_next_said r.game r.labels r.owners r.formula)) (λ posing. Says (OfNext posing))
 posed_by Always r = and_then (read_said OfQuestion (pose_said r.game r.labels r.owners (dual_of r.formula))) (λ posing. Says (OfAlways posing))
 
--- it is refused where the command does not take such paths
-abbrev pub where_taken : Paths → PathKind → Problem → Said Problem
-where_taken paths kind problem = if takes paths kind then Says problem else Refuses WrongKind
+-- that of a formula with others inside
+abbrev pub nested_posed : Reading → Said Problem
+nested_posed r = and_then (read_said OfQuestion (initial_said r.labels r.owners r.formula)) (λ initial. Says (OfNested (record { game = r.game; labels = r.labels; owners = r.owners }) initial))
+
+abbrev pub any_posed : Reading → Said Problem
+any_posed r = if is_flat r.formula.left && is_flat r.formula.right then posed_by r.formula.kind r else nested_posed r
+
+-- it is refused where the command does not take the formula
+abbrev pub where_taken : Bool → Problem → Said Problem
+where_taken taken problem = if taken then Says problem else Refuses WrongKind
 
 abbrev pub posed : Paths → Reading → Said Problem
-posed paths reading = and_then (posed_by reading.formula.kind reading) (λ problem. where_taken paths reading.formula.kind problem)
+posed paths reading = and_then (any_posed reading) (λ problem. where_taken (takes_formula paths reading.formula) problem)
 
 -- the problem that these texts and words pose to a command that takes such paths, or their first refusal
 abbrev pub problem_said : Paths → Sources → Asked → Said Problem

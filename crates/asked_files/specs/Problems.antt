@@ -1,44 +1,57 @@
--- What a formula asks of a game, by the kind of its paths, and which paths a command takes.
-use Rattle.std.specs.Prelude.{◌≡◌, ℕ, Bool, true, false, List}
+-- What a formula asks of a game, and which formulas a command takes.
+use Rattle.std.specs.Prelude.{◌≡◌, ◌&&◌, ℕ, Bool, true, false, List, length, Option, Some, None, Ok, if◌then◌else◌}
 use Rattle.game_model.specs.Game.{Distribution}
-use Rattle.game_model.specs.Query.{Query}
+use Rattle.game_model.specs.Query.{states}
 use Rattle.label_reader.specs.Labels.{Labelling}
 use Rattle.label_reader.specs.Owners.{Ownership}
 use Rattle.rpatl_syntax.specs.declared.formula.PathKind.{PathKind}
 use Rattle.rpatl_syntax.specs.declared.formula.PathKind.TheVariants.{Until, Within, Next, Always}
 use Rattle.rpatl_syntax.specs.Dual.{dual_of}
-use Rattle.rpatl_syntax.specs.Formula.{Tree}
-use Rattle.formula_sets.specs.Posing.{Posing, NextPosing, Poses, PosesNext}
+use Rattle.rpatl_syntax.specs.Formula.{Tree, is_flat, IsFlat}
+use Rattle.formula_sets.specs.Posing.{Model, Posing, NextPosing, Poses, PosesNext, initial_said}
 use Rattle.asked_files.specs.declared.problem.Paths.{Paths}
 use Rattle.asked_files.specs.declared.problem.Paths.TheVariants.{Any, Unbounded, Reaching}
 
 -- 1. Problems.
 
--- to reach a goal; within so many steps; in the next step; and of `G` to reach a goal of the dual
+-- to reach a goal; within so many steps; in the next step; of `G` to reach a goal of the dual; and of a formula with others inside a game whose states have labels and owners, with its initial states
 pub data Problem : Type 0 where
   OfUntil : (posing : Posing) → Problem
   OfWithin : (steps : ℕ) → (posing : Posing) → Problem
   OfNext : (posing : NextPosing) → Problem
   OfAlways : (posing : Posing) → Problem
-
-abbrev pub question_of : Problem → Query
-question_of (OfUntil p) = p.question
-question_of (OfWithin k p) = p.question
-question_of (OfNext p) = p.question
-question_of (OfAlways p) = p.question
+  OfNested : (model : Model) → (initial : List ℕ) → Problem
 
 abbrev pub initial_of : Problem → List ℕ
 initial_of (OfUntil p) = p.initial
 initial_of (OfWithin k p) = p.initial
 initial_of (OfNext p) = p.initial
 initial_of (OfAlways p) = p.initial
+initial_of (OfNested m initial) = initial
+
+-- how many states the game has
+abbrev pub states_of : Problem → ℕ
+states_of (OfUntil p) = states p.question
+states_of (OfWithin k p) = states p.question
+states_of (OfNext p) = states p.question
+states_of (OfAlways p) = states p.question
+states_of (OfNested m initial) = length m.game
+
+-- the question whose goals are reached, without a bound on the steps; other problems have none
+abbrev pub posing_in : Problem → Option Posing
+posing_in (OfUntil p) = Some p
+posing_in (OfWithin k p) = None
+posing_in (OfNext p) = None
+posing_in (OfAlways p) = Some p
+posing_in (OfNested m initial) = None
 
 -- the formula poses this problem of a game whose states have these labels and owners
 abbrev pub PosesProblem : List (List Distribution) → Labelling → Ownership → Tree → Problem → Type 0
-PosesProblem game l o f (OfUntil p) = (f.kind ≡ Until) × Poses game l o f p
-PosesProblem game l o f (OfWithin k p) = (f.kind ≡ Within k) × Poses game l o f p
-PosesProblem game l o f (OfNext p) = (f.kind ≡ Next) × PosesNext game l o f p
-PosesProblem game l o f (OfAlways p) = (f.kind ≡ Always) × Poses game l o (dual_of f) p
+PosesProblem game l o f (OfUntil p) = IsFlat f × (f.kind ≡ Until) × Poses game l o f p
+PosesProblem game l o f (OfWithin k p) = IsFlat f × (f.kind ≡ Within k) × Poses game l o f p
+PosesProblem game l o f (OfNext p) = IsFlat f × (f.kind ≡ Next) × PosesNext game l o f p
+PosesProblem game l o f (OfAlways p) = IsFlat f × (f.kind ≡ Always) × Poses game l o (dual_of f) p
+PosesProblem game l o f (OfNested m initial) = (¬ IsFlat f) × (m ≡ record { game = game; labels = l; owners = o }) × (initial_said l o f ≡ Ok initial)
 
 -- the formula whose question is answered: of `G` the dual
 abbrev pub answered_by : PathKind → Tree → Tree
@@ -50,9 +63,9 @@ answered_by Always f = dual_of f
 abbrev pub answered : Tree → Tree
 answered f = answered_by f.kind f
 
--- 2. Which paths a command takes.
+-- 2. Which formulas a command takes.
 
--- the command takes a formula with such a path
+-- the command takes a formula with such a path, and none inside
 abbrev pub takes : Paths → PathKind → Bool
 takes Any kind = true
 takes Unbounded Until = true
@@ -63,3 +76,13 @@ takes Reaching Until = true
 takes Reaching (Within k) = false
 takes Reaching Next = false
 takes Reaching Always = false
+
+-- it takes one with others inside
+abbrev pub takes_nested : Paths → Bool
+takes_nested Any = true
+takes_nested Unbounded = false
+takes_nested Reaching = false
+
+-- it takes the formula
+abbrev pub takes_formula : Paths → Tree → Bool
+takes_formula paths f = if is_flat f.left && is_flat f.right then takes paths f.kind else takes_nested paths

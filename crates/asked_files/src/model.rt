@@ -1,9 +1,9 @@
 //! What a command names, loaded: a game, its labels, its owners and a formula; and the problem that these pose.
 
-ghost use Rattle.std.specs.Prelude.{◌≡◌, ◌≢◌, ◌<◌, All, Err, IfOk, IsErrOf, true};
+ghost use Rattle.std.specs.Prelude.{◌≡◌, ◌≢◌, ◌<◌, ◌↔◌, ◌&&◌, All, Err, IfOk, IsErrOf, false, true};
 ghost use Rattle.game_model.specs.Query.{states};
 ghost use Rattle.rpatl_syntax.specs.Dual.{IsAtMostOne, dual_of};
-ghost use Rattle.rpatl_syntax.specs.Formula.{tree_of};
+ghost use Rattle.rpatl_syntax.specs.Formula.{IsFlat, is_flat, tree_of};
 ghost use Rattle.rpatl_syntax.specs.Rules.{Denotes};
 ghost use Rattle.formula_sets.specs.Posing.{IsUntil, pose_said, pose_next_said};
 ghost use Rattle.formula_sets.specs.Seen.{posing_of, next_posing_of};
@@ -11,15 +11,15 @@ ghost use Rattle.command_words.specs.Words.{asked_of_words};
 ghost use Rattle.run_refusals.specs.declared.refusal.Refusal.{Refusal};
 ghost use Rattle.asked_files.specs.Said.{Refuses, read_said};
 ghost use Rattle.asked_files.specs.Loading.{LoadingLeaves, Loads, IsTooLong, ReadsNothing, RefusesCaused};
-ghost use Rattle.asked_files.specs.Posed.{HasSizes, formula_read, posed, posed_by, reading_of};
-ghost use Rattle.asked_files.specs.Problems.{initial_of, question_of};
-ghost use Rattle.asked_files.specs.SeenProblems.{HasDual, IsOfKind, problem_of};
+ghost use Rattle.asked_files.specs.Posed.{HasSizes, any_posed, formula_read, nested_posed, posed, posed_by, reading_of};
+ghost use Rattle.asked_files.specs.Problems.{initial_of, states_of};
+ghost use Rattle.asked_files.specs.SeenProblems.{HasDual, IsNested, IsOfKind, IsOfLoaded, IsReached, problem_of};
 ghost use Rattle.asked_files.specs.Questions.{LacksText, Reads, ReadsAs};
 
 use crate::load::{End, load_game, load_labels, load_owners};
 use crate::problem::{Paths, Problem};
 use command_words::AskedWords;
-use formula_sets::{PoseFault, Posed, PosedNext, pose, pose_next};
+use formula_sets::{PoseFault, Posed, PosedNext, initial_of, is_flat, pose, pose_next};
 use game_model::Game;
 use game_outside::Shelf;
 use label_reader::{Labels, Owners};
@@ -83,21 +83,60 @@ pub fn load_model<H: Shelf>(
     })
 }
 
-/// The problem that what was loaded poses to a command that takes such paths.
+/// The problem that what was loaded poses to a command that takes such formulas.
 pub fn pose_loaded(alloc: Global, loaded: &Loaded, paths: Paths) -> Result<Problem<'_>, End>
     requires sizes { HasSizes loaded.now.game loaded.now.labels loaded.now.owners }
     requires share { IsAtMostOne loaded.now.formula.bound }
     ensures says { Loads problem_of result (posed paths (reading_of loaded.now)) }
     ensures kind { IfOk result (IsOfKind loaded.now.formula.kind) }
     ensures dual { IfOk result (HasDual (tree_of loaded.now.formula)) }
-    ensures inside { IfOk result (λ it. All (λ s. s < states (question_of (problem_of it))) (initial_of (problem_of it))) }
+    ensures same { IfOk result (IsOfLoaded loaded.now) }
+    ensures inside { IfOk result (λ it. All (λ s. s < states_of (problem_of it)) (initial_of (problem_of it))) }
+    ensures reached { IfOk result (λ it. paths ≢ Paths.Any → IsReached it) }
     ensures nothing { ReadsNothing result }
 {
-    let problem = pose_kind(alloc, loaded)?;
-    if paths.takes(loaded.formula.kind) {
+    let flat = is_flat(&loaded.formula);
+    let problem = pose_any(alloc, loaded, flat)?;
+    if paths.takes_formula(&loaded.formula, flat) {
         Ok(problem)
     } else {
         Err(End::Refused(Refusal::WrongKind))
+    }
+}
+
+// The problem of what was loaded, of which this says whether no formula stands inside.
+fn pose_any(alloc: Global, loaded: &Loaded, flat: bool) -> Result<Problem<'_>, End>
+    requires sizes { HasSizes loaded.now.game loaded.now.labels loaded.now.owners }
+    requires share { IsAtMostOne loaded.now.formula.bound }
+    requires flat { flat ≡ (is_flat (tree_of loaded.now.formula).left && is_flat (tree_of loaded.now.formula).right) }
+    ensures says { Loads problem_of result (any_posed (reading_of loaded.now)) }
+    ensures kind { IfOk result (IsOfKind loaded.now.formula.kind) }
+    ensures dual { IfOk result (HasDual (tree_of loaded.now.formula)) }
+    ensures same { IfOk result (IsOfLoaded loaded.now) }
+    ensures inside { IfOk result (λ it. All (λ s. s < states_of (problem_of it)) (initial_of (problem_of it))) }
+    ensures form { IfOk result (λ it. IsNested it ↔ (flat ≡ false)) }
+    ensures nothing { ReadsNothing result }
+{
+    if flat {
+        pose_kind(alloc, loaded)
+    } else {
+        pose_nested(alloc, loaded)
+    }
+}
+
+// The problem of a formula with others inside.
+fn pose_nested(alloc: Global, loaded: &Loaded) -> Result<Problem<'_>, End>
+    requires sizes { HasSizes loaded.now.game loaded.now.labels loaded.now.owners }
+    ensures says { Loads problem_of result (nested_posed (reading_of loaded.now)) }
+    ensures form { IfOk result IsNested }
+    ensures same { IfOk result (IsOfLoaded loaded.now) }
+    ensures inside { IfOk result (λ it. All (λ s. s < states_of (problem_of it)) (initial_of (problem_of it))) }
+    ensures nothing { ReadsNothing result }
+{
+    loaded.labels.known();
+    match initial_of(alloc, &loaded.labels, &loaded.owners, &loaded.formula) {
+        Ok(initial) => Ok(Problem::Nested(loaded, initial)),
+        Err(fault) => Err(end_of_question(fault)),
     }
 }
 
@@ -105,10 +144,12 @@ pub fn pose_loaded(alloc: Global, loaded: &Loaded, paths: Paths) -> Result<Probl
 fn pose_kind(alloc: Global, loaded: &Loaded) -> Result<Problem<'_>, End>
     requires sizes { HasSizes loaded.now.game loaded.now.labels loaded.now.owners }
     requires share { IsAtMostOne loaded.now.formula.bound }
+    requires flat { IsFlat (tree_of loaded.now.formula) }
     ensures says { Loads problem_of result (posed_by loaded.now.formula.kind (reading_of loaded.now)) }
     ensures kind { IfOk result (IsOfKind loaded.now.formula.kind) }
     ensures dual { IfOk result (HasDual (tree_of loaded.now.formula)) }
-    ensures inside { IfOk result (λ it. All (λ s. s < states (question_of (problem_of it))) (initial_of (problem_of it))) }
+    ensures inside { IfOk result (λ it. All (λ s. s < states_of (problem_of it)) (initial_of (problem_of it))) }
+    ensures form { IfOk result (λ it. IsNested it → ⊥) }
     ensures nothing { ReadsNothing result }
 {
     match loaded.formula.kind {
@@ -143,6 +184,7 @@ fn dual_of_formula(alloc: Global, formula: &Formula) -> Result<Formula, End>
 fn pose_reach<'g>(alloc: Global, loaded: &'g Loaded, formula: &Formula) -> Result<Posed<'g>, End>
     requires sizes { HasSizes loaded.now.game loaded.now.labels loaded.now.owners }
     requires kind { IsUntil formula.now.kind }
+    requires flat { IsFlat (tree_of formula.now) }
     ensures says { Loads posing_of result (read_said Refusal.OfQuestion (pose_said loaded.now.game loaded.now.labels loaded.now.owners (tree_of formula.now))) }
     ensures inside { IfOk result (λ posed. All (λ s. s < states posed.question) posed.initial.items) }
     ensures nothing { ReadsNothing result }
@@ -157,6 +199,7 @@ fn pose_reach<'g>(alloc: Global, loaded: &'g Loaded, formula: &Formula) -> Resul
 fn pose_step(alloc: Global, loaded: &Loaded) -> Result<PosedNext<'_>, End>
     requires sizes { HasSizes loaded.now.game loaded.now.labels loaded.now.owners }
     requires kind { loaded.now.formula.kind ≡ PathKind.Next }
+    requires flat { IsFlat (tree_of loaded.now.formula) }
     ensures says { Loads next_posing_of result (read_said Refusal.OfQuestion (pose_next_said loaded.now.game loaded.now.labels loaded.now.owners (tree_of loaded.now.formula))) }
     ensures inside { IfOk result (λ posed. All (λ s. s < states posed.question) posed.initial.items) }
     ensures nothing { ReadsNothing result }

@@ -2,8 +2,8 @@
 
 ghost use Rattle.std.specs.Prelude.{◌≡◌};
 
+use crate::model::Loaded;
 use formula_sets::{Posed, PosedNext};
-use game_model::Question;
 use rpatl_syntax::{Formula, PathKind};
 
 /// What a formula asks, by the kind of its paths.
@@ -17,50 +17,43 @@ pub enum Problem<'g> {
     Next(PosedNext<'g>),
     /// `G`: the question of its dual, and the dual.
     Always(Posed<'g>, Formula),
+    /// A formula with others inside: what was loaded, and the initial states.
+    Nested(&'g Loaded, Vec<u32>),
 }
 
 impl<'g> Problem<'g> {
-    ghost use Rattle.asked_files.specs.Problems.{initial_of, question_of};
-    ghost use Rattle.asked_files.specs.SeenProblems.{problem_of};
+    ghost use Rattle.std.specs.Prelude.{Some};
+    ghost use Rattle.formula_sets.specs.Seen.{posing_of};
+    ghost use Rattle.asked_files.specs.Problems.{posing_in};
+    ghost use Rattle.asked_files.specs.SeenProblems.{IsReached, problem_of};
 
-    /// The question: of `G` that of its dual.
-    pub fn question(&self) -> &Question<'g>
-        ensures { result.now ≡ question_of (problem_of self.now) }
+    /// The question whose goals are reached, without a bound on the steps: of `G` that of its dual.
+    pub fn reached(&self) -> &Posed<'g>
+        requires { IsReached self.now }
+        ensures { posing_in (problem_of self.now) ≡ Some (posing_of result.now) }
     {
         match self {
-            Problem::Until(posed) | Problem::Within(posed, _) | Problem::Always(posed, _) => {
-                &posed.question
-            }
-            Problem::Next(posed) => &posed.question,
-        }
-    }
-
-    /// The initial states, rising.
-    pub fn initial(&self) -> &[u32]
-        ensures { result.now ≡ initial_of (problem_of self.now) }
-    {
-        match self {
-            Problem::Until(posed) | Problem::Within(posed, _) | Problem::Always(posed, _) => {
-                &posed.initial
-            }
-            Problem::Next(posed) => &posed.initial,
+            Problem::Until(posed) | Problem::Always(posed, _) => posed,
+            Problem::Within(_, _) | Problem::Next(_) | Problem::Nested(_, _) => unreachable!(),
         }
     }
 }
 
-/// Which paths a command takes in a formula.
+/// Which formulas a command takes.
 #[derive(Clone, Copy, Debug, PartialEq, Eq)]
 pub enum Paths {
     /// All.
     Any,
-    /// Those without a bound on the steps: `F`, `U` and `G`.
+    /// Those without a bound on the steps, and none inside: `F`, `U` and `G`.
     Unbounded,
-    /// `F` and `U` alone.
+    /// `F` and `U` alone, and none inside.
     Reaching,
 }
 
 impl Paths {
-    ghost use Rattle.asked_files.specs.Problems.{takes};
+    ghost use Rattle.std.specs.Prelude.{◌&&◌};
+    ghost use Rattle.rpatl_syntax.specs.Formula.{is_flat, tree_of};
+    ghost use Rattle.asked_files.specs.Problems.{takes, takes_formula};
 
     /// Whether a formula with such a path is taken.
     pub fn takes(self, kind: PathKind) -> bool
@@ -69,6 +62,18 @@ impl Paths {
         match (self, kind) {
             (Paths::Any, _) | (_, PathKind::Until) | (Paths::Unbounded, PathKind::Always) => true,
             (_, _) => false,
+        }
+    }
+
+    /// Whether a formula is taken, of which this says whether none stands inside.
+    pub fn takes_formula(self, formula: &Formula, flat: bool) -> bool
+        requires { flat ≡ (is_flat (tree_of formula.now).left && is_flat (tree_of formula.now).right) }
+        ensures { result ≡ takes_formula self (tree_of formula.now) }
+    {
+        if flat {
+            self.takes(formula.kind)
+        } else {
+            matches!(self, Paths::Any)
         }
     }
 }

@@ -1,8 +1,9 @@
 -- The answer to a command that asks a question, from what its parts answered.
-use Rattle.std.proofs.Common.{◌≡◌, ◌≤◌, ◌∙◌, inl, inr, ℕ, Bool, true, Option, Some, None, Result, Ok, Err, ap, subst, arith}
+use Rattle.std.proofs.Common.{◌≡◌, ◌<◌, ◌≤◌, ◌∙◌, All, inl, inr, ℕ, Bool, true, Option, Some, None, Result, Ok, Err, ap, subst, arith}
 use Rattle.std.specs.Prelude.{IfOk, IsErrOf}
 use Rattle.text_lines.specs.Limits.{most_bytes}
 use Rattle.game_outside.specs.Outside.{Holding}
+use Rattle.game_model.specs.Query.{states}
 use Rattle.command_words.specs.Words.{Asked, Check, Audit, Command, OfCheck, OfAudit, OfSure}
 use Rattle.run_refusals.specs.declared.refusal.Refusal.{Refusal}
 use Rattle.run_refusals.specs.declared.refusal.Refusal.TheVariants.{TooLong}
@@ -10,7 +11,8 @@ use Rattle.asked_files.specs.declared.load.End.{End}
 use Rattle.asked_files.specs.declared.load.End.TheVariants.{OutOfMemory, ReadFault, Refused}
 use Rattle.asked_files.specs.declared.problem.Paths.{Paths}
 use Rattle.asked_files.specs.declared.problem.Paths.TheVariants.{Unbounded, Reaching}
-use Rattle.asked_files.specs.Problems.{Problem, question_of}
+use Rattle.formula_sets.specs.Posing.{Posing}
+use Rattle.asked_files.specs.Problems.{Problem, OfUntil, OfWithin, OfNext, OfAlways, OfNested, initial_of, posing_in, states_of}
 use Rattle.asked_files.specs.Said.{Said, NotHeld, Refuses, and_then}
 use Rattle.asked_files.specs.Sources.{Sources, HasSource, WhereTold, sources_of}
 use Rattle.asked_files.specs.Loading.{IsTooLong, LoadingLeaves, Loads, ReadsNothing, RefusesCaused, Takes}
@@ -64,6 +66,14 @@ where_told (Some held) P Q weaker is = weaker held is
 lacks_certificate : (holding : Option Holding) (audit : Audit) (problem : Problem) → PosesIt holding audit.asked Unbounded problem → WhereTold holding (λ held. held audit.certificate ≡ None) → WhereTold holding (λ held. IsMissing held (OfAudit audit))
 lacks_certificate None audit problem poses none = tt
 lacks_certificate (Some held) audit problem poses none = inr ((problem, subst (λ (s : Sources). Asks Unbounded s audit.asked problem) poses.told poses.asks), none)
+
+-- the initial states of the question that is reached are its states
+pub reached-inside : (problem : Problem) (posing : Posing) → posing_in problem ≡ Some posing → All (λ s. s < states_of problem) (initial_of problem) → All (λ s. s < states posing.question) posing.initial
+reached-inside (OfUntil p) posing is inside = let same : p ≡ posing = cc (is) in subst (λ (q : Posing). All (λ s. s < states q.question) q.initial) same inside
+reached-inside (OfAlways p) posing is inside = let same : p ≡ posing = cc (is) in subst (λ (q : Posing). All (λ s. s < states q.question) q.initial) same inside
+reached-inside (OfWithin k p) posing is inside = cc (is)
+reached-inside (OfNext p) posing is inside = cc (is)
+reached-inside (OfNested m initial) posing is inside = cc (is)
 
 -- 3. A command that takes such paths and asks the problem of these words: a refusal of the problem is one of the command, and so is a text that is not held.
 pub record AsksQuestion (command : Command) (asked : Asked) (paths : Paths) : Type 0 where
@@ -144,17 +154,19 @@ module _ {S X : Type 0} {held : S → Option Holding} {steady : S → Bool} {fau
   }
 
   -- where it was not loaded
-  pub uncertified : {Y : Type 0} {end : End} (audit : Audit) (problem : Problem) → PosesIt (held old) audit.asked Unbounded problem
-      → ((refusal : Refusal) → ◌≡◌ {A = Result Y End} (Err end) (Err (Refused refusal)) → HasSource (held middle) audit.certificate (λ source. RefusesCertificate (question_of problem) source refusal))
+  pub uncertified : {Y : Type 0} {end : End} (audit : Audit) (problem : Problem) (posing : Posing) → PosesIt (held old) audit.asked Unbounded problem → posing_in problem ≡ Some posing
+      → ((refusal : Refusal) → ◌≡◌ {A = Result Y End} (Err end) (Err (Refused refusal)) → HasSource (held middle) audit.certificate (λ source. RefusesCertificate posing.question source refusal))
       → (IsErrOf {T = Y} (Err end) ReadFault → steady middle ≡ true → WhereTold (held middle) (λ held. held audit.certificate ≡ None)) → LoadingLeaves {X = Y} held steady faults took middle new (Err end) → RefusesCaused {X = Y} (Err end)
       → IsAnswered held steady faults took (OfAudit audit) old new (Err end)
-  uncertified {Y} {end} audit problem poses refused steadily rest caused = record {
+  uncertified {Y} {end} audit problem posing poses reached refused steadily rest caused = record {
     answered = tt;
     status = tt;
     refused = λ refusal is. inr (record {
       problem = problem;
       posed = poses;
-      certificate = subst (λ (h : Option Holding). HasSource h audit.certificate (λ source. RefusesCertificate (question_of problem) source refusal)) leaves.kept.held (refused refusal (same_end end (Refused refusal) is));
+      posing = posing;
+      reached = reached;
+      certificate = subst (λ (h : Option Holding). HasSource h audit.certificate (λ source. RefusesCertificate posing.question source refusal)) leaves.kept.held (refused refusal (same_end end (Refused refusal) is));
     });
     caused = same_caused Y Answer end caused;
     read_fault = λ is. (omega (arith, leaves.kept.later, rest.read_fault (same_end end ReadFault is)), tt);

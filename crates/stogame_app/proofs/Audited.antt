@@ -15,7 +15,7 @@ use Rattle.verdicts.specs.Open.{LeavesOpen}
 use Rattle.verdicts.specs.declared.report.How.TheVariants.{Audited}
 use Rattle.verdicts.specs.declared.verdict.Verdict.TheVariants.{Undecided}
 use Rattle.stogame_app.specs.declared.status.Status.{Status}
-use Rattle.stogame_app.specs.Printed.{verdict_by, line_by, status_of}
+use Rattle.stogame_app.specs.Printed.{is_mirrored, verdict_by, line_by, status_of}
 use Rattle.stogame_app.specs.Audits.{IsAudited}
 use Rattle.asked_files.specs.Problems.{answered}
 use Rattle.stogame_app.proofs.Limits.{plan-units, printed-units}
@@ -25,7 +25,7 @@ module _ (q : Query) (posed : IsQuery q) (f : Tree) (plan : Plan) (lists : HasSt
   line-in_range s within = record {
     state = omega (arith, within, posed.game.few);
     count = tt;
-    values = let units = plan-units q plan lists passes s within in printed-units f.kind _ _ units.0 units.1;
+    values = let units = plan-units q plan lists passes s within in printed-units (is_mirrored f.kind) _ _ units.0 units.1;
   }
 
   pub lines-in_range : (initial : List ℕ) → All (λ s. s < states q) initial → All IsLine (map (line_by f Audited plan.lower.items plan.upper.items) initial)

@@ -13,7 +13,8 @@ use Rattle.run_refusals.specs.declared.refusal.Refusal.{Refusal}
 use Rattle.run_refusals.specs.declared.refusal.Refusal.TheVariants.{OfTra, OfLab, OfOwn, OfFormula, OfQuestion, WrongKind, OfCertificate, TooLong}
 use Rattle.asked_files.specs.declared.problem.Paths.{Paths}
 use Rattle.asked_files.specs.declared.problem.Paths.TheVariants.{Unbounded, Reaching}
-use Rattle.asked_files.specs.Problems.{Problem, question_of}
+use Rattle.formula_sets.specs.Posing.{Posing}
+use Rattle.asked_files.specs.Problems.{Problem, posing_in}
 use Rattle.asked_files.specs.Said.{NotHeld, Says, and_then}
 use Rattle.asked_files.specs.Sources.{Sources, sources_of, WhereTold}
 use Rattle.asked_files.specs.Posed.{posed, problem_said, reading_said}
@@ -90,18 +91,21 @@ command_not_refused are apart holding held (OfMake make) refusal _ accepted refu
 command_not_refused are apart holding held (OfCheck check) refusal told accepted refused = asked_not_refused are holding held check.asked (check_paths check) accepted.0 refusal told accepted.1 refused
 command_not_refused are apart holding held (OfSure asked) refusal told accepted refused = asked_not_refused are holding held asked Reaching accepted.0 refusal told accepted.1 refused
 command_not_refused are apart holding held (OfAudit audit) refusal told accepted refused = elim refused [
-  | inl question ↦ asked_not_refused are holding held audit.asked Unbounded accepted.0 refusal told accepted.2 question
+  | inl question ↦ asked_not_refused are holding held audit.asked Unbounded accepted.0 refusal told accepted.3 question
   | inr behind ↦ by_behind (subst (λ (h : Option Holding). RefusesBehind h audit refusal) told behind)
 ]
   where
     by_behind : RefusesBehind (Some held) audit refusal → ⊥
     by_behind behind =
-        let same = asked_once are held audit.asked Unbounded accepted.0 behind.problem accepted.2 behind.posed in
+        let same = asked_once are held audit.asked Unbounded accepted.0 behind.problem accepted.3 behind.posed in
+        let alike : Some behind.posing ≡ Some accepted.1 = sym behind.reached ∙ (ap posing_in same ∙ accepted.4) in
+        let posing : behind.posing ≡ accepted.1 = cc (alike) in
         let c = behind.certificate in
-        let P : Problem → Type 0 = λ problem. RefusesCertificate (question_of problem) c.source refusal in
-        let Q : Option (List ℕ) → Type 0 = λ source. RefusesCertificate (question_of accepted.0) source refusal in
-        let so : RefusesCertificate (question_of accepted.0) (held audit.certificate) refusal = subst Q c.told (subst P same c.is_so) in
-        accepted_not_refused apart (question_of accepted.0) (held audit.certificate) accepted.1 refusal accepted.3 so
+        let question = (accepted.1).question in
+        let P : Posing → Type 0 = λ p. RefusesCertificate p.question c.source refusal in
+        let Q : Option (List ℕ) → Type 0 = λ source. RefusesCertificate question source refusal in
+        let so : RefusesCertificate question (held audit.certificate) refusal = subst Q c.told (subst P posing c.is_so) in
+        accepted_not_refused apart question (held audit.certificate) accepted.2 refusal accepted.5 so
 
 command_is_held : AreAsked → (holding : Option Holding) (held : Holding) (command : Command) → holding ≡ Some held → IsAcceptedOf held command → WhereTold holding (λ h. IsMissing h command) → ⊥
 command_is_held are None held command told accepted missing = cc (told)
@@ -115,8 +119,8 @@ command_is_held are (Some other) held command told accepted missing = of_held co
     of_held (OfCheck check) accepted missing = asked_is_held are held check.asked (check_paths check) accepted.0 accepted.1 missing
     of_held (OfSure asked) accepted missing = asked_is_held are held asked Reaching accepted.0 accepted.1 missing
     of_held (OfAudit audit) accepted missing = elim missing [
-      | inl question ↦ asked_is_held are held audit.asked Unbounded accepted.0 accepted.2 question
-      | inr behind ↦ let given = accepted.3.given in let certificate = behind.1 in cc (given, certificate)
+      | inl question ↦ asked_is_held are held audit.asked Unbounded accepted.0 accepted.3 question
+      | inr behind ↦ let text = accepted.5 in let given = text.given in let certificate = behind.1 in cc (given, certificate)
     ]
 
 -- 2. The words of a run.

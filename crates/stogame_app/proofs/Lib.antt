@@ -5,6 +5,7 @@ pub mod Complete
 pub mod Drawn
 pub mod Endings
 pub mod Limits
+pub mod NestedReports
 pub mod NoLineFeed
 pub mod OneOutput
 pub mod Openings

@@ -14,8 +14,6 @@ use Rattle.game_model.specs.Ranks.{Ranked, HasRankedChoice}
 use Rattle.inductive_check.specs.Replies.{IsFirstReply, AreFirstReplies}
 use Rattle.inductive_check.specs.Held.{IsFirstHeld}
 use Rattle.rpatl_syntax.specs.Formula.{Tree}
-use Rattle.rpatl_syntax.specs.declared.formula.PathKind.{PathKind}
-use Rattle.rpatl_syntax.specs.declared.formula.PathKind.TheVariants.{Until, Within, Next, Always}
 use Rattle.plan_text.specs.declared.plan.Plan.{Plan}
 use Rattle.plan_text.specs.Entries.{IsSmall, IsInRange, HasStates, greatest_choice, greatest_rank, entry_at}
 use Rattle.certificate_audit.specs.Accepted.{Passes}
@@ -23,7 +21,7 @@ use Rattle.verdicts.specs.Report.{IsLine}
 use Rattle.verdicts.specs.declared.report.How.TheVariants.{Rounds}
 use Rattle.bracket_engine.specs.Choices.{AreChoices}
 use Rattle.stogame_app.specs.Outputs.{AreEntriesInLimits, IsInLimits}
-use Rattle.stogame_app.specs.Printed.{printed_lower, printed_upper, line_by, certificate_of, output_of}
+use Rattle.stogame_app.specs.Printed.{is_mirrored, printed_lower, printed_upper, line_by, certificate_of, output_of}
 
 -- 1. Choices.
 
@@ -77,11 +75,9 @@ pub plan-units : (q : Query) (plan : Plan) → HasStates plan (states q) → Pas
 plan-units q plan lists passes s within = (passes.ranked.units s within, at-most (λ v. v ≤ unit) plan.upper.items s passes.units (subst (λ n. s < n) (sym lists.upper) within))
 
 -- printed bounds are units
-pub printed-units : (kind : PathKind) (lower upper : ℕ) → lower ≤ unit → upper ≤ unit → (printed_lower kind lower upper ≤ unit) × (printed_upper kind lower upper ≤ unit)
-printed-units Until lower upper low high = (low, high)
-printed-units (Within steps) lower upper low high = (low, high)
-printed-units Next lower upper low high = (low, high)
-printed-units Always lower upper low high = (omega arith, omega arith)
+pub printed-units : (mirrored : Bool) (lower upper : ℕ) → lower ≤ unit → upper ≤ unit → (printed_lower mirrored lower upper ≤ unit) × (printed_upper mirrored lower upper ≤ unit)
+printed-units true lower upper low high = (omega arith, omega arith)
+printed-units false lower upper low high = (low, high)
 
 -- a plan that can be printed: it passes, and has choices and replies only where they are needed
 pub record IsPrintable (q : Query) (plan : Plan) : Type 0 where
@@ -107,7 +103,7 @@ module _ (q : Query) (plan : Plan) (initial : List ℕ) (rounds : ℕ) (h : IsPr
   line-in_range f s within = record {
     state = omega (arith, within, h.posed.game.few);
     count = omega (arith, few);
-    values = let units = plan-units q plan h.lists h.passes s within in printed-units f.kind _ _ units.0 units.1;
+    values = let units = plan-units q plan h.lists h.passes s within in printed-units (is_mirrored f.kind) _ _ units.0 units.1;
   }
 
   entries-in_limits : (asked : Bool) (formula : Tree) → AreEntriesInLimits (certificate_of asked formula plan)

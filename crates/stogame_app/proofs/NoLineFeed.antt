@@ -9,13 +9,13 @@ use Rattle.label_reader.proofs.Splits.{split_first-again}
 use Rattle.distributions.specs.Fraction.{Fraction}
 use Rattle.rpatl_syntax.specs.declared.formula.Bound.{Bound}
 use Rattle.rpatl_syntax.specs.declared.formula.Bound.TheVariants.{AtLeast, Above, AtMost, Below, AskMax, AskMin}
-use Rattle.rpatl_syntax.specs.Formula.{State, True, False, Label, Not, And, Or, Implies, Tree}
+use Rattle.rpatl_syntax.specs.Formula.{State, True, False, Label, Not, And, Or, Implies, Inner, Tree}
 use Rattle.rpatl_syntax.specs.TokenRules.{is_name_byte}
 use Rattle.rpatl_syntax.specs.Tokens.{in_word}
 use Rattle.rpatl_syntax.specs.declared.formula.PathKind.{PathKind}
 use Rattle.rpatl_syntax.specs.declared.formula.PathKind.TheVariants.{Until, Within, Next, Always}
-use Rattle.rpatl_syntax.specs.Spelling.{strength_of, in_place, state_spelling, until_spelling, kind_spelling, path_spelling, names_spelling, coalition_spelling, fraction_spelling, bound_spelling, spelling}
-use Rattle.rpatl_syntax.specs.Spellable.{IsWholeWord, HasWords, HasKind, HasNames}
+use Rattle.rpatl_syntax.specs.Spelling.{strength_of, in_place, state_spelling, until_spelling, kind_spelling, spelling_with, names_spelling, coalition_spelling, fraction_spelling, bound_spelling, spelling}
+use Rattle.rpatl_syntax.specs.Spellable.{IsWholeWord, HasWords, HasKind, HasParts}
 use Rattle.rpatl_syntax.proofs.Fronts.{parts_true}
 use Rattle.plan_text.specs.Fixed.{fixed}
 use Rattle.plan_text.proofs.WrittenFields.{AreFrom, IsField-fixed}
@@ -24,7 +24,7 @@ use Rattle.verdicts.specs.declared.verdict.Verdict.TheVariants.{Yes, No, Undecid
 use Rattle.verdicts.specs.declared.report.How.{How}
 use Rattle.verdicts.specs.declared.report.How.TheVariants.{Rounds, Steps, Audited}
 use Rattle.verdicts.specs.declared.report.ReportLine.{ReportLine}
-use Rattle.stogame_app.proofs.PlainParts.{IsFine, HasFine, HasPlainParts}
+use Rattle.stogame_app.proofs.PlainParts.{IsFine, HasFine, HasPlainParts, threshold-fine}
 use Rattle.verdicts.specs.Report.{HasCount, IsLine, how_text, ending, line_text}
 
 -- 1. Texts without a line feed.
@@ -147,33 +147,39 @@ in_place-HasNo least x text none = by (nat_lt (strength_of x) least)
 joined-HasNo : (left sign right : List ℕ) → HasNo 10 left → list_all (λ b. nat_lt 10 b) sign ≡ true → HasNo 10 right → HasNo 10 (left ++ (sign ++ right))
 joined-HasNo left sign right a pass b = HasNo-append left (sign ++ right) a (HasNo-append sign right (plain sign pass) b)
 
-state-HasNo : (x : State) → HasNames x → HasNo 10 (state_spelling x)
-state-HasNo True names = plain (codes "true") refl
-state-HasNo False names = plain (codes "false") refl
-state-HasNo (Label name) names = HasNo-append (codes "\"") (name ++ codes "\"") (plain (codes "\"") refl) (HasNo-append name (codes "\"") (passing is_name_byte refl name names.bytes) (plain (codes "\"") refl))
-state-HasNo (Not x) names = HasNo-append (codes "!") (in_place 3 x (state_spelling x)) (plain (codes "!") refl) (in_place-HasNo 3 x (state_spelling x) (state-HasNo x names))
-state-HasNo (And x y) names = joined-HasNo _ (codes " & ") _ (in_place-HasNo 2 x _ (state-HasNo x names.0)) refl (in_place-HasNo 3 y _ (state-HasNo y names.1))
-state-HasNo (Or x y) names = joined-HasNo _ (codes " | ") _ (in_place-HasNo 1 x _ (state-HasNo x names.0)) refl (in_place-HasNo 2 y _ (state-HasNo y names.1))
-state-HasNo (Implies x y) names = joined-HasNo _ (codes " => ") _ (in_place-HasNo 0 x _ (state-HasNo x names.0)) refl (in_place-HasNo 1 y _ (state-HasNo y names.1))
+until-HasNo : (left : State) (x : List ℕ) → HasNo 10 x → HasNo 10 (until_spelling left x)
+until-HasNo True x none = plain (codes "F") refl
+until-HasNo left x none = HasNo-append x (codes " U") none (plain (codes " U") refl)
 
-until-HasNo : (left : State) → HasNames left → HasNo 10 (until_spelling left)
-until-HasNo True names = plain (codes "F") refl
-until-HasNo left names = HasNo-append (state_spelling left) (codes " U") (state-HasNo left names) (plain (codes " U") refl)
+kind-HasNo : (kind : PathKind) (left : State) (x : List ℕ) → HasKind kind left → HasNo 10 x → HasNo 10 (kind_spelling kind left x)
+kind-HasNo Until left x few none = until-HasNo left x none
+kind-HasNo (Within steps) left x few none =
+    HasNo-append (until_spelling left x) (codes "<=" ++ decimal steps) (until-HasNo left x none) (HasNo-append (codes "<=") (decimal steps) (plain (codes "<=") refl) (decimal-HasNo steps (omega (arith, few))))
+kind-HasNo Next left x few none = plain (codes "X") refl
+kind-HasNo Always left x few none = plain (codes "G") refl
 
-kind-HasNo : (kind : PathKind) (left : State) → HasKind kind left → HasNames left → HasNo 10 (kind_spelling kind left)
-kind-HasNo Until left few names = until-HasNo left names
-kind-HasNo (Within steps) left few names =
-    HasNo-append (until_spelling left) (codes "<=" ++ decimal steps) (until-HasNo left names) (HasNo-append (codes "<=") (decimal steps) (plain (codes "<=") refl) (decimal-HasNo steps (omega (arith, few))))
-kind-HasNo Next left few names = plain (codes "X") refl
-kind-HasNo Always left few names = plain (codes "G") refl
+-- a coalition, a bound and a path
+with-HasNo : (team : Option (List (List ℕ))) (bound : Bound) (kind : PathKind) (left : State) (x y : List ℕ) → HasWords team → HasFine bound → HasKind kind left → HasNo 10 x → HasNo 10 y → HasNo 10 (spelling_with team bound kind left x y)
+with-HasNo team bound kind left x y words fine few of_left of_right =
+    HasNo-append (coalition_spelling team) _ (coalition-HasNo team words)
+    (HasNo-append (bound_spelling bound) _ (bound-HasNo bound fine)
+    (HasNo-append (codes " [ ") _ (plain (codes " [ ") refl)
+    (joined-HasNo (kind_spelling kind left x) (codes " ") (y ++ codes " ]") (kind-HasNo kind left x few of_left) refl (HasNo-append y (codes " ]") of_right (plain (codes " ]") refl)))))
+
+state-HasNo : (x : State) → HasParts x → HasNo 10 (state_spelling x)
+state-HasNo True parts = plain (codes "true") refl
+state-HasNo False parts = plain (codes "false") refl
+state-HasNo (Label name) parts = HasNo-append (codes "\"") (name ++ codes "\"") (plain (codes "\"") refl) (HasNo-append name (codes "\"") (passing is_name_byte refl name parts.bytes) (plain (codes "\"") refl))
+state-HasNo (Not x) parts = HasNo-append (codes "!") (in_place 3 x (state_spelling x)) (plain (codes "!") refl) (in_place-HasNo 3 x (state_spelling x) (state-HasNo x parts))
+state-HasNo (And x y) parts = joined-HasNo _ (codes " & ") _ (in_place-HasNo 2 x _ (state-HasNo x parts.0)) refl (in_place-HasNo 3 y _ (state-HasNo y parts.1))
+state-HasNo (Or x y) parts = joined-HasNo _ (codes " | ") _ (in_place-HasNo 1 x _ (state-HasNo x parts.0)) refl (in_place-HasNo 2 y _ (state-HasNo y parts.1))
+state-HasNo (Implies x y) parts = joined-HasNo _ (codes " => ") _ (in_place-HasNo 0 x _ (state-HasNo x parts.0)) refl (in_place-HasNo 1 y _ (state-HasNo y parts.1))
+state-HasNo (Inner team bound kind left right) parts =
+    let head = parts.0 in
+    with-HasNo team bound kind left (state_spelling left) (state_spelling right) head.words (threshold-fine bound head.threshold) head.kind_is (state-HasNo left parts.1) (state-HasNo right parts.2)
 
 spelling-HasNo : (f : Tree) → HasPlainParts f → HasNo 10 (spelling f)
-spelling-HasNo f is =
-    HasNo-append (coalition_spelling f.coalition) _ (coalition-HasNo f.coalition is.words)
-    (HasNo-append (bound_spelling f.bound) _ (bound-HasNo f.bound is.fine)
-    (HasNo-append (codes " [ ") _ (plain (codes " [ ") refl)
-    (HasNo-append (path_spelling f.kind f.left (state_spelling f.right)) (codes " ]")
-    (joined-HasNo (kind_spelling f.kind f.left) (codes " ") (state_spelling f.right) (kind-HasNo f.kind f.left is.kind is.left) refl (state-HasNo f.right is.right)) (plain (codes " ]") refl))))
+spelling-HasNo f is = with-HasNo f.coalition f.bound f.kind f.left (state_spelling f.left) (state_spelling f.right) is.words is.fine is.kind (state-HasNo f.left is.left) (state-HasNo f.right is.right)
 
 -- the line `formula F`
 pub formula-ended : (f : Tree) → HasPlainParts f → IsEnded (codes "formula " ++ (spelling f ++ codes "\n"))

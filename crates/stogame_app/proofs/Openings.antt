@@ -10,7 +10,7 @@ use Rattle.rpatl_syntax.specs.Formula.{Tree}
 use Rattle.formula_sets.specs.Truth.{holds}
 use Rattle.formula_sets.specs.Posing.{NextPosing, PosesNext}
 use Rattle.asked_files.specs.declared.problem.Problem.{Problem}
-use Rattle.asked_files.specs.declared.problem.Problem.TheVariants.{Until, Within, Next, Always}
+use Rattle.asked_files.specs.declared.problem.Problem.TheVariants.{Until, Within, Next, Always, Nested}
 use Rattle.asked_files.specs.Problems.{PosesProblem}
 use Rattle.asked_files.specs.SeenProblems.{problem_of}
 use Rattle.stogame_app.specs.Sweeps.{HasOpening, IsOpening, opens}
@@ -43,5 +43,6 @@ of_next game l o f p poses =
 pub has-opening : (game : List (List Distribution)) (l : Labelling) (o : Ownership) (f : Tree) (problem : Problem) → PosesProblem game l o f (problem_of problem) → HasOpening problem
 has-opening game l o f (Until posed) poses = tt
 has-opening game l o f (Within posed steps) poses = tt
-has-opening game l o f (Next posed) poses = of_next game l o f _ poses.1
+has-opening game l o f (Next posed) (flat, of, poses) = of_next game l o f _ poses
 has-opening game l o f (Always posed dual) poses = tt
+has-opening game l o f (Nested loaded initial) poses = tt

@@ -9,7 +9,7 @@ use Rattle.text_lines.specs.Text.{fields_of}
 use Rattle.text_lines.specs.Laws.{HasNo, EndsInNoCr}
 use Rattle.text_lines.proofs.FieldLaws.{fields_of-parted}
 use Rattle.rpatl_syntax.specs.Formula.{Tree}
-use Rattle.rpatl_syntax.specs.Spelling.{state_spelling, path_spelling, coalition_spelling, bound_spelling, spelling}
+use Rattle.rpatl_syntax.specs.Spelling.{state_spelling, kind_spelling, coalition_spelling, bound_spelling, spelling}
 use Rattle.plan_text.specs.Entries.{Entry, IsInRange, entries_of}
 use Rattle.plan_text.specs.Written.{certificate_text}
 use Rattle.plan_text.specs.Said.{is_heading, entries_said}
@@ -102,15 +102,20 @@ line-passed line is =
 formula-passed : (f : Tree) → HasPlainParts f → IsPassedOver (codes "formula" ++ 32 ∷ spelling f)
 formula-passed f is =
     let last : List ℕ = codes " ]" in
-    let path = path_spelling f.kind f.left (state_spelling f.right) in
+    let front = kind_spelling f.kind f.left (state_spelling f.left) in
+    let right = state_spelling f.right in
+    let path = front ++ (codes " " ++ (right ++ last)) in
     let ends : EndsInNoCr last = λ same. omega (arith, same) in
     let some : 0 < length last = omega arith in
-    let some_path = some-behind path last some in
-    let some_open = some-behind (codes " [ ") (path ++ last) some_path in
-    let some_bound = some-behind (bound_spelling f.bound) (codes " [ " ++ (path ++ last)) some_open in
-    passed (codes "formula") (spelling f) (codes "formula " ++ (spelling f ++ codes "\n")) refl refl (some-behind (coalition_spelling f.coalition) (bound_spelling f.bound ++ (codes " [ " ++ (path ++ last))) some_bound)
-    (EndsInNoCr-behind (coalition_spelling f.coalition) (bound_spelling f.bound ++ (codes " [ " ++ (path ++ last))) some_bound
-    (EndsInNoCr-behind (bound_spelling f.bound) (codes " [ " ++ (path ++ last)) some_open (EndsInNoCr-behind (codes " [ ") (path ++ last) some_path (EndsInNoCr-behind path last some ends))))
+    let some_right = some-behind right last some in
+    let some_blank = some-behind (codes " ") (right ++ last) some_right in
+    let some_path = some-behind front (codes " " ++ (right ++ last)) some_blank in
+    let some_open = some-behind (codes " [ ") path some_path in
+    let some_bound = some-behind (bound_spelling f.bound) (codes " [ " ++ path) some_open in
+    let ends_path = EndsInNoCr-behind front (codes " " ++ (right ++ last)) some_blank (EndsInNoCr-behind (codes " ") (right ++ last) some_right (EndsInNoCr-behind right last some ends)) in
+    passed (codes "formula") (spelling f) (codes "formula " ++ (spelling f ++ codes "\n")) refl refl (some-behind (coalition_spelling f.coalition) (bound_spelling f.bound ++ (codes " [ " ++ path)) some_bound)
+    (EndsInNoCr-behind (coalition_spelling f.coalition) (bound_spelling f.bound ++ (codes " [ " ++ path)) some_bound
+    (EndsInNoCr-behind (bound_spelling f.bound) (codes " [ " ++ path) some_open (EndsInNoCr-behind (codes " [ ") path some_path ends_path)))
     refl (formula-ended f is)
 
 -- 5. All lines before the certificate.

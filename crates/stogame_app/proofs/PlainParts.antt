@@ -8,7 +8,7 @@ use Rattle.rpatl_syntax.specs.declared.formula.PathKind.{PathKind}
 use Rattle.rpatl_syntax.specs.declared.formula.PathKind.TheVariants.{Until, Within, Next, Always}
 use Rattle.rpatl_syntax.specs.Dual.{dual_bound}
 use Rattle.rpatl_syntax.specs.Formula.{Tree}
-use Rattle.rpatl_syntax.specs.Spellable.{HasWords, HasShare, HasKind, HasNames, IsSpellable}
+use Rattle.rpatl_syntax.specs.Spellable.{HasWords, HasShare, HasThreshold, HasKind, HasParts, IsSpellable}
 use Rattle.asked_files.specs.Problems.{answered_by, answered}
 
 -- a threshold is at most 1, and its denominator not too great
@@ -23,13 +23,13 @@ HasFine (Below p) = IsFine p
 HasFine AskMax = Unit {0}
 HasFine AskMin = Unit {0}
 
--- words, a fine threshold, few steps and names that can be quoted
+-- words, a fine threshold, few steps and sides whose parts can be spelled
 pub record HasPlainParts (f : Tree) : Type 0 where
   pub words : HasWords f.coalition
   pub fine : HasFine f.bound
   pub kind : HasKind f.kind f.left
-  pub left : HasNames f.left
-  pub right : HasNames f.right
+  pub left : HasParts f.left
+  pub right : HasParts f.right
 
 share-fine : (bound : Bound) → HasShare bound → HasFine bound
 share-fine (AtLeast p) share = (share.small, share.fraction.fine)
@@ -39,8 +39,17 @@ share-fine (Below p) share = (share.small, share.fraction.fine)
 share-fine AskMax share = tt
 share-fine AskMin share = tt
 
+-- that of a formula inside too
+pub threshold-fine : (bound : Bound) → HasThreshold bound → HasFine bound
+threshold-fine (AtLeast p) share = (share.small, share.fraction.fine)
+threshold-fine (Above p) share = (share.small, share.fraction.fine)
+threshold-fine (AtMost p) share = (share.small, share.fraction.fine)
+threshold-fine (Below p) share = (share.small, share.fraction.fine)
+threshold-fine AskMax share = absurd share
+threshold-fine AskMin share = absurd share
+
 pub spellable-plain : (f : Tree) → IsSpellable f → HasPlainParts f
-spellable-plain f is = record { words = is.words; fine = share-fine f.bound is.share; kind = is.kind; left = is.left.names; right = is.right.names }
+spellable-plain f is = record { words = is.words; fine = share-fine f.bound is.share; kind = is.kind; left = is.left.parts; right = is.right.parts }
 
 dual-fine : (bound : Bound) → HasFine bound → HasFine (dual_bound bound)
 dual-fine (AtLeast p) fine = (omega arith, fine.1)

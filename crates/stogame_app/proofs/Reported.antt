@@ -34,8 +34,9 @@ use Rattle.rpatl_syntax.specs.declared.formula.PathKind.{PathKind}
 use Rattle.rpatl_syntax.specs.declared.formula.PathKind.TheVariants.{Until, Within, Next, Always}
 use Rattle.rpatl_syntax.specs.Dual.{IsAtMostOne, dual_bound}
 use Rattle.asked_files.specs.Problems.{answered_by, answered}
-use Rattle.stogame_app.specs.Printed.{printed_lower, printed_upper, verdict_with, verdict_by, is_no, is_undecided, status_of, output_of}
-use Rattle.stogame_app.specs.Reports.{IsFound, IsShown, IsLeftOpen, IsReport}
+use Rattle.stogame_app.specs.Printed.{is_mirrored, verdict_as, verdict_with, verdict_by, is_no, is_undecided, status_of, output_of}
+use Rattle.bracket_engine.specs.Found.{IsFound}
+use Rattle.stogame_app.specs.Reports.{IsShown, IsLeftOpen, IsReport}
 use Rattle.stogame_app.specs.Outputs.{output_text, IsInLimits}
 
 -- 1. What verdicts say is so.
@@ -59,7 +60,7 @@ Mirrors = (bound : Bound) (lower upper : ℕ) → IsAtMostOne bound → lower �
 pub verdict-answered : Mirrors → (f : Tree) → IsAtMostOne f.bound → (lower upper : ℕ) → lower ≤ unit → upper ≤ unit → verdict_with f lower upper ≡ verdict_of (answered f).bound lower upper
 verdict-answered mirrors f share lower upper low high = by f.kind
   where
-    by : (kind : PathKind) → verdict_of f.bound (printed_lower kind lower upper) (printed_upper kind lower upper) ≡ verdict_of (answered_by kind f).bound lower upper
+    by : (kind : PathKind) → verdict_as (is_mirrored kind) f.bound lower upper ≡ verdict_of (answered_by kind f).bound lower upper
     by Until = refl
     by (Within steps) = refl
     by Next = refl

@@ -22,7 +22,7 @@ pub joined-short : (m n : ℕ) (front back : List ℕ) → length front ≤ m �
 joined-short m n front back a b = omega (arith, length-append front back, a, b)
 
 -- a number of at most ten digits
-decimal-short : (n : ℕ) → n < 10 ^ 10 → length (decimal n) ≤ 10
+pub decimal-short : (n : ℕ) → n < 10 ^ 10 → length (decimal n) ≤ 10
 decimal-short n small = length-decimal-le_wide 10 n (omega arith) small (omega (arith, small))
 
 length-last_digits : (k n : ℕ) → length (last_digits k n) ≡ k

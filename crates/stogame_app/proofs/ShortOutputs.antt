@@ -1,6 +1,6 @@
 -- What `check` writes is no longer than a text may be that is read, so an audit of the same question accepts it.
-use Rattle.std.proofs.Common.{◌≡◌, ◌∙◌, ◌≤◌, ◌+◌, ◌*◌, ℕ, Bool, true, false, List, [], ◌∷◌, ◌++◌, length, map, bytes_eq, Option, Some, if◌then◌else◌, sym, ap, subst, arith}
-use Rattle.std.specs.Prelude.{◌||◌, All, codes}
+use Rattle.std.proofs.Common.{◌≡◌, ◌∙◌, ◌<◌, ◌≤◌, ◌+◌, ◌*◌, ◌^◌, ℕ, Bool, true, false, cond, List, [], ◌∷◌, ◌++◌, length, map, bytes_eq, Option, Some, if◌then◌else◌, refl, sym, ap, subst, arith}
+use Rattle.std.specs.Prelude.{◌||◌, ◌&&◌, All, codes, decimal}
 use Rattle.std.proofs.lemmas.List.{length-append, length-map}
 use Rattle.text_lines.specs.Limits.{most_bytes}
 use Rattle.game_outside.specs.Outside.{Holding}
@@ -13,7 +13,7 @@ use Rattle.label_reader.specs.Lines.{StateLine}
 use Rattle.label_reader.specs.Labels.{Label, marks_of, marked_from, states_with, Labelling}
 use Rattle.label_reader.specs.Denotes.{AreLabels, DenotesLabels}
 use Rattle.label_reader.specs.Owners.{Ownership}
-use Rattle.rpatl_syntax.specs.Formula.{Tree}
+use Rattle.rpatl_syntax.specs.Formula.{Tree, is_flat}
 use Rattle.rpatl_syntax.specs.Rules.{Denotes}
 use Rattle.rpatl_syntax.specs.Spellable.{IsSpellable}
 use Rattle.rpatl_syntax.specs.Spelling.{spelling}
@@ -22,24 +22,26 @@ use Rattle.plan_text.specs.Written.{certificate_text}
 use Rattle.verdicts.specs.Report.{report}
 use Rattle.plan_text.specs.declared.plan.Plan.{Plan}
 use Rattle.certificate_audit.specs.Accepted.{IsAccepted}
-use Rattle.verdicts.specs.declared.report.How.{How}
+use Rattle.verdicts.specs.declared.report.ReportLine.{ReportLine}
 use Rattle.verdicts.specs.declared.report.How.TheVariants.{Rounds, Steps}
 use Rattle.verdicts.specs.Report.{IsLine}
-use Rattle.formula_sets.specs.Posing.{init}
+use Rattle.formula_sets.specs.Posing.{Model, Posing, init}
+use Rattle.formula_sets.proofs.Asking.{initial-found}
 use Rattle.command_words.specs.Words.{Asked, Check, Audit, OfCheck, OfAudit}
 use Rattle.stogame_app.specs.declared.status.Status.{Status}
 use Rattle.asked_files.specs.Asks.{Asks}
 use Rattle.stogame_app.specs.Outputs.{certificate_part, AreEntriesInLimits}
-use Rattle.stogame_app.specs.Printed.{line_by, certificate_of}
+use Rattle.stogame_app.specs.Printed.{line_at, line_by, certificate_of}
 use Rattle.asked_files.specs.declared.problem.Paths.{Paths}
 use Rattle.asked_files.specs.declared.problem.Paths.TheVariants.{Any, Unbounded}
-use Rattle.asked_files.specs.Problems.{Problem, OfUntil, OfWithin, OfNext, OfAlways, PosesProblem, question_of, initial_of, answered, takes}
+use Rattle.asked_files.specs.Problems.{Problem, OfUntil, OfWithin, OfNext, OfAlways, OfNested, PosesProblem, initial_of, posing_in, answered, takes, takes_formula}
 use Rattle.stogame_app.specs.Reports.{IsReport}
 use Rattle.stogame_app.specs.Sweeps.{IsSweepReport}
+use Rattle.stogame_app.specs.Nested.{IsNestedReport, inside_text}
 use Rattle.asked_files.specs.Sources.{Sources, sources_of}
 use Rattle.stogame_app.specs.Commands.{IsReportOf, IsReportOn, IsAcceptedOf, check_paths}
 use Rattle.stogame_app.proofs.Passing.{AreReadBack, AreCertificates, report-accepted}
-use Rattle.stogame_app.proofs.ShortLines.{entry_bytes, line_bytes, joined-short, report-short, certificate-short}
+use Rattle.stogame_app.proofs.ShortLines.{entry_bytes, line_bytes, joined-short, decimal-short, report-short, certificate-short}
 use Rattle.stogame_app.proofs.PlainParts.{HasPlainParts, spellable-plain, answered-plain}
 use Rattle.stogame_app.proofs.ShortSpellings.{most_spelled, spelling-short}
 
@@ -65,10 +67,11 @@ game-few text game denotes = omega (arith, denotes.states, denotes.is_header.few
 
 -- the initial states of a problem are those with the label
 problem-starts : (game : List (List Distribution)) (labels : Labelling) (owners : Ownership) (f : Tree) (problem : Problem) → PosesProblem game labels owners f problem → initial_of problem ≡ states_with labels init
-problem-starts game labels owners f (OfUntil p) poses = poses.1.set_up.starts
-problem-starts game labels owners f (OfWithin k p) poses = poses.1.set_up.starts
-problem-starts game labels owners f (OfNext p) poses = poses.1.set_up.starts
-problem-starts game labels owners f (OfAlways p) poses = poses.1.set_up.starts
+problem-starts game labels owners f (OfUntil p) (flat, of, poses) = poses.set_up.starts
+problem-starts game labels owners f (OfWithin k p) (flat, of, poses) = poses.set_up.starts
+problem-starts game labels owners f (OfNext p) (flat, of, poses) = poses.set_up.starts
+problem-starts game labels owners f (OfAlways p) (flat, of, poses) = poses.set_up.starts
+problem-starts game labels owners f (OfNested m initial) (nested, of, said) = (initial-found labels owners f initial said).starts
 
 initial-few : (paths : Paths) (sources : Sources) (asked : Asked) (problem : Problem) → Asks paths sources asked problem → length (initial_of problem) ≤ most_states
 initial-few paths sources asked problem asks =
@@ -90,8 +93,8 @@ part-short true f plan small are =
     (certificate-short entries are.0 are.1)
 
 -- the lines of the initial states
-lines-short : (initial : List ℕ) (f : Tree) (how : How) (lower upper : List ℕ) → length initial ≤ most_states → All IsLine (map (line_by f how lower upper) initial) → length (report (map (line_by f how lower upper) initial)) ≤ line_bytes * most_states
-lines-short initial f how lower upper few are = omega (arith, few, length-map initial (line_by f how lower upper), report-short (map (line_by f how lower upper) initial) are)
+lines-short : (initial : List ℕ) (line : ℕ → ReportLine) → length initial ≤ most_states → All IsLine (map line initial) → length (report (map line initial)) ≤ line_bytes * most_states
+lines-short initial line few are = omega (arith, few, length-map initial line, report-short (map line initial) are)
 
 report-text-short : (q : Query) (initial : List ℕ) (f : Tree) (check : Check) (text : List ℕ) (status : Status) → length initial ≤ most_states → length (spelling (answered f)) ≤ most_spelled
     → IsReport q initial f check text status → length text ≤ most_bytes
@@ -102,14 +105,31 @@ report-text-short q initial f check text status few small r =
       arith,
       ap (λ (t : List ℕ). length t) r.written,
       length-append (report lines) part,
-      lines-short initial f (Rounds r.found.rounds) r.plan.lower.items r.plan.upper.items few r.limits.lines,
+      lines-short initial (line_by f (Rounds r.found.rounds) r.plan.lower.items r.plan.upper.items) few r.limits.lines,
       part-short check.plan f r.plan small r.limits.entries,
     )
 
 sweep-text-short : (q : Query) (opening : ℕ → ℕ) (steps : ℕ) (numerators : ℕ → ℕ) (initial : List ℕ) (f : Tree) (text : List ℕ) (status : Status) → length initial ≤ most_states
     → IsSweepReport q opening steps numerators initial f text status → length text ≤ most_bytes
 sweep-text-short q opening steps numerators initial f text status few r =
-    omega (arith, ap (λ (t : List ℕ). length t) r.written, lines-short initial f (Steps steps) r.lower r.upper few r.lines)
+    omega (arith, ap (λ (t : List ℕ). length t) r.written, lines-short initial (line_at false f.bound (Steps steps) r.lower r.upper) few r.lines)
+
+-- the line about the formulas inside
+inside-short : (inner undecided : ℕ) → inner < 2 ^ 32 → undecided < 2 ^ 32 → length (inside_text inner undecided) ≤ 38
+inside-short inner undecided one other =
+    joined-short 16 22 (codes "inner " ++ decimal inner) _ (joined-short 6 10 (codes "inner ") (decimal inner) (omega arith) (decimal-short inner (omega (arith, one))))
+    (joined-short 21 1 (codes " undecided " ++ decimal undecided) (codes "\n") (joined-short 11 10 (codes " undecided ") (decimal undecided) (omega arith) (decimal-short undecided (omega (arith, other)))) (omega arith))
+
+nested-text-short : (m : Model) (initial : List ℕ) (f : Tree) (asked : ℕ) (text : List ℕ) (status : Status) → length initial ≤ most_states → IsNestedReport m initial f asked text status → length text ≤ most_bytes
+nested-text-short m initial f asked text status few r =
+    let lines = map (line_at false f.bound r.how r.band.lower r.band.upper) initial in
+    omega (
+      arith,
+      ap (λ (t : List ℕ). length t) r.written,
+      length-append (inside_text r.inner r.undecided) (report lines),
+      inside-short r.inner r.undecided r.counts.0 r.counts.1,
+      lines-short initial (line_at false f.bound r.how r.band.lower r.band.upper) few r.lines,
+    )
 
 problem-short : (problem : Problem) (f : Tree) (check : Check) (text : List ℕ) (status : Status) → length (initial_of problem) ≤ most_states → length (spelling (answered f)) ≤ most_spelled
     → IsReportOn problem f check text status → length text ≤ most_bytes
@@ -117,6 +137,7 @@ problem-short (OfUntil p) f check text status few small r = report-text-short p.
 problem-short (OfAlways p) f check text status few small r = report-text-short p.question p.initial f check text status few small r
 problem-short (OfWithin k p) f check text status few small r = sweep-text-short _ _ _ _ p.initial f text status few r
 problem-short (OfNext p) f check text status few small r = sweep-text-short _ _ _ _ p.initial f text status few r
+problem-short (OfNested m initial) f check text status few small r = nested-text-short m initial f check.rounds text status few r
 
 -- every formula that a text denotes can be spelled
 abbrev pub AreSpellable : Type 0
@@ -133,13 +154,29 @@ printed-short spellable holding check text status r =
 planned-paths : (check : Check) → check.plan ≡ true → check_paths check ≡ Unbounded
 planned-paths check planned = ap (λ b. if b || check.traps then Unbounded else Any) planned
 
+-- such formulas have none inside, and no bound on the steps
+not_taken : (g : Tree) (flat : Bool) → (is_flat g.left && is_flat g.right) ≡ flat → cond flat (takes Unbounded g.kind) false ≡ true → (flat ≡ true) × (takes Unbounded g.kind ≡ true)
+not_taken g true of taken = (refl, taken)
+not_taken g false of taken = cc (taken)
+
+abbrev AcceptsIt : Problem → List ℕ → Type 0
+AcceptsIt problem text = (posing : Posing) × (plan : Plan) × (posing_in problem ≡ Some posing) × IsAccepted posing.question text plan
+
 -- a certificate that was written is accepted, by the kind of the paths
 problem-accepted : AreReadBack → AreCertificates → (game : List (List Distribution)) (labels : Labelling) (owners : Ownership) (g : Tree) (problem : Problem) (f : Tree) (check : Check) (text : List ℕ) (status : Status) → check.plan ≡ true
-    → PosesProblem game labels owners g problem → takes Unbounded g.kind ≡ true → HasPlainParts (answered f) → IsReportOn problem f check text status → (plan : Plan) × IsAccepted (question_of problem) text plan
-problem-accepted read_back certificates game labels owners g (OfUntil p) f check text status planned poses taken parts r = (r.plan, report-accepted read_back certificates p.question p.initial f check text status planned parts r)
-problem-accepted read_back certificates game labels owners g (OfAlways p) f check text status planned poses taken parts r = (r.plan, report-accepted read_back certificates p.question p.initial f check text status planned parts r)
-problem-accepted read_back certificates game labels owners g (OfWithin k p) f check text status planned poses taken parts r = let not : takes Unbounded g.kind ≡ false = ap (takes Unbounded) poses.0 in absurd (cc (not, taken))
-problem-accepted read_back certificates game labels owners g (OfNext p) f check text status planned poses taken parts r = let not : takes Unbounded g.kind ≡ false = ap (takes Unbounded) poses.0 in absurd (cc (not, taken))
+    → PosesProblem game labels owners g problem → takes_formula Unbounded g ≡ true → HasPlainParts (answered f) → IsReportOn problem f check text status → AcceptsIt problem text
+problem-accepted read_back certificates game labels owners g (OfUntil p) f check text status planned poses taken parts r = (p, r.plan, refl, report-accepted read_back certificates p.question p.initial f check text status planned parts r)
+problem-accepted read_back certificates game labels owners g (OfAlways p) f check text status planned poses taken parts r = (p, r.plan, refl, report-accepted read_back certificates p.question p.initial f check text status planned parts r)
+problem-accepted read_back certificates game labels owners g (OfWithin k p) f check text status planned (flat, of, poses) taken parts r =
+    let by = not_taken g (is_flat g.left && is_flat g.right) refl taken in
+    let not : takes Unbounded g.kind ≡ false = ap (takes Unbounded) of in
+    let is = by.1 in absurd (cc (not, is))
+problem-accepted read_back certificates game labels owners g (OfNext p) f check text status planned (flat, of, poses) taken parts r =
+    let by = not_taken g (is_flat g.left && is_flat g.right) refl taken in
+    let not : takes Unbounded g.kind ≡ false = ap (takes Unbounded) of in
+    let is = by.1 in absurd (cc (not, is))
+problem-accepted read_back certificates game labels owners g (OfNested m initial) f check text status planned (nested, of, said) taken parts r =
+    let by = not_taken g (is_flat g.left && is_flat g.right) refl taken in absurd (nested by.0)
 
 -- a later shelf holds what was written, and the same texts for the problem
 pub saved-accepted : AreReadBack → AreCertificates → AreSpellable → (held later : Holding) (check : Check) (audit : Audit) (text : List ℕ) (status : Status) → IsReportOf (Some held) (OfCheck check) text status → check.plan ≡ true
@@ -151,6 +188,8 @@ saved-accepted read_back certificates spellable held later check audit text stat
     let accepted = problem-accepted read_back certificates asks.game asks.labels asks.owners asks.formula r.problem r.formula check text status planned asks.poses asks.taken parts r.report in (
       r.problem,
       accepted.0,
+      accepted.1,
       subst (λ (asked : Asked). Asks Unbounded (sources_of later asked) asked r.problem) (sym same) asks,
-      record { text = text; given = given; short = printed-short spellable (Some held) check text status r; is_so = accepted.1 },
+      accepted.2,
+      record { text = text; given = given; short = printed-short spellable (Some held) check text status r; is_so = accepted.3 },
     )

@@ -1,4 +1,4 @@
--- How long the spelling of a formula is at most: ten bytes for each byte of the text that denotes it, and some for its threshold.
+-- How long the spelling of a formula is at most: thirty bytes for each byte of the text that denotes it, and some for its threshold.
 use Rattle.std.proofs.Common.{◌≡◌, ◌<◌, ◌≤◌, ◌+◌, ◌-◌, ◌*◌, ◌^◌, ℕ, Bool, true, false, List, [], ◌∷◌, ◌++◌, length, drop, Option, Some, None, refl, ap, arith}
 use Rattle.std.specs.Prelude.{◌==◌, nat_lt, codes, decimal, if◌then◌else◌}
 use Rattle.std.proofs.lemmas.List.{length-append, length-take}
@@ -6,14 +6,14 @@ use Rattle.std.proofs.lemmas.Fmt.{length-decimal-le_wide}
 use Rattle.distributions.specs.Fraction.{Fraction}
 use Rattle.rpatl_syntax.specs.declared.formula.Bound.{Bound}
 use Rattle.rpatl_syntax.specs.declared.formula.Bound.TheVariants.{AtLeast, Above, AtMost, Below, AskMax, AskMin}
-use Rattle.rpatl_syntax.specs.Formula.{State, True, False, Label, Not, And, Or, Implies, Tree}
-use Rattle.rpatl_syntax.specs.Grammar.{is_quoted, unquoted}
+use Rattle.rpatl_syntax.specs.Formula.{State, True, False, Label, Not, And, Or, Implies, Inner, Tree}
+use Rattle.rpatl_syntax.specs.Grammar.{is_number, is_quoted, unquoted}
 use Rattle.rpatl_syntax.specs.declared.formula.PathKind.{PathKind}
 use Rattle.rpatl_syntax.specs.declared.formula.PathKind.TheVariants.{Until, Within, Next, Always}
 use Rattle.rpatl_syntax.specs.Dual.{dual_of}
 use Rattle.rpatl_syntax.specs.Limits.{longest}
-use Rattle.rpatl_syntax.specs.Rules.{between, IsState, IsEither, IsBoth, IsUnary, plain_state, implies, plain_either, or, plain_both, and, negation, brackets, everywhere, nowhere, label, with_commas, IsCoalition, IsPath, reach, reach_within, until, until_within, next, always, IsFormula, Denotes}
-use Rattle.rpatl_syntax.specs.Spelling.{strength_of, in_place, state_spelling, until_spelling, path_spelling, names_spelling, coalition_spelling, fraction_spelling, bound_spelling, spelling}
+use Rattle.rpatl_syntax.specs.Rules.{between, formula_of, IsState, IsEither, IsBoth, IsUnary, IsPath, plain_state, implies, plain_either, or, plain_both, and, negation, brackets, everywhere, nowhere, label, inside, reach, reach_within, until, until_within, next, always, with_commas, IsCoalition, IsComparison, IsBound, Compares, IsFormula, Denotes}
+use Rattle.rpatl_syntax.specs.Spelling.{strength_of, in_place, state_spelling, until_spelling, kind_spelling, spelling_with, names_spelling, coalition_spelling, fraction_spelling, bound_spelling, spelling}
 use Rattle.rpatl_syntax.specs.TokenRules.{AreCut, nothing, blank, token}
 use Rattle.asked_files.specs.Problems.{answered_by, answered}
 use Rattle.stogame_app.proofs.PlainParts.{IsFine, HasFine, HasPlainParts, answered-plain}
@@ -34,93 +34,24 @@ cut-short _ _ nothing = omega arith
 cut-short _ _ (blank b rest tokens is cut) = omega (arith, cut-short rest tokens cut)
 cut-short _ _ (token spelling rest tokens is cut) = omega (arith, cut-short rest tokens cut, length-append spelling rest)
 
--- 2. The spelling of a state formula.
+-- 2. The parts of a formula.
 
-in_place-short : (least : ℕ) (x : State) (text : List ℕ) → length (in_place least x text) ≤ length text + 2
-in_place-short least x text = by (nat_lt (strength_of x) least)
-  where
-    by : (b : Bool) → length (if b then codes "(" ++ (text ++ codes ")") else text) ≤ length text + 2
-    by true = omega (arith, length-append text (codes ")"))
-    by false = omega arith
-
--- two operands in their places, and the sign between them
-operands-short : (least other : ℕ) (x y : State) (sign : List ℕ) → length sign ≤ 4
-    → length (in_place least x (state_spelling x) ++ (sign ++ in_place other y (state_spelling y))) ≤ length (state_spelling x) + (8 + length (state_spelling y))
-operands-short least other x y sign small =
-    let left = in_place least x (state_spelling x) in
-    let right = in_place other y (state_spelling y) in
-    omega (arith, small, length-append left (sign ++ right), length-append sign right, in_place-short least x (state_spelling x), in_place-short other y (state_spelling y))
-
--- a quoted name in its quotes
-named-short : (token : List ℕ) → is_quoted token ≡ true → length (unquoted token) + 1 ≤ length token
-named-short [] quoted = cc (quoted)
-named-short (b ∷ bytes) quoted = omega (arith, length-take (length (b ∷ bytes) - 2) (drop 1 (b ∷ bytes)))
-
--- ten bytes for each byte of the tokens are enough, even with eight more: a sign has four at most, and the brackets of each side two
-abbrev Fits : List (List ℕ) → State → Type 0
-Fits ts x = length (state_spelling x) + 8 ≤ 10 * bytes_in ts
-
-both-fit : (least other : ℕ) (ts us : List (List ℕ)) (x y : State) (sign mark : List ℕ) → length sign ≤ 4 → Fits ts x → Fits us y
-    → length (in_place least x (state_spelling x) ++ (sign ++ in_place other y (state_spelling y))) + 8 ≤ 10 * bytes_in (between ts mark us)
-both-fit least other ts us x y sign mark small a b = omega (arith, operands-short least other x y sign small, bytes_in-append ts (mark ∷ us), a, b)
-
-mutual
-  unary-fits : (room : ℕ) (ts : List (List ℕ)) (x : State) → IsUnary room ts x → Fits ts x
-  unary-fits _ _ _ (negation room ts x d) = omega (arith, unary-fits room ts x d, in_place-short 3 x (state_spelling x))
-  unary-fits _ _ _ (brackets room ts x d) = omega (arith, state-fits room ts x d, bytes_in-append ts (codes ")" ∷ []))
-  unary-fits _ _ _ (everywhere room) = omega arith
-  unary-fits _ _ _ (nowhere room) = omega arith
-  unary-fits _ _ _ (label room quote quoted) = omega (arith, named-short quote quoted, length-append (unquoted quote) (codes "\""))
-
-  both-fits : (room : ℕ) (ts : List (List ℕ)) (x : State) → IsBoth room ts x → Fits ts x
-  both-fits _ _ _ (plain_both room ts x d) = unary-fits room ts x d
-  both-fits _ _ _ (and room ts us x y d e) = both-fit 2 3 ts us x y (codes " & ") (codes "&") (omega arith) (both-fits room ts x d) (unary-fits room us y e)
-
-  either-fits : (room : ℕ) (ts : List (List ℕ)) (x : State) → IsEither room ts x → Fits ts x
-  either-fits _ _ _ (plain_either room ts x d) = both-fits room ts x d
-  either-fits _ _ _ (or room ts us x y d e) = both-fit 1 2 ts us x y (codes " | ") (codes "|") (omega arith) (either-fits room ts x d) (both-fits room us y e)
-
-  state-fits : (room : ℕ) (ts : List (List ℕ)) (x : State) → IsState room ts x → Fits ts x
-  state-fits _ _ _ (plain_state room ts x d) = either-fits room ts x d
-  state-fits _ _ _ (implies room ts us x y d e) = both-fit 0 1 ts us x y (codes " => ") (codes "=>") (omega arith) (state-fits room ts x d) (either-fits room us y e)
-
--- 3. The parts of a formula.
-
-until-short : (left : State) → length (until_spelling left) ≤ length (state_spelling left) + 2
-until-short True = omega arith
-until-short False = omega arith
-until-short (Label name) = omega (arith, length-append (state_spelling (Label name)) (codes " U"))
-until-short (Not x) = omega (arith, length-append (state_spelling (Not x)) (codes " U"))
-until-short (And x y) = omega (arith, length-append (state_spelling (And x y)) (codes " U"))
-until-short (Or x y) = omega (arith, length-append (state_spelling (Or x y)) (codes " U"))
-until-short (Implies x y) = omega (arith, length-append (state_spelling (Implies x y)) (codes " U"))
+until-short : (left : State) (x : List ℕ) → length (until_spelling left x) ≤ length x + 2
+until-short True x = omega arith
+until-short False x = omega (arith, length-append x (codes " U"))
+until-short (Label name) x = omega (arith, length-append x (codes " U"))
+until-short (Not y) x = omega (arith, length-append x (codes " U"))
+until-short (And y z) x = omega (arith, length-append x (codes " U"))
+until-short (Or y z) x = omega (arith, length-append x (codes " U"))
+until-short (Implies y z) x = omega (arith, length-append x (codes " U"))
+until-short (Inner team bound kind y z) x = omega (arith, length-append x (codes " U"))
 
 -- a number of steps
 steps-short : (k : ℕ) → k ≤ 1000000 → length (decimal k) ≤ 7
 steps-short k few = length-decimal-le_wide 7 k (omega arith) (omega (arith, few)) (omega (arith, few))
 
-within-short : (left : State) (k : ℕ) (right : List ℕ) → k ≤ 1000000 → length (path_spelling (Within k) left right) ≤ length (until_spelling left) + (10 + length right)
-within-short left k right few =
-    omega (arith, length-append (until_spelling left ++ (codes "<=" ++ decimal k)) (codes " " ++ right), length-append (until_spelling left) (codes "<=" ++ decimal k), steps-short k few)
-
-path-short : (ts : List (List ℕ)) (kind : PathKind) (left right : State) → IsPath ts kind left right → length (path_spelling kind left (state_spelling right)) ≤ 10 * bytes_in ts
-path-short _ _ _ _ (reach ts y d) = omega (arith, state-fits _ ts y d)
-path-short _ _ _ _ (reach_within number ts k y few d) = omega (arith, within-short True k (state_spelling y) few.small, state-fits _ ts y d)
-path-short _ _ _ _ (until ts us x y d e) =
-    omega (arith, length-append (until_spelling x) (codes " " ++ state_spelling y), until-short x, state-fits _ ts x d, state-fits _ us y e, bytes_in-append ts (codes "U" ∷ us))
-path-short _ _ _ _ (until_within ts number us k x y d few e) =
-    omega (arith, within-short x k (state_spelling y) few.small, until-short x, state-fits _ ts x d, state-fits _ us y e, bytes_in-append ts (codes "U" ∷ codes "<=" ∷ number ∷ us))
-path-short _ _ _ _ (next ts y d) = omega (arith, state-fits _ ts y d)
-path-short _ _ _ _ (always ts y d) = omega (arith, state-fits _ ts y d)
-
--- the path of the dual of `G`
-dual-short : (ts : List (List ℕ)) (kind : PathKind) (left right : State) → IsPath ts kind left right → kind ≡ Always → length (path_spelling Until True (state_spelling (Not right))) ≤ 10 * bytes_in ts
-dual-short _ _ _ _ (reach ts y d) is = absurd (cc (is))
-dual-short _ _ _ _ (reach_within number ts k y few d) is = absurd (cc (is))
-dual-short _ _ _ _ (until ts us x y d e) is = absurd (cc (is))
-dual-short _ _ _ _ (until_within ts number us k x y d few e) is = absurd (cc (is))
-dual-short _ _ _ _ (next ts y d) is = absurd (cc (is))
-dual-short _ _ _ _ (always ts y d) is = omega (arith, in_place-short 3 y (state_spelling y), state-fits _ ts y d)
+within-short : (left : State) (x : List ℕ) (k : ℕ) → k ≤ 1000000 → length (kind_spelling (Within k) left x) ≤ length (until_spelling left x) + 9
+within-short left x k few = omega (arith, length-append (until_spelling left x) (codes "<=" ++ decimal k), steps-short k few)
 
 names-short : (names : List (List ℕ)) → length (names_spelling names) ≤ bytes_in (with_commas names)
 names-short [] = omega arith
@@ -160,42 +91,167 @@ bound-short (Below p) fine = compared-short (codes "P<") p (omega arith) fine
 bound-short AskMax fine = omega arith
 bound-short AskMin fine = omega arith
 
+-- a bound whose thresholds denote numbers
+compared-fine : (sign : List ℕ) (ts : List (List ℕ)) (p : Fraction) → IsComparison sign ts p → IsFine p
+compared-fine sign ts p is = let t = is.2 in (t.small, t.value.fraction.fine)
+
+bound-fine : (ts : List (List ℕ)) (bound : Bound) → IsBound ts bound → HasFine bound
+bound-fine ts (AtLeast p) is = compared-fine (codes ">=") ts p is
+bound-fine ts (Above p) is = compared-fine (codes ">") ts p is
+bound-fine ts (AtMost p) is = compared-fine (codes "<=") ts p is
+bound-fine ts (Below p) is = compared-fine (codes "<") ts p is
+bound-fine ts AskMax is = tt
+bound-fine ts AskMin is = tt
+
+number-some : (token : List ℕ) → is_number token ≡ true → 1 ≤ length token
+number-some [] is = cc (is)
+number-some (b ∷ bytes) is = omega arith
+
+-- a comparison has at least three bytes
+compared-some : (sign : List ℕ) (ts : List (List ℕ)) (p : Fraction) → 1 ≤ length sign → IsComparison sign ts p → 3 ≤ bytes_in ts
+compared-some sign ts p some is = let t = is.2 in omega (arith, some, ap bytes_in is.1, number-some is.0 t.number)
+
+bound-some : (ts : List (List ℕ)) (bound : Bound) → IsBound ts bound → Compares bound → 3 ≤ bytes_in ts
+bound-some ts (AtLeast p) is compares = compared-some (codes ">=") ts p (omega arith) is
+bound-some ts (Above p) is compares = compared-some (codes ">") ts p (omega arith) is
+bound-some ts (AtMost p) is compares = compared-some (codes "<=") ts p (omega arith) is
+bound-some ts (Below p) is compares = compared-some (codes "<") ts p (omega arith) is
+bound-some ts AskMax is compares = absurd compares
+bound-some ts AskMin is compares = absurd compares
+
+-- a coalition, a bound and a path
+with-short : (team : Option (List (List ℕ))) (bound : Bound) (kind : PathKind) (left : State) (x y : List ℕ) → HasFine bound
+    → length (spelling_with team bound kind left x y) ≤ length (coalition_spelling team) + (138 + (length (kind_spelling kind left x) + length y))
+with-short team bound kind left x y fine =
+    let front = kind_spelling kind left x in
+    let behind = codes " " ++ (y ++ codes " ]") in
+    omega (
+      arith,
+      length-append (coalition_spelling team) (bound_spelling bound ++ (codes " [ " ++ (front ++ behind))),
+      length-append (bound_spelling bound) (codes " [ " ++ (front ++ behind)),
+      length-append front behind,
+      length-append y (codes " ]"),
+      bound-short bound fine,
+    )
+
+formula-bytes : (team asks sides : List (List ℕ)) → bytes_in (formula_of team asks sides) ≡ bytes_in team + (bytes_in asks + (2 + bytes_in sides))
+formula-bytes team asks sides =
+    omega (
+      arith,
+      bytes_in-append team (asks ++ codes "[" ∷ (sides ++ codes "]" ∷ [])),
+      bytes_in-append asks (codes "[" ∷ (sides ++ codes "]" ∷ [])),
+      bytes_in-append sides (codes "]" ∷ []),
+    )
+
+-- 3. The spelling of a state formula, and of a path.
+
+in_place-short : (least : ℕ) (x : State) (text : List ℕ) → length (in_place least x text) ≤ length text + 2
+in_place-short least x text = by (nat_lt (strength_of x) least)
+  where
+    by : (b : Bool) → length (if b then codes "(" ++ (text ++ codes ")") else text) ≤ length text + 2
+    by true = omega (arith, length-append text (codes ")"))
+    by false = omega arith
+
+-- two operands in their places, and the sign between them
+operands-short : (least other : ℕ) (x y : State) (sign : List ℕ) → length sign ≤ 4
+    → length (in_place least x (state_spelling x) ++ (sign ++ in_place other y (state_spelling y))) ≤ length (state_spelling x) + (8 + length (state_spelling y))
+operands-short least other x y sign small =
+    let left = in_place least x (state_spelling x) in
+    let right = in_place other y (state_spelling y) in
+    omega (arith, small, length-append left (sign ++ right), length-append sign right, in_place-short least x (state_spelling x), in_place-short other y (state_spelling y))
+
+-- a quoted name in its quotes
+named-short : (token : List ℕ) → is_quoted token ≡ true → length (unquoted token) + 1 ≤ length token
+named-short [] quoted = cc (quoted)
+named-short (b ∷ bytes) quoted = omega (arith, length-take (length (b ∷ bytes) - 2) (drop 1 (b ∷ bytes)))
+
+-- thirty bytes for each byte of the tokens are enough, even with eight more: a sign has four at most, the brackets of each side two, and a threshold 129
+abbrev Fits : List (List ℕ) → State → Type 0
+Fits ts x = length (state_spelling x) + 8 ≤ 30 * bytes_in ts
+
+both-fit : (least other : ℕ) (ts us : List (List ℕ)) (x y : State) (sign mark : List ℕ) → length sign ≤ 4 → Fits ts x → Fits us y
+    → length (in_place least x (state_spelling x) ++ (sign ++ in_place other y (state_spelling y))) + 8 ≤ 30 * bytes_in (between ts mark us)
+both-fit least other ts us x y sign mark small a b = omega (arith, operands-short least other x y sign small, bytes_in-append ts (mark ∷ us), a, b)
+
+-- what stands before the right side, and this side
+abbrev PathFits : List (List ℕ) → PathKind → State → State → Type 0
+PathFits ts kind x y = length (kind_spelling kind x (state_spelling x)) + (1 + length (state_spelling y)) ≤ 30 * bytes_in ts
+
+mutual
+  unary-fits : (room : ℕ) (ts : List (List ℕ)) (x : State) → IsUnary room ts x → Fits ts x
+  unary-fits _ _ _ (negation room ts x d) = omega (arith, unary-fits room ts x d, in_place-short 3 x (state_spelling x))
+  unary-fits _ _ _ (brackets room ts x d) = omega (arith, state-fits room ts x d, bytes_in-append ts (codes ")" ∷ []))
+  unary-fits _ _ _ (everywhere room) = omega arith
+  unary-fits _ _ _ (nowhere room) = omega arith
+  unary-fits _ _ _ (label room quote quoted) = omega (arith, named-short quote quoted, length-append (unquoted quote) (codes "\""))
+  unary-fits _ _ _ (inside room team asks sides f named asked compares d) =
+      omega (
+        arith,
+        with-short f.coalition f.bound f.kind f.left (state_spelling f.left) (state_spelling f.right) (bound-fine asks f.bound asked),
+        coalition-short team f.coalition named,
+        bound-some asks f.bound asked compares,
+        formula-bytes team asks sides,
+        path-fits room sides f.kind f.left f.right d,
+      )
+
+  both-fits : (room : ℕ) (ts : List (List ℕ)) (x : State) → IsBoth room ts x → Fits ts x
+  both-fits _ _ _ (plain_both room ts x d) = unary-fits room ts x d
+  both-fits _ _ _ (and room ts us x y d e) = both-fit 2 3 ts us x y (codes " & ") (codes "&") (omega arith) (both-fits room ts x d) (unary-fits room us y e)
+
+  either-fits : (room : ℕ) (ts : List (List ℕ)) (x : State) → IsEither room ts x → Fits ts x
+  either-fits _ _ _ (plain_either room ts x d) = both-fits room ts x d
+  either-fits _ _ _ (or room ts us x y d e) = both-fit 1 2 ts us x y (codes " | ") (codes "|") (omega arith) (either-fits room ts x d) (both-fits room us y e)
+
+  state-fits : (room : ℕ) (ts : List (List ℕ)) (x : State) → IsState room ts x → Fits ts x
+  state-fits _ _ _ (plain_state room ts x d) = either-fits room ts x d
+  state-fits _ _ _ (implies room ts us x y d e) = both-fit 0 1 ts us x y (codes " => ") (codes "=>") (omega arith) (state-fits room ts x d) (either-fits room us y e)
+
+  path-fits : (room : ℕ) (ts : List (List ℕ)) (kind : PathKind) (x y : State) → IsPath room ts kind x y → PathFits ts kind x y
+  path-fits _ _ _ _ _ (reach room ts y d) = omega (arith, state-fits room ts y d)
+  path-fits _ _ _ _ _ (reach_within room number ts k y few d) = omega (arith, within-short True (state_spelling True) k few.small, state-fits room ts y d)
+  path-fits _ _ _ _ _ (until room ts us x y d e) = omega (arith, until-short x (state_spelling x), state-fits room ts x d, state-fits room us y e, bytes_in-append ts (codes "U" ∷ us))
+  path-fits _ _ _ _ _ (until_within room ts number us k x y d few e) =
+      omega (arith, within-short x (state_spelling x) k few.small, until-short x (state_spelling x), state-fits room ts x d, state-fits room us y e, bytes_in-append ts (codes "U" ∷ codes "<=" ∷ number ∷ us))
+  path-fits _ _ _ _ _ (next room ts y d) = omega (arith, state-fits room ts y d)
+  path-fits _ _ _ _ _ (always room ts y d) = omega (arith, state-fits room ts y d)
+
+-- the path of the dual of `G`
+dual-fits : (room : ℕ) (ts : List (List ℕ)) (kind : PathKind) (x y : State) → IsPath room ts kind x y → kind ≡ Always → PathFits ts Until True (Not y)
+dual-fits _ _ _ _ _ (reach room ts y d) is = absurd (cc (is))
+dual-fits _ _ _ _ _ (reach_within room number ts k y few d) is = absurd (cc (is))
+dual-fits _ _ _ _ _ (until room ts us x y d e) is = absurd (cc (is))
+dual-fits _ _ _ _ _ (until_within room ts number us k x y d few e) is = absurd (cc (is))
+dual-fits _ _ _ _ _ (next room ts y d) is = absurd (cc (is))
+dual-fits _ _ _ _ _ (always room ts y d) is = omega (arith, in_place-short 3 y (state_spelling y), state-fits room ts y d)
+
 -- 4. The whole formula.
 
 -- a formula for the coalition of these tokens, with a path that is no longer than theirs
-parts-short : (ts : List (List ℕ)) (f g : Tree) (is : IsFormula ts f) → g.coalition ≡ f.coalition → HasFine g.bound → length (path_spelling g.kind g.left (state_spelling g.right)) ≤ 10 * bytes_in is.sides
-    → length (spelling g) ≤ 10 * bytes_in ts + 138
+parts-short : (ts : List (List ℕ)) (f g : Tree) (is : IsFormula ts f) → g.coalition ≡ f.coalition → HasFine g.bound → PathFits is.sides g.kind g.left g.right → length (spelling g) ≤ 30 * bytes_in ts + 138
 parts-short ts f g is same fine short =
-    let path = path_spelling g.kind g.left (state_spelling g.right) in
-    let behind_bound = codes " [ " ++ (path ++ codes " ]") in
     omega (
       arith,
       ap bytes_in is.whole,
-      bytes_in-append is.team (is.asks ++ codes "[" ∷ (is.sides ++ codes "]" ∷ [])),
-      bytes_in-append is.asks (codes "[" ∷ (is.sides ++ codes "]" ∷ [])),
-      bytes_in-append is.sides (codes "]" ∷ []),
-      length-append (coalition_spelling g.coalition) (bound_spelling g.bound ++ behind_bound),
-      length-append (bound_spelling g.bound) behind_bound,
-      length-append path (codes " ]"),
+      formula-bytes is.team is.asks is.sides,
+      with-short g.coalition g.bound g.kind g.left (state_spelling g.left) (state_spelling g.right) fine,
       ap (λ c. length (coalition_spelling c)) same,
       coalition-short is.team f.coalition is.coalition,
-      bound-short g.bound fine,
       short,
     )
 
 -- the formula whose question is answered
-answered-short : (ts : List (List ℕ)) (f : Tree) → IsFormula ts f → HasPlainParts (answered f) → length (spelling (answered f)) ≤ 10 * bytes_in ts + 138
+answered-short : (ts : List (List ℕ)) (f : Tree) → IsFormula ts f → HasPlainParts (answered f) → length (spelling (answered f)) ≤ 30 * bytes_in ts + 138
 answered-short ts f is parts = by f.kind refl parts
   where
-    by : (kind : PathKind) → f.kind ≡ kind → HasPlainParts (answered_by kind f) → length (spelling (answered_by kind f)) ≤ 10 * bytes_in ts + 138
-    by Until of plain = parts-short ts f f is refl plain.fine (path-short is.sides f.kind f.left f.right is.path)
-    by (Within k) of plain = parts-short ts f f is refl plain.fine (path-short is.sides f.kind f.left f.right is.path)
-    by Next of plain = parts-short ts f f is refl plain.fine (path-short is.sides f.kind f.left f.right is.path)
-    by Always of plain = parts-short ts f (dual_of f) is refl plain.fine (dual-short is.sides f.kind f.left f.right is.path of)
+    by : (kind : PathKind) → f.kind ≡ kind → HasPlainParts (answered_by kind f) → length (spelling (answered_by kind f)) ≤ 30 * bytes_in ts + 138
+    by Until of plain = parts-short ts f f is refl plain.fine (path-fits _ is.sides f.kind f.left f.right is.path)
+    by (Within k) of plain = parts-short ts f f is refl plain.fine (path-fits _ is.sides f.kind f.left f.right is.path)
+    by Next of plain = parts-short ts f f is refl plain.fine (path-fits _ is.sides f.kind f.left f.right is.path)
+    by Always of plain = parts-short ts f (dual_of f) is refl plain.fine (dual-fits _ is.sides f.kind f.left f.right is.path of)
 
 -- the most bytes of the spelling of a formula that was read, or of its dual
 abbrev pub most_spelled : ℕ
-most_spelled = 10 * longest + 138
+most_spelled = 30 * longest + 138
 
 pub spelling-short : (text : List ℕ) (f : Tree) → Denotes text f → HasPlainParts f → length (spelling (answered f)) ≤ most_spelled
 spelling-short text f denotes parts = omega (arith, denotes.short, cut-short text denotes.tokens denotes.cut, answered-short denotes.tokens f denotes.formula (answered-plain f parts))

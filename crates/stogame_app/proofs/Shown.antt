@@ -14,7 +14,8 @@ use Rattle.certificate_audit.specs.Accepted.{Passes, IsSound}
 use Rattle.bracket_engine.specs.declared.bounds.Bracket.{Bracket}
 use Rattle.bracket_engine.specs.Choices.{AreChoices}
 use Rattle.trap_sets.specs.Lowered.{IsLoweredTable}
-use Rattle.stogame_app.specs.Reports.{IsFound, IsShown, IsUpperHeld}
+use Rattle.bracket_engine.specs.Found.{IsFound}
+use Rattle.stogame_app.specs.Reports.{IsShown, IsUpperHeld}
 use Rattle.stogame_app.proofs.Limits.{IsPrintable}
 
 -- 1. Upper tables.

@@ -22,8 +22,7 @@ use Rattle.verdicts.specs.Exact.{IsRight}
 use Rattle.verdicts.specs.Report.{IsLine, report}
 use Rattle.verdicts.specs.Verdict.{verdict_of}
 use Rattle.verdicts.specs.declared.report.How.TheVariants.{Steps}
-use Rattle.verdicts.specs.declared.verdict.Verdict.{Verdict}
-use Rattle.stogame_app.specs.Printed.{is_mirrored, verdict_with, verdict_by, line_by, status_of}
+use Rattle.stogame_app.specs.Printed.{verdict_at, line_at, status_of}
 use Rattle.stogame_app.specs.Sweeps.{IsSweepReport}
 use Rattle.stogame_app.specs.declared.status.Status.{Status}
 use Rattle.stogame_app.proofs.Limits.{at-most, printed-units}
@@ -56,10 +55,6 @@ bracketed-same : (margin parts low lower high upper value other : ℕ) → lower
 bracketed-same margin parts low lower high upper value other of_lower of_upper of_value h =
     subst (λ v. IsBracketed margin parts lower upper v) of_value (subst (λ u. IsBracketed margin parts lower u value) (sym of_upper) (subst (λ l. IsBracketed margin parts l high value) (sym of_lower) h))
 
--- bounds that are not mirrored are printed as they are
-verdict-plain : (f : Tree) (lower upper : ℕ) → is_mirrored f.kind ≡ false → verdict_with f lower upper ≡ verdict_of f.bound lower upper
-verdict-plain f lower upper plain = ap (λ b. verdict_of f.bound (cond b (unit - upper) lower) (cond b (unit - lower) upper)) plain
-
 -- the laws of rounded steps, and of verdicts
 abbrev pub Brackets : Type 0
 Brackets = (q : Query) (table : ℕ → ℕ) (k s : ℕ) → IsQuery q → IsBracketed k (denominator q.game ^ k) (down_from q table k s) (up_from q table k s) (exact_from q table k s)
@@ -67,29 +62,28 @@ Brackets = (q : Query) (table : ℕ → ℕ) (k s : ℕ) → IsQuery q → IsBra
 abbrev pub AreRight : Type 0
 AreRight = (bound : Bound) (n d lower upper : ℕ) → 1 ≤ d → lower * d ≤ unit * n → unit * n ≤ upper * d → IsRight bound n d (verdict_of bound lower upper)
 
-module _ (brackets : Brackets) (are_right : AreRight) (q : Query) (posed : IsQuery q) (table : ℕ → ℕ) (steps : ℕ) (few : steps ≤ 1000000) (initial : List ℕ) (inside : All (λ s. s < states q) initial) (f : Tree) (plain : is_mirrored f.kind ≡ false)
+module _ (brackets : Brackets) (are_right : AreRight) (q : Query) (posed : IsQuery q) (table : ℕ → ℕ) (steps : ℕ) (few : steps ≤ 1000000) (initial : List ℕ) (inside : All (λ s. s < states q) initial) (f : Tree)
     (lower upper : List ℕ) (sweep : IsSweep q table steps lower upper) (low_units : All (λ v. v ≤ unit) lower) (high_units : All (λ v. v ≤ unit) upper) where
   some : 1 ≤ denominator q.game ^ steps
   some = pow-pos (denominator q.game) steps (denominator-pos q.game posed.game)
 
-  line-in_range : (s : ℕ) → s < states q → IsLine (line_by f (Steps steps) lower upper s)
+  line-in_range : (s : ℕ) → s < states q → IsLine (line_at false f.bound (Steps steps) lower upper s)
   line-in_range s within = record {
     state = omega (arith, within, posed.game.few);
     count = omega (arith, few);
-    values = printed-units f.kind _ _ (at-most (λ v. v ≤ unit) lower s low_units (subst (λ n. s < n) (sym sweep.lowers) within)) (at-most (λ v. v ≤ unit) upper s high_units (subst (λ n. s < n) (sym sweep.uppers) within));
+    values = printed-units false _ _ (at-most (λ v. v ≤ unit) lower s low_units (subst (λ n. s < n) (sym sweep.lowers) within)) (at-most (λ v. v ≤ unit) upper s high_units (subst (λ n. s < n) (sym sweep.uppers) within));
   }
 
   module _ (numerators : ℕ → ℕ) (exact : (s : ℕ) → s < states q → exact_from q table steps s ≡ unit * numerators s) where
     state-bracketed : (s : ℕ) → s < states q → IsBracketed steps (denominator q.game ^ steps) (slice_index lower s) (slice_index upper s) (unit * numerators s)
     state-bracketed s within = bracketed-same steps (denominator q.game ^ steps) _ _ _ _ _ _ (sweep.down s within) (sweep.up s within) (exact s within) (brackets q table steps s posed)
 
-    state-right : (s : ℕ) → s < states q → IsRight f.bound (numerators s) (denominator q.game ^ steps) (verdict_by f lower upper s)
+    state-right : (s : ℕ) → s < states q → IsRight f.bound (numerators s) (denominator q.game ^ steps) (verdict_at false f.bound lower upper s)
     state-right s within =
         let around = state-bracketed s within in
-        subst (λ (v : Verdict). IsRight f.bound (numerators s) (denominator q.game ^ steps) v) (sym (verdict-plain f (slice_index lower s) (slice_index upper s) plain))
-        (are_right f.bound (numerators s) (denominator q.game ^ steps) (slice_index lower s) (slice_index upper s) some around.low around.high)
+        are_right f.bound (numerators s) (denominator q.game ^ steps) (slice_index lower s) (slice_index upper s) some around.low around.high
 
-    sweep-reported : (text : List ℕ) (status : Status) → text ≡ report (map (line_by f (Steps steps) lower upper) initial) → status ≡ status_of (map (verdict_by f lower upper) initial)
+    sweep-reported : (text : List ℕ) (status : Status) → text ≡ report (map (line_at false f.bound (Steps steps) lower upper) initial) → status ≡ status_of (map (verdict_at false f.bound lower upper) initial)
         → IsSweepReport q table steps numerators initial f text status
     sweep-reported text status written ended = record {
       lower = lower;
@@ -97,14 +91,14 @@ module _ (brackets : Brackets) (are_right : AreRight) (q : Query) (posed : IsQue
       sweep = sweep;
       bracketed = All-weaker (λ s. s < states q) (λ s. IsBracketed steps (denominator q.game ^ steps) (slice_index lower s) (slice_index upper s) (unit * numerators s)) state-bracketed initial inside;
       written = written;
-      lines = All-map IsLine (line_by f (Steps steps) lower upper) initial (All-weaker (λ s. s < states q) (λ s. IsLine (line_by f (Steps steps) lower upper s)) line-in_range initial inside);
+      lines = All-map IsLine (line_at false f.bound (Steps steps) lower upper) initial (All-weaker (λ s. s < states q) (λ s. IsLine (line_at false f.bound (Steps steps) lower upper s)) line-in_range initial inside);
       ends = ended;
-      right = All-weaker (λ s. s < states q) (λ s. IsRight f.bound (numerators s) (denominator q.game ^ steps) (verdict_by f lower upper s)) state-right initial inside;
+      right = All-weaker (λ s. s < states q) (λ s. IsRight f.bound (numerators s) (denominator q.game ^ steps) (verdict_at false f.bound lower upper s)) state-right initial inside;
     }
 
   pub swept : {X E : Type 0} (text : X → List ℕ) (ends : X → Status) (result : Result X E)
-      → IfOk result (λ answer. text answer ≡ report (map (line_by f (Steps steps) lower upper) initial))
-      → IfOk result (λ answer. ends answer ≡ status_of (map (verdict_by f lower upper) initial))
+      → IfOk result (λ answer. text answer ≡ report (map (line_at false f.bound (Steps steps) lower upper) initial))
+      → IfOk result (λ answer. ends answer ≡ status_of (map (verdict_at false f.bound lower upper) initial))
       → IfOk result (λ answer. (numerators : ℕ → ℕ) → ((s : ℕ) → s < states q → exact_from q table steps s ≡ unit * numerators s) → IsSweepReport q table steps numerators initial f (text answer) (ends answer))
   swept text ends (Ok answer) written ended = λ numerators exact. sweep-reported numerators exact (text answer) (ends answer) written ended
   swept text ends (Err error) written ended = tt

@@ -1,18 +1,19 @@
 -- What a command is answered: its report, its first refusal, or that a text is not held.
-use Rattle.std.specs.Prelude.{◌≡◌, ◌⊎◌, ◌||◌, ℕ, Bool, List, Option, None, slice_index, if◌then◌else◌}
+use Rattle.std.specs.Prelude.{◌≡◌, ◌⊎◌, ◌||◌, ℕ, Bool, List, Option, Some, None, slice_index, if◌then◌else◌}
 use Rattle.game_outside.specs.Outside.{Holding}
 use Rattle.game_model.specs.Rounded.{opening}
 use Rattle.game_model.specs.Values.{numerator}
 use Rattle.bounded_rounds.specs.Exact.{next_numerator}
 use Rattle.rpatl_syntax.specs.Formula.{Tree}
 use Rattle.rpatl_syntax.specs.Rules.{Denotes}
+use Rattle.formula_sets.specs.Posing.{Posing}
 use Rattle.plan_text.specs.declared.plan.Plan.{Plan}
 use Rattle.certificate_audit.specs.Accepted.{IsAccepted}
 use Rattle.command_words.specs.Words.{Asked, Check, Audit, Command, OfCheck, OfAudit, OfMake, OfSure, AreInRange, IsMakeInRange}
 use Rattle.run_refusals.specs.declared.refusal.Refusal.{Refusal}
 use Rattle.asked_files.specs.declared.problem.Paths.{Paths}
 use Rattle.asked_files.specs.declared.problem.Paths.TheVariants.{Any, Unbounded, Reaching}
-use Rattle.asked_files.specs.Problems.{Problem, OfUntil, OfWithin, OfNext, OfAlways, question_of, initial_of}
+use Rattle.asked_files.specs.Problems.{Problem, OfUntil, OfWithin, OfNext, OfAlways, OfNested, posing_in}
 use Rattle.asked_files.specs.Said.{NotHeld}
 use Rattle.asked_files.specs.Sources.{HasSource, sources_of}
 use Rattle.asked_files.specs.Posed.{reading_said}
@@ -22,6 +23,7 @@ use Rattle.stogame_app.specs.declared.status.Status.{Status}
 use Rattle.stogame_app.specs.Status.{sure_status}
 use Rattle.stogame_app.specs.Reports.{IsReport}
 use Rattle.stogame_app.specs.Sweeps.{IsSweepReport, opens}
+use Rattle.stogame_app.specs.Nested.{IsNestedReport}
 use Rattle.stogame_app.specs.Audits.{IsAudit}
 use Rattle.stogame_app.specs.Made.{IsMade}
 use Rattle.sure_report.specs.Sure.{IsSure}
@@ -40,7 +42,7 @@ ReadsFiles (OfAudit audit) = Unit {0}
 ReadsFiles (OfMake make) = ⊥
 ReadsFiles (OfSure asked) = Unit {0}
 
--- a certificate, and upper bounds lowered at traps, are of paths without a bound on the steps
+-- a certificate, and upper bounds lowered at traps, are of paths without a bound on the steps, and of formulas with none inside
 abbrev pub check_paths : Check → Paths
 check_paths check = if check.plan || check.traps then Unbounded else Any
 
@@ -52,6 +54,7 @@ IsReportOn (OfUntil p) f check text status = IsReport p.question p.initial f che
 IsReportOn (OfAlways p) f check text status = IsReport p.question p.initial f check text status
 IsReportOn (OfWithin steps p) f check text status = IsSweepReport p.question (opening p.question) steps (numerator p.question steps) p.initial f text status
 IsReportOn (OfNext p) f check text status = IsSweepReport p.question (slice_index p.opening) 1 (next_numerator p.question (opens p.opening)) p.initial f text status
+IsReportOn (OfNested m initial) f check text status = IsNestedReport m initial f check.rounds text status
 
 -- the report of `check`: of the problem that the texts and the words pose, by the formula that the words spell, with a certificate where one is asked for
 pub record IsReportOfCheck (holding : Option Holding) (check : Check) (text : List ℕ) (status : Status) : Type 0 where
@@ -67,14 +70,18 @@ pub record IsReportOfAudit (holding : Option Holding) (audit : Audit) (text : Li
   pub posed : PosesIt holding audit.asked Unbounded problem
   pub formula : Tree
   pub spelled : Denotes audit.asked.formula formula
-  pub certificate : HasSource holding audit.certificate (λ source. IsText source (λ bytes. IsAudit (question_of problem) (initial_of problem) formula bytes text status))
+  pub posing : Posing
+  pub reached : posing_in problem ≡ Some posing
+  pub certificate : HasSource holding audit.certificate (λ source. IsText source (λ bytes. IsAudit posing.question posing.initial formula bytes text status))
 
 -- the report of `sure`: of such a question
 pub record IsReportOfSure (holding : Option Holding) (asked : Asked) (text : List ℕ) (status : Status) : Type 0 where
   pub problem : Problem
   pub posed : PosesIt holding asked Reaching problem
+  pub posing : Posing
+  pub reached : posing_in problem ≡ Some posing
   pub all : Bool
-  pub sure : IsSure (question_of problem) (initial_of problem) text all
+  pub sure : IsSure posing.question posing.initial text all
   pub ends : status ≡ sure_status all
 
 -- the report of a command; that of `make` is of the game that a seed draws
@@ -90,7 +97,9 @@ IsReportOf holding (OfSure asked) text status = IsReportOfSure holding asked tex
 pub record RefusesBehind (holding : Option Holding) (audit : Audit) (refusal : Refusal) : Type 0 where
   pub problem : Problem
   pub posed : PosesIt holding audit.asked Unbounded problem
-  pub certificate : HasSource holding audit.certificate (λ source. RefusesCertificate (question_of problem) source refusal)
+  pub posing : Posing
+  pub reached : posing_in problem ≡ Some posing
+  pub certificate : HasSource holding audit.certificate (λ source. RefusesCertificate posing.question source refusal)
 
 -- the first refusal of a command: of the problem, or else, for an audit, of the certificate
 abbrev pub RefusesIt : Option Holding → Command → Refusal → Type 0
@@ -112,6 +121,7 @@ IsMissing held (OfSure asked) = reading_said (sources_of held asked) asked ≡ N
 -- all that a command needs is held and accepted
 abbrev pub IsAcceptedOf : Holding → Command → Type 0
 IsAcceptedOf held (OfCheck check) = (problem : Problem) × Asks (check_paths check) (sources_of held check.asked) check.asked problem
-IsAcceptedOf held (OfAudit audit) = (problem : Problem) × (plan : Plan) × Asks Unbounded (sources_of held audit.asked) audit.asked problem × IsText (held audit.certificate) (λ text. IsAccepted (question_of problem) text plan)
+IsAcceptedOf held (OfAudit audit) = (problem : Problem) × (posing : Posing) × (plan : Plan)
+    × Asks Unbounded (sources_of held audit.asked) audit.asked problem × (posing_in problem ≡ Some posing) × IsText (held audit.certificate) (λ text. IsAccepted posing.question text plan)
 IsAcceptedOf held (OfMake make) = Unit {0}
 IsAcceptedOf held (OfSure asked) = (problem : Problem) × Asks Reaching (sources_of held asked) asked problem

@@ -1,8 +1,8 @@
-pub mod Always
 pub mod Answers
 pub mod Audits
 pub mod Commands
 pub mod Made
+pub mod Nested
 pub mod Outputs
 pub mod Printed
 pub mod Reports

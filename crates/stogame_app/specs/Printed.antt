@@ -2,6 +2,7 @@
 use Rattle.std.specs.Prelude.{ℕ, ◌-◌, Bool, true, false, List, map, slice_index, Option, Some, None, if◌then◌else◌}
 use Rattle.std.specs.List.{list_any}
 use Rattle.game_model.specs.Limits.{unit}
+use Rattle.rpatl_syntax.specs.declared.formula.Bound.{Bound}
 use Rattle.rpatl_syntax.specs.declared.formula.PathKind.{PathKind}
 use Rattle.rpatl_syntax.specs.declared.formula.PathKind.TheVariants.{Until, Within, Next, Always}
 use Rattle.rpatl_syntax.specs.Formula.{Tree}
@@ -25,26 +26,37 @@ is_mirrored Next = false
 is_mirrored Always = true
 
 -- the printed lower bound: the lower one, or 1 less the upper bound of the dual
-abbrev pub printed_lower : PathKind → ℕ → ℕ → ℕ
-printed_lower kind lower upper = if is_mirrored kind then unit - upper else lower
+abbrev pub printed_lower : Bool → ℕ → ℕ → ℕ
+printed_lower mirrored lower upper = if mirrored then unit - upper else lower
 
 -- the printed upper bound: the upper one, or 1 less the lower bound of the dual
-abbrev pub printed_upper : PathKind → ℕ → ℕ → ℕ
-printed_upper kind lower upper = if is_mirrored kind then unit - lower else upper
+abbrev pub printed_upper : Bool → ℕ → ℕ → ℕ
+printed_upper mirrored lower upper = if mirrored then unit - lower else upper
 
 -- what the printed bounds say
-abbrev pub verdict_with : Tree → ℕ → ℕ → Verdict
-verdict_with f lower upper = verdict_of f.bound (printed_lower f.kind lower upper) (printed_upper f.kind lower upper)
+abbrev pub verdict_as : Bool → Bound → ℕ → ℕ → Verdict
+verdict_as mirrored bound lower upper = verdict_of bound (printed_lower mirrored lower upper) (printed_upper mirrored lower upper)
 
-abbrev pub line_with : Tree → How → ℕ → ℕ → ℕ → ReportLine
-line_with f how s lower upper = record { state = s; lower = printed_lower f.kind lower upper; upper = printed_upper f.kind lower upper; how = how; verdict = verdict_with f lower upper }
+abbrev pub line_as : Bool → Bound → How → ℕ → ℕ → ℕ → ReportLine
+line_as mirrored bound how s lower upper =
+    record { state = s; lower = printed_lower mirrored lower upper; upper = printed_upper mirrored lower upper; how = how; verdict = verdict_as mirrored bound lower upper }
 
 -- the verdict and the line of a state, by two tables
+abbrev pub verdict_at : Bool → Bound → List ℕ → List ℕ → ℕ → Verdict
+verdict_at mirrored bound lower upper s = verdict_as mirrored bound (slice_index lower s) (slice_index upper s)
+
+abbrev pub line_at : Bool → Bound → How → List ℕ → List ℕ → ℕ → ReportLine
+line_at mirrored bound how lower upper s = line_as mirrored bound how s (slice_index lower s) (slice_index upper s)
+
+-- those of a formula
+abbrev pub verdict_with : Tree → ℕ → ℕ → Verdict
+verdict_with f lower upper = verdict_as (is_mirrored f.kind) f.bound lower upper
+
 abbrev pub verdict_by : Tree → List ℕ → List ℕ → ℕ → Verdict
-verdict_by f lower upper s = verdict_with f (slice_index lower s) (slice_index upper s)
+verdict_by f lower upper s = verdict_at (is_mirrored f.kind) f.bound lower upper s
 
 abbrev pub line_by : Tree → How → List ℕ → List ℕ → ℕ → ReportLine
-line_by f how lower upper s = line_with f how s (slice_index lower s) (slice_index upper s)
+line_by f how lower upper s = line_at (is_mirrored f.kind) f.bound how lower upper s
 
 -- a certificate is that of the question which is answered
 abbrev pub certificate_of : Bool → Tree → Plan → Option Certificate

@@ -17,10 +17,7 @@ use Rattle.verdicts.specs.Open.{LeavesOpen}
 use Rattle.verdicts.specs.declared.report.How.TheVariants.{Rounds}
 use Rattle.verdicts.specs.declared.verdict.Verdict.TheVariants.{Undecided}
 use Rattle.bracket_engine.specs.declared.bounds.Bracket.{Bracket}
-use Rattle.bracket_engine.specs.Bracket.{IsBracket}
-use Rattle.bracket_engine.specs.Lower.{IsLowerTable}
-use Rattle.bracket_engine.specs.Choices.{AreChoices, AreRanks}
-use Rattle.bracket_engine.specs.Replies.{AreRepliesTo}
+use Rattle.bracket_engine.specs.Found.{IsFound}
 use Rattle.trap_sets.specs.Lowered.{IsLoweredTable}
 use Rattle.asked_files.specs.Problems.{answered}
 use Rattle.command_words.specs.Words.{Check}
@@ -28,17 +25,7 @@ use Rattle.stogame_app.specs.Outputs.{output_text, IsInLimits}
 use Rattle.stogame_app.specs.Printed.{verdict_by, output_of, status_of}
 use Rattle.stogame_app.specs.declared.status.Status.{Status}
 
--- 1. What is found.
-
--- a bracket of a question with this zero set, after at most so many rounds
-pub record IsFound (q : Query) (zero : List Bool) (bound : Bound) (initial : List ℕ) (asked : ℕ) (found : Bracket) : Type 0 where
-  pub bounds : IsBracket q zero bound initial asked found.base.items found.upper.items found.rounds found.stable
-  pub lower : IsLowerTable q zero found.base.items found.lower.items found.choices.items found.ranks.items
-  pub choices : AreChoices q found.lower.items found.choices.items
-  pub ranks : AreRanks q found.lower.items found.choices.items found.ranks.items
-  pub replies : AreRepliesTo q found.upper.items found.replies.items
-
--- 2. What is printed of it.
+-- 1. What is printed of what was found.
 
 -- an upper table that its replies hold: it passes a check, so no opponent of the minimiser who plays them is above it
 pub record IsUpperHeld (q : Query) (upper : List ℕ) (replies : List (Option ℕ)) : Type 0 where
@@ -70,7 +57,7 @@ pub record IsLeftOpen (q : Query) (zero : List Bool) (bound : Bound) (asked : �
   pub swept : LeavesOpen bound (down_steps q asked s) (unit - down_steps (swapped q zero) asked s) 1 0
   pub near : LeavesOpen bound (unit * numerator q asked s) (unit * open_numerator q zero asked s) (denominator q.game ^ asked) asked
 
--- 3. The answer.
+-- 2. The answer.
 
 -- the text and the status are the answer to a question: they are those of a bracket after at most the asked rounds. Of `G` the question is that of its dual, and the bounds are mirrored when they are printed.
 pub record IsReport (q : Query) (initial : List ℕ) (f : Tree) (check : Check) (text : List ℕ) (status : Status) : Type 0 where

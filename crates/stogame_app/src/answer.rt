@@ -4,14 +4,13 @@ ghost use Rattle.std.specs.Prelude.{◌≡◌, ◌≤◌, ◌<◌, All, IfOk, le
 ghost use Rattle.std.specs.List.{list_any};
 ghost use Rattle.game_model.specs.Limits.{unit};
 ghost use Rattle.verdicts.specs.Report.{HasValues, report};
-ghost use Rattle.rpatl_syntax.specs.Formula.{tree_of};
-ghost use Rattle.stogame_app.specs.Printed.{is_no, is_undecided, line_by, line_with, status_of, verdict_by};
+ghost use Rattle.stogame_app.specs.Printed.{is_mirrored, is_no, is_undecided, line_as, line_at, status_of, verdict_at};
 ghost use Rattle.stogame_app.specs.Status.{IsAnswer};
 
 use crate::status::Status;
 use game_model::UNIT;
 use game_outside::OutOfMemory;
-use rpatl_syntax::{Formula, PathKind};
+use rpatl_syntax::{Bound, Formula, PathKind};
 use std::alloc::Global;
 use verdicts::{How, ReportLine, Verdict, report_text, settle};
 
@@ -25,10 +24,11 @@ pub struct Answer {
 }
 
 /// The report of some states: one line for each, with the bounds that two tables have, in units, and what these say of a
-/// formula's bound. Of `G` the tables are those of its dual, and 1 less their bounds is printed. The only error is want of memory.
+/// bound. Where the tables are mirrored, those of the dual of `G`, 1 less their bounds is printed. The only error is want of memory.
 pub fn report_of(
     alloc: Global,
-    formula: &Formula,
+    mirrored: bool,
+    bound: &Bound,
     how: How,
     lower: &[u64],
     upper: &[u64],
@@ -38,11 +38,11 @@ pub fn report_of(
     requires as_many { length upper.now ≡ length lower.now }
     requires lower { All (λ v. v ≤ unit) lower.now }
     requires upper { All (λ v. v ≤ unit) upper.now }
-    ensures text { IfOk result (λ answer. answer.text.items ≡ report (map (line_by (tree_of formula.now) how lower.now upper.now) states.now)) }
-    ensures status { IfOk result (λ answer. answer.status ≡ status_of (map (verdict_by (tree_of formula.now) lower.now upper.now) states.now)) }
+    ensures text { IfOk result (λ answer. answer.text.items ≡ report (map (line_at mirrored bound.now how lower.now upper.now) states.now)) }
+    ensures status { IfOk result (λ answer. answer.status ≡ status_of (map (verdict_at mirrored bound.now lower.now upper.now) states.now)) }
     ensures answer { IfOk result (λ answer. IsAnswer answer.status) }
 {
-    let lines = lines_of(alloc, formula, how, lower, upper, states)?;
+    let lines = lines_of(alloc, mirrored, bound, how, lower, upper, states)?;
     let text = report_text(alloc, &lines)?;
     Ok(Answer {
         text,
@@ -50,10 +50,21 @@ pub fn report_of(
     })
 }
 
+/// Whether the tables of a formula are those of its dual, whose bounds are mirrored when they are printed.
+pub fn is_mirrored(formula: &Formula) -> bool
+    ensures { result ≡ is_mirrored formula.now.kind }
+{
+    match formula.kind {
+        PathKind::Always => true,
+        PathKind::Until | PathKind::Within(_) | PathKind::Next => false,
+    }
+}
+
 // The lines of some states.
 fn lines_of(
     alloc: Global,
-    formula: &Formula,
+    mirrored: bool,
+    bound: &Bound,
     how: How,
     lower: &[u64],
     upper: &[u64],
@@ -63,34 +74,42 @@ fn lines_of(
     requires as_many { length upper.now ≡ length lower.now }
     requires lower { All (λ v. v ≤ unit) lower.now }
     requires upper { All (λ v. v ≤ unit) upper.now }
-    ensures lines { IfOk result (λ lines. lines.items ≡ map (line_by (tree_of formula.now) how lower.now upper.now) states.now) }
+    ensures lines { IfOk result (λ lines. lines.items ≡ map (line_at mirrored bound.now how lower.now upper.now) states.now) }
     ensures values { IfOk result (λ lines. All HasValues lines.items) }
 {
     let mut lines = Vec::with_capacity(alloc, states.len())?;
     for state in states {
         let place = *state as usize;
-        lines.push(line_with(formula, how, *state, lower[place], upper[place]))?;
+        lines.push(line_as(mirrored, bound, how, *state, lower[place], upper[place]))?;
     }
     Ok(lines)
 }
 
 // The line of a state with these bounds.
-fn line_with(formula: &Formula, how: How, state: u32, lower: u64, upper: u64) -> ReportLine
+fn line_as(
+    mirrored: bool,
+    bound: &Bound,
+    how: How,
+    state: u32,
+    lower: u64,
+    upper: u64,
+) -> ReportLine
     requires lower { lower ≤ unit }
     requires upper { upper ≤ unit }
-    ensures line { result ≡ line_with (tree_of formula.now) how state lower upper }
+    ensures line { result ≡ line_as mirrored bound.now how state lower upper }
     ensures values { HasValues result }
 {
-    let (lower, upper) = match formula.kind {
-        PathKind::Always => (UNIT - upper, UNIT - lower),
-        PathKind::Until | PathKind::Within(_) | PathKind::Next => (lower, upper),
+    let (lower, upper) = if mirrored {
+        (UNIT - upper, UNIT - lower)
+    } else {
+        (lower, upper)
     };
     ReportLine {
         state,
         lower,
         upper,
         how,
-        verdict: settle(&formula.bound, lower, upper),
+        verdict: settle(bound, lower, upper),
     }
 }
 

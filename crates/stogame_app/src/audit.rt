@@ -11,7 +11,7 @@ ghost use Rattle.stogame_app.specs.Audits.{IsAudited};
 ghost use Rattle.stogame_app.specs.Status.{IsAnswer};
 ghost use Rattle.stogame_app.specs.Answers.{IsAnswered};
 
-use crate::answer::{Answer, report_of};
+use crate::answer::{Answer, is_mirrored, report_of};
 use asked_files::{End, Paths, load_certificate, load_model, pose_loaded};
 use command_words::AuditWords;
 use game_model::Question;
@@ -35,13 +35,14 @@ pub fn answer_audit<H: Shelf>(
 {
     let loaded = load_model(alloc, shelf, &audit.asked)?;
     let problem = pose_loaded(alloc, &loaded, Paths::Unbounded)?;
-    let plan = load_certificate(alloc, shelf, problem.question(), audit.certificate)?;
+    let posed = problem.reached();
+    let plan = load_certificate(alloc, shelf, &posed.question, audit.certificate)?;
     match audit_report(
         alloc,
-        problem.question(),
+        &posed.question,
         &plan,
         &loaded.formula,
-        problem.initial(),
+        &posed.initial,
     ) {
         Ok(answer) => Ok(answer),
         Err(_) => Err(End::OutOfMemory),
@@ -72,7 +73,8 @@ fn audit_report(
     mirrored_verdicts_are_those_of_the_dual();
     report_of(
         alloc,
-        formula,
+        is_mirrored(formula),
+        &formula.bound,
         How::Audited,
         &plan.lower,
         &plan.upper,

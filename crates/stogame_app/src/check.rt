@@ -1,26 +1,27 @@
 //! The answer of `check`: the bracket of a question, or exactly so many steps.
 
 ghost use Rattle.std.specs.Prelude.{◌≡◌, ◌<◌, All, IfOk};
-ghost use Rattle.game_model.specs.Query.{states};
 ghost use Rattle.rpatl_syntax.specs.Dual.{IsAtMostOne};
 ghost use Rattle.rpatl_syntax.specs.Formula.{tree_of};
 ghost use Rattle.rpatl_syntax.specs.Spellable.{HasKind};
 ghost use Rattle.command_words.specs.Words.{AreInRange, OfCheck, check_of};
-ghost use Rattle.asked_files.specs.Problems.{initial_of, question_of};
+ghost use Rattle.asked_files.specs.Problems.{initial_of, states_of};
 ghost use Rattle.asked_files.specs.SeenProblems.{HasDual, IsOfKind, problem_of};
 ghost use Rattle.stogame_app.specs.Answers.{IsAnswered};
 ghost use Rattle.stogame_app.specs.Commands.{IsReportOn, check_paths};
+ghost use Rattle.stogame_app.specs.Nested.{HasAnswer};
 ghost use Rattle.stogame_app.specs.Status.{IsAnswer};
 ghost use Rattle.stogame_app.specs.Sweeps.{HasOpening};
 
 use crate::answer::Answer;
+use crate::nested::nested_report;
 use crate::reports::{Formulas, report};
 use crate::sweeps::{next_report, within_report};
 use asked_files::{End, Paths, Problem, load_model, pose_loaded};
 use command_words::CheckWords;
 use game_outside::{Gate, OutOfMemory, Shelf};
 use rpatl_syntax::Formula;
-use rpatl_syntax::laws::formulas_of_texts_are_spellable;
+use rpatl_syntax::laws::{formulas_inside_are_few, formulas_of_texts_are_spellable};
 use std::alloc::Global;
 use std::thread::Threads;
 
@@ -35,8 +36,9 @@ pub fn answer_check<R: Threads + Sync, H: Shelf, G: Gate + Sync>(
     requires { AreInRange (check_of check.now) }
     ensures { IsAnswered H.held H.steady H.faults H.taken (OfCheck (check_of check.now)) shelf.old shelf.new result }
 {
-    // A law: this call does nothing.
+    // Two laws: these calls do nothing.
     formulas_of_texts_are_spellable();
+    formulas_inside_are_few();
     let loaded = load_model(alloc, shelf, &check.asked)?;
     let problem = pose_loaded(alloc, &loaded, check_paths(check))?;
     match report_on(rt, alloc, &problem, &loaded.formula, check, gate) {
@@ -45,7 +47,7 @@ pub fn answer_check<R: Threads + Sync, H: Shelf, G: Gate + Sync>(
     }
 }
 
-// Which paths are taken: where a certificate or lowered upper bounds are asked for, those without a bound on the steps.
+// Which formulas are taken: where a certificate or lowered upper bounds are asked for, those without a bound on the steps and with none inside.
 fn check_paths(check: &CheckWords<'_>) -> Paths
     ensures { result ≡ check_paths (check_of check.now) }
 {
@@ -66,12 +68,13 @@ fn report_on<R: Threads + Sync, G: Gate + Sync>(
     gate: &G,
 ) -> Result<Answer, OutOfMemory>
     requires in_range { AreInRange (check_of check.now) }
-    requires inside { All (λ s. s < states (question_of (problem_of problem.now))) (initial_of (problem_of problem.now)) }
+    requires inside { All (λ s. s < states_of (problem_of problem.now)) (initial_of (problem_of problem.now)) }
     requires kind { IsOfKind formula.now.kind problem.now }
     requires dual { HasDual (tree_of formula.now) problem.now }
     requires share { IsAtMostOne formula.now.bound }
     requires steps { HasKind formula.now.kind (tree_of formula.now).left }
     requires opening { HasOpening problem.now }
+    requires nested { HasAnswer problem.now (tree_of formula.now) }
     ensures report { IfOk result (λ answer. IsReportOn (problem_of problem.now) (tree_of formula.now) (check_of check.now) answer.text.items answer.status) }
     ensures answer { IfOk result (λ answer. IsAnswer answer.status) }
 {
@@ -110,5 +113,6 @@ fn report_on<R: Threads + Sync, G: Gate + Sync>(
             within_report(rt, alloc, posed, *steps, formula, check.workers, gate)
         }
         Problem::Next(posed) => next_report(rt, alloc, posed, formula, check.workers, gate),
+        Problem::Nested(loaded, initial) => nested_report(rt, alloc, loaded, initial, check, gate),
     }
 }

@@ -17,7 +17,7 @@ ghost use Rattle.stogame_app.specs.Status.{IsAnswer, IsRefusal};
 ghost use Rattle.stogame_app.specs.declared.status.Status.{Status};
 ghost use Rattle.stogame_app.specs.declared.status.Status.TheVariants.{Fine};
 ghost use Rattle.stogame_app.specs.Made.{IsMade};
-ghost use Rattle.stogame_app.specs.Always.{IsBelowRest, IsNearRest};
+ghost use Rattle.nested_truth.specs.Rest.{IsBelowRest, IsNearRest};
 ghost use Rattle.stogame_app.specs.Outputs.{Output, output_text, IsWholeOutput};
 
 use bracket_engine::laws::{lower_tables_agree, settled_bases_agree, settled_upper_bounds_agree};

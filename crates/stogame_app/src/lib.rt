@@ -14,6 +14,7 @@ mod command;
 mod ends;
 pub mod laws;
 mod make;
+mod nested;
 mod reports;
 mod status;
 mod sure;

@@ -15,7 +15,7 @@ ghost use Rattle.stogame_app.specs.Reports.{IsReport, IsShown, IsUpperHeld, IsUp
 ghost use Rattle.stogame_app.specs.Outputs.{certificate_part, output_text};
 ghost use Rattle.stogame_app.specs.Status.{IsAnswer};
 
-use crate::answer::{Answer, report_of};
+use crate::answer::{Answer, is_mirrored, report_of};
 use bracket_engine::{Bracket, bracket_over};
 use command_words::CheckWords;
 use game_model::Question;
@@ -164,7 +164,8 @@ fn make_answer(
     known_ranks(&plan.ranks);
     let mut answer = report_of(
         alloc,
-        formulas.spelled,
+        is_mirrored(formulas.spelled),
+        &formulas.spelled.bound,
         how,
         &plan.lower,
         &plan.upper,

@@ -23,7 +23,8 @@ pub fn answer_sure<H: Shelf>(
 {
     let loaded = load_model(alloc, shelf, asked)?;
     let problem = pose_loaded(alloc, &loaded, Paths::Reaching)?;
-    match sure_report(alloc, problem.question(), problem.initial()) {
+    let posed = problem.reached();
+    match sure_report(alloc, &posed.question, &posed.initial) {
         Ok(report) => Ok(Answer {
             text: report.text,
             status: sure_status(report.all),

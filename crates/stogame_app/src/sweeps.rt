@@ -9,7 +9,6 @@ ghost use Rattle.rpatl_syntax.specs.Formula.{tree_of};
 ghost use Rattle.formula_sets.specs.Posing.{at_states};
 ghost use Rattle.bounded_rounds.specs.Exact.{exact_from, next_numerator};
 ghost use Rattle.bounded_rounds.specs.Limits.{most_steps, most_workers};
-ghost use Rattle.stogame_app.specs.Printed.{is_mirrored};
 ghost use Rattle.stogame_app.specs.Status.{IsAnswer};
 ghost use Rattle.stogame_app.specs.Sweeps.{IsOpening, IsSweepReport, opens};
 
@@ -40,7 +39,6 @@ pub fn within_report<R: Threads + Sync, G: Gate + Sync>(
     requires inside { All (λ s. s < states posed.now.question) posed.now.initial.items }
     requires steps { steps ≤ most_steps }
     requires workers { (1 ≤ workers) × (workers ≤ most_workers) }
-    requires plain { is_mirrored formula.now.kind ≡ false }
     ensures report { IfOk result (λ answer. IsSweepReport posed.now.question (opening posed.now.question) steps (numerator posed.now.question steps) posed.now.initial.items (tree_of formula.now) answer.text.items answer.status) }
     ensures answer { IfOk result (λ answer. IsAnswer answer.status) }
 {
@@ -74,7 +72,6 @@ pub fn next_report<R: Threads + Sync, G: Gate + Sync>(
     requires inside { All (λ s. s < states posed.now.question) posed.now.initial.items }
     requires opening { IsOpening posed.now.question posed.now.opening.items }
     requires workers { (1 ≤ workers) × (workers ≤ most_workers) }
-    requires plain { is_mirrored formula.now.kind ≡ false }
     ensures report { IfOk result (λ answer. IsSweepReport posed.now.question (slice_index posed.now.opening.items) 1 (next_numerator posed.now.question (opens posed.now.opening.items)) posed.now.initial.items (tree_of formula.now) answer.text.items answer.status) }
     ensures answer { IfOk result (λ answer. IsAnswer answer.status) }
 {
@@ -131,7 +128,6 @@ fn sweep_report<R: Threads + Sync, G: Gate + Sync>(
     requires steps { steps ≤ most_steps }
     requires inside { All (λ s. s < states question.now) initial.now }
     requires workers { (1 ≤ workers) × (workers ≤ most_workers) }
-    requires plain { is_mirrored formula.now.kind ≡ false }
     ensures report { IfOk result (λ answer. (numerators : ℕ → ℕ) → ((s : ℕ) → s < states question.now → exact_from question.now (slice_index opening.now) steps s ≡ unit * numerators s)
         → IsSweepReport question.now (slice_index opening.now) steps numerators initial.now (tree_of formula.now) answer.text.items answer.status) }
     ensures answer { IfOk result (λ answer. IsAnswer answer.status) }
@@ -143,7 +139,8 @@ fn sweep_report<R: Threads + Sync, G: Gate + Sync>(
     let sweep = bounded(rt, alloc, question, opening, steps, workers, gate)?;
     report_of(
         alloc,
-        formula,
+        false,
+        &formula.bound,
         How::Steps(steps),
         &sweep.lower,
         &sweep.upper,

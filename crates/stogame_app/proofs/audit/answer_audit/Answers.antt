@@ -6,10 +6,10 @@ use Rattle.certificate_audit.specs.Accepted.{IsAccepted}
 use Rattle.command_words.specs.Words.{audit_of}
 use Rattle.asked_files.specs.declared.problem.Paths.TheVariants.{Unbounded}
 use Rattle.asked_files.specs.Asks.{IsText}
-use Rattle.asked_files.specs.Problems.{question_of, initial_of}
+use Rattle.formula_sets.specs.Seen.{posing_of}
 use Rattle.asked_files.specs.SeenProblems.{problem_of}
 use Rattle.asked_files.specs.Sources.{HasSource}
-use Rattle.stogame_app.proofs.Answered.{audit_asks, more_loaded, reported, uncertified, unloaded, unposed, wanting}
+use Rattle.stogame_app.proofs.Answered.{audit_asks, more_loaded, reached-inside, reported, uncertified, unloaded, unposed, wanting}
 use Rattle.stogame_app.proofs.AuditedTexts.{accepted_audited}
 use Rattle.stogame_app.proofs.audit.answer_audit.Goals as goal
 
@@ -32,7 +32,10 @@ returns-in_err-plan g c =
     let loaded = c.in_ok-loaded.ensures in
     let problem = problem_of c.in_ok-problem.problem in
     let e = c.in_err-plan.ensures in
-    rw (p.1, p.2) (uncertified loaded.shelf (audit_of c.args.audit.now) problem (loaded.reads.asks Unbounded problem c.in_ok-problem.ensures.says) (rw c.question.ensures at e.refused) e.steadily e.shelf e.caused)
+    rw (p.1, p.2) (uncertified loaded.shelf (audit_of c.args.audit.now) problem (posing_of c.reached-posed.result.now) (loaded.reads.asks Unbounded problem c.in_ok-problem.ensures.says) c.reached-posed.ensures e.refused e.steadily e.shelf e.caused)
+
+pub audit_report-requires-clause-inside : goal.audit_report-requires-clause-inside
+audit_report-requires-clause-inside g c = rw (c.deref.ensures.value) (reached-inside (problem_of c.in_ok-problem.problem) (posing_of c.reached-posed.result.now) c.reached-posed.ensures c.in_ok-problem.ensures.inside)
 
 pub returns-in-Ok : goal.returns-in-Ok
 returns-in-Ok g c =
@@ -41,7 +44,8 @@ returns-in-Ok g c =
     let holding = g.H.Shelf.held c.args.shelf.now in
     let name = c.args.audit.now.certificate.now in
     let problem = problem_of c.in_ok-problem.problem in
-    let question = question_of problem in
+    let posing = posing_of c.reached-posed.result.now in
+    let question = posing.question in
     let formula = tree_of c.in_ok-loaded.loaded.formula in
     let plan = c.in_ok-plan.plan in
     let Q : Option Holding → Type 0 = λ h. HasSource h name (λ source. IsText source (λ bytes. IsAccepted question bytes plan)) in
@@ -50,8 +54,10 @@ returns-in-Ok g c =
       posed = loaded.reads.asks Unbounded problem c.in_ok-problem.ensures.says;
       formula = formula;
       spelled = loaded.reads.spelled;
-      certificate = accepted_audited holding name question (initial_of problem) formula plan answer.text.items answer.status
-          (subst Q loaded.shelf.kept.held (rw c.question.ensures at c.in_ok-plan.ensures.accepted)) (rw (c.question-2.ensures, c.initial.ensures) at c.in-Ok.ensures.audited);
+      posing = posing;
+      reached = c.reached-posed.ensures;
+      certificate = accepted_audited holding name question posing.initial formula plan answer.text.items answer.status
+          (subst Q loaded.shelf.kept.held c.in_ok-plan.ensures.accepted) (rw c.deref.ensures.value at c.in-Ok.ensures.audited);
     }) c.in-Ok.ensures.answer
 
 pub returns : goal.returns

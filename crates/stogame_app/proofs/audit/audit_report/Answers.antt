@@ -34,4 +34,4 @@ returns-clause-audited c =
     (λ s within is. c.verdicts_are_true.ensures.no q _ _ bound s c.known.ensures (reached s within) sound.high within (sym (agree s within) ∙ is)) c.requires.inside)
     (All-weaker (λ s. s < states q) (λ s. verdict_by f lower upper s ≡ Undecided → LeavesOpen bound (slice_index lower s) (slice_index upper s) 1 0)
     (λ s within is. c.undecided_thresholds_are_left_open.ensures.here bound (slice_index lower s) (slice_index upper s) (sym (agree s within) ∙ is)) initial c.requires.inside)
-    c.report_of.result (rw (c.deref.ensures.value, c.deref-2.ensures.value) at c.report_of.ensures.text) (rw (c.deref.ensures.value, c.deref-2.ensures.value) at c.report_of.ensures.status)
+    c.report_of.result (rw (c.is_mirrored.ensures, c.deref.ensures.value, c.deref-2.ensures.value) at c.report_of.ensures.text) (rw (c.is_mirrored.ensures, c.deref.ensures.value, c.deref-2.ensures.value) at c.report_of.ensures.status)

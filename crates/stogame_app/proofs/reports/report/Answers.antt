@@ -12,7 +12,7 @@ use Rattle.command_words.specs.Words.{check_of}
 use Rattle.asked_files.specs.Problems.{answered}
 use Rattle.bracket_engine.specs.Bracket.{IsBracket}
 use Rattle.stogame_app.specs.Printed.{verdict_by}
-use Rattle.stogame_app.specs.Reports.{IsFound}
+use Rattle.bracket_engine.specs.Found.{IsFound}
 use Rattle.stogame_app.proofs.Limits.{plan-units, printed-in_limits}
 use Rattle.stogame_app.proofs.Reported.{all-told, all-left_open, reported, verdict-answered, verdict_at}
 use Rattle.stogame_app.proofs.Shown.{held-found, shown-lists, shown-passes, shown-sound, shown-above, shown-printable}

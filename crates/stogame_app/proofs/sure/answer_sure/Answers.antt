@@ -1,8 +1,9 @@
 use Rattle.std.proofs.lemmas.Result.{err_from_is_err_and}
 use Rattle.asked_files.specs.declared.problem.Paths.TheVariants.{Reaching}
+use Rattle.formula_sets.specs.Seen.{posing_of}
 use Rattle.asked_files.specs.SeenProblems.{problem_of}
 use Rattle.command_words.specs.Words.{asked_of_words}
-use Rattle.stogame_app.proofs.Answered.{sure_asks, reported, unloaded, unposed, wanting}
+use Rattle.stogame_app.proofs.Answered.{reached-inside, sure_asks, reported, unloaded, unposed, wanting}
 use Rattle.stogame_app.proofs.sure.answer_sure.Goals as goal
 
 pub returns-in_err-loaded : goal.returns-in_err-loaded
@@ -18,6 +19,9 @@ returns-in_err-problem g c =
     let e = c.in_err-problem.ensures in
     rw (p.1, p.2) (unposed (sure_asks (asked_of_words c.args.asked.now)) problem_of loaded.shelf loaded.reads e.says e.nothing)
 
+pub sure_report-requires : goal.sure_report-requires
+sure_report-requires g c = rw (c.deref.ensures.value) (reached-inside (problem_of c.in_ok-problem.problem) (posing_of c.reached-posed.result.now) c.reached-posed.ensures c.in_ok-problem.ensures.inside)
+
 pub returns-in-Ok : goal.returns-in-Ok
 returns-in-Ok g c =
     let loaded = c.in_ok-loaded.ensures in
@@ -26,8 +30,10 @@ returns-in-Ok g c =
     reported (sure_asks (asked_of_words c.args.asked.now)) loaded.shelf _ (record {
       problem = problem;
       posed = loaded.reads.asks Reaching problem c.in_ok-problem.ensures.says;
+      posing = posing_of c.reached-posed.result.now;
+      reached = c.reached-posed.ensures;
       all = report.all;
-      sure = rw (c.question.ensures, c.initial.ensures) at c.in-Ok.ensures;
+      sure = rw c.deref.ensures.value at c.in-Ok.ensures;
       ends = c.sure_status.ensures.status;
     }) c.sure_status.ensures.answer
 
