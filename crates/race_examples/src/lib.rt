@@ -1,5 +1,5 @@
 //! Tests of the crates below, beside their clauses, over random and structured games: of worlds, workers, brackets, guesses,
-//! certificates, almost-sure sets and traps.
+//! certificates, almost-sure sets, traps and formulas with others inside.
 #![tactic(auto)]
 
 #[cfg(test)]
@@ -24,6 +24,22 @@ mod known;
 mod lower_guesses;
 #[cfg(test)]
 mod mutants;
+#[cfg(test)]
+mod nested_checks;
+#[cfg(test)]
+mod nested_draws;
+#[cfg(test)]
+mod nested_formulas;
+#[cfg(test)]
+mod nested_games;
+#[cfg(test)]
+mod nested_models;
+#[cfg(test)]
+mod nested_steps;
+#[cfg(test)]
+mod nested_tally;
+#[cfg(test)]
+mod nested_values;
 #[cfg(test)]
 mod plain_ranks;
 #[cfg(test)]

@@ -91,8 +91,8 @@ fn add_state(
     Some(left)
 }
 
-// The edges of a choice with at most so many successors.
-fn random_edges(
+/// The edges of a choice with at most so many successors.
+pub fn random_edges(
     alloc: Global,
     draw: &mut Draw,
     shape: &Shape,

@@ -27,7 +27,7 @@ fn formulas_are_refused_at_their_place(rt: HostRuntime) -> Result<(), Fail> {
         ("P>=0.5 [ F \"goal\"", "17 End"),
         ("P>=1/0 [ F true ]", "3 BadNumber ZeroDenominator"),
         ("P>=0.5 [ F<=3.5 \"goal\" ]", "12 BadSteps"),
-        ("P>=0.5 [ F P>=0.5 [ F \"goal\" ] ]", "11 NotYet"),
+        ("P>=0.5 [ F Pmax=? [ F \"goal\" ] ]", "11 AskInside"),
     ] {
         refused(&rt, rt.alloc(), formula, cause)?;
     }

@@ -9,6 +9,8 @@ mod adapters;
 #[cfg(test)]
 mod all_workers;
 #[cfg(test)]
+mod always_games;
+#[cfg(test)]
 mod answers;
 #[cfg(test)]
 mod audit_faults;
@@ -22,6 +24,8 @@ mod certificates;
 mod commands;
 #[cfg(test)]
 mod damaged;
+#[cfg(test)]
+mod drawn_models;
 #[cfg(test)]
 mod drawn_texts;
 #[cfg(test)]
@@ -49,6 +53,8 @@ mod models;
 #[cfg(test)]
 mod names_begun;
 #[cfg(test)]
+mod nested;
+#[cfg(test)]
 mod old_certificates;
 #[cfg(test)]
 mod other_certificates;
@@ -58,6 +64,10 @@ mod paths;
 mod pieces;
 #[cfg(test)]
 mod plain_reading;
+#[cfg(test)]
+mod plain_values;
+#[cfg(test)]
+mod printed_lines;
 #[cfg(test)]
 mod random_cuts;
 #[cfg(test)]

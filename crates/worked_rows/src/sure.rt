@@ -15,8 +15,8 @@ const COIN: &str = "3 3 4\n0 0 0 0.5\n0 0 1 0.5\n1 0 1 1\n2 0 2 1\n";
 // State 0 may wait, or toss a coin that may fall on the trap.
 const WAIT_OR_COIN: &str = "3 4 5\n0 0 0 1\n0 1 1 0.5\n0 1 2 0.5\n1 0 1 1\n2 0 2 1\n";
 
-// The words of `sure` over the model and the formula of a row write this text.
-fn sure_writes<R: Threads + Sync + Abort>(
+/// The words of `sure` over the model and the formula of a row write this text.
+pub fn sure_writes<R: Threads + Sync + Abort>(
     rt: &R,
     alloc: Global,
     row: Row<'_>,
