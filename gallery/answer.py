@@ -27,15 +27,23 @@ def program():
 
 @dataclass
 class Answer:
-    """The first line that the program writes, the value that it has to agree with, and the faults that were found."""
+    """The first line of the report, the value that it has to agree with, and the faults that were found.
+
+    With formulas inside `inside` is the line before the report, which counts them and what is undecided of them.
+    """
 
     name: str
     states: int
     question: Question
     value: Fraction
+    inside: str
     line: str
     seconds: float
     faults: list = field(default_factory=list)
+
+    def stored(self):
+        """What is stored of the answer."""
+        return f"{self.inside}, {self.line}" if self.inside else self.line
 
     def bracket(self):
         """The lower and the upper bound as they are printed, or nothing where the line has none."""
@@ -44,6 +52,10 @@ class Answer:
 
     def verdict(self):
         return self.line.split()[-1] if self.bracket() else self.line
+
+    def summary(self):
+        """The verdict, and with formulas inside how many pairs of one and a state are undecided."""
+        return f"{self.verdict()}, {' '.join(self.inside.split()[2:])}" if self.inside else self.verdict()
 
 
 def answers(name, model, path, questions):
@@ -54,15 +66,22 @@ def answers(name, model, path, questions):
         begun = time.monotonic()
         run = subprocess.run(words_of(path, model, question), capture_output=True, text=True)
         seconds = time.monotonic() - begun
-        lines = run.stdout.splitlines() or [""]
-        answer = Answer(name, len(model), question, Fraction(values[0]), lines[0], seconds)
+        inside, lines = parted(question, run.stdout.splitlines())
+        answer = Answer(name, len(model), question, Fraction(values[0]), inside, lines[0], seconds)
         if run.returncode not in STATUSES_OF_ANSWERS or run.stderr:
             answer.faults.append(f"status {run.returncode} {run.stderr.strip()}")
         elif question.command == "sure":
             judge_sure(answer, lines, values)
         else:
+            judge_inside(answer)
             judge_bracket(answer, lines)
         yield answer
+
+
+def parted(question, lines):
+    """The line before the report, which comes with formulas inside alone, and the report."""
+    inside = lines[0] if question.inside() and lines else ""
+    return inside, lines[1 if inside else 0 :] or [""]
 
 
 def words_of(path, model, question):
@@ -95,6 +114,18 @@ def judge_sure(answer, lines, values):
         answer.faults.append(f"the value is 1 at {len(sure)} states, and others are listed")
 
 
+def judge_inside(answer):
+    """The line before the report counts the formulas inside, and leaves each undecided at no more than all states."""
+    count, words = len(answer.question.inside()), answer.inside.split()
+    is_counted = words[:3] == ["inner", str(count), "undecided"] and is_at_most(words[3:], count * answer.states)
+    if count and not is_counted:
+        answer.faults.append(f"the line before the report does not speak of {count} formulas inside")
+
+
+def is_at_most(words, most):
+    return len(words) == 1 and words[0].isdigit() and int(words[0]) <= most
+
+
 def judge_bracket(answer, lines):
     if len(lines) != 1 or not answer.bracket():
         answer.faults.append("there is no bracket of one initial state")
@@ -109,11 +140,14 @@ def judge_bracket(answer, lines):
 
 
 def judge_steps(answer, distance):
-    """With a bound on the steps the line names it, and each bound is within so many units of the value."""
+    """With a bound on the steps the line names it, and each bound is within so many units of the value.
+
+    That is not so where something inside is undecided.
+    """
     steps = answer.question.horizon()
     if steps is None:
         return
     if answer.line.split()[6:8] != ["steps", str(steps)]:
         answer.faults.append(f"the line does not say that {steps} steps were made")
-    if distance > steps * UNIT:
+    if distance > steps * UNIT and answer.inside.split()[2:] in ([], ["undecided", "0"]):
         answer.faults.append(f"a bound is more than {steps} units from the value {shown(answer.value)}")

@@ -14,17 +14,18 @@ show.
 Value: each face comes with 1 / FACES. A level with m inner nodes, each reached with x, has 2m children, each reached
 with x / 2; the faces get one each, or none does. So all faces have the same value, and the values add up to 1. Level k
 has 2^k mod FACES inner nodes, so within k tosses each face comes with floor(2^k / FACES) / 2^k, the first k binary
-digits of 1 / FACES.
+digits of 1 / FACES. The first toss of a die of 6 or 8 faces makes a face twice as likely, or impossible.
 """
 
 from fractions import Fraction
 
 from model import Model, write_from_words
-from question import CLOSED, Question, sure
+from question import CLOSED, Inside, Question, sure
 
 HALF = Fraction(1, 2)
 SOURCE = "Knuth and Yao 1976"
 SIZES = {"small": [(6,), (8,), (11,)], "large": [(1021,)]}
+FEW = 11
 
 
 def model(faces):
@@ -70,6 +71,9 @@ def questions(faces):
         yield Question(bound, "one", face_within(faces, steps), SOURCE, steps=steps)
     first_level = (faces - 1).bit_length()
     yield Question("P>=3/4", "done", faces * face_within(faces, first_level), CLOSED, steps=first_level)
+    if faces <= FEW:
+        twice_as_likely = Question(f"P>={2 * one}", "one")
+        yield Question("Pmax=?", Inside(twice_as_likely), path="X")
 
 
 if __name__ == "__main__":

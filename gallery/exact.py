@@ -7,9 +7,14 @@ the values of the game; and a step changes nothing in it, so it is at least the 
 
 Values within so many steps are found backward, from the goals alone, by the best choice of each step (dynamic
 programming: Bellman 1957). Both sides know how many steps are left.
+
+A formula inside holds where its own exact values keep its threshold.
 """
 
 from fractions import Fraction
+from functools import lru_cache
+
+from question import ONLY_PLAYER, Inside
 
 ROUNDS_OF_A_FIRST_GUESS = 2000
 
@@ -19,7 +24,7 @@ class Problem:
 
     def __init__(self, model, question):
         self.choices = [[list(choice.items()) for choice in choices] for choices in model.choices]
-        owners = [model.players[owner] for owner in model.owners] or [None] * len(model)
+        owners = [model.players[owner] for owner in model.owners] or [ONLY_PLAYER] * len(model)
         self.maximises = [question.maximises(owner) for owner in owners]
         self.goals = states_of(model, question.goal)
         safe = states_of(model, question.safe) if question.safe else set(range(len(model)))
@@ -32,10 +37,20 @@ class Problem:
         return state not in self.goals and state not in self.dead
 
 
-def states_of(model, label):
-    if label.startswith("!"):
-        return set(range(len(model))) - set(model.labels[label[1:]])
-    return set(model.labels[label])
+def states_of(model, side):
+    """The states of a label or of a formula inside, or those of neither where it is negated."""
+    if isinstance(side, Inside):
+        true = states_of_truth(model, side.question)
+        return set(range(len(model))) - true if side.negated else true
+    if side.startswith("!"):
+        return set(range(len(model))) - set(model.labels[side[1:]])
+    return set(model.labels[side])
+
+
+@lru_cache(maxsize=4)
+def states_of_truth(model, question):
+    values = exact_values(model, question)
+    return frozenset(state for state, value in enumerate(values) if question.is_true_of(value))
 
 
 def weighted_sum(choice, values):

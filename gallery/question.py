@@ -2,27 +2,36 @@
 
 from dataclasses import dataclass, replace
 from fractions import Fraction
-from typing import Optional
+from typing import Optional, Union
 
 CLOSED = "closed form"
 COMPUTED = "computed in fractions"
 BACKWARD = COMPUTED + ", backward"
+ONLY_PLAYER = "p0"
 OPPOSITES = {">=": "<=", "<=": ">=", ">": "<", "<": ">"}
+
+
+@dataclass(frozen=True)
+class Inside:
+    """The states where a formula with a threshold is true, or those where it is not."""
+
+    question: "Question"
+    negated: bool = False
 
 
 @dataclass(frozen=True)
 class Question:
     """A formula with the independent value at the first state, or none where it is computed exactly.
 
-    `goal` and `safe` are labels, or `!label`; the formula is `path goal`, where `path` is `F`, `X` or `G`, or `safe U
-    goal` where `safe` is given. `steps` bounds the steps of `F` and `U`.
+    `goal` and `safe` are labels, or `!label`, or formulas inside; the formula is `path goal`, where `path` is `F`, `X`
+    or `G`, or `safe U goal` where `safe` is given. `steps` bounds the steps of `F` and `U`.
     """
 
     bound: str
-    goal: str
+    goal: Union[str, Inside]
     value: Optional[Fraction] = None
     source: str = COMPUTED
-    safe: str = ""
+    safe: Union[str, Inside] = ""
     coalition: Optional[tuple] = None
     options: tuple = ()
     command: str = "check"
@@ -31,9 +40,17 @@ class Question:
 
     def formula(self):
         coalition = "" if self.coalition is None else f"<<{','.join(self.coalition)}>> "
-        left = f"{quoted(self.safe)} U" if self.safe else self.path
+        left = f"{side_text(self.safe)} U" if self.safe else self.path
         limit = "" if self.steps is None else f"<={self.steps}"
-        return f"{coalition}{self.bound} [ {left}{limit} {quoted(self.goal)} ]"
+        return f"{coalition}{self.bound} [ {left}{limit} {side_text(self.goal)} ]"
+
+    def inside(self):
+        """The formulas inside, at any depth."""
+        found = []
+        for side in (self.safe, self.goal):
+            if isinstance(side, Inside):
+                found += [*side.question.inside(), side.question]
+        return found
 
     def title(self):
         """The question as a person would type it, without the files."""
@@ -50,9 +67,8 @@ class Question:
             bound = f"P{OPPOSITES[threshold[0]]}{1 - threshold[1]}"
         else:
             bound = "Pmin=?" if self.bound == "Pmax=?" else "Pmax=?"
-        goal = self.goal[1:] if self.goal.startswith("!") else f"!{self.goal}"
         value = None if self.value is None else 1 - self.value
-        return replace(self, bound=bound, goal=goal, value=value, path="F")
+        return replace(self, bound=bound, goal=negation(self.goal), value=value, path="F")
 
     def maximises(self, player):
         """Whether a player, or everybody in a model without players, wants the path."""
@@ -73,8 +89,16 @@ class Question:
         return {">=": value >= number, "<=": value <= number, ">": value > number, "<": value < number}[sign]
 
 
-def quoted(label):
-    return f'!"{label[1:]}"' if label.startswith("!") else f'"{label}"'
+def side_text(side):
+    if isinstance(side, Inside):
+        return "!" * side.negated + side.question.formula()
+    return f'!"{side[1:]}"' if side.startswith("!") else f'"{side}"'
+
+
+def negation(side):
+    if isinstance(side, Inside):
+        return replace(side, negated=not side.negated)
+    return side[1:] if side.startswith("!") else f"!{side}"
 
 
 def sure(bound, goal, **rest):

@@ -13,14 +13,15 @@ one token. It begins with a token at each process.
 Value: 1 under every scheduler, the theorem of the source. A move makes two gaps a, b between tokens a + 1, b - 1 or a -
 1, b + 1, so the sum of the squares of the gaps rises by 2 on average; it never passes PROCESSES squared, its value at
 one token. So an end takes (PROCESSES squared - PROCESSES) / 2 steps on average under every scheduler, and twice as many
-are not enough with at most 1/2 (Markov's inequality). How far a scheduler moves the chance of an end within so many
-steps is computed in fractions, backward.
+are not enough with at most 1/2 (Markov's inequality), from every state. A token that is alone stays alone, so the ring
+stays stable where it is (closure), and it comes there (convergence). How far a scheduler moves the chance of an end
+within so many steps is computed in fractions, backward.
 """
 
 from fractions import Fraction
 
 from model import Model, write_from_words
-from question import BACKWARD, Question, sure
+from question import BACKWARD, CLOSED, Inside, Question, sure
 
 HALF = Fraction(1, 2)
 SOURCE = "Israeli and Jalfon 1990"
@@ -53,6 +54,10 @@ def questions(processes):
         yield Question("Pmin=?", "stable", source=BACKWARD, steps=mean)
         yield Question("Pmax=?", "stable", source=BACKWARD, steps=mean)
         yield Question("P>=0.5", "stable", source=BACKWARD, steps=2 * mean)
+        soon = Question("P>=0.5", "stable", steps=2 * mean)
+        yield Question("P>=1", Inside(soon), 1, CLOSED, path="G")
+    for_ever = Question("P>=1", "stable", path="G")
+    yield Question("P>=0.999999", Inside(for_ever), 1, SOURCE)
 
 
 if __name__ == "__main__":

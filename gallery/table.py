@@ -15,7 +15,7 @@ def shown(value):
 def printed(answer):
     """A line of the table, and one for each fault."""
     cells = f"{answer.name:<23} {answer.states:>6}  {answer.question.title():<50} {shown(answer.value):<22}"
-    ends = f" {' '.join(answer.bracket()):<35} {answer.verdict():<14} {answer.seconds:6.2f} s"
+    ends = f" {' '.join(answer.bracket()):<35} {answer.summary():<14} {answer.seconds:6.2f} s"
     return "\n".join([cells + ends] + [f"    {fault}" for fault in answer.faults])
 
 
@@ -44,5 +44,5 @@ def write_markdown(path, size, answers):
 
 def markdown(answer):
     title, bracket = f"`{answer.question.title()}`", "<br>".join(answer.bracket())
-    cells = [answer.name, answer.states, title, shown(answer.value), answer.question.source, bracket, answer.verdict()]
+    cells = [answer.name, answer.states, title, shown(answer.value), answer.question.source, bracket, answer.summary()]
     return f"| {' | '.join(map(str, cells))} |\n"

@@ -8,10 +8,11 @@ from pathlib import Path
 sys.path.insert(0, str(Path(__file__).resolve().parent))
 
 import chain
+from answer import Answer, judge_bracket, judge_inside, parted
 from exact import exact_values, plain_value_iteration
 from families import instances
 from model import Model, spelt
-from question import Question, sure
+from question import Inside, Question, sure
 
 MOST_STATES, MOST_STEPS = 130, 300
 HALF = Fraction(1, 2)
@@ -66,6 +67,15 @@ class Values(unittest.TestCase):
         self.assertEqual(exact_values(coin_loop(), Question("Pmax=?", "!goal", path="X")), [Fraction(3, 4), 0, 1])
         self.assertEqual(exact_values(coin_loop(), Question("Pmax=?", "!goal", path="G")), [HALF, 0, 1])
 
+    def test_formulas_inside(self):
+        likely, certain = Question("P>=0.5", "goal"), Question("P>=1", "goal")
+        self.assertEqual(exact_values(coin_loop(), Question("P>=1", Inside(likely))), [1, 1, 0])
+        self.assertEqual(exact_values(coin_loop(), Question("Pmax=?", Inside(certain))), [HALF, 1, 0])
+        never = Question("Pmax=?", Inside(certain, negated=True), path="G")
+        self.assertEqual(exact_values(coin_loop(), never), [HALF, 0, 1])
+        known = Question("Pmax=?", "goal", safe=Inside(Question("P>0.5", "goal", coalition=("p0",))))
+        self.assertEqual(exact_values(coin_loop(), known), [0, 1, 0])
+
     def test_the_chain_stops_as_told(self):
         for length, rounds in chain.STOPS.items():
             plain = plain_value_iteration(chain.model(length), Question("Pmax=?", "goal"), 1e-6)
@@ -79,6 +89,34 @@ class Values(unittest.TestCase):
             for question in given if len(model) <= MOST_STATES else []:
                 with self.subTest(model=name, question=question.title()):
                     self.assertEqual(exact_values(model, question)[0], question.value)
+
+
+class Answers(unittest.TestCase):
+    def answer_to(self, question, *lines):
+        """The answer of these lines to a question about the coin loop, whose value is 1/2."""
+        inside, report = parted(question, lines)
+        answer = Answer("loop", 3, question, HALF, inside, report[0], 0.0)
+        judge_inside(answer)
+        judge_bracket(answer, report)
+        return answer
+
+    def test_the_line_before_the_report(self):
+        line = "state 0 lower 0.500000000000000 upper 0.500000000000000 rounds 50 Bracket"
+        plain, nested = Question("Pmax=?", "goal"), Question("Pmax=?", Inside(Question("P>=1", "goal")))
+        counted = self.answer_to(nested, "inner 1 undecided 0", line)
+        self.assertEqual((counted.faults, counted.stored()), ([], f"inner 1 undecided 0, {line}"))
+        self.assertEqual(counted.summary(), "Bracket, undecided 0")
+        self.assertEqual((self.answer_to(plain, line).faults, self.answer_to(plain, line).stored()), ([], line))
+        self.assertEqual(self.answer_to(nested, "inner 1 undecided 3", line).faults, [])
+        for lines in (["inner 2 undecided 0", line], ["inner 1 undecided 4", line], ["inner 1", line], [line], []):
+            self.assertTrue(self.answer_to(nested, *lines).faults)
+        self.assertTrue(self.answer_to(plain, "inner 0 undecided 0", line).faults)
+
+    def test_bounds_with_something_undecided_may_be_wide(self):
+        line = "state 0 lower 0.250000000000000 upper 1.000000000000000 steps 3 Bracket"
+        nested = Question("Pmax=?", Inside(Question("P>=1", "goal")), steps=3)
+        self.assertEqual(self.answer_to(nested, "inner 1 undecided 1", line).faults, [])
+        self.assertTrue(self.answer_to(nested, "inner 1 undecided 0", line).faults)
 
 
 class Questions(unittest.TestCase):
@@ -98,6 +136,16 @@ class Questions(unittest.TestCase):
         dual = Question("P>=1/3", "!bad", Fraction(1, 4), path="G").dual()
         self.assertEqual((dual.formula(), dual.value), ('P<=2/3 [ F "bad" ]', Fraction(3, 4)))
         self.assertEqual(Question("Pmax=?", "ok", path="G").dual().formula(), 'Pmin=? [ F !"ok" ]')
+
+    def test_questions_with_formulas_inside(self):
+        inner = Question("P<0.3", "a", path="X", coalition=("p0",))
+        outer = Question("P>=0.6", Inside(inner), safe=Inside(inner, negated=True))
+        text = '<<p0>> P<0.3 [ X "a" ]'
+        self.assertEqual(outer.formula(), f"P>=0.6 [ !{text} U {text} ]")
+        self.assertEqual(outer.inside(), [inner, inner])
+        always = Question("P>=1/3", Inside(outer), path="G")
+        self.assertEqual(always.dual().formula(), f"P<=2/3 [ F !{outer.formula()} ]")
+        self.assertEqual(len(always.inside()), 3)
 
     def test_sides(self):
         self.assertTrue(Question("P<=1", "goal").maximises(None))

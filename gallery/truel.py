@@ -15,13 +15,16 @@ the air once B is hit: 0.3. A and B: B hits C, and waits for A to hit: 1. Of A o
 misses, B hits C and A has one shot more: 0.3 + 0.7 * 0.3 = 0.51. For other hits the values are computed in fractions.
 Within 2j + 1 shots the sums of these series end at their j-th term: 9/130 (1 - 0.35^j), 0.3 (1 - 0.7^j) and 1 - 0.7^j.
 For other hits these are computed backward.
+
+A is the last one with 0.3 without help where it shoots at one other: 0.3 against B, 6/13 against C. A alone comes there
+with 0.3 * 0.5, since it has to hit B, and C then to miss; and beside C, which shoots into the air, with 0.3.
 """
 
 from fractions import Fraction
 from string import ascii_lowercase
 
 from model import Model, write_from_words
-from question import BACKWARD, CLOSED, COMPUTED, Question, sure
+from question import BACKWARD, CLOSED, COMPUTED, Inside, Question, sure
 
 MOSTELLER = ("0.3", "1", "0.5")
 SIZES = {
@@ -83,6 +86,17 @@ def questions_of_shots(shots, known):
         yield Question("P>=0.9", "a_wins", value, CLOSED, coalition=("a", "b"), steps=steps)
     answer = (Fraction(121, 130), CLOSED) if known else (None, COMPUTED)
     yield Question("Pmax=?", "!a_wins", *answer, coalition=("b", "c"), path="G")
+    yield from questions_of_turns(known)
+
+
+def questions_of_turns(known):
+    """How likely A comes to where it is the last one with 0.3 without the help of others."""
+    ahead = Question("P>=0.3", "a_wins", coalition=("a",))
+    for coalition, value in (("a", Fraction(3, 20)), ("ac", Fraction(3, 10))):
+        answer = (value, CLOSED) if known else (None, COMPUTED)
+        yield Question("Pmax=?", Inside(ahead), *answer, coalition=tuple(coalition))
+    answer = (Fraction(17, 20), CLOSED) if known else (None, COMPUTED)
+    yield Question("Pmax=?", Inside(ahead, negated=True), *answer, coalition=("b", "c"), path="G")
 
 
 if __name__ == "__main__":

@@ -13,13 +13,13 @@ the seed; next to the first field there is none.
 
 Value: computed in fractions by strategy iteration for both players. Where the robot may wait for ever in a safe place,
 upper values stay up. With a deadline it is computed backward. The goal is 2 (SIDE - 1) steps of the robot away, and as
-many of the wind lie between.
+many of the wind lie between. With a formula inside the robot keeps to where it can still reach the goal with 3/8.
 """
 
 from fractions import Fraction
 
 from model import Model, write_from_words
-from question import BACKWARD, Question, sure
+from question import BACKWARD, Inside, Question, sure
 from robot import STEPS, drawn_pits, moved
 
 STEP, GUST = Fraction(9, 10), Fraction(1, 4)
@@ -55,6 +55,9 @@ def questions(side, seed):
     yield Question("Pmax=?", "goal", source=BACKWARD, coalition=("robot",), steps=2 * away)
     yield Question("P>0.4", "goal", source=BACKWARD, coalition=("robot",), steps=2 * away)
     yield Question("Pmax=?", "!pit", coalition=("robot",), path="G")
+    way = Question("P>=3/8", "goal", coalition=("robot",))
+    yield Question("Pmax=?", "goal", coalition=("robot",), safe=Inside(way))
+    yield Question("Pmax=?", Inside(way), coalition=("robot",), path="G")
 
 
 if __name__ == "__main__":

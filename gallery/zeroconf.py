@@ -14,12 +14,16 @@ Value: with q = HOSTS / 65024 and e = (1/10) ^ PROBES a draw ends in a collision
 e). So the chance of a collision is q e / (1 - q (1 - e)), the source's formula. Each draw is the last with 1 - q at
 least, so there is a last one. The first step settles it with 1 - q. Within PROBES + 1 steps the first draw alone can
 end in a collision: q e.
+
+A collision comes with 1/10 at least where one probe is left (a little more, since the host may draw again), and with
+less before: so the chance to come there is that of a collision with a probe less. It comes no more where a free address
+was drawn, with 1 less the chance of a collision.
 """
 
 from fractions import Fraction
 
 from model import Model, write_from_words
-from question import CLOSED, Question, sure
+from question import CLOSED, Inside, Question, sure
 
 ADDRESSES = 65024
 LOST = Fraction(1, 10)
@@ -42,9 +46,14 @@ def model(probes, hosts):
     return Model("draw", rule, labels)
 
 
+def chance_of_collision(probes, used):
+    lost = LOST**probes
+    return used * lost / (1 - used * (1 - lost))
+
+
 def questions(probes, hosts):
     used, lost = Fraction(hosts, ADDRESSES), LOST**probes
-    value = used * lost / (1 - used * (1 - lost))
+    value = chance_of_collision(probes, used)
     yield Question("Pmax=?", "collision", value, SOURCE)
     yield Question("P<=0.0001", "collision", value, SOURCE)
     yield sure("P>=1", "settled", value=1, source=CLOSED)
@@ -52,6 +61,17 @@ def questions(probes, hosts):
     if probes <= FEW:
         yield Question("Pmax=?", "collision", used * lost, CLOSED, steps=probes + 1)
     yield Question("P>=0.999", "!collision", 1 - value, SOURCE, path="G")
+    if probes <= FEW:
+        yield from questions_of_danger(probes, used, value)
+
+
+def questions_of_danger(probes, used, value):
+    """How likely a collision ever gets likely, and how likely it ever gets impossible."""
+    danger, safe = Question("P>=0.1", "collision"), Question("P>=1", "!collision", path="G")
+    last_probe = chance_of_collision(probes - 1, used)
+    yield Question("Pmax=?", Inside(danger), last_probe, CLOSED)
+    yield Question("P>=0.99", Inside(danger, negated=True), 1 - last_probe, CLOSED, path="G")
+    yield Question("P>=0.999", Inside(safe), 1 - value, CLOSED)
 
 
 if __name__ == "__main__":
