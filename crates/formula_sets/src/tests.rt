@@ -3,6 +3,7 @@
 ghost use Rattle.std.specs.Prelude.{◌≡◌, ◌↔◌, IfOk, IsTrue, length};
 ghost use Rattle.formula_sets.specs.Posing.{IsUntil};
 
+use crate::flat::is_flat;
 use crate::next::pose_next;
 use crate::question::pose;
 use game_model::{Choice, Edge, Game, Side, UNIT};
@@ -61,8 +62,8 @@ fn a_formula_poses_a_question(rt: HostRuntime) -> Result<(), Fail> {
     let formula = read_formula(alloc, "<<p0>> P<=0.5 [ F<=3 \"goal\" ]")
         .ok()
         .ok_or("no formula")?;
-    if !is_until(formula.kind) {
-        return Err(Fail::new("another path"));
+    if !is_until(formula.kind) || !is_flat(&formula) {
+        return Err(Fail::new("another formula"));
     }
     let posed = pose(alloc, &game, &labels, &owners, &formula)
         .ok()
@@ -79,8 +80,8 @@ fn opening_posed(alloc: Global, text: &str) -> Result<Vec<u64>, Fail> {
     let labels = labels_of_one_state(alloc)?;
     let owners = owner_of_one_state(alloc)?;
     let formula = read_formula(alloc, text).ok().ok_or("no formula")?;
-    if formula.kind != PathKind::Next {
-        return Err(Fail::new("another path"));
+    if formula.kind != PathKind::Next || !is_flat(&formula) {
+        return Err(Fail::new("another formula"));
     }
     let posed = pose_next(alloc, &game, &labels, &owners, &formula)
         .ok()
