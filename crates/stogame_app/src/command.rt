@@ -35,6 +35,8 @@ use std::thread::Threads;
 /// horizon; True and False are printed exactly where the bounds settle the threshold, and are then true and false, whatever the
 /// schedule of the workers, who pass a gate before states. Of `G` all this is so of its dual, and 1 less its bounds is printed.
 /// With `F<=k`, `U<=k` and `X` exactly so many steps are made, and the k-step value, or the next one, lies between the bounds.
+/// With formulas inside a first line counts them and what their bounds leave undecided; the bounds are sound, and True and
+/// False right, for the exact question, in which each formula inside holds where it is true.
 /// What is not accepted is refused by one line that names the cause and its place. The whole output is made in memory first and
 /// written once.
 pub fn run<R: Threads + Sync, H: Shelf, K: Sink, G: Gate + Sync>(
