@@ -1,5 +1,6 @@
 pub mod Decisions
 pub mod Noting
+pub mod Silence
 pub mod Rows
 pub mod Steps
 pub mod Taking

@@ -5,22 +5,22 @@ use Rattle.game_model.specs.Game.{Distribution}
 use Rattle.tra_reader.specs.declared.header.Header.{Header}
 use Rattle.tra_reader.specs.declared.line.Transition.{Transition}
 use Rattle.tra_reader.specs.declared.fault.TraFault.{TraFault}
-use Rattle.tra_reader.specs.declared.actions.FirstActions.{FirstActions}
+use Rattle.tra_reader.specs.declared.line_actions.LineActions.{LineActions}
 use Rattle.tra_reader.specs.declared.any_order.AnyRows.{AnyRows}
 use Rattle.tra_reader.specs.Lines.{Row}
 use Rattle.tra_reader.specs.Text.{transitions}
 use Rattle.tra_reader.specs.Order.{IsWithin}
-use Rattle.tra_reader.specs.Noted.{Notes}
+use Rattle.tra_reader.specs.Noted.{NotesLines}
 use Rattle.tra_reader.specs.Reading.{IsRight, Begins, TakesLine, RefusesLine, AddsRow, RefusesRow, Finishes}
 
 abbrev pub any_header : AnyRows → Header
 any_header held = held.header
 
 -- these rows of n states are held: their transitions, and the first action of each choice
-pub record AreKept (n : ℕ) (kept : List Transition) (actions : FirstActions) (rows : List Row) : Type 0 where
+pub record AreKept (n : ℕ) (kept : List Transition) (actions : LineActions) (rows : List Row) : Type 0 where
   pub transitions : transitions rows ≡ kept
   pub within : All (λ row. IsWithin n row.transition) rows
-  pub notes : Notes actions rows
+  pub notes : NotesLines actions rows
 
 abbrev pub HoldsAny : AnyRows → List Row → Type 0
 HoldsAny held rows = AreKept held.header.states held.transitions.items held.actions rows

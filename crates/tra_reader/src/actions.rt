@@ -4,6 +4,7 @@ ghost use Rattle.std.specs.Prelude.{◌≡◌, ◌≤◌, ℕ, length, nat_eq};
 ghost use Rattle.std.specs.HashMap.{get};
 ghost use Rattle.std.specs.Option.{ForSome};
 
+use crate::line::Transition;
 use std::alloc::{AllocError, Global};
 use std::collections::HashMap;
 
@@ -26,7 +27,7 @@ impl FirstActions {
     ghost use Rattle.std.specs.Prelude.{◌==◌, ◌++◌, ◌∷◌, [], IfOk, OnOk, List, Some, if◌then◌else◌};
     ghost use Rattle.tra_reader.specs.Lines.{Row};
     ghost use Rattle.tra_reader.specs.Answers.{clashes_at, row_place};
-    ghost use Rattle.tra_reader.specs.Noted.{noted, Notes};
+    ghost use Rattle.tra_reader.specs.Noted.{noted, silent_rows, Notes};
 
     /// No action so far.
     pub fn new(alloc: Global) -> FirstActions
@@ -49,6 +50,16 @@ impl FirstActions {
                 Ok(false)
             }
         }
+    }
+
+    /// Notes lines without an action, where none is noted.
+    pub fn note_silent(&mut self, lines: &[Transition]) -> Result<(), AllocError>
+        ensures { OnOk result (Notes self.old [] → Notes self.new (silent_rows lines.now)) }
+    {
+        for line in lines {
+            self.note(line.place(), &[])?;
+        }
+        Ok(())
     }
 
     // Keeps the action of a choice that has none.

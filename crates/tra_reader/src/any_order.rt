@@ -6,12 +6,12 @@ ghost use Rattle.text_lines.specs.Text.{fields_of};
 ghost use Rattle.tra_reader.specs.Order.{IsWithin};
 ghost use Rattle.tra_reader.specs.Answers.{IsAccepted};
 
-use crate::actions::FirstActions;
 use crate::body::{blank_between, check_count, first_line, no_header, read_row};
 use crate::build::build;
 use crate::fault::TraFault;
 use crate::header::Header;
 use crate::line::Transition;
+use crate::line_actions::LineActions;
 use game_model::Game;
 use std::alloc::Global;
 use text_lines::LineReader;
@@ -74,7 +74,7 @@ impl LineReader for AnyLines {
 pub struct AnyRows {
     header: Header,
     transitions: Vec<Transition>,
-    actions: FirstActions,
+    actions: LineActions,
     ghost accepted: { IsAccepted header },
     ghost within: { All (IsWithin header.states) transitions.items },
 }
@@ -90,7 +90,7 @@ impl AnyRows {
         Ok(AnyRows {
             header,
             transitions: Vec::new(alloc),
-            actions: FirstActions::new(alloc),
+            actions: LineActions::new(alloc),
         })
     }
 
@@ -112,7 +112,8 @@ impl AnyRows {
         ensures ok { OnOk result (AddsAny self.old self.new (record { transition = transition; action = action.now })) }
         ensures fault { MatchResult result (λ _. Unit {0}) (λ fault. RefusesAnyRow self.old number (record { transition = transition; action = action.now }) fault) }
     {
-        if self.actions.note(transition.place(), action)? {
+        let place = transition.place();
+        if self.actions.note(&self.transitions, place, action)? {
             return Err(TraFault::of_clash(number, &transition));
         }
         self.transitions.push(transition)?;
