@@ -1,6 +1,6 @@
 //! Texts that are read by lines, a piece at a time.
 
-ghost use Rattle.std.specs.Prelude.{◌≡◌, ◌≢◌, ◌<◌, ◌≤◌, ◌+◌, ◌-◌, ◌^◌, ◌++◌, ◌∷◌, ◌⊎◌, ◌↔◌, ◌==◌, [], ℕ, List, Bool, true, false, length, take, drop, IsOk, IsErrOf, IfOk, OnOk, OnErr, MatchResult, not, slice_index};
+ghost use Rattle.std.specs.Prelude.{◌≡◌, ◌≢◌, ◌<◌, ◌≤◌, ◌+◌, ◌-◌, ◌^◌, ◌++◌, ◌∷◌, ◌⊎◌, ◌↔◌, [], ℕ, List, Bool, true, false, length, take, drop, IsOk, IsErrOf, IfOk, OnOk, OnErr, MatchResult, not};
 ghost use Rattle.std.specs.Io.KnownBytes.{Consumes, IsAtEnd};
 ghost use Rattle.text_lines.specs.Text.{lines_of};
 ghost use Rattle.text_lines.specs.Laws.{HasNo, EndsInNoCr};
@@ -12,6 +12,7 @@ use crate::shelf::{PIECE, ReadEnd, Shelf};
 use memchr::memchr;
 use std::alloc::{AllocError, Global};
 use std::marker::Model;
+use text_lines::ends_in_cr;
 use text_lines::laws::lines_end_in_lf_or_crlf;
 
 /// A text that is being read by lines. It holds at most one piece of the text, and keeps no reference to the shelf, which
@@ -217,16 +218,9 @@ fn end_line(line: &mut Vec<u8>)
     requires { HasNo 10 line.old.items }
     ensures { (behind : List ℕ) → lines_of (line.old.items ++ 10 ∷ behind) ≡ line.new.items ∷ lines_of behind }
 {
-    lines_end_in_lf_or_crlf();
     if ends_in_cr(line) {
         line.pop();
     }
-}
-
-fn ends_in_cr(line: &[u8]) -> bool
-    ensures { result ≡ (slice_index line.now (length line.now - 1) == 13) }
-{
-    matches!(line, [.., b'\r'])
 }
 
 // Whether these are the bytes of a last line, which has no ending.

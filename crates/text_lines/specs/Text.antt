@@ -11,11 +11,6 @@ abbrev pub begins_lf : List ℕ → Bool
 begins_lf [] = false
 begins_lf (b ∷ bytes) = b == 10
 
--- a line ending stands at the front: LF or CRLF
-abbrev pub begins_ending : List ℕ → Bool
-begins_ending [] = false
-begins_ending (b ∷ bytes) = b == 10 || (b == 13 && begins_lf bytes)
-
 -- The lines of a text. Each ends in LF or CRLF, or at the end of the text, and behind the last ending no line begins.
 abbrev pub lines_of : List ℕ → List (List ℕ)
 lines_of [] = []
@@ -64,20 +59,6 @@ value_onto n (b ∷ bytes) = value_onto (10 * n + (b - 48)) bytes
 abbrev pub number_of : List ℕ → Option ℕ
 number_of [] = None
 number_of (b ∷ bytes) = if all_digits (b ∷ bytes) then Some (value_onto 0 (b ∷ bytes)) else None
-
--- how far the first line goes
-abbrev pub line_len : List ℕ → ℕ
-line_len [] = 0
-line_len (b ∷ bytes) = if begins_ending (b ∷ bytes) then 0 else line_len bytes + 1
-
--- what stands behind a line ending
-abbrev pub after_ending : List ℕ → List ℕ
-after_ending [] = []
-after_ending (b ∷ bytes) = if b == 10 then bytes else after_cr bytes
-  where
-    after_cr : List ℕ → List ℕ
-    after_cr [] = []
-    after_cr (c ∷ rest) = rest
 
 -- how far the field at the front goes
 abbrev pub field_len : List ℕ → ℕ
