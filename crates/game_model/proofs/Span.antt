@@ -21,6 +21,12 @@ pub span-same : {X : Type 0} (f g : ℕ → X) (a k : ℕ) → ((i : ℕ) → a 
 span-same f g a zero h = refl
 span-same f g a (suc k) h = ap (λ x. x ∷ span f (a + 1) k) (h a (omega arith) (omega arith)) ∙ ap (λ l. g a ∷ l) (span-same f g (a + 1) k (λ i l m. h i (omega arith) (omega arith)))
 
+-- two spans that begin at different places
+pub span-moved : {X : Type 0} (f g : ℕ → X) (a b k : ℕ) → ((i : ℕ) → i < k → f (a + i) ≡ g (b + i)) → span f a k ≡ span g b k
+span-moved f g a b k h =
+    same_lists _ _ (length-span f a k ∙ sym (length-span g b k))
+    (λ i d l. let inside : i < k = omega (arith, length-span f a k) in get_or-span f a k i d inside ∙ h i inside ∙ sym (get_or-span g b k i d inside))
+
 pub map-span : {X Y : Type 0} (h : X → Y) (f : ℕ → X) (a k : ℕ) → map h (span f a k) ≡ span (λ i. h (f i)) a k
 map-span h f a zero = refl
 map-span h f a (suc k) = ap (λ l. h (f a) ∷ l) (map-span h f (a + 1) k)

@@ -30,9 +30,13 @@ choices_of game s = slice_index_or game s []
 abbrev pub no_distribution : Distribution
 no_distribution = record { total = 0; edges = [] }
 
+-- one of some choices
+abbrev pub choice_in : List Distribution → ℕ → Distribution
+choice_in choices c = slice_index_or choices c no_distribution
+
 -- a choice of a state
 abbrev pub choice_of : List (List Distribution) → ℕ → ℕ → Distribution
-choice_of game s c = slice_index_or (choices_of game s) c no_distribution
+choice_of game s c = choice_in (choices_of game s) c
 
 -- an edge of no weight, which no choice has
 abbrev pub no_edge : Edge

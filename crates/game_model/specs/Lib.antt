@@ -4,6 +4,8 @@ pub mod Made
 pub mod Span
 pub mod Flat
 pub mod OfGame
+pub mod Row
+pub mod OfRow
 pub mod Draft
 pub mod Growing
 pub mod OfBuilder

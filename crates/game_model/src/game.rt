@@ -2,9 +2,10 @@
 //! distribution over the states. With one side alone they are Markov decision processes (Baier and
 //! Katoen, Principles of Model Checking, 2008, chapter 10).
 
-ghost use Rattle.std.specs.Prelude.{◌≡◌, ◌+◌, ◌-◌, ◌*◌, ◌^◌, ◌<◌, ◌≤◌, List, length, sum_by, All, slice_index, map, take, drop};
+ghost use Rattle.std.specs.Prelude.{◌≡◌, ◌+◌, ◌-◌, ◌*◌, ◌^◌, ◌<◌, ◌≤◌, List, length, sum_by, All, map};
 ghost use Rattle.game_model.specs.Limits.{total_bound};
 
+use crate::row::{Row, part};
 use std::marker::Model;
 
 /// Who chooses at a state: the maximiser or the minimiser of the probability (Condon, The complexity
@@ -169,7 +170,25 @@ impl Game {
         u64::from(self.first_edge[self.first_choice[state as usize] as usize])
     }
 
+    /// The choices of a state.
+    #[inline(always)]
+    pub fn row(&self, state: u32) -> Row<'_>
+        requires { state < length self.now }
+        ensures { result ≡ choices_of self.now state }
+    {
+        let first = self.first_choice[state as usize] as usize;
+        let last = self.first_choice[state as usize + 1] as usize;
+        Row {
+            bounds: part(&self.first_edge, first, last + 1),
+            totals: part(&self.totals, first, last),
+            to: &self.to,
+            low: &self.low,
+            high: &self.high,
+        }
+    }
+
     /// The total of a choice: the sum of its weights.
+    #[inline(always)]
     pub fn total(&self, state: u32, choice: u32) -> u128
         requires state { state < length self.now }
         requires choice { choice < length (choices_of self.now state) }
@@ -177,30 +196,27 @@ impl Game {
         ensures positive { 0 < result }
         ensures small { result < total_bound }
     {
-        self.known();
-        self.totals[self.first_choice[state as usize] as usize + choice as usize]
+        self.row(state).total(choice)
     }
 
     /// How many edges a choice has, at least 1.
+    #[inline(always)]
     pub fn edge_count(&self, state: u32, choice: u32) -> u32
         requires state { state < length self.now }
         requires choice { choice < length (choices_of self.now state) }
         ensures { result ≡ length (choice_of self.now state choice).edges }
     {
-        let at = self.first_choice[state as usize] as usize + choice as usize;
-        self.first_edge[at + 1] - self.first_edge[at]
+        self.row(state).edge_count(choice)
     }
 
     /// The successors of a choice, rising.
+    #[inline(always)]
     pub fn successors(&self, state: u32, choice: u32) -> &[u32]
         requires state { state < length self.now }
         requires choice { choice < length (choices_of self.now state) }
         ensures { result.now ≡ map (λ e. e.to) (choice_of self.now state choice).edges }
     {
-        let at = self.first_choice[state as usize] as usize + choice as usize;
-        let from = self.first_edge[at];
-        let to = self.first_edge[at + 1];
-        part(&self.to, from, to)
+        self.row(state).successors(choice)
     }
 
     /// The successors of all edges of the states from `from` up to and not including `to`, in order.
@@ -213,58 +229,28 @@ impl Game {
         self.known();
         let begin = self.first_edge[self.first_choice[from as usize] as usize];
         let end = self.first_edge[self.first_choice[to as usize] as usize];
-        part(&self.to, begin, end)
+        part(&self.to, begin as usize, end as usize)
     }
 
     /// The weights of a choice whose total fits 64 bits, in the order of its successors.
+    #[inline(always)]
     pub fn narrow_weights(&self, state: u32, choice: u32) -> &[u64]
         requires state { state < length self.now }
         requires choice { choice < length (choices_of self.now state) }
         requires narrow { (choice_of self.now state choice).total < 2 ^ 64 }
         ensures { result.now ≡ map (λ e. e.weight) (choice_of self.now state choice).edges }
     {
-        self.known();
-        let at = self.first_choice[state as usize] as usize + choice as usize;
-        let from = self.first_edge[at];
-        let to = self.first_edge[at + 1];
-        part(&self.low, from, to)
+        self.row(state).narrow_weights(choice)
     }
 
     /// An edge of a choice. The successors rise with the place.
+    #[inline(always)]
     pub fn edge(&self, state: u32, choice: u32, place: u32) -> Edge
         requires state { state < length self.now }
         requires choice { choice < length (choices_of self.now state) }
         requires place { place < length (choice_of self.now state choice).edges }
         ensures { result ≡ edge_of self.now state choice place }
     {
-        let at = self.first_choice[state as usize] as usize + choice as usize;
-        let edge = self.first_edge[at] as usize + place as usize;
-        Edge {
-            to: self.to[edge],
-            weight: weight_of(self.low[edge], entry(&self.high, edge)),
-        }
+        self.row(state).edge(choice, place)
     }
-}
-
-/// A part of a list.
-fn part<T>(xs: &[T], from: u32, to: u32) -> &[T]
-    requires order { from ≤ to }
-    requires within { to ≤ length xs.now }
-    ensures { result.now ≡ take (to - from) (drop from xs.now) }
-{
-    &xs[from as usize..to as usize]
-}
-
-/// The entry at a place, or 0 past the end.
-fn entry(xs: &[u64], at: usize) -> u64
-    ensures { result ≡ slice_index xs.now at }
-{
-    if at < xs.len() { xs[at] } else { 0 }
-}
-
-/// A weight of its two words.
-fn weight_of(low: u64, high: u64) -> u128
-    ensures { result ≡ low + 2 ^ 64 * high }
-{
-    u128::from(low) + 18_446_744_073_709_551_616 * u128::from(high)
 }

@@ -14,11 +14,13 @@ mod game;
 pub mod laws;
 mod limits;
 mod question;
+mod row;
 
 pub use builder::GameBuilder;
 pub use game::{Choice, Edge, Game, Side};
 pub use limits::{MOST_CHOICES, MOST_STATES, UNIT};
 pub use question::{Marks, Question};
+pub use row::Row;
 
 /// Choices, games, questions and marks may be shared among threads.
 fn shares_all(choice: &Choice, question: &Question, marks: &Marks) {

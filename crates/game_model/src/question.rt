@@ -7,6 +7,7 @@ ghost use Rattle.std.specs.Prelude.{◌≡◌, ℕ, ◌<◌, ◌≤◌, List, le
 ghost use Rattle.game_model.specs.Limits.{most_states};
 
 use crate::game::{Game, Side};
+use crate::row::Row;
 use std::marker::Model;
 
 /// A question: a game, the side that chooses at each state, and which states are goals and which are
@@ -30,6 +31,7 @@ impl<'g> Model for Question<'g> {
 }
 
 impl<'g> Question<'g> {
+    ghost use Rattle.game_model.specs.Game.{choices_of};
     ghost use Rattle.game_model.specs.Query.{Query, IsQuery, states, is_goal, is_dead, side_at};
 
     /// The question that these lists pose. No state is both goal and dead.
@@ -64,6 +66,15 @@ impl<'g> Question<'g> {
         ensures { result.now ≡ self.now.game }
     {
         self.game
+    }
+
+    /// The choices of a state.
+    #[inline(always)]
+    pub fn row(&self, state: u32) -> Row<'g>
+        requires { state < states self.now }
+        ensures { result ≡ choices_of self.now.game state }
+    {
+        self.game.row(state)
     }
 
     /// Who chooses at a state.

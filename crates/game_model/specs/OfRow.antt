@@ -1,0 +1,11 @@
+-- What contracts see of a row.
+use Rattle.std.specs.Prelude.{List}
+use Rattle.game_model.specs.Game.{Distribution}
+use Rattle.game_model.specs.declared.row.Row.TheInside.{Inside}
+use Rattle.game_model.specs.Row.{row_at, IsRow}
+
+abbrev pub row_of : Inside → List Distribution
+row_of r = row_at r.bounds.now r.totals.now r.to.now r.low.now r.high.now
+
+abbrev pub IsRowOf : Inside → Type 0
+IsRowOf r = IsRow r.bounds.now r.totals.now r.to.now r.low.now r.high.now

@@ -1,0 +1,150 @@
+//! The choices of one state.
+
+ghost use Rattle.std.specs.Prelude.{◌≡◌, ℕ, ◌+◌, ◌-◌, ◌*◌, ◌^◌, ◌<◌, ◌≤◌, length, slice_index, slice_index_or, map, take, drop};
+ghost use Rattle.game_model.specs.Limits.{total_bound};
+
+use crate::game::Edge;
+use std::marker::Model;
+
+/// The choices of a state, after one look at the lists of its game: the bounds of the edges of each choice, its
+/// total, and the successors and weights of all edges. Who goes over the choices of a state takes its row first: between
+/// loads of words that threads share, what lies behind the game would be read anew.
+#[derive(Drop)]
+pub struct Row<'g> {
+    pub(crate) bounds: &'g [u32],
+    pub(crate) totals: &'g [u128],
+    pub(crate) to: &'g [u32],
+    pub(crate) low: &'g [u64],
+    pub(crate) high: &'g [u64],
+}
+
+impl<'g> Model for Row<'g> {
+    ghost use Rattle.std.specs.Prelude.{List};
+    ghost use Rattle.game_model.specs.Game.{Distribution};
+
+    ghost Value = { List Distribution };
+
+    ghost use Rattle.game_model.specs.OfRow.{row_of, IsRowOf};
+
+    ghost view = { row_of };
+
+    ghost invariant = { IsRowOf };
+}
+
+impl<'g> Row<'g> {
+    ghost use Rattle.game_model.specs.Game.{Distribution, IsDistribution, choice_in, no_edge};
+
+    /// Tells a proof what every row keeps. It does nothing.
+    #[inline(always)]
+    pub fn known(&self)
+        ensures some { 0 < length self.now }
+        ensures distributions { (c : ℕ) → c < length self.now → IsDistribution (choice_in self.now c) }
+    {
+        let _ = &self.to;
+    }
+
+    /// The same row once more, for a call that is not inlined: a row that is handed to one no longer lies in registers.
+    #[inline(always)]
+    pub fn again(&self) -> Row<'g>
+        ensures { result ≡ self.now }
+    {
+        Row {
+            bounds: self.bounds,
+            totals: self.totals,
+            to: self.to,
+            low: self.low,
+            high: self.high,
+        }
+    }
+
+    /// How many choices there are, at least 1.
+    #[inline(always)]
+    pub fn choices(&self) -> u32
+        ensures { result ≡ length self.now }
+    {
+        (self.bounds.len() - 1) as u32
+    }
+
+    /// The total of a choice: the sum of its weights.
+    #[inline(always)]
+    pub fn total(&self, choice: u32) -> u128
+        requires { choice < length self.now }
+        ensures value { result ≡ (choice_in self.now choice).total }
+        ensures positive { 0 < result }
+        ensures small { result < total_bound }
+    {
+        self.totals[choice as usize]
+    }
+
+    /// How many edges a choice has, at least 1.
+    #[inline(always)]
+    pub fn edge_count(&self, choice: u32) -> u32
+        requires { choice < length self.now }
+        ensures { result ≡ length (choice_in self.now choice).edges }
+    {
+        self.bounds[choice as usize + 1] - self.bounds[choice as usize]
+    }
+
+    /// The successors of a choice, rising.
+    #[inline(always)]
+    pub fn successors(&self, choice: u32) -> &'g [u32]
+        requires { choice < length self.now }
+        ensures { result.now ≡ map (λ e. e.to) (choice_in self.now choice).edges }
+    {
+        let from = self.bounds[choice as usize];
+        let to = self.bounds[choice as usize + 1];
+        part(self.to, from as usize, to as usize)
+    }
+
+    /// The weights of a choice whose total fits 64 bits, in the order of its successors.
+    #[inline(always)]
+    pub fn narrow_weights(&self, choice: u32) -> &'g [u64]
+        requires choice { choice < length self.now }
+        requires narrow { (choice_in self.now choice).total < 2 ^ 64 }
+        ensures { result.now ≡ map (λ e. e.weight) (choice_in self.now choice).edges }
+    {
+        let from = self.bounds[choice as usize];
+        let to = self.bounds[choice as usize + 1];
+        part(self.low, from as usize, to as usize)
+    }
+
+    /// An edge of a choice. The successors rise with the place.
+    #[inline(always)]
+    pub fn edge(&self, choice: u32, place: u32) -> Edge
+        requires choice { choice < length self.now }
+        requires place { place < length (choice_in self.now choice).edges }
+        ensures { result ≡ slice_index_or (choice_in self.now choice).edges place no_edge }
+    {
+        let at = self.bounds[choice as usize] as usize + place as usize;
+        Edge {
+            to: self.to[at],
+            weight: weight_of(self.low[at], entry(self.high, at)),
+        }
+    }
+}
+
+/// A part of a list.
+#[inline(always)]
+pub(crate) fn part<T>(xs: &[T], from: usize, to: usize) -> &[T]
+    requires order { from ≤ to }
+    requires within { to ≤ length xs.now }
+    ensures { result.now ≡ take (to - from) (drop from xs.now) }
+{
+    &xs[from..to]
+}
+
+/// The entry at a place, or 0 past the end.
+#[inline(always)]
+fn entry(xs: &[u64], at: usize) -> u64
+    ensures { result ≡ slice_index xs.now at }
+{
+    if at < xs.len() { xs[at] } else { 0 }
+}
+
+/// A weight of its two words.
+#[inline(always)]
+fn weight_of(low: u64, high: u64) -> u128
+    ensures { result ≡ low + 2 ^ 64 * high }
+{
+    u128::from(low) + 18_446_744_073_709_551_616 * u128::from(high)
+}
