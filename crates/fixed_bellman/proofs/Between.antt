@@ -45,8 +45,8 @@ pub not-less : (x y : ℕ) → (x < y → IsTrue false) → y ≤ x
 not-less x y fails = elim (cases_lt x y) [ inl less ↦ absurd (true≢false (sym (fails less))) | inr rest ↦ rest ]
 
 -- the loop is at a choice
-pub at-choice : (game game' : List (List Distribution)) (s count p : ℕ) → game ≡ game' → count ≡ length (choices_of game s) → p < count → p < length (choices_of game' s)
-at-choice game game' s count p same is_count before = subst (λ (g : List (List Distribution)). p < length (choices_of g s)) same (omega arith)
+pub at-choice : (row choices : List Distribution) (count p : ℕ) → row ≡ choices → count ≡ length row → p < count → p < length choices
+at-choice row choices count p same is_count before = omega (arith, ap length same)
 
 -- one more choice, over values that have risen
 module _ (q : Query) (s i : ℕ) (r : Quotient) (old mid new : ℕ → ℕ) (h : IsQuery q) (inside : s < states q) (chosen : i < length (choices_of q.game s)) (between : IsBetween r mid new (choice_of q.game s i)) (earlier : (t : ℕ) → old t ≤ mid t) (later : (t : ℕ) → mid t ≤ new t) where

@@ -4,7 +4,7 @@ use Rattle.std.specs.Prelude.{slice_index, slice_index_or, All}
 use Rattle.std.proofs.lemmas.List.{take_all}
 use Rattle.std.proofs.Math.Nat.{div-lt_iff_lt-mul, min-eq_right}
 use Rattle.game_model.specs.declared.game.Side.TheVariants.{Min}
-use Rattle.game_model.specs.Game.{Distribution, IsDistribution, no_distribution, choices_of}
+use Rattle.game_model.specs.Game.{Distribution, IsDistribution, no_distribution}
 use Rattle.game_model.specs.Values.{better, optimum, weighted_sum}
 use Rattle.game_model.specs.Limits.{unit}
 use Rattle.game_model.specs.Rounded.{down_value, up_value}
@@ -38,5 +38,5 @@ least-whole f (x ∷ xs) p best top some past first same =
     same ∙ ap (λ ys. fold (λ least y. better Min least (f y)) top ys) whole ∙ ap (λ a. fold (λ least y. better Min least (f y)) a xs) start
 
 -- the loop has gone over all choices
-pub all-choices : (game game' : List (List Distribution)) (s count p : ℕ) → game ≡ game' → count ≡ length (choices_of game s) → count ≤ p → length (choices_of game' s) ≤ p
-all-choices game game' s count p same is_count past = subst (λ (g : List (List Distribution)). length (choices_of g s) ≤ p) same (omega arith)
+pub all-choices : (row choices : List Distribution) (count p : ℕ) → row ≡ choices → count ≡ length row → count ≤ p → length choices ≤ p
+all-choices row choices count p same is_count past = omega (arith, ap length same)

@@ -56,10 +56,11 @@ fn greatest_above<V: Values>(
     ensures first { (c : ℕ) → c < result.1 → down_value (V.seen values.now pass.old) (choice_of question.now.game state c) < result.0 }
 {
     question.known();
+    let row = question.row(state);
     let mut best = floor;
     let mut first = 0;
-    for choice in 0..question.game().choices_of(state) {
-        let given = quotient(question, values, pass, state, choice);
+    for choice in 0..row.choices() {
+        let given = quotient(&row, choice, values, pass);
         if given.down_above(best) {
             best = given.down();
             first = choice;
@@ -87,9 +88,10 @@ fn least_above<V: Values>(
     ensures given { floor < result → (c : ℕ) → c < length (choices_of question.now.game state) → result ≤ down_value (V.seen values.now pass.new) (choice_of question.now.game state c) }
 {
     question.known();
+    let row = question.row(state);
     let mut best = UNIT;
-    for choice in 0..question.game().choices_of(state) {
-        let given = quotient(question, values, pass, state, choice);
+    for choice in 0..row.choices() {
+        let given = quotient(&row, choice, values, pass);
         if !given.down_above(floor) {
             return floor;
         }

@@ -1,8 +1,7 @@
 //! The weighted sums of a choice over the lower and over the upper bounds, in one walk over its edges.
 
 ghost use Rattle.std.specs.Prelude.{◌≡◌, ◌*◌, ◌^◌, ◌<◌, ◌≤◌, length, slice_index, All};
-ghost use Rattle.game_model.specs.Game.{choices_of, choice_of};
-ghost use Rattle.game_model.specs.Query.{states};
+ghost use Rattle.game_model.specs.Game.{choice_in};
 ghost use Rattle.game_model.specs.Limits.{unit, total_bound};
 ghost use Rattle.game_model.specs.Rounded.{down_value, up_value};
 ghost use Rattle.fixed_bellman.specs.Bounds.{lowers, uppers, AreUnits};
@@ -11,45 +10,38 @@ ghost use Rattle.fixed_bellman.specs.Sums.{edges_of, weight_of_all, AreSums};
 
 use crate::bounds::Bounds;
 use crate::quotient::{MOST_NARROW, Quotient};
-use game_model::{Game, Question};
+use game_model::Row;
 
-/// The values of a choice over the lower and over the upper bounds, before they are rounded.
+/// The values of a choice of a row over the lower and over the upper bounds, before they are rounded.
 #[inline(always)]
-pub fn quotients(
-    question: &Question,
-    state: u32,
-    choice: u32,
-    table: &[Bounds],
-) -> (Quotient, Quotient)
-    requires state { state < states question.now }
-    requires choice { choice < length (choices_of question.now.game state) }
-    requires length { length table.now ≡ states question.now }
+pub fn quotients(row: &Row<'_>, choice: u32, table: &[Bounds]) -> (Quotient, Quotient)
+    requires choice { choice < length row.now }
+    requires inside { All (λ e. e.to < length table.now) (choice_in row.now choice).edges }
     requires units { All AreUnits table.now }
-    ensures down { rounded_down result.0 ≡ down_value (slice_index (lowers table.now)) (choice_of question.now.game state choice) }
-    ensures up { rounded_up result.1 ≡ up_value (slice_index (uppers table.now)) (choice_of question.now.game state choice) }
+    ensures down { rounded_down result.0 ≡ down_value (slice_index (lowers table.now)) (choice_in row.now choice) }
+    ensures up { rounded_up result.1 ≡ up_value (slice_index (uppers table.now)) (choice_in row.now choice) }
 {
-    question.known();
-    let game = question.game();
-    let total = game.total(state, choice);
-    let (lower, upper) = sums_of(game, state, choice, table);
+    row.known();
+    let total = row.total(choice);
+    let (lower, upper) = sums_of(row, choice, total, table);
     (Quotient::new(lower, total), Quotient::new(upper, total))
 }
 
 /// The weighted sums of a choice, in the least width that its total allows.
-fn sums_of(game: &Game, state: u32, choice: u32, table: &[Bounds]) -> (u128, u128)
-    requires state { state < length game.now }
-    requires choice { choice < length (choices_of game.now state) }
-    requires length { length table.now ≡ length game.now }
+#[inline(always)]
+fn sums_of(row: &Row<'_>, choice: u32, total: u128, table: &[Bounds]) -> (u128, u128)
+    requires choice { choice < length row.now }
+    requires total { total ≡ (choice_in row.now choice).total }
+    requires inside { All (λ e. e.to < length table.now) (choice_in row.now choice).edges }
     requires units { All AreUnits table.now }
-    ensures { AreSums (choice_of game.now state choice).edges table.now result.0 result.1 }
+    ensures { AreSums (choice_in row.now choice).edges table.now result.0 result.1 }
 {
-    game.known();
-    let total = game.total(state, choice);
+    row.known();
     if total >= 18_446_744_073_709_551_616 {
-        return wide_sums(game, state, choice, table);
+        return wide_sums(&row.again(), choice, table);
     }
-    let successors = game.successors(state, choice);
-    let weights = game.narrow_weights(state, choice);
+    let successors = row.successors(choice);
+    let weights = row.narrow_weights(choice);
     if total <= MOST_NARROW {
         let (lower, upper) = narrow_sums(successors, weights, table);
         return (u128::from(lower), u128::from(upper));
@@ -95,18 +87,17 @@ fn middle_sums(successors: &[u32], weights: &[u64], table: &[Bounds]) -> (u128, 
 
 /// The weighted sums of a choice of any total.
 #[inline(never)]
-fn wide_sums(game: &Game, state: u32, choice: u32, table: &[Bounds]) -> (u128, u128)
-    requires state { state < length game.now }
-    requires choice { choice < length (choices_of game.now state) }
-    requires length { length table.now ≡ length game.now }
+fn wide_sums(row: &Row<'_>, choice: u32, table: &[Bounds]) -> (u128, u128)
+    requires choice { choice < length row.now }
+    requires inside { All (λ e. e.to < length table.now) (choice_in row.now choice).edges }
     requires units { All AreUnits table.now }
-    ensures { AreSums (choice_of game.now state choice).edges table.now result.0 result.1 }
+    ensures { AreSums (choice_in row.now choice).edges table.now result.0 result.1 }
 {
-    game.known();
+    row.known();
     let mut lower: u128 = 0;
     let mut upper: u128 = 0;
-    for place in 0..game.edge_count(state, choice) {
-        let edge = game.edge(state, choice, place);
+    for place in 0..row.edge_count(choice) {
+        let edge = row.edge(choice, place);
         let bounds = table[edge.to as usize];
         lower += edge.weight * u128::from(bounds.lower);
         upper += edge.weight * u128::from(bounds.upper);

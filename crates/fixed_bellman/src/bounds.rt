@@ -53,10 +53,12 @@ fn greatest_bounds(question: &Question, state: u32, table: &[Bounds]) -> Bounds
     ensures upper { result.upper ≡ optimum Side.Max (up_value (slice_index (uppers table.now))) (choices_of question.now.game state) }
     ensures units { AreUnits result }
 {
+    question.known();
+    let row = question.row(state);
     let mut lower = 0;
     let mut upper = 0;
-    for choice in 0..question.game().choices_of(state) {
-        let (low, high) = quotients(question, state, choice, table);
+    for choice in 0..row.choices() {
+        let (low, high) = quotients(&row, choice, table);
         if low.down_above(lower) {
             lower = low.down();
         }
@@ -77,10 +79,11 @@ fn least_bounds(question: &Question, state: u32, table: &[Bounds]) -> Bounds
     ensures units { AreUnits result }
 {
     question.known();
+    let row = question.row(state);
     let mut lower = UNIT;
     let mut upper = UNIT;
-    for choice in 0..question.game().choices_of(state) {
-        let (low, high) = quotients(question, state, choice, table);
+    for choice in 0..row.choices() {
+        let (low, high) = quotients(&row, choice, table);
         if low.down_below(lower) {
             lower = low.down();
         }

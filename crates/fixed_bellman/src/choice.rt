@@ -24,7 +24,7 @@ pub fn down_choice(question: &Question, state: u32, choice: u32, table: &[u64]) 
     ensures greatest { weighted_sum (slice_index table.now) (choice_of question.now.game state choice).edges < (result + 1) * (choice_of question.now.game state choice).total }
 {
     question.known();
-    table_quotient(question, state, choice, table).down()
+    table_quotient(&question.row(state), choice, table).down()
 }
 
 /// The value of a choice over a table, rounded up.
@@ -40,5 +40,5 @@ pub fn up_choice(question: &Question, state: u32, choice: u32, table: &[u64]) ->
     ensures least { result * (choice_of question.now.game state choice).total < weighted_sum (slice_index table.now) (choice_of question.now.game state choice).edges + (choice_of question.now.game state choice).total }
 {
     question.known();
-    table_quotient(question, state, choice, table).up()
+    table_quotient(&question.row(state), choice, table).up()
 }

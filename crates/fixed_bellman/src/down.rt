@@ -1,9 +1,9 @@
 //! The down step of a table.
 
-ghost use Rattle.std.specs.Prelude.{◌≡◌, ◌<◌, ◌≤◌, ◌↔◌, ◌⊎◌, length, slice_index, All, IsTrue, MatchOption};
+ghost use Rattle.std.specs.Prelude.{◌≡◌, ◌<◌, ◌≤◌, ◌⊎◌, length, slice_index, All, MatchOption};
 ghost use Rattle.game_model.specs.Query.{states};
 ghost use Rattle.game_model.specs.Limits.{unit};
-ghost use Rattle.game_model.specs.Rounded.{DownChoice, IsSettled, down_step};
+ghost use Rattle.game_model.specs.Rounded.{DownChoice, down_step};
 ghost use Rattle.fixed_bellman.specs.Given.{IsFree};
 ghost use Rattle.fixed_bellman.specs.Raised.{Raises};
 
@@ -77,18 +77,4 @@ fn raised_goal(entry: u64) -> Option<(u64, u32)>
     ensures { MatchOption result (unit ≤ entry) (λ r. (r.0 ≡ unit) × (r.1 ≡ 0) × (entry < r.0)) }
 {
     if entry < UNIT { Some((UNIT, 0)) } else { None }
-}
-
-/// Whether no state's down value is above its entry.
-pub fn settled(question: &Question, table: &[u64]) -> bool
-    requires length { length table.now ≡ states question.now }
-    requires units { All (λ v. v ≤ unit) table.now }
-    ensures { IsTrue result ↔ IsSettled question.now (slice_index table.now) }
-{
-    for state in 0..question.game().states() {
-        if raised_state(question, state, table).is_some() {
-            return false;
-        }
-    }
-    true
 }

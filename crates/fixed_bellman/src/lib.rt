@@ -4,7 +4,7 @@
 //! [`down_state`] and [`up_state`] are a step at one state, [`down_choice`] and [`up_choice`] the value of
 //! one choice. Iteration wants less: [`raised_state`] is the down step where it is above the entry of its
 //! table. It compares before it divides, so a state that does not rise costs a sum and a comparison for a
-//! choice, and no division. [`settled`] says that no state rises. [`step_above`] is the kernel of down steps, over
+//! choice, and no division. [`settled`] says that no state rises, and never divides. [`step_above`] is the kernel of down steps, over
 //! values that may rise while they are read ([`Values`]): a table, or words that are shared. [`step_bounds`] is the
 //! step of lower and upper bounds that lie side by side ([`Bounds`]). No call takes memory.
 #![tactic(auto)]
@@ -15,6 +15,7 @@ mod bounds;
 mod choice;
 mod down;
 mod quotient;
+mod settling;
 mod sum;
 mod up;
 mod values;
@@ -22,7 +23,8 @@ mod values;
 pub use above::step_above;
 pub use bounds::{Bounds, step_bounds};
 pub use choice::{down_choice, up_choice};
-pub use down::{down_state, raised_state, settled};
+pub use down::{down_state, raised_state};
 pub use quotient::Quotient;
+pub use settling::settled;
 pub use up::up_state;
 pub use values::{Entries, Values};

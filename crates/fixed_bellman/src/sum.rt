@@ -1,8 +1,7 @@
 //! The weighted sum of a choice, by the width that its total needs.
 
-ghost use Rattle.std.specs.Prelude.{◌≡◌, ℕ, ◌*◌, ◌^◌, ◌<◌, ◌≤◌, length, slice_index, All};
-ghost use Rattle.game_model.specs.Game.{choices_of, choice_of};
-ghost use Rattle.game_model.specs.Query.{states};
+ghost use Rattle.std.specs.Prelude.{◌≡◌, ◌*◌, ◌^◌, ◌<◌, ◌≤◌, length, slice_index, All};
+ghost use Rattle.game_model.specs.Game.{choice_in};
 ghost use Rattle.game_model.specs.Limits.{unit, total_bound};
 ghost use Rattle.game_model.specs.Rounded.{down_value, up_value};
 ghost use Rattle.fixed_bellman.specs.Quotients.{rounded_down, rounded_up, IsBetween};
@@ -10,58 +9,56 @@ ghost use Rattle.fixed_bellman.specs.Sums.{edges_of, weight_of_all, IsSumBetween
 
 use crate::quotient::{MOST_NARROW, Quotient};
 use crate::values::{Entries, Values};
-use game_model::{Game, Question};
+use game_model::Row;
 
-/// The value of a choice over values that may rise while they are read, before it is rounded.
+/// The value of a choice of a row over values that may rise while they are read, before it is rounded.
 #[inline(always)]
-pub fn quotient<V: Values>(
-    question: &Question,
-    values: &V,
-    pass: &mut V::Pass,
-    state: u32,
-    choice: u32,
-) -> Quotient
-    requires fits { (s : ℕ) → s < states question.now → V.fits values.now pass.old s }
-    requires state { state < states question.now }
-    requires choice { choice < length (choices_of question.now.game state) }
+pub fn quotient<V: Values>(row: &Row<'_>, choice: u32, values: &V, pass: &mut V::Pass) -> Quotient
+    requires choice { choice < length row.now }
+    requires fits { All (λ e. V.fits values.now pass.old e.to) (choice_in row.now choice).edges }
     ensures onward { V.onward values.now pass.old pass.new }
-    ensures between { IsBetween result (V.seen values.now pass.old) (V.seen values.now pass.new) (choice_of question.now.game state choice) }
+    ensures between { IsBetween result (V.seen values.now pass.old) (V.seen values.now pass.new) (choice_in row.now choice) }
 {
-    question.known();
-    let game = question.game();
-    let total = game.total(state, choice);
-    let sum = sum_of(game, state, choice, values, pass);
+    row.known();
+    let total = row.total(choice);
+    let sum = sum_of(row, choice, total, values, pass);
     Quotient::new(sum, total)
 }
 
-/// The value of a choice over a table, before it is rounded.
-pub fn table_quotient(question: &Question, state: u32, choice: u32, table: &[u64]) -> Quotient
-    requires state { state < states question.now }
-    requires choice { choice < length (choices_of question.now.game state) }
-    requires length { length table.now ≡ states question.now }
+/// The value of a choice of a row over a table, before it is rounded.
+#[inline(always)]
+pub fn table_quotient(row: &Row<'_>, choice: u32, table: &[u64]) -> Quotient
+    requires choice { choice < length row.now }
+    requires inside { All (λ e. e.to < length table.now) (choice_in row.now choice).edges }
     requires units { All (λ v. v ≤ unit) table.now }
-    ensures down { rounded_down result ≡ down_value (slice_index table.now) (choice_of question.now.game state choice) }
-    ensures up { rounded_up result ≡ up_value (slice_index table.now) (choice_of question.now.game state choice) }
+    ensures down { rounded_down result ≡ down_value (slice_index table.now) (choice_in row.now choice) }
+    ensures up { rounded_up result ≡ up_value (slice_index table.now) (choice_in row.now choice) }
 {
     let entries = Entries::new(table);
-    quotient(question, &entries, &mut (), state, choice)
+    quotient(row, choice, &entries, &mut ())
 }
 
 /// The weighted sum of a choice, in the least width that its total allows.
-fn sum_of<V: Values>(game: &Game, state: u32, choice: u32, values: &V, pass: &mut V::Pass) -> u128
-    requires state { state < length game.now }
-    requires choice { choice < length (choices_of game.now state) }
-    requires fits { (s : ℕ) → s < length game.now → V.fits values.now pass.old s }
+#[inline(always)]
+fn sum_of<V: Values>(
+    row: &Row<'_>,
+    choice: u32,
+    total: u128,
+    values: &V,
+    pass: &mut V::Pass,
+) -> u128
+    requires choice { choice < length row.now }
+    requires total { total ≡ (choice_in row.now choice).total }
+    requires fits { All (λ e. V.fits values.now pass.old e.to) (choice_in row.now choice).edges }
     ensures onward { V.onward values.now pass.old pass.new }
-    ensures sum { IsSumBetween (choice_of game.now state choice).edges (V.seen values.now pass.old) (V.seen values.now pass.new) result }
+    ensures sum { IsSumBetween (choice_in row.now choice).edges (V.seen values.now pass.old) (V.seen values.now pass.new) result }
 {
-    game.known();
-    let total = game.total(state, choice);
+    row.known();
     if total >= 18_446_744_073_709_551_616 {
-        return wide_sum(game, state, choice, values, pass);
+        return wide_sum(&row.again(), choice, values, pass);
     }
-    let successors = game.successors(state, choice);
-    let weights = game.narrow_weights(state, choice);
+    let successors = row.successors(choice);
+    let weights = row.narrow_weights(choice);
     if total <= MOST_NARROW {
         return u128::from(narrow_sum(successors, weights, values, pass));
     }
@@ -105,17 +102,16 @@ fn middle_sum<V: Values>(
 
 /// The weighted sum of a choice of any total.
 #[inline(never)]
-fn wide_sum<V: Values>(game: &Game, state: u32, choice: u32, values: &V, pass: &mut V::Pass) -> u128
-    requires state { state < length game.now }
-    requires choice { choice < length (choices_of game.now state) }
-    requires fits { (s : ℕ) → s < length game.now → V.fits values.now pass.old s }
+fn wide_sum<V: Values>(row: &Row<'_>, choice: u32, values: &V, pass: &mut V::Pass) -> u128
+    requires choice { choice < length row.now }
+    requires fits { All (λ e. V.fits values.now pass.old e.to) (choice_in row.now choice).edges }
     ensures onward { V.onward values.now pass.old pass.new }
-    ensures sum { IsSumBetween (choice_of game.now state choice).edges (V.seen values.now pass.old) (V.seen values.now pass.new) result }
+    ensures sum { IsSumBetween (choice_in row.now choice).edges (V.seen values.now pass.old) (V.seen values.now pass.new) result }
 {
-    game.known();
+    row.known();
     let mut sum: u128 = 0;
-    for place in 0..game.edge_count(state, choice) {
-        let edge = game.edge(state, choice, place);
+    for place in 0..row.edge_count(choice) {
+        let edge = row.edge(choice, place);
         sum += edge.weight * u128::from(values.value(pass, edge.to));
     }
     sum

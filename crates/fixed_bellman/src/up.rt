@@ -18,9 +18,11 @@ fn greatest_up(question: &Question, state: u32, table: &[u64]) -> u64
     ensures value { result ≡ optimum Side.Max (up_value (slice_index table.now)) (choices_of question.now.game state) }
     ensures units { result ≤ unit }
 {
+    question.known();
+    let row = question.row(state);
     let mut best = 0;
-    for choice in 0..question.game().choices_of(state) {
-        let given = table_quotient(question, state, choice, table);
+    for choice in 0..row.choices() {
+        let given = table_quotient(&row, choice, table);
         if given.up_above(best) {
             best = given.up();
         }
@@ -37,9 +39,10 @@ fn least_up(question: &Question, state: u32, table: &[u64]) -> u64
     ensures units { result ≤ unit }
 {
     question.known();
+    let row = question.row(state);
     let mut best = UNIT;
-    for choice in 0..question.game().choices_of(state) {
-        let given = table_quotient(question, state, choice, table);
+    for choice in 0..row.choices() {
+        let given = table_quotient(&row, choice, table);
         if given.up_below(best) {
             best = given.up();
         }
