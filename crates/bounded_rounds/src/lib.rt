@@ -4,7 +4,7 @@
 //! [`bounded`] gives the k-fold down step and the k-fold up step of the table. These are the same numbers for every number
 //! of workers and every schedule: each step reads one table of bounds and writes another, and each entry has one
 //! writer. [`laws`] says how near they are to the exact values. Nothing is said of which worker runs when, nor that two of
-//! them run at once.
+//! them run at once. [`bounded_values`] starts from the table that iteration opens with.
 #![tactic(auto)]
 
 mod fork;
@@ -15,6 +15,8 @@ mod sweep;
 mod tables;
 #[cfg(test)]
 mod tests;
+mod values;
 
 pub use limits::{MOST_STEPS, MOST_WORKERS};
 pub use sweep::{Sweep, bounded};
+pub use values::bounded_values;

@@ -3,7 +3,7 @@
 ghost use Rattle.std.specs.Prelude.{◌≡◌, ◌≤◌, [], ◌∷◌, length, All, IfOk};
 ghost use Rattle.game_model.specs.Limits.{unit, most_states};
 
-use crate::{MOST_STEPS, bounded};
+use crate::{MOST_STEPS, bounded, bounded_values};
 use game_model::{Choice, Game, Question, Side, UNIT};
 use game_outside::{HoldGate, OpenGate, OutOfMemory};
 use sample_games::{all_of, coin_loop, four_states, none_of, only, pair};
@@ -24,7 +24,6 @@ fn the_coin_loop_step_by_step(rt: HostRuntime) -> Result<(), Fail> {
     let alloc = rt.alloc();
     let game = coin_loop(alloc)?;
     let question = coin_question(alloc, &game)?;
-    let opening = [0, UNIT, 0];
     for (steps, lower, upper) in [
         (0, 0, 0),
         (1, 250_000_000_000_000, 250_000_000_000_000),
@@ -34,15 +33,7 @@ fn the_coin_loop_step_by_step(rt: HostRuntime) -> Result<(), Fail> {
         (MOST_STEPS, 499_999_999_999_999, 500_000_000_000_000),
     ] {
         for workers in [1, 2, 3, 64] {
-            let found = bounded(
-                &rt,
-                alloc,
-                &question,
-                &opening,
-                steps,
-                workers,
-                &OpenGate {},
-            )?;
+            let found = bounded_values(&rt, alloc, &question, steps, workers, &OpenGate {})?;
             assert_eq!(rt;
                 found.lower.as_slice(),
                 [lower, UNIT, 0].as_slice(),
