@@ -10,7 +10,8 @@ use Rattle.verdicts.specs.declared.verdict.Verdict.{Verdict}
 use Rattle.verdicts.specs.declared.verdict.Verdict.TheVariants.{Yes, No, Undecided, Bracket}
 use Rattle.formula_sets.specs.Posing.{Model}
 use Rattle.nested_truth.specs.Truth.{Told, IsTruth, states, holds}
-use Rattle.nested_truth.specs.Bands.{Bands, Known, known, negated, both, either, is_yes, is_no, verdict_at}
+use Rattle.nested_truth.specs.Bands.{Bands, Known, known, negated, both, either, verdict_at}
+use Rattle.verdicts.specs.Verdict.{is_yes, is_no}
 use Rattle.nested_truth.specs.Runs.{AreFound}
 use Rattle.nested_truth.specs.Sound.{IsAround, IsRightOf}
 use Rattle.nested_truth.proofs.Widened.{negated-around}

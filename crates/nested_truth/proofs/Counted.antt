@@ -9,7 +9,8 @@ use Rattle.rpatl_syntax.specs.declared.formula.Bound.{Bound}
 use Rattle.rpatl_syntax.specs.Formula.{State, True, False, Label, Not, And, Or, Implies, Inner, formulas_in}
 use Rattle.formula_sets.specs.Posing.{at_states}
 use Rattle.formula_sets.proofs.Asking.{pushed-more}
-use Rattle.nested_truth.specs.Bands.{Band, Bands, is_undecided, verdict_at, judgement, undecided_at, undecided_in}
+use Rattle.nested_truth.specs.Bands.{Band, Bands, verdict_at, judgement, undecided_at, undecided_in}
+use Rattle.verdicts.specs.Verdict.{is_undecided}
 use Rattle.nested_truth.proofs.Marks.{range_with_len-more}
 
 -- 1. One state more.

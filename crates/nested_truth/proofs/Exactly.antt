@@ -20,9 +20,9 @@ use Rattle.bounded_rounds.proofs.Parts.{IsSweep-same}
 use Rattle.verdicts.specs.declared.report.How.{How}
 use Rattle.verdicts.specs.declared.verdict.Verdict.{Verdict}
 use Rattle.verdicts.specs.declared.verdict.Verdict.TheVariants.{Yes, No, Undecided, Bracket}
-use Rattle.verdicts.specs.Verdict.{verdict_by, verdict_of}
+use Rattle.verdicts.specs.Verdict.{verdict_by, verdict_of, is_yes, is_no, is_undecided}
 use Rattle.nested_truth.specs.Truth.{states, everywhere}
-use Rattle.nested_truth.specs.Bands.{Band, Bands, Known, exactly, negated, surely, possibly, is_yes, is_no, is_undecided, verdict_at, undecided_in}
+use Rattle.nested_truth.specs.Bands.{Band, Bands, Known, exactly, negated, surely, possibly, verdict_at, undecided_in}
 use Rattle.nested_truth.specs.Runs.{AreRaced, AreSwept, AreFoundBy, pessimistic, optimistic, units_at}
 use Rattle.nested_truth.specs.Seen.{AreAlike}
 use Rattle.nested_truth.specs.Sound.{IsAround}

@@ -13,7 +13,8 @@ use Rattle.verdicts.specs.declared.verdict.Verdict.{Verdict}
 use Rattle.verdicts.specs.declared.verdict.Verdict.TheVariants.{Yes, No, Undecided, Bracket}
 use Rattle.formula_sets.specs.Posing.{Model}
 use Rattle.nested_truth.specs.Truth.{states}
-use Rattle.nested_truth.specs.Bands.{Band, Bands, known, surely, possibly, is_yes, is_no, is_undecided, verdict_at, undecided_in}
+use Rattle.nested_truth.specs.Bands.{Band, Bands, known, surely, possibly, verdict_at, undecided_in}
+use Rattle.verdicts.specs.Verdict.{is_yes, is_no, is_undecided}
 use Rattle.nested_truth.specs.Runs.{AreFound, AreFoundBy}
 use Rattle.nested_truth.specs.Coarse.{AreCoarse, AreCoarseBy, IsFiner, IsOpenWithin, AreOpenWithin, IsCoarse, AreWithin}
 use Rattle.nested_truth.proofs.Around.{and-on, or-on, threshold-share}

@@ -7,8 +7,7 @@ use Rattle.game_model.specs.Limits.{unit}
 use Rattle.rpatl_syntax.specs.declared.formula.Bound.{Bound}
 use Rattle.rpatl_syntax.specs.declared.formula.Bound.TheVariants.{AtLeast, Above, AtMost, Below, AskMax, AskMin}
 use Rattle.verdicts.specs.declared.verdict.Verdict.{Verdict}
-use Rattle.verdicts.specs.Verdict.{reaches, exceeds, verdict_by, verdict_of, is_settling}
-use Rattle.nested_truth.specs.Bands.{is_yes, is_no, is_undecided}
+use Rattle.verdicts.specs.Verdict.{reaches, exceeds, verdict_by, verdict_of, is_settling, is_yes, is_no, is_undecided}
 
 -- what a verdict says another one says, which is undecided only where it is
 pub record IsSharper (coarse fine : Verdict) : Type 0 where

@@ -4,8 +4,6 @@ use Rattle.std.specs.Prelude.{All}
 use Rattle.std.specs.Bool.{if◌then◌else◌}
 use Rattle.std.proofs.lemmas.List.Elements.{All-from_get_or}
 use Rattle.game_model.specs.Limits.{unit}
-use Rattle.game_model.specs.Query.{Query, is_goal}
-use Rattle.game_model.specs.Rounded.{opening}
 use Rattle.formula_sets.specs.Posing.{at_states}
 use Rattle.formula_sets.proofs.Asking.{at_states-at, length-at_states}
 use Rattle.nested_truth.specs.Runs.{units_at}
@@ -25,9 +23,6 @@ filled-units value n xs is units =
 unit-or-none : (holds : Bool) → (if holds then unit else 0) ≤ unit
 unit-or-none true = let at : unit ≤ unit = omega arith in at
 unit-or-none false = let at : 0 ≤ unit = omega arith in at
-
-pub opening-units : (q : Query) (s : ℕ) → opening q s ≤ unit
-opening-units q s = unit-or-none (is_goal q s)
 
 pub units_at-units : (holds : ℕ → Bool) (s : ℕ) → units_at holds s ≤ unit
 units_at-units holds s = unit-or-none (holds s)

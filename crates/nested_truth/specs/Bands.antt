@@ -4,9 +4,8 @@ use Rattle.std.specs.List.{range_with_len}
 use Rattle.label_reader.specs.Labels.{Labelling, holds_at}
 use Rattle.rpatl_syntax.specs.declared.formula.Bound.{Bound}
 use Rattle.rpatl_syntax.specs.Formula.{State, True, False, Label, Not, And, Or, Implies, Inner}
-use Rattle.verdicts.specs.Verdict.{verdict_of}
+use Rattle.verdicts.specs.Verdict.{verdict_of, is_yes, is_no, is_undecided}
 use Rattle.verdicts.specs.declared.verdict.Verdict.{Verdict}
-use Rattle.verdicts.specs.declared.verdict.Verdict.TheVariants.{Yes, No, Undecided, Bracket}
 
 -- a lower and an upper bound for each state, in units
 pub record Band : Type 0 where
@@ -27,24 +26,6 @@ Bands (Inner team bound kind left right) = Band × Bands left × Bands right
 -- what a band says of a bound at a state
 abbrev pub verdict_at : Bound → Band → ℕ → Verdict
 verdict_at bound band s = verdict_of bound (slice_index band.lower s) (slice_index band.upper s)
-
-abbrev pub is_yes : Verdict → Bool
-is_yes Yes = true
-is_yes No = false
-is_yes Undecided = false
-is_yes Bracket = false
-
-abbrev pub is_no : Verdict → Bool
-is_no Yes = false
-is_no No = true
-is_no Undecided = false
-is_no Bracket = false
-
-abbrev pub is_undecided : Verdict → Bool
-is_undecided Yes = false
-is_undecided No = false
-is_undecided Undecided = true
-is_undecided Bracket = false
 
 -- where a state formula surely holds, and where it possibly does
 pub record Known : Type 0 where

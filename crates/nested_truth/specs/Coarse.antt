@@ -11,9 +11,9 @@ use Rattle.rpatl_syntax.specs.Dual.{dual_of}
 use Rattle.rpatl_syntax.specs.Formula.{State, True, False, Label, Not, And, Or, Implies, Inner, Tree}
 use Rattle.formula_sets.specs.Posing.{Model, next_question_of}
 use Rattle.verdicts.specs.declared.report.How.{How}
-use Rattle.verdicts.specs.Verdict.{is_asking}
+use Rattle.verdicts.specs.Verdict.{is_asking, is_undecided}
 use Rattle.nested_truth.specs.Truth.{states, everywhere}
-use Rattle.nested_truth.specs.Bands.{Band, Bands, Known, known, exactly, negated, is_undecided, verdict_at}
+use Rattle.nested_truth.specs.Bands.{Band, Bands, Known, known, exactly, negated, verdict_at}
 use Rattle.nested_truth.specs.Runs.{AreSwept, pessimistic, optimistic, units_at, mirrored}
 
 -- The lower bounds are so many down steps of one question, and the upper ones the unit less as many of the swapped other question.

@@ -1,14 +1,14 @@
 //! What bounds say of a formula inside.
 
 ghost use Rattle.std.specs.Prelude.{◌≡◌, IfOk, length};
-ghost use Rattle.nested_truth.specs.Bands.{is_no, is_undecided, is_yes, judgement, undecided_at};
+ghost use Rattle.nested_truth.specs.Bands.{judgement, undecided_at};
 ghost use Rattle.nested_truth.specs.Seen.{AreAlike, IsBand, band_in, seen};
 
 use crate::bounds::Bounds;
 use crate::known::KnownSets;
 use rpatl_syntax::Bound;
 use std::alloc::{AllocError, Global};
-use verdicts::{Verdict, settle};
+use verdicts::settle;
 
 /// What is known of a state formula, and what was left open inside it.
 #[derive(Drop)]
@@ -99,27 +99,9 @@ pub fn judged_by(
     for state in 0..states {
         let place = state as usize;
         let verdict = settle(bound, bounds.lower[place], bounds.upper[place]);
-        sure.push(is_yes(verdict))?;
-        possible.push(!is_no(verdict))?;
-        undecided += u32::from(is_undecided(verdict));
+        sure.push(verdict.is_yes())?;
+        possible.push(!verdict.is_no())?;
+        undecided += u32::from(verdict.is_undecided());
     }
     Ok((KnownSets { sure, possible }, undecided))
-}
-
-fn is_yes(verdict: Verdict) -> bool
-    ensures { result ≡ is_yes verdict }
-{
-    matches!(verdict, Verdict::Yes)
-}
-
-fn is_no(verdict: Verdict) -> bool
-    ensures { result ≡ is_no verdict }
-{
-    matches!(verdict, Verdict::No)
-}
-
-fn is_undecided(verdict: Verdict) -> bool
-    ensures { result ≡ is_undecided verdict }
-{
-    matches!(verdict, Verdict::Undecided)
 }

@@ -15,7 +15,7 @@ use crate::bounds::Bounds;
 use crate::known::{KnownSets, are_equal};
 use crate::questions::{Questions, next_question};
 use crate::setting::Setting;
-use bounded_rounds::{Sweep, bounded};
+use bounded_rounds::{Sweep, bounded, bounded_values};
 use game_model::{Question, UNIT};
 use game_outside::{Gate, OutOfMemory};
 use rpatl_syntax::Formula;
@@ -41,11 +41,11 @@ pub fn sweep<R: Threads + Sync, G: Gate + Sync>(
 {
     let workers = setting.workers;
     let how = How::Steps(steps);
-    let Sweep { lower, upper } = steps_of(rt, alloc, &questions.low, steps, workers, gate)?;
+    let Sweep { lower, upper } = bounded_values(rt, alloc, &questions.low, steps, workers, gate)?;
     match &questions.high {
         None => Ok(Bounds { lower, upper, how }),
         Some(high) => {
-            let upper = steps_of(rt, alloc, high, steps, workers, gate)?.upper;
+            let upper = bounded_values(rt, alloc, high, steps, workers, gate)?.upper;
             Ok(Bounds { lower, upper, how })
         }
     }
@@ -75,25 +75,6 @@ pub fn next_sweep<R: Threads + Sync, G: Gate + Sync>(
     Ok(Bounds { lower, upper, how })
 }
 
-// So many steps from the table that iteration opens with.
-fn steps_of<R: Threads + Sync, G: Gate + Sync>(
-    rt: &R,
-    alloc: Global,
-    question: &Question<'_>,
-    steps: u32,
-    workers: u32,
-    gate: &G,
-) -> Result<Sweep, OutOfMemory>
-    requires steps { steps ≤ most_steps }
-    requires workers { (1 ≤ workers) × (workers ≤ most_workers) }
-    ensures sweep { IfOk result (λ sweep. IsSweep question.now (opening question.now) steps sweep.lower.items sweep.upper.items) }
-    ensures units { IfOk result (λ sweep. All (λ v. v ≤ unit) sweep.lower.items × All (λ v. v ≤ unit) sweep.upper.items) }
-{
-    question.known();
-    let table = opening_of(alloc, question)?;
-    bounded(rt, alloc, question, &table, steps, workers, gate)
-}
-
 // One step from the unit at the marked states, and 0 elsewhere.
 fn next_step<R: Threads + Sync, G: Gate + Sync>(
     rt: &R,
@@ -111,19 +92,6 @@ fn next_step<R: Threads + Sync, G: Gate + Sync>(
     question.known();
     let table = units_of(alloc, marks)?;
     bounded(rt, alloc, question, &table, 1, workers, gate)
-}
-
-// The table that iteration opens with.
-fn opening_of(alloc: Global, question: &Question<'_>) -> Result<Vec<u64>, AllocError>
-    ensures { IfOk result (λ table. table.items ≡ at_states (opening question.now) (states question.now)) }
-{
-    question.known();
-    let states = question.game().states();
-    let mut table = Vec::with_capacity(alloc, states as usize)?;
-    for state in 0..states {
-        table.push(units_if(question.is_goal(state)))?;
-    }
-    Ok(table)
 }
 
 // The unit at the marked states, and 0 elsewhere.

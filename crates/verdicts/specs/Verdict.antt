@@ -28,6 +28,25 @@ verdict_of (Below p) lower upper = verdict_by (not (reaches p upper)) (reaches p
 verdict_of AskMax lower upper = Bracket
 verdict_of AskMin lower upper = Bracket
 
+-- a verdict of this kind
+abbrev pub is_yes : Verdict → Bool
+is_yes Yes = true
+is_yes No = false
+is_yes Undecided = false
+is_yes Bracket = false
+
+abbrev pub is_no : Verdict → Bool
+is_no Yes = false
+is_no No = true
+is_no Undecided = false
+is_no Bracket = false
+
+abbrev pub is_undecided : Verdict → Bool
+is_undecided Yes = false
+is_undecided No = false
+is_undecided Undecided = true
+is_undecided Bracket = false
+
 -- the threshold is settled, one way or the other
 abbrev pub is_settling : Verdict → Bool
 is_settling Yes = true

@@ -22,7 +22,28 @@ pub enum Verdict {
 }
 
 impl Verdict {
-    ghost use Rattle.verdicts.specs.Verdict.{is_settling};
+    ghost use Rattle.verdicts.specs.Verdict.{is_yes, is_no, is_undecided, is_settling};
+
+    /// Whether the bound holds.
+    pub fn is_yes(self) -> bool
+        ensures { result ≡ is_yes self }
+    {
+        matches!(self, Verdict::Yes)
+    }
+
+    /// Whether the bound fails.
+    pub fn is_no(self) -> bool
+        ensures { result ≡ is_no self }
+    {
+        matches!(self, Verdict::No)
+    }
+
+    /// Whether a threshold is left open.
+    pub fn is_undecided(self) -> bool
+        ensures { result ≡ is_undecided self }
+    {
+        matches!(self, Verdict::Undecided)
+    }
 
     /// Whether a threshold is settled, one way or the other.
     pub fn is_settling(self) -> bool
