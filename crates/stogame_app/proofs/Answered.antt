@@ -19,8 +19,8 @@ use Rattle.asked_files.specs.Loading.{IsTooLong, LoadingLeaves, Loads, ReadsNoth
 use Rattle.asked_files.specs.Posed.{Reading, posed, reading_said}
 use Rattle.asked_files.specs.Asks.{Asks}
 use Rattle.asked_files.specs.Questions.{LacksText, PosesIt, Reads, ReadsAs, RefusesCertificate, RefusesQuestion}
-use Rattle.stogame_app.specs.declared.answer.Answer.{Answer}
-use Rattle.stogame_app.specs.Status.{IsAnswer}
+use Rattle.run_answers.specs.declared.answer.Answer.{Answer}
+use Rattle.run_answers.specs.Status.{IsAnswer}
 use Rattle.stogame_app.specs.Commands.{IsMissing, IsReportOf, ReadsFiles, RefusesIt, check_paths}
 use Rattle.stogame_app.specs.Answers.{IsAnswered}
 

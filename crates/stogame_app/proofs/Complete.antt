@@ -20,9 +20,9 @@ use Rattle.asked_files.specs.Sources.{Sources, sources_of, WhereTold}
 use Rattle.asked_files.specs.Posed.{posed, problem_said, reading_said}
 use Rattle.asked_files.specs.Asks.{IsText, Asks}
 use Rattle.asked_files.specs.Questions.{PosesIt, RefusesQuestion, RefusesCertificate}
-use Rattle.stogame_app.specs.declared.status.Status.{Status}
-use Rattle.stogame_app.specs.declared.status.Status.TheVariants.{Fine, SomeFalse, SomeUndecided, Usage, ModelRefused, ReadFault, WriteFault, OutOfMemory, CertificateRefused}
-use Rattle.stogame_app.specs.Status.{IsAnswer}
+use Rattle.run_answers.specs.declared.status.Status.{Status}
+use Rattle.run_answers.specs.declared.status.Status.TheVariants.{Fine, SomeFalse, SomeUndecided, Usage, ModelRefused, ReadFault, WriteFault, OutOfMemory, CertificateRefused}
+use Rattle.run_answers.specs.Status.{IsAnswer}
 use Rattle.stogame_app.specs.Commands.{IsAcceptedOf, IsMissing, RefusesBehind, RefusesIt, check_paths}
 use Rattle.stogame_app.specs.Run.{AsksShelf, IsAcceptedOfWords, IsEnding, IsMissingOfWords, RefusesWords}
 

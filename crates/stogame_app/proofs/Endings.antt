@@ -11,10 +11,11 @@ use Rattle.run_refusals.specs.Refusals.{refusal_text}
 use Rattle.asked_files.specs.declared.load.End.{End}
 use Rattle.asked_files.specs.declared.load.End.TheVariants as end
 use Rattle.asked_files.specs.Loading.{Takes}
-use Rattle.stogame_app.specs.declared.answer.Answer.{Answer}
-use Rattle.stogame_app.specs.declared.status.Status.{Status}
-use Rattle.stogame_app.specs.declared.status.Status.TheVariants.{Fine, SomeFalse, SomeUndecided, Usage, ModelRefused, ReadFault, WriteFault, OutOfMemory, CertificateRefused}
-use Rattle.stogame_app.specs.Status.{IsAnswer, IsRefusal, refused_status}
+use Rattle.run_answers.specs.declared.answer.Answer.{Answer}
+use Rattle.run_answers.specs.declared.status.Status.{Status}
+use Rattle.run_answers.specs.declared.status.Status.TheVariants.{Fine, SomeFalse, SomeUndecided, Usage, ModelRefused, ReadFault, WriteFault, OutOfMemory, CertificateRefused}
+use Rattle.stogame_app.specs.Status.{IsRefusal, refused_status}
+use Rattle.run_answers.specs.Status.{IsAnswer}
 use Rattle.stogame_app.specs.Commands.{ReadsFiles, RefusesIt}
 use Rattle.stogame_app.specs.Answers.{IsAnswered}
 use Rattle.stogame_app.specs.Run.{AnswersWords, AsksShelf, IsEnding, IsLong, IsOutput, IsRefusalOfWords, IsReportOfWords, RefusesWords, Writes}

@@ -7,8 +7,8 @@ use Rattle.asked_files.specs.declared.load.End.{End}
 use Rattle.asked_files.specs.declared.load.End.TheVariants.{ReadFault, Refused}
 use Rattle.asked_files.specs.Loading.{RefusesCaused, Takes}
 use Rattle.asked_files.specs.Sources.{WhereTold}
-use Rattle.stogame_app.specs.declared.answer.Answer.{Answer}
-use Rattle.stogame_app.specs.Status.{IsAnswer}
+use Rattle.run_answers.specs.declared.answer.Answer.{Answer}
+use Rattle.run_answers.specs.Status.{IsAnswer}
 use Rattle.stogame_app.specs.Commands.{IsMissing, IsReportOf, ReadsFiles, RefusesIt}
 
 -- The answer to a command, and what making it does to a shelf.

@@ -1,9 +1,6 @@
 -- What a command is answered: its report, its first refusal, or that a text is not held.
-use Rattle.std.specs.Prelude.{◌≡◌, ◌⊎◌, ◌||◌, ℕ, Bool, List, Option, Some, None, slice_index, if◌then◌else◌}
+use Rattle.std.specs.Prelude.{◌≡◌, ◌⊎◌, ◌||◌, ℕ, Bool, List, Option, Some, None, if◌then◌else◌}
 use Rattle.game_outside.specs.Outside.{Holding}
-use Rattle.game_model.specs.Rounded.{opening}
-use Rattle.game_model.specs.Values.{numerator}
-use Rattle.bounded_rounds.specs.Exact.{next_numerator}
 use Rattle.rpatl_syntax.specs.Formula.{Tree}
 use Rattle.rpatl_syntax.specs.Rules.{Denotes}
 use Rattle.formula_sets.specs.Posing.{Posing}
@@ -13,19 +10,17 @@ use Rattle.command_words.specs.Words.{Asked, Check, Audit, Command, OfCheck, OfA
 use Rattle.run_refusals.specs.declared.refusal.Refusal.{Refusal}
 use Rattle.asked_files.specs.declared.problem.Paths.{Paths}
 use Rattle.asked_files.specs.declared.problem.Paths.TheVariants.{Any, Unbounded, Reaching}
-use Rattle.asked_files.specs.Problems.{Problem, OfUntil, OfWithin, OfNext, OfAlways, OfNested, posing_in}
+use Rattle.asked_files.specs.Problems.{Problem, posing_in}
 use Rattle.asked_files.specs.Said.{NotHeld}
 use Rattle.asked_files.specs.Sources.{HasSource, sources_of}
 use Rattle.asked_files.specs.Posed.{reading_said}
 use Rattle.asked_files.specs.Asks.{IsText, Asks}
 use Rattle.asked_files.specs.Questions.{PosesIt, RefusesQuestion, RefusesCertificate}
-use Rattle.stogame_app.specs.declared.status.Status.{Status}
+use Rattle.run_answers.specs.declared.status.Status.{Status}
 use Rattle.stogame_app.specs.Status.{sure_status}
-use Rattle.stogame_app.specs.Reports.{IsReport}
-use Rattle.stogame_app.specs.Sweeps.{IsSweepReport, opens}
-use Rattle.stogame_app.specs.Nested.{IsNestedReport}
-use Rattle.stogame_app.specs.Audits.{IsAudit}
-use Rattle.stogame_app.specs.Made.{IsMade}
+use Rattle.question_reports.specs.Problems.{IsReportOn}
+use Rattle.question_reports.specs.Audits.{IsAudit}
+use Rattle.drawn_report.specs.Made.{IsMade}
 use Rattle.sure_report.specs.Sure.{IsSure}
 
 -- the numbers of a command have their limits
@@ -47,14 +42,6 @@ abbrev pub check_paths : Check → Paths
 check_paths check = if check.plan || check.traps then Unbounded else Any
 
 -- 1. Reports.
-
--- the answer to a problem, by the kind of its paths
-abbrev pub IsReportOn : Problem → Tree → Check → List ℕ → Status → Type 0
-IsReportOn (OfUntil p) f check text status = IsReport p.question p.initial f check text status
-IsReportOn (OfAlways p) f check text status = IsReport p.question p.initial f check text status
-IsReportOn (OfWithin steps p) f check text status = IsSweepReport p.question (opening p.question) steps (numerator p.question steps) p.initial f text status
-IsReportOn (OfNext p) f check text status = IsSweepReport p.question (slice_index p.opening) 1 (next_numerator p.question (opens p.opening)) p.initial f text status
-IsReportOn (OfNested m initial) f check text status = IsNestedReport m initial f check.rounds text status
 
 -- the report of `check`: of the problem that the texts and the words pose, by the formula that the words spell, with a certificate where one is asked for
 pub record IsReportOfCheck (holding : Option Holding) (check : Check) (text : List ℕ) (status : Status) : Type 0 where

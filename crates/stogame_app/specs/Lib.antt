@@ -1,11 +1,4 @@
 pub mod Answers
-pub mod Audits
 pub mod Commands
-pub mod Made
-pub mod Nested
-pub mod Outputs
-pub mod Printed
-pub mod Reports
 pub mod Run
 pub mod Status
-pub mod Sweeps

@@ -13,9 +13,9 @@ use Rattle.run_refusals.specs.Refusals.{refusal_text, usage_text}
 use Rattle.asked_files.specs.declared.load.End.{End}
 use Rattle.asked_files.specs.declared.load.End.TheVariants as end
 use Rattle.asked_files.specs.Sources.{WhereTold}
-use Rattle.stogame_app.specs.declared.answer.Answer.{Answer}
-use Rattle.stogame_app.specs.declared.status.Status.{Status}
-use Rattle.stogame_app.specs.declared.status.Status.TheVariants.{Fine, SomeFalse, SomeUndecided, Usage, ModelRefused, ReadFault, WriteFault, OutOfMemory, CertificateRefused}
+use Rattle.run_answers.specs.declared.answer.Answer.{Answer}
+use Rattle.run_answers.specs.declared.status.Status.{Status}
+use Rattle.run_answers.specs.declared.status.Status.TheVariants.{Fine, SomeFalse, SomeUndecided, Usage, ModelRefused, ReadFault, WriteFault, OutOfMemory, CertificateRefused}
 use Rattle.stogame_app.specs.Status.{refused_status}
 use Rattle.stogame_app.specs.Commands.{IsAcceptedOf, IsMissing, IsReportOf, ReadsFiles, RefusesIt}
 

@@ -4,17 +4,15 @@ ghost use Rattle.std.specs.Prelude.{◌≡◌, ◌⊎◌, Some, true, map};
 ghost use Rattle.std.specs.String.{string_bytes};
 ghost use Rattle.game_outside.specs.Outside.{Holding, Rose};
 ghost use Rattle.command_words.specs.Words.{command_of};
-ghost use Rattle.stogame_app.specs.Status.{IsAnswer};
+ghost use Rattle.run_answers.specs.Status.{IsAnswer};
 ghost use Rattle.stogame_app.specs.Commands.{IsInRange};
 ghost use Rattle.stogame_app.specs.Answers.{IsAnswered};
 ghost use Rattle.stogame_app.specs.Run.{AsksShelf, IsAcceptedOfWords, IsEnding};
 
-use crate::answer::Answer;
 use crate::audit::answer_audit;
 use crate::check::answer_check;
 use crate::ends::{end_run, end_with_usage};
 use crate::make::answer_make;
-use crate::status::Status;
 use crate::sure::answer_sure;
 use asked_files::End;
 use asked_files::laws::questions_are_what_is_asked;
@@ -22,6 +20,7 @@ use certificate_audit::laws::audits_have_one_answer;
 use command_words::laws::words_denote_one_command;
 use command_words::{CommandWords, read_words};
 use game_outside::{Gate, Shelf, Sink};
+use run_answers::{Answer, Status};
 use std::alloc::Global;
 use std::thread::Threads;
 

@@ -4,21 +4,16 @@
 //! output are in `system_files`. Its contract says what was written, and why, for each status (`ends`), what is asked of the
 //! shelf, and how much is taken from it (`shelf`), that a fault is answered only where its count rose (`shelf`, `write_fault`), and
 //! that the run does not give up by itself (`complete`). What a command is answered stands in `specs/Commands.antt`, and how a run
-//! ends in `specs/Run.antt`.
+//! ends in `specs/Run.antt`. The reports themselves are made in `question_reports`, `sure_report` and `drawn_report`.
 #![tactic(auto)]
 
-mod answer;
 mod audit;
 mod check;
 mod command;
 mod ends;
 pub mod laws;
 mod make;
-mod nested;
-mod reports;
-mod status;
 mod sure;
-mod sweeps;
 
 pub use command::run;
-pub use status::Status;
+pub use run_answers::Status;

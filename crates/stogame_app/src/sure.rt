@@ -2,14 +2,14 @@
 
 ghost use Rattle.std.specs.Prelude.{◌≡◌};
 ghost use Rattle.command_words.specs.Words.{OfSure, asked_of_words};
-ghost use Rattle.stogame_app.specs.Status.{IsAnswer, sure_status};
+ghost use Rattle.stogame_app.specs.Status.{sure_status};
+ghost use Rattle.run_answers.specs.Status.{IsAnswer};
 ghost use Rattle.stogame_app.specs.Answers.{IsAnswered};
 
-use crate::answer::Answer;
-use crate::status::Status;
 use asked_files::{End, Paths, load_model, pose_loaded};
 use command_words::AskedWords;
 use game_outside::Shelf;
+use run_answers::{Answer, Status};
 use std::alloc::Global;
 use sure_report::sure_report;
 

@@ -10,7 +10,7 @@ use Rattle.formula_sets.specs.Seen.{posing_of}
 use Rattle.asked_files.specs.SeenProblems.{problem_of}
 use Rattle.asked_files.specs.Sources.{HasSource}
 use Rattle.stogame_app.proofs.Answered.{audit_asks, more_loaded, reached-inside, reported, uncertified, unloaded, unposed, wanting}
-use Rattle.stogame_app.proofs.AuditedTexts.{accepted_audited}
+use Rattle.question_reports.proofs.AuditedTexts.{accepted_audited}
 use Rattle.stogame_app.proofs.audit.answer_audit.Goals as goal
 
 pub returns-in_err-loaded : goal.returns-in_err-loaded

@@ -4,8 +4,8 @@ use Rattle.command_words.specs.Words.{check_of}
 use Rattle.asked_files.specs.SeenProblems.{problem_of}
 use Rattle.stogame_app.specs.Commands.{check_paths}
 use Rattle.stogame_app.proofs.Answered.{check_asks, reported, unloaded, unposed, wanting}
-use Rattle.stogame_app.proofs.NestedReports.{has-answer}
-use Rattle.stogame_app.proofs.Openings.{has-opening}
+use Rattle.question_reports.proofs.NestedReports.{has-answer}
+use Rattle.question_reports.proofs.Openings.{has-opening}
 use Rattle.stogame_app.proofs.check.answer_check.Goals as goal
 
 pub returns-in_err-loaded : goal.returns-in_err-loaded

@@ -1,4 +1,4 @@
-use Rattle.stogame_app.proofs.ShortOutputs.{printed-short}
+use Rattle.stogame_app.proofs.Saved.{printed-short}
 use Rattle.stogame_app.proofs.laws.printed_certificates_are_short.Goals as goal
 
 pub returns : goal.returns

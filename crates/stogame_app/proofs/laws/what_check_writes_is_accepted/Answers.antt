@@ -1,6 +1,7 @@
 use Rattle.std.proofs.Common.{length}
-use Rattle.stogame_app.proofs.Passing.{AreReadBack, AreCertificates}
-use Rattle.stogame_app.proofs.ShortOutputs.{AreSpellable, saved-accepted}
+use Rattle.run_answers.proofs.Passing.{AreReadBack}
+use Rattle.question_reports.proofs.Accepting.{AreCertificates}
+use Rattle.stogame_app.proofs.Saved.{AreSpellable, saved-accepted}
 use Rattle.stogame_app.proofs.laws.what_check_writes_is_accepted.Goals as goal
 
 pub returns : goal.returns

@@ -1,0 +1,11 @@
+pub mod Accepting
+pub mod Audited
+pub mod AuditedTexts
+pub mod Limits
+pub mod NestedReports
+pub mod Openings
+pub mod Reported
+pub mod Rests
+pub mod ShortReports
+pub mod Shown
+pub mod Swept

@@ -1,0 +1,82 @@
+-- What is reported of a formula with others inside.
+use Rattle.std.proofs.Common.{◌≡◌, ◌<◌, ◌≤◌, ◌^◌, ◌++◌, ℕ, false, List, length, map, All, Result, Ok, Err, arith, refl, sym, subst}
+use Rattle.std.specs.Prelude.{IfOk}
+use Rattle.std.proofs.lemmas.List.Elements.{All-map, All-weaker}
+use Rattle.game_outside.specs.declared.OutOfMemory.{OutOfMemory}
+use Rattle.game_model.specs.Game.{IsGame}
+use Rattle.game_model.specs.Limits.{unit}
+use Rattle.rpatl_syntax.specs.Formula.{Tree, formulas_inside, tree_of}
+use Rattle.rpatl_syntax.specs.Limits.{longest}
+use Rattle.rpatl_syntax.specs.Spellable.{IsSpellable}
+use Rattle.formula_sets.specs.Posing.{Model}
+use Rattle.nested_truth.specs.declared.answer.Nested.{Nested}
+use Rattle.nested_truth.specs.Nested.{IsNested}
+use Rattle.nested_truth.specs.Seen.{band_of}
+use Rattle.verdicts.specs.Report.{HasCount, IsLine, report}
+use Rattle.verdicts.specs.declared.report.ReportLine.{ReportLine}
+use Rattle.asked_files.specs.declared.model.Loaded.{Loaded}
+use Rattle.asked_files.specs.declared.problem.Problem.{Problem}
+use Rattle.asked_files.specs.declared.problem.Problem.TheVariants.{Until, Within, Next, Always, Nested as Nested'}
+use Rattle.asked_files.specs.Posed.{HasSizes}
+use Rattle.asked_files.specs.SeenProblems.{IsOfLoaded}
+use Rattle.question_reports.specs.Nested.{HasAnswer, IsAnswerable, IsNestedReport, inside_text}
+use Rattle.run_answers.specs.Printed.{line_at, verdict_at, status_of}
+use Rattle.run_answers.specs.declared.answer.Answer.{Answer}
+use Rattle.run_answers.specs.declared.status.Status.{Status}
+use Rattle.question_reports.proofs.Limits.{at-most}
+
+-- what was loaded can be answered, where its formula was read from a text
+pub has-answer : (loaded : Loaded) (problem : Problem) → IsOfLoaded loaded problem → HasSizes loaded.game loaded.labels loaded.owners → IsSpellable (tree_of loaded.formula) → formulas_inside (tree_of loaded.formula) ≤ longest
+    → HasAnswer problem (tree_of loaded.formula)
+has-answer loaded (Until posed) of sizes spellable few = tt
+has-answer loaded (Within posed steps) of sizes spellable few = tt
+has-answer loaded (Next posed) of sizes spellable few = tt
+has-answer loaded (Always posed dual) of sizes spellable few = tt
+has-answer loaded (Nested' other initial) of sizes spellable few =
+    subst (λ (l : Loaded). IsAnswerable l initial.items × (tree_of l.formula ≡ tree_of loaded.formula)) (sym of.0) (record { sizes = sizes; spellable = spellable; few = few; named = of.1 }, refl)
+
+-- bounds that were found, with what their types and their game keep
+pub record IsPrinted (m : Model) (found : Nested) : Type 0 where
+  pub game : IsGame m.game
+  pub count : HasCount found.how
+  pub inner : found.inner < 2 ^ 32
+  pub undecided : found.undecided < 2 ^ 32
+  pub inside : All (λ s. s < length m.game) found.initial.items
+  pub lowers : length found.lower.items ≡ length m.game
+  pub uppers : length found.upper.items ≡ length m.game
+  pub lower_units : All (λ v. v ≤ unit) found.lower.items
+  pub upper_units : All (λ v. v ≤ unit) found.upper.items
+
+module _ (m : Model) (f : Tree) (asked : ℕ) (found : Nested) (h : IsPrinted m found) where
+  abbrev line : ℕ → ReportLine
+  line = line_at false f.bound found.how found.lower.items found.upper.items
+
+  line-in_range : (s : ℕ) → s < length m.game → IsLine (line s)
+  line-in_range s within = record {
+    state = omega (arith, within, h.game.few);
+    count = h.count;
+    values = (at-most (λ v. v ≤ unit) found.lower.items s h.lower_units (omega (arith, within, h.lowers)), at-most (λ v. v ≤ unit) found.upper.items s h.upper_units (omega (arith, within, h.uppers)));
+  }
+
+  reported : (initial : List ℕ) (text : List ℕ) (status : Status) → IsNested m f found.initial.items asked (band_of found) found.how found.inner found.undecided → found.initial.items ≡ initial
+      → text ≡ inside_text found.inner found.undecided ++ report (map line found.initial.items) → status ≡ status_of (map (verdict_at false f.bound found.lower.items found.upper.items) found.initial.items)
+      → IsNestedReport m initial f asked text status
+  reported initial text status nested same written ended = subst (λ (xs : List ℕ). IsNestedReport m xs f asked text status) same (record {
+    band = band_of found;
+    how = found.how;
+    inner = found.inner;
+    undecided = found.undecided;
+    nested = nested;
+    written = written;
+    lines = All-map IsLine line found.initial.items (All-weaker (λ s. s < length m.game) (λ s. IsLine (line s)) line-in_range found.initial.items h.inside);
+    counts = (h.inner, h.undecided);
+    ends = ended;
+  })
+
+  -- the same of an answer
+  pub answered-nested : (initial : List ℕ) (result : Result Answer OutOfMemory) → IsNested m f found.initial.items asked (band_of found) found.how found.inner found.undecided → found.initial.items ≡ initial
+      → IfOk result (λ answer. answer.text.items ≡ inside_text found.inner found.undecided ++ report (map line found.initial.items))
+      → IfOk result (λ answer. answer.status ≡ status_of (map (verdict_at false f.bound found.lower.items found.upper.items) found.initial.items))
+      → IfOk result (λ answer. IsNestedReport m initial f asked answer.text.items answer.status)
+  answered-nested initial (Ok answer) nested same written ended = reported initial answer.text.items answer.status nested same written ended
+  answered-nested initial (Err error) nested same written ended = tt

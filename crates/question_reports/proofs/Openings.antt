@@ -1,0 +1,48 @@
+-- The opening table of `X`, from what the formula poses.
+use Rattle.std.proofs.Common.{◌≡◌, ◌<◌, ◌≤◌, ◌∙◌, ℕ, Bool, true, false, cond, List, length, get_or, refl, sym, ap, subst, arith}
+use Rattle.std.specs.Prelude.{◌==◌, All, slice_index}
+use Rattle.std.proofs.lemmas.Grind.{get_or_default_zero}
+use Rattle.game_model.specs.Game.{Distribution}
+use Rattle.game_model.specs.Limits.{unit}
+use Rattle.label_reader.specs.Labels.{Labelling}
+use Rattle.label_reader.specs.Owners.{Ownership}
+use Rattle.rpatl_syntax.specs.Formula.{Tree}
+use Rattle.formula_sets.specs.Truth.{holds}
+use Rattle.formula_sets.specs.Posing.{NextPosing, PosesNext}
+use Rattle.asked_files.specs.declared.problem.Problem.{Problem}
+use Rattle.asked_files.specs.declared.problem.Problem.TheVariants.{Until, Within, Next, Always, Nested}
+use Rattle.asked_files.specs.Problems.{PosesProblem}
+use Rattle.asked_files.specs.SeenProblems.{problem_of}
+use Rattle.question_reports.specs.Sweeps.{HasOpening, IsOpening, opens}
+
+-- the unit or 0, and which of them it is
+opens-at : (held : Bool) (value : ℕ) → value ≡ cond held unit 0 → (value ≤ unit) × (value ≡ cond (value == unit) unit 0)
+opens-at true value is = (omega (arith, is), subst (λ v. v ≡ cond (v == unit) unit 0) (sym is) refl)
+opens-at false value is = (omega (arith, is), subst (λ v. v ≡ cond (v == unit) unit 0) (sym is) refl)
+
+of_next : (game : List (List Distribution)) (l : Labelling) (o : Ownership) (f : Tree) (p : NextPosing) → PosesNext game l o f p → IsOpening p.question p.opening
+of_next game l o f p poses =
+    let same : length p.question.game ≡ length game = ap (λ (g : List (List Distribution)). length g) poses.set_up.game_same in
+    let at : (s : ℕ) → s < length game → (slice_index p.opening s ≤ unit) × (slice_index p.opening s ≡ cond (opens p.opening s) unit 0) = λ s inside. opens-at (holds l f.right s) (slice_index p.opening s) (poses.opening s inside) in
+    record {
+      many = poses.opening_count ∙ sym same;
+      units = units p.opening poses.opening_count at;
+      next = record {
+        goals = λ s inside. poses.goals s (omega (arith, same, inside));
+        deads = λ s inside. poses.deads s (omega (arith, same, inside));
+        opens = λ s inside. (at s (omega (arith, same, inside))).1;
+      };
+    }
+  where
+    units : (opening : List ℕ) → length opening ≡ length game → ((s : ℕ) → s < length game → (slice_index opening s ≤ unit) × (slice_index opening s ≡ cond (opens opening s) unit 0)) → All (λ v. v ≤ unit) opening
+    units opening many at = λ i d there. at-state i d there
+      where
+        at-state : (i d : ℕ) → i < length opening → get_or opening i d ≤ unit
+        at-state i d there = subst (λ v. v ≤ unit) (sym (get_or_default_zero opening i d there)) (at i (omega (arith, many, there))).0
+
+pub has-opening : (game : List (List Distribution)) (l : Labelling) (o : Ownership) (f : Tree) (problem : Problem) → PosesProblem game l o f (problem_of problem) → HasOpening problem
+has-opening game l o f (Until posed) poses = tt
+has-opening game l o f (Within posed steps) poses = tt
+has-opening game l o f (Next posed) (flat, of, poses) = of_next game l o f _ poses
+has-opening game l o f (Always posed dual) poses = tt
+has-opening game l o f (Nested loaded initial) poses = tt

@@ -1,0 +1,92 @@
+-- What is printed of a bracket.
+use Rattle.std.proofs.Common.{◌≤◌, ◌∙◌, ℕ, Bool, List, length, Result, Ok, Err, sym, ap, subst}
+use Rattle.std.specs.Prelude.{All, IfOk, Option, slice_index}
+use Rattle.game_model.specs.Limits.{unit}
+use Rattle.game_model.specs.Query.{Query, IsQuery, states}
+use Rattle.game_model.specs.Rounded.{IsBelow, IsInductive}
+use Rattle.game_model.specs.Bounds.{IsHigh}
+use Rattle.game_model.specs.Ranks.{Ranked, ReachesUnder}
+use Rattle.inductive_check.specs.Replies.{AreReplies, HoldsUnder}
+use Rattle.rpatl_syntax.specs.declared.formula.Bound.{Bound}
+use Rattle.plan_text.specs.declared.plan.Plan.{Plan}
+use Rattle.plan_text.specs.Entries.{HasStates, greatest_rank}
+use Rattle.certificate_audit.specs.Accepted.{Passes, IsSound}
+use Rattle.bracket_engine.specs.declared.bounds.Bracket.{Bracket}
+use Rattle.bracket_engine.specs.Choices.{AreChoices}
+use Rattle.trap_sets.specs.Lowered.{IsLoweredTable}
+use Rattle.bracket_engine.specs.Found.{IsFound}
+use Rattle.question_reports.specs.Reports.{IsShown, IsUpperHeld}
+use Rattle.question_reports.proofs.Limits.{IsPrintable}
+
+-- 1. Upper tables.
+
+-- the one of a bracket
+pub held-found : (q : Query) (zero : List Bool) (bound : Bound) (initial : List ℕ) (asked : ℕ) (found : Bracket) → IsFound q zero bound initial asked found → IsUpperHeld q found.upper.items found.replies.items
+held-found q zero bound initial asked found h = record {
+  as_many = h.bounds.upper_length;
+  replied = h.replies.first.as_many;
+  units = h.bounds.upper_units;
+  inductive = h.bounds.upper_inductive;
+  high = h.bounds.high;
+  good = h.replies.good;
+  holds = h.replies.holds;
+}
+
+-- one that is lowered
+pub held-lowered : {X E : Type 0} (items : X → List ℕ) (q : Query) (upper : List ℕ) (replies : List (Option ℕ)) → IsUpperHeld q upper replies → (result : Result X E)
+    → IfOk result (λ table. IsLoweredTable q replies upper (items table))
+    → IfOk result (λ table. All (λ v. v ≤ unit) (items table))
+    → IfOk result (λ table. IsInductive q (slice_index (items table)))
+    → IfOk result (λ table. IsHigh q (slice_index (items table)))
+    → IfOk result (λ table. AreReplies q (slice_index (items table)) replies)
+    → IfOk result (λ table. HoldsUnder q replies (slice_index (items table)))
+    → IfOk result (λ table. IsUpperHeld q (items table) replies)
+held-lowered items q upper replies h (Ok table) lowered units inductive high good holds = record {
+  as_many = lowered.lowered.many ∙ h.as_many;
+  replied = h.replied;
+  units = units;
+  inductive = inductive;
+  high = high;
+  good = good;
+  holds = holds;
+}
+held-lowered items q upper replies h (Err error) lowered units inductive high good holds = tt
+
+-- 2. Plans.
+
+module _ (q : Query) (zero : List Bool) (bound : Bound) (initial : List ℕ) (asked : ℕ) (traps : Bool) (found : Bracket) (plan : Plan)
+    (h : IsFound q zero bound initial asked found) (shown : IsShown q traps found plan) (held : IsUpperHeld q plan.upper.items plan.replies.items) where
+  pub shown-lists : HasStates plan (states q)
+  shown-lists = record {
+    lower = ap (λ (l : List ℕ). length l) shown.lower ∙ h.lower.as_many;
+    choices = ap (λ (l : List (Option ℕ)). length l) shown.choices ∙ h.choices.as_many;
+    ranks = ap (λ (l : List ℕ). length l) shown.ranks ∙ h.ranks.layered.as_many;
+    upper = held.as_many;
+    replies = held.replied;
+  }
+
+  ranked : Ranked q plan.lower.items plan.choices.items plan.ranks.items
+  ranked = rw (shown.lower, shown.choices, shown.ranks) h.ranks.ranked
+
+  reached : ReachesUnder q plan.choices.items (slice_index plan.lower.items)
+  reached = rw (shown.lower, shown.choices) h.ranks.reached
+
+  pub shown-passes : Passes q plan
+  shown-passes = record { units = held.units; inductive = held.inductive; replies = held.good; ranked = ranked }
+
+  pub shown-sound : IsSound q plan
+  shown-sound = record { high = held.high; held = held.holds; reached = reached }
+
+  pub shown-above : IsBelow q (slice_index found.base.items) (slice_index plan.lower.items)
+  shown-above = rw (shown.lower) h.lower.above
+
+  pub shown-printable : IsQuery q → All (λ r. r ≤ greatest_rank) plan.ranks.items → IsPrintable q plan
+  shown-printable posed fit = record {
+    posed = posed;
+    lists = shown-lists;
+    passes = shown-passes;
+    choices = subst (λ (l : List ℕ). AreChoices q l plan.choices.items) (sym shown.lower) (subst (λ (l : List (Option ℕ)). AreChoices q found.lower.items l) (sym shown.choices) h.choices);
+    table = slice_index found.upper.items;
+    replies = rw (shown.replies) h.replies.first;
+    ranks_fit = fit;
+  }

@@ -1,0 +1,70 @@
+use Rattle.std.proofs.Common.{◌≡◌, ◌≤◌, ◌<◌, ◌^◌, ◌∙◌, ℕ, ap, sym, subst, arith}
+use Rattle.std.specs.Prelude.{slice_index}
+use Rattle.game_model.specs.Bounds.{Reaches}
+use Rattle.game_model.specs.Limits.{unit}
+use Rattle.game_model.specs.Query.{states}
+use Rattle.distributions.proofs.Powers.{pow-pos}
+use Rattle.game_model.specs.Values.{denominator}
+use Rattle.game_model.proofs.Choices.{denominator-pos}
+use Rattle.rpatl_syntax.specs.declared.formula.Bound.{Bound}
+use Rattle.rpatl_syntax.specs.Formula.{Tree, tree_of}
+use Rattle.command_words.specs.Words.{check_of}
+use Rattle.asked_files.specs.Problems.{answered}
+use Rattle.bracket_engine.specs.Bracket.{IsBracket}
+use Rattle.run_answers.specs.Printed.{verdict_by}
+use Rattle.bracket_engine.specs.Found.{IsFound}
+use Rattle.question_reports.proofs.Limits.{plan-units, printed-in_limits}
+use Rattle.question_reports.proofs.Reported.{all-told, all-left_open, reported, verdict-answered, verdict_at}
+use Rattle.question_reports.proofs.Shown.{held-found, shown-lists, shown-passes, shown-sound, shown-above, shown-printable}
+use Rattle.question_reports.proofs.reports.report.Goals as goal
+
+pub shown-requires-clause-held : goal.shown-requires-clause-held
+shown-requires-clause-held g c =
+    held-found c.args.question.now c.in_ok-zero.zero _ c.args.initial.now c.args.check.now.rounds c.in_ok-found.found
+    (record { bounds = c.in_ok-found.ensures.bounds; lower = c.in_ok-found.ensures.lower; choices = c.in_ok-found.ensures.choices; ranks = c.in_ok-found.ensures.ranks; replies = c.in_ok-found.ensures.replies })
+
+pub returns-clause-report : goal.returns-clause-report
+returns-clause-report g c =
+    let q = c.args.question.now in
+    let zero = c.in_ok-zero.zero in
+    let found = c.in_ok-found.found in
+    let plan = c.in_ok-plan.plan in
+    let f = tree_of c.args.formulas.spelled.now in
+    let bound = (answered f).bound in
+    let lower = plan.lower.items in
+    let upper = plan.upper.items in
+    let initial = c.args.initial.now in
+    let check = check_of c.args.check.now in
+    let asked = c.args.check.now.rounds in
+    let P : Bound → Type 0 = λ b. IsBracket q zero b initial asked found.base.items found.upper.items found.rounds found.stable in
+    let is_found : IsFound q zero bound initial asked found = record {
+      bounds = subst P (c.of_bound-stop.ensures.bound ∙ ap (λ (t : Tree). t.bound) c.requires.same) c.in_ok-found.ensures.bounds;
+      lower = c.in_ok-found.ensures.lower;
+      choices = c.in_ok-found.ensures.choices;
+      ranks = c.in_ok-found.ensures.ranks;
+      replies = c.in_ok-found.ensures.replies;
+    } in
+    let shown = c.in_ok-plan.ensures.shown in
+    let held = c.in_ok-plan.ensures.held in
+    let lists = shown-lists q zero bound initial asked check.traps found plan is_found shown held in
+    let passes = shown-passes q zero bound initial asked check.traps found plan is_found shown held in
+    let sound = shown-sound q zero bound initial asked check.traps found plan is_found shown held in
+    let some : 1 ≤ denominator q.game ^ asked = pow-pos (denominator q.game) asked (denominator-pos q.game c.known.ensures.game) in
+    let reached : (s : ℕ) → s < states q → Reaches q (slice_index lower s) unit s = λ s within. c.planned_values_are_reached.ensures q plan.choices.items (slice_index lower) s sound.reached within in
+    let agree : (s : ℕ) → s < states q → verdict_by f lower upper s ≡ verdict_at bound plan s = λ s within.
+    let units = plan-units q plan lists passes s within in verdict-answered c.mirrored_verdicts_are_those_of_the_dual.ensures f c.requires.share (slice_index lower s) (slice_index upper s) units.0 units.1 in
+    let left_open = all-left_open c.undecided_thresholds_are_left_open.ensures.here c.undecided_thresholds_are_left_open.ensures.wider q zero bound initial asked found plan
+    (shown-above q zero bound initial asked check.traps found plan is_found shown held) shown.below some is_found.bounds c.requires.inside in
+    reported (λ answer. answer.text.items) (λ answer. answer.status) q initial f check zero found plan (record {
+      is_zero = c.in_ok-zero.ensures;
+      is_found = is_found;
+      shown = shown;
+      lists = lists;
+      near = rw (shown.lower) c.in_ok-found.ensures.lower.near;
+      sound = sound;
+      passes = passes;
+      limits = printed-in_limits q plan initial found.rounds (shown-printable q zero bound initial asked check.traps found plan is_found shown held c.known.ensures c.make_answer.ensures.ranks) (omega (arith, is_found.bounds.few, c.requires.in_range.few_rounds)) c.requires.inside check.plan f;
+      told = all-told q bound (verdict_by f lower upper) initial (λ s within is. c.verdicts_are_true.ensures.yes q _ _ bound s c.known.ensures (reached s within) sound.high within (sym (agree s within) ∙ is))
+          (λ s within is. c.verdicts_are_true.ensures.no q _ _ bound s c.known.ensures (reached s within) sound.high within (sym (agree s within) ∙ is)) c.requires.inside;
+      left_open = λ i d there undecided. left_open i d there (sym (agree _ (c.requires.inside i d there)) ∙ undecided);
+    }) c.make_answer.result c.make_answer.ensures.text c.make_answer.ensures.status

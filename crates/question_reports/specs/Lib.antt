@@ -1,0 +1,5 @@
+pub mod Audits
+pub mod Nested
+pub mod Problems
+pub mod Reports
+pub mod Sweeps

@@ -1,0 +1,48 @@
+-- The answer to a formula with others inside.
+use Rattle.std.specs.Prelude.{◌≡◌, ◌<◌, ◌≤◌, ◌^◌, ◌++◌, ℕ, false, List, map, codes, All, Ok}
+use Rattle.rpatl_syntax.specs.Formula.{Tree, formulas_inside, tree_of}
+use Rattle.rpatl_syntax.specs.Limits.{longest}
+use Rattle.rpatl_syntax.specs.Spellable.{IsSpellable}
+use Rattle.formula_sets.specs.Posing.{Model, initial_said}
+use Rattle.nested_truth.specs.Bands.{Band}
+use Rattle.nested_truth.specs.Nested.{IsNested}
+use Rattle.run_refusals.specs.Refusals.{numbered}
+use Rattle.verdicts.specs.Report.{IsLine, report}
+use Rattle.verdicts.specs.declared.report.How.{How}
+use Rattle.asked_files.specs.declared.model.Loaded.{Loaded}
+use Rattle.asked_files.specs.declared.problem.Problem.{Problem}
+use Rattle.asked_files.specs.declared.problem.Problem.TheVariants.{Until, Within, Next, Always, Nested}
+use Rattle.asked_files.specs.Posed.{HasSizes}
+use Rattle.run_answers.specs.Printed.{line_at, verdict_at, status_of}
+use Rattle.run_answers.specs.declared.status.Status.{Status}
+
+-- the line `inner I undecided U`: so many formulas stand inside, and so many pairs of one and a state are left undecided
+abbrev pub inside_text : ℕ → ℕ → List ℕ
+inside_text inner undecided = numbered (codes "inner ") inner ++ (numbered (codes " undecided ") undecided ++ codes "\n")
+
+-- The text and the status are the answer: the line about the formulas inside, and a report of bounds that are sound for the exact question. True is true and False is false.
+pub record IsNestedReport (m : Model) (initial : List ℕ) (f : Tree) (asked : ℕ) (text : List ℕ) (status : Status) : Type 0 where
+  pub band : Band
+  pub how : How
+  pub inner : ℕ
+  pub undecided : ℕ
+  pub nested : IsNested m f initial asked band how inner undecided
+  pub written : text ≡ inside_text inner undecided ++ report (map (line_at false f.bound how band.lower band.upper) initial)
+  pub lines : All IsLine (map (line_at false f.bound how band.lower band.upper) initial)
+  pub counts : (inner < 2 ^ 32) × (undecided < 2 ^ 32)
+  pub ends : status ≡ status_of (map (verdict_at false f.bound band.lower band.upper) initial)
+
+-- what was loaded poses the problem of these initial states
+pub record IsAnswerable (loaded : Loaded) (initial : List ℕ) : Type 0 where
+  pub sizes : HasSizes loaded.game loaded.labels loaded.owners
+  pub spellable : IsSpellable (tree_of loaded.formula)
+  pub few : formulas_inside (tree_of loaded.formula) ≤ longest
+  pub named : initial_said loaded.labels loaded.owners (tree_of loaded.formula) ≡ Ok initial
+
+-- the report can be made: of a formula with others inside, what was loaded poses it, and is of this formula
+abbrev pub HasAnswer : Problem → Tree → Type 0
+HasAnswer (Until posed) f = Unit {0}
+HasAnswer (Within posed steps) f = Unit {0}
+HasAnswer (Next posed) f = Unit {0}
+HasAnswer (Always posed dual) f = Unit {0}
+HasAnswer (Nested loaded initial) f = IsAnswerable loaded.now initial.items × (tree_of loaded.now.formula ≡ f)

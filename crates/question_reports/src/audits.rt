@@ -1,0 +1,56 @@
+//! The answer of an audit: a report from a certificate that was accepted.
+
+ghost use Rattle.std.specs.Prelude.{◌<◌, All, IfOk};
+ghost use Rattle.game_model.specs.Query.{states};
+ghost use Rattle.rpatl_syntax.specs.Dual.{IsAtMostOne};
+ghost use Rattle.rpatl_syntax.specs.Formula.{tree_of};
+ghost use Rattle.plan_text.specs.Entries.{HasStates};
+ghost use Rattle.certificate_audit.specs.Accepted.{Passes, IsSound};
+ghost use Rattle.run_answers.specs.Status.{IsAnswer};
+ghost use Rattle.question_reports.specs.Audits.{IsAudited};
+
+use game_model::Question;
+use game_outside::OutOfMemory;
+use plan_text::Plan;
+use rpatl_syntax::Formula;
+use run_answers::{Answer, is_mirrored, report_of};
+use std::alloc::Global;
+use verdicts::How;
+use verdicts::laws::{
+    mirrored_verdicts_are_those_of_the_dual, planned_values_are_reached,
+    undecided_thresholds_are_left_open, verdicts_are_true,
+};
+
+//// One line for each initial state, with the numbers of a certificate that was accepted, and what they say of a formula.
+/// The only error is want of memory.
+pub fn audit_report(
+    alloc: Global,
+    question: &Question,
+    plan: &Plan,
+    formula: &Formula,
+    initial: &[u32],
+) -> Result<Answer, OutOfMemory>
+    requires share { IsAtMostOne formula.now.bound }
+    requires inside { All (λ s. s < states question.now) initial.now }
+    requires lists { HasStates plan.now (states question.now) }
+    requires passes { Passes question.now plan.now }
+    requires sound { IsSound question.now plan.now }
+    ensures audited { IfOk result (λ answer. IsAudited question.now initial.now (tree_of formula.now) plan.now answer.text.items answer.status) }
+    ensures answer { IfOk result (λ answer. IsAnswer answer.status) }
+{
+    // What a question keeps, and four laws: these calls do nothing.
+    question.known();
+    planned_values_are_reached();
+    verdicts_are_true();
+    undecided_thresholds_are_left_open();
+    mirrored_verdicts_are_those_of_the_dual();
+    report_of(
+        alloc,
+        is_mirrored(formula),
+        &formula.bound,
+        How::Audited,
+        &plan.lower,
+        &plan.upper,
+        initial,
+    )
+}

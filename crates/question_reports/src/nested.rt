@@ -1,0 +1,97 @@
+//! The answer to a formula with others inside.
+
+ghost use Rattle.std.specs.Prelude.{◌≡◌, ◌<◌, ◌≤◌, ◌^◌, ◌++◌, All, IfOk, false, length, map};
+ghost use Rattle.std.specs.String.{string_bytes};
+ghost use Rattle.rpatl_syntax.specs.Formula.{tree_of};
+ghost use Rattle.game_model.specs.Limits.{unit};
+ghost use Rattle.verdicts.specs.Report.{HasCount, report};
+ghost use Rattle.command_words.specs.Words.{AreInRange, check_of};
+ghost use Rattle.question_reports.specs.Nested.{IsAnswerable, IsNestedReport, inside_text};
+ghost use Rattle.run_answers.specs.Printed.{line_at, status_of, verdict_at};
+ghost use Rattle.run_answers.specs.Status.{IsAnswer};
+
+use asked_files::Loaded;
+use command_words::CheckWords;
+use game_outside::{Gate, OutOfMemory};
+use nested_truth::{Nested, nested};
+use plan_text::append;
+use run_answers::{Answer, report_of};
+use std::alloc::{AllocError, Global};
+use std::thread::Threads;
+use verdicts::How;
+
+/// A line that says how many formulas stand inside and how many pairs of one and a state are left undecided, and a line for
+/// each of these initial states. The only error is want of memory.
+pub fn nested_report<R: Threads + Sync, G: Gate + Sync>(
+    rt: &R,
+    alloc: Global,
+    loaded: &Loaded,
+    initial: &[u32],
+    check: &CheckWords<'_>,
+    gate: &G,
+) -> Result<Answer, OutOfMemory>
+    requires in_range { AreInRange (check_of check.now) }
+    requires answerable { IsAnswerable loaded.now initial.now }
+    ensures report { IfOk result (λ answer. IsNestedReport (record { game = loaded.now.game; labels = loaded.now.labels; owners = loaded.now.owners }) initial.now (tree_of loaded.now.formula) (check_of check.now).rounds answer.text.items answer.status) }
+    ensures answer { IfOk result (λ answer. IsAnswer answer.status) }
+{
+    let Ok(found) = nested(
+        rt,
+        alloc,
+        &loaded.game,
+        &loaded.labels,
+        &loaded.owners,
+        &loaded.formula,
+        check.rounds,
+        check.workers,
+        gate,
+    ) else {
+        return Err(OutOfMemory {});
+    };
+    // What a game and the numbers keep: these calls do nothing.
+    loaded.game.known();
+    known_numbers(found.how, found.inner, found.undecided);
+    written(alloc, loaded, &found)
+}
+
+// What numbers keep, since their types hold them.
+fn known_numbers(how: How, inner: u32, undecided: u32)
+    ensures how { HasCount how }
+    ensures inner { inner < 2 ^ 32 }
+    ensures undecided { undecided < 2 ^ 32 }
+{}
+
+// The line about the formulas inside, and a line for each initial state.
+fn written(alloc: Global, loaded: &Loaded, found: &Nested) -> Result<Answer, OutOfMemory>
+    requires inside { All (λ s. s < length found.now.lower.items) found.now.initial.items }
+    requires as_many { length found.now.upper.items ≡ length found.now.lower.items }
+    requires lower { All (λ v. v ≤ unit) found.now.lower.items }
+    requires upper { All (λ v. v ≤ unit) found.now.upper.items }
+    ensures text { IfOk result (λ answer. answer.text.items ≡ inside_text found.now.inner found.now.undecided ++ report (map (line_at false loaded.now.formula.bound found.now.how found.now.lower.items found.now.upper.items) found.now.initial.items)) }
+    ensures status { IfOk result (λ answer. answer.status ≡ status_of (map (verdict_at false loaded.now.formula.bound found.now.lower.items found.now.upper.items) found.now.initial.items)) }
+    ensures answer { IfOk result (λ answer. IsAnswer answer.status) }
+{
+    let line = inside_line(alloc, found.inner, found.undecided)?;
+    let report = report_of(
+        alloc,
+        false,
+        &loaded.formula.bound,
+        found.how,
+        &found.lower,
+        &found.upper,
+        &found.initial,
+    )?;
+    let mut text = line.into_bytes();
+    append(&mut text, &report.text)?;
+    Ok(Answer {
+        text,
+        status: report.status,
+    })
+}
+
+// How many formulas stand inside, and how many pairs of one and a state are left undecided.
+fn inside_line(alloc: Global, inner: u32, undecided: u32) -> Result<String, AllocError>
+    ensures { IfOk result (λ line. string_bytes line ≡ inside_text inner undecided) }
+{
+    format!(in alloc; "inner {inner} undecided {undecided}\n")
+}

@@ -1,0 +1,205 @@
+//! The answer to a question.
+
+ghost use Rattle.std.specs.Prelude.{◌≡◌, ◌≤◌, ◌<◌, ◌++◌, All, IfOk, OnOk, length, map, slice_index};
+ghost use Rattle.game_model.specs.Query.{states};
+ghost use Rattle.game_model.specs.Limits.{unit};
+ghost use Rattle.game_model.specs.Rounded.{IsBelow};
+ghost use Rattle.predecessors.specs.Lists.{ArePredecessors};
+ghost use Rattle.rpatl_syntax.specs.Dual.{IsAtMostOne};
+ghost use Rattle.rpatl_syntax.specs.Formula.{tree_of};
+ghost use Rattle.plan_text.specs.Entries.{HasStates, greatest_rank};
+ghost use Rattle.command_words.specs.Words.{AreInRange, check_of};
+ghost use Rattle.asked_files.specs.Problems.{answered as answered_of};
+ghost use Rattle.run_answers.specs.Printed.{certificate_of, output_of, status_of, verdict_by};
+ghost use Rattle.question_reports.specs.Reports.{IsReport, IsShown, IsUpperHeld, IsUpperShown};
+ghost use Rattle.run_answers.specs.Outputs.{certificate_part, output_text};
+ghost use Rattle.run_answers.specs.Status.{IsAnswer};
+
+use bracket_engine::{Bracket, bracket_over};
+use command_words::CheckWords;
+use game_model::Question;
+use game_outside::{Gate, OutOfMemory};
+use plan_text::{Plan, append, write_plan};
+use predecessors::Predecessors;
+use rpatl_syntax::{Formula, print_formula};
+use run_answers::{Answer, is_mirrored, report_of};
+use std::alloc::Global;
+use std::thread::Threads;
+use trap_sets::lower_traps_over;
+use verdicts::laws::{
+    mirrored_verdicts_are_those_of_the_dual, planned_values_are_reached,
+    undecided_thresholds_are_left_open, verdicts_are_true,
+};
+use verdicts::{How, StopRule, settle};
+use zero_sets::zero_set_over;
+
+/// A formula as the words spell it, and the one whose question is answered: of `G` the dual, else the same.
+#[derive(Clone, Copy)]
+pub struct Formulas<'a> {
+    pub spelled: &'a Formula,
+    pub answered: &'a Formula,
+}
+
+/// One line for each initial state, with the bounds after at most the asked rounds and what they say of the formula's bound;
+/// the upper ones lowered to the best exits of traps, where that is asked for; and behind them the certificate, where it is
+/// asked for. The only error is want of memory.
+pub fn report<R: Threads + Sync, G: Gate + Sync>(
+    rt: &R,
+    alloc: Global,
+    question: &Question,
+    initial: &[u32],
+    formulas: Formulas<'_>,
+    check: &CheckWords<'_>,
+    gate: &G,
+) -> Result<Answer, OutOfMemory>
+    requires inside { All (λ s. s < states question.now) initial.now }
+    requires in_range { AreInRange (check_of check.now) }
+    requires same { tree_of formulas.answered.now ≡ answered_of (tree_of formulas.spelled.now) }
+    requires share { IsAtMostOne formulas.spelled.now.bound }
+    ensures report { IfOk result (λ answer. IsReport question.now initial.now (tree_of formulas.entry.spelled.now) (check_of check.now) answer.text.items answer.status) }
+    ensures answer { IfOk result (λ answer. IsAnswer answer.status) }
+{
+    let bound = formulas.answered.bound;
+    let predecessors = Predecessors::of_game(alloc, question.game())?;
+    let zero = zero_set_over(alloc, question, &predecessors)?;
+    let stop = StopRule::of_bound(bound, |lower, upper| {
+        settle(&bound, lower, upper).is_settling()
+    });
+    let found = bracket_over(
+        rt,
+        alloc,
+        question,
+        &zero,
+        &predecessors,
+        check.rounds,
+        check.workers,
+        &stop,
+        initial,
+        gate,
+    )?;
+    // What a question keeps, and four laws: these calls do nothing.
+    question.known();
+    planned_values_are_reached();
+    verdicts_are_true();
+    undecided_thresholds_are_left_open();
+    mirrored_verdicts_are_those_of_the_dual();
+    let how = How::Rounds(found.rounds);
+    let plan = shown(alloc, question, &predecessors, check.traps, found)?;
+    make_answer(alloc, &plan, how, formulas, initial, check.plan)
+}
+
+// What is printed of a bracket: its tables with the strategies, and the upper one lowered to the best exits of traps, where
+// that is asked for.
+fn shown(
+    alloc: Global,
+    question: &Question,
+    predecessors: &Predecessors,
+    traps: bool,
+    found: Bracket,
+) -> Result<Plan, OutOfMemory>
+    requires lists { ArePredecessors question.now.game predecessors.now }
+    requires held { IsUpperHeld question.now found.upper.items found.replies.items }
+    ensures shown { IfOk result (λ plan. IsShown question.now traps found plan) }
+    ensures held { IfOk result (λ plan. IsUpperHeld question.now plan.upper.items plan.replies.items) }
+{
+    let upper = shown_upper(
+        alloc,
+        question,
+        predecessors,
+        traps,
+        found.upper,
+        &found.replies,
+    )?;
+    Ok(Plan {
+        lower: found.lower,
+        choices: found.choices,
+        ranks: found.ranks,
+        upper,
+        replies: found.replies,
+    })
+}
+
+// The upper table, lowered where that is asked for.
+fn shown_upper(
+    alloc: Global,
+    question: &Question,
+    predecessors: &Predecessors,
+    traps: bool,
+    upper: Vec<u64>,
+    replies: &[Option<u32>],
+) -> Result<Vec<u64>, OutOfMemory>
+    requires lists { ArePredecessors question.now.game predecessors.now }
+    requires held { IsUpperHeld question.now upper.items replies.now }
+    ensures shown { IfOk result (λ table. IsUpperShown question.now traps replies.now upper.items table.items) }
+    ensures below { IfOk result (λ table. IsBelow question.now (slice_index table.items) (slice_index upper.items)) }
+    ensures held { IfOk result (λ table. IsUpperHeld question.now table.items replies.now) }
+{
+    if traps {
+        lower_traps_over(alloc, question, predecessors, &upper, replies)
+    } else {
+        Ok(upper)
+    }
+}
+
+// The lines and the status of a plan, and its certificate where it is asked for.
+fn make_answer(
+    alloc: Global,
+    plan: &Plan,
+    how: How,
+    formulas: Formulas<'_>,
+    initial: &[u32],
+    asked: bool,
+) -> Result<Answer, OutOfMemory>
+    requires same { tree_of formulas.answered.now ≡ answered_of (tree_of formulas.spelled.now) }
+    requires inside { All (λ s. s < length plan.now.lower.items) initial.now }
+    requires lists { HasStates plan.now (length plan.now.lower.items) }
+    requires some { 1 ≤ length plan.now.lower.items }
+    requires lower { All (λ v. v ≤ unit) plan.now.lower.items }
+    requires upper { All (λ v. v ≤ unit) plan.now.upper.items }
+    ensures ranks { All (λ r. r ≤ greatest_rank) plan.now.ranks.items }
+    ensures text { IfOk result (λ answer. answer.text.items ≡ output_text (output_of asked (tree_of formulas.entry.spelled.now) how initial.now plan.now)) }
+    ensures answer { IfOk result (λ answer. IsAnswer answer.status) }
+    ensures status { IfOk result (λ answer. answer.status ≡ status_of (map (verdict_by (tree_of formulas.entry.spelled.now) plan.now.lower.items plan.now.upper.items) initial.now)) }
+{
+    known_ranks(&plan.ranks);
+    let mut answer = report_of(
+        alloc,
+        is_mirrored(formulas.spelled),
+        &formulas.spelled.bound,
+        how,
+        &plan.lower,
+        &plan.upper,
+        initial,
+    )?;
+    append_certificate(alloc, &mut answer.text, asked, formulas, plan)?;
+    Ok(answer)
+}
+
+// What ranks keep, since their type holds them.
+fn known_ranks(ranks: &[u32])
+    ensures { All (λ r. r ≤ greatest_rank) ranks.now }
+{}
+
+// Appends the formula and the certificate, where it is asked for.
+fn append_certificate(
+    alloc: Global,
+    text: &mut Vec<u8>,
+    asked: bool,
+    formulas: Formulas<'_>,
+    plan: &Plan,
+) -> Result<(), OutOfMemory>
+    requires same { tree_of formulas.answered.now ≡ answered_of (tree_of formulas.spelled.now) }
+    requires lists { HasStates plan.now (length plan.now.lower.items) }
+    requires some { 1 ≤ length plan.now.lower.items }
+    requires lower { All (λ v. v ≤ unit) plan.now.lower.items }
+    requires upper { All (λ v. v ≤ unit) plan.now.upper.items }
+    ensures { OnOk result (text.new.items ≡ text.old.items ++ certificate_part (certificate_of asked (tree_of formulas.entry.spelled.now) plan.now)) }
+{
+    if !asked {
+        return Ok(());
+    }
+    append(text, b"formula ")?;
+    append(text, &print_formula(alloc, formulas.answered)?)?;
+    append(text, b"\n")?;
+    append(text, &write_plan(alloc, plan)?)
+}

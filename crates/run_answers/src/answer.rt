@@ -1,0 +1,141 @@
+//! What a run writes, and how it ends then: a line for each initial state, and the status of the lines.
+
+ghost use Rattle.std.specs.Prelude.{◌≡◌, ◌≤◌, ◌<◌, All, IfOk, length, map};
+ghost use Rattle.std.specs.List.{list_any};
+ghost use Rattle.game_model.specs.Limits.{unit};
+ghost use Rattle.verdicts.specs.Report.{HasValues, report};
+ghost use Rattle.run_answers.specs.Printed.{is_mirrored, line_as, line_at, status_of, verdict_at};
+ghost use Rattle.verdicts.specs.Verdict.{is_no, is_undecided};
+ghost use Rattle.run_answers.specs.Status.{IsAnswer};
+
+use crate::status::Status;
+use game_model::UNIT;
+use game_outside::OutOfMemory;
+use rpatl_syntax::{Bound, Formula, PathKind};
+use std::alloc::Global;
+use verdicts::{How, ReportLine, report_text, settle};
+
+/// What a run writes, and how it ends then.
+#[derive(Drop)]
+pub struct Answer {
+    /// The text.
+    pub text: Vec<u8>,
+    /// The status.
+    pub status: Status,
+}
+
+/// The report of some states: one line for each, with the bounds that two tables have, in units, and what these say of a
+/// bound. Where the tables are mirrored, those of the dual of `G`, 1 less their bounds is printed. The only error is want of memory.
+pub fn report_of(
+    alloc: Global,
+    mirrored: bool,
+    bound: &Bound,
+    how: How,
+    lower: &[u64],
+    upper: &[u64],
+    states: &[u32],
+) -> Result<Answer, OutOfMemory>
+    requires inside { All (λ s. s < length lower.now) states.now }
+    requires as_many { length upper.now ≡ length lower.now }
+    requires lower { All (λ v. v ≤ unit) lower.now }
+    requires upper { All (λ v. v ≤ unit) upper.now }
+    ensures text { IfOk result (λ answer. answer.text.items ≡ report (map (line_at mirrored bound.now how lower.now upper.now) states.now)) }
+    ensures status { IfOk result (λ answer. answer.status ≡ status_of (map (verdict_at mirrored bound.now lower.now upper.now) states.now)) }
+    ensures answer { IfOk result (λ answer. IsAnswer answer.status) }
+{
+    let lines = lines_of(alloc, mirrored, bound, how, lower, upper, states)?;
+    let text = report_text(alloc, &lines)?;
+    Ok(Answer {
+        text,
+        status: status_of(&lines),
+    })
+}
+
+/// Whether the tables of a formula are those of its dual, whose bounds are mirrored when they are printed.
+pub fn is_mirrored(formula: &Formula) -> bool
+    ensures { result ≡ is_mirrored formula.now.kind }
+{
+    match formula.kind {
+        PathKind::Always => true,
+        PathKind::Until | PathKind::Within(_) | PathKind::Next => false,
+    }
+}
+
+// The lines of some states.
+fn lines_of(
+    alloc: Global,
+    mirrored: bool,
+    bound: &Bound,
+    how: How,
+    lower: &[u64],
+    upper: &[u64],
+    states: &[u32],
+) -> Result<Vec<ReportLine>, OutOfMemory>
+    requires inside { All (λ s. s < length lower.now) states.now }
+    requires as_many { length upper.now ≡ length lower.now }
+    requires lower { All (λ v. v ≤ unit) lower.now }
+    requires upper { All (λ v. v ≤ unit) upper.now }
+    ensures lines { IfOk result (λ lines. lines.items ≡ map (line_at mirrored bound.now how lower.now upper.now) states.now) }
+    ensures values { IfOk result (λ lines. All HasValues lines.items) }
+{
+    let mut lines = Vec::with_capacity(alloc, states.len())?;
+    for state in states {
+        let place = *state as usize;
+        lines.push(line_as(mirrored, bound, how, *state, lower[place], upper[place]))?;
+    }
+    Ok(lines)
+}
+
+// The line of a state with these bounds.
+fn line_as(
+    mirrored: bool,
+    bound: &Bound,
+    how: How,
+    state: u32,
+    lower: u64,
+    upper: u64,
+) -> ReportLine
+    requires lower { lower ≤ unit }
+    requires upper { upper ≤ unit }
+    ensures line { result ≡ line_as mirrored bound.now how state lower upper }
+    ensures values { HasValues result }
+{
+    let (lower, upper) = if mirrored {
+        (UNIT - upper, UNIT - lower)
+    } else {
+        (lower, upper)
+    };
+    ReportLine {
+        state,
+        lower,
+        upper,
+        how,
+        verdict: settle(bound, lower, upper),
+    }
+}
+
+// The status of a report: some line is False, or else some is Undecided, or none is.
+fn status_of(lines: &[ReportLine]) -> Status
+    ensures status { result ≡ status_of (map (λ line. line.verdict) lines.now) }
+    ensures answer { IsAnswer result }
+{
+    if is_some_false(lines) {
+        Status::SomeFalse
+    } else if is_some_undecided(lines) {
+        Status::SomeUndecided
+    } else {
+        Status::Fine
+    }
+}
+
+fn is_some_false(lines: &[ReportLine]) -> bool
+    ensures { result ≡ list_any (λ line. is_no line.verdict) lines.now }
+{
+    lines.iter().any(|line| line.verdict.is_no())
+}
+
+fn is_some_undecided(lines: &[ReportLine]) -> bool
+    ensures { result ≡ list_any (λ line. is_undecided line.verdict) lines.now }
+{
+    lines.iter().any(|line| line.verdict.is_undecided())
+}

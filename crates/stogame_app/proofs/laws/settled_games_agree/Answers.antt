@@ -1,5 +1,0 @@
-use Rattle.stogame_app.proofs.Drawn.{settled-agree}
-use Rattle.stogame_app.proofs.laws.settled_games_agree.Goals as goal
-
-pub returns : goal.returns
-returns c = settled-agree c.settled_bases_agree.ensures c.lower_tables_agree.ensures c.settled_upper_bounds_agree.ensures
