@@ -1,23 +1,17 @@
 -- How long the spelling of a formula is at most: thirty bytes for each byte of the text that denotes it, and some for its threshold.
-use Rattle.std.proofs.Common.{◌≡◌, ◌<◌, ◌≤◌, ◌+◌, ◌-◌, ◌*◌, ◌^◌, ℕ, Bool, true, false, List, [], ◌∷◌, ◌++◌, length, drop, Option, Some, None, refl, ap, arith}
-use Rattle.std.specs.Prelude.{◌==◌, nat_lt, codes, decimal, if◌then◌else◌}
+use Rattle.std.proofs.Common.{◌≡◌, ◌≤◌, ◌+◌, ◌-◌, ◌*◌, ℕ, Bool, true, false, List, [], ◌∷◌, ◌++◌, length, drop, refl, ap, arith}
+use Rattle.std.specs.Prelude.{nat_lt, codes, if◌then◌else◌}
 use Rattle.std.proofs.lemmas.List.{length-append, length-take}
-use Rattle.std.proofs.lemmas.Fmt.{length-decimal-le_wide}
-use Rattle.distributions.specs.Fraction.{Fraction}
-use Rattle.rpatl_syntax.specs.declared.formula.Bound.{Bound}
-use Rattle.rpatl_syntax.specs.declared.formula.Bound.TheVariants.{AtLeast, Above, AtMost, Below, AskMax, AskMin}
-use Rattle.rpatl_syntax.specs.Formula.{State, True, False, Label, Not, And, Or, Implies, Inner, Tree}
-use Rattle.rpatl_syntax.specs.Grammar.{is_number, is_quoted, unquoted}
+use Rattle.rpatl_syntax.specs.Formula.{State, True, Not, Tree}
+use Rattle.rpatl_syntax.specs.Grammar.{is_quoted, unquoted}
 use Rattle.rpatl_syntax.specs.declared.formula.PathKind.{PathKind}
 use Rattle.rpatl_syntax.specs.declared.formula.PathKind.TheVariants.{Until, Within, Next, Always}
 use Rattle.rpatl_syntax.specs.Dual.{dual_of}
 use Rattle.rpatl_syntax.specs.Limits.{longest}
-use Rattle.rpatl_syntax.specs.Rules.{between, formula_of, IsState, IsEither, IsBoth, IsUnary, IsPath, plain_state, implies, plain_either, or, plain_both, and, negation, brackets, everywhere, nowhere, label, inside, reach, reach_within, until, until_within, next, always, with_commas, IsCoalition, IsComparison, IsBound, Compares, IsFormula, Denotes}
-use Rattle.rpatl_syntax.specs.Spelling.{strength_of, in_place, state_spelling, until_spelling, kind_spelling, spelling_with, names_spelling, coalition_spelling, fraction_spelling, bound_spelling, spelling}
-use Rattle.rpatl_syntax.specs.TokenRules.{AreCut, nothing, blank, token}
+use Rattle.rpatl_syntax.specs.Rules.{between, IsState, IsEither, IsBoth, IsUnary, IsPath, plain_state, implies, plain_either, or, plain_both, and, negation, brackets, everywhere, nowhere, label, inside, reach, reach_within, until, until_within, next, always, IsFormula, Denotes}
+use Rattle.rpatl_syntax.specs.Spelling.{strength_of, in_place, state_spelling, kind_spelling, coalition_spelling, spelling}
 use Rattle.asked_files.specs.Problems.{answered_by, answered}
-use Rattle.run_answers.proofs.PlainParts.{IsFine, HasFine, HasPlainParts, answered-plain}
-use Rattle.run_answers.proofs.ShortLines.{joined-short}
+use Rattle.run_answers.proofs.PlainParts.{HasFine, HasPlainParts, answered-plain}
 use Rattle.run_answers.proofs.ShortParts.{bytes_in, bytes_in-append, cut-short, until-short, within-short, coalition-short, bound-fine, bound-some, with-short, formula-bytes}
 
 -- 1. The spelling of a state formula, and of a path.
