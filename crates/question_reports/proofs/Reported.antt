@@ -1,6 +1,6 @@
 -- The answer to a question, from its bracket and the plan that is printed of it.
-use Rattle.std.proofs.Common.{◌≡◌, ◌≤◌, ◌<◌, ◌+◌, ◌-◌, ◌*◌, ◌^◌, inl, inr, ℕ, Bool, true, List, [], ◌∷◌, map, Result, Ok, Err, refl, sym, ap, ◌∙◌, arith}
-use Rattle.std.specs.Prelude.{◌||◌, if◌then◌else◌, All, IfOk, slice_index, slice_index_or}
+use Rattle.std.proofs.Common.{◌≡◌, ◌≤◌, ◌<◌, ◌+◌, ◌-◌, ◌*◌, ◌^◌, inl, inr, ℕ, Bool, true, List, map, Result, Ok, Err, refl, ap, arith}
+use Rattle.std.specs.Prelude.{All, IfOk, slice_index, slice_index_or}
 use Rattle.std.proofs.lemmas.List.Elements.{All-weaker}
 use Rattle.game_model.specs.Limits.{unit}
 use Rattle.game_model.specs.Query.{Query, states}

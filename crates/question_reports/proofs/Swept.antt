@@ -1,5 +1,5 @@
 -- The answer to a problem with a bound on the steps, from the tables that a sweep gives.
-use Rattle.std.proofs.Common.{◌≡◌, ◌<◌, ◌≤◌, ◌-◌, ◌*◌, ◌^◌, ℕ, false, List, map, Result, Ok, Err, sym, subst, arith}
+use Rattle.std.proofs.Common.{◌≡◌, ◌<◌, ◌≤◌, ◌*◌, ◌^◌, ℕ, false, List, map, Result, Ok, Err, sym, subst, arith}
 use Rattle.std.specs.Prelude.{All, IfOk, slice_index}
 use Rattle.std.proofs.lemmas.List.Elements.{All-map, All-weaker}
 use Rattle.distributions.proofs.Powers.{pow-pos}
