@@ -19,6 +19,8 @@ use fixed_bellman::settled;
 use game_model::Question;
 use game_outside::OutOfMemory;
 use std::alloc::Global;
+use std::thread::Threads;
+use team_tables::Team;
 
 /// Both tables, the number of completed rounds, and whether both races are settled.
 #[derive(Drop)]
@@ -29,8 +31,9 @@ pub struct Tables {
     pub stable: bool,
 }
 
-/// The tables of two races that are over.
-pub fn tables_of<F: Fn(u64, u64) -> bool>(
+/// The tables of two races that are over. The team fills those of the guess.
+pub fn tables_of<F: Fn(u64, u64) -> bool, R: Threads + Sync>(
+    team: &Team<'_, R>,
     alloc: Global,
     ending: &Ending<'_, F>,
     other: &Question,
@@ -57,7 +60,15 @@ pub fn tables_of<F: Fn(u64, u64) -> bool>(
     let base = values_of_words(alloc, words)?;
     let covalues = values_of_words(alloc, cowords)?;
     let stable = is_stable(ending.question, other, &base, &covalues, rests);
-    let upper = upper_table(alloc, ending.question, ending.zero, &base, &covalues, kept)?;
+    let upper = upper_table(
+        team,
+        alloc,
+        ending.question,
+        ending.zero,
+        &base,
+        &covalues,
+        kept,
+    )?;
     Ok(Tables {
         base,
         upper,

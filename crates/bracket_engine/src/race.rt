@@ -19,6 +19,7 @@ use game_outside::{Gate, OutOfMemory};
 use predecessors::Predecessors;
 use std::alloc::Global;
 use std::thread::Threads;
+use team_tables::Team;
 use upper_guess::Witnesses;
 use value_words::{Posing, Words};
 
@@ -46,7 +47,7 @@ pub struct Ended {
 
 /// Runs at most `most` rounds on the words of both questions, over the predecessors in their game, each of at most so
 /// many workers. It ends earlier where a round changed nothing on either: then the words of both are settled; or where a
-/// guess settles the threshold at each initial state.
+/// guess, whose tables the team fills, settles the threshold at each initial state.
 pub fn race<
     R: Threads + Sync,
     P: Posing + Send + Sync,
@@ -55,6 +56,7 @@ pub fn race<
     G: Gate + Sync,
 >(
     rt: &R,
+    team: &Team<'_, R>,
     alloc: Global,
     ending: &Ending<'_, F>,
     swapped: &Question<'_>,
@@ -80,6 +82,7 @@ pub fn race<
     let co = open::<C>(alloc, swapped)?;
     let (lower, co, ended) = run_rounds(
         rt,
+        team,
         alloc,
         ending,
         predecessors,
@@ -109,6 +112,7 @@ fn run_rounds<
     G: Gate + Sync,
 >(
     rt: &R,
+    team: &Team<'_, R>,
     alloc: Global,
     ending: &Ending<'_, F>,
     predecessors: &Predecessors,
@@ -153,6 +157,7 @@ fn run_rounds<
             return Ok((lower, co, ended));
         }
         let kept = ending.asked_after(
+            team,
             alloc,
             rounds,
             &lower.agenda.read,

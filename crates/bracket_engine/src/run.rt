@@ -15,6 +15,7 @@ ghost use Rattle.bracket_engine.specs.Replies.{AreRepliesTo};
 use crate::bounds::Bracket;
 use crate::closing::tables_of;
 use crate::race::{Raced, race};
+use crate::runner::busy_workers;
 use crate::stopping::Ending;
 use crate::strategies::with_strategies;
 use game_model::{Marks, Question};
@@ -24,6 +25,7 @@ use predecessors::Predecessors;
 use std::alloc::Global;
 use std::marker::Brand;
 use std::thread::Threads;
+use team_tables::Team;
 use verdicts::StopRule;
 
 /// The most rounds that may be asked for.
@@ -110,12 +112,17 @@ pub fn bracket_over<R: Threads + Sync, F: Fn(u64, u64) -> bool, G: Gate + Sync>(
         rule: stop,
         initial,
     };
+    let team = Team {
+        rt,
+        workers: busy_workers(question, workers, question.game().states()),
+    };
     let Raced {
         words,
         cowords,
         ended,
     } = race::<R, Brand, Brand, F, G>(
         rt,
+        &team,
         alloc,
         &ending,
         &other,
@@ -125,6 +132,7 @@ pub fn bracket_over<R: Threads + Sync, F: Fn(u64, u64) -> bool, G: Gate + Sync>(
         gate,
     )?;
     let tables = tables_of(
+        &team,
         alloc,
         &ending,
         &other,

@@ -146,9 +146,9 @@ fn sweep<R: Threads + Sync, P: Posing + Send + Sync, G: Gate + Sync>(
     (pass, changed)
 }
 
-// How many workers a round after the first has: one, and one more for each so many edges of the states that are
-// updated. These are about as many as edges lead to a changed state, and have about as many edges as others.
-fn busy_workers(question: &Question<'_>, workers: u32, changed: u32) -> u32
+/// How many workers a round after the first has: one, and one more for each so many edges of the states that are
+/// updated. These are about as many as edges lead to a changed state, and have about as many edges as others.
+pub fn busy_workers(question: &Question<'_>, workers: u32, changed: u32) -> u32
     requires { 1 ≤ workers }
     ensures some { 1 ≤ result }
     ensures few { result ≤ workers }

@@ -8,6 +8,8 @@ ghost use Rattle.game_model.specs.Dual.{IsZeroSet};
 use game_model::{Marks, Question, UNIT};
 use game_outside::OutOfMemory;
 use std::alloc::Global;
+use std::thread::Threads;
+use team_tables::Team;
 use upper_guess::{Witnesses, guess_with};
 use verdicts::StopRule;
 
@@ -37,9 +39,11 @@ impl<F: Fn(u64, u64) -> bool> Ending<'_, F> {
     ghost use Rattle.bracket_engine.specs.Stop.{AreSettledAt, upper_from, IsKept};
 
     /// The guess over lower bounds, after 1, 2, 4, 8 and so on rounds, where with the co-values it settles the threshold
-    /// at each initial state. None is made where the bound asks for a value, since no rule could use it.
-    pub fn asked_after(
+    /// at each initial state. None is made where the bound asks for a value, since no rule could use it. The team fills its
+    /// tables.
+    pub fn asked_after<R: Threads + Sync>(
         &self,
+        team: &Team<'_, R>,
         alloc: Global,
         rounds: u32,
         lower: &[u64],
@@ -60,12 +64,13 @@ impl<F: Fn(u64, u64) -> bool> Ending<'_, F> {
         if !self.rule.may_settle() || !rounds.is_power_of_two() {
             return Ok(None);
         }
-        self.settling_guess(alloc, lower, covalues, witnesses)
+        self.settling_guess(team, alloc, lower, covalues, witnesses)
     }
 
     /// The guess over lower bounds, where with the co-values it settles the threshold at each initial state.
-    fn settling_guess(
+    fn settling_guess<R: Threads + Sync>(
         &self,
+        team: &Team<'_, R>,
         alloc: Global,
         lower: &[u64],
         covalues: &[u64],
@@ -81,7 +86,7 @@ impl<F: Fn(u64, u64) -> bool> Ending<'_, F> {
         ensures witnesses { AreWitnesses self.now.question.now witnesses.new.states }
         ensures kept { IfOk result (λ found. IfSome found (IsKept self.now.question.now self.now.zero.now (bound_of self.now.rule.now) self.now.initial.now (slice_index lower.now) (slice_index covalues.now))) }
     {
-        let guess = guess_with(alloc, self.question, self.zero, lower, witnesses)?;
+        let guess = guess_with(team, alloc, self.question, self.zero, lower, witnesses)?;
         if !self.settles(lower, covalues, &guess) {
             return Ok(None);
         }

@@ -13,10 +13,14 @@ use crate::tables::{lesser, rests};
 use game_model::{Marks, Question};
 use game_outside::OutOfMemory;
 use std::alloc::Global;
-use upper_guess::guess;
+use std::thread::Threads;
+use team_tables::Team;
+use upper_guess::{Witnesses, guess_with};
 
 /// The least of the unit less the co-values, of the guess over the lower bounds, and of the one that was kept, if any.
-pub fn upper_table(
+/// The team fills the tables of the guess.
+pub fn upper_table<R: Threads + Sync>(
+    team: &Team<'_, R>,
     alloc: Global,
     question: &Question,
     zero: &Marks,
@@ -34,13 +38,14 @@ pub fn upper_table(
 {
     question.known();
     let unlost = rests(alloc, covalues)?;
-    let guessed = least_guess(alloc, question, zero, lower, kept)?;
+    let guessed = least_guess(team, alloc, question, zero, lower, kept)?;
     lesser(alloc, &unlost, &guessed)
 }
 
 // The guess over the lower bounds; where another one was kept, the lesser of the two. Over the same lower bounds that
 // one is the guess.
-fn least_guess(
+fn least_guess<R: Threads + Sync>(
+    team: &Team<'_, R>,
     alloc: Global,
     question: &Question,
     zero: &Marks,
@@ -61,11 +66,25 @@ fn least_guess(
         },
     ) = kept
     else {
-        return guess(alloc, &*question, &*zero, &*lower);
+        return guess_with(
+            team,
+            alloc,
+            &*question,
+            &*zero,
+            &*lower,
+            &mut Witnesses::none(),
+        );
     };
     if over.as_slice() == lower {
         return Ok(earlier);
     }
-    let guessed = guess(alloc, &*question, &*zero, &*lower)?;
+    let guessed = guess_with(
+        team,
+        alloc,
+        &*question,
+        &*zero,
+        &*lower,
+        &mut Witnesses::none(),
+    )?;
     lesser(alloc, &guessed, &earlier)
 }

@@ -19,7 +19,7 @@ use std::alloc::Global;
 use std::process::Abort;
 use std::test::Fail;
 use std::thread::Threads;
-use upper_guess::{Witnesses, guess, guess_with};
+use upper_guess::{Alone, Witnesses, guess, guess_with};
 
 /// Compares the guess over a table with the first of all full tables, and an upper table with the lesser of it and of the
 /// unit less the co-values.
@@ -65,7 +65,15 @@ fn up_steps<R: Threads + Sync>(
     let zero = zero_set_of(alloc, question)?;
     let found = value_bracket(rt, alloc, question, &zero, rounds, 1)?;
     let mut witnesses = Witnesses::none();
-    let _guess = guess_with(alloc, &*question, &zero, &found.base, &mut witnesses).ok()?;
+    let _guess = guess_with(
+        &Alone {},
+        alloc,
+        &*question,
+        &zero,
+        &found.base,
+        &mut witnesses,
+    )
+    .ok()?;
     Some(witnesses.up_steps())
 }
 

@@ -1,2 +1,3 @@
 pub mod Guess
+pub mod Parts
 pub mod OfGuesses

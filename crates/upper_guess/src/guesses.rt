@@ -4,7 +4,7 @@ ghost use Rattle.std.specs.Prelude.{◌≡◌, ◌^◌, ◌≤◌, length, All};
 ghost use Rattle.game_model.specs.Query.{IsQuery, states};
 ghost use Rattle.game_model.specs.Limits.{unit};
 
-use crate::tables::{UpSteps, most_raised};
+use crate::tables::{UpSteps, UpTables, most_raised};
 use crate::witnesses::Witnesses;
 use game_model::{Marks, Question, UNIT};
 use game_outside::OutOfMemory;
@@ -35,12 +35,14 @@ impl Guesses<'_> {
     /// The first of the tables of this excess that is accepted; none where each is refused. A table that is
     /// seen to be refused at the witness of its steps is not made. Where a table is made and refused, the
     /// state that rises most from it becomes the witness. Its up steps and the one that accepts it are counted, at least.
-    pub fn first_accepted(
+    pub fn first_accepted<M: UpTables>(
         &self,
+        maker: &M,
         alloc: Global,
         witnesses: &mut Witnesses,
     ) -> Result<Option<Vec<u64>>, OutOfMemory>
-        requires { AreWitnesses self.now.question.now witnesses.old.states }
+        requires can { M.can_fill }
+        requires witnesses { AreWitnesses self.now.question.now witnesses.old.states }
         ensures witnesses { AreWitnesses self.now.question.now witnesses.new.states }
         ensures found { IfOk result (λ found. MatchOption found (AreRefusedOf self.now) (λ table. IsFirstOf self.now table.items)) }
         ensures counted { IfOk result (λ found. IfSome found (λ table. IsCountedOf self.now table.items witnesses.old.up_steps.count witnesses.new.up_steps.count)) }
@@ -51,8 +53,10 @@ impl Guesses<'_> {
             if self.refuses_at(steps, witnesses.states[steps as usize]) {
                 continue;
             }
-            let table = self.table_after(alloc, steps, made, &mut witnesses.up_steps)?;
-            let next = witnesses.up_steps.up_table(alloc, self.question, &table)?;
+            let table = self.table_after(maker, alloc, steps, made, &mut witnesses.up_steps)?;
+            let next = witnesses
+                .up_steps
+                .up_table(maker, alloc, self.question, &table)?;
             let Some(state) = most_raised(self.question, &table, &next) else {
                 return Ok(Some(table));
             };
@@ -63,14 +67,16 @@ impl Guesses<'_> {
     }
 
     /// The table after so many up steps, from one that was made, if any, after fewer. The up steps are counted.
-    fn table_after(
+    fn table_after<M: UpTables>(
         &self,
+        maker: &M,
         alloc: Global,
         steps: u32,
         made: Option<(Vec<u64>, u32)>,
         up_steps: &mut UpSteps,
     ) -> Result<Vec<u64>, OutOfMemory>
-        requires { IfSome made (λ m. IsTableOf self.now m.1 m.0.items × (m.1 ≤ steps)) }
+        requires can { M.can_fill }
+        requires made { IfSome made (λ m. IsTableOf self.now m.1 m.0.items × (m.1 ≤ steps)) }
         ensures table { IfOk result (λ table. IsTableOf self.now steps table.items) }
         ensures counted { OnOk result (RoseBy (steps - steps_of made) up_steps.old.count up_steps.new.count) }
         ensures later { up_steps.old.count ≤ up_steps.new.count }
@@ -80,7 +86,7 @@ impl Guesses<'_> {
             None => (self.first_table(alloc)?, 0),
         };
         for _step in at..steps {
-            table = up_steps.up_table(alloc, self.question, &table)?;
+            table = up_steps.up_table(maker, alloc, self.question, &table)?;
         }
         Ok(table)
     }

@@ -9,6 +9,9 @@
 //! A table is made only where it is not seen to be refused at one state: the one that rose most from the last
 //! table of as many up steps that was made. Its entry and the up value there are found by recursion over the
 //! choices. How near the guess comes to the values, and how long it takes, no clause says.
+//!
+//! [`guess`] is made by one worker. [`guess_with`] takes who makes the up steps of whole tables ([`UpTables`]), so that
+//! several workers can; it is the same guess.
 #![tactic(auto)]
 
 ghost use Rattle.std.specs.Prelude.{◌≡◌, ◌≤◌, length, slice_index, All, IfOk};
@@ -23,6 +26,7 @@ mod excesses;
 mod guesses;
 pub mod laws;
 mod local;
+mod part;
 mod tables;
 mod witnesses;
 
@@ -31,7 +35,9 @@ use game_laws::tables::inductive_is_high;
 use game_model::{Marks, Question};
 use game_outside::OutOfMemory;
 use guesses::Guesses;
+pub use part::fill_part;
 use std::alloc::Global;
+pub use tables::{Alone, UpTables};
 pub use witnesses::Witnesses;
 
 /// The first guess that is accepted: by excess and then by up steps the first table whose up step is nowhere
@@ -52,18 +58,28 @@ pub fn guess<'a>(
     ensures high { IfOk result (λ table. IsHigh question.now (slice_index table.items)) }
 {
     question.known();
-    guess_with(alloc, question, zero, lower, &mut Witnesses::none())
+    guess_with(
+        &Alone {},
+        alloc,
+        question,
+        zero,
+        lower,
+        &mut Witnesses::none(),
+    )
 }
 
-/// The same guess, where the states that refused the last one of this question are looked at first. Those that refuse
-/// this one take their places. At least the up steps of the guess and the one that accepts it are counted.
-pub fn guess_with<'a>(
+/// The same guess, whose tables are made by this maker. The states that refused the last one of this question are looked
+/// at first, and those that refuse this one take their places. At least the up steps of the guess and the one that accepts
+/// it are counted.
+pub fn guess_with<'a, M: UpTables>(
+    maker: &M,
     alloc: Global,
     question: &'a Question<'a>,
     zero: &'a Marks,
     lower: &'a [u64],
     witnesses: &mut Witnesses,
 ) -> Result<Vec<u64>, OutOfMemory>
+    requires can { M.can_fill }
     requires zero { IsZeroSet question.now zero.now }
     requires length { length lower.now ≡ states question.now }
     requires units { All (λ v. v ≤ unit) lower.now }
@@ -85,7 +101,7 @@ pub fn guess_with<'a>(
             lower,
             excess: excess_at(place),
         };
-        if let Some(table) = guesses.first_accepted(alloc, witnesses)? {
+        if let Some(table) = guesses.first_accepted(maker, alloc, witnesses)? {
             inductive_is_high(question, &table);
             return Ok(table);
         }

@@ -5,11 +5,38 @@ ghost use Rattle.game_model.specs.Query.{states};
 ghost use Rattle.game_model.specs.Limits.{unit};
 ghost use Rattle.game_model.specs.Rounded.{up_step, IsBelow};
 ghost use Rattle.upper_guess.specs.Guess.{IsTable, RisesMost};
+ghost use Rattle.upper_guess.specs.Parts.{IsFilled};
 
-use fixed_bellman::up_state;
+use crate::part::fill_part;
 use game_model::Question;
 use game_outside::OutOfMemory;
 use std::alloc::Global;
+
+/// Who fills tables with up steps: one worker, or several. The steps are the same.
+pub trait UpTables {
+    // What the workers need to work at once.
+    ghost can_fill: { Type 0 };
+
+    /// Fills the next table with the up step of a table.
+    fn fill(&self, question: &Question, table: &[u64], next: &mut [u64])
+        requires can { can_fill }
+        requires length { length table.now ≡ states question.now }
+        requires units { All (λ v. v ≤ unit) table.now }
+        requires next { length next.old ≡ states question.now }
+        ensures { IsFilled question.now table.now 0 (states question.now) next.new };
+}
+
+/// One worker.
+#[derive(Drop)]
+pub struct Alone {}
+
+impl UpTables for Alone {
+    ghost can_fill = { Unit {0} };
+
+    fn fill(&self, question: &Question, table: &[u64], next: &mut [u64]) {
+        fill_part(question, table, 0, next);
+    }
+}
 
 /// How many up steps of whole tables were made. Only the call that makes one counts it.
 #[derive(Drop)]
@@ -34,13 +61,15 @@ impl UpSteps {
         self.count
     }
 
-    /// The up step of a table. It is counted.
-    pub fn up_table(
+    /// The up step of a table, filled by this worker or these. It is counted.
+    pub fn up_table<M: UpTables>(
         &mut self,
+        maker: &M,
         alloc: Global,
         question: &Question,
         table: &[u64],
     ) -> Result<Vec<u64>, OutOfMemory>
+        requires can { M.can_fill }
         requires length { length table.now ≡ states question.now }
         requires units { All (λ v. v ≤ unit) table.now }
         ensures table { IfOk result (λ next. IsTable question.now (up_step question.now (slice_index table.now)) next.items) }
@@ -48,21 +77,24 @@ impl UpSteps {
         ensures later { self.old.count ≤ self.new.count }
     {
         self.count = self.count.saturating_add(1);
-        up_table(alloc, question, table)
+        next_table(maker, alloc, question, table)
     }
 }
 
 // The same, which is not counted.
-fn up_table(alloc: Global, question: &Question, table: &[u64]) -> Result<Vec<u64>, OutOfMemory>
+fn next_table<M: UpTables>(
+    maker: &M,
+    alloc: Global,
+    question: &Question,
+    table: &[u64],
+) -> Result<Vec<u64>, OutOfMemory>
+    requires can { M.can_fill }
     requires length { length table.now ≡ states question.now }
     requires units { All (λ v. v ≤ unit) table.now }
     ensures { IfOk result (λ next. IsTable question.now (up_step question.now (slice_index table.now)) next.items) }
 {
-    let states = question.game().states();
-    let mut next = Vec::with_capacity(alloc, states as usize)?;
-    for state in 0..states {
-        next.push(up_state(question, state, table))?;
-    }
+    let mut next = vec![in alloc; 0; question.game().states() as usize]?;
+    maker.fill(question, table, &mut next);
     Ok(next)
 }
 

@@ -1,6 +1,6 @@
 //! Worked guesses, computed by hand.
 
-use crate::{Witnesses, guess, guess_with};
+use crate::{Alone, Witnesses, guess, guess_with};
 use game_model::{Question, Side, UNIT};
 use sample_games::{all_of, chain, coin_loop, four_states, none_of, only};
 use std::alloc::Global;
@@ -78,10 +78,10 @@ fn a_guess_looks_first_at_the_states_that_refused_the_last_one(
     let mut witnesses = Witnesses::none();
     // The five tables without an excess are made, and each is refused at another state. These states refuse all others up to
     // the one that has the unit everywhere.
-    let _first = guess_with(alloc, &question, &zero, &lower, &mut witnesses)?;
+    let _first = guess_with(&Alone {}, alloc, &question, &zero, &lower, &mut witnesses)?;
     assert_eq!(rt; witnesses.up_steps(), 6);
     // Now they refuse the five as well.
-    let _second = guess_with(alloc, &question, &zero, &lower, &mut witnesses)?;
+    let _second = guess_with(&Alone {}, alloc, &question, &zero, &lower, &mut witnesses)?;
     assert_eq!(rt; witnesses.up_steps(), 7);
     Ok(())
 }

@@ -7,17 +7,17 @@ use Rattle.upper_guess.proofs.Accepting.{not-all-refused}
 use Rattle.upper_guess.proofs.guess_with.Goals as goal
 
 pub inductive_is_high-requires : goal.inductive_is_high-requires
-inductive_is_high-requires c =
+inductive_is_high-requires t c =
     let found : IsFirstAt c.args.question.now c.args.zero.now (slice_index c.args.lower.now) c.excess_at.result c.in-Some.table.items = rw c.in-Some.is at c.in_ok-table.ensures.found in
     rw c.deref.ensures.value (IsInductive-list c.args.question.now _ c.in-Some.table.items c.known.ensures found.entries found.accepted)
 
 pub returns-in-Some-clause-inductive : goal.returns-in-Some-clause-inductive
-returns-in-Some-clause-inductive c =
+returns-in-Some-clause-inductive t c =
     let found : IsFirstAt c.args.question.now c.args.zero.now (slice_index c.args.lower.now) c.excess_at.result c.in-Some.table.items = rw c.in-Some.is at c.in_ok-table.ensures.found in
     IsInductive-list c.args.question.now _ c.in-Some.table.items c.known.ensures found.entries found.accepted
 
 pub loop-place-preserved : goal.loop-place-preserved
-loop-place-preserved c =
+loop-place-preserved t c =
     let refused : AreRefused c.args.question.now c.args.zero.now (slice_index c.args.lower.now) c.excess_at.result = rw c.in_default.is at c.in_ok-table.ensures.found in
     record {
       witnesses = c.in_ok-table.ensures.witnesses;
@@ -27,4 +27,4 @@ loop-place-preserved c =
     }
 
 pub unreachable-requires : goal.unreachable-requires
-unreachable-requires c = not-all-refused c.args.question.now c.args.zero.now (slice_index c.args.lower.now) c.known.ensures c.requires.zero (c.loop-place.invariant.refused last_place (omega (arith, c.loop-place-test.false)))
+unreachable-requires t c = not-all-refused c.args.question.now c.args.zero.now (slice_index c.args.lower.now) c.known.ensures c.requires.zero (c.loop-place.invariant.refused last_place (omega (arith, c.loop-place-test.false)))

@@ -19,12 +19,12 @@ is_stable-stable-requires-clause-rests g c is =
     (subst (λ (l : List ℕ). IsSettled q (slice_index l)) (sym c.deref.ensures.value) settled.0, subst (λ (l : List ℕ). IsSettled other (slice_index l)) (sym c.deref-2.ensures.value) settled.1)
 
 pub upper_table-requires-clause-units : goal.upper_table-requires-clause-units
-upper_table-requires-clause-units g c =
+upper_table-requires-clause-units g c lifetimes within =
     subst (λ (l : List ℕ). All (λ v. v ≤ unit) l) (sym c.deref-3.ensures.value)
     (all-units-raced c.args.ending.now.question.now c.args.words.now c.in_ok-base.base.items c.args.ended.rounds c.requires.asked.1.raced c.in_ok-base.ensures)
 
 pub upper_table-requires-clause-unlost : goal.upper_table-requires-clause-unlost
-upper_table-requires-clause-unlost g c =
+upper_table-requires-clause-unlost g c lifetimes within =
     let q = c.args.ending.now.question.now in
     let covalues : List ℕ = c.in_ok-covalues.covalues.items in
     subst (λ (l : List ℕ). IsInductive q (λ s. unit - slice_index l s)) (sym c.deref-4.ensures.value)
@@ -33,7 +33,7 @@ upper_table-requires-clause-unlost g c =
     c.known.ensures c.known-2.ensures c.requires.zero c.requires.other c.requires.asked.1 c.in_ok-base.ensures c.in_ok-covalues.ensures))
 
 pub upper_table-requires-clause-kept : goal.upper_table-requires-clause-kept
-upper_table-requires-clause-kept g c =
+upper_table-requires-clause-kept g c lifetimes within =
     let q = c.args.ending.now.question.now in
     let lower : List ℕ = c.in_ok-base.base.items in
     let covalues : List ℕ = c.in_ok-covalues.covalues.items in

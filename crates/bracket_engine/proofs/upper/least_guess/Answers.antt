@@ -10,7 +10,7 @@ use Rattle.bracket_engine.proofs.Uppers.{IsLeastGuess-both}
 use Rattle.bracket_engine.proofs.upper.least_guess.Goals as goal
 
 pub returns : goal.returns
-returns c =
+returns g c =
     let q = c.args.question.now in
     let zero = c.args.zero.now in
     let guessed : List ℕ = c.in_ok-guessed.guessed.items in

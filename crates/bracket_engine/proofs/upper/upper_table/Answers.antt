@@ -6,7 +6,7 @@ use Rattle.bracket_engine.proofs.Uppers.{IsUpperFrom-lesser}
 use Rattle.bracket_engine.proofs.upper.upper_table.Goals as goal
 
 pub returns : goal.returns
-returns c =
+returns g c =
     let unlost : List ℕ = c.in_ok-unlost.unlost.items in
     let guessed : List ℕ = c.in_ok-guessed.guessed.items in
     IfOk-weaker c.lesser.result _ _ (λ upper lesser.

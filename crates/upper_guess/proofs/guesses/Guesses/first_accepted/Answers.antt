@@ -23,7 +23,7 @@ witnesses-set : (q : Query) (witnesses : List ℕ) (i s : ℕ) → AreWitnesses 
 witnesses-set q witnesses i s h inside = record { many = length-set witnesses i s ∙ h.many; inside = All-set (λ s. s < states q) witnesses i s inside h.inside }
 
 pub loop-steps-preserved-then-refuses_at : goal.loop-steps-preserved-then-refuses_at
-loop-steps-preserved-then-refuses_at c =
+loop-steps-preserved-then-refuses_at t c =
     let g = c.args.self.now in
     let h = c.loop-steps.invariant in record {
       made = made-later g c.loop-steps.steps c.loop-steps.made h.made;
@@ -34,7 +34,7 @@ loop-steps-preserved-then-refuses_at c =
     }
 
 pub returns-in_default-clause-found : goal.returns-in_default-clause-found
-returns-in_default-clause-found c =
+returns-in_default-clause-found t c =
     let g = c.args.self.now in
     let q = g.question.now in
     let table = c.in_ok-table.table.items in
@@ -50,7 +50,7 @@ returns-in_default-clause-found c =
     }
 
 pub loop-steps-preserved : goal.loop-steps-preserved
-loop-steps-preserved c =
+loop-steps-preserved t c =
     let g = c.args.self.now in
     let q = g.question.now in
     let steps : ℕ = c.loop-steps.steps in
@@ -69,4 +69,4 @@ loop-steps-preserved c =
     }
 
 pub returns-clause-found : goal.returns-clause-found
-returns-clause-found c j few = c.loop-steps.invariant.refused j (omega (arith, few, c.loop-steps-test.false))
+returns-clause-found t c j few = c.loop-steps.invariant.refused j (omega (arith, few, c.loop-steps-test.false))

@@ -1,10 +1,10 @@
 use Rattle.std.proofs.Common.{◌-◌, ◌≤◌}
 use Rattle.upper_guess.specs.Guess.{RoseBy}
-use Rattle.upper_guess.specs.OfGuesses.{IsTableOf, steps_of}
+use Rattle.upper_guess.specs.OfGuesses.{IsTableOf}
 use Rattle.upper_guess.proofs.guesses.Guesses.table_after.Given as goal
 
 abbrev pub invariant-loop-step : goal.invariant-loop-step
-invariant-loop-step l = record {
+invariant-loop-step t l = record {
   table : IsTableOf l.self l._step l.table.items;
   counted : RoseBy (l._step - l.at) l.fn.up_steps.count l.up_steps.count;
   later : l.fn.up_steps.count ≤ l.up_steps.count;
