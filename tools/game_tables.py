@@ -14,6 +14,7 @@ lesser of two inductive ones inductive.
 import operator
 from array import array
 from collections import deque, namedtuple
+from fractions import Fraction
 
 from exact_signs import ABOVE, BELOW, EQUAL, excess, rising, sign_of, signs, step
 
@@ -90,6 +91,11 @@ class Table:
         good = (self.FIRM[self.sign(choice, state)] for choice in self.model.choices_of(state))
         return any(good) if self.needs_one(state) else all(good)
 
+    def average(self, choice, state, stuck):
+        """The exact weighted average of a choice, without the moves to its own state; this number where it has no others."""
+        product, total = step(self.model, choice, state, self.entries)
+        return Fraction(product, total) if total else stuck
+
     def sources(self, state):
         """The open states with a choice that leads to a state."""
         return {source for source in map(self.graph.state_of.__getitem__, self.graph.moves_to(state)) if self.open[source]}
@@ -157,6 +163,19 @@ class LowerTable(Table):
         product, total = step(self.model, choice, state, self.entries)
         return -(-product // total) - 1 if total else 0
 
+    def given(self, choice, state):
+        product, total = step(self.model, choice, state, self.entries)
+        return product // total if total else 0
+
+    def kept_choices(self, state):
+        """The choices that an entry is narrowed under: of the maximiser the best one alone, so that none stays for ever."""
+        choices = self.model.choices_of(state)
+        return [max(choices, key=lambda choice: self.average(choice, state, 0))] if self.maximises[state] else choices
+
+    def held_step(self, state, choices):
+        """The greatest entry up to the one at hand that these choices give."""
+        return min(self.entries[state], *(self.given(choice, state) for choice in choices))
+
     def rank(self):
         """Choices and ranks; bold entries that can't be ranked are taken back first."""
         while True:
@@ -186,6 +205,17 @@ class UpperTable(Table):
     def above(self, choice, state):
         product, total = step(self.model, choice, state, self.entries)
         return -(-product // total) if total else self.entries[state]
+
+    def kept_choices(self, state):
+        """The choices that an entry is narrowed under: of the minimiser the best one alone."""
+        choices = self.model.choices_of(state)
+        if self.maximises[state]:
+            return choices
+        return [min(choices, key=lambda choice: self.average(choice, state, self.entries[state]))]
+
+    def held_step(self, state, choices):
+        """The least entry from the one at hand on that is not below what these choices give."""
+        return max(self.entries[state], *(self.above(choice, state) for choice in choices))
 
     def replies(self):
         """The first choice of the minimiser that is held, at each of its states that is neither goal nor dead."""

@@ -15,6 +15,7 @@ from game_graph import Graph
 from trials import TOOLS, InFolder, load, needs_program, program, run, run_tool
 
 UNIT = 10**15
+GALLERY = TOOLS.parent / "gallery" / "models"
 certify = load("certify")
 
 COIN = ("3 3 5\n0 0 0 0.5\n0 0 1 0.25\n0 0 2 0.25\n1 0 1 1\n2 0 2 1\n", '0="init" 1="goal"\n0: 0\n1: 1\n')
@@ -347,6 +348,36 @@ class Chains(unittest.TestCase):
                 self.assertGreaterEqual(upper[half - 1], UNIT // 2)
                 self.assertLessEqual(upper[half - 1] - lower[half - 1], 10**6)
                 self.assertIsNone(wide)
+
+    def test_hard_chains_as_near_as_whole_units_can_be(self):
+        for half in (3, 10, 16, 20, 25):
+            with self.subTest(half=half):
+                lower, upper, _ = certified(hard_chain(half))
+                self.check_middle(half, lower[half - 1], upper[half - 1])
+
+    def test_the_chain_of_the_gallery(self):
+        """`chain-20`, whose bounds can't be nearer than 425,984 units, which is 4.3 * 10^-10."""
+        transitions, labels = (str(GALLERY / f"chain-20.{ending}") for ending in ("tra", "lab"))
+        model = explicit.read_transitions(transitions)
+        labels = explicit.read_labels(labels, model.states)
+        question = explicit.pose(model, labels, explicit.single_owner(model.states), explicit.read_formula('Pmax=? [ F "goal" ]'))
+        lower, upper, wide = certified(question)
+        self.check_middle(20, lower[0], upper[0])
+        self.assertEqual(width((lower, upper, wide)), 425_984)
+        self.assertIsNone(wide)
+
+    def check_middle(self, half, lower, upper):
+        """Checks that the bounds of the middle are the nearest ones of all tables of whole units.
+
+        With m units in the middle, what a lower table has more than m is halved from the goal on, rounded down, and what it
+        has less is halved from the trap on, rounded up; so with q = 2 ^ (half - 1) it needs floor((1 - m) / q) >= ceil(m /
+        q), which holds up to some m. Upper tables are the mirror image.
+        """
+        halved = 2 ** (half - 1)
+        is_lower = lambda middle: (UNIT - middle) // halved >= -(-middle // halved)
+        self.assertTrue(is_lower(lower))
+        self.assertFalse(is_lower(lower + 1))
+        self.assertEqual(upper, UNIT - lower)
 
     def test_too_slow_a_chain(self):
         """A chain of 2^60 steps: nothing is found with so few decimals, and that is told."""
