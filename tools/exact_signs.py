@@ -85,12 +85,16 @@ def block_signs(model, state_of, entries, first, end):
     return found.astype(numpy.uint8).tobytes()
 
 
-def rising(model, state_of, table):
-    """For each choice whether some successor has a greater entry than its state, as bytes."""
+def leading(model, state_of, table, ranks):
+    """For each choice whether some successor has a greater entry than its state, or an equal one of smaller rank, as bytes."""
     if flat.numpy is None:
-        greatest = lambda choice: max(map(table.__getitem__, model.successor[model.edge_start[choice] : model.edge_start[choice + 1]]))
-        return bytearray(greatest(choice) > table[state] for choice, state in enumerate(state_of))
+        key = lambda state: (-table[state], ranks[state])
+        least = lambda choice: min(map(key, model.successor[model.edge_start[choice] : model.edge_start[choice + 1]]))
+        return bytearray(least(choice) < key(state) for choice, state in enumerate(state_of))
     numpy = flat.numpy
-    entries = numpy.array(table, dtype=numpy.int64)
-    greatest = numpy.maximum.reduceat(entries[flat.view(model.successor)], flat.view(model.edge_start)[:-1])
-    return bytearray((greatest > entries[flat.view(state_of)]).astype(numpy.uint8))
+    entries, start = numpy.array(table, dtype=numpy.int64), flat.view(model.edge_start)
+    successor = flat.view(model.successor)
+    own = numpy.repeat(flat.view(state_of), numpy.diff(start))
+    gain = entries[successor] - entries[own]
+    leads = (gain > 0) | ((gain == 0) & (flat.view(ranks)[successor] < flat.view(ranks)[own]))
+    return bytearray(numpy.logical_or.reduceat(leads, start[:-1]).astype(numpy.uint8))

@@ -113,9 +113,9 @@ def fill_lists(model, header, columns, most_choices):
     require(is_without_gaps(sources[first], choices[first], states))
     require(len(header) == 2 or header[1] == len(first))
     weights, totals, owner = weights_of(numerators, places, first, powers)
-    model.choice_start = int_array(numpy.searchsorted(sources[first], numpy.arange(states + 1)))
-    model.edge_start = int_array(numpy.concatenate([first, [lines]]))
-    model.successor = int_array(targets)
+    model.choice_start = flat.int_array(numpy.searchsorted(sources[first], numpy.arange(states + 1)))
+    model.edge_start = flat.int_array(numpy.concatenate([first, [lines]]))
+    model.successor = flat.int_array(targets)
     model.weight = array("q", weights.tobytes())
     model.total = array("q", totals.tobytes())
     model.probability = array("d", (weights / totals[owner]).tobytes())
@@ -141,10 +141,6 @@ def weights_of(numerators, places, first, powers):
     totals = numpy.add.reduceat(weights, first)
     require((abs(totals - common) <= common // SUM_TOLERANCE).all())
     return weights, totals, owner
-
-
-def int_array(numbers):
-    return array("i", numbers.astype(flat.numpy.int32).tobytes())
 
 
 def require(condition):

@@ -139,7 +139,7 @@ class ArrayGame:
 def split_edges(model, choices, node_of, place, values):
     """The edges of choices that lead to other nodes: the choice's place, target and share; and what each choice gives by leaving."""
     numpy = flat.numpy
-    edges, owner = joined_ranges(flat.view(model.edge_start), choices)
+    edges, owner = flat.joined_ranges(flat.view(model.edge_start), choices)
     successor = flat.view(model.successor)[edges]
     share = flat.view(model.probability)[edges]
     target = flat.view(place)[successor]
@@ -154,16 +154,6 @@ def split_edges(model, choices, node_of, place, values):
     leak[stuck] = 1.0
     owner, target, share = owner[moving], target[moving].astype(numpy.int64), share[moving]
     return owner, target, share / leaving[owner], constant / leaving, leak / leaving
-
-
-def joined_ranges(start, places):
-    """The numbers from start[p] to start[p + 1] for each of these places, one behind another; and which place each is of."""
-    numpy = flat.numpy
-    first = start[places].astype(numpy.int64)
-    lengths = start[places + 1] - first
-    ends = numpy.cumsum(lengths)
-    owner = numpy.repeat(numpy.arange(len(places)), lengths)
-    return numpy.arange(ends[-1] if len(ends) else 0) + numpy.repeat(first - ends + lengths, lengths), owner
 
 
 def with_idle_choices(empty, node_of, constant, leak, owner, target, share):
@@ -197,7 +187,7 @@ class Chain:
         self.size = game.size
         self.constant = game.constant[policy] + cost
         self.leak = game.leak[policy]
-        edges, self.source = joined_ranges(game.edge_start, policy)
+        edges, self.source = flat.joined_ranges(game.edge_start, policy)
         self.target, self.share = game.target[edges], game.share[edges]
         self.edge_start = numpy.searchsorted(self.source, numpy.arange(self.size))
 

@@ -3,11 +3,16 @@
 Sets are bytes, one for each state or choice: 1 where it is a member.
 """
 
+import operator
 from array import array
 
 import flat
 
 DONE = 2**31 - 1
+
+# states from which on they are taken together, and steps of all that are taken to find one great component
+LONG_FRONT = 500
+MOST_LEVELS = 4_000
 
 
 class Graph:
@@ -28,43 +33,77 @@ class Graph:
         These are the goals, and each state of the maximiser with a choice, and of the minimiser with all choices, that
         lead with some probability to such a state.
         """
-        maximises, dead = self.question.maximises, self.question.dead
-        reached = bytearray(self.question.goal)
-        met = bytearray(len(self.state_of))
-        unmet = [len(self.model.choices_of(state)) for state in range(self.model.states)]
-        stack = [state for state, bit in enumerate(reached) if bit]
-        while stack:
-            for choice in self.moves_to(stack.pop()):
-                state = self.state_of[choice]
-                if met[choice] or reached[state] or dead[state]:
-                    continue
-                met[choice] = 1
-                unmet[state] -= 1
-                if maximises[state] or not unmet[state]:
-                    reached[state] = 1
-                    stack.append(state)
+        question, start = self.question, self.model.choice_start
+        reached = bytearray(question.goal)
+        ended = bytes(map(operator.or_, question.goal, question.dead))
+        counted = bytearray(1 - ended[state] for state in self.state_of)
+        needed = array("i", [1 if side else end - first for side, first, end in zip(question.maximises, start, start[1:])])
+        self.spread([state for state, bit in enumerate(reached) if bit], reached, counted, needed)
         return reached
+
+    def spread(self, front, reached, counted, needed):
+        """Reaches from these states on all that can be, step by step."""
+        while front:
+            front = self.step(front, reached, counted, needed)
+
+    def step(self, front, reached, counted, needed, entries=None):
+        """Reaches the states of which as many choices as are needed lead to states that were reached, the last of them these; gives them.
+
+        Choices that are counted can do so, and are not counted any more when they do. Where there are entries, only a move to
+        an equal one counts.
+        """
+        if flat.numpy is not None and len(front) >= LONG_FRONT:
+            return self.step_together(front, reached, counted, needed, entries)
+        found = []
+        for successor in front:
+            for choice in self.moves_to(successor):
+                state = self.state_of[choice]
+                if counted[choice] and (entries is None or entries[state] == entries[successor]):
+                    counted[choice] = 0
+                    needed[state] -= 1
+                    if not needed[state]:
+                        reached[state] = 1
+                        found.append(state)
+        return found
+
+    def step_together(self, front, reached, counted, needed, entries):
+        numpy = flat.numpy
+        front = numpy.array(front)
+        places, owner = flat.joined_ranges(flat.view(self.move_start), front)
+        choices = flat.view(self.moves)[places]
+        meets = flat.bytes_view(counted)[choices] > 0
+        if entries is not None:
+            own = flat.view(entries)[flat.view(self.state_of)[choices]]
+            meets &= own == flat.view(entries)[front][owner]
+        choices = numpy.unique(choices[meets])
+        flat.bytes_view(counted)[choices] = 0
+        states, met = numpy.unique(flat.view(self.state_of)[choices], return_counts=True)
+        left = flat.view(needed)
+        left[states] -= met.astype(left.dtype)
+        found = states[(left[states] <= 0) & (flat.bytes_view(reached)[states] == 0)]
+        flat.bytes_view(reached)[found] = 1
+        return found.tolist()
 
     def lasting(self, inside, usable):
         """The greatest set within a set each of whose states has a usable choice that surely stays; and these choices."""
-        staying = bytearray(inside)
         kept = kept_choices(self.model, self.state_of, inside, usable)
-        left = [0] * self.model.states
+        left = self.counts(kept)
+        lost = [state for state, bit in enumerate(inside) if bit and not left[state]]
+        gone = bytearray(self.model.states)
+        for state in lost:
+            gone[state] = 1
+        self.spread(lost, gone, kept, left)
+        return bytearray(map(operator.gt, inside, gone)), kept
+
+    def counts(self, kept):
+        """How many choices of a set each state has."""
+        if flat.numpy is not None:
+            owners = flat.view(self.state_of)[flat.bytes_view(kept) > 0]
+            return array("i", flat.numpy.bincount(owners, minlength=self.model.states).astype(flat.numpy.int32).tobytes())
+        counts = array("i", [0]) * self.model.states
         for choice, bit in enumerate(kept):
-            left[self.state_of[choice]] += bit
-        stack = [state for state, bit in enumerate(inside) if bit and not left[state]]
-        for state in stack:
-            staying[state] = 0
-        while stack:
-            for choice in self.moves_to(stack.pop()):
-                if kept[choice]:
-                    kept[choice] = 0
-                    state = self.state_of[choice]
-                    left[state] -= 1
-                    if not left[state]:
-                        staying[state] = 0
-                        stack.append(state)
-        return staying, kept
+            counts[self.state_of[choice]] += bit
+        return counts
 
     def end_components(self, inside, usable):
         """The maximal end components within a set, over usable choices (de Alfaro 1997, algorithm 3.1): lists of states.
@@ -78,22 +117,24 @@ class Graph:
             for place, states in enumerate(found):
                 for state in states:
                     number[state] = place
-            leaving = [choice for choice, bit in enumerate(kept) if bit and not self.stays(choice, number)]
-            if not leaving:
+            within = bytearray(map(operator.and_, kept, self.within(number)))
+            if within == kept:
                 return found
-            for choice in leaving:
-                kept[choice] = 0
-            staying, kept = self.lasting(staying, kept)
+            staying, kept = self.lasting(staying, within)
         return []
 
-    def stays(self, choice, number):
-        """Whether all successors of a choice have the number of its state."""
-        model = self.model
-        own = number[self.state_of[choice]]
-        first, end = model.edge_start[choice], model.edge_start[choice + 1]
-        return all(number[state] == own for state in model.successor[first:end])
+    def within(self, number):
+        """For each choice whether all its successors have the number of its state, as bytes."""
+        successor, start = self.model.successor, self.model.edge_start
+        if flat.numpy is None:
+            same = lambda choice, own: all(number[state] == own for state in successor[start[choice] : start[choice + 1]])
+            return bytes(same(choice, number[state]) for choice, state in enumerate(self.state_of))
+        numpy = flat.numpy
+        numbers, own = flat.view(number)[flat.view(successor)], flat.view(number)[flat.view(self.state_of)]
+        least, greatest = (pick.reduceat(numbers, flat.view(start)[:-1]) for pick in (numpy.minimum, numpy.maximum))
+        return ((least == own) & (greatest == own)).tobytes()
 
-    def successors(self, state, usable):
+    def successors(self, state, usable=None):
         model = self.model
         first, end = model.choice_start[state], model.choice_start[state + 1]
         if usable is None:
@@ -105,7 +146,58 @@ class Graph:
         return found
 
     def components(self, inside, usable=None):
-        """The strongly connected components within a set, over usable choices or all: each behind those it leads to (Tarjan 1972)."""
+        """The strongly connected components within a set, over usable choices or all: each behind those it leads to."""
+        if flat.numpy is None or inside.count(1) < LONG_FRONT:
+            return self.searched(inside, usable)
+        return self.components_around(inside, usable) or self.searched(inside, usable)
+
+    def components_around(self, inside, usable):
+        """The components, of which one is found by what a state leads to and what leads to it (Fleischer, Hendrickson and Pinar 2000).
+
+        It comes behind those that it leads to and those that have nothing to do with it. None where this takes long.
+        """
+        numpy = flat.numpy
+        members = flat.bytes_view(inside) > 0
+        middle = int(numpy.where(members, numpy.diff(flat.view(self.move_start)), -1).argmax())
+        played = None if usable is None else flat.bytes_view(usable) > 0
+        ahead = self.closed(middle, members, played, self.forward)
+        behind = None if ahead is None else self.closed(middle, members, played, self.backward)
+        if behind is None:
+            return None
+        found = self.searched(bytearray(ahead & ~behind), usable)
+        found += self.searched(bytearray(members & ~ahead & ~behind), usable)
+        found.append(numpy.flatnonzero(ahead & behind).tolist())
+        return found + self.searched(bytearray(behind & ~ahead), usable)
+
+    def closed(self, state, members, played, step):
+        """The members that are reached from a state by such steps; None where too many follow each other."""
+        numpy = flat.numpy
+        reached = numpy.zeros(len(members), dtype=bool)
+        front = numpy.array([state])
+        reached[front] = True
+        for _ in range(MOST_LEVELS):
+            front = step(front, played)
+            front = numpy.unique(front[members[front] & ~reached[front]])
+            if not len(front):
+                return reached
+            reached[front] = True
+        return None
+
+    def forward(self, states, played):
+        """The successors of states."""
+        choices, _ = flat.joined_ranges(flat.view(self.model.choice_start), states)
+        choices = choices if played is None else choices[played[choices]]
+        edges, _ = flat.joined_ranges(flat.view(self.model.edge_start), choices)
+        return flat.view(self.model.successor)[edges]
+
+    def backward(self, states, played):
+        """The states with a choice that leads to these."""
+        places, _ = flat.joined_ranges(flat.view(self.move_start), states)
+        choices = flat.view(self.moves)[places]
+        return flat.view(self.state_of)[choices if played is None else choices[played[choices]]]
+
+    def searched(self, inside, usable):
+        """The components by a search of all states (Tarjan 1972)."""
         low = array("i", [0 if bit else DONE for bit in inside])
         number = array("i", [0]) * len(low)
         met, found = 0, []
@@ -162,6 +254,9 @@ def popped(pending, state, low):
 
 
 def states_of_choices(model):
+    if flat.numpy is not None:
+        lengths = flat.numpy.diff(flat.view(model.choice_start))
+        return array("i", flat.numpy.repeat(flat.numpy.arange(model.states, dtype=flat.numpy.int32), lengths).tobytes())
     owner = array("i")
     for state in range(model.states):
         owner.extend([state] * (model.choice_start[state + 1] - model.choice_start[state]))

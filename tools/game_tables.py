@@ -16,7 +16,8 @@ from array import array
 from collections import deque, namedtuple
 from fractions import Fraction
 
-from exact_signs import ABOVE, BELOW, EQUAL, excess, rising, sign_of, signs, step
+import flat
+from exact_signs import ABOVE, BELOW, EQUAL, excess, leading, sign_of, signs, step
 
 UNIT = 10**15
 
@@ -51,11 +52,12 @@ class Table:
         self.entries = list(safe)
         self.is_bold = bytearray(len(safe))
         self.witness = array("i", [-1]) * len(safe)
+        self.one_is_enough = bytes(bit == self.MOVER for bit in self.maximises)
 
     def mend(self):
         """Mends safe entries by rounded steps until each holds."""
         firm = self.signs().translate(self.FIRM)
-        waiting = deque(state for state, bit in enumerate(self.open) if bit and not self.is_met(state, firm))
+        waiting = deque(self.unmet(self.open, firm))
         left = MENDING_LEAST + MENDING_EACH * len(self.open)
         while waiting:
             state = waiting.popleft()
@@ -75,14 +77,26 @@ class Table:
     def sign(self, choice, state):
         return sign_of(excess(self.model, choice, state, self.entries))
 
+    def unmet(self, members, good):
+        """The members where no choice is good, though one is needed, or not each is."""
+        if flat.numpy is not None:
+            return self.unmet_together(flat.bytes_view(members), flat.bytes_view(good))
+        return [state for state, bit in enumerate(members) if bit and not self.is_met(state, good)]
+
     def is_met(self, state, good):
-        """Whether one choice is good, where one is needed, or else each; the entry 0 of a lower table needs none."""
         first, end = self.model.choice_start[state], self.model.choice_start[state + 1]
         if self.needs_none(state):
             return True
         if self.needs_one(state):
             return good.find(1, first, end) >= 0
         return good.find(0, first, end) < 0
+
+    def unmet_together(self, members, good):
+        numpy = flat.numpy
+        start = flat.view(self.model.choice_start)[:-1]
+        least, greatest = (pick.reduceat(good, start) for pick in (numpy.minimum, numpy.maximum))
+        met = numpy.where(flat.bytes_view(self.one_is_enough), greatest, least)
+        return [state for state in numpy.flatnonzero((members > 0) & (met == 0)).tolist() if not self.needs_none(state)]
 
     def is_firm(self, state):
         """Whether a safe entry holds."""
@@ -96,21 +110,24 @@ class Table:
         product, total = step(self.model, choice, state, self.entries)
         return Fraction(product, total) if total else stuck
 
+    def needs_one(self, state):
+        """Whether one choice is enough, or each is needed."""
+        return self.one_is_enough[state]
+
     def sources(self, state):
         """The open states with a choice that leads to a state."""
         return {source for source in map(self.graph.state_of.__getitem__, self.graph.moves_to(state)) if self.open[source]}
 
     def lay_over(self, bold):
-        """Sets bold entries, where there are some, and takes back those that do not hold."""
-        for state, entry in enumerate(bold):
-            if entry is not None and self.open[state]:
-                self.entries[state] = entry
-                self.is_bold[state] = 1
+        """Sets the bold entries of some states, and takes back those that do not hold."""
+        for state, entry in bold.items():
+            self.entries[state] = entry
+            self.is_bold[state] = 1
         allowed = self.signs().translate(self.ALLOWED)
         bold_states = [state for state, bit in enumerate(self.is_bold) if bit]
         for state in bold_states:
             self.witness[state] = allowed.find(1, self.model.choice_start[state], self.model.choice_start[state + 1])
-        self.take_back([state for state in bold_states if not self.is_met(state, allowed)])
+        self.take_back(self.unmet(self.is_bold, allowed))
 
     def take_back(self, states):
         """Takes back bold entries that do not hold, and all that then do not hold any more."""
@@ -144,15 +161,12 @@ class Table:
 class LowerTable(Table):
     """A lower table. Safe entries are below what choices give, so that these lead to greater ones."""
 
+    MOVER = 1
     ALLOWED = flags(EQUAL, ABOVE)
     FIRM = flags(ABOVE)
 
     def needs_none(self, state):
         return not self.entries[state]
-
-    def needs_one(self, state):
-        """Whether one choice is enough, or each is needed."""
-        return self.maximises[state]
 
     def rounded_step(self, state):
         """The greatest entry that is below what the state's choices give, or 0."""
@@ -182,20 +196,20 @@ class LowerTable(Table):
             layers = Layers(self)
             unranked = layers.unranked()
             if not unranked:
-                return layers.choices, layers.ranks
+                return layers.first_choices(), layers.ranks
+            if not any(map(self.is_bold.__getitem__, unranked)):
+                raise Unmended(unranked[0])
             self.take_back(unranked)
 
 
 class UpperTable(Table):
     """An upper table."""
 
+    MOVER = 0
     ALLOWED = FIRM = flags(BELOW, EQUAL)
 
     def needs_none(self, state):
         return False
-
-    def needs_one(self, state):
-        return not self.maximises[state]
 
     def rounded_step(self, state):
         """The least entry that is not below what the state's choices give."""
@@ -232,63 +246,59 @@ class Layers:
     """The least ranks, layer by layer, of a lower table that holds.
 
     Layer 0 has the states that need no rank. Layer r + 1 has also each state whose choice, or for the minimiser each of whose
-    choices, leads to a greater entry, or to an equal one in layer r. `choices` has the maximiser's choices.
+    choices, leads to a greater entry, or to an equal one in layer r.
     """
 
     def __init__(self, table):
-        self.table, self.graph, self.entries = table, table.graph, table.entries
+        self.table, self.graph = table, table.graph
+        self.waiting = bytearray(1 if bit and entry else 0 for bit, entry in zip(table.open, table.entries))
         self.enough = table.signs().translate(table.ALLOWED)
-        self.rises = rising(table.model, self.graph.state_of, self.entries)
-        self.good = bytes(map(operator.and_, self.enough, self.rises))
-        self.choices = [None] * len(self.entries)
-        self.ranks = array("i", [-1 if bit and entry else 0 for bit, entry in zip(table.open, self.entries)])
-        self.unmet = {}
-        rising_states = [state for state, rank in enumerate(self.ranks) if rank < 0 and self.rises_at(state)]
-        goals = [state for state, bit in enumerate(self.graph.question.goal) if bit]
-        layer = self.joining(goals, 1) + rising_states
-        for state in rising_states:
-            self.ranks[state] = 1
-        rank = 1
-        while layer:
-            rank += 1
-            layer = self.joining(layer, rank)
+        self.ranks = array("i", list(self.waiting))
+        self.rank_by_layers()
 
     def unranked(self):
         return [state for state, rank in enumerate(self.ranks) if rank < 0]
 
-    def rises_at(self, state):
-        """Whether the state's choice, or for the minimiser each one, leads to a greater entry; choices that don't are counted."""
-        first, end = self.table.model.choice_start[state], self.table.model.choice_start[state + 1]
-        if self.table.maximises[state]:
-            found = self.good.find(1, first, end)
-            if found >= 0:
-                self.choices[state] = found - first
-            return found >= 0
-        if self.rises.find(0, first, end) < 0:
-            return True
-        self.unmet[state] = {choice for choice in range(first, end) if not self.rises[choice]}
-        return False
+    def rank_by_layers(self):
+        level = array("i", [0]) * len(self.ranks)
+        rises = leading(self.table.model, self.graph.state_of, self.table.entries, level)
+        unranked = self.table.unmet(self.waiting, bytes(map(operator.and_, self.enough, rises)))
+        for state in unranked:
+            self.ranks[state] = -1
+        if unranked:
+            self.join(unranked, rises)
 
-    def joining(self, layer, rank):
-        """Gives this rank to the states that lead to equal entries in a layer."""
-        joined = []
-        for successor in layer:
-            for choice in self.graph.moves_to(successor):
-                state = self.graph.state_of[choice]
-                if self.ranks[state] < 0 and self.entries[state] == self.entries[successor] and self.leads_on(state, choice):
-                    self.ranks[state] = rank
-                    joined.append(state)
-        return joined
+    def join(self, unranked, rises):
+        """Ranks what leads to an equal entry in a layer: the goals are layer 0, the first states of rank 1 are those that rise."""
+        ranked = bytearray(rank >= 0 for rank in self.ranks)
+        counted = bytearray(map(operator.gt, self.enough, rises))
+        for choice, state in enumerate(self.graph.state_of):
+            counted[choice] &= not ranked[state]
+        needed = self.graph.counts(counted)
+        for state in unranked:
+            if self.table.maximises[state]:
+                needed[state] = 1
+        entries = array("q", self.table.entries)
+        front = [state for state, bit in enumerate(self.graph.question.goal) if bit]
+        rising = [state for state, rank in enumerate(self.ranks) if rank == 1]
+        rank = 0
+        while front:
+            rank += 1
+            front = self.graph.step(front, ranked, counted, needed, entries)
+            for state in front:
+                self.ranks[state] = rank
+            front += rising
+            rising = []
 
-    def leads_on(self, state, choice):
-        """Whether a state is ranked by this choice's move to an equal entry."""
-        if self.table.maximises[state]:
-            if not self.enough[choice]:
-                return False
-            self.choices[state] = choice - self.table.model.choice_start[state]
-            return True
-        self.unmet[state].discard(choice)
-        return not self.unmet[state]
+    def first_choices(self):
+        """The first choice of the maximiser that gives enough and leads to a greater entry, or to an equal one of smaller rank."""
+        leads = leading(self.table.model, self.graph.state_of, self.table.entries, self.ranks)
+        good = bytes(map(operator.and_, self.enough, leads))
+        start, choices = self.table.model.choice_start, [None] * len(self.ranks)
+        for state, bit in enumerate(map(operator.and_, self.waiting, self.table.maximises)):
+            if bit:
+                choices[state] = good.index(1, start[state]) - start[state]
+        return choices
 
 
 def roundest(low, high):
@@ -301,6 +311,25 @@ def roundest(low, high):
         found = high // power * power
         power *= 10
     return found
+
+
+def round_entries(low, high, members):
+    """For each member the roundest number between its entries, where there is one."""
+    if flat.numpy is not None:
+        return round_together(*(flat.numpy.array(entries, dtype=flat.numpy.int64) for entries in (low, high)), members)
+    found = ((state, roundest(low[state], high[state])) for state, bit in enumerate(members) if bit)
+    return {state: entry for state, entry in found if entry is not None}
+
+
+def round_together(low, high, members):
+    numpy, found, power = flat.numpy, flat.numpy.zeros_like(low), ROUND
+    while power <= UNIT:
+        multiple = high // power * power
+        fits = (power >= 10 * (high - low)) & (multiple >= numpy.maximum(low, 1))
+        found = numpy.where(fits, multiple, found)
+        power *= 10
+    states = numpy.flatnonzero((found > 0) & (flat.bytes_view(members) > 0))
+    return dict(zip(states.tolist(), found[states].tolist()))
 
 
 Certificate = namedtuple("Certificate", "lower choices ranks upper replies")

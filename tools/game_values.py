@@ -6,10 +6,12 @@ rise and fall as a certificate wants it. With a cost the equations of the lower 
 maximiser can stay for ever; for the upper ones his end components are merged.
 """
 
+import itertools
 import operator
 from array import array
 
 import flat
+from flat import int_array
 from game_arrays import ArrayGame
 from game_nodes import NO_GAIN, UNIT, NodeGame, Nodes
 
@@ -174,11 +176,11 @@ class Solver:
     def lower(self, cost):
         """Lower values, for a cost of so many units."""
         values = self.first_values()
+        played = bytearray([1]) * len(self.model.total)
         for states in self.components:
             for node, state in enumerate(states):
                 self.place[state] = node
-            nodes = self.nodes_of([[state] for state in states], self.model.choices_of)
-            self.solve_nodes(states, nodes, self.lower_start(states), values, -cost)
+            self.solve_nodes(states, self.nodes_of(states, len(states), played), self.lower_start(states), values, -cost)
         return values
 
     def lower_start(self, states):
@@ -199,19 +201,17 @@ class Solver:
     def upper_under(self, replies, start, cost):
         """Upper values where the minimiser plays these replies; each end component that is left to the maximiser is one node."""
         group = self.groups(replies)
+        played = self.played(replies, group)
         values = self.first_values()
         for states in self.components:
             members = self.merged(states, group)
-            choices = lambda state: self.leaving_choices(state, replies, group)
-            first = [max(start[state] for state in node) for node in members]
-            self.solve_nodes(states, self.nodes_of(members, choices), first, values, cost)
+            first = [max(map(start.__getitem__, node)) for node in members]
+            self.solve_nodes(states, self.nodes_of(states, len(members), played), first, values, cost)
         return values
 
     def groups(self, replies):
         """For each state the number of its end component under these replies, or -1."""
-        maximises = self.question.maximises
-        state_of = self.graph.state_of
-        usable = bytearray(maximises[state] or replies[state] == choice for choice, state in enumerate(state_of))
+        usable = self.answered(replies)
         group = array("i", [-1]) * self.model.states
         for number, states in enumerate(self.graph.end_components(self.open, usable)):
             for state in states:
@@ -230,22 +230,45 @@ class Solver:
             self.place[state] = node
         return members
 
-    def leaving_choices(self, state, replies, group):
-        """The choices of a state that are played, without those that stay in its end component."""
-        if not self.question.maximises[state]:
-            return [replies[state]] if group[state] < 0 else []
-        choices = self.model.choices_of(state)
-        return choices if group[state] < 0 else [choice for choice in choices if not self.graph.stays(choice, group)]
+    def answered(self, replies):
+        """The choices that are left by these replies, as bytes."""
+        if flat.numpy is None:
+            maximises = self.question.maximises
+            return bytearray(maximises[state] or replies[state] == choice for choice, state in enumerate(self.graph.state_of))
+        numpy, state_of = flat.numpy, flat.view(self.graph.state_of)
+        chosen = flat.view(replies)[state_of] == numpy.arange(len(state_of))
+        return bytearray(chosen | (flat.bytes_view(self.question.maximises)[state_of] > 0))
 
-    def nodes_of(self, members, choices_of):
-        """Nodes of these states, with the choices of each."""
-        nodes = Nodes(bytearray(), array("i", [0]), array("i"))
-        for states in members:
-            nodes.maximises.append(len(states) > 1 or self.question.maximises[states[0]])
-            for state in states:
-                nodes.choices.extend(choices_of(state))
-            nodes.start.append(len(nodes.choices))
-        return nodes
+    def played(self, replies, group):
+        """The choices that are left by these replies, without those that stay in an end component, as bytes."""
+        grouped = bytes(number >= 0 for number in map(group.__getitem__, self.graph.state_of))
+        staying = map(operator.and_, grouped, self.graph.within(group))
+        return bytearray(map(operator.gt, self.answered(replies), staying))
+
+    def nodes_of(self, states, count, played):
+        """So many nodes of states, each with its number in `place`, and with the choices that are played."""
+        if flat.numpy is not None and count >= MANY_NODES:
+            return self.nodes_together(states, count, played)
+        maximises, choices = bytearray(count), [[] for _ in range(count)]
+        for state in states:
+            node = self.place[state]
+            maximises[node] |= self.question.maximises[state]
+            choices[node] += [choice for choice in self.model.choices_of(state) if played[choice]]
+        start = array("i", [0, *itertools.accumulate(map(len, choices))])
+        return Nodes(maximises, start, array("i", itertools.chain.from_iterable(choices)))
+
+    def nodes_together(self, states, count, played):
+        numpy = flat.numpy
+        states = numpy.array(states)
+        states = states[numpy.argsort(flat.view(self.place)[states], kind="stable")]
+        choices, owner = flat.joined_ranges(flat.view(self.model.choice_start), states)
+        is_played = flat.bytes_view(played)[choices] > 0
+        nodes = flat.view(self.place)[states]
+        start = numpy.zeros(count + 1, dtype=numpy.int32)
+        numpy.cumsum(numpy.bincount(nodes[owner[is_played]], minlength=count), out=start[1:])
+        maximises = numpy.zeros(count, dtype=numpy.uint8)
+        maximises[nodes[flat.bytes_view(self.question.maximises)[states] > 0]] = 1
+        return Nodes(bytearray(maximises), array("i", start.tobytes()), int_array(choices[is_played]))
 
     def solve_nodes(self, states, nodes, start, values, cost):
         """Finds the values of the states of a component, whose nodes stand in `place`."""
@@ -268,8 +291,8 @@ class Solver:
         """The minimiser's best choices over these values; -1 at other states."""
         of_choice = choice_values(self.model, values)
         replies = array("i", [-1]) * self.model.states
-        for state, bit in enumerate(self.open):
-            if bit and not self.question.maximises[state]:
+        for state, bit in enumerate(map(operator.gt, self.open, self.question.maximises)):
+            if bit:
                 replies[state] = min(self.model.choices_of(state), key=of_choice.__getitem__)
         return replies
 

@@ -10,7 +10,7 @@ other end.
 from collections import deque
 
 # tables that are further apart than so many units are brought nearer
-FAR = 10**4
+FAR = 10**5
 
 # rounded steps that a start may take to settle, how many starts are tried, and steps in all
 SETTLING_EACH = 20
@@ -22,8 +22,9 @@ MOST_STEPS = 2_000_000
 def narrow(table, other, components):
     """Brings a mended table nearer to the other one where they are far apart; each component is behind those it leads to."""
     left = MOST_STEPS
-    for states in components:
-        if any(abs(other[state] - table.entries[state]) > FAR for state in states):
+    is_far = bytes(abs(end - entry) > FAR for end, entry in zip(other, table.entries))
+    for states in components if any(is_far) else []:
+        if any(map(is_far.__getitem__, states)):
             left -= Narrowing(table, states, left).reach(other)
     table.safe = list(table.entries)
 

@@ -6,6 +6,7 @@ from array import array
 
 import explicit
 import flat
+import game_graph
 import game_tables
 import game_values
 from chain_elimination import eliminate
@@ -311,9 +312,9 @@ class WithAndWithoutNumpy(unittest.TestCase):
     """The ways with numpy, which are for large components, over small ones; and all without numpy."""
 
     def test_arrays(self):
-        least = game_values.MANY_NODES
-        self.addCleanup(setattr, game_values, "MANY_NODES", least)
-        game_values.MANY_NODES = 2
+        for module, name, value in ((game_values, "MANY_NODES", 2), (game_graph, "LONG_FRONT", 2)):
+            self.addCleanup(setattr, module, name, getattr(module, name))
+            setattr(module, name, value)
         draw = random.Random(4)
         for number in range(300):
             with self.subTest(number=number):
