@@ -49,13 +49,13 @@ def questions(processes):
     yield Question("P>=1", "stable", 1, SOURCE)
     yield Question("P>=0.999999", "stable", 1, SOURCE)
     yield sure("Pmin=?", "stable", value=1, source=SOURCE)
+    mean = (processes**2 - processes) // 2
     if processes <= FEW:
-        mean = (processes**2 - processes) // 2
         yield Question("Pmin=?", "stable", source=BACKWARD, steps=mean)
         yield Question("Pmax=?", "stable", source=BACKWARD, steps=mean)
         yield Question("P>=0.5", "stable", source=BACKWARD, steps=2 * mean)
-        soon = Question("P>=0.5", "stable", steps=2 * mean)
-        yield Question("P>=1", Inside(soon), 1, CLOSED, path="G")
+    soon = Question("P>=0.5", "stable", steps=2 * mean)
+    yield Question("P>=1", Inside(soon), 1, CLOSED, path="G")
     for_ever = Question("P>=1", "stable", path="G")
     yield Question("P>=0.999999", Inside(for_ever), 1, SOURCE)
 

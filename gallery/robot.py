@@ -11,7 +11,8 @@ way with 0.1 each; at the border it stays where it is. It begins in one corner, 
 in five is a pit, drawn from the seed, which it never leaves; next to the first field there is none.
 
 Value: computed in fractions by strategy iteration, and backward where there is a deadline. The goal is 2 (SIDE - 1)
-steps away. With a formula inside the robot keeps to fields from which it can still reach the goal with 3/4.
+steps away. With a formula inside the robot keeps to fields from which it can still reach the goal with 3/4, or on a large grid
+with 3/8.
 """
 
 import random
@@ -23,6 +24,7 @@ from question import BACKWARD, ONLY_PLAYER, Inside, Question, sure
 STEPS = [(0, 1), (1, 0), (0, -1), (-1, 0)]
 AHEAD, ASIDE = Fraction(8, 10), Fraction(1, 10)
 PIT_EVERY = 5
+FEW = 7
 SIZES = {"small": [(4, 1), (6, 2), (7, 4)], "large": [(16, 3)]}
 
 
@@ -64,7 +66,7 @@ def questions(side, seed):
     yield Question("Pmax=?", "goal", source=BACKWARD, steps=2 * away)
     yield Question("P<=0.7", "goal", source=BACKWARD, steps=2 * away)
     yield Question("Pmax=?", "!pit", path="G")
-    way = Question("P>=3/4", "goal", coalition=(ONLY_PLAYER,))
+    way = Question("P>=3/4" if side <= FEW else "P>=3/8", "goal", coalition=(ONLY_PLAYER,))
     yield Question("Pmax=?", "goal", safe=Inside(way))
     yield Question("Pmax=?", Inside(way), path="G")
 

@@ -118,6 +118,7 @@ class ArrayGame:
         chain = Chain(self, policy, cost)
         values = chain.by_elimination() if self.can_eliminate else None
         if values is None:
+            self.can_eliminate = False
             chain.cut_closed_parts()
             values = chain.by_full_matrix() if self.size <= MOST_DENSE else chain.by_iteration(x)
         return None if values is None else flat.numpy.clip(values, 0.0, UNIT)

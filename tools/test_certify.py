@@ -1,6 +1,7 @@
 """Certificates of floating-point values: each is checked here by plain whole numbers, and by the program where there is one."""
 
 import random
+import sys
 import unittest
 from array import array
 
@@ -504,6 +505,37 @@ class Audited(InFolder):
             str(self.write("m.lab", '0="init" 1="goal" 2="dead"\n' + "".join(labels))),
             str(self.write("m.own", '0="max" 1="min"\n' + "".join(owners))),
         ]
+
+
+@needs_program
+class OfTheGallery(InFolder):
+    """Every question of the gallery's small models that has a certificate: it is accepted, and its bounds are near each other."""
+
+    def test_small_models(self):
+        for words, formula, own in gallery_questions():
+            with self.subTest(model=words[0], formula=formula):
+                model = explicit.read_transitions(words[0])
+                owners = explicit.read_owners(own[1], model.states) if own else explicit.single_owner(model.states)
+                labels = explicit.read_labels(words[1], model.states)
+                certificate, wide = certify.certify(explicit.pose(model, labels, owners, explicit.read_formula(formula)), None)
+                self.assertIsNone(wide)
+                file = self.write("certificate", "".join(game_tables.certificate_lines(certificate)))
+                status, output, _ = run(program(), "audit", *words, formula, str(file), *own)
+                self.assertIn(status, (0, 1, 2), output)
+                self.assertIn(" audited ", output)
+
+
+def gallery_questions():
+    """The files and formulas of all questions with `F` and `U`, without a bound on the steps and with no formula inside."""
+    sys.path.insert(0, str(GALLERY.parent))
+    from families import instances
+
+    for name, module, sizes in instances("small"):
+        words = [str(GALLERY / f"{name}.{ending}") for ending in ("tra", "lab")]
+        owners = GALLERY / f"{name}.own"
+        asked = [question for question in module.questions(*sizes) if question.command == "check" and question.path == "F"]
+        for formula in dict.fromkeys(question.formula() for question in asked if not question.inside() and question.steps is None):
+            yield words, formula, ["--own", str(owners)] if owners.exists() else []
 
 
 if __name__ == "__main__":
