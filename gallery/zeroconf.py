@@ -61,8 +61,7 @@ def questions(probes, hosts):
     if probes <= FEW:
         yield Question("Pmax=?", "collision", used * lost, CLOSED, steps=probes + 1)
     yield Question("P>=0.999", "!collision", 1 - value, SOURCE, path="G")
-    if probes <= FEW:
-        yield from questions_of_danger(probes, used, value)
+    yield from questions_of_danger(probes, used, value)
 
 
 def questions_of_danger(probes, used, value):
