@@ -27,6 +27,8 @@ class ArrayGame:
     """A game of nodes, of which each choice leads to other nodes, or leaves. Each choice has at least one edge; of a choice
     that only leaves, this has the share 0."""
 
+    LAST_UPDATES = 100_000_000
+
     def __init__(self, model, nodes, place, values):
         numpy = flat.numpy
         self.size = len(nodes.maximises)

@@ -27,6 +27,9 @@ class NodeGame:
     a node without a choice.
     """
 
+    # updates of nodes that sweeps make as the last resort
+    LAST_UPDATES = 1_000_000
+
     def __init__(self, model, nodes, place, values):
         self.size = len(nodes.maximises)
         self.maximises = nodes.maximises

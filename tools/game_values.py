@@ -30,8 +30,7 @@ MOST_SWEEPS = 150
 SMOOTHING_SWEEPS = 10
 LAST_SWEEPS = 3_000
 
-# the last resort makes fewer where a game has many nodes: so many updates of nodes, or so many sweeps
-LAST_UPDATES = 30_000_000
+# the last resort makes fewer where a game has many nodes, but so many
 LEAST_LAST_SWEEPS = 50
 
 # tries without getting nearer, policies of one side, and replies of the minimiser
@@ -46,8 +45,11 @@ def is_settled(rise, fall, cost):
     return right <= RIGHT_CHANGE and wrong <= WRONG_CHANGE
 
 
-def settle(game, x, cost, most):
-    """Sweeps of value iteration until little changes, or more than so many would be needed; and whether little changed."""
+def settle(game, x, cost, most, is_patient=False):
+    """Sweeps of value iteration until little changes, or so many were made; and whether little changed.
+
+    One that is not patient stops where more would be needed, as it seems by how changes fall.
+    """
     made, last = 0, None
     while made < most:
         for _ in range(NEXT_SWEEPS if made else FIRST_SWEEPS):
@@ -56,7 +58,7 @@ def settle(game, x, cost, most):
             if is_settled(rise, fall, cost):
                 return x, True
         change = max(rise, fall)
-        if last is not None and is_slow(last, change, most - made):
+        if last is not None and not is_patient and is_slow(last, change, most - made):
             break
         last = change
     return x, False
@@ -145,8 +147,8 @@ def solve(game, start, cost):
             x, found = smooth(game, x, cost)
     if not found:
         end = 0.0 if cost < 0 else float(UNIT)
-        sweeps = max(LEAST_LAST_SWEEPS, min(LAST_SWEEPS, LAST_UPDATES // game.size))
-        x, found = settle(game, game.vector([end] * game.size), cost, sweeps)
+        sweeps = max(LEAST_LAST_SWEEPS, min(LAST_SWEEPS, game.LAST_UPDATES // game.size))
+        x, found = settle(game, game.vector([end] * game.size), cost, sweeps, is_patient=True)
     return game.listed(x), found
 
 
