@@ -19,16 +19,17 @@ use Rattle.game_laws.proofs.Low.{down_steps-below, down_steps-near}
 use Rattle.game_laws.proofs.High.{IsHigh-up_step}
 use Rattle.game_laws.proofs.Near.{co-value-near}
 use Rattle.step_core.specs.Word.{value_in, value_at, values_of, picks_of}
-use Rattle.step_core.proofs.Words.{values_of-is, IsSound-goals, IsSound-units}
+use Rattle.step_core.proofs.Words.{values_of-is, AreSoundWords-goals, AreSoundWords-units}
 use Rattle.upper_guess.specs.Guess.{IsFirstGuess}
 use Rattle.rpatl_syntax.specs.declared.formula.Bound.{Bound}
 use Rattle.verdicts.specs.Verdict.{is_asking}
 use Rattle.verdicts.proofs.Staying.{settled-on}
-use Rattle.bracket_engine.specs.declared.stopping.Kept.{Kept}
-use Rattle.bracket_engine.specs.Stop.{AreSettledAt, upper_from, with_kept, IsKept, IsUpper, IsUpperFrom}
+use Rattle.bracket_engine.specs.declared.stopping.SettlingGuess.{SettlingGuess}
+use Rattle.bracket_engine.specs.Stop.{AreSettledAt, upper_from, with_kept, IsSettlingGuess, IsUpper, IsUpperFrom}
 use Rattle.bracket_engine.specs.Bracket.{IsBracket, IsCloseBelow, IsNarrow, IsCoswept, IsLeastSettled}
 use Rattle.bracket_engine.specs.declared.race.Ended.{Ended}
-use Rattle.bracket_engine.specs.Race.{IsRaced, AreOver}
+use Rattle.marked_rounds.specs.Rounds.{IsRaced}
+use Rattle.bracket_engine.specs.Race.{AreOver}
 use Rattle.bracket_engine.proofs.Rests.{IsInductive-rest}
 
 -- a table that is nowhere above an r-fold down step is low
@@ -66,7 +67,7 @@ module _ (q : Query) (words values : List ℕ) (rounds : ℕ) (raced : IsRaced q
   length-raced = ap length is ∙ length-map words value_in ∙ raced.sound.as_many
 
   pub units-raced : (s : ℕ) → s < states q → slice_index values s ≤ unit
-  units-raced s inside = omega (arith, ap (λ t. t s) table-is, IsSound-units q words raced.sound s inside)
+  units-raced s inside = omega (arith, ap (λ t. t s) table-is, AreSoundWords-units q words raced.sound s inside)
 
   pub all-units-raced : All (λ v. v ≤ unit) values
   all-units-raced = λ s d inside. omega (arith, get_or_default values s d 0 inside, units-raced s (subst (λ n. s < n) length-raced inside))
@@ -76,7 +77,7 @@ module _ (q : Query) (words values : List ℕ) (rounds : ℕ) (raced : IsRaced q
 
   IsRun-raced : IsRun q (slice_index values) rounds
   IsRun-raced = record {
-    opens = subst (IsBelow q (opening q)) (sym table-is) (λ s inside. opening-if (is_goal q s) (value_at words s) (λ goal. IsSound-goals q words raced.sound s inside goal));
+    opens = subst (IsBelow q (opening q)) (sym table-is) (λ s inside. opening-if (is_goal q s) (value_at words s) (λ goal. AreSoundWords-goals q words raced.sound s inside goal));
     horizon = raced.sound.rounds;
     top = subst (λ (t : ℕ → ℕ). IsBelow q t (down_steps q raced.sound.rounds)) (sym table-is) raced.sound.below;
     within = subst (λ (t : ℕ → ℕ). IsBelow q t (down_steps q (rounds * states q))) (sym table-is) raced.within;
@@ -113,7 +114,7 @@ module _ (q : Query) (zero_set : List Bool) (words cowords lower covalues : List
   unlost-inductive = IsInductive-rest q zero_set covalues (picks_of cowords) h.coraced.sound.ranks (λ s. unit - slice_index covalues s) h.posed h.is_zero_set
       (subst (λ (l : List ℕ). Ranked (swapped q zero_set) l (picks_of cowords) h.coraced.sound.ranks) (sym h.covalues_are) h.coraced.sound.ranked) (λ s inside. omega (arith, covalue-unit s inside))
 
-module _ (q : Query) (zero_set : List Bool) (words cowords lower covalues upper : List ℕ) (rounds : ℕ) (kept : Option Kept) (h : AreTables q zero_set words cowords lower covalues rounds)
+module _ (q : Query) (zero_set : List Bool) (words cowords lower covalues upper : List ℕ) (rounds : ℕ) (kept : Option SettlingGuess) (h : AreTables q zero_set words cowords lower covalues rounds)
     (over : IsUpperFrom q zero_set (slice_index lower) (slice_index covalues) kept upper) where
   -- at most the unit less the co-value
   upper-within : (s : ℕ) → s < states q → slice_index upper s + slice_index covalues s ≤ unit
@@ -132,12 +133,12 @@ module _ (q : Query) (zero_set : List Bool) (words cowords lower covalues upper 
       }
 
   module _ (bound : Bound) (initial : List ℕ) (asked : ℕ) (stable : Bool) (inside_all : All (λ s. s < states q) initial)
-      (kept_over : IfSome kept (IsKept q zero_set bound initial (slice_index lower) (slice_index covalues))) where
+      (kept_over : IfSome kept (IsSettlingGuess q zero_set bound initial (slice_index lower) (slice_index covalues))) where
     -- a guess that was kept settles the threshold, and so do the upper bounds
-    settled-kept : (one : Option Kept) → kept ≡ one → is_some one ≡ true → AreSettledAt bound initial (slice_index lower) (slice_index upper)
+    settled-kept : (one : Option SettlingGuess) → kept ≡ one → is_some one ≡ true → AreSettledAt bound initial (slice_index lower) (slice_index upper)
     settled-kept None is some = absurd (cc)
     settled-kept (Some one) is some = λ i d within.
-        let settles : IsKept q zero_set bound initial (slice_index lower) (slice_index covalues) one = subst (λ k. IfSome k (IsKept q zero_set bound initial (slice_index lower) (slice_index covalues))) is kept_over in
+        let settles : IsSettlingGuess q zero_set bound initial (slice_index lower) (slice_index covalues) one = subst (λ k. IfSome k (IsSettlingGuess q zero_set bound initial (slice_index lower) (slice_index covalues))) is kept_over in
         let s : ℕ = get_or initial i d in
         let there : s < states q = inside_all i d within in
         let each : slice_index upper s ≡ upper_from (slice_index covalues) (with_kept (Some one) (slice_index over.guess)) s =
@@ -205,11 +206,11 @@ module _ (q other : Query) (zero_set : List Bool) (bound : Bound) (initial : Lis
   pub rests-over : ended.rests ≡ true → IsSettled q (slice_index lower) × IsSettled other (slice_index covalues)
   rests-over is = (settled-raced q words lower ended.rounds over.raced lower_is (over.rests is).0, settled-raced other cowords covalues ended.rounds over.coraced covalues_are (over.rests is).1)
 
-  pub kept-over : IfSome ended.kept (IsKept q zero_set bound initial (slice_index lower) (slice_index covalues))
+  pub kept-over : IfSome ended.kept (IsSettlingGuess q zero_set bound initial (slice_index lower) (slice_index covalues))
   kept-over =
-      let first : IfSome ended.kept (IsKept q zero_set bound initial (slice_index lower) (value_at cowords)) =
-      subst (λ (t : ℕ → ℕ). IfSome ended.kept (IsKept q zero_set bound initial t (value_at cowords))) (sym (ap slice_index lower_is ∙ values_of-is words)) over.kept in
-      subst (λ (t : ℕ → ℕ). IfSome ended.kept (IsKept q zero_set bound initial (slice_index lower) t)) (sym (ap slice_index covalues_are ∙ values_of-is cowords)) first
+      let first : IfSome ended.kept (IsSettlingGuess q zero_set bound initial (slice_index lower) (value_at cowords)) =
+      subst (λ (t : ℕ → ℕ). IfSome ended.kept (IsSettlingGuess q zero_set bound initial t (value_at cowords))) (sym (ap slice_index lower_is ∙ values_of-is words)) over.kept in
+      subst (λ (t : ℕ → ℕ). IfSome ended.kept (IsSettlingGuess q zero_set bound initial (slice_index lower) t)) (sym (ap slice_index covalues_are ∙ values_of-is cowords)) first
 
   pub IsBracket-over : (upper : List ℕ) (stable : Bool) → All (λ s. s < states q) initial → IsUpperFrom q zero_set (slice_index lower) (slice_index covalues) ended.kept upper
       → (stable ≡ true) ↔ (IsSettled q (slice_index lower) × IsSettled other (slice_index covalues)) → IsBracket q zero_set bound initial asked lower upper ended.rounds stable
@@ -219,7 +220,7 @@ module _ (q other : Query) (zero_set : List Bool) (bound : Bound) (initial : Lis
       (subst (λ (p : Query). (stable ≡ true) ↔ (IsSettled q (slice_index lower) × IsSettled p (slice_index covalues))) same settled)
 
 -- what was kept is a guess, and inductive
-pub kept-upper : (q : Query) (zero : List Bool) (bound : Bound) (initial : List ℕ) (lower covalue : ℕ → ℕ) (kept : Option Kept) → IfSome kept (IsKept q zero bound initial lower covalue)
+pub kept-upper : (q : Query) (zero : List Bool) (bound : Bound) (initial : List ℕ) (lower covalue : ℕ → ℕ) (kept : Option SettlingGuess) → IfSome kept (IsSettlingGuess q zero bound initial lower covalue)
     → IfSome kept (λ one. IsFirstGuess q zero (slice_index one.lower.items) one.guess.items × IsUpper q one.guess.items)
 kept-upper q zero bound initial lower covalue None h = tt
 kept-upper q zero bound initial lower covalue (Some one) h = (h.first, h.upper)

@@ -8,7 +8,7 @@ use Rattle.game_model.specs.Query.{Query, states, is_goal, is_dead, side_at}
 use Rattle.game_model.specs.Ranks.{Ranked, HasRankedChoice}
 use Rattle.rank_certificate.specs.Layers.{IsRankable}
 use Rattle.step_core.specs.Word.{value_in, choice_in, values_of, picks_of}
-use Rattle.step_core.specs.Sound.{IsSound}
+use Rattle.step_core.specs.Sound.{AreSoundWords}
 use Rattle.step_core.specs.Events.{on_side}
 use Rattle.step_core.proofs.Words.{values_of-at}
 use Rattle.bracket_engine.specs.Choices.{choice_of_word, AreChoices}
@@ -60,7 +60,7 @@ AreChoices-closed q words lower choices is many each = record {
 }
 
 -- the ranks of sound words go with their values and choices
-pub IsRankable-closed : (q : Query) (words lower : List ℕ) (choices : List (Option ℕ)) → IsSound q words → lower ≡ values_of words
+pub IsRankable-closed : (q : Query) (words lower : List ℕ) (choices : List (Option ℕ)) → AreSoundWords q words → lower ≡ values_of words
     → ((s : ℕ) → s < states q → slice_index_or choices s None ≡ choice_of_word q s (slice_index words s)) → IsRankable q lower choices
 IsRankable-closed q words lower choices sound is each =
     let ranked : Ranked q (values_of words) choices sound.ranks = record {

@@ -2,9 +2,5 @@ pub mod Agreeing
 pub mod Bracketing
 pub mod ClosedChoices
 pub mod Guessed
-pub mod Marking
-pub mod Quiet
-pub mod Racing
-pub mod Reading
 pub mod Rests
 pub mod Uppers

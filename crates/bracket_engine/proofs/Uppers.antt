@@ -10,9 +10,9 @@ use Rattle.verdicts.proofs.Staying.{settled-on}
 use Rattle.inductive_check.proofs.UpSteps.{IsInductive-min}
 use Rattle.upper_guess.specs.Guess.{IsFirstGuess}
 use Rattle.upper_guess.proofs.Steps.{up_step-same}
-use Rattle.bracket_engine.specs.declared.stopping.Kept.{Kept}
+use Rattle.bracket_engine.specs.declared.stopping.SettlingGuess.{SettlingGuess}
 use Rattle.bracket_engine.specs.Bracket.{rests_of, AreLesser}
-use Rattle.bracket_engine.specs.Stop.{upper_from, IsUpper, IsKept, IsLeastGuess, IsUpperFrom}
+use Rattle.bracket_engine.specs.Stop.{upper_from, IsUpper, IsSettlingGuess, IsLeastGuess, IsUpperFrom}
 
 -- a table that agrees with an inductive one is inductive
 IsInductive-same : (q : Query) (table : List ℕ) (other : ℕ → ℕ) → IsQuery q → ((s : ℕ) → s < states q → slice_index table s ≡ other s) → IsInductive q other → IsInductive q (slice_index table)
@@ -32,7 +32,7 @@ IsUpper-lesser q one other table h first second lesser =
     }
 
 -- a guess and one that was kept
-pub IsLeastGuess-both : (q : Query) (zero : List Bool) (lower : ℕ → ℕ) (kept : Kept) (guess least : List ℕ) → IsQuery q → IsFirstGuess q zero lower guess → IsUpper q guess → IsUpper q kept.guess.items
+pub IsLeastGuess-both : (q : Query) (zero : List Bool) (lower : ℕ → ℕ) (kept : SettlingGuess) (guess least : List ℕ) → IsQuery q → IsFirstGuess q zero lower guess → IsUpper q guess → IsUpper q kept.guess.items
     → AreLesser guess kept.guess.items least → IsLeastGuess q zero lower (Some kept) least
 IsLeastGuess-both q zero lower kept guess least h first one other lesser = record {
   guess = guess;
@@ -42,7 +42,7 @@ IsLeastGuess-both q zero lower kept guess least h first one other lesser = recor
 }
 
 -- a guess over the same lower bounds is the one that was kept
-pub IsLeastGuess-kept : (q : Query) (zero : List Bool) (kept : Kept) → IsFirstGuess q zero (slice_index kept.lower.items) kept.guess.items → IsUpper q kept.guess.items
+pub IsLeastGuess-kept : (q : Query) (zero : List Bool) (kept : SettlingGuess) → IsFirstGuess q zero (slice_index kept.lower.items) kept.guess.items → IsUpper q kept.guess.items
     → IsLeastGuess q zero (slice_index kept.lower.items) (Some kept) kept.guess.items
 IsLeastGuess-kept q zero kept first one = record { guess = kept.guess.items; first = first; each = λ s inside. omega arith; upper = one }
 
@@ -60,7 +60,7 @@ IsUpper-rests q covalues unlost h as_many is inductive =
       inductive = IsInductive-same q unlost (λ s. unit - slice_index covalues s) h each inductive;
     }
 
-pub IsUpperFrom-lesser : (q : Query) (zero : List Bool) (lower : ℕ → ℕ) (covalues unlost least upper : List ℕ) (kept : Option Kept) → IsQuery q → length covalues ≡ states q → unlost ≡ rests_of covalues
+pub IsUpperFrom-lesser : (q : Query) (zero : List Bool) (lower : ℕ → ℕ) (covalues unlost least upper : List ℕ) (kept : Option SettlingGuess) → IsQuery q → length covalues ≡ states q → unlost ≡ rests_of covalues
     → IsInductive q (λ s. unit - slice_index covalues s) → IsLeastGuess q zero lower kept least → AreLesser unlost least upper → IsUpperFrom q zero lower (slice_index covalues) kept upper
 IsUpperFrom-lesser q zero lower covalues unlost least upper kept h as_many is inductive guessed lesser =
     let rests : IsUpper q unlost = IsUpper-rests q covalues unlost h as_many is inductive in
@@ -72,10 +72,10 @@ IsUpperFrom-lesser q zero lower covalues unlost least upper kept h as_many is in
     }
 
 -- what a guess settles stays settled where lower bounds and co-values rise
-pub IsKept-raised : (q : Query) (zero : List Bool) (bound : Bound) (initial : List ℕ) (lower higher covalue more : ℕ → ℕ) (kept : Option Kept) → All (λ s. s < states q) initial
-    → IsBelow q lower higher → IsBelow q covalue more → IfSome kept (IsKept q zero bound initial lower covalue) → IfSome kept (IsKept q zero bound initial higher more)
-IsKept-raised q zero bound initial lower higher covalue more None inside rise corise h = tt
-IsKept-raised q zero bound initial lower higher covalue more (Some kept) inside rise corise h = record {
+pub IsSettlingGuess-raised : (q : Query) (zero : List Bool) (bound : Bound) (initial : List ℕ) (lower higher covalue more : ℕ → ℕ) (kept : Option SettlingGuess) → All (λ s. s < states q) initial
+    → IsBelow q lower higher → IsBelow q covalue more → IfSome kept (IsSettlingGuess q zero bound initial lower covalue) → IfSome kept (IsSettlingGuess q zero bound initial higher more)
+IsSettlingGuess-raised q zero bound initial lower higher covalue more None inside rise corise h = tt
+IsSettlingGuess-raised q zero bound initial lower higher covalue more (Some kept) inside rise corise h = record {
   below = λ s there. le_trans (h.below s there) (rise s there);
   first = h.first;
   upper = h.upper;

@@ -9,8 +9,8 @@ use Rattle.game_model.specs.Bounds.{IsLow, IsHigh}
 use Rattle.upper_guess.specs.Guess.{IsFirstGuess}
 use Rattle.rpatl_syntax.specs.declared.formula.Bound.{Bound}
 use Rattle.verdicts.specs.Verdict.{is_asking}
-use Rattle.bracket_engine.specs.declared.stopping.Kept.{Kept}
-use Rattle.bracket_engine.specs.Stop.{AreSettledAt, upper_from, with_kept, IsKept}
+use Rattle.bracket_engine.specs.declared.stopping.SettlingGuess.{SettlingGuess}
+use Rattle.bracket_engine.specs.Stop.{AreSettledAt, upper_from, with_kept, IsSettlingGuess}
 
 -- at most r units below the r-step values
 abbrev pub IsCloseBelow : Query → ℕ → (ℕ → ℕ) → Type 0
@@ -62,12 +62,12 @@ pub record IsBracket (q : Query) (zero : List Bool) (bound : Bound) (initial : L
   pub coswept : IsBelow (swapped q zero) (down_steps (swapped q zero) rounds) (slice_index covalues)
   pub cowithin : IsBelow (swapped q zero) (slice_index covalues) (down_steps (swapped q zero) (rounds * states q))
   -- the upper table is the least of the unit less the co-values, of the first guess over the base, and of a guess that was kept, if any
-  pub kept : Option Kept
+  pub kept : Option SettlingGuess
   pub guess : List ℕ
   pub guessed : IsFirstGuess q zero (slice_index base) guess
   pub least_upper : (s : ℕ) → s < states q → slice_index upper s ≡ upper_from (slice_index covalues) (with_kept kept (slice_index guess)) s
   -- one that is kept settles the threshold at each initial state, with the base and the co-values
-  pub kept_over : IfSome kept (IsKept q zero bound initial (slice_index base) (slice_index covalues))
+  pub kept_over : IfSome kept (IsSettlingGuess q zero bound initial (slice_index base) (slice_index covalues))
   pub none_kept : is_asking bound ≡ true → kept ≡ None
   -- no state's up value is above its upper bound
   pub upper_inductive : IsInductive q (slice_index upper)

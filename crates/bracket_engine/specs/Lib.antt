@@ -1,6 +1,5 @@
 pub mod Limits
 pub mod Lower
-pub mod Agenda
 pub mod Bracket
 pub mod Found
 pub mod Choices

@@ -1,39 +1,13 @@
--- A race under way, and what it leaves.
-use Rattle.std.specs.Prelude.{◌≡◌, ℕ, ◌*◌, ◌<◌, ◌≤◌, ◌⊎◌, Bool, true, List, None, IfSome, is_some}
-use Rattle.game_model.specs.Query.{Query, states}
-use Rattle.game_model.specs.Rounded.{down_steps, IsBelow, IsSettled}
+-- Two races that are over.
+use Rattle.std.specs.Prelude.{◌≡◌, ℕ, ◌<◌, ◌≤◌, ◌⊎◌, Bool, true, List, None, IfSome, is_some}
+use Rattle.game_model.specs.Query.{Query}
+use Rattle.game_model.specs.Rounded.{IsSettled}
 use Rattle.step_core.specs.Word.{value_at}
-use Rattle.step_core.specs.Sound.{IsSound}
-use Rattle.value_words.specs.declared.pass.Pass.{Pass}
-use Rattle.value_words.specs.Passes.{Token}
-use Rattle.value_words.specs.Rule.{all_parts}
-use Rattle.bracket_engine.specs.declared.agenda.Agenda.{Agenda}
 use Rattle.rpatl_syntax.specs.declared.formula.Bound.{Bound}
 use Rattle.verdicts.specs.Verdict.{is_asking}
+use Rattle.marked_rounds.specs.Rounds.{IsRaced}
 use Rattle.bracket_engine.specs.declared.race.Ended.{Ended}
-use Rattle.bracket_engine.specs.Agenda.{read_of}
-use Rattle.bracket_engine.specs.Stop.{IsKept}
-
--- after this many rounds: the pass is the only one and has won at most one exchange a state and round, and what was read is nowhere below the down steps of the rounds
-pub record IsRacingSeat (q : Query) (rounds : ℕ) (seat : Token) (agenda : Agenda) : Type 0 where
-  pub whole : seat.me.0.parts ≡ all_parts
-  pub won : seat.me.0.won ≤ rounds * states q
-  pub swept : IsBelow q (down_steps q rounds) (read_of agenda)
-
-abbrev pub IsRacing : {P : Type 0} {h : _} → Query → ℕ → Pass P h → Agenda → Type 0
-IsRacing q rounds pass agenda = IsRacingSeat q rounds pass.seat agenda
-
--- the closed words after this many completed rounds, whatever the schedule
-pub record IsRaced (q : Query) (words : List ℕ) (rounds : ℕ) : Type 0 where
-  pub sound : IsSound q words
-  pub within : IsBelow q (value_at words) (down_steps q (rounds * states q))
-  pub swept : IsBelow q (down_steps q rounds) (value_at words)
-
--- they are nowhere below what was read, and settled where this was
-pub record IsClosed (q : Query) (words : List ℕ) (rounds : ℕ) (read : ℕ → ℕ) : Type 0 where
-  pub raced : IsRaced q words rounds
-  pub below : IsBelow q read (value_at words)
-  pub settled : IsSettled q read → IsSettled q (value_at words)
+use Rattle.bracket_engine.specs.Stop.{IsSettlingGuess}
 
 -- two races are over, after at most the asked rounds: before, where the last round changed nothing on either or where a guess settled the threshold at the initial states
 pub record AreOver (q co : Query) (zero : List Bool) (bound : Bound) (initial : List ℕ) (asked : ℕ) (words cowords : List ℕ) (ended : Ended) : Type 0 where
@@ -41,6 +15,6 @@ pub record AreOver (q co : Query) (zero : List Bool) (bound : Bound) (initial : 
   pub coraced : IsRaced co cowords ended.rounds
   pub few : ended.rounds ≤ asked
   pub rests : ended.rests ≡ true → IsSettled q (value_at words) × IsSettled co (value_at cowords)
-  pub kept : IfSome ended.kept (IsKept q zero bound initial (value_at words) (value_at cowords))
+  pub kept : IfSome ended.kept (IsSettlingGuess q zero bound initial (value_at words) (value_at cowords))
   pub none : is_asking bound ≡ true → ended.kept ≡ None
   pub early : ended.rounds < asked → (ended.rests ≡ true) ⊎ (is_some ended.kept ≡ true)

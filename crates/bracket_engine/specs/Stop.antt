@@ -6,7 +6,7 @@ use Rattle.game_model.specs.Rounded.{IsBelow, IsInductive}
 use Rattle.rpatl_syntax.specs.declared.formula.Bound.{Bound}
 use Rattle.verdicts.specs.Verdict.{verdict_of, is_settling}
 use Rattle.upper_guess.specs.Guess.{IsFirstGuess}
-use Rattle.bracket_engine.specs.declared.stopping.Kept.{Kept}
+use Rattle.bracket_engine.specs.declared.stopping.SettlingGuess.{SettlingGuess}
 
 -- lower and upper bounds settle the threshold at each of these states
 abbrev pub AreSettledAt : Bound → List ℕ → (ℕ → ℕ) → (ℕ → ℕ) → Type 0
@@ -23,26 +23,26 @@ pub record IsUpper (q : Query) (table : List ℕ) : Type 0 where
   pub inductive : IsInductive q (slice_index table)
 
 -- a guess over lower bounds that are nowhere above these; with these and the co-values it settles the threshold at the initial states
-pub record IsKept (q : Query) (zero : List Bool) (bound : Bound) (initial : List ℕ) (lower covalue : ℕ → ℕ) (kept : Kept) : Type 0 where
+pub record IsSettlingGuess (q : Query) (zero : List Bool) (bound : Bound) (initial : List ℕ) (lower covalue : ℕ → ℕ) (kept : SettlingGuess) : Type 0 where
   pub below : IsBelow q (slice_index kept.lower.items) lower
   pub first : IsFirstGuess q zero (slice_index kept.lower.items) kept.guess.items
   pub upper : IsUpper q kept.guess.items
   pub settles : AreSettledAt bound initial lower (upper_from covalue (slice_index kept.guess.items))
 
 -- a guess, and where another one was kept the lesser of the two
-abbrev pub with_kept : Option Kept → (ℕ → ℕ) → ℕ → ℕ
+abbrev pub with_kept : Option SettlingGuess → (ℕ → ℕ) → ℕ → ℕ
 with_kept None guess s = guess s
 with_kept (Some kept) guess s = min (guess s) (slice_index kept.guess.items s)
 
 -- the lesser of the guess over lower bounds and of the one that was kept, if any
-pub record IsLeastGuess (q : Query) (zero : List Bool) (lower : ℕ → ℕ) (kept : Option Kept) (least : List ℕ) : Type 0 where
+pub record IsLeastGuess (q : Query) (zero : List Bool) (lower : ℕ → ℕ) (kept : Option SettlingGuess) (least : List ℕ) : Type 0 where
   pub guess : List ℕ
   pub first : IsFirstGuess q zero lower guess
   pub each : (s : ℕ) → s < states q → slice_index least s ≡ with_kept kept (slice_index guess) s
   pub upper : IsUpper q least
 
 -- the least of the unit less the co-values, of the guess over lower bounds, and of the one that was kept, if any
-pub record IsUpperFrom (q : Query) (zero : List Bool) (lower covalue : ℕ → ℕ) (kept : Option Kept) (upper : List ℕ) : Type 0 where
+pub record IsUpperFrom (q : Query) (zero : List Bool) (lower covalue : ℕ → ℕ) (kept : Option SettlingGuess) (upper : List ℕ) : Type 0 where
   pub guess : List ℕ
   pub first : IsFirstGuess q zero lower guess
   pub each : (s : ℕ) → s < states q → slice_index upper s ≡ upper_from covalue (with_kept kept (slice_index guess)) s

@@ -8,14 +8,15 @@ ghost use Rattle.verdicts.specs.Verdict.{is_asking};
 ghost use Rattle.verdicts.specs.Stop.{bound_of, IsStopRule};
 ghost use Rattle.game_model.specs.Query.{states};
 ghost use Rattle.game_model.specs.Dual.{IsZeroSet};
-ghost use Rattle.bracket_engine.specs.Agenda.{read_of};
-ghost use Rattle.bracket_engine.specs.Race.{IsRacing, AreOver};
-ghost use Rattle.bracket_engine.specs.Stop.{IsKept};
+ghost use Rattle.marked_rounds.specs.Agenda.{read_of};
+ghost use Rattle.marked_rounds.specs.Rounds.{IsRacing};
+ghost use Rattle.bracket_engine.specs.Race.{AreOver};
+ghost use Rattle.bracket_engine.specs.Stop.{IsSettlingGuess};
 
-use crate::runner::{Runner, close, one_round, open};
-use crate::stopping::{Ending, Kept};
+use crate::stopping::{Ending, SettlingGuess};
 use game_model::Question;
 use game_outside::{Gate, OutOfMemory};
+use marked_rounds::{Runner, close, one_round, open};
 use predecessors::Predecessors;
 use std::alloc::Global;
 use std::thread::Threads;
@@ -42,7 +43,7 @@ pub struct Ended {
     /// Whether the last one changed nothing on either.
     pub rests: bool,
     /// The guess that settled the threshold, where one did.
-    pub kept: Option<Kept>,
+    pub kept: Option<SettlingGuess>,
 }
 
 /// Runs at most `most` rounds on the words of both questions, over the predecessors in their game, each of at most so
@@ -136,7 +137,7 @@ fn run_rounds<
     ensures lower { IfOk result (λ r. IsRacing P.posed r.2.rounds r.0.pass r.0.agenda) }
     ensures co { IfOk result (λ r. IsRacing C.posed r.2.rounds r.1.pass r.1.agenda) }
     ensures rests { IfOk result (λ r. r.2.rests ≡ true → IsSettled P.posed (read_of r.0.agenda) × IsSettled C.posed (read_of r.1.agenda)) }
-    ensures kept { IfOk result (λ r. IfSome r.2.kept (IsKept P.posed ending.now.zero.now (bound_of ending.now.rule.now) ending.now.initial.now (read_of r.0.agenda) (read_of r.1.agenda))) }
+    ensures kept { IfOk result (λ r. IfSome r.2.kept (IsSettlingGuess P.posed ending.now.zero.now (bound_of ending.now.rule.now) ending.now.initial.now (read_of r.0.agenda) (read_of r.1.agenda))) }
     ensures none { is_asking (bound_of ending.now.rule.now) ≡ true → IfOk result (λ r. r.2.kept ≡ None) }
     ensures early { IfOk result (λ r. r.2.rounds < most → (r.2.rests ≡ true) ⊎ (is_some r.2.kept ≡ true)) }
 {

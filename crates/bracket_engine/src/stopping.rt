@@ -15,7 +15,7 @@ use verdicts::StopRule;
 
 /// The guess that ended a run, and the lower bounds that it is over.
 #[derive(Drop)]
-pub struct Kept {
+pub struct SettlingGuess {
     /// The lower bounds, by state.
     pub lower: Vec<u64>,
     /// The guess, by state.
@@ -36,7 +36,7 @@ impl<F: Fn(u64, u64) -> bool> Ending<'_, F> {
     ghost use Rattle.upper_guess.specs.Guess.{AreWitnesses};
     ghost use Rattle.verdicts.specs.Verdict.{is_asking};
     ghost use Rattle.verdicts.specs.Stop.{bound_of, IsStopRule};
-    ghost use Rattle.bracket_engine.specs.Stop.{AreSettledAt, upper_from, IsKept};
+    ghost use Rattle.bracket_engine.specs.Stop.{AreSettledAt, upper_from, IsSettlingGuess};
 
     /// The guess over lower bounds, after 1, 2, 4, 8 and so on rounds, where with the co-values it settles the threshold
     /// at each initial state. None is made where the bound asks for a value, since no rule could use it. The team fills its
@@ -49,7 +49,7 @@ impl<F: Fn(u64, u64) -> bool> Ending<'_, F> {
         lower: &[u64],
         covalues: &[u64],
         witnesses: &mut Witnesses,
-    ) -> Result<Option<Kept>, OutOfMemory>
+    ) -> Result<Option<SettlingGuess>, OutOfMemory>
         requires rule { IsStopRule F.Fn self.now.rule.now }
         requires zero { IsZeroSet self.now.question.now self.now.zero.now }
         requires initial { All (λ s. s < states self.now.question.now) self.now.initial.now }
@@ -58,7 +58,7 @@ impl<F: Fn(u64, u64) -> bool> Ending<'_, F> {
         requires covalues { length covalues.now ≡ states self.now.question.now }
         requires witnesses { AreWitnesses self.now.question.now witnesses.old.states }
         ensures witnesses { AreWitnesses self.now.question.now witnesses.new.states }
-        ensures kept { IfOk result (λ found. IfSome found (IsKept self.now.question.now self.now.zero.now (bound_of self.now.rule.now) self.now.initial.now (slice_index lower.now) (slice_index covalues.now))) }
+        ensures kept { IfOk result (λ found. IfSome found (IsSettlingGuess self.now.question.now self.now.zero.now (bound_of self.now.rule.now) self.now.initial.now (slice_index lower.now) (slice_index covalues.now))) }
         ensures asking { is_asking (bound_of self.now.rule.now) ≡ true → IfOk result (λ found. found ≡ None) }
     {
         if !self.rule.may_settle() || !rounds.is_power_of_two() {
@@ -75,7 +75,7 @@ impl<F: Fn(u64, u64) -> bool> Ending<'_, F> {
         lower: &[u64],
         covalues: &[u64],
         witnesses: &mut Witnesses,
-    ) -> Result<Option<Kept>, OutOfMemory>
+    ) -> Result<Option<SettlingGuess>, OutOfMemory>
         requires rule { IsStopRule F.Fn self.now.rule.now }
         requires zero { IsZeroSet self.now.question.now self.now.zero.now }
         requires initial { All (λ s. s < states self.now.question.now) self.now.initial.now }
@@ -84,14 +84,14 @@ impl<F: Fn(u64, u64) -> bool> Ending<'_, F> {
         requires covalues { length covalues.now ≡ states self.now.question.now }
         requires witnesses { AreWitnesses self.now.question.now witnesses.old.states }
         ensures witnesses { AreWitnesses self.now.question.now witnesses.new.states }
-        ensures kept { IfOk result (λ found. IfSome found (IsKept self.now.question.now self.now.zero.now (bound_of self.now.rule.now) self.now.initial.now (slice_index lower.now) (slice_index covalues.now))) }
+        ensures kept { IfOk result (λ found. IfSome found (IsSettlingGuess self.now.question.now self.now.zero.now (bound_of self.now.rule.now) self.now.initial.now (slice_index lower.now) (slice_index covalues.now))) }
     {
         let guess = guess_with(team, alloc, self.question, self.zero, lower, witnesses)?;
         if !self.settles(lower, covalues, &guess) {
             return Ok(None);
         }
         let lower = lower.to_vec(alloc)?;
-        Ok(Some(Kept { lower, guess }))
+        Ok(Some(SettlingGuess { lower, guess }))
     }
 
     /// Whether the rule says yes at each initial state, to the lower bound and to the lesser of the two upper ones.

@@ -4,7 +4,7 @@ ghost use Rattle.std.specs.Prelude.{◌≡◌, IfOk};
 ghost use Rattle.game_model.specs.Dual.{IsZeroSet};
 ghost use Rattle.predecessors.specs.Lists.{ArePredecessors};
 ghost use Rattle.step_core.specs.Word.{values_of};
-ghost use Rattle.step_core.specs.Sound.{IsSound};
+ghost use Rattle.step_core.specs.Sound.{AreSoundWords};
 ghost use Rattle.bracket_engine.specs.Choices.{AreChoices, AreRanks};
 ghost use Rattle.bracket_engine.specs.Lower.{IsLowerTable};
 ghost use Rattle.bracket_engine.specs.Replies.{AreRepliesTo};
@@ -32,7 +32,7 @@ pub fn with_strategies(
     tables: Tables,
 ) -> Result<Bracket, OutOfMemory>
     requires zero { IsZeroSet question.now zero.now }
-    requires sound { IsSound question.now words.now }
+    requires sound { AreSoundWords question.now words.now }
     requires base { tables.base.items ≡ values_of words.now }
     requires upper { IsUpper question.now tables.upper.items }
     requires lists { ArePredecessors question.now.game predecessors.now }
@@ -67,7 +67,7 @@ fn lower_table(
     base: &[u64],
 ) -> Result<LowerGuess, OutOfMemory>
     requires zero { IsZeroSet question.now zero.now }
-    requires sound { IsSound question.now words.now }
+    requires sound { AreSoundWords question.now words.now }
     requires base { base.now ≡ values_of words.now }
     requires lists { ArePredecessors question.now.game predecessors.now }
     ensures lower { IfOk result (λ g. IsLowerTable question.now zero.now base.now g.values.items g.plan.choices.items g.plan.ranks.items) }

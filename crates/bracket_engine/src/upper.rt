@@ -8,7 +8,7 @@ ghost use Rattle.game_model.specs.Rounded.{IsInductive};
 ghost use Rattle.upper_guess.specs.Guess.{IsFirstGuess};
 ghost use Rattle.bracket_engine.specs.Stop.{IsUpper, IsLeastGuess, IsUpperFrom};
 
-use crate::stopping::Kept;
+use crate::stopping::SettlingGuess;
 use crate::tables::{lesser, rests};
 use game_model::{Marks, Question};
 use game_outside::OutOfMemory;
@@ -26,7 +26,7 @@ pub fn upper_table<R: Threads + Sync>(
     zero: &Marks,
     lower: &[u64],
     covalues: &[u64],
-    kept: Option<Kept>,
+    kept: Option<SettlingGuess>,
 ) -> Result<Vec<u64>, OutOfMemory>
     requires zero { IsZeroSet question.now zero.now }
     requires length { length lower.now ≡ states question.now }
@@ -50,7 +50,7 @@ fn least_guess<R: Threads + Sync>(
     question: &Question,
     zero: &Marks,
     lower: &[u64],
-    kept: Option<Kept>,
+    kept: Option<SettlingGuess>,
 ) -> Result<Vec<u64>, OutOfMemory>
     requires zero { IsZeroSet question.now zero.now }
     requires length { length lower.now ≡ states question.now }
@@ -60,7 +60,7 @@ fn least_guess<R: Threads + Sync>(
 {
     question.known();
     let Some(
-        Kept {
+        SettlingGuess {
             lower: over,
             guess: earlier,
         },

@@ -3,3 +3,5 @@ pub mod Counts
 pub mod Steps
 pub mod Blocks
 pub mod Cuts
+pub mod Successors
+pub mod Marking

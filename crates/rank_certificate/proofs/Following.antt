@@ -5,23 +5,17 @@ use Rattle.std.proofs.lemmas.Bool.{cases_lt}
 use Rattle.std.proofs.lemmas.List.{take_more, take-append-drop, get_or-map, length-map, get_or_past}
 use Rattle.std.proofs.lemmas.List.Elements.{Contains-push_cases, Contains-append_left}
 use Rattle.game_model.specs.declared.game.Edge.{Edge}
-use Rattle.game_model.specs.Game.{Distribution, choices_of, choice_of, no_edge}
+use Rattle.game_model.specs.Game.{Distribution, choice_of, no_edge}
 use Rattle.game_model.specs.Query.{Query, states}
 use Rattle.predecessors.specs.declared.lists.Move.{Move}
 use Rattle.predecessors.specs.Moves.{move, LeadsTo}
 use Rattle.predecessors.specs.Lists.{ArePredecessors}
+use Rattle.predecessors.proofs.Successors.{edge-leads}
 use Rattle.rank_certificate.specs.Layers.{IsAsked, LeadsInto, IsWithin}
-use Rattle.rank_certificate.specs.Growing.{IsLow, IsFollowed, Waits, IsRanking, MovesOn}
+use Rattle.rank_certificate.specs.Growing.{HasRankWithin, IsFollowed, Waits, IsRanking, MovesOn}
 use Rattle.rank_certificate.proofs.Moving.{low-rank, low-within, Ranking-waits, moved, moved-on}
 
--- an edge of a choice leads where it says
-pub edge-leads : (game : List (List Distribution)) (s c p : ℕ) → s < length game → c < length (choices_of game s) → p < length (choice_of game s c).edges → LeadsTo game s c (slice_index_or (choice_of game s c).edges p no_edge).to
-edge-leads game s c p ls lc lp = record {
-  state = ls;
-  choice = lc;
-  successor = (p, omega (arith, lp, length-map (choice_of game s c).edges (λ (e : Edge). e.to)), get_or-map (λ (e : Edge). e.to) (choice_of game s c).edges p no_edge (slice_index_or (choice_of game s c).edges p no_edge).to lp);
-}
-
+-- a move of a choice is one of its edges
 pub leads-edge : (game : List (List Distribution)) (s c t : ℕ) → LeadsTo game s c t → (p : ℕ) × (p < length (choice_of game s c).edges) × ((slice_index_or (choice_of game s c).edges p no_edge).to ≡ t)
 leads-edge game s c t h =
     let at = h.successor in
@@ -29,7 +23,7 @@ leads-edge game s c t h =
     (at.0, lp, sym (get_or-map (λ (e : Edge). e.to) (choice_of game s c).edges at.0 no_edge t lp) ∙ at.2)
 
 -- a state of a rank is one of the game
-pub low-inside : (ranks : List (Option ℕ)) (level s : ℕ) → IsLow ranks level s → s < length ranks
+pub low-inside : (ranks : List (Option ℕ)) (level s : ℕ) → HasRankWithin ranks level s → s < length ranks
 low-inside ranks level s low = elim (cases_lt s (length ranks)) [
   | inl inside ↦ inside
   | inr past ↦
@@ -51,10 +45,10 @@ in-whole n xs t h = subst (λ list. Contains list t) (take-append-drop n xs) (Co
 module _ (q : Query) (value : ℕ → ℕ) (choices : List (Option ℕ)) (bound level : ℕ) (old : List ℕ) (place hand : ℕ) (part : List Move) (ranks : List (Option ℕ)) (awaited order : List ℕ)
     (h : IsRanking q value choices bound level old place hand part ranks awaited order) where
   -- a state of the order, and one behind, has a rank
-  pub among-low : (t : ℕ) → Contains old t → IsLow ranks level t
-  among-low t (k, l, e) = subst (IsLow ranks level) (same-entry old k t l ∙ e) (h.ranked k l)
+  pub among-low : (t : ℕ) → Contains old t → HasRankWithin ranks level t
+  among-low t (k, l, e) = subst (HasRankWithin ranks level) (same-entry old k t l ∙ e) (h.ranked k l)
 
-  pub behind-low : (t : ℕ) → Contains (take place old) t → IsLow ranks level t
+  pub behind-low : (t : ℕ) → Contains (take place old) t → HasRankWithin ranks level t
   behind-low t behind = among-low t (in-whole place old t behind)
 
   -- one more move was followed
@@ -102,7 +96,7 @@ module _ (q : Query) (value : ℕ → ℕ) (choices : List (Option ℕ)) (bound 
       })
 
   -- a move is followed to a state that waited for it
-  pub Ranking-follows : (m : Move) → LeadsTo q.game m.state m.choice hand → IsLow ranks level hand → m.state < bound → slice_index_or ranks m.state None ≡ None → slice_index awaited m.state ≡ m.choice → value hand ≡ value m.state
+  pub Ranking-follows : (m : Move) → LeadsTo q.game m.state m.choice hand → HasRankWithin ranks level hand → m.state < bound → slice_index_or ranks m.state None ≡ None → slice_index awaited m.state ≡ m.choice → value hand ≡ value m.state
       → (ranks' : List (Option ℕ)) (awaited' order' : List ℕ) → MovesOn q value choices level m.state (m.choice + 1) ranks awaited order ranks' awaited' order'
       → IsRanking q value choices bound level old place hand part ranks' awaited' order' × (slice_index_or ranks' m.state None ≡ None → m.choice + 1 ≤ slice_index awaited' m.state)
   Ranking-follows m leads low below left waited equal ranks' awaited' order' moves =
@@ -122,9 +116,9 @@ module _ (q : Query) (value : ℕ → ℕ) (choices : List (Option ℕ)) (bound 
               );
             })
       ] in
-      let followed : (t c : ℕ) → IsFollowed (take place old) hand part t m.state c → IsLow ranks level t = λ t c past. elim past [
+      let followed : (t c : ℕ) → IsFollowed (take place old) hand part t m.state c → HasRankWithin ranks level t = λ t c past. elim past [
         | inl behind ↦ behind-low t behind
-        | inr at ↦ subst (IsLow ranks level) (sym at.0) low
+        | inr at ↦ subst (HasRankWithin ranks level) (sym at.0) low
       ] in
       let bounded : (t : ℕ) → t < bound → (t < bound) ⊎ (t ≡ m.state) = λ t l. inl l in (
         moved q value choices bound level old place hand part ranks awaited order h m.state (m.choice + 1) bound leads.state left before followed bounded ranks' awaited' order' moves,

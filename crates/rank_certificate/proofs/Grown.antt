@@ -8,16 +8,17 @@ use Rattle.game_model.specs.Game.{choices_of, choice_of, no_edge}
 use Rattle.game_model.specs.Query.{Query, IsQuery, states, side_at}
 use Rattle.predecessors.specs.Moves.{LeadsTo}
 use Rattle.rank_certificate.specs.Ranking.{NeedsRank}
-use Rattle.rank_certificate.specs.Growing.{IsLow, IsOpened}
+use Rattle.rank_certificate.specs.Growing.{HasRankWithin, IsOpened}
 use Rattle.rank_certificate.specs.Carrying.{Carries, IsCarriedBy, IsCarried, IsCarriedAt, IsChosenAt}
 use Rattle.rank_certificate.specs.Growth.{IsGrowth, IsApart, AreFollowed}
 use Rattle.rank_certificate.proofs.Moving.{low-rank, rank-low, Some-none}
-use Rattle.rank_certificate.proofs.Following.{edge-leads, low-inside, same-entry}
+use Rattle.predecessors.proofs.Successors.{edge-leads}
+use Rattle.rank_certificate.proofs.Following.{low-inside, same-entry}
 use Rattle.rank_certificate.proofs.Carried.{Carries-more, IsCarried-more, carried-free, free-carried, suc-whole, next-parts}
 
 -- where each state is apart or has a rank, the next layer begins
 module _ (q : Query) (value : ℕ → ℕ) (level begin : ℕ) (old : List ℕ) (ranks choices : List (Option ℕ)) (order : List ℕ) (h : IsGrowth q value level begin old ranks choices order) (apart : (s : ℕ) → s < states q → IsApart q value level ranks s) where
-  next-full : (s : ℕ) → s < states q → IsCarried q value (level + 1) s → (o : Option ℕ) → slice_index_or ranks s None ≡ o → IsLow ranks (level + 1) s
+  next-full : (s : ℕ) → s < states q → IsCarried q value (level + 1) s → (o : Option ℕ) → slice_index_or ranks s None ≡ o → HasRankWithin ranks (level + 1) s
   next-full s inside within None left = absurd (apart s inside left within)
   next-full s inside within (Some r) given = rank-low ranks (level + 1) s r given ((h.layer s r given).least (level + 1) within)
 
@@ -74,7 +75,7 @@ module _ (q : Query) (value : ℕ → ℕ) (ranks choices : List (Option ℕ)) (
   opened-at : (s r : ℕ) → r ≡ 0 → ¬ NeedsRank q value s → IsCarriedAt q value s r
   opened-at s r is free = subst (IsCarriedAt q value s) (sym is) (record { within = free-carried q value s free; least = λ k within. omega arith })
 
-  opened-low : (s : ℕ) → s < states q → ¬ NeedsRank q value s → (o : Option ℕ) → slice_index_or ranks s None ≡ o → IsLow ranks 0 s
+  opened-low : (s : ℕ) → s < states q → ¬ NeedsRank q value s → (o : Option ℕ) → slice_index_or ranks s None ≡ o → HasRankWithin ranks 0 s
   opened-low s inside free None left = absurd (free (h.needs s inside left))
   opened-low s inside free (Some r) given = rank-low ranks 0 s r given (omega (arith, (h.found s r given).0))
 

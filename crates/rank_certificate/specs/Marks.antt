@@ -1,13 +1,10 @@
 -- The states that a step down looks at.
-use Rattle.std.specs.Prelude.{◌≡◌, ℕ, ◌<◌, ◌≤◌, Bool, true, false, List, length, slice_index_or}
+use Rattle.std.specs.Prelude.{◌≡◌, ℕ, ◌<◌, ◌≤◌, Bool, false, List, length, slice_index_or}
 use Rattle.game_model.specs.Game.{Distribution}
 use Rattle.game_model.specs.Query.{Query, states}
 use Rattle.game_model.specs.Rounded.{down_step}
+use Rattle.predecessors.specs.Marks.{IsMarked}
 use Rattle.predecessors.specs.Moves.{LeadsTo}
-
--- the state has a mark
-abbrev pub IsMarked : List Bool → ℕ → Type 0
-IsMarked marks s = slice_index_or marks s false ≡ true
 
 -- a state without a mark does not fall
 abbrev pub AreQuiet : Query → List Bool → (ℕ → ℕ) → Type 0

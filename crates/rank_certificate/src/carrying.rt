@@ -5,7 +5,7 @@ ghost use Rattle.game_model.specs.Game.{choices_of, choice_of};
 ghost use Rattle.game_model.specs.Query.{states};
 ghost use Rattle.game_model.specs.Limits.{unit};
 ghost use Rattle.rank_certificate.specs.Ranking.{IsEnough};
-ghost use Rattle.rank_certificate.specs.Growing.{IsLow};
+ghost use Rattle.rank_certificate.specs.Growing.{HasRankWithin};
 ghost use Rattle.rank_certificate.specs.Carrying.{Carries, IsFirstCarrying};
 
 use crate::met::leads_low;
@@ -26,8 +26,8 @@ pub fn first_carrying(
     requires ranks { length ranks.now ≡ states question.now }
     requires state { state < states question.now }
     ensures { MatchOption result
-        ((c : ℕ) → c < length (choices_of question.now.game state) → ¬ Carries (slice_index values.now) (IsLow ranks.now level) state (choice_of question.now.game state c))
-        (λ c. IsFirstCarrying question.now (slice_index values.now) (IsLow ranks.now level) state c) }
+        ((c : ℕ) → c < length (choices_of question.now.game state) → ¬ Carries (slice_index values.now) (HasRankWithin ranks.now level) state (choice_of question.now.game state c))
+        (λ c. IsFirstCarrying question.now (slice_index values.now) (HasRankWithin ranks.now level) state c) }
 {
     question.known();
     for choice in 0..question.game().choices_of(state) {
@@ -50,7 +50,7 @@ pub fn all_carry(
     requires units { All (λ v. v ≤ unit) values.now }
     requires ranks { length ranks.now ≡ states question.now }
     requires state { state < states question.now }
-    ensures { IsTrue result ↔ ((c : ℕ) → c < length (choices_of question.now.game state) → Carries (slice_index values.now) (IsLow ranks.now level) state (choice_of question.now.game state c)) }
+    ensures { IsTrue result ↔ ((c : ℕ) → c < length (choices_of question.now.game state) → Carries (slice_index values.now) (HasRankWithin ranks.now level) state (choice_of question.now.game state c)) }
 {
     question.known();
     for choice in 0..question.game().choices_of(state) {
@@ -76,7 +76,7 @@ pub fn carries(
     requires ranks { length ranks.now ≡ states question.now }
     requires state { state < states question.now }
     requires choice { choice < length (choices_of question.now.game state) }
-    ensures { IsTrue result ↔ Carries (slice_index values.now) (IsLow ranks.now level) state (choice_of question.now.game state choice) }
+    ensures { IsTrue result ↔ Carries (slice_index values.now) (HasRankWithin ranks.now level) state (choice_of question.now.game state choice) }
 {
     leads_low(question, values, ranks, level, state, choice)
         && gives(question, values, state, choice)

@@ -7,7 +7,7 @@ ghost use Rattle.game_model.specs.Limits.{unit};
 ghost use Rattle.predecessors.specs.declared.lists.Move.{Move};
 ghost use Rattle.predecessors.specs.Lists.{ArePredecessors};
 ghost use Rattle.predecessors.specs.Moves.{LeadsTo};
-ghost use Rattle.rank_certificate.specs.Growing.{IsLow, IsOpened};
+ghost use Rattle.rank_certificate.specs.Growing.{HasRankWithin, IsOpened};
 ghost use Rattle.rank_certificate.specs.Carrying.{IsCarriedBy, IsChosen};
 ghost use Rattle.rank_certificate.specs.Growth.{IsGrowth, IsApart, Looks, Joins, Follows, AreFollowed};
 

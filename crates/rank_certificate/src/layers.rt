@@ -5,7 +5,7 @@ ghost use Rattle.game_model.specs.Game.{choices_of};
 ghost use Rattle.game_model.specs.Query.{states};
 ghost use Rattle.predecessors.specs.Lists.{ArePredecessors};
 ghost use Rattle.predecessors.specs.Moves.{LeadsTo};
-ghost use Rattle.rank_certificate.specs.Growing.{IsLow, IsRanking, MovesOn, Advances, IsOpened};
+ghost use Rattle.rank_certificate.specs.Growing.{HasRankWithin, IsRanking, MovesOn, Advances, IsOpened};
 ghost use Rattle.rank_certificate.specs.Ranking.{NeedsRank};
 ghost use Rattle.predecessors.specs.declared.lists.Move.{Move};
 
@@ -176,7 +176,7 @@ impl Layers {
         requires level { level + 1 < 2 ^ 32 }
         requires ranks { length self.old.ranks.items ≡ states question.now }
         requires awaited { length self.old.awaited.items ≡ states question.now }
-        requires low { IsLow self.old.ranks.items level hand }
+        requires low { HasRankWithin self.old.ranks.items level hand }
         ensures { OnOk result (Advances question.now (slice_index values.now) choices.now level hand [] (slice_index_or predecessors.now hand [])
             self.old.ranks.items self.old.awaited.items self.old.order.items self.new.ranks.items self.new.awaited.items self.new.order.items) }
     {
@@ -203,7 +203,7 @@ impl Layers {
         requires level { level + 1 < 2 ^ 32 }
         requires ranks { length self.old.ranks.items ≡ states question.now }
         requires awaited { length self.old.awaited.items ≡ states question.now }
-        requires low { IsLow self.old.ranks.items level hand }
+        requires low { HasRankWithin self.old.ranks.items level hand }
         requires hand { hand < states question.now }
         requires leads { LeadsTo question.now.game step.state step.choice hand }
         ensures { OnOk result ((part : List Move) → Advances question.now (slice_index values.now) choices.now level hand part (part ++ step ∷ [])

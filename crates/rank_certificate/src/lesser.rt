@@ -4,14 +4,13 @@ ghost use Rattle.std.specs.Prelude.{◌≡◌, ℕ, ◌<◌, ◌≤◌, ◌↔�
 ghost use Rattle.game_model.specs.Query.{states};
 ghost use Rattle.game_model.specs.Limits.{unit};
 ghost use Rattle.predecessors.specs.Lists.{ArePredecessors};
-ghost use Rattle.predecessors.specs.Moves.{LeadsTo};
 ghost use Rattle.rank_certificate.specs.LowerGuess.{lesser_step, IsTable};
-ghost use Rattle.rank_certificate.specs.Marks.{IsMarked, AreQuiet, AreMarkedFor};
+ghost use Rattle.rank_certificate.specs.Marks.{AreQuiet, AreMarkedFor};
 
 use fixed_bellman::down_state;
 use game_model::{Game, Question};
 use game_outside::OutOfMemory;
-use predecessors::Predecessors;
+use predecessors::{Predecessors, mark_predecessors};
 use std::alloc::Global;
 
 /// The lesser of a table and of its down step, at each state.
@@ -86,20 +85,5 @@ pub fn mark_again(
         if next[state as usize] < table[state as usize] {
             mark_predecessors(game, predecessors, state, marks);
         }
-    }
-}
-
-/// Marks the predecessors of a state.
-fn mark_predecessors(game: &Game, predecessors: &Predecessors, state: u32, marks: &mut [bool])
-    requires predecessors { ArePredecessors game.now predecessors.now }
-    requires state { state < length game.now }
-    requires marks { length marks.old ≡ length game.now }
-    ensures marks { length marks.new ≡ length game.now }
-    ensures kept { (s : ℕ) → IsMarked marks.old s → IsMarked marks.new s }
-    ensures marked { (s c : ℕ) → LeadsTo game.now s c state → IsMarked marks.new s }
-{
-    let _ = game;
-    for step in predecessors.of_state(state) {
-        marks[step.state as usize] = true;
     }
 }

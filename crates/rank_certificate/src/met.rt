@@ -5,7 +5,7 @@ ghost use Rattle.game_model.specs.declared.game.Side.TheVariants.{Max};
 ghost use Rattle.game_model.specs.Game.{choices_of, choice_of};
 ghost use Rattle.game_model.specs.Query.{states, side_at};
 ghost use Rattle.rank_certificate.specs.Layers.{LeadsInto};
-ghost use Rattle.rank_certificate.specs.Growing.{IsLow, AreMet, IsUnmet};
+ghost use Rattle.rank_certificate.specs.Growing.{HasRankWithin, AreMet, IsUnmet};
 
 use game_model::{Question, Side};
 
@@ -85,8 +85,8 @@ fn next_unmet(
     requires state { state < states question.now }
     requires from { from ≤ length (choices_of question.now.game state) }
     ensures from { from ≤ result }
-    ensures met { (c : ℕ) → from ≤ c → c < result → LeadsInto (slice_index values.now) (IsLow ranks.now level) state (choice_of question.now.game state c) }
-    ensures unmet { result < length (choices_of question.now.game state) → ¬ LeadsInto (slice_index values.now) (IsLow ranks.now level) state (choice_of question.now.game state result) }
+    ensures met { (c : ℕ) → from ≤ c → c < result → LeadsInto (slice_index values.now) (HasRankWithin ranks.now level) state (choice_of question.now.game state c) }
+    ensures unmet { result < length (choices_of question.now.game state) → ¬ LeadsInto (slice_index values.now) (HasRankWithin ranks.now level) state (choice_of question.now.game state result) }
 {
     question.known();
     let count = question.game().choices_of(state);
@@ -111,7 +111,7 @@ pub fn leads_low(
     requires ranks { length ranks.now ≡ states question.now }
     requires state { state < states question.now }
     requires choice { choice < length (choices_of question.now.game state) }
-    ensures { IsTrue result ↔ LeadsInto (slice_index values.now) (IsLow ranks.now level) state (choice_of question.now.game state choice) }
+    ensures { IsTrue result ↔ LeadsInto (slice_index values.now) (HasRankWithin ranks.now level) state (choice_of question.now.game state choice) }
 {
     question.known();
     for place in 0..question.game().edge_count(state, choice) {
@@ -129,7 +129,7 @@ fn is_low_onward(values: &[u64], ranks: &[Option<u32>], level: u32, state: u32, 
     requires state { state < length values.now }
     requires to { to < length values.now }
     ensures { IsTrue result ↔ ((slice_index values.now state < slice_index values.now to)
-        ⊎ ((slice_index values.now to ≡ slice_index values.now state) × IsLow ranks.now level to)) }
+        ⊎ ((slice_index values.now to ≡ slice_index values.now state) × HasRankWithin ranks.now level to)) }
 {
     let value = values[state as usize];
     let there = values[to as usize];
@@ -139,7 +139,7 @@ fn is_low_onward(values: &[u64], ranks: &[Option<u32>], level: u32, state: u32, 
 /// Whether a rank was found for a state, and is this one or less.
 fn is_low(ranks: &[Option<u32>], level: u32, state: u32) -> bool
     requires { state < length ranks.now }
-    ensures { IsTrue result ↔ IsLow ranks.now level state }
+    ensures { IsTrue result ↔ HasRankWithin ranks.now level state }
 {
     match ranks[state as usize] {
         Some(rank) => rank <= level,

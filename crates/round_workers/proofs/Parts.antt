@@ -5,7 +5,7 @@ use Rattle.game_model.specs.Game.{Distribution, IsGame}
 use Rattle.game_model.specs.Query.{Query}
 use Rattle.game_model.specs.Rounded.{down_step}
 use Rattle.step_core.specs.Word.{value_at}
-use Rattle.value_words.specs.Passes.{Token, GrewSeat}
+use Rattle.value_words.specs.Passes.{PassSeat, GrewSeat}
 use Rattle.value_words.specs.Rule.{other_half}
 use Rattle.value_words.proofs.Parts.{other_half-many}
 use Rattle.value_words.proofs.Grown.{grew-twice}
@@ -34,7 +34,7 @@ halves-enough front back count parts kept given half both some enough kept_is gi
     let many = other_half-many parts (omega arith) in (omega arith, omega arith, omega arith)
 
 -- passes that were split and met again
-pub parts-meet : (q : Query) (marks : List Bool) (front back count low cut high : ℕ) (old split other left right new : Token) (a b raises : ℕ) → GrewSeat old split → split.me.0.seen ≡ old.me.0.seen → split.me.0.won ≡ old.me.0.won
+pub parts-meet : (q : Query) (marks : List Bool) (front back count low cut high : ℕ) (old split other left right new : PassSeat) (a b raises : ℕ) → GrewSeat old split → split.me.0.seen ≡ old.me.0.seen → split.me.0.won ≡ old.me.0.won
     → other.me.0.seen ≡ old.me.0.seen → other.me.0.won ≡ 0 → (split.me.0.parts ≡ old.me.0.parts / 2) × (other.me.0.parts ≡ other_half old.me.0.parts)
     → IsSwept q marks front low cut split left a → IsSwept q marks back cut high other right b
     → GrewSeat left new → ((s : ℕ) → value_at right.me.0.seen s ≤ value_at new.me.0.seen s) → new.me.0.won ≡ left.me.0.won + right.me.0.won → new.me.0.parts ≡ left.me.0.parts + right.me.0.parts
@@ -61,7 +61,7 @@ parts-meet q marks front back count low cut high old split other left right new 
     }
 
 -- a part that stands from and to the same states
-pub swept-same : (q : Query) (marks : List Bool) (count low high low' high' : ℕ) (old new : Token) (raises : ℕ) → low ≡ low' → high ≡ high' → IsSwept q marks count low high old new raises → IsSwept q marks count low' high' old new raises
+pub swept-same : (q : Query) (marks : List Bool) (count low high low' high' : ℕ) (old new : PassSeat) (raises : ℕ) → low ≡ low' → high ≡ high' → IsSwept q marks count low high old new raises → IsSwept q marks count low' high' old new raises
 swept-same q marks count low high low' high' old new raises from to h =
     let few = h.few in
     record {

@@ -5,13 +5,13 @@ use Rattle.std.specs.List.{AllWithin}
 use Rattle.game_model.specs.Query.{Query, IsQuery}
 use Rattle.game_model.specs.Rounded.{down_step}
 use Rattle.step_core.specs.Word.{value_at}
-use Rattle.value_words.specs.Passes.{Token, GrewSeat, LookedSeat}
+use Rattle.value_words.specs.Passes.{PassSeat, GrewSeat, LookedSeat}
 use Rattle.value_words.proofs.Grown.{grew-twice, step-rises}
-use Rattle.round_workers.specs.Marks.{IsMarked}
+use Rattle.predecessors.specs.Marks.{IsMarked}
 use Rattle.round_workers.specs.Share.{IsSwept}
 
 -- no states yet
-pub swept-none : (q : Query) (marks : List Bool) (low : ℕ) (old : Token) → IsSwept q marks 1 low low old old 0
+pub swept-none : (q : Query) (marks : List Bool) (low : ℕ) (old : PassSeat) → IsSwept q marks 1 low low old old 0
 swept-none q marks low old = record {
   grew = record { table = refl; up = λ s. le_refl (value_at old.me.0.seen s) };
   step = λ s from to _. absurd (omega arith);
@@ -21,7 +21,7 @@ swept-none q marks low old = record {
 }
 
 -- two stretches, one behind the other
-pub swept-twice : (q : Query) (marks : List Bool) (low middle high : ℕ) (a b c : Token) (m n : ℕ) → IsQuery q → IsSwept q marks 1 low middle a b m → IsSwept q marks 1 middle high b c n → IsSwept q marks 1 low high a c (m + n)
+pub swept-twice : (q : Query) (marks : List Bool) (low middle high : ℕ) (a b c : PassSeat) (m n : ℕ) → IsQuery q → IsSwept q marks 1 low middle a b m → IsSwept q marks 1 middle high b c n → IsSwept q marks 1 low high a c (m + n)
 swept-twice q marks low middle high a b c m n posed h k =
     let h_won = h.won in
     let k_won = k.won in
@@ -39,7 +39,7 @@ swept-twice q marks low middle high a b c m n posed h k =
     }
 
 -- one state, of which it is known whether an exchange won
-pub swept-one : (q : Query) (marks : List Bool) (i n : ℕ) (a b : Token) → GrewSeat a b → (IsMarked marks i → down_step q (value_at a.me.0.seen) i ≤ value_at b.me.0.seen i) → b.me.0.won ≡ a.me.0.won + n → n ≤ 1 → b.me.0.parts ≡ a.me.0.parts
+pub swept-one : (q : Query) (marks : List Bool) (i n : ℕ) (a b : PassSeat) → GrewSeat a b → (IsMarked marks i → down_step q (value_at a.me.0.seen) i ≤ value_at b.me.0.seen i) → b.me.0.won ≡ a.me.0.won + n → n ≤ 1 → b.me.0.parts ≡ a.me.0.parts
     → IsSwept q marks 1 i (i + 1) a b n
 swept-one q marks i n a b grew step won few parts = record {
   grew = grew;
@@ -51,7 +51,7 @@ swept-one q marks i n a b grew step won few parts = record {
 }
 
 -- a stretch without a mark
-pub swept-over : (q : Query) (marks : List Bool) (low high : ℕ) (old : Token) → low ≤ high → AllWithin (λ m. m ≡ false) marks low high → IsSwept q marks 1 low high old old 0
+pub swept-over : (q : Query) (marks : List Bool) (low high : ℕ) (old : PassSeat) → low ≤ high → AllWithin (λ m. m ≡ false) marks low high → IsSwept q marks 1 low high old old 0
 swept-over q marks low high old order off = record {
   grew = record { table = refl; up = λ s. le_refl (value_at old.me.0.seen s) };
   step = λ s from to marked. absurd (let clash : true ≡ false = sym marked ∙ off s false from to in cc);
@@ -61,7 +61,7 @@ swept-over q marks low high old order off = record {
 }
 
 -- a stretch, after words were looked at
-pub swept-looked : (q : Query) (marks : List Bool) (low high : ℕ) (a b c : Token) (n : ℕ) → IsQuery q → LookedSeat a b → IsSwept q marks 1 low high b c n → IsSwept q marks 1 low high a c n
+pub swept-looked : (q : Query) (marks : List Bool) (low high : ℕ) (a b c : PassSeat) (n : ℕ) → IsQuery q → LookedSeat a b → IsSwept q marks 1 low high b c n → IsSwept q marks 1 low high a c n
 swept-looked q marks low high a b c n posed h k =
     let h_won = h.won in
     let k_won = k.won in

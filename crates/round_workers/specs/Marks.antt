@@ -1,10 +1,7 @@
 -- Which states a round updates.
-use Rattle.std.specs.Prelude.{◌≡◌, ℕ, ◌<◌, ◌≤◌, Bool, true, false, List, length, slice_index_or}
+use Rattle.std.specs.Prelude.{◌≡◌, ℕ, ◌<◌, ◌≤◌, Bool, false, List, length}
 use Rattle.std.specs.List.{AllWithin}
-
--- the state has a mark
-abbrev pub IsMarked : List Bool → ℕ → Type 0
-IsMarked marks s = slice_index_or marks s false ≡ true
+use Rattle.predecessors.specs.Marks.{IsMarked}
 
 -- a mark stands from one place up to and not including another
 pub record HasMark (marks : List Bool) (low high : ℕ) : Type 0 where

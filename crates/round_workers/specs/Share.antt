@@ -4,8 +4,8 @@ use Rattle.game_model.specs.Game.{Distribution, edges_below}
 use Rattle.game_model.specs.Query.{Query}
 use Rattle.game_model.specs.Rounded.{down_step}
 use Rattle.step_core.specs.Word.{value_at}
-use Rattle.value_words.specs.Passes.{Token, GrewSeat}
-use Rattle.round_workers.specs.Marks.{IsMarked}
+use Rattle.value_words.specs.Passes.{PassSeat, GrewSeat}
+use Rattle.predecessors.specs.Marks.{IsMarked}
 
 -- the most workers of a round
 abbrev pub most_workers : ℕ
@@ -22,7 +22,7 @@ pub record BeginsBlock (game : List (List Distribution)) (workers worker first :
   pub behind : (s : ℕ) → first ≤ s → s < length game → worker ≤ worker_of game workers s
 
 -- after the states from `low` up to and not including `high`, by so many workers: each marked one is seen with at least the down step of what was seen before, and so many exchanges were won, no more than states; the pass has all its parts again, where it has one for each worker
-pub record IsSwept (q : Query) (marks : List Bool) (workers low high : ℕ) (old new : Token) (raises : ℕ) : Type 0 where
+pub record IsSwept (q : Query) (marks : List Bool) (workers low high : ℕ) (old new : PassSeat) (raises : ℕ) : Type 0 where
   pub grew : GrewSeat old new
   pub step : (s : ℕ) → low ≤ s → s < high → IsMarked marks s → down_step q (value_at old.me.0.seen) s ≤ value_at new.me.0.seen s
   pub won : new.me.0.won ≡ old.me.0.won + raises

@@ -4,7 +4,7 @@ ghost use Rattle.std.specs.Thread.{IsSend, IsSync};
 ghost use Rattle.game_model.specs.Query.{states};
 ghost use Rattle.game_model.specs.Rounded.{down_step};
 ghost use Rattle.value_words.specs.Passes.{IsOf, Grew, seen_by, won_by, parts_of};
-ghost use Rattle.round_workers.specs.Marks.{IsMarked};
+ghost use Rattle.predecessors.specs.Marks.{IsMarked};
 ghost use Rattle.round_workers.specs.Share.{IsSwept, most_workers};
 ghost use Rattle.round_workers.specs.Teams.{IsTeam, AreHalves};
 

@@ -3,7 +3,8 @@
 ghost use Rattle.std.specs.Prelude.{◌≡◌, ℕ, ◌<◌, ◌≤◌, length, false, MatchBool};
 ghost use Rattle.std.specs.List.{AllWithin};
 ghost use Rattle.game_model.specs.Limits.{most_states};
-ghost use Rattle.round_workers.specs.Marks.{IsMarked, HasMark, IsNextMark};
+ghost use Rattle.predecessors.specs.Marks.{IsMarked};
+ghost use Rattle.round_workers.specs.Marks.{HasMark, IsNextMark};
 
 use predecessors::Predecessors;
 

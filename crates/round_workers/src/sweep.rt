@@ -4,7 +4,7 @@ ghost use Rattle.std.specs.Prelude.{◌≡◌, ℕ, ◌+◌, ◌<◌, ◌≤◌,
 ghost use Rattle.game_model.specs.Query.{states};
 ghost use Rattle.game_model.specs.Rounded.{down_step};
 ghost use Rattle.value_words.specs.Passes.{IsOf, Grew, Looked, seen_by, won_by, parts_of};
-ghost use Rattle.round_workers.specs.Marks.{IsMarked};
+ghost use Rattle.predecessors.specs.Marks.{IsMarked};
 ghost use Rattle.round_workers.specs.Share.{IsSwept};
 
 use crate::marks::{STRETCH, has_mark, mark_behind};

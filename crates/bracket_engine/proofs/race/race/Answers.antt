@@ -4,9 +4,9 @@ use Rattle.game_model.specs.Query.{Query, states}
 use Rattle.game_model.specs.Rounded.{IsBelow}
 use Rattle.step_core.specs.Word.{value_at}
 use Rattle.verdicts.specs.Stop.{bound_of}
-use Rattle.bracket_engine.specs.Agenda.{read_of}
-use Rattle.bracket_engine.specs.Race.{IsClosed}
-use Rattle.bracket_engine.proofs.Uppers.{IsKept-raised}
+use Rattle.marked_rounds.specs.Agenda.{read_of}
+use Rattle.marked_rounds.specs.Rounds.{IsClosed}
+use Rattle.bracket_engine.proofs.Uppers.{IsSettlingGuess-raised}
 use Rattle.bracket_engine.proofs.race.race.Goals as goal
 
 pub returns : goal.returns
@@ -25,7 +25,7 @@ returns g c =
       coraced = two.raced;
       few = rounds.few;
       rests = λ is. (one.settled (rounds.rests is).0, two.settled (rounds.rests is).1);
-      kept = IsKept-raised q c.args.ending.now.zero.now (bound_of c.args.ending.now.rule.now) c.args.ending.now.initial.now read (value_at c.in_ok-words.words) coread (value_at c.in_ok-cowords.cowords) ended.kept inside one.below corise rounds.kept;
+      kept = IsSettlingGuess-raised q c.args.ending.now.zero.now (bound_of c.args.ending.now.rule.now) c.args.ending.now.initial.now read (value_at c.in_ok-words.words) coread (value_at c.in_ok-cowords.cowords) ended.kept inside one.below corise rounds.kept;
       none = rounds.none;
       early = rounds.early;
     }

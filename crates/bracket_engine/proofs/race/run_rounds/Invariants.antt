@@ -1,5 +1,5 @@
 use Rattle.upper_guess.specs.Guess.{AreWitnesses}
-use Rattle.bracket_engine.specs.Race.{IsRacing}
+use Rattle.marked_rounds.specs.Rounds.{IsRacing}
 use Rattle.bracket_engine.proofs.race.run_rounds.Given as goal
 
 abbrev pub invariant-loop-turn : goal.invariant-loop-turn

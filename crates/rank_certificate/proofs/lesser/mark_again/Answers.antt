@@ -2,7 +2,7 @@ use Rattle.std.proofs.Common.{◌≡◌, ℕ, ◌<◌, List, Bool, arith, inl, i
 use Rattle.std.specs.Prelude.{slice_index}
 use Rattle.std.proofs.lemmas.Bool.{cases_lt}
 use Rattle.predecessors.specs.Moves.{LeadsTo}
-use Rattle.rank_certificate.specs.Marks.{IsMarked}
+use Rattle.predecessors.specs.Marks.{IsMarked}
 use Rattle.rank_certificate.proofs.lesser.mark_again.Goals.{then-next-state, else-next-state}
 use Rattle.rank_certificate.proofs.lesser.mark_again.Goals as goal
 

@@ -1,7 +1,7 @@
 use Rattle.std.proofs.Common.{◌≡◌, ℕ, ◌<◌, length}
 use Rattle.std.specs.Prelude.{slice_index}
 use Rattle.predecessors.specs.Moves.{LeadsTo}
-use Rattle.rank_certificate.specs.Marks.{IsMarked}
+use Rattle.predecessors.specs.Marks.{IsMarked}
 use Rattle.rank_certificate.proofs.lesser.mark_again.Given as goal
 
 abbrev pub invariant-loop-state : goal.invariant-loop-state

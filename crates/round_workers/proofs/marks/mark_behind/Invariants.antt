@@ -1,5 +1,5 @@
 use Rattle.std.proofs.Common.{ℕ}
-use Rattle.round_workers.specs.Marks.{IsMarked}
+use Rattle.predecessors.specs.Marks.{IsMarked}
 use Rattle.round_workers.proofs.marks.mark_behind.Given as goal
 
 abbrev pub invariant-loop-step : goal.invariant-loop-step

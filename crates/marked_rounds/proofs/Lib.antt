@@ -1,0 +1,4 @@
+pub mod Marking
+pub mod Quiet
+pub mod Racing
+pub mod Reading
