@@ -5,21 +5,21 @@ use Rattle.text_lines.specs.Limits.{most_bytes}
 use Rattle.game_outside.specs.declared.file.FileEnd.{FileEnd}
 use Rattle.game_outside.specs.declared.file.FileEnd.TheVariants as file
 use Rattle.game_outside.specs.Outside.{Holding, Holds, IsHeldAs, IsHeldLonger}
-use Rattle.game_outside.specs.Files.{OfText, ReadsFile}
+use Rattle.game_outside.specs.Files.{HeldTextWith, ReadsFile}
 use Rattle.asked_files.specs.declared.load.End.{End}
 use Rattle.asked_files.specs.declared.load.End.TheVariants.{Refused, ReadFault}
 use Rattle.run_refusals.specs.declared.refusal.Text.{Text}
 use Rattle.run_refusals.specs.declared.refusal.Refusal.{Refusal}
 use Rattle.run_refusals.specs.declared.refusal.Refusal.TheVariants.{TooLong}
 use Rattle.asked_files.specs.Said.{Said, Refuses, and_then, read_said}
-use Rattle.asked_files.specs.Sources.{WhereTold}
+use Rattle.asked_files.specs.Sources.{IfKnown}
 use Rattle.asked_files.specs.Loading.{LoadsText, end_of}
 use Rattle.asked_files.specs.Texts.{text_said}
 use Rattle.asked_files.proofs.Lengths.{short_says, long_refuses, longer}
 use Rattle.asked_files.proofs.Loading.{read_as_told, wanting}
 
 -- what is held under a name is the text
-as_held : (holding : Option Holding) (name bytes : List ℕ) → IsHeldAs holding name bytes → WhereTold holding (λ held. Some bytes ≡ held name)
+as_held : (holding : Option Holding) (name bytes : List ℕ) → IsHeldAs holding name bytes → IfKnown holding (λ held. Some bytes ≡ held name)
 as_held None name bytes is = tt
 as_held (Some held) name bytes is = sym is
 
@@ -38,7 +38,7 @@ module _ {X F : Type 0} (text : Text) (refusal : F → Refusal) (said : List ℕ
   says_so : (bytes : List ℕ) (answer : Result X F) → length bytes ≤ most_bytes → said bytes ≡ answer → said_of (Some bytes) ≡ read_said refusal answer
   says_so bytes answer short is = ap (λ s. and_then s (λ bytes. read_said refusal (said bytes))) (short_says text bytes short) ∙ ap (λ r. read_said refusal r) is
 
-  pub file_read : (x : X) → OfText holding name most_bytes (λ bytes. said bytes ≡ Ok x) → Answers (Ok x)
+  pub file_read : (x : X) → HeldTextWith holding name most_bytes (λ bytes. said bytes ≡ Ok x) → Answers (Ok x)
   file_read x of = read_as_told holding steady (λ held. held name) (λ x. x) (Ok x) said_of (Some of.text) (as_held holding name of.text of.told) (says_so of.text (Ok x) of.within of.holds)
 
   long_so : (bytes : List ℕ) → most_bytes < length bytes → said_of (Some bytes) ≡ Refuses (TooLong text)

@@ -7,8 +7,8 @@ use Rattle.run_refusals.specs.declared.refusal.Refusal.{Refusal}
 use Rattle.run_refusals.specs.declared.refusal.Refusal.TheVariants.{TooLong}
 use Rattle.asked_files.specs.declared.load.End.{End}
 use Rattle.asked_files.specs.declared.load.End.TheVariants.{Refused, ReadFault, OutOfMemory}
-use Rattle.asked_files.specs.Said.{Said, NotHeld, Refuses, Says}
-use Rattle.asked_files.specs.Sources.{WhereTold}
+use Rattle.asked_files.specs.Said.{Said, NotHeld, Refuses, Denoted}
+use Rattle.asked_files.specs.Sources.{IfKnown}
 use Rattle.asked_files.specs.Loading.{Loads, LoadsText}
 use Rattle.asked_files.specs.Texts.{text_said}
 use Rattle.asked_files.proofs.Lengths.{short_says, long_refuses, longer}
@@ -17,7 +17,7 @@ use Rattle.asked_files.proofs.Lengths.{short_says, long_refuses, longer}
 
 -- the answer of one text, which is as told
 pub read_as_told : {X Y : Type 0} (holding : Option Holding) (steady : Bool) (place : Holding → Option (List ℕ)) (view : X → Y) (result : Result X End) (said : Option (List ℕ) → Said Y) (source : Option (List ℕ))
-    → WhereTold holding (λ held. source ≡ place held) → Loads view result (said source) → LoadsText holding steady place view result said
+    → IfKnown holding (λ held. source ≡ place held) → Loads view result (said source) → LoadsText holding steady place view result said
 read_as_told None steady place view result said source told loads = record { source = source; told = λ _. tt; steadily = λ _. tt; loads = loads }
 read_as_told (Some held) steady place view result said source told loads = record { source = source; told = λ _. told; steadily = λ _. told; loads = loads }
 
@@ -33,7 +33,7 @@ read_whole text holding steady name view result x is held short =
     let P : Result _ End → Type 0 = λ r. LoadsText holding steady (λ (h : Holding). h name) view r (text_said text) in
     subst P (sym is) (read_as_told holding steady (λ h. h name) view (Ok x) (text_said text) (Some (view x)) (same holding held) (short_says text (view x) short))
   where
-    same : (h : Option Holding) → IsHeldAs h name (view x) → WhereTold h (λ held. Some (view x) ≡ held name)
+    same : (h : Option Holding) → IsHeldAs h name (view x) → IfKnown h (λ held. Some (view x) ≡ held name)
     same None is = tt
     same (Some told) is = sym is
 
@@ -51,11 +51,11 @@ read_long text (Some told) steady name view held =
 -- there is a source, which is the one that is held at the place where this is told, and this is said of it
 pub record TextSays {Y : Type 0} (holding : Option Holding) (place : Holding → Option (List ℕ)) (said : Option (List ℕ) → Said Y) (it : Said Y) : Type 0 where
   pub source : Option (List ℕ)
-  pub told : WhereTold holding (λ held. source ≡ place held)
+  pub told : IfKnown holding (λ held. source ≡ place held)
   pub says : said source ≡ it
 
 module _ {X Y : Type 0} {holding : Option Holding} {steady : Bool} {place : Holding → Option (List ℕ)} {view : X → Y} {said : Option (List ℕ) → Said Y} where
-  pub text_read : {x : X} → LoadsText holding steady place view (Ok x) said → TextSays holding place said (Says (view x))
+  pub text_read : {x : X} → LoadsText holding steady place view (Ok x) said → TextSays holding place said (Denoted (view x))
   text_read loads = record { source = loads.source; told = loads.told (λ fault. cc (fault)); says = loads.loads }
 
   pub text_refused : {end : End} {refusal : Refusal} → LoadsText holding steady place view (Err end) said → end ≡ Refused refusal → TextSays holding place said (Refuses refusal)

@@ -11,8 +11,8 @@ use Rattle.run_refusals.specs.declared.refusal.Refusal.{Refusal}
 use Rattle.asked_files.specs.declared.load.End.{End}
 use Rattle.asked_files.specs.declared.load.End.TheVariants.{Refused}
 use Rattle.asked_files.specs.Loading.{Loads}
-use Rattle.asked_files.specs.Said.{Said, NotHeld, Refuses, Says, and_then}
-use Rattle.asked_files.specs.Sources.{Sources, held_own, WhereTold, AreSources}
+use Rattle.asked_files.specs.Said.{Said, NotHeld, Refuses, Denoted, and_then}
+use Rattle.asked_files.specs.Sources.{Sources, held_own, IfKnown, AreSources}
 use Rattle.asked_files.specs.Texts.{game_said, labels_said, owners_said}
 use Rattle.asked_files.specs.Posed.{Reading, formula_read, reading_with, behind_owners, behind_labels, behind_game, reading_said, posed}
 use Rattle.asked_files.specs.Questions.{LacksText, Reads, ReadsAs}
@@ -22,12 +22,12 @@ use Rattle.asked_files.proofs.Loading.{TextSays}
 -- 1. Sources as they are told.
 
 -- a source for a text that plays no part
-as_told : (holding : Option Holding) (place : Holding → Option (List ℕ)) → (source : Option (List ℕ)) × WhereTold holding (λ held. source ≡ place held)
+as_told : (holding : Option Holding) (place : Holding → Option (List ℕ)) → (source : Option (List ℕ)) × IfKnown holding (λ held. source ≡ place held)
 as_told None place = (None, tt)
 as_told (Some held) place = (place held, refl)
 
-all_told : (holding : Option Holding) (asked : Asked) (tra lab own : Option (List ℕ)) → WhereTold holding (λ held. tra ≡ held asked.tra) → WhereTold holding (λ held. lab ≡ held asked.lab)
-    → WhereTold holding (λ held. own ≡ held_own asked.own held) → AreSources holding asked (record { tra = tra; lab = lab; own = own })
+all_told : (holding : Option Holding) (asked : Asked) (tra lab own : Option (List ℕ)) → IfKnown holding (λ held. tra ≡ held asked.tra) → IfKnown holding (λ held. lab ≡ held asked.lab)
+    → IfKnown holding (λ held. own ≡ held_own asked.own held) → AreSources holding asked (record { tra = tra; lab = lab; own = own })
 all_told None asked tra lab own of_tra of_lab of_own = tt
 all_told (Some held) asked tra lab own of_tra of_lab of_own = cc (of_tra, of_lab, of_own)
 
@@ -64,7 +64,7 @@ module _ (holding : Option Holding) (asked : Asked) where
         says = ap (λ s. and_then s (λ game. behind_game sources asked game)) tra.says ∙ ends-behind end (λ game. behind_game sources asked game);
       }
 
-  module _ (game : List (List Distribution)) (tra : SaysGame (Says game)) where
+  module _ (game : List (List Distribution)) (tra : SaysGame (Denoted game)) where
     pub labels_end : (end : Option Refusal) → SaysLabels (length game) (ends end) → ReadsAs holding asked (ends end)
     labels_end end lab =
         let own = as_told holding (held_own asked.own) in
@@ -76,7 +76,7 @@ module _ (holding : Option Holding) (asked : Asked) where
               ∙ ends-behind end (λ labels. behind_labels sources asked game labels);
         }
 
-    module _ (labels : Labelling) (lab : SaysLabels (length game) (Says labels)) where
+    module _ (labels : Labelling) (lab : SaysLabels (length game) (Denoted labels)) where
       -- what the owner text says is what is said of the reading behind it
       behind : (said : Said Ownership) → SaysOwners (length game) said → ReadsAs holding asked (and_then said (λ owners. behind_owners asked game labels owners))
       behind said own =
@@ -91,15 +91,15 @@ module _ (holding : Option Holding) (asked : Asked) where
       pub owners_end : (end : Option Refusal) → SaysOwners (length game) (ends end) → ReadsAs holding asked (ends end)
       owners_end end own = subst (λ (s : Said Reading). ReadsAs holding asked s) (ends-behind end (λ owners. behind_owners asked game labels owners)) (behind (ends end) own)
 
-      pub formula_ends : (owners : Ownership) → SaysOwners (length game) (Says owners) → (end : Option Refusal) → formula_read asked.formula ≡ ends end → ReadsAs holding asked (ends end)
+      pub formula_ends : (owners : Ownership) → SaysOwners (length game) (Denoted owners) → (end : Option Refusal) → formula_read asked.formula ≡ ends end → ReadsAs holding asked (ends end)
       formula_ends owners own end is =
-          let next = λ (formula : Tree). Says (reading_with game labels owners formula) in
-          subst (λ (s : Said Reading). ReadsAs holding asked s) (ap (λ s. and_then s next) is ∙ ends-behind end next) (behind (Says owners) own)
+          let next = λ (formula : Tree). Denoted (reading_with game labels owners formula) in
+          subst (λ (s : Said Reading). ReadsAs holding asked s) (ap (λ s. and_then s next) is ∙ ends-behind end next) (behind (Denoted owners) own)
 
-      pub all_read : (owners : Ownership) → SaysOwners (length game) (Says owners) → (formula : Tree) → formula_read asked.formula ≡ Says formula → ReadsAs holding asked (Says (reading_with game labels owners formula))
+      pub all_read : (owners : Ownership) → SaysOwners (length game) (Denoted owners) → (formula : Tree) → formula_read asked.formula ≡ Denoted formula → ReadsAs holding asked (Denoted (reading_with game labels owners formula))
       all_read owners own formula is =
-          let next = λ (formula : Tree). Says (reading_with game labels owners formula) in
-          subst (λ (s : Said Reading). ReadsAs holding asked s) (ap (λ s. and_then s next) is) (behind (Says owners) own)
+          let next = λ (formula : Tree). Denoted (reading_with game labels owners formula) in
+          subst (λ (s : Said Reading). ReadsAs holding asked s) (ap (λ s. and_then s next) is) (behind (Denoted owners) own)
 
 -- a formula that is refused
 pub formula_refused : (text : List ℕ) {end : End} {refusal : Refusal} → Loads tree_of (Err end) (formula_read text) → end ≡ Refused refusal → formula_read text ≡ Refuses refusal
@@ -107,7 +107,7 @@ formula_refused text loads is = subst (λ (e : End). Loads tree_of (Err e) (form
 
 -- 3. What is read of the texts is asked.
 
-pub reads : (holding : Option Holding) (asked : Asked) (reading : Reading) → ReadsAs holding asked (Says reading) → Denotes asked.formula reading.formula → Reads holding asked reading
+pub reads : (holding : Option Holding) (asked : Asked) (reading : Reading) → ReadsAs holding asked (Denoted reading) → Denotes asked.formula reading.formula → Reads holding asked reading
 reads holding asked reading said spelled = record {
   said = said;
   spelled = spelled;

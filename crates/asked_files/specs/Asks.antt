@@ -15,7 +15,7 @@ use Rattle.asked_files.specs.Sources.{Sources}
 use Rattle.asked_files.specs.Texts.{single_owner}
 
 -- there is a text, within the limit, and this is true of it
-pub record IsText (source : Option (List ℕ)) (IsSo : List ℕ → Type 0) : Type 0 where
+pub record GivenTextWith (source : Option (List ℕ)) (IsSo : List ℕ → Type 0) : Type 0 where
   pub text : List ℕ
   pub given : source ≡ Some text
   pub short : length text ≤ most_bytes
@@ -24,7 +24,7 @@ pub record IsText (source : Option (List ℕ)) (IsSo : List ℕ → Type 0) : Ty
 -- where no owner file is named, one player owns all states; else these are the owners that its text denotes
 abbrev pub AreOwners : Option (List ℕ) → Option (List ℕ) → ℕ → Ownership → Type 0
 AreOwners None source states owners = owners ≡ single_owner states
-AreOwners (Some name) source states owners = IsText source (λ text. DenotesOwners text states owners)
+AreOwners (Some name) source states owners = GivenTextWith source (λ text. DenotesOwners text states owners)
 
 -- The transition text denotes a game, the label text labels of its states, and the owner text owners of them; the formula poses the problem of these, and the command takes it.
 pub record Asks (paths : Paths) (sources : Sources) (asked : Asked) (problem : Problem) : Type 0 where
@@ -32,8 +32,8 @@ pub record Asks (paths : Paths) (sources : Sources) (asked : Asked) (problem : P
   pub labels : Labelling
   pub owners : Ownership
   pub formula : Tree
-  pub tra : IsText sources.tra (λ text. DenotesGame text game)
-  pub lab : IsText sources.lab (λ text. DenotesLabels text (length game) labels)
+  pub tra : GivenTextWith sources.tra (λ text. DenotesGame text game)
+  pub lab : GivenTextWith sources.lab (λ text. DenotesLabels text (length game) labels)
   pub own : AreOwners asked.own sources.own (length game) owners
   pub spelled : DenotesFormula asked.formula formula
   pub poses : PosesProblem game labels owners formula problem

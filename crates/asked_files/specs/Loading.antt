@@ -11,12 +11,12 @@ use Rattle.run_refusals.specs.declared.refusal.Refusal.TheVariants.{TooLong}
 use Rattle.run_refusals.specs.Caused.{IsCaused}
 use Rattle.asked_files.specs.declared.load.End.{End}
 use Rattle.asked_files.specs.declared.load.End.TheVariants.{OutOfMemory, ReadFault, Refused}
-use Rattle.asked_files.specs.Said.{Said, NotHeld, Refuses, Says}
-use Rattle.asked_files.specs.Sources.{WhereTold}
+use Rattle.asked_files.specs.Said.{Said, NotHeld, Refuses, Denoted}
+use Rattle.asked_files.specs.Sources.{IfKnown}
 
 -- the answer is what is said, or memory was wanting
 abbrev pub Loads : {X Y : Type 0} → (X → Y) → Result X End → Said Y → Type 0
-Loads view (Ok x) said = said ≡ Says (view x)
+Loads view (Ok x) said = said ≡ Denoted (view x)
 Loads view (Err OutOfMemory) said = Unit {0}
 Loads view (Err ReadFault) said = said ≡ NotHeld
 Loads view (Err (Refused refusal)) said = said ≡ Refuses refusal
@@ -24,8 +24,8 @@ Loads view (Err (Refused refusal)) said = said ≡ Refuses refusal
 -- The answer is what is said of a source. It is the one that is held at the place, where this is told, unless it can't be read; on a steady shelf it always is.
 pub record LoadsText {X Y : Type 0} (holding : Option Holding) (steady : Bool) (place : Holding → Option (List ℕ)) (view : X → Y) (result : Result X End) (said : Option (List ℕ) → Said Y) : Type 0 where
   pub source : Option (List ℕ)
-  pub told : (IsErrOf result ReadFault → ⊥) → WhereTold holding (λ held. source ≡ place held)
-  pub steadily : steady ≡ true → WhereTold holding (λ held. source ≡ place held)
+  pub told : (IsErrOf result ReadFault → ⊥) → IfKnown holding (λ held. source ≡ place held)
+  pub steadily : steady ≡ true → IfKnown holding (λ held. source ≡ place held)
   pub loads : Loads view result (said source)
 
 -- loading refuses nothing for want of memory

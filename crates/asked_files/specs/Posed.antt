@@ -14,7 +14,7 @@ use Rattle.asked_files.specs.declared.model.Loaded.{Loaded}
 use Rattle.command_words.specs.Words.{Asked}
 use Rattle.asked_files.specs.declared.problem.Paths.{Paths}
 use Rattle.asked_files.specs.Problems.{Problem, OfUntil, OfWithin, OfNext, OfAlways, OfNested, takes_formula}
-use Rattle.asked_files.specs.Said.{Said, Refuses, Says, and_then, read_said}
+use Rattle.asked_files.specs.Said.{Said, Refuses, Denoted, and_then, read_said}
 use Rattle.asked_files.specs.Sources.{Sources}
 use Rattle.asked_files.specs.Texts.{game_said, labels_said, owners_said}
 
@@ -43,7 +43,7 @@ reading_with game labels owners formula = record { game = game; labels = labels;
 
 -- the reading behind the owners, behind the labels, behind the game, and the whole
 abbrev pub behind_owners : Asked → List (List Distribution) → Labelling → Ownership → Said Reading
-behind_owners asked game labels owners = and_then (formula_read asked.formula) (λ formula. Says (reading_with game labels owners formula))
+behind_owners asked game labels owners = and_then (formula_read asked.formula) (λ formula. Denoted (reading_with game labels owners formula))
 
 abbrev pub behind_labels : Sources → Asked → List (List Distribution) → Labelling → Said Reading
 behind_labels sources asked game labels = and_then (owners_said asked.own sources.own (length game)) (λ owners. behind_owners asked game labels owners)
@@ -56,21 +56,21 @@ reading_said sources asked = and_then (game_said sources.tra) (λ game. behind_g
 
 -- the problem that a reading poses, by the kind of its paths
 abbrev pub posed_by : PathKind → Reading → Said Problem
-posed_by Until r = and_then (read_said OfQuestion (pose_said r.game r.labels r.owners r.formula)) (λ posing. Says (OfUntil posing))
-posed_by (Within steps) r = and_then (read_said OfQuestion (pose_said r.game r.labels r.owners r.formula)) (λ posing. Says (OfWithin steps posing))
-posed_by Next r = and_then (read_said OfQuestion (pose_next_said r.game r.labels r.owners r.formula)) (λ posing. Says (OfNext posing))
-posed_by Always r = and_then (read_said OfQuestion (pose_said r.game r.labels r.owners (dual_of r.formula))) (λ posing. Says (OfAlways posing))
+posed_by Until r = and_then (read_said OfQuestion (pose_said r.game r.labels r.owners r.formula)) (λ posing. Denoted (OfUntil posing))
+posed_by (Within steps) r = and_then (read_said OfQuestion (pose_said r.game r.labels r.owners r.formula)) (λ posing. Denoted (OfWithin steps posing))
+posed_by Next r = and_then (read_said OfQuestion (pose_next_said r.game r.labels r.owners r.formula)) (λ posing. Denoted (OfNext posing))
+posed_by Always r = and_then (read_said OfQuestion (pose_said r.game r.labels r.owners (dual_of r.formula))) (λ posing. Denoted (OfAlways posing))
 
 -- that of a formula with others inside
 abbrev pub nested_posed : Reading → Said Problem
-nested_posed r = and_then (read_said OfQuestion (initial_said r.labels r.owners r.formula)) (λ initial. Says (OfNested (record { game = r.game; labels = r.labels; owners = r.owners }) initial))
+nested_posed r = and_then (read_said OfQuestion (initial_said r.labels r.owners r.formula)) (λ initial. Denoted (OfNested (record { game = r.game; labels = r.labels; owners = r.owners }) initial))
 
 abbrev pub any_posed : Reading → Said Problem
 any_posed r = if is_flat r.formula.left && is_flat r.formula.right then posed_by r.formula.kind r else nested_posed r
 
 -- it is refused where the command does not take the formula
 abbrev pub where_taken : Bool → Problem → Said Problem
-where_taken taken problem = if taken then Says problem else Refuses WrongKind
+where_taken taken problem = if taken then Denoted problem else Refuses WrongKind
 
 abbrev pub posed : Paths → Reading → Said Problem
 posed paths reading = and_then (any_posed reading) (λ problem. where_taken (takes_formula paths reading.formula) problem)

@@ -11,10 +11,10 @@ use Rattle.run_refusals.specs.declared.refusal.Refusal.TheVariants.{OfCertificat
 use Rattle.run_refusals.specs.declared.refusal.Text.TheVariants.{Cert}
 use Rattle.asked_files.specs.declared.problem.Paths.{Paths}
 use Rattle.asked_files.specs.Problems.{Problem}
-use Rattle.asked_files.specs.Said.{Said, NotHeld, Refuses, Says}
-use Rattle.asked_files.specs.Sources.{Sources, WhereTold, AreSources, sources_of}
+use Rattle.asked_files.specs.Said.{Said, NotHeld, Refuses, Denoted}
+use Rattle.asked_files.specs.Sources.{Sources, IfKnown, AreSources, sources_of}
 use Rattle.asked_files.specs.Posed.{Reading, reading_said, posed, problem_said}
-use Rattle.asked_files.specs.Asks.{IsText, Asks}
+use Rattle.asked_files.specs.Asks.{GivenTextWith, Asks}
 
 -- 1. The problem.
 
@@ -32,7 +32,7 @@ pub record RefusesQuestion (holding : Option Holding) (asked : Asked) (paths : P
 
 -- where the holding is told, it lacks a text that is needed, and those before it are accepted
 abbrev pub LacksText : Option Holding → Asked → Type 0
-LacksText holding asked = WhereTold holding (λ held. reading_said (sources_of held asked) asked ≡ NotHeld)
+LacksText holding asked = IfKnown holding (λ held. reading_said (sources_of held asked) asked ≡ NotHeld)
 
 -- 2. What is read before the problem is posed.
 
@@ -44,15 +44,15 @@ pub record ReadsAs (holding : Option Holding) (asked : Asked) (said : Said Readi
 
 -- They say this reading. Its formula is the one that the words spell; the problem that it poses to a command is the one that is asked, and where it poses none, so is the refusal.
 pub record Reads (holding : Option Holding) (asked : Asked) (reading : Reading) : Type 0 where
-  pub said : ReadsAs holding asked (Says reading)
+  pub said : ReadsAs holding asked (Denoted reading)
   pub spelled : Denotes asked.formula reading.formula
-  pub asks : (paths : Paths) (problem : Problem) → posed paths reading ≡ Says problem → PosesIt holding asked paths problem
+  pub asks : (paths : Paths) (problem : Problem) → posed paths reading ≡ Denoted problem → PosesIt holding asked paths problem
   pub refuses : (paths : Paths) (refusal : Refusal) → posed paths reading ≡ Refuses refusal → RefusesQuestion holding asked paths refusal
 
 -- 3. The certificate of an audit.
 
 -- why a text is refused as the certificate of a question: it is too long, or this is its first fault
 abbrev pub RefusesCertificate : Query → Option (List ℕ) → Refusal → Type 0
-RefusesCertificate q source (OfCertificate fault) = IsText source (λ text. IsRefused q text fault)
+RefusesCertificate q source (OfCertificate fault) = GivenTextWith source (λ text. IsRefused q text fault)
 RefusesCertificate q source (TooLong Cert) = (text : List ℕ) × (source ≡ Some text) × (most_bytes < length text)
 RefusesCertificate q source refusal = ⊥

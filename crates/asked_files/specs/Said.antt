@@ -6,14 +6,14 @@ use Rattle.run_refusals.specs.declared.refusal.Refusal.{Refusal}
 pub data Said (X : Type 0) : Type 0 where
   NotHeld : Said X
   Refuses : Refusal → Said X
-  Says : X → Said X
+  Denoted : X → Said X
 
 abbrev pub and_then : {X Y : Type 0} → Said X → (X → Said Y) → Said Y
 and_then NotHeld next = NotHeld
 and_then (Refuses refusal) next = Refuses refusal
-and_then (Says x) next = next x
+and_then (Denoted x) next = next x
 
 -- what a reader says of a text, where its faults are refusals of this kind
 abbrev pub read_said : {X F : Type 0} → (F → Refusal) → Result X F → Said X
-read_said refusal (Ok x) = Says x
+read_said refusal (Ok x) = Denoted x
 read_said refusal (Err fault) = Refuses (refusal fault)

@@ -19,16 +19,16 @@ abbrev pub sources_of : Holding → Asked → Sources
 sources_of held asked = record { tra = held asked.tra; lab = held asked.lab; own = held_own asked.own held }
 
 -- where the holding is told, it has P
-abbrev pub WhereTold : Option Holding → (Holding → Type 0) → Type 0
-WhereTold None P = Unit {0}
-WhereTold (Some held) P = P held
+abbrev pub IfKnown : Option Holding → (Holding → Type 0) → Type 0
+IfKnown None P = Unit {0}
+IfKnown (Some held) P = P held
 
 -- where the holding is told, these are the texts that it has under those names
 abbrev pub AreSources : Option Holding → Asked → Sources → Type 0
-AreSources holding asked sources = WhereTold holding (λ held. sources ≡ sources_of held asked)
+AreSources holding asked sources = IfKnown holding (λ held. sources ≡ sources_of held asked)
 
 -- there is a source under a name, which is the one that is held where this is told, and this is true of it
-pub record HasSource (holding : Option Holding) (name : List ℕ) (IsSo : Option (List ℕ) → Type 0) : Type 0 where
+pub record SourceWith (holding : Option Holding) (name : List ℕ) (IsSo : Option (List ℕ) → Type 0) : Type 0 where
   pub source : Option (List ℕ)
-  pub told : WhereTold holding (λ held. source ≡ held name)
+  pub told : IfKnown holding (λ held. source ≡ held name)
   pub is_so : IsSo source

@@ -9,12 +9,12 @@ use Rattle.label_reader.specs.Texts.{labels_of, owners_of}
 use Rattle.run_refusals.specs.declared.refusal.Text.{Text}
 use Rattle.run_refusals.specs.declared.refusal.Text.TheVariants.{Tra, Lab, Own}
 use Rattle.run_refusals.specs.declared.refusal.Refusal.TheVariants.{OfTra, OfLab, OfOwn, TooLong}
-use Rattle.asked_files.specs.Said.{Said, NotHeld, Refuses, Says, and_then, read_said}
+use Rattle.asked_files.specs.Said.{Said, NotHeld, Refuses, Denoted, and_then, read_said}
 
 -- the bytes of a text
 abbrev pub text_said : Text → Option (List ℕ) → Said (List ℕ)
 text_said text None = NotHeld
-text_said text (Some bytes) = if nat_lt most_bytes (length bytes) then Refuses (TooLong text) else Says bytes
+text_said text (Some bytes) = if nat_lt most_bytes (length bytes) then Refuses (TooLong text) else Denoted bytes
 
 -- the game of a transition text
 abbrev pub game_said : Option (List ℕ) → Said (List (List Distribution))
@@ -30,5 +30,5 @@ single_owner states = record { players = codes "p0" ∷ []; owners = replicate s
 
 -- the owners of an owner text, where a file is named; without one, one player owns all
 abbrev pub owners_said : Option (List ℕ) → Option (List ℕ) → ℕ → Said Ownership
-owners_said None source states = Says (single_owner states)
+owners_said None source states = Denoted (single_owner states)
 owners_said (Some name) source states = and_then (text_said Own source) (λ bytes. read_said OfOwn (owners_of bytes states))

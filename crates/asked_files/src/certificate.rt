@@ -2,12 +2,12 @@
 
 ghost use Rattle.std.specs.Prelude.{◌≡◌, ◌≤◌, ◌↔◌, None, Err, IfOk, IsErrOf, IsTrue, length, true};
 ghost use Rattle.text_lines.specs.Limits.{most_bytes};
-ghost use Rattle.certificate_audit.specs.Accepted.{IsAccepted, IsSound};
+ghost use Rattle.certificate_audit.specs.Accepted.{IsAccepted, IsSoundPlan};
 ghost use Rattle.certificate_audit.specs.Refused.{IsRefused, IsWant};
 ghost use Rattle.certificate_audit.specs.declared.fault.AuditFault.{AuditFault};
 ghost use Rattle.run_refusals.specs.declared.refusal.Refusal.{Refusal};
-ghost use Rattle.asked_files.specs.Asks.{IsText};
-ghost use Rattle.asked_files.specs.Sources.{HasSource, WhereTold};
+ghost use Rattle.asked_files.specs.Asks.{GivenTextWith};
+ghost use Rattle.asked_files.specs.Sources.{SourceWith, IfKnown};
 ghost use Rattle.asked_files.specs.Loading.{IsTooLong, LoadingLeaves, RefusesCaused};
 ghost use Rattle.asked_files.specs.Questions.{RefusesCertificate};
 
@@ -26,11 +26,11 @@ pub fn load_certificate<H: Shelf>(
     question: &Question,
     name: &str,
 ) -> Result<Plan, End>
-    ensures accepted { IfOk result (λ plan. HasSource (H.held shelf.old) name.now (λ source. IsText source (λ text. IsAccepted question.now text plan))) }
-    ensures sound { IfOk result (λ plan. IsSound question.now plan) }
-    ensures refused { (refusal : Refusal) → result ≡ Err (End.Refused refusal) → HasSource (H.held shelf.old) name.now (λ source. RefusesCertificate question.now source refusal) }
+    ensures accepted { IfOk result (λ plan. SourceWith (H.held shelf.old) name.now (λ source. GivenTextWith source (λ text. IsAccepted question.now text plan))) }
+    ensures sound { IfOk result (λ plan. IsSoundPlan question.now plan) }
+    ensures refused { (refusal : Refusal) → result ≡ Err (End.Refused refusal) → SourceWith (H.held shelf.old) name.now (λ source. RefusesCertificate question.now source refusal) }
     ensures shelf { LoadingLeaves H.held H.steady H.faults H.taken shelf.old shelf.new result }
-    ensures steadily { IsErrOf result End.ReadFault → H.steady shelf.old ≡ true → WhereTold (H.held shelf.old) (λ held. held name.now ≡ None) }
+    ensures steadily { IsErrOf result End.ReadFault → H.steady shelf.old ≡ true → IfKnown (H.held shelf.old) (λ held. held name.now ≡ None) }
     ensures caused { RefusesCaused result }
 {
     let bytes = load_text(alloc, shelf, Text::Cert, name)?;
@@ -40,7 +40,7 @@ pub fn load_certificate<H: Shelf>(
 fn certificate_in(alloc: Global, question: &Question, bytes: &[u8]) -> Result<Plan, End>
     requires { length bytes.now ≤ most_bytes }
     ensures accepted { IfOk result (λ plan. IsAccepted question.now bytes.now plan) }
-    ensures sound { IfOk result (λ plan. IsSound question.now plan) }
+    ensures sound { IfOk result (λ plan. IsSoundPlan question.now plan) }
     ensures refused { (refusal : Refusal) → result ≡ Err (End.Refused refusal) → (fault : AuditFault) × (refusal ≡ Refusal.OfCertificate fault) × IsRefused question.now bytes.now fault }
     ensures read { IsErrOf result End.ReadFault → ⊥ }
     ensures caused { RefusesCaused result }

@@ -4,7 +4,7 @@ ghost use Rattle.std.specs.Prelude.{◌≡◌, ◌↔◌};
 ghost use Rattle.command_words.specs.Words.{Asked};
 ghost use Rattle.asked_files.specs.declared.problem.Paths.{Paths};
 ghost use Rattle.asked_files.specs.Problems.{Problem};
-ghost use Rattle.asked_files.specs.Said.{Says};
+ghost use Rattle.asked_files.specs.Said.{Denoted};
 ghost use Rattle.asked_files.specs.Sources.{Sources};
 ghost use Rattle.asked_files.specs.Posed.{problem_said};
 ghost use Rattle.asked_files.specs.Asks.{Asks};
@@ -13,5 +13,5 @@ ghost use Rattle.asked_files.specs.Asks.{Asks};
 /// texts denote a game, labels and owners, and the formula poses the problem of these, with a path that the command takes. So
 /// where no problem is asked, what is said is the first refusal, or that a text is not held.
 pub fn questions_are_what_is_asked()
-    ensures { (paths : Paths) (sources : Sources) (asked : Asked) (problem : Problem) → (problem_said paths sources asked ≡ Says problem) ↔ Asks paths sources asked problem }
+    ensures { (paths : Paths) (sources : Sources) (asked : Asked) (problem : Problem) → (problem_said paths sources asked ≡ Denoted problem) ↔ Asks paths sources asked problem }
 {}

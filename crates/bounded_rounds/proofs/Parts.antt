@@ -1,10 +1,10 @@
 -- What a step leaves of parts of tables, and of whole tables.
-use Rattle.std.proofs.Common.{◌≡◌, ℕ, ◌+◌, ◌-◌, ◌/◌, ◌<◌, ◌≤◌, Bool, true, false, List, [], ◌∷◌, length, ◌++◌, arith, ap, refl, sym, subst, ◌∙◌, inl, inr, zero-add, set, ◌≢◌, below_more, take, drop, append-nil}
+use Rattle.std.proofs.Common.{◌≡◌, ℕ, ◌+◌, ◌-◌, ◌/◌, ◌<◌, ◌≤◌, Bool, true, false, List, [], ◌∷◌, length, ◌++◌, arith, ap, refl, sym, subst, ◌∙◌, inl, inr, zero-add, set, ◌≢◌, below_more}
 use Rattle.std.specs.Prelude.{slice_index, All}
 use mathlib.Core.Bool.{◌||◌}
 use Rattle.std.proofs.lemmas.Bool.{cases_lt}
 use Rattle.std.proofs.Math.ListN.{get_or-map}
-use Rattle.std.proofs.lemmas.List.{get_or_append_left, get_or-append_right, ext_get_or, length-map, map-append, map-set, drop_all, take_all, get_or-set_same, get_or-set_other}
+use Rattle.std.proofs.lemmas.List.{get_or_append_left, get_or-append_right, ext_get_or, length-map, map-append, map-set, get_or-set_same, get_or-set_other}
 use Rattle.std.proofs.lemmas.List.Elements.{All-from_get_or, All-map}
 use Rattle.game_model.specs.Query.{Query, IsQuery, states}
 use Rattle.game_model.specs.Limits.{unit}
@@ -102,12 +102,6 @@ IsTable-opened q opening many units = record {
   many = length-map opening (λ (v : ℕ). let b : Bounds = record { lower = v; upper = v } in b) ∙ many;
   units = All-map AreUnits (λ (v : ℕ). let b : Bounds = record { lower = v; upper = v } in b) opening (λ i d l. (units i d l, units i d l));
 }
-
--- a whole list that was lent as a slice has what was written there
-pub written_back : (new old : List Bounds) (len : ℕ) → length new ≡ length old → len ≡ length old → take len (new ++ drop (length new) old) ≡ new
-written_back new old len same whole =
-    let P : List Bounds → Type 0 = λ rest. take len (new ++ rest) ≡ new in
-    subst P (sym (drop_all (length new) old (omega arith))) (ap (λ (xs : List Bounds). take len xs) (append-nil new) ∙ take_all len new (omega arith))
 
 pub lowers-units : (table : List Bounds) → All AreUnits table → All (λ v. v ≤ unit) (lowers table)
 lowers-units table units = All-map (λ v. v ≤ unit) (λ (b : Bounds). b.lower) table (λ i d l. (units i d l).0)

@@ -6,9 +6,9 @@ use Rattle.game_laws.proofs.High.{IsHigh-up_step}
 use Rattle.inductive_check.proofs.Holding.{HoldsUnder-replies}
 use Rattle.rank_certificate.proofs.Plans.{Ranked-reached}
 use Rattle.plan_text.specs.declared.plan.Plan.{Plan}
-use Rattle.certificate_audit.specs.Accepted.{Passes, IsSound}
+use Rattle.certificate_audit.specs.Accepted.{Passes, IsSoundPlan}
 
-pub sound : (q : Query) (plan : Plan) → IsQuery q → Passes q plan → IsSound q plan
+pub sound : (q : Query) (plan : Plan) → IsQuery q → Passes q plan → IsSoundPlan q plan
 sound q plan posed passes = record {
   high = IsHigh-up_step q (slice_index plan.upper.items) (AreChoicesOf-choices_of q.game posed.game) passes.inductive;
   held = HoldsUnder-replies q (slice_index plan.upper.items) plan.replies.items posed passes.inductive passes.replies;

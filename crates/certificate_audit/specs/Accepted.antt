@@ -28,7 +28,7 @@ pub record IsAccepted (q : Query) (text : List ℕ) (plan : Plan) : Type 0 where
   pub passes : Passes q plan
 
 -- what a plan vouches for: its upper table is above every k-step value, its replies hold every opponent to it, and its choices reach its lower table, less any 1/m
-pub record IsSound (q : Query) (plan : Plan) : Type 0 where
+pub record IsSoundPlan (q : Query) (plan : Plan) : Type 0 where
   pub high : IsHigh q (slice_index plan.upper.items)
   pub held : HoldsUnder q plan.replies.items (slice_index plan.upper.items)
   pub reached : ReachesUnder q plan.choices.items (slice_index plan.lower.items)

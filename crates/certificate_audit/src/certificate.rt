@@ -2,7 +2,7 @@
 
 ghost use Rattle.std.specs.Prelude.{◌≤◌, ◌⊎◌, length, IfOk, IfErr};
 ghost use Rattle.text_lines.specs.Limits.{most_bytes};
-ghost use Rattle.certificate_audit.specs.Accepted.{IsAccepted, IsSound};
+ghost use Rattle.certificate_audit.specs.Accepted.{IsAccepted, IsSoundPlan};
 ghost use Rattle.certificate_audit.specs.Refused.{IsWant, IsRefused};
 
 use crate::fault::AuditFault;
@@ -17,7 +17,7 @@ use std::alloc::Global;
 pub fn audit(alloc: Global, question: &Question, bytes: &[u8]) -> Result<Plan, AuditFault>
     requires { length bytes.now ≤ most_bytes }
     ensures accepted { IfOk result (λ plan. IsAccepted question.now bytes.now plan) }
-    ensures sound { IfOk result (λ plan. IsSound question.now plan) }
+    ensures sound { IfOk result (λ plan. IsSoundPlan question.now plan) }
     ensures refused { IfErr result (λ fault. IsWant fault ⊎ IsRefused question.now bytes.now fault) }
 {
     question.known();

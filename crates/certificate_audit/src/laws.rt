@@ -9,13 +9,13 @@ ghost use Rattle.inductive_check.specs.Replies.{AreReplies};
 ghost use Rattle.plan_text.specs.declared.plan.Plan.{Plan};
 ghost use Rattle.plan_text.specs.Entries.{entries_of};
 ghost use Rattle.certificate_audit.specs.declared.fault.AuditFault.{AuditFault};
-ghost use Rattle.certificate_audit.specs.Accepted.{IsAccepted, IsSound};
+ghost use Rattle.certificate_audit.specs.Accepted.{IsAccepted, IsSoundPlan};
 ghost use Rattle.certificate_audit.specs.Refused.{IsRefused};
 ghost use Rattle.certificate_audit.specs.OldUnits.{old_unit, thousandfold};
 
 /// What an accepted plan says is right, for every question and every text.
 pub fn accepted_plans_are_sound()
-    ensures { (q : Query) (text : List ℕ) (plan : Plan) → IsQuery q → IsAccepted q text plan → IsSound q plan }
+    ensures { (q : Query) (text : List ℕ) (plan : Plan) → IsQuery q → IsAccepted q text plan → IsSoundPlan q plan }
 {}
 
 /// A text has one answer for a question: one fault, or no fault and the entries of one plan.

@@ -10,7 +10,8 @@ use Rattle.distributions.specs.declared.choice.Part.{Part}
 use Rattle.distributions.specs.declared.choice.ChoiceFault.{ChoiceFault}
 use Rattle.distributions.specs.declared.choice.ChoiceFault.TheVariants.{BadSum}
 use Rattle.distributions.specs.Limits.{tolerance}
-use Rattle.distributions.specs.Parts.{edge_of_part, weighted, total_of, distance, Denotes, denominator_said, gathered, sum_said, choice_over, choice_said, Gives}
+use Rattle.game_outside.specs.Answers.{AnswersOrWants}
+use Rattle.distributions.specs.Parts.{edge_of_part, weighted, total_of, distance, Denotes, denominator_said, gathered, sum_said, choice_over, choice_said, IsOutOfMemory}
 use Rattle.distributions.proofs.Gathering.{gives, gathered-rises, gathered-weights, gathered-only, IsRising-from, weighty-from, RiseFrom-rising}
 use Rattle.distributions.proofs.Multiples.{AreKept, over, over-is, ge-from, ge-test, common-same, denominator-found, denominator-again, denominator-is}
 use Rattle.distributions.proofs.Grammar.{chosen}
@@ -54,13 +55,13 @@ choice-again parts d kept h =
     ∙ ap (λ b. cond b (Err (BadSum (total_of d.edges) h.common)) (Ok (distribution (total_of d.edges)))) (ge-test h.common (distance (total_of d.edges) h.common * tolerance) near)
     ∙ ap (λ n. Ok (distribution n)) (sym h.total)
 
-pub given-found : (parts : List Part) (result : Result Distribution ChoiceFault) → AreKept parts → Gives (λ (d : Distribution). d) result (choice_said parts) → IfOk result (Denotes parts)
+pub given-found : (parts : List Part) (result : Result Distribution ChoiceFault) → AreKept parts → AnswersOrWants IsOutOfMemory (λ (d : Distribution). d) result (choice_said parts) → IfOk result (Denotes parts)
 given-found parts (Ok d) kept given = choice-found parts d kept given
 given-found parts (Err fault) kept given = tt
 
-pub given-only : (parts : List Part) (result : Result Distribution ChoiceFault) (d : Distribution) → AreKept parts → Gives (λ (x : Distribution). x) result (choice_said parts) → Denotes parts d → Gives (λ (x : Distribution). x) result (Ok d)
+pub given-only : (parts : List Part) (result : Result Distribution ChoiceFault) (d : Distribution) → AreKept parts → AnswersOrWants IsOutOfMemory (λ (x : Distribution). x) result (choice_said parts) → Denotes parts d → AnswersOrWants IsOutOfMemory (λ (x : Distribution). x) result (Ok d)
 given-only parts result d kept given h =
-    let P : Result Distribution ChoiceFault → Type 0 = λ r. Gives (λ (x : Distribution). x) result r in
+    let P : Result Distribution ChoiceFault → Type 0 = λ r. AnswersOrWants IsOutOfMemory (λ (x : Distribution). x) result r in
     subst P (choice-again parts d kept h) given
 
 -- the order of the parts plays no part

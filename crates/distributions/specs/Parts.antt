@@ -1,5 +1,5 @@
 -- The distribution that the parts of a choice add up to.
-use Rattle.std.specs.Prelude.{◌≡◌, ◌≤◌, ℕ, zero, suc, ◌+◌, ◌-◌, ◌*◌, ◌/◌, ◌==◌, ◌⊎◌, nat_lt, max, List, [], ◌∷◌, map, sum_by, All, Result, Ok, Err, if◌then◌else◌}
+use Rattle.std.specs.Prelude.{◌≡◌, ◌≤◌, ℕ, zero, suc, ◌+◌, ◌-◌, ◌*◌, ◌/◌, ◌==◌, nat_lt, max, List, [], ◌∷◌, map, sum_by, All, Result, Ok, Err, if◌then◌else◌}
 use Prim.Native.Nat.{◌∣◌}
 use Rattle.game_model.specs.declared.game.Edge.{Edge}
 use Rattle.game_model.specs.Game.{Distribution, IsRising}
@@ -85,7 +85,5 @@ choice_over (Err fault) parts = Err fault
 abbrev pub choice_said : List Part → Result Distribution ChoiceFault
 choice_said parts = choice_over (denominator_said 1 parts) parts
 
--- 3. What a call answers: what the parts say, or that memory ran out.
-abbrev pub Gives : {X Y : Type 0} → (X → Y) → Result X ChoiceFault → Result Y ChoiceFault → Type 0
-Gives view (Ok x) said = said ≡ Ok (view x)
-Gives view (Err fault) said = (fault ≡ OutOfMemory) ⊎ (said ≡ Err fault)
+abbrev pub IsOutOfMemory : ChoiceFault → Type 0
+IsOutOfMemory fault = fault ≡ OutOfMemory

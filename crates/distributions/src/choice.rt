@@ -5,7 +5,8 @@ ghost use Prim.Native.Nat.{◌∣◌};
 ghost use Rattle.game_model.specs.Game.{Distribution, IsRising};
 ghost use Rattle.distributions.specs.Limits.{finest, most_parts, most_value};
 ghost use Rattle.distributions.specs.Fraction.{IsFraction};
-ghost use Rattle.distributions.specs.Parts.{choice_said, denominator_said, edge_of_part, weighted, sum_said, total_of, Denotes, Gives};
+ghost use Rattle.game_outside.specs.Answers.{AnswersOrWants};
+ghost use Rattle.distributions.specs.Parts.{choice_said, denominator_said, edge_of_part, weighted, sum_said, total_of, Denotes, IsOutOfMemory};
 
 use crate::divisors::{MOST_NARROW, least_common_multiple};
 use crate::fraction::Frac;
@@ -127,7 +128,7 @@ fn choice_of_edges(common: u128, edges: Vec<Edge>) -> Result<Choice, ChoiceFault
 fn choice_of_parts(alloc: Global, parts: &[Part]) -> Result<Choice, ChoiceFault>
     requires few { length parts.now ≤ most_parts }
     requires known { All (λ part. IsFraction part.share) parts.now }
-    ensures { Gives (λ c. c) result (choice_said parts.now) }
+    ensures { AnswersOrWants IsOutOfMemory (λ c. c) result (choice_said parts.now) }
 {
     let common = match common_denominator(parts) {
         Ok(common) => common,
@@ -148,8 +149,8 @@ pub fn make_choice(alloc: Global, parts: &[Part]) -> Result<Choice, ChoiceFault>
     requires { length parts.now ≤ most_parts }
     // What is made is what the parts denote, or their first fault.
     ensures found { IfOk result (Denotes parts.now) }
-    ensures only { (d : Distribution) → Denotes parts.now d → Gives (λ c. c) result (Ok d) }
-    ensures exact { Gives (λ c. c) result (choice_said parts.now) }
+    ensures only { (d : Distribution) → Denotes parts.now d → AnswersOrWants IsOutOfMemory (λ c. c) result (Ok d) }
+    ensures exact { AnswersOrWants IsOutOfMemory (λ c. c) result (choice_said parts.now) }
 {
     known_of_all(parts);
     choice_of_parts(alloc, parts)

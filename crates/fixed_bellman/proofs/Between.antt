@@ -15,7 +15,7 @@ use Rattle.game_laws.proofs.Steps.{down_value-le}
 use Rattle.fixed_bellman.specs.declared.quotient.Quotient.{Quotient}
 use Rattle.fixed_bellman.specs.Quotients.{rounded_down, rounded_up, IsBetween}
 use Rattle.fixed_bellman.specs.Given.{IsFree, IsStepAbove}
-use Rattle.fixed_bellman.proofs.Tables.{free_step, choice_fits, Gives-below}
+use Rattle.fixed_bellman.proofs.Tables.{free_step, choice_fits, IsGivenBy-below}
 
 div-rises : (x y w : ℕ) → 0 < w → x ≤ y → x / w ≤ y / w
 div-rises x y w positive h =
@@ -83,9 +83,9 @@ least-step q v s c x free is chosen low =
 module _ (q : Query) (v : ℕ → ℕ) (s floor x c : ℕ) (h : IsQuery q) (inside : s < states q) (free : IsFree q s) (e : IsStepAbove q v v s floor x c) where
   pub step-exact : (floor < x) ⊎ (floor ≡ 0) → x ≡ down_step q v s
   step-exact reached = elim reached [
-    | inl above ↦ omega (arith, e.low, Gives-below q v s x c h inside free (e.given above))
+    | inl above ↦ omega (arith, e.low, IsGivenBy-below q v s x c h inside free (e.given above))
     | inr none ↦ elim (cases_lt floor x) [
-      | inl above ↦ omega (arith, e.low, Gives-below q v s x c h inside free (e.given above))
+      | inl above ↦ omega (arith, e.low, IsGivenBy-below q v s x c h inside free (e.given above))
       | inr rest ↦ omega (arith, e.low)
     ]
   ]

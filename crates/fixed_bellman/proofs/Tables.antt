@@ -19,7 +19,7 @@ use Rattle.game_model.proofs.Each.{AllByRecursion-weaker}
 use Rattle.game_model.proofs.Choices.{IsChoiceOf, IsChoiceOf-choice_of}
 use Rattle.game_model.proofs.Best.{min-cases, optimum-each, weighted_sum-le, weighted_sum-most}
 use Rattle.game_laws.proofs.Steps.{down_value-le}
-use Rattle.fixed_bellman.specs.Given.{IsFree, Gives}
+use Rattle.fixed_bellman.specs.Given.{IsFree, IsGivenBy}
 
 -- each choice of a question is one of its game
 pub choice_fits : (q : Query) (s c : ℕ) → IsQuery q → s < states q → c < length (choices_of q.game s) → IsChoiceOf q.game (choice_of q.game s c)
@@ -92,7 +92,7 @@ pub free_step : (q : Query) (v : ℕ → ℕ) (s : ℕ) → IsFree q s → down_
 free_step q v s free = ap (λ goal. if goal then unit else (if is_dead q s then 0 else optimum (side_at q s) (down_value v) (choices_of q.game s))) free.0
     ∙ ap (λ dead. if dead then 0 else optimum (side_at q s) (down_value v) (choices_of q.game s)) free.1
 
-given_below : (q : Query) (v : ℕ → ℕ) (s x c : ℕ) (side : Side) → side_at q s ≡ side → IsQuery q → s < states q → Gives q v s x c → x ≤ optimum side (down_value v) (choices_of q.game s)
+given_below : (q : Query) (v : ℕ → ℕ) (s x c : ℕ) (side : Side) → side_at q s ≡ side → IsQuery q → s < states q → IsGivenBy q v s x c → x ≤ optimum side (down_value v) (choices_of q.game s)
 given_below q v s x c Max is h inside given =
     let at = given.greatest is in
     omega (arith, at.1, optimum-each (down_value v) (choices_of q.game s) c no_distribution at.0)
@@ -101,22 +101,22 @@ given_below q v s x c Min is h inside given =
     (recursion_from_All (λ m. x ≤ down_value v m) (choices_of q.game s) (All-from_get_or (λ m. x ≤ down_value v m) (choices_of q.game s) no_distribution (given.least is).1))
 
 -- a given value is at most the step's
-pub Gives-below : (q : Query) (v : ℕ → ℕ) (s x c : ℕ) → IsQuery q → s < states q → IsFree q s → Gives q v s x c → x ≤ down_step q v s
-Gives-below q v s x c h inside free given = subst (λ n. x ≤ n) (sym (free_step q v s free)) (given_below q v s x c (side_at q s) refl h inside given)
+pub IsGivenBy-below : (q : Query) (v : ℕ → ℕ) (s x c : ℕ) → IsQuery q → s < states q → IsFree q s → IsGivenBy q v s x c → x ≤ down_step q v s
+IsGivenBy-below q v s x c h inside free given = subst (λ n. x ≤ n) (sym (free_step q v s free)) (given_below q v s x c (side_at q s) refl h inside given)
 
 -- some choice gives it
-some_of : (q : Query) (v : ℕ → ℕ) (s x c : ℕ) (side : Side) → side_at q s ≡ side → IsQuery q → s < states q → Gives q v s x c → (d : ℕ) × (d < length (choices_of q.game s)) × (x ≤ down_value v (choice_of q.game s d))
+some_of : (q : Query) (v : ℕ → ℕ) (s x c : ℕ) (side : Side) → side_at q s ≡ side → IsQuery q → s < states q → IsGivenBy q v s x c → (d : ℕ) × (d < length (choices_of q.game s)) × (x ≤ down_value v (choice_of q.game s d))
 some_of q v s x c Max is h inside given = (c, (given.greatest is).0, (given.greatest is).1)
 some_of q v s x c Min is h inside given = (zero, h.game.chosen s inside, (given.least is).1 zero (h.game.chosen s inside))
 
-pub Gives-units : (q : Query) (v : ℕ → ℕ) (s x c : ℕ) → IsQuery q → s < states q → ((t : ℕ) → t < states q → v t ≤ unit) → Gives q v s x c → x ≤ unit
-Gives-units q v s x c h inside units given =
+pub IsGivenBy-units : (q : Query) (v : ℕ → ℕ) (s x c : ℕ) → IsQuery q → s < states q → ((t : ℕ) → t < states q → v t ≤ unit) → IsGivenBy q v s x c → x ≤ unit
+IsGivenBy-units q v s x c h inside units given =
     let at = some_of q v s x c (side_at q s) refl h inside given in
     omega (arith, at.2, down_value-units q.game v (choice_of q.game s at.0) (choice_fits q s at.0 h inside at.1) units)
 
 -- what a choice gives over a table, it gives over a greater one
-pub Gives-rises : (q : Query) (v w : ℕ → ℕ) (s x c : ℕ) → IsQuery q → s < states q → IsBelow q v w → Gives q v s x c → Gives q w s x c
-Gives-rises q v w s x c h inside up given = record {
+pub IsGivenBy-rises : (q : Query) (v w : ℕ → ℕ) (s x c : ℕ) → IsQuery q → s < states q → IsBelow q v w → IsGivenBy q v s x c → IsGivenBy q w s x c
+IsGivenBy-rises q v w s x c h inside up given = record {
   greatest = λ is. let at = given.greatest is in (at.0, omega (arith, at.1, down_value-le q.game v w (choice_of q.game s c) (choice_fits q s c h inside at.0) up));
   least = λ is. let at = given.least is in (at.0, λ d in_range. omega (arith, at.1 d in_range, down_value-le q.game v w (choice_of q.game s d) (choice_fits q s d h inside in_range) up));
 }

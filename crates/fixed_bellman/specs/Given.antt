@@ -11,7 +11,7 @@ abbrev pub IsFree : Query → ℕ → Type 0
 IsFree q s = (is_goal q s ≡ false) × (is_dead q s ≡ false)
 
 -- the choice gives at least the value over a table: at a state of the minimiser it is 0, and every choice does
-pub record Gives (q : Query) (table : ℕ → ℕ) (s value choice : ℕ) : Type 0 where
+pub record IsGivenBy (q : Query) (table : ℕ → ℕ) (s value choice : ℕ) : Type 0 where
   pub greatest : side_at q s ≡ Max → (choice < length (choices_of q.game s)) × (value ≤ down_value table (choice_of q.game s choice))
   pub least : side_at q s ≡ Min → (choice ≡ 0) × ((c : ℕ) → c < length (choices_of q.game s) → value ≤ down_value table (choice_of q.game s c))
 
@@ -21,7 +21,7 @@ pub record IsStepAbove (q : Query) (old new : ℕ → ℕ) (s floor value choice
   pub floored : floor ≤ value
   pub none : value ≡ floor → choice ≡ 0
   pub low : down_step q old s ≤ value
-  pub given : floor < value → Gives q new s value choice
+  pub given : floor < value → IsGivenBy q new s value choice
   pub inside : choice < length (choices_of q.game s)
   pub first : (c : ℕ) → c < choice → down_value old (choice_of q.game s c) < value
   pub least : side_at q s ≡ Min → choice ≡ 0

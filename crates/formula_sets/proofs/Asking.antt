@@ -16,7 +16,8 @@ use Rattle.formula_sets.specs.declared.fault.PoseFault.{PoseFault}
 use Rattle.formula_sets.specs.declared.question.Posed.{Posed}
 use Rattle.formula_sets.specs.Truth.{holds, unknown_label}
 use Rattle.formula_sets.specs.Sides.{side_of, unknown_player}
-use Rattle.formula_sets.specs.Posing.{Posing, IsSetUp, Poses, init, formula_labels, formula_players, is_lost, at_states, question_with, question_of, some_state, known_with, initial_said, made_of, pose_said, Gives}
+use Rattle.game_outside.specs.Answers.{AnswersOrWants}
+use Rattle.formula_sets.specs.Posing.{Posing, IsSetUp, Poses, init, formula_labels, formula_players, is_lost, at_states, question_with, question_of, some_state, known_with, initial_said, made_of, pose_said, IsOutOfMemory}
 use Rattle.formula_sets.specs.Seen.{posing_of}
 
 -- 1. What is said at each state.
@@ -165,9 +166,9 @@ module _ (game : List (List Distribution)) (l : Labelling) (o : Ownership) (f : 
       let whole : Query → Result Posing PoseFault = λ q. Ok (record { question = q; initial = p.initial }) in
       ap (made_of posing) (initial-again l o f p.initial (is_begun p.question p.initial h.set_up)) ∙ ap whole same
 
-  pub given-found : (result : Result Posed PoseFault) → Gives posing_of result (pose_said game l o f) → IfOk result (λ posed. Poses game l o f (posing_of posed))
+  pub given-found : (result : Result Posed PoseFault) → AnswersOrWants IsOutOfMemory posing_of result (pose_said game l o f) → IfOk result (λ posed. Poses game l o f (posing_of posed))
   given-found (Ok posed) given = pose-found (posing_of posed) given
   given-found (Err fault) given = tt
 
-  pub given-only : (result : Result Posed PoseFault) (p : Posing) → Gives posing_of result (pose_said game l o f) → Poses game l o f p → Gives posing_of result (Ok p)
-  given-only result p given h = let P : Result Posing PoseFault → Type 0 = λ r. Gives posing_of result r in subst P (pose-again p h) given
+  pub given-only : (result : Result Posed PoseFault) (p : Posing) → AnswersOrWants IsOutOfMemory posing_of result (pose_said game l o f) → Poses game l o f p → AnswersOrWants IsOutOfMemory posing_of result (Ok p)
+  given-only result p given h = let P : Result Posing PoseFault → Type 0 = λ r. AnswersOrWants IsOutOfMemory posing_of result r in subst P (pose-again p h) given

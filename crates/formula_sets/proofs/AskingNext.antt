@@ -14,7 +14,8 @@ use Rattle.rpatl_syntax.specs.Formula.{Tree}
 use Rattle.formula_sets.specs.declared.fault.PoseFault.{PoseFault}
 use Rattle.formula_sets.specs.declared.next.PosedNext.{PosedNext}
 use Rattle.formula_sets.specs.Truth.{holds}
-use Rattle.formula_sets.specs.Posing.{NextPosing, PosesNext, at_states, opening_at, unmarked, next_question_of, initial_said, made_of, pose_next_said, Gives}
+use Rattle.game_outside.specs.Answers.{AnswersOrWants}
+use Rattle.formula_sets.specs.Posing.{NextPosing, PosesNext, at_states, opening_at, unmarked, next_question_of, initial_said, made_of, pose_next_said, IsOutOfMemory}
 use Rattle.formula_sets.specs.Seen.{next_posing_of}
 use Rattle.formula_sets.proofs.Asking.{at_states-at, length-at_states, made-found, initial-again, set_up, is_begun, question-same}
 
@@ -63,12 +64,12 @@ module _ (game : List (List Distribution)) (l : Labelling) (o : Ownership) (f : 
       ∙ ap (λ q. whole q (at_states (opening_at l f) n)) same
       ∙ ap (whole p.question) (sym opening)
 
-  pub next_given-found : (result : Result PosedNext PoseFault) → Gives next_posing_of result (pose_next_said game l o f) → IfOk result (λ posed. PosesNext game l o f (next_posing_of posed))
+  pub next_given-found : (result : Result PosedNext PoseFault) → AnswersOrWants IsOutOfMemory next_posing_of result (pose_next_said game l o f) → IfOk result (λ posed. PosesNext game l o f (next_posing_of posed))
   next_given-found (Ok posed) given = pose_next-found (next_posing_of posed) given
   next_given-found (Err fault) given = tt
 
-  pub next_given-only : (result : Result PosedNext PoseFault) (p : NextPosing) → Gives next_posing_of result (pose_next_said game l o f) → PosesNext game l o f p → Gives next_posing_of result (Ok p)
-  next_given-only result p given h = let P : Result NextPosing PoseFault → Type 0 = λ r. Gives next_posing_of result r in subst P (pose_next-again p h) given
+  pub next_given-only : (result : Result PosedNext PoseFault) (p : NextPosing) → AnswersOrWants IsOutOfMemory next_posing_of result (pose_next_said game l o f) → PosesNext game l o f p → AnswersOrWants IsOutOfMemory next_posing_of result (Ok p)
+  next_given-only result p given h = let P : Result NextPosing PoseFault → Type 0 = λ r. AnswersOrWants IsOutOfMemory next_posing_of result r in subst P (pose_next-again p h) given
 
   -- the opening that is posed is a table of the question
   opening-table : (p : NextPosing) → PosesNext game l o f p → (length p.opening ≡ states p.question) × All (λ v. v ≤ unit) p.opening

@@ -1,5 +1,5 @@
 -- The question that a formula poses.
-use Rattle.std.specs.Prelude.{◌≡◌, ◌≢◌, ◌<◌, ◌⊎◌, ℕ, Bool, true, false, not, ◌&&◌, List, [], ◌∷◌, ◌++◌, length, map, slice_index, Option, Some, None, Result, Ok, Err, All, if◌then◌else◌, codes}
+use Rattle.std.specs.Prelude.{◌≡◌, ◌≢◌, ◌<◌, ℕ, Bool, true, false, not, ◌&&◌, List, [], ◌∷◌, ◌++◌, length, map, slice_index, Option, Some, None, Result, Ok, Err, All, if◌then◌else◌, codes}
 use Rattle.std.specs.List.{range_with_len}
 use Rattle.game_model.specs.Game.{Distribution}
 use Rattle.game_model.specs.Limits.{unit}
@@ -130,7 +130,5 @@ pose_said game l o f = made_of (λ initial. record { question = question_of game
 abbrev pub pose_next_said : List (List Distribution) → Labelling → Ownership → Tree → Result NextPosing PoseFault
 pose_next_said game l o f = made_of (λ initial. record { question = next_question_of game o f; opening = at_states (opening_at l f) (length game); initial = initial }) (initial_said l o f)
 
--- 3. What a call answers: what is said, or that memory ran out.
-abbrev pub Gives : {X Y : Type 0} → (X → Y) → Result X PoseFault → Result Y PoseFault → Type 0
-Gives view (Ok x) said = said ≡ Ok (view x)
-Gives view (Err fault) said = (fault ≡ OutOfMemory) ⊎ (said ≡ Err fault)
+abbrev pub IsOutOfMemory : PoseFault → Type 0
+IsOutOfMemory fault = fault ≡ OutOfMemory

@@ -5,7 +5,8 @@ ghost use Rattle.game_model.specs.Limits.{unit};
 ghost use Rattle.game_model.specs.Query.{states};
 ghost use Rattle.rpatl_syntax.specs.declared.formula.PathKind.TheVariants.{Next};
 ghost use Rattle.rpatl_syntax.specs.Formula.{IsFlat, tree_of};
-ghost use Rattle.formula_sets.specs.Posing.{NextPosing, PosesNext, at_states, opening_at, unmarked, next_question_of, pose_next_said, Gives};
+ghost use Rattle.game_outside.specs.Answers.{AnswersOrWants};
+ghost use Rattle.formula_sets.specs.Posing.{NextPosing, PosesNext, at_states, opening_at, unmarked, next_question_of, pose_next_said, IsOutOfMemory};
 ghost use Rattle.formula_sets.specs.Seen.{next_posing_of};
 
 use crate::fault::PoseFault;
@@ -84,7 +85,7 @@ fn first_answer<'g>(
 ) -> Result<PosedNext<'g>, PoseFault>
     requires labels { labels.now.states ≡ length game.now }
     requires owners { length owners.now.owners ≡ length game.now }
-    ensures { Gives next_posing_of result (pose_next_said game.now labels.now owners.now (tree_of formula.now)) }
+    ensures { AnswersOrWants IsOutOfMemory next_posing_of result (pose_next_said game.now labels.now owners.now (tree_of formula.now)) }
 {
     let initial = initial_of(alloc, labels, owners, formula)?;
     let Ok(question) = question_in(alloc, game, owners, formula) else {
@@ -114,8 +115,8 @@ pub fn pose_next<'g>(
     requires flat { IsFlat (tree_of formula.now) }
     // What is posed is what the formula asks, or its first fault.
     ensures found { IfOk result (λ posed. PosesNext game.now labels.now owners.now (tree_of formula.now) (next_posing_of posed)) }
-    ensures only { (p : NextPosing) → PosesNext game.now labels.now owners.now (tree_of formula.now) p → Gives next_posing_of result (Ok p) }
-    ensures exact { Gives next_posing_of result (pose_next_said game.now labels.now owners.now (tree_of formula.now)) }
+    ensures only { (p : NextPosing) → PosesNext game.now labels.now owners.now (tree_of formula.now) p → AnswersOrWants IsOutOfMemory next_posing_of result (Ok p) }
+    ensures exact { AnswersOrWants IsOutOfMemory next_posing_of result (pose_next_said game.now labels.now owners.now (tree_of formula.now)) }
     ensures inside { IfOk result (λ posed. All (λ s. s < states posed.question) posed.initial.items) }
     ensures opening { IfOk result (λ posed. (length posed.opening.items ≡ states posed.question) × All (λ v. v ≤ unit) posed.opening.items) }
 {

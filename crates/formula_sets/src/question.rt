@@ -5,7 +5,8 @@ ghost use Rattle.game_model.specs.Query.{states};
 ghost use Rattle.rpatl_syntax.specs.Formula.{IsFlat, state_of, tree_of};
 ghost use Rattle.formula_sets.specs.Truth.{holds};
 ghost use Rattle.formula_sets.specs.Sides.{side_of};
-ghost use Rattle.formula_sets.specs.Posing.{Posing, Poses, IsUntil, at_states, is_lost, question_of, initial_said, pose_said, Gives};
+ghost use Rattle.game_outside.specs.Answers.{AnswersOrWants};
+ghost use Rattle.formula_sets.specs.Posing.{Posing, Poses, IsUntil, at_states, is_lost, question_of, initial_said, pose_said, IsOutOfMemory};
 ghost use Rattle.formula_sets.specs.Seen.{posing_of};
 
 use crate::fault::PoseFault;
@@ -110,7 +111,7 @@ pub fn initial_of(
     owners: &Owners,
     formula: &Formula,
 ) -> Result<Vec<u32>, PoseFault>
-    ensures said { Gives (λ initial. initial.items) result (initial_said labels.now owners.now (tree_of formula.now)) }
+    ensures said { AnswersOrWants IsOutOfMemory (λ initial. initial.items) result (initial_said labels.now owners.now (tree_of formula.now)) }
     ensures inside { IfOk result (λ initial. All (λ s. s < labels.now.states) initial.items) }
 {
     labels.known();
@@ -138,7 +139,7 @@ fn first_answer<'g>(
 ) -> Result<Posed<'g>, PoseFault>
     requires labels { labels.now.states ≡ length game.now }
     requires owners { length owners.now.owners ≡ length game.now }
-    ensures { Gives posing_of result (pose_said game.now labels.now owners.now (tree_of formula.now)) }
+    ensures { AnswersOrWants IsOutOfMemory posing_of result (pose_said game.now labels.now owners.now (tree_of formula.now)) }
 {
     let initial = initial_of(alloc, labels, owners, formula)?;
     let Ok(question) = question_in(alloc, game, labels, owners, formula) else {
@@ -161,8 +162,8 @@ pub fn pose<'g>(
     requires flat { IsFlat (tree_of formula.now) }
     // What is posed is what the formula asks, or its first fault.
     ensures found { IfOk result (λ posed. Poses game.now labels.now owners.now (tree_of formula.now) (posing_of posed)) }
-    ensures only { (p : Posing) → Poses game.now labels.now owners.now (tree_of formula.now) p → Gives posing_of result (Ok p) }
-    ensures exact { Gives posing_of result (pose_said game.now labels.now owners.now (tree_of formula.now)) }
+    ensures only { (p : Posing) → Poses game.now labels.now owners.now (tree_of formula.now) p → AnswersOrWants IsOutOfMemory posing_of result (Ok p) }
+    ensures exact { AnswersOrWants IsOutOfMemory posing_of result (pose_said game.now labels.now owners.now (tree_of formula.now)) }
     ensures inside { IfOk result (λ posed. All (λ s. s < states posed.question) posed.initial.items) }
 {
     labels.known();

@@ -8,7 +8,7 @@ use Rattle.game_outside.specs.LineTexts.{TextUnderWay, MayFollow, GivesLine, Mee
 use Rattle.game_outside.specs.declared.file.FileEnd.{FileEnd}
 use Rattle.game_outside.specs.declared.shelf.ReadEnd.{ReadEnd}
 use Rattle.game_outside.specs.declared.shelf.ReadEnd.TheVariants as read
-use Rattle.game_outside.specs.Files.{OfText, ReadsFile, of_read}
+use Rattle.game_outside.specs.Files.{HeldTextWith, ReadsFile, of_read}
 use Rattle.game_outside.proofs.Streams.{IsReadSoFar, begun, read_more, read_whole, longer}
 use Rattle.game_outside.proofs.LinesOnTheWay.{consumes_none}
 
@@ -54,7 +54,7 @@ module _ {A : Type 0} (holding : Option Holding) (name : List ℕ) (Whole : List
   }
 
   pub all_read : (rest rest' : Option (List ℕ)) (old new : TextUnderWay) (Still : List (List ℕ) → A → Type 0) (line : List ℕ) (limit : ℕ) (answer : A)
-      → IsPartRead rest old Still → MeetsEnd old new rest rest' line → (old.ended ≡ true → rest' ≡ rest) → old.taken ≤ limit → Still [] answer → OfText holding name limit (λ text. Whole (lines_of text) answer)
+      → IsPartRead rest old Still → MeetsEnd old new rest rest' line → (old.ended ≡ true → rest' ≡ rest) → old.taken ≤ limit → Still [] answer → HeldTextWith holding name limit (λ text. Whole (lines_of text) answer)
   all_read rest rest' old new Still line limit answer part end still_there within still = record {
     text = part.bytes;
     told = read_whole holding name rest rest' part.bytes part.so_far end.takes.consumed
@@ -69,7 +69,7 @@ module _ {A : Type 0} (holding : Option Holding) (name : List ℕ) (Whole : List
 
   pub rest_dropped : (rest rest' : Option (List ℕ)) (old new : TextUnderWay) (Still : List (List ℕ) → A → Type 0) (limit : ℕ) (answer : A)
       → IsPartRead rest old Still → Drops old new rest rest' → (old.ended ≡ true → rest' ≡ rest) → (old.ended ≡ true → new.taken ≡ old.taken) → new.taken ≤ limit
-      → ((lines : List (List ℕ)) → Still lines answer) → OfText holding name limit (λ text. Whole (lines_of text) answer)
+      → ((lines : List (List ℕ)) → Still lines answer) → HeldTextWith holding name limit (λ text. Whole (lines_of text) answer)
   rest_dropped rest rest' old new Still limit answer part drops still_there none within still = record {
     text = part.bytes ++ drops.more;
     told = read_whole holding name rest' rest' (part.bytes ++ drops.more) (read_more holding name rest rest' part.bytes drops.more part.so_far drops.takes.consumed) (consumes_none rest')

@@ -8,7 +8,7 @@ use Rattle.game_outside.specs.Limits.{piece_size}
 use Rattle.game_outside.specs.Outside.{Holding, Holds, IsHeldAs, IsHeldLonger, Rose, KeepsShelf}
 
 -- there is a text within the limit, which is the one that is held under the name where this is told, and this is true of it
-pub record OfText (holding : Option Holding) (name : List ℕ) (limit : ℕ) (Holds : List ℕ → Type 0) : Type 0 where
+pub record HeldTextWith (holding : Option Holding) (name : List ℕ) (limit : ℕ) (Holds : List ℕ → Type 0) : Type 0 where
   pub text : List ℕ
   pub told : IsHeldAs holding name text
   pub within : length text ≤ limit
@@ -16,8 +16,8 @@ pub record OfText (holding : Option Holding) (name : List ℕ) (limit : ℕ) (Ho
 
 -- The answer of a file is that of its text, or its text is too long, or want of memory or a fault of the shelf.
 abbrev pub ReadsFile : {X F : Type 0} → (List ℕ → Result X F → Type 0) → Option Holding → List ℕ → ℕ → Result X (FileEnd F) → Type 0
-ReadsFile Answers holding name limit (Ok x) = OfText holding name limit (λ text. Answers text (Ok x))
-ReadsFile Answers holding name limit (Err (Refused fault)) = OfText holding name limit (λ text. Answers text (Err fault))
+ReadsFile Answers holding name limit (Ok x) = HeldTextWith holding name limit (λ text. Answers text (Ok x))
+ReadsFile Answers holding name limit (Err (Refused fault)) = HeldTextWith holding name limit (λ text. Answers text (Err fault))
 ReadsFile Answers holding name limit (Err TooLong) = IsHeldLonger holding name limit
 ReadsFile Answers holding name limit (Err ReadFault) = Unit {0}
 ReadsFile Answers holding name limit (Err OutOfMemory) = Unit {0}

@@ -5,7 +5,8 @@ use Rattle.label_reader.specs.declared.faults.LabCause.{LabCause}
 use Rattle.label_reader.specs.declared.faults.LabFault.{LabFault}
 use Rattle.label_reader.specs.Header.{Item, and_then}
 use Rattle.label_reader.specs.Lines.{StateLine, state_line, known_line, with_line, add_line}
-use Rattle.label_reader.specs.Texts.{fault_at, then_at, lines_from, made_of, Gives}
+use Rattle.game_outside.specs.Answers.{AnswersOrWants}
+use Rattle.label_reader.specs.Texts.{fault_at, then_at, lines_from, made_of, IsOutOfMemory}
 use Rattle.label_reader.specs.Behind.{AnswersBehind}
 
 -- a line that is added to those before it
@@ -23,7 +24,7 @@ module _ {Y : Type 0} (kind : FileKind) (n : ℕ) (make : List Item → List Sta
       → AnswersBehind kind n make items After (number + 1) lines answer → AnswersBehind kind n make items Before number (line ∷ lines) answer
   AnswersBehind-line Before After answer step rest = λ read before.
       let added = step read before in
-      let P : Result Y LabFault → Type 0 = λ said. Gives answer said in
+      let P : Result Y LabFault → Type 0 = λ said. AnswersOrWants IsOutOfMemory (λ x. x) answer said in
       subst P (sym (ap behind added.is)) (rest added.more added.holds)
 
   -- the answer at a line with a fault

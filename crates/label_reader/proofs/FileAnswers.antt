@@ -3,25 +3,26 @@ use Rattle.std.proofs.Common.{◌≡◌, inl, inr, ℕ, Bool, true, false, List,
 use Rattle.game_outside.specs.declared.file.FileEnd.{FileEnd}
 use Rattle.game_outside.specs.declared.file.FileEnd.TheVariants as file
 use Rattle.game_outside.specs.Outside.{Holding}
-use Rattle.game_outside.specs.Files.{OfText, ReadsFile}
+use Rattle.game_outside.specs.Files.{HeldTextWith, ReadsFile}
 use Rattle.label_reader.specs.declared.faults.LabFault.{LabFault}
 use Rattle.text_lines.specs.Text.{lines_of, significant}
 use Rattle.label_reader.specs.declared.kind.FileKind.{FileKind}
 use Rattle.label_reader.specs.Header.{Item}
 use Rattle.label_reader.specs.Lines.{StateLine}
-use Rattle.label_reader.specs.Texts.{Gives, said_by, said_by_lines}
+use Rattle.game_outside.specs.Answers.{AnswersOrWants}
+use Rattle.label_reader.specs.Texts.{said_by, said_by_lines, IsOutOfMemory}
 use Rattle.label_reader.specs.Refused.{is_want, IsWithoutWant}
 
-of_text : (holding : Option Holding) (name : List ℕ) (limit : ℕ) (P Q : List ℕ → Type 0) → ((text : List ℕ) → P text → Q text) → OfText holding name limit P → OfText holding name limit Q
+of_text : (holding : Option Holding) (name : List ℕ) (limit : ℕ) (P Q : List ℕ → Type 0) → ((text : List ℕ) → P text → Q text) → HeldTextWith holding name limit P → HeldTextWith holding name limit Q
 of_text holding name limit P Q step of = record { text = of.text; told = of.told; within = of.within; holds = step of.text of.holds }
 
-module _ {X : Type 0} (said : List ℕ → Result X LabFault) (Answers : List ℕ → Result X LabFault → Type 0) (gives : (text : List ℕ) (answer : Result X LabFault) → Answers text answer → Gives answer (said text))
+module _ {X : Type 0} (said : List ℕ → Result X LabFault) (Answers : List ℕ → Result X LabFault → Type 0) (gives : (text : List ℕ) (answer : Result X LabFault) → Answers text answer → AnswersOrWants IsOutOfMemory (λ x. x) answer (said text))
     (holding : Option Holding) (name : List ℕ) (limit : ℕ) where
   abbrev Exact : Result X (FileEnd LabFault) → Type 0
   Exact after = ReadsFile (λ text answer. said text ≡ answer) holding name limit after
 
   refused : (fault : LabFault) (want : Bool) → want ≡ is_want fault.cause → (after : Result X (FileEnd LabFault)) → IsWithoutWant (Err (file.Refused fault)) after
-      → OfText holding name limit (λ text. Answers text (Err fault)) → Exact after
+      → HeldTextWith holding name limit (λ text. Answers text (Err fault)) → Exact after
   refused fault true is after without of = subst Exact (sym (without.0 (sym is))) tt
   refused fault false is after without of = subst Exact (sym (without.1 (sym is))) (of_text holding name limit _ _ by of)
     where
@@ -44,8 +45,8 @@ module _ {X : Type 0} (said : List ℕ → Result X LabFault) (Answers : List �
 -- the same of a reader that has taken nothing yet
 pub reads_exactly : {X R : Type 0} (kind : FileKind) (make : ℕ → List Item → List StateLine → X) (states n : ℕ) (behind : Option R) (Rest : List ℕ → Result X LabFault → R → Type 0)
     → behind ≡ None → n ≡ states → (holding : Option Holding) (name : List ℕ) (limit : ℕ) (read after : Result X (FileEnd LabFault)) → IsWithoutWant read after
-    → ReadsFile (λ text answer. MatchOption behind (◌≡◌ {A = ℕ} 1 1 → Gives answer (said_by_lines kind n (make n) (significant (lines_of text)))) (Rest text answer)) holding name limit read
+    → ReadsFile (λ text answer. MatchOption behind (◌≡◌ {A = ℕ} 1 1 → AnswersOrWants IsOutOfMemory (λ x. x) answer (said_by_lines kind n (make n) (significant (lines_of text)))) (Rest text answer)) holding name limit read
     → ReadsFile (λ text answer. said_by kind states (make states) text ≡ answer) holding name limit after
 reads_exactly kind make states n None Rest is same holding name limit read after without of =
-    exactly (said_by kind states (make states)) (λ text answer. ◌≡◌ {A = ℕ} 1 1 → Gives answer (said_by_lines kind n (make n) (significant (lines_of text)))) (λ text answer holds. subst (λ m. Gives answer (said_by_lines kind m (make m) (significant (lines_of text)))) same (holds refl)) holding name limit read after without of
+    exactly (said_by kind states (make states)) (λ text answer. ◌≡◌ {A = ℕ} 1 1 → AnswersOrWants IsOutOfMemory (λ x. x) answer (said_by_lines kind n (make n) (significant (lines_of text)))) (λ text answer holds. subst (λ m. AnswersOrWants IsOutOfMemory (λ x. x) answer (said_by_lines kind m (make m) (significant (lines_of text)))) same (holds refl)) holding name limit read after without of
 reads_exactly kind make states n (Some reader) Rest is same holding name limit read after without of = cc

@@ -1,5 +1,5 @@
 -- What the readers have filled is what the lines say.
-use Rattle.std.proofs.Common.{◌≡◌, ◌<◌, ℕ, suc, Bool, false, List, [], ◌∷◌, ◌++◌, length, map, get_or, take, drop, Option, None, Vec, Global, sym, ap, ◌∙◌, refl, subst, arith}
+use Rattle.std.proofs.Common.{◌≡◌, ◌<◌, ℕ, suc, Bool, false, List, [], ◌∷◌, length, map, get_or, Option, None, Vec, Global, sym, ap, ◌∙◌, refl, subst, arith}
 use Rattle.std.specs.Option.{unwrap_or}
 use Rattle.std.specs.List.{range_with_len}
 use Rattle.std.proofs.lemmas.List.{length-map, get_or-map, ext_get_or}
@@ -63,15 +63,3 @@ places_of-read n items lines owners m =
     ∙ ap (λ p. unwrap_or p 0) (m.first i (omega (arith, long, il)))
     ∙ owner_is items (said_of lines i)
     ∙ sym (get_or-map-range_with_len (λ s. owner_place items (said_of lines s)) 0 n i i 0 (omega (arith, long, il)) (omega arith)))
-
--- a whole list that was lent as a slice has what was written there
-pub written_back : {X : Type 0} (new old : List X) → length new ≡ length old → (len : ℕ) → len ≡ length old → take len (new ++ drop (length new) old) ≡ new
-written_back {X} new old same len whole =
-    let P : ℕ → Type 0 = λ k. take k (new ++ drop (length new) old) ≡ new in
-    subst P (sym whole) (all new old same)
-  where
-    all : (new old : List X) → length new ≡ length old → take (length old) (new ++ drop (length new) old) ≡ new
-    all [] [] same = refl
-    all [] (y ∷ old) same = absurd (omega arith)
-    all (x ∷ new) [] same = absurd (omega arith)
-    all (x ∷ new) (y ∷ old) same = ap (λ (t : List X). x ∷ t) (all new old (omega arith))

@@ -10,10 +10,10 @@ use Rattle.label_reader.specs.Header.{Item, place_of, has_index}
 use Rattle.label_reader.specs.Lines.{StateLine, said_of, all_same}
 use Rattle.label_reader.specs.Owners.{Ownership}
 use Rattle.label_reader.specs.Texts.{owners_of, owner_place, ownership}
-use Rattle.label_reader.specs.Denotes.{IsOneOf, Says, AreIndices, AreStateLines, DenotesOwners}
+use Rattle.label_reader.specs.Denotes.{IsOneOf, LineNames, AreIndices, AreStateLines, DenotesOwners}
 use Rattle.label_reader.proofs.KnownLines.{both_true}
 use Rattle.label_reader.proofs.StateLineLaws.{IsIndex-has}
-use Rattle.label_reader.proofs.SetLaws.{or_cases, among, is_said-Says, Says-is_said}
+use Rattle.label_reader.proofs.SetLaws.{or_cases, among, is_said-Says, LineNames-is_said}
 use Rattle.label_reader.proofs.TextLaws.{Agrees, Reads, said_by-found, said_by-again}
 
 equal : (a b : ℕ) → eqb a b ≡ true → a ≡ b
@@ -66,7 +66,7 @@ known_of items [] number are one = absurd one
 known_of items (other ∷ numbers) number are (inl e) = ap (λ x. has_index items x) (sym e) ∙ IsIndex-has items other are.0
 known_of items (other ∷ numbers) number are (inr e) = known_of items numbers number are.1 e
 
-says_known : (n : ℕ) (items : List Item) (body : List (List ℕ)) (lines : List StateLine) (number s : ℕ) → AreStateLines n items body lines → Says lines number s → has_index items number ≡ true
+says_known : (n : ℕ) (items : List Item) (body : List (List ℕ)) (lines : List StateLine) (number s : ℕ) → AreStateLines n items body lines → LineNames lines number s → has_index items number ≡ true
 says_known n items [] [] number s are says = absurd says
 says_known n items [] (line ∷ lines) number s are says = absurd are
 says_known n items (bytes ∷ body) [] number s are says = absurd are
@@ -97,11 +97,11 @@ ownership-denoted text n o read =
       items = items;
       lines = lines;
       text_is = read.text_is;
-      one = λ s first second a b. one_is (said_of lines s) first second (read.agrees s) (Says-is_said lines first s a) (Says-is_said lines second s b);
+      one = λ s first second a b. one_is (said_of lines s) first second (read.agrees s) (LineNames-is_said lines first s a) (LineNames-is_said lines second s b);
       players = refl;
       owners = length-map-range_with_len (λ t. owner_place items (said_of lines t)) 0 n;
       owned = λ s number small says.
-          owned_by items (said_of lines s) number (read.agrees s) (Says-is_said lines number s says) (says_known n items read.text_is.body lines number s read.text_is.states says)
+          owned_by items (said_of lines s) number (read.agrees s) (LineNames-is_said lines number s says) (says_known n items read.text_is.body lines number s read.text_is.states says)
           ∙ ap (λ k. Some k) (sym (owner_at n items lines s small));
       others = λ s small none. owner_at n items lines s small ∙ nobody_by items (said_of lines s) (λ number h. none number (is_said-Says lines number s h));
     })
@@ -109,9 +109,9 @@ ownership-denoted text n o read =
 denoted-agrees : (text : List ℕ) (n : ℕ) (o : Ownership) (is : DenotesOwners text n o) → Agrees OwnerFile is.lines
 denoted-agrees text n o is = λ s. same_from (said_of is.lines s) (λ a b h g. is.one s a b (is_said-Says is.lines a s h) (is_said-Says is.lines b s g))
 
-owner_is : (items : List Item) (lines : List StateLine) (s place : ℕ) (said : List ℕ) → said ≡ said_of lines s → ((number : ℕ) → Says lines number s → place_of items number ≡ Some place) → (((number : ℕ) → Says lines number s → ⊥) → place ≡ 0)
+owner_is : (items : List Item) (lines : List StateLine) (s place : ℕ) (said : List ℕ) → said ≡ said_of lines s → ((number : ℕ) → LineNames lines number s → place_of items number ≡ Some place) → (((number : ℕ) → LineNames lines number s → ⊥) → place ≡ 0)
     → owner_place items said ≡ place
-owner_is items lines s place [] e owned others = sym (others (λ number says. let h = ap (λ t. among t number) e ∙ Says-is_said lines number s says in cc))
+owner_is items lines s place [] e owned others = sym (others (λ number says. let h = ap (λ t. among t number) e ∙ LineNames-is_said lines number s says in cc))
 owner_is items lines s place (x ∷ said) e owned others = ap (λ p. unwrap_or p 0) (owned x (is_said-Says lines x s (sym (ap (λ t. among t x) e) ∙ ap (λ v. v || among said x) (itself x x refl))))
 
 abbrev owned_as : List (List ℕ) → List ℕ → Ownership

@@ -10,7 +10,7 @@ use Rattle.label_reader.specs.Header.{Item}
 use Rattle.label_reader.specs.Labels.{Label}
 use Rattle.label_reader.specs.Lines.{StateLine, said_of}
 use Rattle.label_reader.specs.Texts.{is_said, label_from}
-use Rattle.label_reader.specs.Denotes.{IsOneOf, Says, IsLabel, AreLabels}
+use Rattle.label_reader.specs.Denotes.{IsOneOf, LineNames, IsLabel, AreLabels}
 
 equal : (a b : ℕ) → eqb a b ≡ true → a ≡ b
 equal a b h = grind (arith, nat_tests)
@@ -47,11 +47,11 @@ any_of (other ∷ numbers) number (inr e) = or_right (eqb other number) (list_an
 abbrev pub among : List ℕ → ℕ → Bool
 among numbers number = list_any (λ other. eqb other number) numbers
 
-pub is_said-Says : (lines : List StateLine) (number s : ℕ) → is_said lines number s ≡ true → Says lines number s
+pub is_said-Says : (lines : List StateLine) (number s : ℕ) → is_said lines number s ≡ true → LineNames lines number s
 is_said-Says [] number s h = cc
 is_said-Says (line ∷ lines) number s h = by (bool_cases (eqb line.state s)) (λ e. is_said-Says lines number s e)
   where
-    by : (eqb line.state s ≡ true) ⊎ (eqb line.state s ≡ false) → (is_said lines number s ≡ true → Says lines number s) → Says (line ∷ lines) number s
+    by : (eqb line.state s ≡ true) ⊎ (eqb line.state s ≡ false) → (is_said lines number s ≡ true → LineNames lines number s) → LineNames (line ∷ lines) number s
     by (inl e) rest =
         let both = sym (list_any-append (λ other. eqb other number) line.numbers (said_of lines s)) ∙ sym (ap (λ v. among (cond v (line.numbers ++ said_of lines s) (said_of lines s)) number) e) ∙ h in
         elim (or_cases (among line.numbers number) (among (said_of lines s) number) both) [
@@ -60,13 +60,13 @@ is_said-Says (line ∷ lines) number s h = by (bool_cases (eqb line.state s)) (�
         ]
     by (inr e) rest = inr (rest (sym (ap (λ v. among (cond v (line.numbers ++ said_of lines s) (said_of lines s)) number) e) ∙ h))
 
-pub Says-is_said : (lines : List StateLine) (number s : ℕ) → Says lines number s → is_said lines number s ≡ true
-Says-is_said [] number s h = absurd h
-Says-is_said (line ∷ lines) number s (inl h) =
+pub LineNames-is_said : (lines : List StateLine) (number s : ℕ) → LineNames lines number s → is_said lines number s ≡ true
+LineNames-is_said [] number s h = absurd h
+LineNames-is_said (line ∷ lines) number s (inl h) =
     ap (λ v. among (cond v (line.numbers ++ said_of lines s) (said_of lines s)) number) (itself line.state s h.0)
     ∙ list_any-append (λ other. eqb other number) line.numbers (said_of lines s)
     ∙ or_left (among line.numbers number) (among (said_of lines s) number) (any_of line.numbers number h.1)
-Says-is_said (line ∷ lines) number s (inr h) = by (eqb line.state s) (Says-is_said lines number s h)
+LineNames-is_said (line ∷ lines) number s (inr h) = by (eqb line.state s) (LineNames-is_said lines number s h)
   where
     by : (v : Bool) → is_said lines number s ≡ true → among (cond v (line.numbers ++ said_of lines s) (said_of lines s)) number ≡ true
     by true e = list_any-append (λ other. eqb other number) line.numbers (said_of lines s) ∙ or_right (among line.numbers number) (among (said_of lines s) number) e
@@ -82,7 +82,7 @@ AreLabels-made n lines (item ∷ items) = (
   record {
     name = refl;
     marks = length-map-range_with_len (is_said lines item.index) 0 n;
-    holds = λ s small. (λ h. is_said-Says lines item.index s (sym (row_at n lines item.index s small) ∙ h), λ h. row_at n lines item.index s small ∙ Says-is_said lines item.index s h);
+    holds = λ s small. (λ h. is_said-Says lines item.index s (sym (row_at n lines item.index s small) ∙ h), λ h. row_at n lines item.index s small ∙ LineNames-is_said lines item.index s h);
   },
   AreLabels-made n lines items,
 )
@@ -104,7 +104,7 @@ label_is n lines item label is =
     each s h =
         let small : s < n = omega (arith, h, length-map-range_with_len (is_said lines item.index) 0 n) in
         row_at n lines item.index s small
-        ∙ same_truth (is_said lines item.index s) (get_or label.marks s false) (λ e. (is.holds s small).1 (is_said-Says lines item.index s e)) (λ e. Says-is_said lines item.index s ((is.holds s small).0 e))
+        ∙ same_truth (is_said lines item.index s) (get_or label.marks s false) (λ e. (is.holds s small).1 (is_said-Says lines item.index s e)) (λ e. LineNames-is_said lines item.index s ((is.holds s small).0 e))
 
 pub AreLabels-are : (n : ℕ) (lines : List StateLine) (items : List Item) (labels : List Label) → AreLabels n lines items labels → map (label_from n lines) items ≡ labels
 AreLabels-are n lines [] [] h = refl

@@ -4,9 +4,10 @@ use Rattle.label_reader.specs.declared.kind.FileKind.{FileKind}
 use Rattle.label_reader.specs.declared.faults.LabFault.{LabFault}
 use Rattle.label_reader.specs.Header.{Item}
 use Rattle.label_reader.specs.Lines.{StateLine}
-use Rattle.label_reader.specs.Texts.{lines_from, made_of, Gives}
+use Rattle.game_outside.specs.Answers.{AnswersOrWants}
+use Rattle.label_reader.specs.Texts.{lines_from, made_of, IsOutOfMemory}
 
 -- The answer to a text whose lines go on with these, of which the first has this number. What the lines before them say
 -- is what the reader holds.
 abbrev pub AnswersBehind : {Y : Type 0} → FileKind → ℕ → (List Item → List StateLine → Y) → List Item → (List StateLine → Type 0) → ℕ → List (List ℕ) → Result Y LabFault → Type 0
-AnswersBehind kind n make items Holds number lines answer = (read : List StateLine) → Holds read → Gives answer (made_of (make items) (lines_from kind n items read number lines))
+AnswersBehind kind n make items Holds number lines answer = (read : List StateLine) → Holds read → AnswersOrWants IsOutOfMemory (λ x. x) answer (made_of (make items) (lines_from kind n items read number lines))

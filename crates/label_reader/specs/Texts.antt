@@ -68,12 +68,7 @@ owners_of text n = said_by OwnerFile n (ownership n) text
 abbrev pub IsOutOfMemory : LabFault → Type 0
 IsOutOfMemory fault = fault ≡ fault_at 0 OutOfMemory
 
--- What a call answers: what is said, or that memory was wanting.
-abbrev pub Gives : {X : Type 0} → Result X LabFault → Result X LabFault → Type 0
-Gives (Ok x) said = said ≡ Ok x
-Gives (Err fault) said = IsOutOfMemory fault ⊎ (said ≡ Err fault)
-
--- the same of a cause, before its line is known
+-- a cause whose line is not known yet: the one that is said, or want of memory
 abbrev pub GivesCause : {X : Type 0} → Result X LabCause → Result X LabCause → Type 0
 GivesCause (Ok x) said = said ≡ Ok x
 GivesCause (Err cause) said = (cause ≡ OutOfMemory) ⊎ (said ≡ Err cause)

@@ -2,7 +2,8 @@
 
 ghost use Rattle.std.specs.Prelude.{◌≡◌, ◌≤◌, Ok, length, IfOk};
 ghost use Rattle.label_reader.specs.Labels.{Labelling};
-ghost use Rattle.label_reader.specs.Texts.{labels_of, Gives};
+ghost use Rattle.game_outside.specs.Answers.{AnswersOrWants};
+ghost use Rattle.label_reader.specs.Texts.{labels_of, IsOutOfMemory};
 ghost use Rattle.label_reader.specs.Denotes.{DenotesLabels};
 
 use crate::faults::LabFault;
@@ -20,8 +21,8 @@ pub fn read_labels(alloc: Global, bytes: &[u8], states: u32) -> Result<Labels, L
     requires { length bytes.now ≤ MOST_BYTES }
     // What is read is what the text denotes, or its first fault.
     ensures found { IfOk result (λ labels. DenotesLabels bytes.now states labels) }
-    ensures only { (l : Labelling) → DenotesLabels bytes.now states l → Gives result (Ok l) }
-    ensures exact { Gives result (labels_of bytes.now states) }
+    ensures only { (l : Labelling) → DenotesLabels bytes.now states l → AnswersOrWants IsOutOfMemory (λ x. x) result (Ok l) }
+    ensures exact { AnswersOrWants IsOutOfMemory (λ x. x) result (labels_of bytes.now states) }
 {
     read_lines(bytes, LabelLines::new(alloc, states))
 }

@@ -2,7 +2,8 @@
 
 ghost use Rattle.std.specs.Prelude.{◌≡◌, ◌≤◌, Ok, length, IfOk};
 ghost use Rattle.label_reader.specs.Owners.{Ownership};
-ghost use Rattle.label_reader.specs.Texts.{owners_of, Gives};
+ghost use Rattle.game_outside.specs.Answers.{AnswersOrWants};
+ghost use Rattle.label_reader.specs.Texts.{owners_of, IsOutOfMemory};
 ghost use Rattle.label_reader.specs.Denotes.{DenotesOwners};
 
 use crate::faults::LabFault;
@@ -20,8 +21,8 @@ pub fn read_owners(alloc: Global, bytes: &[u8], states: u32) -> Result<Owners, L
     requires { length bytes.now ≤ MOST_BYTES }
     // What is read is what the text denotes, or its first fault.
     ensures found { IfOk result (λ owners. DenotesOwners bytes.now states owners) }
-    ensures only { (o : Ownership) → DenotesOwners bytes.now states o → Gives result (Ok o) }
-    ensures exact { Gives result (owners_of bytes.now states) }
+    ensures only { (o : Ownership) → DenotesOwners bytes.now states o → AnswersOrWants IsOutOfMemory (λ x. x) result (Ok o) }
+    ensures exact { AnswersOrWants IsOutOfMemory (λ x. x) result (owners_of bytes.now states) }
 {
     read_lines(bytes, OwnerLines::new(alloc, states))
 }

@@ -6,7 +6,8 @@ ghost use Rattle.game_model.specs.Limits.{unit};
 ghost use Rattle.rpatl_syntax.specs.Formula.{tree_of, formulas_inside};
 ghost use Rattle.rpatl_syntax.specs.Limits.{longest};
 ghost use Rattle.rpatl_syntax.specs.Spellable.{IsSpellable};
-ghost use Rattle.formula_sets.specs.Posing.{Gives, initial_said};
+ghost use Rattle.game_outside.specs.Answers.{AnswersOrWants};
+ghost use Rattle.formula_sets.specs.Posing.{initial_said, IsOutOfMemory};
 ghost use Rattle.bracket_engine.specs.Limits.{most_rounds};
 ghost use Rattle.bounded_rounds.specs.Limits.{most_workers};
 ghost use Rattle.nested_truth.specs.Nested.{IsNested};
@@ -46,7 +47,7 @@ pub fn nested<R: Threads + Sync, G: Gate + Sync>(
     requires few { formulas_inside (tree_of formula.now) ≤ longest }
     requires rounds { rounds ≤ most_rounds }
     requires workers { (1 ≤ workers) × (workers ≤ most_workers) }
-    ensures posed { Gives (λ nested. nested.initial.items) result (initial_said labels.now owners.now (tree_of formula.now)) }
+    ensures posed { AnswersOrWants IsOutOfMemory (λ nested. nested.initial.items) result (initial_said labels.now owners.now (tree_of formula.now)) }
     ensures nested { IfOk result (λ nested. IsNested (record { game = game.now; labels = labels.now; owners = owners.now }) (tree_of formula.now) nested.initial.items rounds (band_of nested) nested.how nested.inner nested.undecided) }
     ensures inside { IfOk result (λ nested. All (λ s. s < length game.now) nested.initial.items) }
     ensures many { IfOk result (λ nested. (length nested.lower.items ≡ length game.now) × (length nested.upper.items ≡ length game.now)) }

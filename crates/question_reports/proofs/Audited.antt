@@ -8,9 +8,9 @@ use Rattle.game_model.specs.Bounds.{Reaches}
 use Rattle.rpatl_syntax.specs.Formula.{Tree}
 use Rattle.plan_text.specs.declared.plan.Plan.{Plan}
 use Rattle.plan_text.specs.Entries.{HasStates}
-use Rattle.certificate_audit.specs.Accepted.{Passes, IsSound}
+use Rattle.certificate_audit.specs.Accepted.{Passes, IsSoundPlan}
 use Rattle.verdicts.specs.Report.{IsLine, report}
-use Rattle.verdicts.specs.Truth.{IsTold}
+use Rattle.verdicts.specs.Truth.{VerdictIsRight}
 use Rattle.verdicts.specs.Open.{LeavesOpen}
 use Rattle.verdicts.specs.declared.report.How.TheVariants.{Audited}
 use Rattle.verdicts.specs.declared.verdict.Verdict.TheVariants.{Undecided}
@@ -32,14 +32,14 @@ module _ (q : Query) (posed : IsQuery q) (f : Tree) (plan : Plan) (lists : HasSt
   lines-in_range initial inside = All-map IsLine (line_by f Audited plan.lower.items plan.upper.items) initial (All-weaker (λ s. s < states q) (λ s. IsLine (line_by f Audited plan.lower.items plan.upper.items s)) line-in_range initial inside)
 
 pub audited : {X E : Type 0} (text : X → List ℕ) (ends : X → Status) (q : Query) (initial : List ℕ) (f : Tree) (plan : Plan)
-    → IsSound q plan
+    → IsSoundPlan q plan
     → All (λ s. Reaches q (slice_index plan.lower.items s) unit s) initial
     → All IsLine (map (line_by f Audited plan.lower.items plan.upper.items) initial)
-    → All (λ s. IsTold q (answered f).bound s (verdict_by f plan.lower.items plan.upper.items s)) initial
+    → All (λ s. VerdictIsRight q (answered f).bound s (verdict_by f plan.lower.items plan.upper.items s)) initial
     → All (λ s. verdict_by f plan.lower.items plan.upper.items s ≡ Undecided → LeavesOpen (answered f).bound (slice_index plan.lower.items s) (slice_index plan.upper.items s) 1 0) initial
     → (result : Result X E)
     → IfOk result (λ answer. text answer ≡ report (map (line_by f Audited plan.lower.items plan.upper.items) initial))
     → IfOk result (λ answer. ends answer ≡ status_of (map (verdict_by f plan.lower.items plan.upper.items) initial))
     → IfOk result (λ answer. IsAudited q initial f plan (text answer) (ends answer))
-audited text ends q initial f plan sound reached lines told left_open (Ok answer) written ended = record { sound = sound; reached = reached; written = written; lines = lines; ends = ended; told = told; left_open = left_open }
+audited text ends q initial f plan sound reached lines told left_open (Ok answer) written ended = record { sound = sound; reached = reached; written = written; lines = lines; ends = ended; right = told; left_open = left_open }
 audited text ends q initial f plan sound reached lines told left_open (Err error) written ended = tt

@@ -5,13 +5,13 @@ use Rattle.game_model.specs.Query.{Query}
 use Rattle.rpatl_syntax.specs.Formula.{Tree}
 use Rattle.plan_text.specs.declared.plan.Plan.{Plan}
 use Rattle.certificate_audit.specs.Accepted.{IsAccepted}
-use Rattle.asked_files.specs.Asks.{IsText}
-use Rattle.asked_files.specs.Sources.{HasSource}
+use Rattle.asked_files.specs.Asks.{GivenTextWith}
+use Rattle.asked_files.specs.Sources.{SourceWith}
 use Rattle.run_answers.specs.declared.status.Status.{Status}
 use Rattle.question_reports.specs.Audits.{IsAudited, IsAudit}
 
-pub accepted_audited : (holding : Option Holding) (name : List ℕ) (q : Query) (initial : List ℕ) (f : Tree) (plan : Plan) (text : List ℕ) (status : Status) → HasSource holding name (λ source. IsText source (λ bytes. IsAccepted q bytes plan))
-    → IsAudited q initial f plan text status → HasSource holding name (λ source. IsText source (λ bytes. IsAudit q initial f bytes text status))
+pub accepted_audited : (holding : Option Holding) (name : List ℕ) (q : Query) (initial : List ℕ) (f : Tree) (plan : Plan) (text : List ℕ) (status : Status) → SourceWith holding name (λ source. GivenTextWith source (λ bytes. IsAccepted q bytes plan))
+    → IsAudited q initial f plan text status → SourceWith holding name (λ source. GivenTextWith source (λ bytes. IsAudit q initial f bytes text status))
 accepted_audited holding name q initial f plan text status has audited =
     let of = has.is_so in
     record {

@@ -12,12 +12,12 @@ use Rattle.game_model.specs.Bounds.{IsNear}
 use Rattle.rpatl_syntax.specs.Formula.{Tree}
 use Rattle.plan_text.specs.declared.plan.Plan.{Plan}
 use Rattle.plan_text.specs.Entries.{HasStates}
-use Rattle.certificate_audit.specs.Accepted.{Passes, IsSound}
+use Rattle.certificate_audit.specs.Accepted.{Passes, IsSoundPlan}
 use Rattle.rpatl_syntax.specs.declared.formula.Bound.{Bound}
 use Rattle.verdicts.specs.declared.verdict.Verdict.{Verdict}
 use Rattle.verdicts.specs.declared.verdict.Verdict.TheVariants.{Yes, No, Undecided, Bracket as Value}
 use Rattle.verdicts.specs.Verdict.{verdict_of, is_settling}
-use Rattle.verdicts.specs.Truth.{IsTrueOf, IsFalseOf, IsTold}
+use Rattle.verdicts.specs.Truth.{IsTrueOf, IsFalseOf, VerdictIsRight}
 use Rattle.verdicts.specs.declared.report.How.TheVariants.{Rounds}
 use Rattle.verdicts.specs.Open.{LeavesOpen}
 use Rattle.verdicts.proofs.Staying.{settled-on}
@@ -37,7 +37,7 @@ use Rattle.run_answers.specs.Outputs.{output_text, IsInLimits}
 
 -- 1. What verdicts say is so.
 
-is-told : (q : Query) (bound : Bound) (s : ℕ) (verdict : Verdict) → (verdict ≡ Yes → IsTrueOf q bound s) → (verdict ≡ No → IsFalseOf q bound s) → IsTold q bound s verdict
+is-told : (q : Query) (bound : Bound) (s : ℕ) (verdict : Verdict) → (verdict ≡ Yes → IsTrueOf q bound s) → (verdict ≡ No → IsFalseOf q bound s) → VerdictIsRight q bound s verdict
 is-told q bound s Yes if_yes if_no = if_yes refl
 is-told q bound s No if_yes if_no = if_no refl
 is-told q bound s Undecided if_yes if_no = tt
@@ -45,9 +45,9 @@ is-told q bound s Value if_yes if_no = tt
 
 pub all-told : (q : Query) (bound : Bound) (verdict : ℕ → Verdict) (initial : List ℕ) → ((s : ℕ) → s < states q → verdict s ≡ Yes → IsTrueOf q bound s)
     → ((s : ℕ) → s < states q → verdict s ≡ No → IsFalseOf q bound s)
-    → All (λ s. s < states q) initial → All (λ s. IsTold q bound s (verdict s)) initial
+    → All (λ s. s < states q) initial → All (λ s. VerdictIsRight q bound s (verdict s)) initial
 all-told q bound verdict initial if_yes if_no inside =
-    All-weaker (λ s. s < states q) (λ s. IsTold q bound s (verdict s)) (λ s within. is-told q bound s (verdict s) (if_yes s within) (if_no s within)) initial inside
+    All-weaker (λ s. s < states q) (λ s. VerdictIsRight q bound s (verdict s)) (λ s within. is-told q bound s (verdict s) (if_yes s within) (if_no s within)) initial inside
 
 -- what the printed bounds say is what the bounds of the question that is answered say of its bound
 abbrev pub Mirrors : Type 0
@@ -121,10 +121,10 @@ pub record IsReady (q : Query) (initial : List ℕ) (f : Tree) (check : Check) (
   pub shown : IsShown q check.traps found plan
   pub lists : HasStates plan (states q)
   pub near : IsNear q (slice_index plan.lower.items)
-  pub sound : IsSound q plan
+  pub sound : IsSoundPlan q plan
   pub passes : Passes q plan
   pub limits : IsInLimits (output_of check.plan f (Rounds found.rounds) initial plan)
-  pub told : All (λ s. IsTold q (answered f).bound s (verdict_by f plan.lower.items plan.upper.items s)) initial
+  pub right : All (λ s. VerdictIsRight q (answered f).bound s (verdict_by f plan.lower.items plan.upper.items s)) initial
   pub left_open : All (λ s. verdict_by f plan.lower.items plan.upper.items s ≡ Undecided → IsLeftOpen q zero (answered f).bound check.rounds plan s) initial
 
 pub reported : {X E : Type 0} (text : X → List ℕ) (ends : X → Status) (q : Query) (initial : List ℕ) (f : Tree) (check : Check) (zero : List Bool) (found : Bracket) (plan : Plan)
@@ -148,7 +148,7 @@ reported text ends q initial f check zero found plan ready (Ok answer) written e
   written = written;
   limits = ready.limits;
   ends = ended;
-  told = ready.told;
+  right = ready.right;
   left_open = ready.left_open;
 }
 reported text ends q initial f check zero found plan ready (Err error) written ended = tt

@@ -7,7 +7,7 @@ use Rattle.game_model.specs.Query.{Query, states}
 use Rattle.game_model.specs.Values.{denominator, numerator}
 use Rattle.plan_text.specs.declared.plan.Plan.{Plan}
 use Rattle.plan_text.specs.Entries.{HasStates}
-use Rattle.certificate_audit.specs.Accepted.{IsSound, Passes}
+use Rattle.certificate_audit.specs.Accepted.{IsSoundPlan, Passes}
 use Rattle.nested_truth.specs.Rest.{IsBelowRest, IsNearRest}
 use Rattle.question_reports.proofs.Limits.{plan-units}
 
@@ -18,7 +18,7 @@ rest-below top rest upper d reached whole high = subst (λ t. rest * d + reached
 rest-near : (top rest lower d m reached : ℕ) → rest + lower ≡ top → lower * m * d ≤ reached → top * (m * d) ≤ m * rest * d + reached
 rest-near top rest lower d m reached whole near = subst (λ t. t * (m * d) ≤ m * rest * d + reached) whole (omega (arith, near))
 
-pub mirrored-sound : (q : Query) (plan : Plan) (s : ℕ) → HasStates plan (states q) → Passes q plan → IsSound q plan → s < states q → Reaches q (slice_index plan.lower.items s) unit s
+pub mirrored-sound : (q : Query) (plan : Plan) (s : ℕ) → HasStates plan (states q) → Passes q plan → IsSoundPlan q plan → s < states q → Reaches q (slice_index plan.lower.items s) unit s
     → IsBelowRest q s (unit - slice_index plan.upper.items s) × IsNearRest q s (unit - slice_index plan.lower.items s)
 mirrored-sound q plan s lists passes sound inside reached = (below, near)
   where

@@ -10,7 +10,7 @@ use Rattle.inductive_check.specs.Replies.{AreReplies, HoldsUnder}
 use Rattle.rpatl_syntax.specs.declared.formula.Bound.{Bound}
 use Rattle.plan_text.specs.declared.plan.Plan.{Plan}
 use Rattle.plan_text.specs.Entries.{HasStates, greatest_rank}
-use Rattle.certificate_audit.specs.Accepted.{Passes, IsSound}
+use Rattle.certificate_audit.specs.Accepted.{Passes, IsSoundPlan}
 use Rattle.bracket_engine.specs.declared.bounds.Bracket.{Bracket}
 use Rattle.bracket_engine.specs.Choices.{AreChoices}
 use Rattle.trap_sets.specs.Lowered.{IsLoweredTable}
@@ -74,7 +74,7 @@ module _ (q : Query) (zero : List Bool) (bound : Bound) (initial : List ℕ) (as
   pub shown-passes : Passes q plan
   shown-passes = record { units = held.units; inductive = held.inductive; replies = held.good; ranked = ranked }
 
-  pub shown-sound : IsSound q plan
+  pub shown-sound : IsSoundPlan q plan
   shown-sound = record { high = held.high; held = held.holds; reached = reached }
 
   pub shown-above : IsBelow q (slice_index found.base.items) (slice_index plan.lower.items)

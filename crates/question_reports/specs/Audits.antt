@@ -5,8 +5,8 @@ use Rattle.game_model.specs.Query.{Query}
 use Rattle.game_model.specs.Bounds.{Reaches}
 use Rattle.rpatl_syntax.specs.Formula.{Tree}
 use Rattle.plan_text.specs.declared.plan.Plan.{Plan}
-use Rattle.certificate_audit.specs.Accepted.{IsAccepted, IsSound}
-use Rattle.verdicts.specs.Truth.{IsTold}
+use Rattle.certificate_audit.specs.Accepted.{IsAccepted, IsSoundPlan}
+use Rattle.verdicts.specs.Truth.{VerdictIsRight}
 use Rattle.verdicts.specs.Open.{LeavesOpen}
 use Rattle.verdicts.specs.Report.{IsLine, report}
 use Rattle.verdicts.specs.declared.report.How.TheVariants.{Audited}
@@ -17,13 +17,13 @@ use Rattle.run_answers.specs.declared.status.Status.{Status}
 
 -- the text and the status say of the initial states what the certificate says, and that is right. Of `G` the certificate is that of the dual.
 pub record IsAudited (q : Query) (initial : List ℕ) (f : Tree) (plan : Plan) (text : List ℕ) (status : Status) : Type 0 where
-  pub sound : IsSound q plan
+  pub sound : IsSoundPlan q plan
   pub reached : All (λ s. Reaches q (slice_index plan.lower.items s) unit s) initial
   pub written : text ≡ report (map (line_by f Audited plan.lower.items plan.upper.items) initial)
   pub lines : All IsLine (map (line_by f Audited plan.lower.items plan.upper.items) initial)
   pub ends : status ≡ status_of (map (verdict_by f plan.lower.items plan.upper.items) initial)
   -- True is true and False is false
-  pub told : All (λ s. IsTold q (answered f).bound s (verdict_by f plan.lower.items plan.upper.items s)) initial
+  pub right : All (λ s. VerdictIsRight q (answered f).bound s (verdict_by f plan.lower.items plan.upper.items s)) initial
   -- Undecided is said only where the bounds leave the threshold open
   pub left_open : All (λ s. verdict_by f plan.lower.items plan.upper.items s ≡ Undecided → LeavesOpen (answered f).bound (slice_index plan.lower.items s) (slice_index plan.upper.items s) 1 0) initial
 

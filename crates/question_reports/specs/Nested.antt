@@ -20,7 +20,7 @@ use Rattle.run_answers.specs.declared.status.Status.{Status}
 abbrev pub inside_text : ℕ → ℕ → List ℕ
 inside_text inner undecided = numbered (codes "inner ") inner ++ (numbered (codes " undecided ") undecided ++ codes "\n")
 
--- The text and the status are the answer: the line about the formulas inside, and a report of bounds that are sound for the exact question. True is true and False is false.
+-- The text and the status are the answer: the line about the formulas inside, and a report of bounds that are sound for the exact question. True is true and False is false. The bounds of a `G` are mirrored already.
 pub record IsNestedReport (m : Model) (initial : List ℕ) (f : Tree) (asked : ℕ) (text : List ℕ) (status : Status) : Type 0 where
   pub band : Band
   pub how : How

@@ -11,8 +11,8 @@ use Rattle.rpatl_syntax.specs.declared.formula.Bound.{Bound}
 use Rattle.rpatl_syntax.specs.Formula.{Tree}
 use Rattle.plan_text.specs.declared.plan.Plan.{Plan}
 use Rattle.plan_text.specs.Entries.{HasStates}
-use Rattle.certificate_audit.specs.Accepted.{Passes, IsSound}
-use Rattle.verdicts.specs.Truth.{IsTold}
+use Rattle.certificate_audit.specs.Accepted.{Passes, IsSoundPlan}
+use Rattle.verdicts.specs.Truth.{VerdictIsRight}
 use Rattle.verdicts.specs.Open.{LeavesOpen}
 use Rattle.verdicts.specs.declared.report.How.TheVariants.{Rounds}
 use Rattle.verdicts.specs.declared.verdict.Verdict.TheVariants.{Undecided}
@@ -70,15 +70,15 @@ pub record IsReport (q : Query) (initial : List ℕ) (f : Tree) (check : Check) 
   pub lists : HasStates plan (states q)
   -- each lower bound, less any 1/m, is at most some k-step value
   pub near : IsNear q (slice_index plan.lower.items)
-  -- each upper bound is at least every k-step value
+  -- each upper bound is at least every k-step value (so is it in `sound`; here it is read)
   pub high : IsHigh q (slice_index plan.upper.items)
   -- the minimiser's choices hold every opponent to the upper bounds, and the maximiser's reach the lower ones, less any 1/m
-  pub sound : IsSound q plan
+  pub sound : IsSoundPlan q plan
   pub passes : Passes q plan
   pub written : text ≡ output_text (output_of check.plan f (Rounds found.rounds) initial plan)
   pub limits : IsInLimits (output_of check.plan f (Rounds found.rounds) initial plan)
   pub ends : status ≡ status_of (map (verdict_by f plan.lower.items plan.upper.items) initial)
   -- True is true and False is false
-  pub told : All (λ s. IsTold q (answered f).bound s (verdict_by f plan.lower.items plan.upper.items s)) initial
+  pub right : All (λ s. VerdictIsRight q (answered f).bound s (verdict_by f plan.lower.items plan.upper.items s)) initial
   -- Undecided is said only where no bracket that the asked rounds promise settles the threshold; of `G` that of the dual
   pub left_open : All (λ s. verdict_by f plan.lower.items plan.upper.items s ≡ Undecided → IsLeftOpen q zero (answered f).bound check.rounds plan s) initial

@@ -5,7 +5,7 @@ ghost use Rattle.game_model.specs.Query.{states};
 ghost use Rattle.rpatl_syntax.specs.Dual.{IsAtMostOne};
 ghost use Rattle.rpatl_syntax.specs.Formula.{tree_of};
 ghost use Rattle.plan_text.specs.Entries.{HasStates};
-ghost use Rattle.certificate_audit.specs.Accepted.{Passes, IsSound};
+ghost use Rattle.certificate_audit.specs.Accepted.{Passes, IsSoundPlan};
 ghost use Rattle.run_answers.specs.Status.{IsAnswer};
 ghost use Rattle.question_reports.specs.Audits.{IsAudited};
 
@@ -21,7 +21,7 @@ use verdicts::laws::{
     undecided_thresholds_are_left_open, verdicts_are_true,
 };
 
-//// One line for each initial state, with the numbers of a certificate that was accepted, and what they say of a formula.
+/// One line for each initial state, with the numbers of a certificate that was accepted, and what they say of a formula.
 /// The only error is want of memory.
 pub fn audit_report(
     alloc: Global,
@@ -34,7 +34,7 @@ pub fn audit_report(
     requires inside { All (λ s. s < states question.now) initial.now }
     requires lists { HasStates plan.now (states question.now) }
     requires passes { Passes question.now plan.now }
-    requires sound { IsSound question.now plan.now }
+    requires sound { IsSoundPlan question.now plan.now }
     ensures audited { IfOk result (λ answer. IsAudited question.now initial.now (tree_of formula.now) plan.now answer.text.items answer.status) }
     ensures answer { IfOk result (λ answer. IsAnswer answer.status) }
 {

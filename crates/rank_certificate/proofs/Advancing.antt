@@ -11,14 +11,14 @@ use Rattle.predecessors.specs.Moves.{LeadsTo}
 use Rattle.predecessors.specs.Lists.{ArePredecessors}
 use Rattle.rank_certificate.specs.Ranking.{NeedsRank}
 use Rattle.rank_certificate.specs.Layers.{IsWithin, IsLayer}
-use Rattle.rank_certificate.specs.Growing.{IsLow, IsRanking, MovesOn, Advances, IsOpened}
+use Rattle.rank_certificate.specs.Growing.{HasRankWithin, IsRanking, MovesOn, Advances, IsOpened}
 use Rattle.rank_certificate.proofs.States.{Some-one}
 use Rattle.rank_certificate.proofs.Moving.{rank-low, none-counts, Some-none, Ranking-waits, moved, MovesOn-many, MovesOn-low}
 use Rattle.rank_certificate.proofs.Following.{Ranking-noted, Ranking-behind, Ranking-follows, among-low, in-whole}
 
 module _ (q : Query) (value : ℕ → ℕ) (choices : List (Option ℕ)) (level hand : ℕ) (ranks : List (Option ℕ)) (awaited order : List ℕ) where
   -- a move that no state waited for
-  pub Advances-noted : (m : Move) → length ranks ≡ states q → length awaited ≡ states q → IsLow ranks level hand
+  pub Advances-noted : (m : Move) → length ranks ≡ states q → length awaited ≡ states q → HasRankWithin ranks level hand
       → (slice_index_or ranks m.state None ≡ None → slice_index awaited m.state ≡ m.choice → value hand ≡ value m.state → ⊥)
       → (part : List Move) → Advances q value choices level hand part (part ++ m ∷ []) ranks awaited order ranks awaited order
   Advances-noted m many as_many low apart part = record {
@@ -29,7 +29,7 @@ module _ (q : Query) (value : ℕ → ℕ) (choices : List (Option ℕ)) (level 
   }
 
   -- a move that a state waited for
-  pub Advances-moves : (m : Move) → length ranks ≡ states q → length awaited ≡ states q → IsLow ranks level hand → LeadsTo q.game m.state m.choice hand
+  pub Advances-moves : (m : Move) → length ranks ≡ states q → length awaited ≡ states q → HasRankWithin ranks level hand → LeadsTo q.game m.state m.choice hand
       → slice_index_or ranks m.state None ≡ None → slice_index awaited m.state ≡ m.choice → value hand ≡ value m.state
       → (ranks' : List (Option ℕ)) (awaited' order' : List ℕ) → MovesOn q value choices level m.state (m.choice + 1) ranks awaited order ranks' awaited' order'
       → (part : List Move) → Advances q value choices level hand part (part ++ m ∷ []) ranks awaited order ranks' awaited' order'
@@ -173,7 +173,7 @@ unfolding IsWithin
 layer-free q value choices s within = within
 
 low-free : (q : Query) (value : ℕ → ℕ) (choices : List (Option ℕ)) (ranks : List (Option ℕ)) (order : List ℕ) → IsOpened q value (states q) ranks order → (s : ℕ) → s < states q → ¬ NeedsRank q value s
-    → (o : Option ℕ) → slice_index_or ranks s None ≡ o → IsLow ranks 0 s
+    → (o : Option ℕ) → slice_index_or ranks s None ≡ o → HasRankWithin ranks 0 s
 low-free q value choices ranks order h s inside free None left = absurd (free (h.needs s inside left))
 low-free q value choices ranks order h s inside free (Some r) given = rank-low ranks 0 s r given (omega (arith, (h.found s r given).0))
 

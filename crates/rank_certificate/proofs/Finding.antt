@@ -9,7 +9,7 @@ use Rattle.game_model.specs.Query.{Query, IsQuery, states, side_at}
 use Rattle.game_model.specs.Ranks.{IsRankedChoice, HasRankedChoice, Ranked}
 use Rattle.rank_certificate.specs.Ranking.{NeedsRank}
 use Rattle.rank_certificate.specs.Layers.{IsAsked, LeadsInto, IsWithin, IsLayer, AreLayered}
-use Rattle.rank_certificate.specs.Growing.{IsLow, Waits, IsRanking}
+use Rattle.rank_certificate.specs.Growing.{HasRankWithin, Waits, IsRanking}
 use Rattle.rank_certificate.proofs.States.{Some-one}
 use Rattle.rank_certificate.proofs.Causes.{asked-given, given-asked, always-asked}
 use Rattle.rank_certificate.proofs.Within.{LeadsInto-more, IsWithin-more}
@@ -61,7 +61,7 @@ module _ (q : Query) (value : ℕ → ℕ) (choices : List (Option ℕ)) (level 
         | inr equal ↦ w.still on.place on.inside equal.0 (inl (within-behind (slice_index_or (choice_of q.game s c).edges on.place no_edge).to (posed.game.inside s c inside asked.0 on.place no_edge on.inside) equal.1))
       ]
 
-  next-full : (s : ℕ) → s < states q → IsWithin q value choices (level + 1) s → (o : Option ℕ) → slice_index_or ranks s None ≡ o → IsLow ranks (level + 1) s
+  next-full : (s : ℕ) → s < states q → IsWithin q value choices (level + 1) s → (o : Option ℕ) → slice_index_or ranks s None ≡ o → HasRankWithin ranks (level + 1) s
   next-full s inside within None left = absurd (unfound s inside left within)
   next-full s inside within (Some r) given = rank-low ranks (level + 1) s r given ((h.layer s r given).least (level + 1) within)
 

@@ -6,7 +6,7 @@ use Rattle.game_model.specs.Game.{choices_of, choice_of, no_edge}
 use Rattle.game_model.specs.Query.{Query, IsQuery, states}
 use Rattle.predecessors.specs.declared.lists.Move.{Move}
 use Rattle.predecessors.specs.Moves.{move}
-use Rattle.rank_certificate.specs.Growing.{IsLow}
+use Rattle.rank_certificate.specs.Growing.{HasRankWithin}
 use Rattle.rank_certificate.specs.Carrying.{Carries, IsCarried}
 use Rattle.rank_certificate.specs.Growth.{IsApartBy, Looks, Follows}
 use Rattle.rank_certificate.proofs.Looked.{Looks-many, Looks-kept, Looks-apart, Looks-grown}
@@ -38,7 +38,7 @@ module _ (q : Query) (value : ℕ → ℕ) (level hand : ℕ) where
 
   -- a move whose choice does not carry its state
   pub Follows-idle : (m : Move) (ranks choices : List (Option ℕ)) (order : List ℕ) → IsQuery q → m.state < states q → m.choice < length (choices_of q.game m.state)
-      → ¬ Carries value (IsLow ranks level) m.state (choice_of q.game m.state m.choice) → Follows q value level hand (m ∷ []) ranks choices order ranks choices order
+      → ¬ Carries value (HasRankWithin ranks level) m.state (choice_of q.game m.state m.choice) → Follows q value level hand (m ∷ []) ranks choices order ranks choices order
   Follows-idle m ranks choices order posed inside lc idle = record {
     many = refl;
     as_many = refl;
@@ -48,7 +48,7 @@ module _ (q : Query) (value : ℕ → ℕ) (level hand : ℕ) where
       | inl none ↦ absurd (omega (arith, none.1))
       | inr is ↦
           let none : Carries value (IsCarried q value level) m.state (choice_of q.game m.state m.choice) → ⊥ = λ carried.
-          idle (Carries-more value (IsCarried q value level) (IsLow ranks level) m.state (choice_of q.game m.state m.choice)
+          idle (Carries-more value (IsCarried q value level) (HasRankWithin ranks level) m.state (choice_of q.game m.state m.choice)
           (λ p lp same within. h.full (slice_index_or (choice_of q.game m.state m.choice).edges p no_edge).to (posed.game.inside m.state m.choice inside lc p no_edge lp) within) carried) in
           subst (λ (x : Move). IsApartBy q value level ranks x.state x.choice) is (λ left carried by. none carried)
     ];

@@ -7,7 +7,7 @@ use Rattle.std.proofs.lemmas.List.Sums.{sum_by-set}
 use Rattle.game_model.specs.Game.{choices_of, choice_of, no_edge}
 use Rattle.game_model.specs.Query.{Query, IsQuery, states, side_at}
 use Rattle.game_model.proofs.Longer.{longer-length}
-use Rattle.rank_certificate.specs.Growing.{IsLow}
+use Rattle.rank_certificate.specs.Growing.{HasRankWithin}
 use Rattle.rank_certificate.specs.Carrying.{IsCarriedBy, IsCarried, IsCarriedAt, IsChosen, IsChosenAt}
 use Rattle.rank_certificate.specs.Growth.{IsGrowth, IsApart, Looks}
 use Rattle.rank_certificate.proofs.States.{Some-one}
@@ -30,7 +30,7 @@ Looks-kept q value level s ranks choices order ranks' choices' order' (inr j) t 
 
 module _ (q : Query) (value : ℕ → ℕ) (level begin : ℕ) (old : List ℕ) (ranks choices : List (Option ℕ)) (order : List ℕ) (posed : IsQuery q) (h : IsGrowth q value level begin old ranks choices order) where
   -- low states are of the layer
-  low-carried : (t : ℕ) → IsLow ranks level t → IsCarried q value level t
+  low-carried : (t : ℕ) → HasRankWithin ranks level t → IsCarried q value level t
   low-carried t low =
       let found = low-rank ranks level t low in
       IsCarried-more q value found.0 level t found.2 (h.layer t found.0 found.1).within
@@ -39,11 +39,11 @@ module _ (q : Query) (value : ℕ → ℕ) (level begin : ℕ) (old : List ℕ) 
     edge-inside : (c p : ℕ) → c < length (choices_of q.game s) → p < length (choice_of q.game s c).edges → (slice_index_or (choice_of q.game s c).edges p no_edge).to < states q
     edge-inside c p lc lp = posed.game.inside s c inside lc p no_edge lp
 
-    by-layer : IsCarriedBy (side_at q s) q value (IsLow ranks level) s → IsCarriedBy (side_at q s) q value (IsCarried q value level) s
-    by-layer = IsCarriedBy-more (side_at q s) q value (IsLow ranks level) (IsCarried q value level) s (λ c p lc lp equal low. low-carried (slice_index_or (choice_of q.game s c).edges p no_edge).to low)
+    by-layer : IsCarriedBy (side_at q s) q value (HasRankWithin ranks level) s → IsCarriedBy (side_at q s) q value (IsCarried q value level) s
+    by-layer = IsCarriedBy-more (side_at q s) q value (HasRankWithin ranks level) (IsCarried q value level) s (λ c p lc lp equal low. low-carried (slice_index_or (choice_of q.game s c).edges p no_edge).to low)
 
-    by-low : IsCarriedBy (side_at q s) q value (IsCarried q value level) s → IsCarriedBy (side_at q s) q value (IsLow ranks level) s
-    by-low = IsCarriedBy-more (side_at q s) q value (IsCarried q value level) (IsLow ranks level) s (λ c p lc lp equal within. h.full (slice_index_or (choice_of q.game s c).edges p no_edge).to (edge-inside c p lc lp) within)
+    by-low : IsCarriedBy (side_at q s) q value (IsCarried q value level) s → IsCarriedBy (side_at q s) q value (HasRankWithin ranks level) s
+    by-low = IsCarriedBy-more (side_at q s) q value (IsCarried q value level) (HasRankWithin ranks level) s (λ c p lc lp equal within. h.full (slice_index_or (choice_of q.game s c).edges p no_edge).to (edge-inside c p lc lp) within)
 
     here : slice_index_or (set ranks s (Some (level + 1))) s None ≡ Some (level + 1)
     here = get_or-set_same ranks s (Some (level + 1)) None (omega (arith, inside, h.many))
@@ -62,7 +62,7 @@ module _ (q : Query) (value : ℕ → ℕ) (level begin : ℕ) (old : List ℕ) 
       | inr other ↦ inr (sym (get_or-set_other ranks s t (Some (level + 1)) None other) ∙ given)
     ]
 
-    module _ (none : slice_index_or ranks s None ≡ None) (by : IsCarriedBy (side_at q s) q value (IsLow ranks level) s) (choice : Option ℕ) (chosen : IsChosen (side_at q s) q value (IsLow ranks level) s choice) where
+    module _ (none : slice_index_or ranks s None ≡ None) (by : IsCarriedBy (side_at q s) q value (HasRankWithin ranks level) s) (choice : Option ℕ) (chosen : IsChosen (side_at q s) q value (HasRankWithin ranks level) s choice) where
       new-layer : IsCarriedAt q value s (level + 1)
       new-layer = record {
         within = next-whole q value level s (by-layer by);
@@ -78,7 +78,7 @@ module _ (q : Query) (value : ℕ → ℕ) (level begin : ℕ) (old : List ℕ) 
       new-chosen =
           subst (IsChosenAt q value s (level + 1)) (sym (get_or-set_same choices s choice None (omega (arith, inside, h.as_many))))
           (next-chosen q value level s choice
-          (IsChosen-same q value (IsLow ranks level) (IsCarried q value level) s (λ c p lc lp low. low-carried (slice_index_or (choice_of q.game s c).edges p no_edge).to low)
+          (IsChosen-same q value (HasRankWithin ranks level) (IsCarried q value level) s (λ c p lc lp low. low-carried (slice_index_or (choice_of q.game s c).edges p no_edge).to low)
           (λ c p lc lp within. h.full (slice_index_or (choice_of q.game s c).edges p no_edge).to (edge-inside c p lc lp) within) (side_at q s) choice chosen))
 
       -- a state with an old rank is another one
@@ -97,7 +97,7 @@ module _ (q : Query) (value : ℕ → ℕ) (level begin : ℕ) (old : List ℕ) 
         | inr other ↦ sym (get_or-set_other ranks s t (Some (level + 1)) None other) ∙ left
       ]
 
-      still-low : (t : ℕ) → IsLow ranks level t → IsLow (set ranks s (Some (level + 1))) level t
+      still-low : (t : ℕ) → HasRankWithin ranks level t → HasRankWithin (set ranks s (Some (level + 1))) level t
       still-low t low = let found = low-rank ranks level t low in rank-low (set ranks s (Some (level + 1))) level t found.0 (old-rank t found.0 found.1) found.2
 
       joined : IsGrowth q value level begin old (set ranks s (Some (level + 1))) (set choices s choice) (order ++ s ∷ [])

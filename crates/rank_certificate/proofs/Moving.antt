@@ -9,7 +9,7 @@ use Rattle.game_model.specs.Game.{choice_of, no_edge}
 use Rattle.game_model.specs.Query.{Query, states}
 use Rattle.predecessors.specs.declared.lists.Move.{Move}
 use Rattle.rank_certificate.specs.Layers.{IsAsked, LeadsInto, IsWithin, IsLayer}
-use Rattle.rank_certificate.specs.Growing.{IsLow, AreMet, IsUnmet, IsFollowed, Waits, IsRanking, MovesOn}
+use Rattle.rank_certificate.specs.Growing.{HasRankWithin, AreMet, IsUnmet, IsFollowed, Waits, IsRanking, MovesOn}
 use Rattle.rank_certificate.proofs.States.{Some-one}
 use Rattle.rank_certificate.proofs.Within.{LeadsInto-more, IsWithin-more}
 
@@ -18,10 +18,10 @@ low-rank-of None level h = absurd h
 low-rank-of (Some r) level h = (r, refl, h)
 
 -- a low state has a rank
-pub low-rank : (ranks : List (Option ℕ)) (level s : ℕ) → IsLow ranks level s → (r : ℕ) × (slice_index_or ranks s None ≡ Some r) × (r ≤ level)
+pub low-rank : (ranks : List (Option ℕ)) (level s : ℕ) → HasRankWithin ranks level s → (r : ℕ) × (slice_index_or ranks s None ≡ Some r) × (r ≤ level)
 low-rank ranks level s h = low-rank-of (slice_index_or ranks s None) level h
 
-pub rank-low : (ranks : List (Option ℕ)) (level s r : ℕ) → slice_index_or ranks s None ≡ Some r → r ≤ level → IsLow ranks level s
+pub rank-low : (ranks : List (Option ℕ)) (level s r : ℕ) → slice_index_or ranks s None ≡ Some r → r ≤ level → HasRankWithin ranks level s
 rank-low ranks level s r given h = rw given h
 
 pub Some-none : (o : Option ℕ) (a : ℕ) → o ≡ Some a → o ≡ None → ⊥
@@ -42,26 +42,26 @@ other-kept ranks s rank t r none given = elim (cases_eq t s) [
   | inr other ↦ get_or-set_other ranks s t (Some rank) None other ∙ given
 ]
 
-other-low : (ranks : List (Option ℕ)) (s rank top t : ℕ) → slice_index_or ranks s None ≡ None → IsLow ranks top t → IsLow (set ranks s (Some rank)) top t
+other-low : (ranks : List (Option ℕ)) (s rank top t : ℕ) → slice_index_or ranks s None ≡ None → HasRankWithin ranks top t → HasRankWithin (set ranks s (Some rank)) top t
 other-low ranks s rank top t none low =
     let found = low-rank ranks top t low in
     rank-low (set ranks s (Some rank)) top t found.0 (other-kept ranks s rank t found.0 none found.1) found.2
 
 pub MovesOn-low : (q : Query) (value : ℕ → ℕ) (choices : List (Option ℕ)) (level s from : ℕ) (ranks : List (Option ℕ)) (awaited order : List ℕ) (ranks' : List (Option ℕ)) (awaited' order' : List ℕ)
-    → MovesOn q value choices level s from ranks awaited order ranks' awaited' order' → slice_index_or ranks s None ≡ None → (top t : ℕ) → IsLow ranks top t → IsLow ranks' top t
-MovesOn-low q value choices level s from ranks awaited order ranks' awaited' order' (inl w) none top t low = subst (λ list. IsLow list top t) (sym w.new_ranks) low
-MovesOn-low q value choices level s from ranks awaited order ranks' awaited' order' (inr j) none top t low = subst (λ list. IsLow list top t) (sym j.new_ranks) (other-low ranks s (level + 1) top t none low)
+    → MovesOn q value choices level s from ranks awaited order ranks' awaited' order' → slice_index_or ranks s None ≡ None → (top t : ℕ) → HasRankWithin ranks top t → HasRankWithin ranks' top t
+MovesOn-low q value choices level s from ranks awaited order ranks' awaited' order' (inl w) none top t low = subst (λ list. HasRankWithin list top t) (sym w.new_ranks) low
+MovesOn-low q value choices level s from ranks awaited order ranks' awaited' order' (inr j) none top t low = subst (λ list. HasRankWithin list top t) (sym j.new_ranks) (other-low ranks s (level + 1) top t none low)
 
 module _ (q : Query) (value : ℕ → ℕ) (choices : List (Option ℕ)) (bound level : ℕ) (old : List ℕ) (place hand : ℕ) (part : List Move) (ranks : List (Option ℕ)) (awaited order : List ℕ)
     (h : IsRanking q value choices bound level old place hand part ranks awaited order) where
   -- low states are within the layer
-  pub low-within : (t : ℕ) → IsLow ranks level t → IsWithin q value choices level t
+  pub low-within : (t : ℕ) → HasRankWithin ranks level t → IsWithin q value choices level t
   low-within t low =
       let found = low-rank ranks level t low in
       IsWithin-more q value choices found.0 level t found.2 (h.layer t found.0 found.1).within
 
-  pub met-within : (s c : ℕ) → LeadsInto value (IsLow ranks level) s (choice_of q.game s c) → LeadsInto value (IsWithin q value choices level) s (choice_of q.game s c)
-  met-within s c = LeadsInto-more value (IsLow ranks level) (IsWithin q value choices level) s (choice_of q.game s c) (λ p inside low. low-within (slice_index_or (choice_of q.game s c).edges p no_edge).to low)
+  pub met-within : (s c : ℕ) → LeadsInto value (HasRankWithin ranks level) s (choice_of q.game s c) → LeadsInto value (IsWithin q value choices level) s (choice_of q.game s c)
+  met-within s c = LeadsInto-more value (HasRankWithin ranks level) (IsWithin q value choices level) s (choice_of q.game s c) (λ p inside low. low-within (slice_index_or (choice_of q.game s c).edges p no_edge).to low)
 
   -- other states may wait, for other moves
   pub Ranking-waits : (bound' place' hand' : ℕ) (part' : List Move)
@@ -83,7 +83,7 @@ module _ (q : Query) (value : ℕ → ℕ) (choices : List (Option ℕ)) (bound 
   }
 
   module _ (s from bound' : ℕ) (inside : s < states q) (none : slice_index_or ranks s None ≡ None) (before : (c : ℕ) → c < from → IsAsked q choices s c → LeadsInto value (IsWithin q value choices level) s (choice_of q.game s c))
-      (low-followed : (t c : ℕ) → IsFollowed (take place old) hand part t s c → IsLow ranks level t) (bounded : (t : ℕ) → t < bound' → (t < bound) ⊎ (t ≡ s)) where
+      (low-followed : (t c : ℕ) → IsFollowed (take place old) hand part t s c → HasRankWithin ranks level t) (bounded : (t : ℕ) → t < bound' → (t < bound) ⊎ (t ≡ s)) where
     bound-other : (t : ℕ) → t < bound' → t ≢ s → t < bound
     bound-other t l other = elim (bounded t l) [
       | inl below ↦ below
@@ -155,7 +155,7 @@ module _ (q : Query) (value : ℕ → ℕ) (choices : List (Option ℕ)) (bound 
       ];
     }
 
-    joining : ((c : ℕ) → from ≤ c → IsAsked q choices s c → LeadsInto value (IsLow ranks level) s (choice_of q.game s c))
+    joining : ((c : ℕ) → from ≤ c → IsAsked q choices s c → LeadsInto value (HasRankWithin ranks level) s (choice_of q.game s c))
         → IsRanking q value choices bound' level old place hand part (set ranks s (Some (level + 1))) awaited (order ++ s ∷ [])
     joining met =
         let all : (c : ℕ) → IsAsked q choices s c → LeadsInto value (IsWithin q value choices level) s (choice_of q.game s c) =
@@ -170,10 +170,10 @@ module _ (q : Query) (value : ℕ → ℕ) (choices : List (Option ℕ)) (bound 
           longer = let more = h.longer in (more.0 ++ s ∷ [], ap (λ list. list ++ s ∷ []) more.1 ∙ append_assoc old more.0 (s ∷ []));
           ranked = λ k l. other-low ranks s (level + 1) level (slice_index old k) none (h.ranked k l);
           newest = λ k l. elim (cases_lt k (length order)) [
-            | inl below ↦ subst (IsLow (set ranks s (Some (level + 1))) (level + 1)) (sym (get_or_append_left order (s ∷ []) 0 k below)) (other-low ranks s (level + 1) (level + 1) (slice_index order k) none (h.newest k below))
+            | inl below ↦ subst (HasRankWithin (set ranks s (Some (level + 1))) (level + 1)) (sym (get_or_append_left order (s ∷ []) 0 k below)) (other-low ranks s (level + 1) (level + 1) (slice_index order k) none (h.newest k below))
             | inr last ↦
                 let at : length order ≡ k = omega (arith, l, last, length_push order s) in
-                subst (IsLow (set ranks s (Some (level + 1))) (level + 1)) (sym (get_or_push order s 0 k at)) (rank-low (set ranks s (Some (level + 1))) (level + 1) s (level + 1) here (omega arith))
+                subst (HasRankWithin (set ranks s (Some (level + 1))) (level + 1)) (sym (get_or_push order s 0 k at)) (rank-low (set ranks s (Some (level + 1))) (level + 1) s (level + 1) here (omega arith))
           ];
           listed = λ t r given. elim (rank-cases t r given) [
             | inl new ↦ subst (λ u. Contains (order ++ s ∷ []) u) (sym new.0) (Contains-append_right order (s ∷ []) s (0, omega arith, refl))

@@ -11,8 +11,8 @@ use Rattle.game_model.specs.Limits.{unit}
 use Rattle.game_model.specs.Rounded.{down_value, down_step}
 use Rattle.game_model.specs.Ranks.{IsRankedChoice, HasRankedChoice, Ranked}
 use Rattle.game_model.proofs.Choices.{IsChoiceOf}
-use Rattle.fixed_bellman.specs.Given.{Gives}
-use Rattle.fixed_bellman.proofs.Tables.{choice_fits, Gives-below}
+use Rattle.fixed_bellman.specs.Given.{IsGivenBy}
+use Rattle.fixed_bellman.proofs.Tables.{choice_fits, IsGivenBy-below}
 use Rattle.rank_certificate.specs.Ranking.{NeedsRank, IsEnough}
 use Rattle.rank_certificate.specs.Carrying.{CanBeRanked, Carries, IsCarriedBy, IsCarried, IsFirstCarrying, IsChosen, IsChosenAt, IsLayeredPlan, Stands}
 use Rattle.rank_certificate.specs.Growth.{IsGrown, AreFollowed}
@@ -160,7 +160,7 @@ module _ (q : Query) (values : List ℕ) (choices : List (Option ℕ)) (ranks : 
       let fits : IsChoiceOf q.game (choice_of q.game s c) = choice_fits q s c posed inside lc in
       (le-div_iff_mul-le fits.positive).1 enough
 
-  ranked-gives : (s : ℕ) → s < states q → NeedsRank q (slice_index values) s → (side : Side) → side_at q s ≡ side → (c : ℕ) × Gives q (slice_index values) s (slice_index values s) c
+  ranked-gives : (s : ℕ) → s < states q → NeedsRank q (slice_index values) s → (side : Side) → side_at q s ≡ side → (c : ℕ) × IsGivenBy q (slice_index values) s (slice_index values s) c
   ranked-gives s inside needs Max max =
       let free = needs.free in
       let has : HasRankedChoice q (slice_index values) (slice_index ranks) choices s = h.greatest s inside free.0 free.1 needs.positive max in
@@ -175,7 +175,7 @@ module _ (q : Query) (values : List ℕ) (choices : List (Option ℕ)) (ranks : 
   ranked-step s inside false false goal is = elim (cases_lt 0 (slice_index values s)) [
     | inl some ↦
         let given = ranked-gives s inside (record { free = (goal, is); positive = some }) (side_at q s) refl in
-        Gives-below q (slice_index values) s (slice_index values s) given.0 posed inside (goal, is) given.1
+        IsGivenBy-below q (slice_index values) s (slice_index values s) given.0 posed inside (goal, is) given.1
     | inr none ↦ omega (arith, none)
   ]
 

@@ -9,17 +9,17 @@ use Rattle.rank_certificate.specs.Ranking.{NeedsRank}
 use Rattle.rank_certificate.specs.Layers.{IsAsked, LeadsInto, IsWithin, IsLayer}
 
 -- a rank was found for the state, and is this one or less
-abbrev pub IsLow : List (Option ℕ) → ℕ → ℕ → Type 0
-IsLow ranks level s = IsSomeAnd (slice_index_or ranks s None) (λ r. r ≤ level)
+abbrev pub HasRankWithin : List (Option ℕ) → ℕ → ℕ → Type 0
+HasRankWithin ranks level s = IsSomeAnd (slice_index_or ranks s None) (λ r. r ≤ level)
 
 -- choices of the state that have to be ranked, from this one up to that one, lead to a greater value, or to an equal one of a rank found
 abbrev pub AreMet : Query → (ℕ → ℕ) → List (Option ℕ) → List (Option ℕ) → ℕ → ℕ → ℕ → ℕ → Type 0
-AreMet q value choices ranks level s from upto = (c : ℕ) → from ≤ c → c < upto → IsAsked q choices s c → LeadsInto value (IsLow ranks level) s (choice_of q.game s c)
+AreMet q value choices ranks level s from upto = (c : ℕ) → from ≤ c → c < upto → IsAsked q choices s c → LeadsInto value (HasRankWithin ranks level) s (choice_of q.game s c)
 
 -- this one does not
 pub record IsUnmet (q : Query) (value : ℕ → ℕ) (choices ranks : List (Option ℕ)) (level s c : ℕ) : Type 0 where
   pub asked : IsAsked q choices s c
-  pub unmet : ¬ LeadsInto value (IsLow ranks level) s (choice_of q.game s c)
+  pub unmet : ¬ LeadsInto value (HasRankWithin ranks level) s (choice_of q.game s c)
 
 -- the move to the state was followed: the state is behind, or it is the one at hand and the move is of this part
 abbrev pub IsFollowed : List ℕ → ℕ → List Move → ℕ → ℕ → ℕ → Type 0
@@ -39,12 +39,12 @@ pub record IsRanking (q : Query) (value : ℕ → ℕ) (choices : List (Option �
   pub as_many : length awaited ≡ states q
   pub few : length order ≡ count_by is_some ranks
   pub longer : IsLonger old order
-  pub newest : (k : ℕ) → k < length order → IsLow ranks (level + 1) (slice_index order k)
-  pub ranked : (k : ℕ) → k < length old → IsLow ranks level (slice_index old k)
+  pub newest : (k : ℕ) → k < length order → HasRankWithin ranks (level + 1) (slice_index order k)
+  pub ranked : (k : ℕ) → k < length old → HasRankWithin ranks level (slice_index old k)
   pub listed : (s r : ℕ) → slice_index_or ranks s None ≡ Some r → Contains order s
   pub early : (s r : ℕ) → slice_index_or ranks s None ≡ Some r → r ≤ level → Contains old s
   pub layer : (s r : ℕ) → slice_index_or ranks s None ≡ Some r → IsLayer q value choices s r
-  pub full : (s : ℕ) → s < states q → IsWithin q value choices level s → IsLow ranks level s
+  pub full : (s : ℕ) → s < states q → IsWithin q value choices level s → HasRankWithin ranks level s
   pub needs : (s : ℕ) → s < states q → slice_index_or ranks s None ≡ None → NeedsRank q value s
   pub waits : (s : ℕ) → s < bound → s < states q → slice_index_or ranks s None ≡ None → Waits q value choices level (take place old) hand part s (slice_index awaited s)
 
@@ -59,7 +59,7 @@ pub record WaitsOn (q : Query) (value : ℕ → ℕ) (choices : List (Option ℕ
   pub new_order : order' ≡ order
 
 pub record Joins (q : Query) (value : ℕ → ℕ) (choices : List (Option ℕ)) (level s from : ℕ) (ranks : List (Option ℕ)) (awaited order : List ℕ) (ranks' : List (Option ℕ)) (awaited' order' : List ℕ) : Type 0 where
-  pub met : (c : ℕ) → from ≤ c → IsAsked q choices s c → LeadsInto value (IsLow ranks level) s (choice_of q.game s c)
+  pub met : (c : ℕ) → from ≤ c → IsAsked q choices s c → LeadsInto value (HasRankWithin ranks level) s (choice_of q.game s c)
   pub new_ranks : ranks' ≡ slice_set ranks s (Some (level + 1))
   pub new_awaited : awaited' ≡ awaited
   pub new_order : order' ≡ order ++ s ∷ []
@@ -72,7 +72,7 @@ MovesOn q value choices level s from ranks awaited order ranks' awaited' order' 
 pub record Advances (q : Query) (value : ℕ → ℕ) (choices : List (Option ℕ)) (level hand : ℕ) (part part' : List Move) (ranks : List (Option ℕ)) (awaited order : List ℕ) (ranks' : List (Option ℕ)) (awaited' order' : List ℕ) : Type 0 where
   pub many : length ranks' ≡ states q
   pub as_many : length awaited' ≡ states q
-  pub low : IsLow ranks' level hand
+  pub low : HasRankWithin ranks' level hand
   pub grown : (old : List ℕ) (place : ℕ) → IsRanking q value choices (states q) level old place hand part ranks awaited order
       → IsRanking q value choices (states q) level old place hand part' ranks' awaited' order'
 

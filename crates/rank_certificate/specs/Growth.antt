@@ -6,7 +6,7 @@ use Rattle.game_model.specs.Growing.{IsLonger}
 use Rattle.predecessors.specs.declared.lists.Move.{Move}
 use Rattle.predecessors.specs.Moves.{move, LeadsTo}
 use Rattle.rank_certificate.specs.Ranking.{NeedsRank}
-use Rattle.rank_certificate.specs.Growing.{IsLow}
+use Rattle.rank_certificate.specs.Growing.{HasRankWithin}
 use Rattle.rank_certificate.specs.Carrying.{Carries, IsCarriedBy, IsCarried, IsCarriedAt, IsChosen, IsChosenAt}
 
 -- the states up to this layer are found. Those of the layer stand in the old order from a place on, and those of the next one in the order after the old one.
@@ -21,7 +21,7 @@ pub record IsGrowth (q : Query) (value : ℕ → ℕ) (level begin : ℕ) (old :
   pub next : (s : ℕ) → slice_index_or ranks s None ≡ Some (level + 1) → (k : ℕ) × (length old ≤ k) × (k < length order) × (slice_index order k ≡ s)
   pub layer : (s r : ℕ) → slice_index_or ranks s None ≡ Some r → IsCarriedAt q value s r
   pub chosen : (s r : ℕ) → slice_index_or ranks s None ≡ Some r → IsChosenAt q value s r (slice_index_or choices s None)
-  pub full : (s : ℕ) → s < states q → IsCarried q value level s → IsLow ranks level s
+  pub full : (s : ℕ) → s < states q → IsCarried q value level s → HasRankWithin ranks level s
   pub needs : (s : ℕ) → s < states q → slice_index_or ranks s None ≡ None → NeedsRank q value s
 
 -- the state has no rank, and is of no layer up to the next one
@@ -35,16 +35,16 @@ IsApartBy q value level ranks s c =
 
 -- a state was looked at: it stays as it is, or joins the next layer
 pub record Stays (q : Query) (value : ℕ → ℕ) (level s : ℕ) (ranks choices : List (Option ℕ)) (order : List ℕ) (ranks' choices' : List (Option ℕ)) (order' : List ℕ) : Type 0 where
-  pub left : slice_index_or ranks s None ≡ None → ¬ IsCarriedBy (side_at q s) q value (IsLow ranks level) s
+  pub left : slice_index_or ranks s None ≡ None → ¬ IsCarriedBy (side_at q s) q value (HasRankWithin ranks level) s
   pub new_ranks : ranks' ≡ ranks
   pub new_choices : choices' ≡ choices
   pub new_order : order' ≡ order
 
 pub record Joins (q : Query) (value : ℕ → ℕ) (level s : ℕ) (ranks choices : List (Option ℕ)) (order : List ℕ) (ranks' choices' : List (Option ℕ)) (order' : List ℕ) : Type 0 where
   pub none : slice_index_or ranks s None ≡ None
-  pub carried : IsCarriedBy (side_at q s) q value (IsLow ranks level) s
+  pub carried : IsCarriedBy (side_at q s) q value (HasRankWithin ranks level) s
   pub choice : Option ℕ
-  pub chosen : IsChosen (side_at q s) q value (IsLow ranks level) s choice
+  pub chosen : IsChosen (side_at q s) q value (HasRankWithin ranks level) s choice
   pub new_ranks : ranks' ≡ slice_set ranks s (Some (level + 1))
   pub new_choices : choices' ≡ slice_set choices s choice
   pub new_order : order' ≡ order ++ s ∷ []

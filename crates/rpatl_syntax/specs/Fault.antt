@@ -1,5 +1,5 @@
--- Faults of a text, and what a call that takes memory answers.
-use Rattle.std.specs.Prelude.{◌≡◌, ◌⊎◌, ℕ, Result, Ok, Err}
+-- Faults of a text.
+use Rattle.std.specs.Prelude.{◌≡◌, ℕ, Result, Ok, Err}
 use Rattle.rpatl_syntax.specs.declared.fault.FormulaFault.{FormulaFault}
 use Rattle.rpatl_syntax.specs.declared.fault.FormulaCause.{FormulaCause}
 use Rattle.rpatl_syntax.specs.declared.fault.FormulaCause.TheVariants.{OutOfMemory}
@@ -11,14 +11,9 @@ abbrev pub IsOutOfMemory : FormulaFault → Type 0
 IsOutOfMemory fault = fault ≡ fault_at 0 OutOfMemory
 
 -- a result, seen by view, is this one
-abbrev pub Says : {X Y : Type 0} → (X → Y) → Result X FormulaFault → Result Y FormulaFault → Type 0
-Says view (Ok x) said = said ≡ Ok (view x)
-Says view (Err fault) said = said ≡ Err fault
-
--- a result, seen by view, is this one, or memory was wanting
-abbrev pub Gives : {X Y : Type 0} → (X → Y) → Result X FormulaFault → Result Y FormulaFault → Type 0
-Gives view (Ok x) said = said ≡ Ok (view x)
-Gives view (Err fault) said = IsOutOfMemory fault ⊎ (said ≡ Err fault)
+abbrev pub IsResult : {X Y : Type 0} → (X → Y) → Result X FormulaFault → Result Y FormulaFault → Type 0
+IsResult view (Ok x) said = said ≡ Ok (view x)
+IsResult view (Err fault) said = said ≡ Err fault
 
 -- what is read first decides, and its fault is the first
 infixl 10 ◌>>=◌

@@ -1,7 +1,7 @@
 //! Deadlines of paths.
 
 ghost use Rattle.std.specs.Prelude.{◌≡◌};
-ghost use Rattle.rpatl_syntax.specs.Fault.{Says};
+ghost use Rattle.rpatl_syntax.specs.Fault.{IsResult};
 ghost use Rattle.rpatl_syntax.specs.Grammar.{steps, deadline};
 ghost use Rattle.rpatl_syntax.specs.Cursor.{tokens_at, token_of, kind_at};
 
@@ -14,7 +14,7 @@ use text_lines::whole;
 
 /// The number of steps that `<=` sets a path, where one stands.
 pub fn read_deadline<'a>(cursor: Cursor<'a>) -> Result<(PathKind, Cursor<'a>), FormulaFault>
-    ensures { Says kind_at result (deadline (tokens_at cursor.entry)) }
+    ensures { IsResult kind_at result (deadline (tokens_at cursor.entry)) }
 {
     let Some(behind_sign) = behind_if(cursor, "<=") else {
         return Ok((PathKind::Until, cursor));
@@ -26,7 +26,7 @@ pub fn read_deadline<'a>(cursor: Cursor<'a>) -> Result<(PathKind, Cursor<'a>), F
 
 // A whole number of steps, which are not too many.
 fn steps_in(token: &Token<'_>) -> Result<u32, FormulaFault>
-    ensures { Says (λ value. value) result (steps (token_of token.now)) }
+    ensures { IsResult (λ value. value) result (steps (token_of token.now)) }
 {
     if !token.is_number() {
         return Err(token.fault(FormulaCause::Unexpected));

@@ -1,7 +1,8 @@
 //! What stands before the `[` of a formula: a coalition and a bound.
 
 ghost use Rattle.std.specs.Prelude.{◌≡◌, ◌++◌, ◌∷◌, [], OnOk, IfErr};
-ghost use Rattle.rpatl_syntax.specs.Fault.{Gives, Says, IsOutOfMemory};
+ghost use Rattle.game_outside.specs.Answers.{AnswersOrWants};
+ghost use Rattle.rpatl_syntax.specs.Fault.{IsResult, IsOutOfMemory};
 ghost use Rattle.rpatl_syntax.specs.Bounds.{bound_with};
 ghost use Rattle.rpatl_syntax.specs.Grammar.{names, coalition, threshold, comparison, bound, inner_bound, compared, is_word};
 ghost use Rattle.rpatl_syntax.specs.Cursor.{tokens_at, token_of, names_at, team_at, bound_at};
@@ -22,7 +23,7 @@ pub fn read_coalition<'a>(
     alloc: Global,
     cursor: Cursor<'a>,
 ) -> Result<(Option<Names>, Cursor<'a>), FormulaFault>
-    ensures { Gives team_at result (coalition (tokens_at cursor.entry)) }
+    ensures { AnswersOrWants IsOutOfMemory team_at result (coalition (tokens_at cursor.entry)) }
 {
     let Some(inside) = behind_if(cursor, "<<") else {
         return Ok((None, cursor));
@@ -37,7 +38,7 @@ pub fn read_coalition<'a>(
 
 // One or more names, and `>>` behind them.
 fn read_names<'a>(alloc: Global, cursor: Cursor<'a>) -> Result<(Names, Cursor<'a>), FormulaFault>
-    ensures { Gives names_at result (names (tokens_at cursor.entry)) }
+    ensures { AnswersOrWants IsOutOfMemory names_at result (names (tokens_at cursor.entry)) }
 {
     let mut list = Vec::new(alloc);
     let mut rest = cursor;
@@ -79,7 +80,7 @@ fn add_name(alloc: Global, list: &mut Vec<Name>, word: &[u8]) -> Result<(), Form
 
 /// A bound on the probability.
 pub fn read_bound<'a>(cursor: Cursor<'a>) -> ReadBound<'a>
-    ensures { Says bound_at result (bound (tokens_at cursor.entry)) }
+    ensures { IsResult bound_at result (bound (tokens_at cursor.entry)) }
 {
     let token = next_token(cursor)?;
     if token.is("P") {
@@ -95,7 +96,7 @@ pub fn read_bound<'a>(cursor: Cursor<'a>) -> ReadBound<'a>
 
 /// The bound of a formula inside, which compares with a threshold.
 pub fn read_inner_bound<'a>(cursor: Cursor<'a>) -> ReadBound<'a>
-    ensures { Says bound_at result (inner_bound (tokens_at cursor.entry)) }
+    ensures { IsResult bound_at result (inner_bound (tokens_at cursor.entry)) }
 {
     let token = next_token(cursor)?;
     if token.is("P") {
@@ -108,7 +109,7 @@ pub fn read_inner_bound<'a>(cursor: Cursor<'a>) -> ReadBound<'a>
 }
 
 fn read_comparison<'a>(cursor: Cursor<'a>) -> ReadBound<'a>
-    ensures { Says bound_at result (comparison (tokens_at cursor.entry)) }
+    ensures { IsResult bound_at result (comparison (tokens_at cursor.entry)) }
 {
     let sign = next_token(cursor)?;
     if sign.is(">=") {
@@ -129,7 +130,7 @@ fn read_threshold<'a>(
     comparison: Comparison,
     cursor: Cursor<'a>,
 ) -> Result<(Bound, Cursor<'a>), FormulaFault>
-    ensures { Says bound_at result (compared (bound_with comparison) (tokens_at cursor.entry)) }
+    ensures { IsResult bound_at result (compared (bound_with comparison) (tokens_at cursor.entry)) }
 {
     let token = next_token(cursor)?;
     let threshold = threshold_in(&token)?;
@@ -138,7 +139,7 @@ fn read_threshold<'a>(
 
 // A number that is at most 1.
 fn threshold_in(token: &Token<'_>) -> Result<Frac, FormulaFault>
-    ensures { Says (λ value. value) result (threshold (token_of token.now)) }
+    ensures { IsResult (λ value. value) result (threshold (token_of token.now)) }
 {
     if !token.is_number() {
         return Err(token.fault(FormulaCause::Unexpected));

@@ -1,7 +1,8 @@
 //! Formulas.
 
 ghost use Rattle.std.specs.Prelude.{◌≡◌, option_map, Ok, IfOk};
-ghost use Rattle.rpatl_syntax.specs.Fault.{Gives};
+ghost use Rattle.game_outside.specs.Answers.{AnswersOrWants};
+ghost use Rattle.rpatl_syntax.specs.Fault.{IsOutOfMemory};
 ghost use Rattle.rpatl_syntax.specs.Formula.{Tree, tree_of, names_of};
 ghost use Rattle.rpatl_syntax.specs.Grammar.{formula, formula_said, behind_bound};
 ghost use Rattle.rpatl_syntax.specs.Rules.{Denotes};
@@ -21,15 +22,15 @@ use std::alloc::Global;
 pub fn read_formula(alloc: Global, text: &str) -> Result<Formula, FormulaFault>
     // What is read is what the text spells, and nothing but the first fault refuses a text.
     ensures found { IfOk result (λ formula. Denotes text.now (tree_of formula)) }
-    ensures only { (tree : Tree) → Denotes text.now tree → Gives tree_of result (Ok tree) }
-    ensures exact { Gives tree_of result (formula_said text.now) }
+    ensures only { (tree : Tree) → Denotes text.now tree → AnswersOrWants IsOutOfMemory tree_of result (Ok tree) }
+    ensures exact { AnswersOrWants IsOutOfMemory tree_of result (formula_said text.now) }
 {
     read_exact(alloc, text.as_bytes())
 }
 
 #[tactic(auto, unfolding(crate::specs::Grammar::formula_said))]
 fn read_exact(alloc: Global, text: &[u8]) -> Result<Formula, FormulaFault>
-    ensures { Gives tree_of result (formula_said text.now) }
+    ensures { AnswersOrWants IsOutOfMemory tree_of result (formula_said text.now) }
 {
     if text.len() > LONGEST {
         return Err(FormulaFault::new(LONGEST as u32, FormulaCause::TooLong));
@@ -44,7 +45,7 @@ fn read_exact(alloc: Global, text: &[u8]) -> Result<Formula, FormulaFault>
 }
 
 fn whole(alloc: Global, cursor: Cursor<'_>) -> Result<Formula, FormulaFault>
-    ensures { Gives tree_of result (formula (tokens_at cursor.entry)) }
+    ensures { AnswersOrWants IsOutOfMemory tree_of result (formula (tokens_at cursor.entry)) }
 {
     let (coalition, rest) = read_coalition(alloc, cursor)?;
     match read_bound(rest) {
@@ -60,7 +61,7 @@ fn behind_bound(
     bound: Bound,
     cursor: Cursor<'_>,
 ) -> Result<Formula, FormulaFault>
-    ensures { Gives tree_of result (behind_bound (option_map names_of coalition) bound (tokens_at cursor.entry)) }
+    ensures { AnswersOrWants IsOutOfMemory tree_of result (behind_bound (option_map names_of coalition) bound (tokens_at cursor.entry)) }
 {
     let (kind, left, right, rest) = read_sides(alloc, MOST_NESTED + 1, cursor)?;
     match next_lead(rest) {

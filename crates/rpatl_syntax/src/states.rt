@@ -1,7 +1,8 @@
 //! State formulas, the formulas inside them and their paths.
 
 ghost use Rattle.std.specs.Prelude.{◌≡◌, MatchResult, option_map};
-ghost use Rattle.rpatl_syntax.specs.Fault.{Gives, IsOutOfMemory};
+ghost use Rattle.game_outside.specs.Answers.{AnswersOrWants};
+ghost use Rattle.rpatl_syntax.specs.Fault.{IsOutOfMemory};
 ghost use Rattle.rpatl_syntax.specs.Formula.{state_of, names_of};
 ghost use Rattle.rpatl_syntax.specs.Grammar.{plain, begins_formula, unary, inner, sides, nested, implied, right_side, reached, path, unquoted};
 ghost use Rattle.rpatl_syntax.specs.Levels.{level_of, operand_of};
@@ -25,7 +26,7 @@ pub type ReadPath<'a> = Result<(PathKind, StateFormula, StateFormula, Cursor<'a>
 
 // `true`, `false` or a quoted name.
 fn plain_state<'a>(alloc: Global, token: Token<'a>) -> Read<'a>
-    ensures { Gives state_at result (plain (token_of token.entry)) }
+    ensures { AnswersOrWants IsOutOfMemory state_at result (plain (token_of token.entry)) }
 {
     if token.is("true") {
         Ok((StateFormula::All, token.after))
@@ -57,7 +58,7 @@ fn label(alloc: Global, spelling: &[u8]) -> Result<Name, FormulaFault>
 #[tactic(auto, using(crate::proofs::Joining::begun, crate::proofs::Joining::went_on, crate::proofs::Joining::broke_off, crate::proofs::Joining::ended))]
 #[cycle(state)]
 fn level_state<'a>(alloc: Global, level: Level, room: u32, cursor: Cursor<'a>) -> Read<'a>
-    ensures { Gives state_at result (level_of level (unary (nested room)) (tokens_at cursor.entry)) }
+    ensures { AnswersOrWants IsOutOfMemory state_at result (level_of level (unary (nested room)) (tokens_at cursor.entry)) }
 {
     let (mut left, mut rest) = operand_state(alloc, level, room, cursor)?;
     while let Some(after) = behind_if(rest, level.sign()) {
@@ -71,7 +72,7 @@ fn level_state<'a>(alloc: Global, level: Level, room: u32, cursor: Cursor<'a>) -
 // What stands between the signs of a level.
 #[cycle(state)]
 fn operand_state<'a>(alloc: Global, level: Level, room: u32, cursor: Cursor<'a>) -> Read<'a>
-    ensures { Gives state_at result (operand_of level (unary (nested room)) (tokens_at cursor.entry)) }
+    ensures { AnswersOrWants IsOutOfMemory state_at result (operand_of level (unary (nested room)) (tokens_at cursor.entry)) }
 {
     match level {
         Level::Implication => level_state(alloc, Level::Disjunction, room, cursor),
@@ -82,7 +83,7 @@ fn operand_state<'a>(alloc: Global, level: Level, room: u32, cursor: Cursor<'a>)
 
 #[cycle(state)]
 fn unary_state<'a>(alloc: Global, room: u32, cursor: Cursor<'a>) -> Read<'a>
-    ensures { Gives state_at result (unary (nested room) (tokens_at cursor.entry)) }
+    ensures { AnswersOrWants IsOutOfMemory state_at result (unary (nested room) (tokens_at cursor.entry)) }
 {
     let token = next_token(cursor)?;
     if token.is("!") || token.is("(") {
@@ -104,7 +105,7 @@ fn begins_formula(token: &Token<'_>) -> bool
 #[tactic(auto, using(crate::proofs::Joining::nested_within, crate::proofs::Joining::nested_without))]
 #[cycle(state)]
 fn nested_state<'a>(alloc: Global, room: u32, token: Token<'a>) -> Read<'a>
-    ensures { Gives state_at result ((nested room).state (token_of token.entry)) }
+    ensures { AnswersOrWants IsOutOfMemory state_at result ((nested room).state (token_of token.entry)) }
 {
     if room == 0 {
         return Err(token.fault(FormulaCause::TooDeep));
@@ -122,7 +123,7 @@ fn nested_state<'a>(alloc: Global, room: u32, token: Token<'a>) -> Read<'a>
 // A formula inside.
 #[cycle(state)]
 fn inner_state<'a>(alloc: Global, room: u32, cursor: Cursor<'a>) -> Read<'a>
-    ensures { Gives state_at result (inner (nested room) (tokens_at cursor.entry)) }
+    ensures { AnswersOrWants IsOutOfMemory state_at result (inner (nested room) (tokens_at cursor.entry)) }
 {
     let (coalition, rest) = read_coalition(alloc, cursor)?;
     match read_inner_bound(rest) {
@@ -139,7 +140,7 @@ fn inner_state<'a>(alloc: Global, room: u32, cursor: Cursor<'a>) -> Read<'a>
 #[tactic(auto, using(crate::proofs::Joining::path_within, crate::proofs::Joining::path_without))]
 #[cycle(state)]
 pub fn read_sides<'a>(alloc: Global, room: u32, cursor: Cursor<'a>) -> ReadPath<'a>
-    ensures { Gives path_at result (sides (nested room) (tokens_at cursor.entry)) }
+    ensures { AnswersOrWants IsOutOfMemory path_at result (sides (nested room) (tokens_at cursor.entry)) }
 {
     let token = next_token(cursor)?;
     if !token.is("[") {
@@ -156,7 +157,7 @@ pub fn read_sides<'a>(alloc: Global, room: u32, cursor: Cursor<'a>) -> ReadPath<
 // A path. `F`, `X` and `G` have `true` on the left.
 #[cycle(state)]
 fn read_path<'a>(alloc: Global, room: u32, cursor: Cursor<'a>) -> ReadPath<'a>
-    ensures { Gives path_at result (path (implied (unary (nested room))) (tokens_at cursor.entry)) }
+    ensures { AnswersOrWants IsOutOfMemory path_at result (path (implied (unary (nested room))) (tokens_at cursor.entry)) }
 {
     let token = next_token(cursor)?;
     if token.is("F") {
@@ -187,7 +188,7 @@ fn read_reached<'a>(
     left: StateFormula,
     cursor: Cursor<'a>,
 ) -> ReadPath<'a>
-    ensures { Gives path_at result (reached (implied (unary (nested room))) (state_of left) (tokens_at cursor.entry)) }
+    ensures { AnswersOrWants IsOutOfMemory path_at result (reached (implied (unary (nested room))) (state_of left) (tokens_at cursor.entry)) }
 {
     match read_deadline(cursor) {
         Ok((kind, rest)) => read_right(alloc, room, kind, left, rest),
@@ -204,7 +205,7 @@ fn read_right<'a>(
     left: StateFormula,
     cursor: Cursor<'a>,
 ) -> ReadPath<'a>
-    ensures { Gives path_at result (right_side (implied (unary (nested room))) kind (state_of left) (tokens_at cursor.entry)) }
+    ensures { AnswersOrWants IsOutOfMemory path_at result (right_side (implied (unary (nested room))) kind (state_of left) (tokens_at cursor.entry)) }
 {
     let (right, rest) = level_state(alloc, Level::Implication, room, cursor)?;
     Ok((kind, left, right, rest))

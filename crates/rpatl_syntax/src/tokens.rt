@@ -1,7 +1,7 @@
 //! A text as tokens, one after another.
 
 ghost use Rattle.std.specs.Prelude.{◌≡◌, ◌≤◌, ◌<◌, ◌+◌, length, take, drop, bytes_eq, option_map};
-ghost use Rattle.rpatl_syntax.specs.Fault.{Says, fault_at};
+ghost use Rattle.rpatl_syntax.specs.Fault.{IsResult, fault_at};
 ghost use Rattle.rpatl_syntax.specs.Grammar.{next, behind, follows, is_number};
 ghost use Rattle.rpatl_syntax.specs.Tokens.{Finish, Broken, Then, tokens_from};
 ghost use Rattle.rpatl_syntax.specs.Limits.{longest};
@@ -97,7 +97,7 @@ fn cut<'a>(place: u32, rest: &'a [u8], count: usize) -> Lead<'a>
 
 /// The next token, which has to be there.
 pub fn next_token<'a>(cursor: Cursor<'a>) -> Result<Token<'a>, FormulaFault>
-    ensures { Says token_of result (next (tokens_at cursor.entry)) }
+    ensures { IsResult token_of result (next (tokens_at cursor.entry)) }
 {
     match next_lead(cursor) {
         Lead::Token(token) => Ok(token),
@@ -108,7 +108,7 @@ pub fn next_token<'a>(cursor: Cursor<'a>) -> Result<Token<'a>, FormulaFault>
 
 /// What is left behind this token, which has to stand next.
 pub fn behind<'a>(cursor: Cursor<'a>, spelling: &str) -> Result<Cursor<'a>, FormulaFault>
-    ensures { Says tokens_at result (behind spelling.now (tokens_at cursor.entry)) }
+    ensures { IsResult tokens_at result (behind spelling.now (tokens_at cursor.entry)) }
 {
     let token = next_token(cursor)?;
     if token.is(spelling) {

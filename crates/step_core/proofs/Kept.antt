@@ -9,11 +9,11 @@ use Rattle.game_model.specs.Rounded.{down_steps, opening, IsBelow}
 use Rattle.step_core.specs.declared.event.Event.{Event}
 use Rattle.step_core.specs.declared.event.Event.TheVariants.{Load, Won, Lost, Split, Join}
 use Rattle.step_core.specs.Word.{value_in, value_at, greater_words, opening_words}
-use Rattle.step_core.specs.Sound.{IsSound, Sees}
+use Rattle.step_core.specs.Sound.{AreSoundWords, Sees}
 use Rattle.step_core.specs.Configuration.{Configuration, view_of, seen_by, opening_configuration, IsWorld}
 use Rattle.step_core.specs.Events.{IsLive, Raises, Lawful, looked, after, wins, Leads}
 use Rattle.step_core.proofs.Sights.{Sees-raised, Sees-looked, Sees-both}
-use Rattle.step_core.proofs.Words.{IsSound-goals, IsSound-won, raised-within, IsSound-opening, opening_words-value, Sees-itself}
+use Rattle.step_core.proofs.Words.{AreSoundWords-goals, AreSoundWords-won, raised-within, AreSoundWords-opening, opening_words-value, Sees-itself}
 
 abbrev Views : Type 0
 Views = List (Option (List ℕ))
@@ -66,7 +66,7 @@ looked-keeps w view state k live inside = record {
   question = k.question;
   words = k.words;
   views = views_with w.question w.words w.views view (Some (slice_set (seen_by w view) state (slice_index w.words state))) k.views
-      (only w.question w.words _ (Sees-looked w.question w.words (seen_by w view) state inside (IsSound-goals w.question w.words k.words) (Sees-seen_by w view k live)));
+      (only w.question w.words _ (Sees-looked w.question w.words (seen_by w view) state inside (AreSoundWords-goals w.question w.words k.words) (Sees-seen_by w view k live)));
 }
 
 pub raised-keeps : (w : Configuration) (view state from to : ℕ) → IsWorld w → Raises w view state from to → IsWorld (looked (record w { words = slice_set w.words state to }) view state)
@@ -75,12 +75,12 @@ raised-keeps w view state from to k r =
     let mine : Sees q w.words (seen_by w view) = Sees-seen_by w view k r.live in
     let there : state < length w.words = subst (λ n. state < n) (sym k.words.as_many) r.inside in
     let up : value_at w.words state < value_in to = subst (λ n. value_in n < value_in to) (sym r.is_from) r.raised in
-    let sound : IsSound q (set w.words state to) = IsSound-won q k.question w.words (seen_by w view) state to r.inside r.free k.words.as_many mine up r.given k.words in record {
+    let sound : AreSoundWords q (set w.words state to) = AreSoundWords-won q k.question w.words (seen_by w view) state to r.inside r.free k.words.as_many mine up r.given k.words in record {
       question = k.question;
       words = sound;
       views = views_with q (set w.words state to) w.views view (Some (set (seen_by w view) state (slice_index (set w.words state to) state)))
           (λ j seen is. Sees-raised q w.words seen state to there up (k.views j seen is))
-          (only q (set w.words state to) _ (Sees-looked q (set w.words state to) (seen_by w view) state r.inside (IsSound-goals q (set w.words state to) sound) (Sees-raised q w.words (seen_by w view) state to there up mine)));
+          (only q (set w.words state to) _ (Sees-looked q (set w.words state to) (seen_by w view) state r.inside (AreSoundWords-goals q (set w.words state to) sound) (Sees-raised q w.words (seen_by w view) state to there up mine)));
     }
 
 pub split-keeps : (w : Configuration) (view : ℕ) → IsWorld w → IsLive w view → IsWorld (after w (Split view))
@@ -111,10 +111,10 @@ after-keeps w (Split view) k lawful = split-keeps w view k lawful
 after-keeps w (Join view other) k lawful = join-keeps w view other k lawful.0 lawful.1
 
 pub opening-keeps : (q : Query) → IsQuery q → IsWorld (opening_configuration q)
-opening-keeps q h = record { question = h; words = IsSound-opening q h; views = one }
+opening-keeps q h = record { question = h; words = AreSoundWords-opening q h; views = one }
   where
     one : (j : ℕ) (seen : List ℕ) → view_of (opening_configuration q) j ≡ Some seen → Sees q (opening_configuration q).words seen
-    one zero seen is = only q _ _ (Sees-itself q _ (IsSound-opening q h)) seen is
+    one zero seen is = only q _ _ (Sees-itself q _ (AreSoundWords-opening q h)) seen is
     one (suc j) seen is = absurd (none-some seen is)
 
 -- and so does every list of them

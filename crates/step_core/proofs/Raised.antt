@@ -13,8 +13,8 @@ use Rattle.game_model.specs.Rounded.{down_value, IsBelow}
 use Rattle.game_model.specs.Ranks.{IsRankedChoice, HasRankedChoice, Ranked}
 use Rattle.game_model.proofs.Each.{AllByRecursion-at}
 use Rattle.game_model.proofs.Choices.{IsChoiceOf}
-use Rattle.fixed_bellman.specs.Given.{IsFree, Gives}
-use Rattle.fixed_bellman.proofs.Tables.{choice_fits, weighted_sum-rises, down_value-pays, leads_high, Gives-units}
+use Rattle.fixed_bellman.specs.Given.{IsFree, IsGivenBy}
+use Rattle.fixed_bellman.proofs.Tables.{choice_fits, weighted_sum-rises, down_value-pays, leads_high, IsGivenBy-units}
 
 -- a rank above all others
 abbrev pub next_rank : List ℕ → ℕ
@@ -27,7 +27,7 @@ below_next ranks s = elim (cases_lt s (length ranks)) [
 ]
 
 module _ (q : Query) (h : IsQuery q) (v : List ℕ) (picks : List (Option ℕ)) (ranks : List ℕ) (seen : ℕ → ℕ) (i x c : ℕ) (inside : i < states q) (values_many : length v ≡ states q) (picks_many : length picks ≡ states q) (ranks_many : length ranks ≡ states q)
-    (free : IsFree q i) (k : Ranked q v picks ranks) (low : IsBelow q seen (slice_index v)) (up : slice_index v i < x) (given : Gives q seen i x c) where
+    (free : IsFree q i) (k : Ranked q v picks ranks) (low : IsBelow q seen (slice_index v)) (up : slice_index v i < x) (given : IsGivenBy q seen i x c) where
   abbrev new : ℕ → ℕ
   new = slice_index (set v i x)
 
@@ -107,7 +107,7 @@ module _ (q : Query) (h : IsQuery q) (v : List ℕ) (picks : List (Option ℕ)) 
 
   pub Ranked-raised : Ranked q (set v i x) (set picks i (Some c)) (set ranks i (next_rank ranks))
   Ranked-raised =
-      let units : x ≤ unit = Gives-units q seen i x c h inside (λ t l. omega (arith, low t l, k.units t l)) given in record {
+      let units : x ≤ unit = IsGivenBy-units q seen i x c h inside (λ t l. omega (arith, low t l, k.units t l)) given in record {
         units = λ s l. elim (cases_eq s i) [ inl same ↦ rw same (rw value_here units) | inr other ↦ rw (value_else s other) (k.units s l) ];
         goals = λ s l goal. value_else s (not_goal s goal) ∙ k.goals s l goal;
         deads = λ s l dead. value_else s (not_dead s dead) ∙ k.deads s l dead;

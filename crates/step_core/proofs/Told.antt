@@ -15,10 +15,10 @@ use Rattle.step_core.specs.declared.event.Event.TheVariants.{Load, Won, Lost, Sp
 use Rattle.step_core.specs.declared.event.Refused.{Refused}
 use Rattle.step_core.specs.declared.event.Refused.TheVariants.{OutOfMemory, NoView, SameView, NoState, FixedState, BadChoice, NotFrom, NotRaised, TooHigh, SameWord}
 use Rattle.step_core.specs.Word.{value_in, choice_in, value_at}
-use Rattle.fixed_bellman.specs.Given.{IsFree, Gives}
+use Rattle.fixed_bellman.specs.Given.{IsFree, IsGivenBy}
 use Rattle.step_core.specs.Configuration.{Configuration, view_of, seen_by}
 use Rattle.step_core.specs.Events.{IsLive, Raises, Lawful, on_side, is_bad_choice, given_by, unless_there, unless_raised, reasons, first_of, Answers}
-use Rattle.fixed_bellman.proofs.Tables.{free_step, Gives-below}
+use Rattle.fixed_bellman.proofs.Tables.{free_step, IsGivenBy-below}
 
 -- the first reason does not hold
 skips : (holds : Bool) (reason : Refused) (rest : Option Refused) → holds ≡ false → (if holds then Some reason else rest) ≡ rest
@@ -85,22 +85,22 @@ none-there w view state others none =
     record { live = live-is_none (view_of w view) a.fails; inside = inside-of (states w.question) state b.fails; none = b.none }
 
 -- what gives a value, by tests
-bad_choice-given : (q : Query) (table : ℕ → ℕ) (s value choice : ℕ) (side : Side) → side_at q s ≡ side → Gives q table s value choice → on_side side (nat_le (length (choices_of q.game s)) choice) (not (choice == 0)) ≡ false
+bad_choice-given : (q : Query) (table : ℕ → ℕ) (s value choice : ℕ) (side : Side) → side_at q s ≡ side → IsGivenBy q table s value choice → on_side side (nat_le (length (choices_of q.game s)) choice) (not (choice == 0)) ≡ false
 bad_choice-given q table s value choice Max is given = within (length (choices_of q.game s)) choice (given.greatest is).0
 bad_choice-given q table s value choice Min is given = not-false (choice == 0) (eq-eqb choice 0 (given.least is).0)
 
-too_high-given : (q : Query) (table : ℕ → ℕ) (s value choice : ℕ) (side : Side) → side_at q s ≡ side → IsQuery q → s < states q → IsFree q s → Gives q table s value choice
+too_high-given : (q : Query) (table : ℕ → ℕ) (s value choice : ℕ) (side : Side) → side_at q s ≡ side → IsQuery q → s < states q → IsFree q s → IsGivenBy q table s value choice
     → nat_lt (on_side side (down_value table (choice_of q.game s choice)) (down_step q table s)) value ≡ false
 too_high-given q table s value choice Max is h inside free given = below-false _ value (given.greatest is).1
-too_high-given q table s value choice Min is h inside free given = below-false _ value (Gives-below q table s value choice h inside free given)
+too_high-given q table s value choice Min is h inside free given = below-false _ value (IsGivenBy-below q table s value choice h inside free given)
 
-pub Gives-tests : (q : Query) (table : ℕ → ℕ) (s value choice : ℕ) (side : Side) → side_at q s ≡ side → IsFree q s → on_side side (nat_le (length (choices_of q.game s)) choice) (not (choice == 0)) ≡ false
-    → nat_lt (on_side side (down_value table (choice_of q.game s choice)) (down_step q table s)) value ≡ false → Gives q table s value choice
-Gives-tests q table s value choice Max is free good low = record {
+pub IsGivenBy-tests : (q : Query) (table : ℕ → ℕ) (s value choice : ℕ) (side : Side) → side_at q s ≡ side → IsFree q s → on_side side (nat_le (length (choices_of q.game s)) choice) (not (choice == 0)) ≡ false
+    → nat_lt (on_side side (down_value table (choice_of q.game s choice)) (down_step q table s)) value ≡ false → IsGivenBy q table s value choice
+IsGivenBy-tests q table s value choice Max is free good low = record {
   greatest = λ _. (inside-of (length (choices_of q.game s)) choice good, false-below _ value low);
   least = λ other. let apart : Max ≡ Min = sym is ∙ other in absurd (cc);
 }
-Gives-tests q table s value choice Min is free good low = record {
+IsGivenBy-tests q table s value choice Min is free good low = record {
   greatest = λ other. let apart : Min ≡ Max = sym is ∙ other in absurd (cc);
   least = λ _.
       let below : value ≤ down_step q table s = false-below _ value low in
@@ -140,7 +140,7 @@ none-Won w view state from to none =
       free = free;
       is_from = eqb-true _ _ (false-not _ not_from.fails);
       raised = inside-of (value_in to) (value_in from) not_raised.fails;
-      given = Gives-tests q table state (value_in to) (choice_in to) (side_at q state) refl free bad.fails high.fails;
+      given = IsGivenBy-tests q table state (value_in to) (choice_in to) (side_at q state) refl free bad.fails high.fails;
     }
 
 -- the tests of a won exchange, in their order

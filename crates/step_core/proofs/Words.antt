@@ -10,9 +10,9 @@ use Rattle.game_model.specs.Rounded.{down_step, down_steps, opening, IsBelow}
 use Rattle.game_model.proofs.Choices.{AreChoicesOf, AreChoicesOf-choices_of}
 use Rattle.game_laws.proofs.Steps.{down_step-le, down_steps-rises}
 use Rattle.step_core.specs.Word.{packed, value_in, choice_in, value_at, values_of, picks_of, opening_words, opening_word}
-use Rattle.step_core.specs.Sound.{IsSound, Sees}
-use Rattle.fixed_bellman.specs.Given.{IsFree, Gives}
-use Rattle.fixed_bellman.proofs.Tables.{Gives-below}
+use Rattle.step_core.specs.Sound.{AreSoundWords, Sees}
+use Rattle.fixed_bellman.specs.Given.{IsFree, IsGivenBy}
+use Rattle.fixed_bellman.proofs.Tables.{IsGivenBy-below}
 use Rattle.step_core.proofs.Raised.{next_rank, Ranked-raised}
 use Rattle.step_core.proofs.Sights.{value_at-here, value_at-else, Sees-below}
 
@@ -26,15 +26,15 @@ pub values_of-is : (words : List ℕ) → slice_index (values_of words) ≡ valu
 values_of-is words = λ k s. values_of-at words s k
 
 -- goals have the unit
-pub IsSound-goals : (q : Query) (words : List ℕ) → IsSound q words → (s : ℕ) → s < states q → is_goal q s ≡ true → value_at words s ≡ unit
-IsSound-goals q words k s l goal = sym (values_of-at words s) ∙ k.ranked.goals s l goal
+pub AreSoundWords-goals : (q : Query) (words : List ℕ) → AreSoundWords q words → (s : ℕ) → s < states q → is_goal q s ≡ true → value_at words s ≡ unit
+AreSoundWords-goals q words k s l goal = sym (values_of-at words s) ∙ k.ranked.goals s l goal
 
 -- no value is above the unit
-pub IsSound-units : (q : Query) (words : List ℕ) → IsSound q words → (s : ℕ) → s < states q → value_at words s ≤ unit
-IsSound-units q words k s l = subst (λ n. n ≤ unit) (values_of-at words s) (k.ranked.units s l)
+pub AreSoundWords-units : (q : Query) (words : List ℕ) → AreSoundWords q words → (s : ℕ) → s < states q → value_at words s ≤ unit
+AreSoundWords-units q words k s l = subst (λ n. n ≤ unit) (values_of-at words s) (k.ranked.units s l)
 
 -- a won exchange
-module _ (q : Query) (h : IsQuery q) (words seen : List ℕ) (i word : ℕ) (inside : i < states q) (free : IsFree q i) (many : length words ≡ states q) (sees : Sees q words seen) (up : value_at words i < value_in word) (given : Gives q (value_at seen) i (value_in word) (choice_in word)) where
+module _ (q : Query) (h : IsQuery q) (words seen : List ℕ) (i word : ℕ) (inside : i < states q) (free : IsFree q i) (many : length words ≡ states q) (sees : Sees q words seen) (up : value_at words i < value_in word) (given : IsGivenBy q (value_at seen) i (value_in word) (choice_in word)) where
   chosen : AreChoicesOf q.game (choices_of q.game)
   chosen = AreChoicesOf-choices_of q.game h.game
 
@@ -48,12 +48,12 @@ module _ (q : Query) (h : IsQuery q) (words seen : List ℕ) (i word : ℕ) (ins
       let step : down_step q (value_at seen) i ≤ down_step q (down_steps q r) i = down_step-le q (value_at seen) (down_steps q r) chosen (λ t k. omega (arith, Sees-below q words seen sees t, below t k)) i in
       elim (cases_eq s i) [
         | inl same ↦ subst (λ n. value_at (set words i word) n ≤ down_steps q (suc r) n) (sym same)
-            (omega (arith, value_at-here words i word there, step, Gives-below q (value_at seen) i (value_in word) (choice_in word) h inside free given))
+            (omega (arith, value_at-here words i word there, step, IsGivenBy-below q (value_at seen) i (value_in word) (choice_in word) h inside free given))
         | inr other ↦ omega (arith, value_at-else words i word s other, below s l, down_steps-rises q chosen r s)
       ]
 
-  pub IsSound-won : IsSound q words → IsSound q (set words i word)
-  IsSound-won k = record {
+  pub AreSoundWords-won : AreSoundWords q words → AreSoundWords q (set words i word)
+  AreSoundWords-won k = record {
     as_many = length-set words i word ∙ k.as_many;
     rounds = suc k.rounds;
     below = raised-within k.rounds k.below;
@@ -92,9 +92,9 @@ unfolding zeros
 length-zeros zero = refl
 length-zeros (suc n) = let rest = length-zeros n in omega arith
 
-pub IsSound-opening : (q : Query) → IsQuery q → IsSound q (opening_words q)
+pub AreSoundWords-opening : (q : Query) → IsQuery q → AreSoundWords q (opening_words q)
 unfolding down_steps
-IsSound-opening q h = record {
+AreSoundWords-opening q h = record {
   as_many = length-map q.goals (λ (goal : Bool). if goal then packed unit 0 else 0) ∙ h.goals;
   rounds = zero;
   below = λ s l. subst (λ n. n ≤ opening q s) (sym (opening_words-value q s)) (le_refl (opening q s));
@@ -119,8 +119,8 @@ IsSound-opening q h = record {
     none s goal positive = let zero_at : slice_index (values_of (opening_words q)) s ≡ 0 = is s ∙ ap (λ (g : Bool). if g then unit else 0) goal in omega arith
 
 -- a view that has seen the words
-pub Sees-itself : (q : Query) (words : List ℕ) → IsSound q words → Sees q words words
-Sees-itself q words k = record { as_many = k.as_many; each = λ s. inl refl; goals = IsSound-goals q words k }
+pub Sees-itself : (q : Query) (words : List ℕ) → AreSoundWords q words → Sees q words words
+Sees-itself q words k = record { as_many = k.as_many; each = λ s. inl refl; goals = AreSoundWords-goals q words k }
 
 -- one more word of the opening table
 pub opening_words-more : (q : Query) (words : List ℕ) (s word : ℕ) → words ≡ take s (opening_words q) → s < length q.goals → word ≡ opening_word q s → words ++ word ∷ [] ≡ take (s + 1) (opening_words q)

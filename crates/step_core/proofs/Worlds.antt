@@ -9,7 +9,7 @@ use Rattle.step_core.specs.Word.{value_in, value_at, values_of, greater_words, o
 use Rattle.step_core.specs.Configuration.{Configuration, seen_by, IsWorld}
 use Rattle.step_core.specs.Events.{IsLive, Raises}
 use Rattle.step_core.proofs.Sights.{Sees-below}
-use Rattle.step_core.proofs.Words.{values_of-at, values_of-is, IsSound-units}
+use Rattle.step_core.proofs.Words.{values_of-at, values_of-is, AreSoundWords-units}
 use Rattle.step_core.proofs.Kept.{Sees-seen_by, opening-keeps, looked-keeps, raised-keeps, split-keeps, join-keeps}
 
 abbrev Views : Type 0
@@ -99,7 +99,7 @@ module _ (v w : Configuration) (i : ℕ) (view : Option (List ℕ)) (values : Li
       let sees = Sees-seen_by v i k live' in
       let there : place < states v.question = subst (λ n. place < n) (values-many ∙ sym (ap (λ (u : Configuration). states u.question) same)) inside in
       let at : get_or values place d ≡ value_at (seen_by v i) place = get_or_default values place d 0 inside ∙ ap (λ vs. slice_index vs place) values-seen ∙ values_of-at (seen_by v i) place in
-      omega (arith, at, Sees-below v.question v.words (seen_by v i) sees place, IsSound-units v.question v.words k.words place there)
+      omega (arith, at, Sees-below v.question v.words (seen_by v i) sees place, AreSoundWords-units v.question v.words k.words place there)
 
   pub values-table : slice_index values ≡ value_at (seen_by w i)
   values-table = ap slice_index values-seen ∙ values_of-is (seen_by v i) ∙ ap (λ (u : Configuration). value_at (seen_by u i)) same

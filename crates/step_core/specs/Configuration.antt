@@ -2,7 +2,7 @@
 use Rattle.std.specs.Prelude.{◌≡◌, ℕ, List, [], ◌∷◌, slice_index_or, Option, Some, None, unwrap_or}
 use Rattle.game_model.specs.Query.{Query, IsQuery}
 use Rattle.step_core.specs.Word.{opening_words}
-use Rattle.step_core.specs.Sound.{IsSound, Sees}
+use Rattle.step_core.specs.Sound.{AreSoundWords, Sees}
 
 -- a question, its words, and the words that each view has seen; none where the view is spent
 pub record Configuration : Type 0 where
@@ -24,5 +24,5 @@ opening_configuration q = record { question = q; words = opening_words q; views 
 -- the invariant
 pub record IsWorld (w : Configuration) : Type 0 where
   pub question : IsQuery w.question
-  pub words : IsSound w.question w.words
+  pub words : AreSoundWords w.question w.words
   pub views : (view : ℕ) (seen : List ℕ) → view_of w view ≡ Some seen → Sees w.question w.words seen

@@ -10,7 +10,7 @@ use Rattle.step_core.specs.declared.event.Event.TheVariants.{Load, Won, Lost, Sp
 use Rattle.step_core.specs.declared.event.Refused.{Refused}
 use Rattle.step_core.specs.declared.event.Refused.TheVariants.{OutOfMemory, NoView, SameView, NoState, FixedState, BadChoice, NotFrom, NotRaised, TooHigh, SameWord}
 use Rattle.step_core.specs.Word.{value_in, choice_in, value_at, greater_words}
-use Rattle.fixed_bellman.specs.Given.{IsFree, Gives}
+use Rattle.fixed_bellman.specs.Given.{IsFree, IsGivenBy}
 use Rattle.step_core.specs.Configuration.{Configuration, view_of, seen_by}
 
 abbrev pub IsLive : Configuration → ℕ → Type 0
@@ -23,7 +23,7 @@ pub record Raises (w : Configuration) (view state from to : ℕ) : Type 0 where
   pub free : IsFree w.question state
   pub is_from : slice_index w.words state ≡ from
   pub raised : value_in from < value_in to
-  pub given : Gives w.question (value_at (seen_by w view)) state (value_in to) (choice_in to)
+  pub given : IsGivenBy w.question (value_at (seen_by w view)) state (value_in to) (choice_in to)
 
 abbrev pub Lawful : Configuration → Event → Type 0
 Lawful w (Load view state) = IsLive w view × (state < states w.question)

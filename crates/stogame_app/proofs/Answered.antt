@@ -14,7 +14,7 @@ use Rattle.asked_files.specs.declared.problem.Paths.TheVariants.{Unbounded, Reac
 use Rattle.formula_sets.specs.Posing.{Posing}
 use Rattle.asked_files.specs.Problems.{Problem, OfUntil, OfWithin, OfNext, OfAlways, OfNested, initial_of, posing_in, states_of}
 use Rattle.asked_files.specs.Said.{Said, NotHeld, Refuses, and_then}
-use Rattle.asked_files.specs.Sources.{Sources, HasSource, WhereTold, sources_of}
+use Rattle.asked_files.specs.Sources.{Sources, SourceWith, IfKnown, sources_of}
 use Rattle.asked_files.specs.Loading.{IsTooLong, LoadingLeaves, Loads, ReadsNothing, RefusesCaused, Takes}
 use Rattle.asked_files.specs.Posed.{Reading, posed, reading_said}
 use Rattle.asked_files.specs.Asks.{Asks}
@@ -58,12 +58,12 @@ reading_refuses holding asked paths refusal said = record { sources = said.sourc
 is_refused : {X Y : Type 0} (view : X → Y) (said : Said Y) (end : End) (refusal : Refusal) → ◌≡◌ {A = Result X End} (Err end) (Err (Refused refusal)) → Loads view (Err end) said → said ≡ Refuses refusal
 is_refused {X} view said end refusal is loads = subst (λ (r : Result X End). Loads view r said) is loads
 
-where_told : (holding : Option Holding) (P Q : Holding → Type 0) → ((held : Holding) → P held → Q held) → WhereTold holding P → WhereTold holding Q
+where_told : (holding : Option Holding) (P Q : Holding → Type 0) → ((held : Holding) → P held → Q held) → IfKnown holding P → IfKnown holding Q
 where_told None P Q weaker is = tt
 where_told (Some held) P Q weaker is = weaker held is
 
 -- the question that is posed is asked by the texts that are held, and the certificate is not held
-lacks_certificate : (holding : Option Holding) (audit : Audit) (problem : Problem) → PosesIt holding audit.asked Unbounded problem → WhereTold holding (λ held. held audit.certificate ≡ None) → WhereTold holding (λ held. IsMissing held (OfAudit audit))
+lacks_certificate : (holding : Option Holding) (audit : Audit) (problem : Problem) → PosesIt holding audit.asked Unbounded problem → IfKnown holding (λ held. held audit.certificate ≡ None) → IfKnown holding (λ held. IsMissing held (OfAudit audit))
 lacks_certificate None audit problem poses none = tt
 lacks_certificate (Some held) audit problem poses none = inr ((problem, subst (λ (s : Sources). Asks Unbounded s audit.asked problem) poses.told poses.asks), none)
 
@@ -79,7 +79,7 @@ reached-inside (OfNested m initial) posing is inside = cc (is)
 pub record AsksQuestion (command : Command) (asked : Asked) (paths : Paths) : Type 0 where
   pub reads : ReadsFiles command
   pub refuses : (holding : Option Holding) (refusal : Refusal) → RefusesQuestion holding asked paths refusal → RefusesIt holding command refusal
-  pub lacks : (holding : Option Holding) → LacksText holding asked → WhereTold holding (λ held. IsMissing held command)
+  pub lacks : (holding : Option Holding) → LacksText holding asked → IfKnown holding (λ held. IsMissing held command)
 
 pub check_asks : (check : Check) → AsksQuestion (OfCheck check) check.asked (check_paths check)
 check_asks check = record { reads = tt; refuses = λ holding refusal refused. refused; lacks = λ holding lacks. lacks }
@@ -155,8 +155,8 @@ module _ {S X : Type 0} {held : S → Option Holding} {steady : S → Bool} {fau
 
   -- where it was not loaded
   pub uncertified : {Y : Type 0} {end : End} (audit : Audit) (problem : Problem) (posing : Posing) → PosesIt (held old) audit.asked Unbounded problem → posing_in problem ≡ Some posing
-      → ((refusal : Refusal) → ◌≡◌ {A = Result Y End} (Err end) (Err (Refused refusal)) → HasSource (held middle) audit.certificate (λ source. RefusesCertificate posing.question source refusal))
-      → (IsErrOf {T = Y} (Err end) ReadFault → steady middle ≡ true → WhereTold (held middle) (λ held. held audit.certificate ≡ None)) → LoadingLeaves {X = Y} held steady faults took middle new (Err end) → RefusesCaused {X = Y} (Err end)
+      → ((refusal : Refusal) → ◌≡◌ {A = Result Y End} (Err end) (Err (Refused refusal)) → SourceWith (held middle) audit.certificate (λ source. RefusesCertificate posing.question source refusal))
+      → (IsErrOf {T = Y} (Err end) ReadFault → steady middle ≡ true → IfKnown (held middle) (λ held. held audit.certificate ≡ None)) → LoadingLeaves {X = Y} held steady faults took middle new (Err end) → RefusesCaused {X = Y} (Err end)
       → IsAnswered held steady faults took (OfAudit audit) old new (Err end)
   uncertified {Y} {end} audit problem posing poses reached refused steadily rest caused = record {
     answered = tt;
@@ -166,12 +166,12 @@ module _ {S X : Type 0} {held : S → Option Holding} {steady : S → Bool} {fau
       posed = poses;
       posing = posing;
       reached = reached;
-      certificate = subst (λ (h : Option Holding). HasSource h audit.certificate (λ source. RefusesCertificate posing.question source refusal)) leaves.kept.held (refused refusal (same_end end (Refused refusal) is));
+      certificate = subst (λ (h : Option Holding). SourceWith h audit.certificate (λ source. RefusesCertificate posing.question source refusal)) leaves.kept.held (refused refusal (same_end end (Refused refusal) is));
     });
     caused = same_caused Y Answer end caused;
     read_fault = λ is. (omega (arith, leaves.kept.later, rest.read_fault (same_end end ReadFault is)), tt);
     steadily = λ is calm. lacks_certificate (held old) audit problem poses
-        (subst (λ (h : Option Holding). WhereTold h (λ held. held audit.certificate ≡ None)) leaves.kept.held (steadily (same_end end ReadFault is) (leaves.kept.steady ∙ calm)));
+        (subst (λ (h : Option Holding). IfKnown h (λ held. held audit.certificate ≡ None)) leaves.kept.held (steadily (same_end end ReadFault is) (leaves.kept.steady ∙ calm)));
     takes = λ reads. same_takes end (took new) rest.takes;
     untouched = λ none. absurd (none tt);
   }

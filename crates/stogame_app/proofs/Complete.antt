@@ -15,10 +15,10 @@ use Rattle.asked_files.specs.declared.problem.Paths.{Paths}
 use Rattle.asked_files.specs.declared.problem.Paths.TheVariants.{Unbounded, Reaching}
 use Rattle.formula_sets.specs.Posing.{Posing}
 use Rattle.asked_files.specs.Problems.{Problem, posing_in}
-use Rattle.asked_files.specs.Said.{NotHeld, Says, and_then}
-use Rattle.asked_files.specs.Sources.{Sources, sources_of, WhereTold}
+use Rattle.asked_files.specs.Said.{NotHeld, Denoted, and_then}
+use Rattle.asked_files.specs.Sources.{Sources, sources_of, IfKnown}
 use Rattle.asked_files.specs.Posed.{posed, problem_said, reading_said}
-use Rattle.asked_files.specs.Asks.{IsText, Asks}
+use Rattle.asked_files.specs.Asks.{GivenTextWith, Asks}
 use Rattle.asked_files.specs.Questions.{PosesIt, RefusesQuestion, RefusesCertificate}
 use Rattle.run_answers.specs.declared.status.Status.{Status}
 use Rattle.run_answers.specs.declared.status.Status.TheVariants.{Fine, SomeFalse, SomeUndecided, Usage, ModelRefused, ReadFault, WriteFault, OutOfMemory, CertificateRefused}
@@ -30,7 +30,7 @@ use Rattle.stogame_app.specs.Run.{AsksShelf, IsAcceptedOfWords, IsEnding, IsMiss
 
 -- the problem that is said is the one that is asked
 abbrev pub AreAsked : Type 0
-AreAsked = (paths : Paths) (sources : Sources) (asked : Asked) (problem : Problem) → (problem_said paths sources asked ≡ Says problem) ↔ Asks paths sources asked problem
+AreAsked = (paths : Paths) (sources : Sources) (asked : Asked) (problem : Problem) → (problem_said paths sources asked ≡ Denoted problem) ↔ Asks paths sources asked problem
 
 -- a problem that is asked is not refused
 asked_not_refused : AreAsked → (holding : Option Holding) (held : Holding) (asked : Asked) (paths : Paths) (problem : Problem) (refusal : Refusal) → holding ≡ Some held → Asks paths (sources_of held asked) asked problem
@@ -49,7 +49,7 @@ asked_once are held asked paths problem other asks poses =
     let first = (are paths (sources_of held asked) asked problem).1 asks in
     let second = (are paths poses.sources asked other).1 poses.asks in
     let alike : problem_said paths poses.sources asked ≡ problem_said paths (sources_of held asked) asked = ap (λ s. problem_said paths s asked) poses.told in
-    let said : Says other ≡ Says problem = sym second ∙ alike ∙ first in
+    let said : Denoted other ≡ Denoted problem = sym second ∙ alike ∙ first in
     cc (said)
 
 -- for a problem that is asked every text is held
@@ -67,7 +67,7 @@ one_text source text other is so = let said : Some text ≡ Some other = sym is 
 abbrev pub AreApart : Type 0
 AreApart = (q : Query) (text : List ℕ) (plan : Plan) (fault : AuditFault) → IsAccepted q text plan → IsRefused q text fault → ⊥
 
-accepted_not_refused : AreApart → (q : Query) (source : Option (List ℕ)) (plan : Plan) (refusal : Refusal) → IsText source (λ text. IsAccepted q text plan) → RefusesCertificate q source refusal → ⊥
+accepted_not_refused : AreApart → (q : Query) (source : Option (List ℕ)) (plan : Plan) (refusal : Refusal) → GivenTextWith source (λ text. IsAccepted q text plan) → RefusesCertificate q source refusal → ⊥
 accepted_not_refused apart q source plan (OfCertificate fault) accepted refused =
     let same = one_text source refused.text accepted.text refused.given accepted.given in
     apart q accepted.text plan fault accepted.is_so (subst (λ (t : List ℕ). IsRefused q t fault) same refused.is_so)
@@ -107,7 +107,7 @@ command_not_refused are apart holding held (OfAudit audit) refusal told accepted
         let so : RefusesCertificate question (held audit.certificate) refusal = subst Q c.told (subst P posing c.is_so) in
         accepted_not_refused apart question (held audit.certificate) accepted.2 refusal accepted.5 so
 
-command_is_held : AreAsked → (holding : Option Holding) (held : Holding) (command : Command) → holding ≡ Some held → IsAcceptedOf held command → WhereTold holding (λ h. IsMissing h command) → ⊥
+command_is_held : AreAsked → (holding : Option Holding) (held : Holding) (command : Command) → holding ≡ Some held → IsAcceptedOf held command → IfKnown holding (λ h. IsMissing h command) → ⊥
 command_is_held are None held command told accepted missing = cc (told)
 command_is_held are (Some other) held command told accepted missing = of_held command accepted (subst (λ (h : Holding). IsMissing h command) same missing)
   where

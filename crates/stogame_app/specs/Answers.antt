@@ -6,7 +6,7 @@ use Rattle.run_refusals.specs.declared.refusal.Refusal.{Refusal}
 use Rattle.asked_files.specs.declared.load.End.{End}
 use Rattle.asked_files.specs.declared.load.End.TheVariants.{ReadFault, Refused}
 use Rattle.asked_files.specs.Loading.{RefusesCaused, Takes}
-use Rattle.asked_files.specs.Sources.{WhereTold}
+use Rattle.asked_files.specs.Sources.{IfKnown}
 use Rattle.run_answers.specs.declared.answer.Answer.{Answer}
 use Rattle.run_answers.specs.Status.{IsAnswer}
 use Rattle.stogame_app.specs.Commands.{IsMissing, IsReportOf, ReadsFiles, RefusesIt}
@@ -21,7 +21,7 @@ pub record IsAnswered {S : Type 0} (held : S → Option Holding) (steady : S →
   pub caused : RefusesCaused result
   -- it doesn't fail by itself, and over a steady shelf only where a text is not held
   pub read_fault : IsErrOf result ReadFault → Rose (faults old) (faults new) × ReadsFiles command
-  pub steadily : IsErrOf result ReadFault → steady old ≡ true → WhereTold (held old) (λ held. IsMissing held command)
+  pub steadily : IsErrOf result ReadFault → steady old ≡ true → IfKnown (held old) (λ held. IsMissing held command)
   -- how much is taken of the last text
   pub takes : ReadsFiles command → Takes result (took new)
   pub untouched : ¬ ReadsFiles command → new ≡ old

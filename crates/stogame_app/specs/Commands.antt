@@ -12,9 +12,9 @@ use Rattle.asked_files.specs.declared.problem.Paths.{Paths}
 use Rattle.asked_files.specs.declared.problem.Paths.TheVariants.{Any, Unbounded, Reaching}
 use Rattle.asked_files.specs.Problems.{Problem, posing_in}
 use Rattle.asked_files.specs.Said.{NotHeld}
-use Rattle.asked_files.specs.Sources.{HasSource, sources_of}
+use Rattle.asked_files.specs.Sources.{SourceWith, sources_of}
 use Rattle.asked_files.specs.Posed.{reading_said}
-use Rattle.asked_files.specs.Asks.{IsText, Asks}
+use Rattle.asked_files.specs.Asks.{GivenTextWith, Asks}
 use Rattle.asked_files.specs.Questions.{PosesIt, RefusesQuestion, RefusesCertificate}
 use Rattle.run_answers.specs.declared.status.Status.{Status}
 use Rattle.stogame_app.specs.Status.{sure_status}
@@ -59,7 +59,7 @@ pub record IsReportOfAudit (holding : Option Holding) (audit : Audit) (text : Li
   pub spelled : Denotes audit.asked.formula formula
   pub posing : Posing
   pub reached : posing_in problem ≡ Some posing
-  pub certificate : HasSource holding audit.certificate (λ source. IsText source (λ bytes. IsAudit posing.question posing.initial formula bytes text status))
+  pub certificate : SourceWith holding audit.certificate (λ source. GivenTextWith source (λ bytes. IsAudit posing.question posing.initial formula bytes text status))
 
 -- the report of `sure`: of such a question
 pub record IsReportOfSure (holding : Option Holding) (asked : Asked) (text : List ℕ) (status : Status) : Type 0 where
@@ -86,7 +86,7 @@ pub record RefusesBehind (holding : Option Holding) (audit : Audit) (refusal : R
   pub posed : PosesIt holding audit.asked Unbounded problem
   pub posing : Posing
   pub reached : posing_in problem ≡ Some posing
-  pub certificate : HasSource holding audit.certificate (λ source. RefusesCertificate posing.question source refusal)
+  pub certificate : SourceWith holding audit.certificate (λ source. RefusesCertificate posing.question source refusal)
 
 -- the first refusal of a command: of the problem, or else, for an audit, of the certificate
 abbrev pub RefusesIt : Option Holding → Command → Refusal → Type 0
@@ -109,6 +109,6 @@ IsMissing held (OfSure asked) = reading_said (sources_of held asked) asked ≡ N
 abbrev pub IsAcceptedOf : Holding → Command → Type 0
 IsAcceptedOf held (OfCheck check) = (problem : Problem) × Asks (check_paths check) (sources_of held check.asked) check.asked problem
 IsAcceptedOf held (OfAudit audit) = (problem : Problem) × (posing : Posing) × (plan : Plan)
-    × Asks Unbounded (sources_of held audit.asked) audit.asked problem × (posing_in problem ≡ Some posing) × IsText (held audit.certificate) (λ text. IsAccepted posing.question text plan)
+    × Asks Unbounded (sources_of held audit.asked) audit.asked problem × (posing_in problem ≡ Some posing) × GivenTextWith (held audit.certificate) (λ text. IsAccepted posing.question text plan)
 IsAcceptedOf held (OfMake make) = Unit {0}
 IsAcceptedOf held (OfSure asked) = (problem : Problem) × Asks Reaching (sources_of held asked) asked problem

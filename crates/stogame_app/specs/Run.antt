@@ -12,7 +12,7 @@ use Rattle.run_refusals.specs.InFull.{RefusalInFull}
 use Rattle.run_refusals.specs.Refusals.{refusal_text, usage_text}
 use Rattle.asked_files.specs.declared.load.End.{End}
 use Rattle.asked_files.specs.declared.load.End.TheVariants as end
-use Rattle.asked_files.specs.Sources.{WhereTold}
+use Rattle.asked_files.specs.Sources.{IfKnown}
 use Rattle.run_answers.specs.declared.answer.Answer.{Answer}
 use Rattle.run_answers.specs.declared.status.Status.{Status}
 use Rattle.run_answers.specs.declared.status.Status.TheVariants.{Fine, SomeFalse, SomeUndecided, Usage, ModelRefused, ReadFault, WriteFault, OutOfMemory, CertificateRefused}
@@ -101,7 +101,7 @@ NeedNoFile words = (command : Command) → AreCommand words command → ¬ Reads
 pub record IsMissingOfWords (words : List (List ℕ)) (holding : Option Holding) : Type 0 where
   pub command : Command
   pub denoted : AreCommand words command
-  pub missing : WhereTold holding (λ held. IsMissing held command)
+  pub missing : IfKnown holding (λ held. IsMissing held command)
 
 -- What a run with these words does to a shelf, by the status with which it ends.
 pub record AsksShelf {S : Type 0} (held : S → Option Holding) (steady : S → Bool) (faults took : S → ℕ) (words : List (List ℕ)) (old new : S) (status : Status) : Type 0 where

@@ -3,17 +3,18 @@ use Rattle.std.proofs.Common.{◌≡◌, inl, inr, ℕ, Bool, true, false, List,
 use Rattle.game_outside.specs.declared.file.FileEnd.{FileEnd}
 use Rattle.game_outside.specs.declared.file.FileEnd.TheVariants as file
 use Rattle.game_outside.specs.Outside.{Holding}
-use Rattle.game_outside.specs.Files.{OfText, ReadsFile}
+use Rattle.game_outside.specs.Files.{HeldTextWith, ReadsFile}
 use Rattle.game_model.specs.Game.{Distribution}
 use Rattle.tra_reader.specs.declared.fault.TraFault.{TraFault}
 use Rattle.tra_reader.specs.declared.halt.Halt.{Halt}
 use Rattle.tra_reader.specs.declared.halt.Halt.TheVariants as halt
-use Rattle.tra_reader.specs.Faults.{Gives}
+use Rattle.game_outside.specs.Answers.{AnswersOrWants}
+use Rattle.tra_reader.specs.Faults.{IsOutOfMemory}
 use Rattle.tra_reader.specs.Reading.{IsAnswer}
 use Rattle.tra_reader.specs.Ordered.{text_fault}
 use Rattle.tra_reader.specs.FileEnds.{is_want, without_want_of, in_order_of}
 
-of_text : (holding : Option Holding) (name : List ℕ) (limit : ℕ) (P Q : List ℕ → Type 0) → ((text : List ℕ) → P text → Q text) → OfText holding name limit P → OfText holding name limit Q
+of_text : (holding : Option Holding) (name : List ℕ) (limit : ℕ) (P Q : List ℕ → Type 0) → ((text : List ℕ) → P text → Q text) → HeldTextWith holding name limit P → HeldTextWith holding name limit Q
 of_text holding name limit P Q step of = record { text = of.text; told = of.told; within = of.within; holds = step of.text of.holds }
 
 module _ (holding : Option Holding) (name : List ℕ) (limit : ℕ) where
@@ -29,12 +30,12 @@ module _ (holding : Option Holding) (name : List ℕ) (limit : ℕ) where
     abbrev Exact : Result (List (List Distribution)) (FileEnd TraFault) → Type 0
     Exact after = ReadsFile (λ text answer. said text ≡ answer) holding name limit after
 
-    refused : (fault : TraFault) (want : Bool) → want ≡ is_want fault.cause → OfText holding name limit (λ text. Gives {X = List (List Distribution)} (λ g. g) (Err fault) (said text))
+    refused : (fault : TraFault) (want : Bool) → want ≡ is_want fault.cause → HeldTextWith holding name limit (λ text. AnswersOrWants {X = List (List Distribution)} IsOutOfMemory (λ g. g) (Err fault) (said text))
         → Exact (if want then Err file.OutOfMemory else Err (file.Refused fault))
     refused fault true is of = tt
     refused fault false is of = of_text holding name limit _ _ by of
       where
-        by : (text : List ℕ) → Gives {X = List (List Distribution)} (λ g. g) (Err fault) (said text) → said text ≡ Err fault
+        by : (text : List ℕ) → AnswersOrWants {X = List (List Distribution)} IsOutOfMemory (λ g. g) (Err fault) (said text) → said text ≡ Err fault
         by text holds = elim holds [
           | inl want ↦ absurd (no (is ∙ ap (λ f. is_want f.cause) want))
           | inr said_so ↦ said_so
@@ -44,7 +45,7 @@ module _ (holding : Option Holding) (name : List ℕ) (limit : ℕ) where
             no h = cc
 
     -- want of memory refuses no text, so what is left is exact
-    pub reads_exactly : (read : Result (List (List Distribution)) (FileEnd TraFault)) → ReadsFile (λ text answer. Gives (λ g. g) answer (said text)) holding name limit read → Exact (without_want_of read)
+    pub reads_exactly : (read : Result (List (List Distribution)) (FileEnd TraFault)) → ReadsFile (λ text answer. AnswersOrWants IsOutOfMemory (λ g. g) answer (said text)) holding name limit read → Exact (without_want_of read)
     reads_exactly (Ok game) of = of
     reads_exactly (Err (file.Refused fault)) of = refused fault (is_want fault.cause) refl of
     reads_exactly (Err file.OutOfMemory) of = tt
@@ -52,11 +53,11 @@ module _ (holding : Option Holding) (name : List ℕ) (limit : ℕ) where
     reads_exactly (Err file.TooLong) of = of
 
     abbrev Right : Result (List (List Distribution)) (FileEnd TraFault) → Type 0
-    Right found = ReadsFile (λ text answer. Gives (λ g. g) answer (said text)) holding name limit found
+    Right found = ReadsFile (λ text answer. AnswersOrWants IsOutOfMemory (λ g. g) answer (said text)) holding name limit found
 
     -- what was read in order
     pub reads_in_order : (read : Result (List (List Distribution)) (FileEnd Halt)) (found : Result (List (List Distribution)) (FileEnd TraFault)) → Some found ≡ in_order_of read
-        → ReadsFile (λ text answer. IsAnswer text_fault answer (said text)) holding name limit read → ReadsFile (λ text answer. Gives (λ g. g) answer (said text)) holding name limit found
+        → ReadsFile (λ text answer. IsAnswer text_fault answer (said text)) holding name limit read → ReadsFile (λ text answer. AnswersOrWants IsOutOfMemory (λ g. g) answer (said text)) holding name limit found
     reads_in_order read found is of = by read found is of
       where
         some_is : (a b : Result (List (List Distribution)) (FileEnd TraFault)) → Some a ≡ Some b → b ≡ a

@@ -6,7 +6,8 @@ use Rattle.tra_reader.specs.declared.header.Header.{Header}
 use Rattle.tra_reader.specs.declared.fault.TraCause.{TraCause}
 use Rattle.tra_reader.specs.declared.fault.TraCause.TheVariants.{OutOfMemory, ActionClash}
 use Rattle.tra_reader.specs.declared.fault.TraFault.{TraFault}
-use Rattle.tra_reader.specs.Faults.{Gives, fault_at, fault_of_all}
+use Rattle.game_outside.specs.Answers.{AnswersOrWants}
+use Rattle.tra_reader.specs.Faults.{fault_at, fault_of_all, IsOutOfMemory}
 use Rattle.tra_reader.specs.Lines.{Row, row_said, header_said, behind, rows_said, clashes}
 use Rattle.tra_reader.specs.Text.{lines_game, rows_game, behind_header}
 use Rattle.tra_reader.specs.Reading.{HasFault, IsAnswer, IsRight, Begins, TakesLine, AddsRow, RefusesLine, RefusesRow, Finishes, clash_of, at_first_line}
@@ -17,9 +18,9 @@ filled [] some = absurd (some refl)
 filled (field ∷ fields) some = refl
 
 -- the fault that is told is the answer
-pub answer_told : {Fault : Type 0} (fault_of : Fault → Option TraFault) (fault : Fault) (told : TraFault) (said : Result (List (List Distribution)) TraFault) → fault_of fault ≡ Some told → Gives {X = List (List Distribution)} (λ g. g) (Err told) said → IsAnswer fault_of (Err fault) said
+pub answer_told : {Fault : Type 0} (fault_of : Fault → Option TraFault) (fault : Fault) (told : TraFault) (said : Result (List (List Distribution)) TraFault) → fault_of fault ≡ Some told → AnswersOrWants {X = List (List Distribution)} IsOutOfMemory (λ g. g) (Err told) said → IsAnswer fault_of (Err fault) said
 answer_told fault_of fault told said given is = λ other found.
-    let P : TraFault → Type 0 = λ f. Gives {X = List (List Distribution)} (λ g. g) (Err f) said in
+    let P : TraFault → Type 0 = λ f. AnswersOrWants {X = List (List Distribution)} IsOutOfMemory (λ g. g) (Err f) said in
     subst P (same_some told other (sym given ∙ found)) is
   where
     same_some : (f g : TraFault) → Some f ≡ Some g → f ≡ g
@@ -117,7 +118,7 @@ module _ {Rows Fault : Type 0} (header_of : Rows → Header) (Holds : Rows → L
 
   -- the end of the text
   pub right_end : (held : Option Rows) (old : Rows) (made : Result (List (List Distribution)) TraFault) (answer : Result (List (List Distribution)) Fault) → held ≡ Some old → Finishes header_of Holds old made
-      → ((said : Result (List (List Distribution)) TraFault) → Gives {X = List (List Distribution)} (λ g. g) made said → IsAnswer fault_of answer said) → (number : ℕ) → IsRight header_of Holds fault_of held number [] answer
+      → ((said : Result (List (List Distribution)) TraFault) → AnswersOrWants {X = List (List Distribution)} IsOutOfMemory (λ g. g) made said → IsAnswer fault_of answer said) → (number : ℕ) → IsRight header_of Holds fault_of held number [] answer
   right_end held old made answer is finishes same number = right_along held old number [] answer is (λ rows holds. same (rows_game (header_of old) (rows_said (header_of old) number rows [])) (finishes number rows holds))
 
   -- the answer for a whole text, of which nothing was read before
@@ -125,6 +126,6 @@ module _ {Rows Fault : Type 0} (header_of : Rows → Header) (Holds : Rows → L
   right_whole held lines answer none right = let P : Option Rows → Type 0 = λ h. IsRight header_of Holds fault_of h 1 lines answer in let before = subst P none right in before refl
 
 -- where each fault is told, the answer agrees with what is said
-pub given : (answer said : Result (List (List Distribution)) TraFault) → IsAnswer (λ (f : TraFault). Some f) answer said → Gives {X = List (List Distribution)} (λ g. g) answer said
+pub given : (answer said : Result (List (List Distribution)) TraFault) → IsAnswer (λ (f : TraFault). Some f) answer said → AnswersOrWants {X = List (List Distribution)} IsOutOfMemory (λ g. g) answer said
 given (Ok game) said is = is
 given (Err fault) said is = is fault refl

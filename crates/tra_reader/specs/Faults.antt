@@ -1,5 +1,5 @@
 -- What a call answers: what the text says, or that memory ran out.
-use Rattle.std.specs.Prelude.{◌≡◌, ◌⊎◌, ℕ, Result, Ok, Err}
+use Rattle.std.specs.Prelude.{◌≡◌, ℕ}
 use Rattle.tra_reader.specs.declared.fault.TraCause.{TraCause}
 use Rattle.distributions.specs.declared.choice.ChoiceFault.{ChoiceFault}
 use Rattle.distributions.specs.declared.choice.ChoiceFault.TheVariants.{OutOfMemory as NoMemory, TooFine, BadSum}
@@ -13,10 +13,8 @@ fault_at line cause = record { line = line; cause = cause }
 abbrev pub fault_of_all : TraCause → TraFault
 fault_of_all cause = fault_at 0 cause
 
--- the answer agrees with what is said, or memory ran out
-abbrev pub Gives : {X Y : Type 0} → (X → Y) → Result X TraFault → Result Y TraFault → Type 0
-Gives view (Ok x) said = said ≡ Ok (view x)
-Gives view (Err fault) said = (fault ≡ fault_of_all OutOfMemory) ⊎ (said ≡ Err fault)
+abbrev pub IsOutOfMemory : TraFault → Type 0
+IsOutOfMemory fault = fault ≡ fault_of_all OutOfMemory
 
 -- the fault of a choice; want of memory is that of the whole text
 abbrev pub fault_of_choice : ℕ → ℕ → ChoiceFault → TraFault

@@ -9,7 +9,8 @@ use Rattle.tra_reader.specs.declared.line.Transition.{Transition}
 use Rattle.tra_reader.specs.declared.fault.TraCause.{TraCause}
 use Rattle.tra_reader.specs.declared.fault.TraCause.TheVariants.{OutOfMemory, ActionClash}
 use Rattle.tra_reader.specs.declared.fault.TraFault.{TraFault}
-use Rattle.tra_reader.specs.Faults.{Gives, fault_at, fault_of_all}
+use Rattle.game_outside.specs.Answers.{AnswersOrWants}
+use Rattle.tra_reader.specs.Faults.{fault_at, fault_of_all, IsOutOfMemory}
 use Rattle.tra_reader.specs.Lines.{Row, row_said, header_said, line_said, rows_said, clashes}
 use Rattle.tra_reader.specs.Text.{lines_game, rows_game}
 
@@ -38,7 +39,7 @@ RowAnswer header read line number (Err fault) = (rows : List Row) → length row
 -- the answer agrees with what is said, or it tells no fault of the text
 abbrev pub IsAnswer : {Fault : Type 0} → (Fault → Option TraFault) → Result (List (List Distribution)) Fault → Result (List (List Distribution)) TraFault → Type 0
 IsAnswer fault_of (Ok game) said = said ≡ Ok game
-IsAnswer fault_of (Err fault) said = ForSome (fault_of fault) (λ told. Gives {X = List (List Distribution)} (λ g. g) (Err told) said)
+IsAnswer fault_of (Err fault) said = ForSome (fault_of fault) (λ told. AnswersOrWants {X = List (List Distribution)} IsOutOfMemory (λ g. g) (Err told) said)
 
 module _ {Rows Fault : Type 0} (header_of : Rows → Header) (Holds : Rows → List Row → Type 0) (fault_of : Fault → Option TraFault) where
   -- The answer is right where these lines come next, of which the first has this number. Before the header nothing is held.
@@ -77,4 +78,4 @@ module _ {Rows Fault : Type 0} (Holds : Rows → List Row → Type 0) (fault_of 
 module _ {Rows : Type 0} (header_of : Rows → Header) (Holds : Rows → List Row → Type 0) where
   -- what is made of the rows at the end of the text
   abbrev pub Finishes : Rows → Result (List (List Distribution)) TraFault → Type 0
-  Finishes held result = (number : ℕ) (rows : List Row) → Holds held rows → Gives (λ g. g) result (rows_game (header_of held) (rows_said (header_of held) number rows []))
+  Finishes held result = (number : ℕ) (rows : List Row) → Holds held rows → AnswersOrWants IsOutOfMemory (λ g. g) result (rows_game (header_of held) (rows_said (header_of held) number rows []))

@@ -1,7 +1,8 @@
 //! The game of transitions that are all read.
 
 ghost use Rattle.std.specs.List.{All};
-ghost use Rattle.tra_reader.specs.Faults.{Gives};
+ghost use Rattle.game_outside.specs.Answers.{AnswersOrWants};
+ghost use Rattle.tra_reader.specs.Faults.{IsOutOfMemory};
 ghost use Rattle.tra_reader.specs.Choices.{transitions_game};
 ghost use Rattle.tra_reader.specs.Order.{IsWithin, Rises, transition_place};
 ghost use Rattle.tra_reader.specs.Answers.{IsAccepted};
@@ -18,7 +19,7 @@ use std::alloc::Global;
 pub fn build(alloc: Global, transitions: Vec<Transition>, header: &Header) -> Result<Game, TraFault>
     requires accepted { IsAccepted header.now }
     requires within { All (IsWithin header.now.states) transitions.items }
-    ensures { Gives (λ g. g) result (transitions_game transitions.items header.now.states header.now.choices) }
+    ensures { AnswersOrWants IsOutOfMemory (λ g. g) result (transitions_game transitions.items header.now.states header.now.choices) }
 {
     let mut transitions = transitions;
     put_in_order(&mut transitions)?;
@@ -33,7 +34,7 @@ fn build_in_order(
     requires accepted { IsAccepted header.now }
     requires rises { Rises transition_place transitions.now }
     requires within { All (IsWithin header.now.states) transitions.now }
-    ensures { Gives (λ g. g) result (transitions_game transitions.now header.now.states header.now.choices) }
+    ensures { AnswersOrWants IsOutOfMemory (λ g. g) result (transitions_game transitions.now header.now.states header.now.choices) }
 {
     let mut game = GameInOrder::new(alloc, header.states)?;
     for transition in transitions {

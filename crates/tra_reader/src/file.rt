@@ -3,7 +3,8 @@
 ghost use Rattle.std.specs.Prelude.{◌≡◌, ◌≤◌};
 ghost use Rattle.text_lines.specs.Limits.{most_bytes};
 ghost use Rattle.game_outside.specs.Files.{LeavesShelf, ReadsFile};
-ghost use Rattle.tra_reader.specs.Faults.{Gives};
+ghost use Rattle.game_outside.specs.Answers.{AnswersOrWants};
+ghost use Rattle.tra_reader.specs.Faults.{IsOutOfMemory};
 ghost use Rattle.tra_reader.specs.Text.{game_of};
 ghost use Rattle.tra_reader.specs.Reading.{IsAnswer};
 ghost use Rattle.tra_reader.specs.Ordered.{text_fault};
@@ -64,7 +65,7 @@ fn read_in_any_order<H: Shelf>(
     limit: u64,
 ) -> Result<Game, FileEnd<TraFault>>
     requires { limit ≤ most_bytes }
-    ensures reads { ReadsFile (λ text answer. Gives (λ g. g) answer (game_of text)) (H.held shelf.old) name.now limit result }
+    ensures reads { ReadsFile (λ text answer. AnswersOrWants IsOutOfMemory (λ g. g) answer (game_of text)) (H.held shelf.old) name.now limit result }
     ensures shelf { LeavesShelf H.held H.steady H.faults H.taken name.now limit shelf.old shelf.new result }
 {
     let reader = AnyLines::new(alloc);

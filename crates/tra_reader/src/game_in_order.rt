@@ -2,7 +2,8 @@
 
 ghost use Rattle.std.specs.Prelude.{◌≡◌, ◌<◌, ◌≤◌, ◌↔◌, ◌∷◌, ◌++◌, ℕ, List, [], length, IfOk, OnOk, IsTrue};
 ghost use Rattle.game_model.specs.Limits.{most_states};
-ghost use Rattle.tra_reader.specs.Faults.{Gives};
+ghost use Rattle.game_outside.specs.Answers.{AnswersOrWants};
+ghost use Rattle.tra_reader.specs.Faults.{IsOutOfMemory};
 ghost use Rattle.tra_reader.specs.Choices.{transitions_game};
 ghost use Rattle.tra_reader.specs.Order.{IsWithin, transition_place};
 ghost use Rattle.tra_reader.specs.GrowingGames.{place_under_way, HoldsInOrder};
@@ -109,7 +110,7 @@ impl GameInOrder {
 
     /// The game of all transitions that were added, or the first fault of the whole.
     pub fn finish(self, alloc: Global, stated: Option<u32>) -> Result<Game, TraFault>
-        ensures { (n : ℕ) (all : List Transition) → HoldsInOrder self n all → Gives (λ g. g) result (transitions_game all n stated) }
+        ensures { (n : ℕ) (all : List Transition) → HoldsInOrder self n all → AnswersOrWants IsOutOfMemory (λ g. g) result (transitions_game all n stated) }
     {
         let mut whole = self.whole;
         whole.end_before(alloc, &self.parts, self.states);

@@ -3,7 +3,8 @@
 ghost use Rattle.std.specs.Prelude.{◌≡◌, ◌<◌, ◌≤◌, ◌+◌, ℕ, List};
 ghost use Rattle.tra_reader.specs.declared.line.Transition.{Transition};
 ghost use Rattle.tra_reader.specs.Limits.{most_stated_choices};
-ghost use Rattle.tra_reader.specs.Faults.{Gives};
+ghost use Rattle.game_outside.specs.Answers.{AnswersOrWants};
+ghost use Rattle.tra_reader.specs.Faults.{IsOutOfMemory};
 ghost use Rattle.tra_reader.specs.Choices.{transitions_game};
 ghost use Rattle.tra_reader.specs.Order.{place_of};
 ghost use Rattle.tra_reader.specs.GrowingGames.{IsWhole, place_behind, AddsChoice, EndsStates, EndsBefore, GoesTo, IsReady, IfBuilds, IsAsStated};
@@ -84,7 +85,7 @@ impl WholeChoices {
     /// The game of the whole choices, which are those of all states, or the first fault of the whole.
     pub fn finish(self, stated: Option<u32>) -> Result<Game, TraFault>
         requires { IfBuilds self.progress IsReady }
-        ensures { (n : ℕ) (transitions : List Transition) → self.state ≡ n → self.choice ≡ 0 → IsWhole n transitions self → Gives (λ g. g) result (transitions_game transitions n stated) }
+        ensures { (n : ℕ) (transitions : List Transition) → self.state ≡ n → self.choice ≡ 0 → IsWhole n transitions self → AnswersOrWants IsOutOfMemory (λ g. g) result (transitions_game transitions n stated) }
     {
         let otherwise = stated_otherwise(stated, self.count);
         match self.progress {

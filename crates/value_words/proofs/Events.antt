@@ -16,7 +16,7 @@ use Rattle.step_core.specs.Sound.{Sees}
 use Rattle.step_core.specs.Configuration.{Configuration, IsWorld, view_of, seen_by}
 use Rattle.step_core.specs.Events.{IsLive, after, wins}
 use Rattle.step_core.proofs.Kept.{after-keeps, after-within}
-use Rattle.fixed_bellman.specs.Given.{Gives}
+use Rattle.fixed_bellman.specs.Given.{IsGivenBy}
 use Rattle.value_words.specs.declared.rule.Sight.{Sight}
 use Rattle.value_words.specs.Shown.{Shared, Seated, view_shown, shown, all_won, IsPassOf, IsEvent}
 use Rattle.value_words.specs.Rule.{halved, copied, joined, spent, AreParts, Kept, saw, Loaded, WonOrLost}
@@ -97,7 +97,7 @@ module _ (q : Query) (s : Shared) (id slots state : ℕ) (m n : Seated) (act : A
         free = offer.free;
         is_from = hit;
         raised = offer.raised;
-        given = subst (λ (seen : List ℕ). Gives q (value_at seen) state (value_in to) (choice_in to)) (sym (seen-shown q s id m.0 p)) offer.given;
+        given = subst (λ (seen : List ℕ). IsGivenBy q (value_at seen) state (value_in to) (choice_in to)) (sym (seen-shown q s id m.0 p)) offer.given;
       };
       effect = won-effect q s id m p state act n from to (m.0.won + 1) (subst (λ k. state < k) (sym k.world.words.as_many) offer.inside) (told.0 hit);
       won = omega (arith, won-by to to (m.0.won + 1) (told.0 hit));

@@ -13,7 +13,7 @@ use Rattle.step_core.specs.Sound.{Sees}
 use Rattle.step_core.specs.declared.event.Event.TheVariants.{Split, Join}
 use Rattle.step_core.proofs.Kept.{opening-keeps, opening-within}
 use Rattle.step_core.proofs.Sights.{value_at-here, value_at-else, value_at-rises, greater_words-at}
-use Rattle.step_core.proofs.Words.{IsSound-units}
+use Rattle.step_core.proofs.Words.{AreSoundWords-units}
 use Rattle.value_words.specs.declared.rule.Sight.{Sight}
 use Rattle.value_words.specs.Shown.{Shared, Seated, IsPassOf}
 use Rattle.value_words.specs.Rule.{all_parts, opening_sight, halved, copied, joined, spent, Kept, saw, Loaded, WonOrLost}
@@ -33,7 +33,7 @@ pub load-allowed : (q : Query) (slots id : ℕ) (m : Seated) (i : ℕ) → m.0.l
 load-allowed q slots id m i live inside s k many at small =
     let p : IsPassOf s id m.0 = record { there = at; live = live } in
     let n : Seated = saw m i (get_or s.words i 0) m.0.won in
-    let told : Loaded (step slots i 0 0 none) m (get_or s.words i 0) n = (refl, (pass-sees q s id m.0 p k).each i, IsSound-units q s.words k.world.words i inside) in
+    let told : Loaded (step slots i 0 0 none) m (get_or s.words i 0) n = (refl, (pass-sees q s id m.0 p k).each i, AreSoundWords-units q s.words k.world.words i inside) in
     (n.0, keeps, tt, event-keeps q s _ _ k (load-event q s id slots i m n keeps p inside told) (parts-same s.views k.parts id m.0 at n.0 live refl), told)
 
 -- an exchange may be made
@@ -54,7 +54,7 @@ module _ (q : Query) (slots id : ℕ) (m : Seated) (i from to : ℕ) (live : m.0
         let each = (pass-sees q s id m.0 p k).each i in (
           (λ hit. absurd (miss hit)),
           (λ _. (refl, elim each [ inl same ↦ absurd (miss (same ∙ offer.is_from)) | inr less ↦ less ])),
-          (found, m.0.won, refl, found-rises m.0.seen i found each, IsSound-units q s.words k.world.words i offer.inside),
+          (found, m.0.won, refl, found-rises m.0.seen i found each, AreSoundWords-units q s.words k.world.words i offer.inside),
         )
 
   pub exchange-allowed : Allows (Kept q) slots id m i (λ n. either (eqb n from) to n) (WonOrLost (step slots i from to none) m)

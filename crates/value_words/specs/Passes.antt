@@ -28,20 +28,20 @@ won_by pass = pass.seat.me.0.won
 abbrev pub parts_of : {P : Type 0} {h : _} → Pass P h → ℕ
 parts_of pass = pass.seat.me.0.parts
 
-abbrev pub Token : Type 0
-Token = Seat (Unit {0}) Sight
+abbrev pub PassSeat : Type 0
+PassSeat = Seat (Unit {0}) Sight
 
 -- no choice before the one that the word of a state names had its value
 abbrev pub NamesFirst : Query → (ℕ → ℕ) → ℕ → ℕ → Type 0
 NamesFirst q seen s word = (c : ℕ) → c < choice_in word → down_value seen (choice_of q.game s c) < value_in word
 
 -- a pass of the same table, which has seen no less anywhere
-pub record GrewSeat (old new : Token) : Type 0 where
+pub record GrewSeat (old new : PassSeat) : Type 0 where
   pub table : new.table_id ≡ old.table_id
   pub up : (s : ℕ) → value_at old.me.0.seen s ≤ value_at new.me.0.seen s
 
 -- a pass that has only looked at words: it grew, and has won nothing and kept its parts
-pub record LookedSeat (old new : Token) : Type 0 where
+pub record LookedSeat (old new : PassSeat) : Type 0 where
   pub grew : GrewSeat old new
   pub won : new.me.0.won ≡ old.me.0.won
   pub parts : new.me.0.parts ≡ old.me.0.parts

@@ -2,7 +2,7 @@
 use Rattle.std.specs.Prelude.{◌≡◌, ℕ, ◌<◌, List, [], ◌∷◌, ◌++◌, slice_index, slice_set}
 use Rattle.game_model.specs.Query.{Query, states}
 use Rattle.step_core.specs.Word.{value_in, choice_in, value_at}
-use Rattle.fixed_bellman.specs.Given.{IsFree, Gives}
+use Rattle.fixed_bellman.specs.Given.{IsFree, IsGivenBy}
 use Rattle.value_words.specs.declared.rule.Sight.{Sight}
 use Rattle.value_words.specs.Shown.{Shared}
 use Rattle.value_words.specs.Rule.{halved, copied, joined, spent}
@@ -13,7 +13,7 @@ pub record IsOffer (q : Query) (seen : List ℕ) (state from to : ℕ) : Type 0 
   pub free : IsFree q state
   pub is_from : slice_index seen state ≡ from
   pub raised : value_in from < value_in to
-  pub given : Gives q (value_at seen) state (value_in to) (choice_in to)
+  pub given : IsGivenBy q (value_at seen) state (value_in to) (choice_in to)
 
 -- after a split of one pass, a second one is there
 abbrev pub after_split : Shared → ℕ → Sight → Shared

@@ -5,8 +5,8 @@ ghost use Rattle.game_model.specs.Query.{Query, IsQuery, states, is_goal, is_dea
 ghost use Rattle.game_model.specs.Limits.{unit};
 ghost use Rattle.game_model.specs.Rounded.{down_step, down_steps, IsBelow};
 ghost use Rattle.step_core.specs.Word.{value_in, choice_in, value_at, opening_words, greater_words};
-ghost use Rattle.step_core.specs.Sound.{IsSound, Sees};
-ghost use Rattle.fixed_bellman.specs.Given.{IsFree, Gives};
+ghost use Rattle.step_core.specs.Sound.{AreSoundWords, Sees};
+ghost use Rattle.fixed_bellman.specs.Given.{IsFree, IsGivenBy};
 ghost use Rattle.std.specs.Mem.Slots.{IsFull, slots_items};
 
 use crate::pass::Pass;
@@ -180,7 +180,7 @@ impl<'q, P: Posing> ValueTable<'q, P> {
     /// The final words. Each is the one that the pass has seen, or has a greater value.
     pub fn close(self, alloc: Global, pass: Pass<P>) -> Result<Words, OutOfMemory>
         requires { IsOf self pass }
-        ensures words { IfOk result (λ words. IsSound P.posed words) }
+        ensures words { IfOk result (λ words. AreSoundWords P.posed words) }
         ensures seen { IfOk result (λ words. Sees P.posed words (words_seen pass)) }
         // A pass with all parts is the only one: the words are within as many down steps as it won exchanges.
         ensures within { parts_of pass ≡ all_parts → IfOk result (λ words. IsBelow P.posed (value_at words) (down_steps P.posed (won_by pass))) }
@@ -243,7 +243,7 @@ impl<'q, P: Posing> ValueTable<'q, P> {
         requires pass { IsOf self.now pass.old }
         requires state { state < states P.posed }
         requires free { IsFree P.posed state }
-        requires given { Gives P.posed (seen_by pass.old) state (value_in to) (choice_in to) }
+        requires given { IsGivenBy P.posed (seen_by pass.old) state (value_in to) (choice_in to) }
         ensures grew { Grew pass.old pass.new }
         ensures reached { value_in to ≤ seen_by pass.new state }
         ensures won { MatchBool result (won_by pass.new ≡ won_by pass.old + 1) (won_by pass.new ≡ won_by pass.old) }

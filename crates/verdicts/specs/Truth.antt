@@ -26,8 +26,8 @@ IsFalseOf q AskMax s = ⊥
 IsFalseOf q AskMin s = ⊥
 
 -- what a verdict says of the value at a state is so
-abbrev pub IsTold : Query → Bound → ℕ → Verdict → Type 0
-IsTold q bound s Yes = IsTrueOf q bound s
-IsTold q bound s No = IsFalseOf q bound s
-IsTold q bound s Undecided = Unit {0}
-IsTold q bound s Bracket = Unit {0}
+abbrev pub VerdictIsRight : Query → Bound → ℕ → Verdict → Type 0
+VerdictIsRight q bound s Yes = IsTrueOf q bound s
+VerdictIsRight q bound s No = IsFalseOf q bound s
+VerdictIsRight q bound s Undecided = Unit {0}
+VerdictIsRight q bound s Bracket = Unit {0}

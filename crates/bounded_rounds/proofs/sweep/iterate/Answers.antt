@@ -1,11 +1,11 @@
-use Rattle.std.proofs.Common.{◌≡◌, ℕ, slice_index, length, arith, refl, ap, subst, ◌∙◌, List}
-use Rattle.std.proofs.lemmas.List.{length-map}
+use Rattle.std.proofs.Common.{◌≡◌, ℕ, slice_index, length, drop, arith, refl, ap, subst, ◌∙◌, List}
+use Rattle.std.proofs.lemmas.List.{length-map, take_at}
 use Rattle.fixed_bellman.specs.declared.bounds.Bounds.{Bounds}
 use Rattle.fixed_bellman.specs.Bounds.{lowers}
 use Rattle.game_model.specs.Query.{states}
 use Rattle.bounded_rounds.specs.Parts.{IsStepped}
 use Rattle.bounded_rounds.specs.Steps.{steps_from}
-use Rattle.bounded_rounds.proofs.Parts.{IsSweep-next, IsSweep-rests, IsTable-step, written_back}
+use Rattle.bounded_rounds.proofs.Parts.{IsSweep-next, IsSweep-rests, IsTable-step}
 use Rattle.bounded_rounds.proofs.sweep.iterate.Goals as goal
 
 pub loop-done-init : goal.loop-done-init
@@ -37,7 +37,7 @@ loop-done-preserved g c =
     let next : List Bounds = c.step.new.next in
     let many : length next ≡ states q = omega (arith, c.step.auto.next, c.deref_mut.ensures.value, h.next) in
     let stepped = subst (λ (t : List Bounds). IsStepped q t 0 (states q) next c.step.result) c.deref.ensures.value c.step.ensures in
-    let back = written_back next c.loop-done.next.items c.loop-done.next.len (omega (arith, many, h.next)) (omega (arith, c.loop-done.next.ok)) in
+    let back = take_at next (drop (length next) c.loop-done.next.items) c.loop-done.next.len (omega (arith, many, h.next, c.loop-done.next.ok)) in
     rw (c.swap.ensures.x_after, c.swap.ensures.y_after, back) record {
       sweep = IsSweep-next q (slice_index (lowers c.args.table.items)) c.loop-done._done c.loop-done.table.items next c.step.result c.known.ensures h.sweep many stepped;
       table = IsTable-step q c.loop-done.table.items next c.step.result many stepped;

@@ -64,7 +64,7 @@ returns-clause-report g c =
       sound = sound;
       passes = passes;
       limits = printed-in_limits q plan initial found.rounds (shown-printable q zero bound initial asked check.traps found plan is_found shown held c.known.ensures c.make_answer.ensures.ranks) (omega (arith, is_found.bounds.few, c.requires.in_range.few_rounds)) c.requires.inside check.plan f;
-      told = all-told q bound (verdict_by f lower upper) initial (λ s within is. c.verdicts_are_true.ensures.yes q _ _ bound s c.known.ensures (reached s within) sound.high within (sym (agree s within) ∙ is))
+      right = all-told q bound (verdict_by f lower upper) initial (λ s within is. c.verdicts_are_true.ensures.yes q _ _ bound s c.known.ensures (reached s within) sound.high within (sym (agree s within) ∙ is))
           (λ s within is. c.verdicts_are_true.ensures.no q _ _ bound s c.known.ensures (reached s within) sound.high within (sym (agree s within) ∙ is)) c.requires.inside;
       left_open = λ i d there undecided. left_open i d there (sym (agree _ (c.requires.inside i d there)) ∙ undecided);
     }) c.make_answer.result c.make_answer.ensures.text c.make_answer.ensures.status

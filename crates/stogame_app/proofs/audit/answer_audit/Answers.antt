@@ -5,10 +5,10 @@ use Rattle.rpatl_syntax.specs.Formula.{tree_of}
 use Rattle.certificate_audit.specs.Accepted.{IsAccepted}
 use Rattle.command_words.specs.Words.{audit_of}
 use Rattle.asked_files.specs.declared.problem.Paths.TheVariants.{Unbounded}
-use Rattle.asked_files.specs.Asks.{IsText}
+use Rattle.asked_files.specs.Asks.{GivenTextWith}
 use Rattle.formula_sets.specs.Seen.{posing_of}
 use Rattle.asked_files.specs.SeenProblems.{problem_of}
-use Rattle.asked_files.specs.Sources.{HasSource}
+use Rattle.asked_files.specs.Sources.{SourceWith}
 use Rattle.stogame_app.proofs.Answered.{audit_asks, more_loaded, reached-inside, reported, uncertified, unloaded, unposed, wanting}
 use Rattle.question_reports.proofs.AuditedTexts.{accepted_audited}
 use Rattle.stogame_app.proofs.audit.answer_audit.Goals as goal
@@ -48,7 +48,7 @@ returns-in-Ok g c =
     let question = posing.question in
     let formula = tree_of c.in_ok-loaded.loaded.formula in
     let plan = c.in_ok-plan.plan in
-    let Q : Option Holding → Type 0 = λ h. HasSource h name (λ source. IsText source (λ bytes. IsAccepted question bytes plan)) in
+    let Q : Option Holding → Type 0 = λ h. SourceWith h name (λ source. GivenTextWith source (λ bytes. IsAccepted question bytes plan)) in
     reported (audit_asks (audit_of c.args.audit.now)) (more_loaded loaded.shelf c.in_ok-plan.ensures.shelf) answer (record {
       problem = problem;
       posed = loaded.reads.asks Unbounded problem c.in_ok-problem.ensures.says;

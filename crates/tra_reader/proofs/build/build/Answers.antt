@@ -4,7 +4,8 @@ use Rattle.game_model.specs.Game.{Distribution}
 use Rattle.tra_reader.specs.Limits.{most_stated_choices}
 use Rattle.tra_reader.specs.declared.line.Transition.{Transition}
 use Rattle.tra_reader.specs.declared.fault.TraFault.{TraFault}
-use Rattle.tra_reader.specs.Faults.{Gives}
+use Rattle.game_outside.specs.Answers.{AnswersOrWants}
+use Rattle.tra_reader.specs.Faults.{IsOutOfMemory}
 use Rattle.tra_reader.specs.Choices.{transitions_game}
 use Rattle.tra_reader.specs.Order.{IsWithin}
 use Rattle.tra_reader.proofs.Sorted.{same_transitions}
@@ -19,7 +20,7 @@ returns c =
     let ordered = c.put_in_order.new.transitions.items in
     let small : (ts : List Transition) → All (IsWithin n) ts → AreSmall ts = λ ts within. All-weaker (IsWithin n) (λ t. t.choice < most_stated_choices) (λ t w. w.choice_in) ts within in
     let same = same_transitions ordered c.args.transitions.items (small ordered (c.in_ok-put_in_order.ensures.within n c.requires.within)) (small c.args.transitions.items c.requires.within) c.in_ok-put_in_order.ensures.same in
-    let P : Result (List (List Distribution)) TraFault → Type 0 = λ said. Gives (λ (g : List (List Distribution)). g) c.build_in_order.result said in
+    let P : Result (List (List Distribution)) TraFault → Type 0 = λ said. AnswersOrWants IsOutOfMemory (λ (g : List (List Distribution)). g) c.build_in_order.result said in
     subst P (ap (λ (ts : List Transition). transitions_game ts n c.args.header.now.choices) c.deref.ensures.value ∙ game_alike ordered c.args.transitions.items n c.args.header.now.choices same) c.build_in_order.ensures
 
 pub build_in_order-requires-clause-within : goal.build_in_order-requires-clause-within

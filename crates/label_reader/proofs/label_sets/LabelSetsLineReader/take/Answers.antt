@@ -4,7 +4,7 @@ use Rattle.label_reader.specs.declared.kind.FileKind.TheVariants.{LabelFile}
 use Rattle.label_reader.specs.Marked.{AreMarked, with_marks}
 use Rattle.label_reader.specs.Texts.{labelling, is_said}
 use Rattle.label_reader.proofs.Bodies.{AnswersBehind-line, AnswersBehind-fault, add_line-known, add_line-unknown}
-use Rattle.label_reader.proofs.Filled.{written_back}
+use Rattle.std.proofs.lemmas.List.{take_at}
 use Rattle.label_reader.proofs.KnownLines.{line_with, known_line-known, known_line-fault, known_fields-all}
 use Rattle.label_reader.proofs.Marking.{AreMarked-line}
 use Rattle.label_reader.proofs.label_sets.LabelSetsLineReader.take.Goals as goal
@@ -13,7 +13,7 @@ pub invariant_of-self : goal.invariant_of-self
 invariant_of-self c =
     let self = c.args.self.now in
     let same = c.mark_all.auto.sets ∙ ap (λ (sets : List (List Bool)). length sets) c.as_mut_slice.ensures.value in
-    let back = written_back c.mark_all.new.sets self.sets.items same self.sets.len (omega (arith, self.sets.ok)) in
+    let back = take_at c.mark_all.new.sets (drop (length c.mark_all.new.sets) self.sets.items) self.sets.len (omega (arith, same, self.sets.ok)) in
     let P : List (List Bool) → Type 0 = λ sets. All (λ marks. length marks ≡ self.states) sets in
     record {
       single = self.single;
@@ -38,7 +38,7 @@ returns-in-Ok-mark_all-clause-ok c =
     let fields = fields_of c.in-Ok.numbers.now in
     let line = line_with c.in-Ok.state fields in
     let same = c.mark_all.auto.sets ∙ ap (λ (sets : List (List Bool)). length sets) c.as_mut_slice.ensures.value in
-    let back = written_back c.mark_all.new.sets self.sets.items same self.sets.len (omega (arith, self.sets.ok)) in
+    let back = take_at c.mark_all.new.sets (drop (length c.mark_all.new.sets) self.sets.items) self.sets.len (omega (arith, same, self.sets.ok)) in
     let marked = c.in-Ok-mark_all.ensures.marks ∙ ap (λ sets. with_marks items c.in-Ok.state sets fields) c.as_mut_slice.ensures.value in
     let known = known_line-known n items c.args.line.now c.in-Ok.state fields c.in-Ok.ensures.line c.in-Ok.ensures.range (sym c.in-Ok-mark_all.ensures.known) in
     λ lines answer rest. AnswersBehind-line LabelFile n (labelling n) items c.args.number c.args.line.now lines

@@ -1,7 +1,7 @@
 use Rattle.std.proofs.Common.{arith}
 use Rattle.std.specs.Prelude.{slice_index}
 use Rattle.game_model.specs.Game.{choice_of}
-use Rattle.rank_certificate.specs.Growing.{IsLow}
+use Rattle.rank_certificate.specs.Growing.{HasRankWithin}
 use Rattle.rank_certificate.specs.Carrying.{Carries}
 use Rattle.rank_certificate.proofs.Followed.{Follows-idle, Follows-look}
 use Rattle.rank_certificate.proofs.growth.Growth.follow.Goals as goal
@@ -10,8 +10,8 @@ pub returns-then-not-carries : goal.returns-then-not-carries
 returns-then-not-carries c =
     let q = c.args.question.now in
     let value = slice_index c.args.values.now in
-    let idle : ¬ Carries value (IsLow c.args.self.now.ranks.items c.args.level) c.args.step.state (choice_of q.game c.args.step.state c.args.step.choice) =
-    rw c.deref.ensures.value at (λ (carried : Carries value (IsLow c.deref.result.now c.args.level) c.args.step.state (choice_of q.game c.args.step.state c.args.step.choice)).
+    let idle : ¬ Carries value (HasRankWithin c.args.self.now.ranks.items c.args.level) c.args.step.state (choice_of q.game c.args.step.state c.args.step.choice) =
+    rw c.deref.ensures.value at (λ (carried : Carries value (HasRankWithin c.deref.result.now c.args.level) c.args.step.state (choice_of q.game c.args.step.state c.args.step.choice)).
     let is = c.carries.ensures.1 carried in
     let no : ⊥ = grind (arith, is, c.if-not-carries.true) in
     no) in

@@ -2,7 +2,7 @@ use Rattle.std.proofs.Common.{◌<◌, ◌≤◌, length, get_or, sym, subst, ap
 use Rattle.std.proofs.lemmas.List.{get_or-set_same}
 use Rattle.game_model.specs.Limits.{unit}
 use Rattle.step_core.specs.Word.{value_in, choice_in, value_at}
-use Rattle.fixed_bellman.proofs.Tables.{Gives-units}
+use Rattle.fixed_bellman.proofs.Tables.{IsGivenBy-units}
 use Rattle.value_words.proofs.Moves.{exchange-allowed, saw-empty, saw-live, saw-as_many, saw-rises, saw-units}
 use Rattle.value_words.proofs.table.ValueTable+P.exchange.Goals as goal
 
@@ -11,7 +11,7 @@ compare_exchange-requires g c =
     let q = g.P.Posing.posed in
     let p = c.args.pass.now in
     let offer = c.requires.offer in
-    let units : value_in c.args.to ≤ unit = Gives-units q (value_at p.seat.me.0.seen) c.args.state (value_in c.args.to) (choice_in c.args.to) c.args.self.now.posed offer.inside p.units offer.given in
+    let units : value_in c.args.to ≤ unit = IsGivenBy-units q (value_at p.seat.me.0.seen) c.args.state (value_in c.args.to) (choice_in c.args.to) c.args.self.now.posed offer.inside p.units offer.given in
     (c.requires.pass, subst (λ n. c.args.state < n) (sym c.args.self.now.as_many) offer.inside, exchange-allowed q _ _ p.seat.me c.args.state c.args.from c.args.to p.live offer units)
 
 pub invariant_of-pass : goal.invariant_of-pass

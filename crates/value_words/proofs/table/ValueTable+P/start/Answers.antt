@@ -2,7 +2,7 @@ use Rattle.std.proofs.Common.{◌≡◌, ℕ, ◌<◌, ◌≤◌, true, length, 
 use Rattle.game_model.specs.Query.{Query, IsQuery, states, is_goal}
 use Rattle.game_model.specs.Limits.{unit}
 use Rattle.step_core.specs.Word.{value_at, opening_words}
-use Rattle.step_core.proofs.Words.{IsSound-goals, IsSound-units, IsSound-opening}
+use Rattle.step_core.proofs.Words.{AreSoundWords-goals, AreSoundWords-units, AreSoundWords-opening}
 use Rattle.atomic_table.specs.Table.{Me, opening}
 use Rattle.value_words.specs.declared.rule.Sight.{Sight}
 use Rattle.value_words.specs.Rule.{Kept, opening_sight}
@@ -20,12 +20,12 @@ of_words-requires g c =
 opened : (q : Query) (m : Me (Unit {0}) Sight) → IsQuery q → m ≡ (opening_sight q, [])
     → record { empty : m.1 ≡ []; live : m.0.live ≡ true; as_many : length m.0.seen ≡ states q; units : (s : ℕ) → s < states q → value_at m.0.seen s ≤ unit; goals : (s : ℕ) → s < states q → is_goal q s ≡ true → unit ≤ value_at m.0.seen s }
 opened q m h is =
-    let sound = IsSound-opening q h in record {
+    let sound = AreSoundWords-opening q h in record {
       empty = ap (λ x. x.1) is;
       live = ap (λ x. x.0.live) is;
       as_many = ap (λ x. length x.0.seen) is ∙ sound.as_many;
-      units = λ s inside. subst (λ x. value_at x.0.seen s ≤ unit) (sym is) (IsSound-units q (opening_words q) sound s inside);
-      goals = λ s inside goal. subst (λ x. unit ≤ value_at x.0.seen s) (sym is) (omega (arith, IsSound-goals q (opening_words q) sound s inside goal));
+      units = λ s inside. subst (λ x. value_at x.0.seen s ≤ unit) (sym is) (AreSoundWords-units q (opening_words q) sound s inside);
+      goals = λ s inside goal. subst (λ x. unit ≤ value_at x.0.seen s) (sym is) (omega (arith, AreSoundWords-goals q (opening_words q) sound s inside goal));
     }
 
 pub invariant_of-result-in-Ok : goal.invariant_of-result-in-Ok
