@@ -1,6 +1,6 @@
 //! The real files and the real writer, each once.
 
-use crate::models::COIN_LOOP;
+use run_rows::COIN_LOOP;
 use game_outside::{ReadEnd, read_all, write_all};
 use std::fs;
 use std::test::Fail;

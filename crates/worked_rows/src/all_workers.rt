@@ -1,7 +1,7 @@
 //! The first round has as many workers as are asked for.
 
 use crate::cases::MOST_OF_AGREEMENT;
-use crate::rows::{Row, ends, runs, words};
+use run_rows::{Row, ends, runs, words};
 use game_outside::{Gate, SteadyShelf};
 use std::sync::atomic::{AtomicBool, Ordering};
 use std::test::Fail;

@@ -2,8 +2,7 @@
 
 use crate::audits::{audit_refuses, audit_words, audit_writes};
 use crate::certificates::{FIRST_OF_TWO_PLAYERS, MOST_OF_LOOP_OR_COIN};
-use crate::models::{COIN_LOOP, GOAL_AT_1};
-use crate::rows::{Row, ends, files, plain_row};
+use run_rows::{COIN_LOOP, GOAL_AT_1, Row, ends, files, plain_row};
 use game_outside::{MemShelf, OpenGate};
 use std::alloc::Global;
 use std::process::Abort;

@@ -3,7 +3,7 @@
 ghost use Rattle.std.specs.Prelude.{◌<◌};
 
 use crate::audits::{CERTIFICATE, audit_words};
-use crate::rows::{Row, file, files, row_words, words};
+use run_rows::{Row, file, files, row_words, words};
 use game_outside::{HeldFile, MemShelf, MemSink, OpenGate};
 use std::alloc::Global;
 use std::process::Abort;

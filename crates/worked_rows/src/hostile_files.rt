@@ -3,10 +3,8 @@
 use crate::audits::audit_refuses;
 use crate::cases::MOST_OF_COIN_LOOP;
 use crate::certificates::{FIRST_OF_TWO_PLAYERS, MOST_OF_LOOP_OR_COIN};
-use crate::models::{COIN_LOOP_REPORT, FIRST_IS_TRUE};
-use crate::rows::{
-    ONE_WORKER, Row, ends, file_of_bytes, files, push_times, refuses, row_words, with_file, writes,
-};
+use run_rows::{COIN_LOOP_REPORT, FIRST_IS_TRUE, ONE_WORKER, Row, ends, file_of_bytes, files, push_times, row_words, with_file};
+use crate::rows::{refuses, writes};
 use game_outside::{OpenGate, SteadyShelf};
 use std::alloc::Global;
 use std::process::Abort;

@@ -1,7 +1,7 @@
 //! A worker that comes late reads what another has just raised.
 
 use crate::cases::MOST_OF_AGREEMENT;
-use crate::rows::{Row, runs};
+use run_rows::{Row, runs};
 use crate::workers::agrees;
 use game_outside::LateGate;
 use std::test::Fail;

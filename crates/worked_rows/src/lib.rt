@@ -9,10 +9,6 @@ mod adapters;
 #[cfg(test)]
 mod all_workers;
 #[cfg(test)]
-mod always_games;
-#[cfg(test)]
-mod answers;
-#[cfg(test)]
 mod audit_faults;
 #[cfg(test)]
 mod audits;
@@ -24,14 +20,6 @@ mod certificates;
 mod commands;
 #[cfg(test)]
 mod damaged;
-#[cfg(test)]
-mod drawn_models;
-#[cfg(test)]
-mod drawn_texts;
-#[cfg(test)]
-mod drawn_words;
-#[cfg(test)]
-mod draws;
 #[cfg(test)]
 mod failing_calls;
 #[cfg(test)]
@@ -49,8 +37,6 @@ mod made;
 #[cfg(test)]
 mod many_choices;
 #[cfg(test)]
-mod models;
-#[cfg(test)]
 mod names_begun;
 #[cfg(test)]
 mod nested;
@@ -62,14 +48,6 @@ mod other_certificates;
 mod paths;
 #[cfg(test)]
 mod pieces;
-#[cfg(test)]
-mod plain_reading;
-#[cfg(test)]
-mod plain_values;
-#[cfg(test)]
-mod printed_lines;
-#[cfg(test)]
-mod random_cuts;
 #[cfg(test)]
 mod rows;
 #[cfg(test)]

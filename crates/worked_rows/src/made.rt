@@ -1,7 +1,6 @@
 //! Games that a seed draws.
 
-use crate::models::{OF_THREE_STATES, USAGE};
-use crate::rows::{ends, words};
+use run_rows::{OF_THREE_STATES, USAGE, ends, words};
 use game_outside::{Gate, HoldGate, OpenGate, SteadyShelf};
 use std::alloc::Global;
 use std::process::Abort;

@@ -1,8 +1,8 @@
 //! Formulas with others inside.
 
 use crate::audits::audit_writes;
-use crate::models::{COIN_LOOP, GOAL_AT_1};
-use crate::rows::{ONE_WORKER, Row, plain_row, refuses, runs, writes};
+use run_rows::{COIN_LOOP, GOAL_AT_1, ONE_WORKER, Row, plain_row, runs};
+use crate::rows::{refuses, writes};
 use crate::sure::sure_writes;
 use game_outside::HoldGate;
 use std::alloc::Global;

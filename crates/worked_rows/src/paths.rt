@@ -1,8 +1,8 @@
 //! Paths with a bound on the steps, the next step, and what always holds.
 
 use crate::audits::audit_writes;
-use crate::models::{COIN_LOOP, GOAL_AT_1};
-use crate::rows::{ONE_WORKER, Row, plain_row, refuses, runs, writes};
+use run_rows::{COIN_LOOP, GOAL_AT_1, ONE_WORKER, Row, plain_row, runs};
+use crate::rows::{refuses, writes};
 use crate::traps::{
     GOAL_AT_2, GOAL_AT_3, NO_ROUNDS, SECOND_OWNS_1, STAY_OR_COIN, TO_AND_FRO, TRAPS,
 };

@@ -5,7 +5,7 @@ use crate::cases::{
     PLAN_OF_TWO_PLAYERS, STATE_OUT_OF_RANGE,
 };
 use crate::commands::{Command, Outside, gives};
-use crate::rows::Row;
+use run_rows::Row;
 use std::alloc::Global;
 use std::process::Abort;
 use std::test::Fail;

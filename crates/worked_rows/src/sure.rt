@@ -1,7 +1,6 @@
 //! The states from which the goal is reached almost surely.
 
-use crate::models::{AGREEMENT, AGREEMENT_LABELS, AGREEMENT_OWNERS, COIN_LOOP, FORK, GOAL_AT_1};
-use crate::rows::{Row, add_words, ends, files, plain_row, words};
+use run_rows::{AGREEMENT, AGREEMENT_LABELS, AGREEMENT_OWNERS, COIN_LOOP, FORK, GOAL_AT_1, Row, add_words, ends, files, plain_row, words};
 use game_outside::{OpenGate, SteadyShelf};
 use std::alloc::Global;
 use std::process::Abort;

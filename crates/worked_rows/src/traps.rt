@@ -1,8 +1,8 @@
 //! Upper tables that are lowered to the best exits of traps.
 
 use crate::audits::audit_writes;
-use crate::models::{COIN_LOOP, GOAL_AT_1};
-use crate::rows::{Row, runs, writes};
+use run_rows::{COIN_LOOP, GOAL_AT_1, Row, runs};
+use crate::rows::writes;
 use game_outside::OpenGate;
 use std::test::Fail;
 use stogame_app::Status;

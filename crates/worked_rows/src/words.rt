@@ -1,8 +1,7 @@
 //! Words of the command line.
 
-use crate::models::{COIN_LOOP, COIN_LOOP_REPORT, GOAL_AT_1, SECOND_OWNS_1, USAGE};
-use crate::rows::{ends, file, words};
-use game_outside::{HeldFile, OpenGate, SteadyShelf};
+use run_rows::{COIN_LOOP_REPORT, USAGE, coin_loop_files, ends, words};
+use game_outside::{OpenGate, SteadyShelf};
 use std::alloc::Global;
 use std::process::Abort;
 use std::test::Fail;
@@ -10,21 +9,6 @@ use std::thread::Threads;
 use stogame_app::Status;
 
 const REACH: &str = "Pmax=? [ F \"goal\" ]";
-
-/// A certificate of the coin loop's value.
-const COIN_LOOP_CERTIFICATE: &str =
-    "certificate 2 3\n0 0.500000000000000 0 1 0.500000000000000 -\n1 1.000000000000000 - 0 1.000000000000000 -\n2 0.000000000000000 - 0 0.000000000000000 -\n";
-
-/// The files of the coin loop, and a certificate; a single minus is the name of the transition file as well.
-pub fn coin_loop_files(alloc: Global) -> Result<Vec<HeldFile>, Fail> {
-    let mut files = Vec::new(alloc);
-    files.push(file(alloc, "m.tra", COIN_LOOP)?)?;
-    files.push(file(alloc, "m.lab", GOAL_AT_1)?)?;
-    files.push(file(alloc, "m.own", SECOND_OWNS_1)?)?;
-    files.push(file(alloc, "-", COIN_LOOP)?)?;
-    files.push(file(alloc, "c", COIN_LOOP_CERTIFICATE)?)?;
-    Ok(files)
-}
 
 // How a run with these words ends, and what it writes.
 fn ends_with<R: Threads + Sync + Abort>(

@@ -1,8 +1,8 @@
 //! Rounds and workers.
 
 use crate::cases::{MOST_OF_AGREEMENT, MOST_OF_COIN_LOOP};
-use crate::models::COIN_LOOP_REPORT;
-use crate::rows::{Row, runs, writes};
+use run_rows::{COIN_LOOP_REPORT, Row, runs};
+use crate::rows::writes;
 use game_outside::{Gate, HoldGate, OpenGate};
 use std::alloc::Global;
 use std::process::Abort;

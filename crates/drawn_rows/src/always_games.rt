@@ -5,7 +5,7 @@ use crate::drawn_models::{DrawnModel, MOST_STATES, draw_model};
 use crate::draws::Draws;
 use crate::plain_values::{LeavingGame, Staying};
 use crate::printed_lines::{PrintedLine, read_lines};
-use crate::rows::{Row, runs};
+use run_rows::{Row, runs};
 use game_model::{Game, Side, UNIT};
 use game_outside::OpenGate;
 use std::alloc::Global;

@@ -5,7 +5,7 @@ ghost use Rattle.std.specs.Prelude.{◌<◌};
 use crate::answers::{answer_in_pieces, answer_of_whole};
 use crate::drawn_texts::{ModelFile, damage, draw_text};
 use crate::draws::Draws;
-use crate::rows::file_of_bytes;
+use run_rows::file_of_bytes;
 use game_outside::MemShelf;
 use std::alloc::Global;
 use std::process::Abort;
