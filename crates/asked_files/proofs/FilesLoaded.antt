@@ -13,7 +13,7 @@ use Rattle.run_refusals.specs.declared.refusal.Refusal.{Refusal}
 use Rattle.run_refusals.specs.declared.refusal.Refusal.TheVariants.{TooLong}
 use Rattle.asked_files.specs.Said.{Said, Refuses, and_then, read_said}
 use Rattle.asked_files.specs.Sources.{IfKnown}
-use Rattle.asked_files.specs.Loading.{LoadsText, end_of}
+use Rattle.asked_files.specs.Loading.{LoadsText, fault_of}
 use Rattle.asked_files.specs.Texts.{text_said}
 use Rattle.asked_files.proofs.Lengths.{short_says, long_refuses, longer}
 use Rattle.asked_files.proofs.Loading.{read_as_told, wanting}
@@ -52,14 +52,19 @@ module _ {X F : Type 0} (text : Text) (refusal : F → Refusal) (said : List ℕ
   not_read None never = record { source = None; told = λ fails. tt; steadily = λ calm. tt; loads = refl }
   not_read (Some held) never = record { source = None; told = λ fails. absurd (fails refl); steadily = λ calm. none_there (held name) (never calm); loads = refl }
 
-  file_ends : (end : FileEnd F) → ReadsFile {X = X} (λ bytes answer. said bytes ≡ answer) holding name most_bytes (Err end) → (end ≡ file.ReadFault → steady ≡ true → Holds holding name → ⊥) → Answers (Err (end_of text refusal end))
-  file_ends file.OutOfMemory reads never = wanting holding steady (λ held. held name) (λ x. x) said_of
-  file_ends file.ReadFault reads never = not_read holding (never refl)
-  file_ends file.TooLong reads never = too_long holding reads
-  file_ends (file.Refused fault) of never =
-      read_as_told holding steady (λ held. held name) (λ x. x) (Err (Refused (refusal fault))) said_of (Some of.text) (as_held holding name of.text of.told) (says_so of.text (Err fault) of.within of.holds)
+  -- a file that is not read to its end
+  pub file_unread : (end : FileEnd F) (how : End) → fault_of text end ≡ Err how → ReadsFile {X = X} (λ bytes answer. said bytes ≡ answer) holding name most_bytes (Err end)
+      → (end ≡ file.ReadFault → steady ≡ true → Holds holding name → ⊥) → Answers (Err how)
+  file_unread file.OutOfMemory how is reads never = subst (λ e. Answers (Err e)) (cc (is)) (wanting holding steady (λ held. held name) (λ x. x) said_of)
+  file_unread file.ReadFault how is reads never = subst (λ e. Answers (Err e)) (cc (is)) (not_read holding (never refl))
+  file_unread file.TooLong how is reads never = subst (λ e. Answers (Err e)) (cc (is)) (too_long holding reads)
+  file_unread (file.Refused fault) how is reads never = absurd (cc (is))
 
-  -- the same of an end that is the file's
-  pub file_fails : (end : FileEnd F) (other : End) → other ≡ end_of text refusal end → ReadsFile {X = X} (λ bytes answer. said bytes ≡ answer) holding name most_bytes (Err end)
-      → (end ≡ file.ReadFault → steady ≡ true → Holds holding name → ⊥) → Answers (Err other)
-  file_fails end other is reads never = subst (λ e. Answers (Err e)) (sym is) (file_ends end reads never)
+  -- one that the reader refuses
+  pub file_refused : (end : FileEnd F) (fault : F) → fault_of text end ≡ Ok fault → ReadsFile {X = X} (λ bytes answer. said bytes ≡ answer) holding name most_bytes (Err end) → Answers (Err (Refused (refusal fault)))
+  file_refused file.OutOfMemory fault is reads = absurd (cc (is))
+  file_refused file.ReadFault fault is reads = absurd (cc (is))
+  file_refused file.TooLong fault is reads = absurd (cc (is))
+  file_refused (file.Refused other) fault is of =
+      let said_other = read_as_told holding steady (λ held. held name) (λ x. x) (Err (Refused (refusal other))) said_of (Some of.text) (as_held holding name of.text of.told) (says_so of.text (Err other) of.within of.holds) in
+      subst (λ (f : F). Answers (Err (Refused (refusal f)))) (cc (is)) said_other

@@ -6,7 +6,6 @@ use Rattle.game_outside.specs.declared.file.FileEnd.{FileEnd}
 use Rattle.game_outside.specs.declared.file.FileEnd.TheVariants as file
 use Rattle.game_outside.specs.Outside.{Holding, Rose, KeepsShelf}
 use Rattle.run_refusals.specs.declared.refusal.Text.{Text}
-use Rattle.run_refusals.specs.declared.refusal.Refusal.{Refusal}
 use Rattle.run_refusals.specs.declared.refusal.Refusal.TheVariants.{TooLong}
 use Rattle.run_refusals.specs.Caused.{IsCaused}
 use Rattle.asked_files.specs.declared.load.End.{End}
@@ -58,9 +57,9 @@ pub record LoadingLeaves {S X : Type 0} (held : S → Option Holding) (steady : 
   pub takes : Takes result (took new)
   pub kept : KeepsShelf (held old) (held new) (steady old) (steady new) (faults old) (faults new)
 
--- the end that the end of a file comes to, which has this text
-abbrev pub end_of : {F : Type 0} → Text → (F → Refusal) → FileEnd F → End
-end_of text refusal file.OutOfMemory = OutOfMemory
-end_of text refusal file.ReadFault = ReadFault
-end_of text refusal file.TooLong = Refused (TooLong text)
-end_of text refusal (file.Refused fault) = Refused (refusal fault)
+-- the fault for which a file that has this text's place is refused; or else how loading ends
+abbrev pub fault_of : {F : Type 0} → Text → FileEnd F → Result F End
+fault_of text file.OutOfMemory = Err OutOfMemory
+fault_of text file.ReadFault = Err ReadFault
+fault_of text file.TooLong = Err (Refused (TooLong text))
+fault_of text (file.Refused fault) = Ok fault

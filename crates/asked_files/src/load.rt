@@ -3,16 +3,16 @@
 ghost use Rattle.std.specs.Prelude.{◌≡◌, ◌≤◌, ◌⊎◌, IsErrOf, IsOk, IfOk, option_map, length};
 ghost use Rattle.text_lines.specs.Limits.{most_bytes};
 ghost use Rattle.asked_files.specs.Sources.{held_own};
-ghost use Rattle.asked_files.specs.Loading.{LoadingLeaves, LoadsText, RefusesCaused, end_of};
+ghost use Rattle.asked_files.specs.Loading.{LoadingLeaves, LoadsText, RefusesCaused, fault_of};
 ghost use Rattle.asked_files.specs.Texts.{text_said, game_said, labels_said, owners_said, single_owner};
 
 use game_model::Game;
 use game_outside::{FileEnd, ReadEnd, Shelf, read_all};
-use label_reader::{LabFault, Labels, Owners, read_labels_from, read_owners_from};
+use label_reader::{Labels, Owners, read_labels_from, read_owners_from};
 use run_refusals::{Refusal, Text};
 use std::alloc::Global;
 use text_lines::MOST_BYTES;
-use tra_reader::{TraFault, read_tra_from};
+use tra_reader::read_tra_from;
 
 /// How loading ends that gives nothing.
 #[derive(Drop)]
@@ -42,6 +42,18 @@ pub fn load_text<H: Shelf>(
     }
 }
 
+// The fault for which a reader refuses a file; or, where the file is not read to its end, how loading ends.
+fn fault_of<F: Drop>(text: Text, end: FileEnd<F>) -> Result<F, End>
+    ensures { result ≡ fault_of text end }
+{
+    match end {
+        FileEnd::OutOfMemory => Err(End::OutOfMemory),
+        FileEnd::ReadFault => Err(End::ReadFault),
+        FileEnd::TooLong => Err(End::Refused(Refusal::TooLong(text))),
+        FileEnd::Refused(fault) => Ok(fault),
+    }
+}
+
 /// The game of the transition file.
 pub fn load_game<H: Shelf>(alloc: Global, shelf: &mut H, name: &str) -> Result<Game, End>
     ensures says { LoadsText (H.held shelf.old) (H.steady shelf.old) (λ held. held name.now) (λ x. x) result game_said }
@@ -50,19 +62,10 @@ pub fn load_game<H: Shelf>(alloc: Global, shelf: &mut H, name: &str) -> Result<G
 {
     match read_tra_from(alloc, shelf, name, MOST_BYTES as u64) {
         Ok(game) => Ok(game),
-        Err(end) => Err(end_of_game(end)),
-    }
-}
-
-// The end where the transition file gives no game.
-fn end_of_game(end: FileEnd<TraFault>) -> End
-    ensures { result ≡ end_of Text.Tra Refusal.OfTra end }
-{
-    match end {
-        FileEnd::OutOfMemory => End::OutOfMemory,
-        FileEnd::ReadFault => End::ReadFault,
-        FileEnd::TooLong => End::Refused(Refusal::TooLong(Text::Tra)),
-        FileEnd::Refused(fault) => End::Refused(Refusal::OfTra(fault)),
+        Err(end) => {
+            let fault = fault_of(Text::Tra, end)?;
+            Err(End::Refused(Refusal::OfTra(fault)))
+        }
     }
 }
 
@@ -80,19 +83,10 @@ pub fn load_labels<H: Shelf>(
 {
     match read_labels_from(alloc, shelf, name, MOST_BYTES as u64, states) {
         Ok(labels) => Ok(labels),
-        Err(end) => Err(end_of_labels(end)),
-    }
-}
-
-// The end where the label file gives no labels.
-fn end_of_labels(end: FileEnd<LabFault>) -> End
-    ensures { result ≡ end_of Text.Lab Refusal.OfLab end }
-{
-    match end {
-        FileEnd::OutOfMemory => End::OutOfMemory,
-        FileEnd::ReadFault => End::ReadFault,
-        FileEnd::TooLong => End::Refused(Refusal::TooLong(Text::Lab)),
-        FileEnd::Refused(fault) => End::Refused(Refusal::OfLab(fault)),
+        Err(end) => {
+            let fault = fault_of(Text::Lab, end)?;
+            Err(End::Refused(Refusal::OfLab(fault)))
+        }
     }
 }
 
@@ -110,19 +104,10 @@ pub fn load_owner_file<H: Shelf>(
 {
     match read_owners_from(alloc, shelf, name, MOST_BYTES as u64, states) {
         Ok(owners) => Ok(owners),
-        Err(end) => Err(end_of_owners(end)),
-    }
-}
-
-// The end where the owner file gives no owners.
-fn end_of_owners(end: FileEnd<LabFault>) -> End
-    ensures { result ≡ end_of Text.Own Refusal.OfOwn end }
-{
-    match end {
-        FileEnd::OutOfMemory => End::OutOfMemory,
-        FileEnd::ReadFault => End::ReadFault,
-        FileEnd::TooLong => End::Refused(Refusal::TooLong(Text::Own)),
-        FileEnd::Refused(fault) => End::Refused(Refusal::OfOwn(fault)),
+        Err(end) => {
+            let fault = fault_of(Text::Own, end)?;
+            Err(End::Refused(Refusal::OfOwn(fault)))
+        }
     }
 }
 

@@ -4,31 +4,24 @@
 //! where these are settled. [`laws`] says that the line of settled tables is the same on every run.
 #![tactic(auto)]
 
-ghost use Rattle.std.specs.Prelude.{◌≡◌, ◌<◌, ◌^◌, ◌∷◌, [], IfOk, count_by};
+ghost use Rattle.std.specs.Prelude.{◌≡◌, ◌<◌, ◌^◌, IfOk, count_by};
 ghost use Rattle.std.specs.String.{string_bytes};
-ghost use Rattle.game_model.specs.Dual.{IsZeroSet};
-ghost use Rattle.predecessors.specs.Lists.{ArePredecessors};
-ghost use Rattle.rpatl_syntax.specs.declared.formula.Bound.TheVariants.{AskMax};
-ghost use Rattle.command_words.specs.Words.{AreRunLimits, IsMakeInRange, make_of};
-ghost use Rattle.bracket_engine.specs.Bracket.{IsBracket};
-ghost use Rattle.bracket_engine.specs.Lower.{IsLowerTable};
+ghost use Rattle.command_words.specs.Words.{IsMakeInRange, make_of};
 ghost use Rattle.drawn_report.specs.Made.{IsMade, ending, status_made, sum_of, summary_text};
 ghost use Rattle.run_answers.specs.Status.{IsAnswer};
 
 pub mod laws;
 
-use bracket_engine::{Bracket, bracket_over};
+use bracket_engine::{Bracket, bracket_for};
 use command_words::MakeWords;
 use drawn_game::draw_game;
-use game_model::{Marks, Question};
+use game_model::Marks;
 use game_outside::{Gate, OutOfMemory};
 use predecessors::Predecessors;
 use rpatl_syntax::Bound;
 use run_answers::{Answer, Status};
 use std::alloc::{AllocError, Global};
 use std::thread::Threads;
-use verdicts::{StopRule, settle};
-use zero_sets::zero_set_over;
 
 /// The bracket of the drawn question, and what it comes to. The only error is want of memory.
 pub fn drawn_report<R: Threads + Sync, G: Gate + Sync>(
@@ -46,44 +39,18 @@ pub fn drawn_report<R: Threads + Sync, G: Gate + Sync>(
     let question = drawn.question(alloc)?;
     question.known();
     let predecessors = Predecessors::of_game(alloc, question.game())?;
-    let zero = zero_set_over(alloc, &question, &predecessors)?;
-    let found = bracket_in_full(rt, alloc, &question, &zero, &predecessors, make, gate)?;
-    write_summary(alloc, make, &zero, &found)
-}
-
-// The bracket of a question that asks for a value, at state 0: it ends early only where both tables are settled.
-fn bracket_in_full<R: Threads + Sync, G: Gate + Sync>(
-    rt: &R,
-    alloc: Global,
-    question: &Question,
-    zero: &Marks,
-    predecessors: &Predecessors,
-    make: &MakeWords,
-    gate: &G,
-) -> Result<Bracket, OutOfMemory>
-    requires zero { IsZeroSet question.now zero.now }
-    requires lists { ArePredecessors question.now.game predecessors.now }
-    requires limits { AreRunLimits make.now.rounds make.now.workers }
-    ensures bounds { IfOk result (λ found. IsBracket question.now zero.now AskMax (0 ∷ []) make.now.rounds found.base.items found.upper.items found.rounds found.stable) }
-    ensures lower { IfOk result (λ found. IsLowerTable question.now zero.now found.base.items found.lower.items found.choices.items found.ranks.items) }
-{
-    question.known();
-    let bound = Bound::AskMax;
-    let stop = StopRule::of_bound(bound, |lower, upper| {
-        settle(&bound, lower, upper).is_settling()
-    });
-    bracket_over(
+    let found = bracket_for(
         rt,
         alloc,
-        question,
-        zero,
-        predecessors,
+        &question,
+        &predecessors,
+        Bound::AskMax,
+        &[0],
         make.rounds,
         make.workers,
-        &stop,
-        &[0],
         gate,
-    )
+    )?;
+    write_summary(alloc, make, &found.zero, &found.bracket)
 }
 
 // The summary line of a bracket, and its status.

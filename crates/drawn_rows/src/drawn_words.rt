@@ -2,9 +2,9 @@
 
 use crate::draws::Draws;
 use crate::plain_reading::{PlainWords, plain_words};
-use run_rows::{coin_loop_files, words};
 use command_words::{AskedWords, AuditWords, CheckWords, CommandWords, read_words};
 use game_outside::{OpenGate, SteadyShelf, SteadySink};
+use run_rows::{coin_loop_files, words};
 use std::alloc::Global;
 use std::process::Abort;
 use std::test::Fail;

@@ -9,14 +9,13 @@ ghost use Rattle.nested_truth.specs.Seen.{IsBand, band_in, high_or};
 use crate::bounds::Bounds;
 use crate::questions::Questions;
 use crate::setting::Setting;
-use bracket_engine::{Bracket, bracket_over};
+use bracket_engine::{Bracket, bracket_for};
 use game_model::Question;
 use game_outside::{Gate, OutOfMemory};
 use rpatl_syntax::Bound;
 use std::alloc::Global;
 use std::thread::Threads;
-use verdicts::{How, StopRule, settle};
-use zero_sets::zero_set_over;
+use verdicts::How;
 
 /// The lower bounds of one question and the upper ones of another: one run, where they are the same. A run ends where the
 /// bound is settled at all of these states.
@@ -64,20 +63,16 @@ fn run_of<R: Threads + Sync, G: Gate + Sync>(
     requires starts { All (λ s. s < length setting.game.now) starts.now }
     ensures { IfOk result (λ found. IsRun question.now bound starts.now setting.entry.rounds found) }
 {
-    let zero = zero_set_over(alloc, question, setting.predecessors)?;
-    let stop = StopRule::of_bound(bound, |lower, upper| {
-        settle(&bound, lower, upper).is_settling()
-    });
-    bracket_over(
+    let found = bracket_for(
         rt,
         alloc,
         question,
-        &zero,
         setting.predecessors,
+        bound,
+        starts,
         setting.rounds,
         setting.workers,
-        &stop,
-        starts,
         gate,
-    )
+    )?;
+    Ok(found.bracket)
 }

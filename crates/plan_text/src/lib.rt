@@ -24,4 +24,4 @@ pub use fixed::{append_fixed, fixed_text};
 pub use onto::{append, append_number};
 pub use plan::Plan;
 pub use read::read_plan;
-pub use write::write_plan;
+pub use write::{append_plan, write_plan};

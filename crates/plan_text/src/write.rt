@@ -22,13 +22,25 @@ pub fn write_plan(alloc: Global, plan: &Plan) -> Result<Vec<u8>, OutOfMemory>
     requires upper { All (λ v. v ≤ unit) plan.now.upper.items }
     ensures { IfOk result (λ text. text.items ≡ certificate_text (entries_of plan.now)) }
 {
-    let states = plan.lower.len();
     let mut text = Vec::new(alloc);
-    append_heading(&mut text, states)?;
-    for state in 0..states {
-        append_entry(&mut text, plan, state)?;
-    }
+    append_plan(&mut text, plan)?;
     Ok(text)
+}
+
+/// Appends the text of [`write_plan`] to a text. The only error is want of memory.
+pub fn append_plan(text: &mut Vec<u8>, plan: &Plan) -> Result<(), OutOfMemory>
+    requires lists { HasStates plan.now (length plan.now.lower.items) }
+    requires some { 1 ≤ length plan.now.lower.items }
+    requires lower { All (λ v. v ≤ unit) plan.now.lower.items }
+    requires upper { All (λ v. v ≤ unit) plan.now.upper.items }
+    ensures { OnOk result (text.new.items ≡ text.old.items ++ certificate_text (entries_of plan.now)) }
+{
+    let states = plan.lower.len();
+    append_heading(text, states)?;
+    for state in 0..states {
+        append_entry(text, plan, state)?;
+    }
+    Ok(())
 }
 
 // The first line, which says how many states there are.

@@ -15,23 +15,22 @@ ghost use Rattle.question_reports.specs.Reports.{IsReport, IsShown, IsUpperHeld,
 ghost use Rattle.run_answers.specs.Outputs.{certificate_part, output_text};
 ghost use Rattle.run_answers.specs.Status.{IsAnswer};
 
-use bracket_engine::{Bracket, bracket_over};
+use bracket_engine::{Bracket, bracket_for};
 use command_words::CheckWords;
 use game_model::Question;
 use game_outside::{Gate, OutOfMemory};
-use plan_text::{Plan, append, write_plan};
+use plan_text::{Plan, append, append_plan};
 use predecessors::Predecessors;
 use rpatl_syntax::{Formula, print_formula};
 use run_answers::{Answer, is_mirrored, report_of};
 use std::alloc::Global;
 use std::thread::Threads;
 use trap_sets::lower_traps_over;
+use verdicts::How;
 use verdicts::laws::{
     mirrored_verdicts_are_those_of_the_dual, planned_values_are_reached,
     undecided_thresholds_are_left_open, verdicts_are_true,
 };
-use verdicts::{How, StopRule, settle};
-use zero_sets::zero_set_over;
 
 /// A formula as the words spell it, and the one whose question is answered: of `G` the dual, else the same.
 #[derive(Clone, Copy)]
@@ -59,22 +58,16 @@ pub fn report<R: Threads + Sync, G: Gate + Sync>(
     ensures report { IfOk result (λ answer. IsReport question.now initial.now (tree_of formulas.entry.spelled.now) (check_of check.now) answer.text.items answer.status) }
     ensures answer { IfOk result (λ answer. IsAnswer answer.status) }
 {
-    let bound = formulas.answered.bound;
     let predecessors = Predecessors::of_game(alloc, question.game())?;
-    let zero = zero_set_over(alloc, question, &predecessors)?;
-    let stop = StopRule::of_bound(bound, |lower, upper| {
-        settle(&bound, lower, upper).is_settling()
-    });
-    let found = bracket_over(
+    let bracketed = bracket_for(
         rt,
         alloc,
         question,
-        &zero,
         &predecessors,
+        formulas.answered.bound,
+        initial,
         check.rounds,
         check.workers,
-        &stop,
-        initial,
         gate,
     )?;
     // What a question keeps, and four laws: these calls do nothing.
@@ -83,6 +76,7 @@ pub fn report<R: Threads + Sync, G: Gate + Sync>(
     verdicts_are_true();
     undecided_thresholds_are_left_open();
     mirrored_verdicts_are_those_of_the_dual();
+    let found = bracketed.bracket;
     let how = How::Rounds(found.rounds);
     let plan = shown(alloc, question, &predecessors, check.traps, found)?;
     make_answer(alloc, &plan, how, formulas, initial, check.plan)
@@ -201,5 +195,5 @@ fn append_certificate(
     append(text, b"formula ")?;
     append(text, &print_formula(alloc, formulas.answered)?)?;
     append(text, b"\n")?;
-    append(text, &write_plan(alloc, plan)?)
+    append_plan(text, plan)
 }

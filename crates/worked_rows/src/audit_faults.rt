@@ -2,8 +2,8 @@
 
 use crate::audits::{audit_refuses, audit_words, audit_writes};
 use crate::certificates::{FIRST_OF_TWO_PLAYERS, MOST_OF_LOOP_OR_COIN};
-use run_rows::{COIN_LOOP, GOAL_AT_1, Row, ends, files, plain_row};
 use game_outside::{MemShelf, OpenGate};
+use run_rows::{COIN_LOOP, GOAL_AT_1, Row, ends, files, plain_row};
 use std::alloc::Global;
 use std::process::Abort;
 use std::test::Fail;

@@ -3,8 +3,10 @@
 use crate::certificates::{
     FIRST_OF_TWO_PLAYERS, MOST_OF_COIN_LOOP_WITH_PLAN, MOST_OF_LOOP_OR_COIN,
 };
-use run_rows::{COIN_LOOP, GOAL_AT_1, Row, add_words, ends, file_of_bytes, files, plain_row, runs, words};
 use game_outside::{OpenGate, SteadyShelf};
+use run_rows::{
+    COIN_LOOP, GOAL_AT_1, Row, add_words, ends, file_of_bytes, files, plain_row, runs, words,
+};
 use std::alloc::Global;
 use std::process::Abort;
 use std::test::Fail;

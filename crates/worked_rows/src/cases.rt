@@ -4,7 +4,10 @@ use crate::certificates::{
     FIRST_OF_TWO_PLAYERS, LOOP_OR_COIN_PLAN, MOST_OF_LOOP_OR_COIN, TWO_PLAYERS_PLAN,
 };
 use crate::commands::Command;
-use run_rows::{AGREEMENT, AGREEMENT_LABELS, AGREEMENT_OWNERS, COIN_LOOP, COIN_LOOP_REPORT, GOAL_AT_1, OF_THREE_STATES, ONE_WORKER, Row, USAGE};
+use run_rows::{
+    AGREEMENT, AGREEMENT_LABELS, AGREEMENT_OWNERS, COIN_LOOP, COIN_LOOP_REPORT, GOAL_AT_1,
+    OF_THREE_STATES, ONE_WORKER, Row, USAGE,
+};
 use stogame_app::Status;
 
 /// A command with what it writes and how it ends where no call fails.

@@ -1,8 +1,8 @@
 //! Certificates, as they are printed.
 
-use run_rows::{COIN_LOOP, GOAL_AT_1, GOAL_AT_2, LOOP_OR_COIN, Row, SECOND_OWNS_1, TWO_PLAYERS};
 use crate::rows::writes;
 use plan_text::read_plan;
+use run_rows::{COIN_LOOP, GOAL_AT_1, GOAL_AT_2, LOOP_OR_COIN, Row, SECOND_OWNS_1, TWO_PLAYERS};
 use std::test::Fail;
 use stogame_app::Status;
 

@@ -3,8 +3,8 @@
 ghost use Rattle.std.specs.Prelude.{◌<◌};
 
 use crate::audits::{CERTIFICATE, audit_words};
-use run_rows::{Row, file, files, row_words, words};
 use game_outside::{HeldFile, MemShelf, MemSink, OpenGate};
+use run_rows::{Row, file, files, row_words, words};
 use std::alloc::Global;
 use std::process::Abort;
 use std::test::Fail;

@@ -6,8 +6,11 @@ use crate::audits::CERTIFICATE;
 use crate::cases::{AUDIT_OF_TWO_PLAYERS, MOST_OF_AGREEMENT, MOST_OF_COIN_LOOP};
 use crate::certificates::{FIRST_OF_TWO_PLAYERS, TWO_PLAYERS_PLAN};
 use crate::commands::Command;
-use run_rows::{AGREEMENT, AGREEMENT_LABELS, AGREEMENT_OWNERS, COIN_LOOP, COIN_LOOP_REPORT, GOAL_AT_1, GOAL_AT_2, Row, SECOND_OWNS_1, TWO_PLAYERS, ends, file_of_bytes, with_file};
 use game_outside::{MemShelf, OpenGate};
+use run_rows::{
+    AGREEMENT, AGREEMENT_LABELS, AGREEMENT_OWNERS, COIN_LOOP, COIN_LOOP_REPORT, GOAL_AT_1,
+    GOAL_AT_2, Row, SECOND_OWNS_1, TWO_PLAYERS, ends, file_of_bytes, with_file,
+};
 use std::alloc::Global;
 use std::process::Abort;
 use std::test::Fail;

@@ -1,7 +1,7 @@
 //! Formulas that are refused.
 
-use run_rows::{COIN_LOOP, GOAL_AT_1, plain_row, push_times};
 use crate::rows::refuses;
+use run_rows::{COIN_LOOP, GOAL_AT_1, plain_row, push_times};
 use std::alloc::Global;
 use std::process::Abort;
 use std::test::Fail;

@@ -3,9 +3,12 @@
 use crate::audits::audit_refuses;
 use crate::cases::MOST_OF_COIN_LOOP;
 use crate::certificates::{FIRST_OF_TWO_PLAYERS, MOST_OF_LOOP_OR_COIN};
-use run_rows::{COIN_LOOP_REPORT, FIRST_IS_TRUE, ONE_WORKER, Row, ends, file_of_bytes, files, push_times, row_words, with_file};
 use crate::rows::{refuses, writes};
 use game_outside::{OpenGate, SteadyShelf};
+use run_rows::{
+    COIN_LOOP_REPORT, FIRST_IS_TRUE, ONE_WORKER, Row, ends, file_of_bytes, files, push_times,
+    row_words, with_file,
+};
 use std::alloc::Global;
 use std::process::Abort;
 use std::test::Fail;

@@ -1,7 +1,7 @@
 //! Label files, owner files and questions that are refused.
 
-use run_rows::{COIN_LOOP, GOAL_AT_1, GOAL_AT_2, ONE_WORKER, Row, TWO_PLAYERS, plain_row};
 use crate::rows::refuses;
+use run_rows::{COIN_LOOP, GOAL_AT_1, GOAL_AT_2, ONE_WORKER, Row, TWO_PLAYERS, plain_row};
 use std::alloc::Global;
 use std::process::Abort;
 use std::test::Fail;

@@ -5,10 +5,13 @@ ghost use Rattle.std.specs.Prelude.{◌<◌};
 use crate::cases::{Case, MOST_OF_COIN_LOOP};
 use crate::certificates::FIRST_OF_TWO_PLAYERS;
 use crate::commands::Command;
-use run_rows::{COIN_LOOP, COIN_LOOP_REPORT, FIRST_IS_TRUE, GOAL_AT_1, ONE_WORKER, Row, SECOND_OWNS_1, file, push_times};
 use crate::pieces::gives_in_pieces;
 use game_outside::{FileEnd, MemShelf};
 use label_reader::{read_labels_from, read_owners_from};
+use run_rows::{
+    COIN_LOOP, COIN_LOOP_REPORT, FIRST_IS_TRUE, GOAL_AT_1, ONE_WORKER, Row, SECOND_OWNS_1, file,
+    push_times,
+};
 use std::alloc::Global;
 use std::process::Abort;
 use std::test::Fail;

@@ -1,7 +1,7 @@
 //! Games that a seed draws.
 
-use run_rows::{OF_THREE_STATES, USAGE, ends, words};
 use game_outside::{Gate, HoldGate, OpenGate, SteadyShelf};
+use run_rows::{OF_THREE_STATES, USAGE, ends, words};
 use std::alloc::Global;
 use std::process::Abort;
 use std::sync::atomic::{AtomicU32, Ordering};

@@ -2,8 +2,8 @@
 
 use crate::audits::{audit_refuses, audit_writes};
 use crate::certificates::{FIRST_OF_TWO_PLAYERS, PLAN};
-use run_rows::{COIN_LOOP, FORK, GOAL_AT_1, LOOP_OR_COIN, Row, runs};
 use game_outside::OpenGate;
+use run_rows::{COIN_LOOP, FORK, GOAL_AT_1, LOOP_OR_COIN, Row, runs};
 use std::test::Fail;
 use stogame_app::Status;
 

@@ -1,7 +1,10 @@
 //! The states from which the goal is reached almost surely.
 
-use run_rows::{AGREEMENT, AGREEMENT_LABELS, AGREEMENT_OWNERS, COIN_LOOP, FORK, GOAL_AT_1, Row, add_words, ends, files, plain_row, words};
 use game_outside::{OpenGate, SteadyShelf};
+use run_rows::{
+    AGREEMENT, AGREEMENT_LABELS, AGREEMENT_OWNERS, COIN_LOOP, FORK, GOAL_AT_1, Row, add_words,
+    ends, files, plain_row, words,
+};
 use std::alloc::Global;
 use std::process::Abort;
 use std::test::Fail;

@@ -1,7 +1,7 @@
 //! Transition files that are refused.
 
-use run_rows::{COIN_LOOP, FORK, GOAL_AT_1, plain_row};
 use crate::rows::refuses;
+use run_rows::{COIN_LOOP, FORK, GOAL_AT_1, plain_row};
 use std::alloc::Global;
 use std::process::Abort;
 use std::test::Fail;

@@ -1,9 +1,9 @@
 //! Upper tables that are lowered to the best exits of traps.
 
 use crate::audits::audit_writes;
-use run_rows::{COIN_LOOP, GOAL_AT_1, Row, runs};
 use crate::rows::writes;
 use game_outside::OpenGate;
+use run_rows::{COIN_LOOP, GOAL_AT_1, Row, runs};
 use std::test::Fail;
 use stogame_app::Status;
 

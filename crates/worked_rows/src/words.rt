@@ -1,7 +1,7 @@
 //! Words of the command line.
 
-use run_rows::{COIN_LOOP_REPORT, USAGE, coin_loop_files, ends, words};
 use game_outside::{OpenGate, SteadyShelf};
+use run_rows::{COIN_LOOP_REPORT, USAGE, coin_loop_files, ends, words};
 use std::alloc::Global;
 use std::process::Abort;
 use std::test::Fail;

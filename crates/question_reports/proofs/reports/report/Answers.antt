@@ -10,7 +10,6 @@ use Rattle.rpatl_syntax.specs.declared.formula.Bound.{Bound}
 use Rattle.rpatl_syntax.specs.Formula.{Tree, tree_of}
 use Rattle.command_words.specs.Words.{check_of}
 use Rattle.asked_files.specs.Problems.{answered}
-use Rattle.bracket_engine.specs.Bracket.{IsBracket}
 use Rattle.run_answers.specs.Printed.{verdict_by}
 use Rattle.bracket_engine.specs.Found.{IsFound}
 use Rattle.question_reports.proofs.Limits.{plan-units, printed-in_limits}
@@ -20,14 +19,14 @@ use Rattle.question_reports.proofs.reports.report.Goals as goal
 
 pub shown-requires-clause-held : goal.shown-requires-clause-held
 shown-requires-clause-held g c =
-    held-found c.args.question.now c.in_ok-zero.zero _ c.args.initial.now c.args.check.now.rounds c.in_ok-found.found
-    (record { bounds = c.in_ok-found.ensures.bounds; lower = c.in_ok-found.ensures.lower; choices = c.in_ok-found.ensures.choices; ranks = c.in_ok-found.ensures.ranks; replies = c.in_ok-found.ensures.replies })
+    let it = c.in_ok-bracketed.bracketed in
+    held-found c.args.question.now it.zero _ c.args.initial.now c.args.check.now.rounds it.bracket c.in_ok-bracketed.ensures.found
 
 pub returns-clause-report : goal.returns-clause-report
 returns-clause-report g c =
     let q = c.args.question.now in
-    let zero = c.in_ok-zero.zero in
-    let found = c.in_ok-found.found in
+    let zero = c.in_ok-bracketed.bracketed.zero in
+    let found = c.in_ok-bracketed.bracketed.bracket in
     let plan = c.in_ok-plan.plan in
     let f = tree_of c.args.formulas.spelled.now in
     let bound = (answered f).bound in
@@ -36,14 +35,8 @@ returns-clause-report g c =
     let initial = c.args.initial.now in
     let check = check_of c.args.check.now in
     let asked = c.args.check.now.rounds in
-    let P : Bound → Type 0 = λ b. IsBracket q zero b initial asked found.base.items found.upper.items found.rounds found.stable in
-    let is_found : IsFound q zero bound initial asked found = record {
-      bounds = subst P (c.of_bound-stop.ensures.bound ∙ ap (λ (t : Tree). t.bound) c.requires.same) c.in_ok-found.ensures.bounds;
-      lower = c.in_ok-found.ensures.lower;
-      choices = c.in_ok-found.ensures.choices;
-      ranks = c.in_ok-found.ensures.ranks;
-      replies = c.in_ok-found.ensures.replies;
-    } in
+    let P : Bound → Type 0 = λ b. IsFound q zero b initial asked found in
+    let is_found : IsFound q zero bound initial asked found = subst P (ap (λ (t : Tree). t.bound) c.requires.same) c.in_ok-bracketed.ensures.found in
     let shown = c.in_ok-plan.ensures.shown in
     let held = c.in_ok-plan.ensures.held in
     let lists = shown-lists q zero bound initial asked check.traps found plan is_found shown held in
@@ -56,11 +49,11 @@ returns-clause-report g c =
     let left_open = all-left_open c.undecided_thresholds_are_left_open.ensures.here c.undecided_thresholds_are_left_open.ensures.wider q zero bound initial asked found plan
     (shown-above q zero bound initial asked check.traps found plan is_found shown held) shown.below some is_found.bounds c.requires.inside in
     reported (λ answer. answer.text.items) (λ answer. answer.status) q initial f check zero found plan (record {
-      is_zero = c.in_ok-zero.ensures;
+      is_zero = c.in_ok-bracketed.ensures.zero;
       is_found = is_found;
       shown = shown;
       lists = lists;
-      near = rw (shown.lower) c.in_ok-found.ensures.lower.near;
+      near = rw (shown.lower) is_found.lower.near;
       sound = sound;
       passes = passes;
       limits = printed-in_limits q plan initial found.rounds (shown-printable q zero bound initial asked check.traps found plan is_found shown held c.known.ensures c.make_answer.ensures.ranks) (omega (arith, is_found.bounds.few, c.requires.in_range.few_rounds)) c.requires.inside check.plan f;
