@@ -19,7 +19,7 @@ use Rattle.bracket_engine.specs.Bracket.{rests_of}
 use Rattle.verdicts.specs.declared.report.How.{How}
 use Rattle.nested_truth.specs.declared.judging.Judged.{Judged}
 use Rattle.formula_sets.specs.Posing.{Model}
-use Rattle.nested_truth.specs.Truth.{Told, IsTruth, states, holds, everywhere, inside_of}
+use Rattle.nested_truth.specs.Truth.{Valuation, IsTruth, states, holds, everywhere, inside_of}
 use Rattle.nested_truth.specs.Bands.{Band, Known, known, exactly, negated, judgement, undecided_at}
 use Rattle.nested_truth.specs.Runs.{AreFoundBy, AreRaced, pessimistic, optimistic, mirrored}
 use Rattle.nested_truth.specs.Nested.{IsNested}
@@ -28,7 +28,7 @@ use Rattle.nested_truth.specs.Sound.{IsAround}
 use Rattle.nested_truth.proofs.Parts.{alike-back}
 use Rattle.nested_truth.proofs.Counted.{undecided-few, undecided-pairs}
 use Rattle.nested_truth.proofs.Widened.{sound-by}
-use Rattle.nested_truth.proofs.Told.{right-by}
+use Rattle.nested_truth.proofs.Valuation.{right-by}
 use Rattle.nested_truth.proofs.Around.{around}
 use Rattle.nested_truth.proofs.Inside.{open-within, outermost}
 use Rattle.nested_truth.proofs.Exactly.{both-same, found-same, known-exactly, settled}
@@ -121,11 +121,11 @@ module _ (m : Model) (game : IsGame m.game) (asked : ℕ) (f : Tree) (left right
   -- 4. The outermost formula.
 
   module _ (spellable : IsSpellable f) where
-    left-around : (told : Told) → IsTruth m told → IsAround m (holds m.labels told f.left) (known m.labels f.left h.bands)
-    left-around told truth = around m game told truth asked f.left h.bands spellable.left.parts h.found
+    left-around : (valuation : Valuation) → IsTruth m valuation → IsAround m (holds m.labels valuation f.left) (known m.labels f.left h.bands)
+    left-around valuation truth = around m game valuation truth asked f.left h.bands spellable.left.parts h.found
 
-    right-around : (told : Told) → IsTruth m told → IsAround m (holds m.labels told f.right) (known m.labels f.right i.bands)
-    right-around told truth = around m game told truth asked f.right i.bands spellable.right.parts i.found
+    right-around : (valuation : Valuation) → IsTruth m valuation → IsAround m (holds m.labels valuation f.right) (known m.labels f.right i.bands)
+    right-around valuation truth = around m game valuation truth asked f.right i.bands spellable.right.parts i.found
 
     pub nested-of : All (λ s. s < states m) starts → (inner undecided : ℕ) → inner ≡ left.inner + right.inner → undecided ≡ left.undecided + right.undecided → IsNested m f starts asked band how inner undecided
     nested-of inside inner undecided inner_is undecided_is = record {
@@ -138,14 +138,14 @@ module _ (m : Model) (game : IsGame m.game) (asked : ℕ) (f : Tree) (left right
       undecided_are = omega (arith, undecided_is, h.undecided_are, i.undecided_are);
       left_around = left-around;
       right_around = right-around;
-      sound = λ told truth. sound-by m game f (holds m.labels told f.left) (holds m.labels told f.right) (known m.labels f.left h.bands) (known m.labels f.right i.bands) (left-around told truth) (right-around told truth) starts asked band how f.kind found-known;
-      right_of = λ told truth s there. right-by m game f spellable.share (holds m.labels told f.left) (holds m.labels told f.right) (known m.labels f.left h.bands) (known m.labels f.right i.bands) (left-around told truth) (right-around told truth) starts asked band how f.kind found-known s there (told f s) (truth f s there);
+      sound = λ valuation truth. sound-by m game f (holds m.labels valuation f.left) (holds m.labels valuation f.right) (known m.labels f.left h.bands) (known m.labels f.right i.bands) (left-around valuation truth) (right-around valuation truth) starts asked band how f.kind found-known;
+      right_of = λ valuation truth s there. right-by m game f spellable.share (holds m.labels valuation f.left) (holds m.labels valuation f.right) (known m.labels f.left h.bands) (known m.labels f.right i.bands) (left-around valuation truth) (right-around valuation truth) starts asked band how f.kind found-known s there (valuation f s) (truth f s there);
       left_within = λ coarse c. open-within m game asked f.left h.bands coarse spellable.left.parts h.found c;
       right_within = λ coarse c. open-within m game asked f.right i.bands coarse spellable.right.parts i.found c;
       within = λ cl cr coarse c. outermost m game asked f starts h.bands cl i.bands cr band coarse how spellable.share spellable.left.parts spellable.right.parts inside h.found i.found found-known c;
-      exact = λ told truth none.
-          found-same m game f (known m.labels f.left h.bands) (known m.labels f.right i.bands) (exactly (holds m.labels told f.left)) (exactly (holds m.labels told f.right))
-          (known-exactly m (holds m.labels told f.left) (known m.labels f.left h.bands) (left-around told truth) (settled m f.left h.bands spellable.left.parts (omega (arith, none, undecided_is, h.undecided_are))))
-          (known-exactly m (holds m.labels told f.right) (known m.labels f.right i.bands) (right-around told truth) (settled m f.right i.bands spellable.right.parts (omega (arith, none, undecided_is, i.undecided_are))))
+      exact = λ valuation truth none.
+          found-same m game f (known m.labels f.left h.bands) (known m.labels f.right i.bands) (exactly (holds m.labels valuation f.left)) (exactly (holds m.labels valuation f.right))
+          (known-exactly m (holds m.labels valuation f.left) (known m.labels f.left h.bands) (left-around valuation truth) (settled m f.left h.bands spellable.left.parts (omega (arith, none, undecided_is, h.undecided_are))))
+          (known-exactly m (holds m.labels valuation f.right) (known m.labels f.right i.bands) (right-around valuation truth) (settled m f.right i.bands spellable.right.parts (omega (arith, none, undecided_is, i.undecided_are))))
           starts asked band how f.kind found-known;
     }

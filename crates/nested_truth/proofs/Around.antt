@@ -9,13 +9,13 @@ use Rattle.rpatl_syntax.specs.Spellable.{HasShare, HasThreshold, HasParts}
 use Rattle.verdicts.specs.declared.verdict.Verdict.{Verdict}
 use Rattle.verdicts.specs.declared.verdict.Verdict.TheVariants.{Yes, No, Undecided, Bracket}
 use Rattle.formula_sets.specs.Posing.{Model}
-use Rattle.nested_truth.specs.Truth.{Told, IsTruth, states, holds}
+use Rattle.nested_truth.specs.Truth.{Valuation, IsTruth, states, holds}
 use Rattle.nested_truth.specs.Bands.{Bands, Known, known, negated, both, either, verdict_at}
 use Rattle.verdicts.specs.Verdict.{is_yes, is_no}
 use Rattle.nested_truth.specs.Runs.{AreFound}
 use Rattle.nested_truth.specs.Sound.{IsAround, IsRightOf}
 use Rattle.nested_truth.proofs.Widened.{negated-around}
-use Rattle.nested_truth.proofs.Told.{right-by}
+use Rattle.nested_truth.proofs.Valuation.{right-by}
 
 -- 1. The connectives.
 
@@ -51,17 +51,17 @@ module _ (m : Model) (x y : ℕ → Bool) (k l : Known) (h : IsAround m x k) (i 
 
 -- 2. A formula inside.
 
-yes-told : (v : Verdict) (truth : Bool) → IsRightOf v truth → is_yes v ≡ true → truth ≡ true
-yes-told Yes truth right said = right
-yes-told No truth right said = let wrong : false ≡ true = said in absurd (cc)
-yes-told Undecided truth right said = let wrong : false ≡ true = said in absurd (cc)
-yes-told Bracket truth right said = let wrong : false ≡ true = said in absurd (cc)
+yes-valuation : (v : Verdict) (truth : Bool) → IsRightOf v truth → is_yes v ≡ true → truth ≡ true
+yes-valuation Yes truth right said = right
+yes-valuation No truth right said = let wrong : false ≡ true = said in absurd (cc)
+yes-valuation Undecided truth right said = let wrong : false ≡ true = said in absurd (cc)
+yes-valuation Bracket truth right said = let wrong : false ≡ true = said in absurd (cc)
 
-told-possible : (v : Verdict) (truth : Bool) → IsRightOf v truth → truth ≡ true → not (is_no v) ≡ true
-told-possible Yes truth right told = refl
-told-possible No truth right told = let wrong : true ≡ false = sym told ∙ right in absurd (cc)
-told-possible Undecided truth right told = refl
-told-possible Bracket truth right told = refl
+valuation-possible : (v : Verdict) (truth : Bool) → IsRightOf v truth → truth ≡ true → not (is_no v) ≡ true
+valuation-possible Yes truth right valuation = refl
+valuation-possible No truth right valuation = let wrong : true ≡ false = sym valuation ∙ right in absurd (cc)
+valuation-possible Undecided truth right valuation = refl
+valuation-possible Bracket truth right valuation = refl
 
 pub threshold-share : (bound : Bound) → HasThreshold bound → HasShare bound
 threshold-share (AtLeast p) h = h
@@ -73,25 +73,25 @@ threshold-share AskMin h = absurd h
 
 -- 3. Every state formula.
 
-module _ (m : Model) (game : IsGame m.game) (told : Told) (truth : IsTruth m told) (asked : ℕ) where
-  pub around : (x : State) (b : Bands x) → HasParts x → AreFound m asked x b → IsAround m (holds m.labels told x) (known m.labels x b)
+module _ (m : Model) (game : IsGame m.game) (valuation : Valuation) (truth : IsTruth m valuation) (asked : ℕ) where
+  pub around : (x : State) (b : Bands x) → HasParts x → AreFound m asked x b → IsAround m (holds m.labels valuation x) (known m.labels x b)
   around True b parts found = record { sure = λ s inside h. refl; possible = λ s inside h. refl }
   around False b parts found = record { sure = λ s inside h. h; possible = λ s inside h. h }
   around (Label name) b parts found = record { sure = λ s inside h. h; possible = λ s inside h. h }
-  around (Not x) b parts found = negated-around m (holds m.labels told x) (known m.labels x b) (around x b parts found)
+  around (Not x) b parts found = negated-around m (holds m.labels valuation x) (known m.labels x b) (around x b parts found)
   around (And x y) b parts found =
-      both-around m (holds m.labels told x) (holds m.labels told y) (known m.labels x b.0) (known m.labels y b.1) (around x b.0 parts.0 found.0) (around y b.1 parts.1 found.1)
+      both-around m (holds m.labels valuation x) (holds m.labels valuation y) (known m.labels x b.0) (known m.labels y b.1) (around x b.0 parts.0 found.0) (around y b.1 parts.1 found.1)
   around (Or x y) b parts found =
-      either-around m (holds m.labels told x) (holds m.labels told y) (known m.labels x b.0) (known m.labels y b.1) (around x b.0 parts.0 found.0) (around y b.1 parts.1 found.1)
+      either-around m (holds m.labels valuation x) (holds m.labels valuation y) (known m.labels x b.0) (known m.labels y b.1) (around x b.0 parts.0 found.0) (around y b.1 parts.1 found.1)
   around (Implies x y) b parts found =
-      either-around m (λ s. not (holds m.labels told x s)) (holds m.labels told y) (negated (known m.labels x b.0)) (known m.labels y b.1)
-      (negated-around m (holds m.labels told x) (known m.labels x b.0) (around x b.0 parts.0 found.0)) (around y b.1 parts.1 found.1)
+      either-around m (λ s. not (holds m.labels valuation x s)) (holds m.labels valuation y) (negated (known m.labels x b.0)) (known m.labels y b.1)
+      (negated-around m (holds m.labels valuation x) (known m.labels x b.0) (around x b.0 parts.0 found.0)) (around y b.1 parts.1 found.1)
   around (Inner team bound kind left right) b parts found =
       let f : Tree = record { coalition = team; bound = bound; kind = kind; left = left; right = right } in
-      let at : (s : ℕ) → s < states m → IsRightOf (verdict_at bound b.0 s) (told f s) = λ s inside.
-      right-by m game f (threshold-share bound parts.0.threshold) (holds m.labels told left) (holds m.labels told right) (known m.labels left b.1) (known m.labels right b.2)
-      (around left b.1 parts.1 found.1) (around right b.2 parts.2 found.2) (range_with_len 0 (states m)) asked b.0 found.0.0 kind found.0.1 s inside (told f s) (truth f s inside) in
+      let at : (s : ℕ) → s < states m → IsRightOf (verdict_at bound b.0 s) (valuation f s) = λ s inside.
+      right-by m game f (threshold-share bound parts.0.threshold) (holds m.labels valuation left) (holds m.labels valuation right) (known m.labels left b.1) (known m.labels right b.2)
+      (around left b.1 parts.1 found.1) (around right b.2 parts.2 found.2) (range_with_len 0 (states m)) asked b.0 found.0.0 kind found.0.1 s inside (valuation f s) (truth f s inside) in
       record {
-        sure = λ s inside. yes-told (verdict_at bound b.0 s) (told f s) (at s inside);
-        possible = λ s inside. told-possible (verdict_at bound b.0 s) (told f s) (at s inside);
+        sure = λ s inside. yes-valuation (verdict_at bound b.0 s) (valuation f s) (at s inside);
+        possible = λ s inside. valuation-possible (verdict_at bound b.0 s) (valuation f s) (at s inside);
       }

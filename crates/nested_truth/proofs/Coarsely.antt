@@ -34,7 +34,7 @@ use Rattle.nested_truth.specs.Coarse.{AreStepped, AreCoarseBy, IsFiner}
 use Rattle.nested_truth.proofs.Posed.{is_query}
 use Rattle.nested_truth.proofs.Stepped.{IsRounding, IsUnder, down-rounding, up-rounding, steps-rise, marked-units, down_steps-most}
 use Rattle.nested_truth.proofs.Sharper.{IsSharper, test_of, test-more, sharper, nearer}
-use Rattle.nested_truth.proofs.Looked.{IsLookedAt, lower-told, upper-told, asked-lower, asked-upper}
+use Rattle.nested_truth.proofs.Looked.{IsLookedAt, lower-valuation, upper-valuation, asked-lower, asked-upper}
 use Rattle.nested_truth.proofs.Finer.{stepped-by, down-by, codown-by}
 use Rattle.nested_truth.proofs.Widened.{IsBounded, raced, swept, next-swept, not-within}
 
@@ -112,8 +112,8 @@ module _ (m : Model) (game : IsGame m.game) (f : Tree) (kl kr cl cr : Known) (lc
       let upper_is : slice_index band.upper s ≡ slice_index h.high_found.upper.items s = ap (λ (t : List ℕ). slice_index t s) h.upper in
       record {
         sharper = sharper bound (slice_index coarse.lower s) (slice_index coarse.upper s) (slice_index band.lower s) (slice_index band.upper s) (raced-order bound starts asked band how h s inside)
-            (λ passes. ap (test_of bound) lower_is ∙ lower-told low h.low_run.zero bound starts asked h.low_found low_is h.low_run.is_zero h.low_run.is_found s inside looked (test-more bound (slice_index coarse.lower s) down under passes))
-            (λ passes. test-more bound rest (slice_index coarse.upper s) over (upper-told high h.high_run.zero bound starts asked h.high_found high_is h.high_run.is_zero h.high_run.is_found s inside looked (sym (ap (test_of bound) upper_is) ∙ passes)));
+            (λ passes. ap (test_of bound) lower_is ∙ lower-valuation low h.low_run.zero bound starts asked h.low_found low_is h.low_run.is_zero h.low_run.is_found s inside looked (test-more bound (slice_index coarse.lower s) down under passes))
+            (λ passes. test-more bound rest (slice_index coarse.upper s) over (upper-valuation high h.high_run.zero bound starts asked h.high_found high_is h.high_run.is_zero h.high_run.is_found s inside looked (sym (ap (test_of bound) upper_is) ∙ passes)));
         lower = λ asking. omega (arith, lower_is, under, asked-lower low h.low_run.zero bound starts asked h.low_found low_is h.low_run.is_zero h.low_run.is_found s inside looked asking);
         upper = λ asking. omega (arith, upper_is, over, asked-upper high h.high_run.zero bound starts asked h.high_found high_is h.high_run.is_zero h.high_run.is_found s inside looked asking);
       }

@@ -19,7 +19,7 @@ use Rattle.nested_truth.specs.Runs.{AreFound, AreFoundBy}
 use Rattle.nested_truth.specs.Coarse.{AreCoarse, AreCoarseBy, IsFiner, IsOpenWithin, AreOpenWithin, IsCoarse, AreWithin}
 use Rattle.nested_truth.proofs.Around.{and-on, or-on, threshold-share}
 use Rattle.nested_truth.proofs.Counted.{count-more}
-use Rattle.nested_truth.proofs.Told.{small-share}
+use Rattle.nested_truth.proofs.Valuation.{small-share}
 use Rattle.nested_truth.proofs.Widened.{not-within}
 use Rattle.nested_truth.proofs.Looked.{IsLookedAt, looked-everywhere, looked-start}
 use Rattle.nested_truth.proofs.Coarsely.{IsWithinAt, within-by}

@@ -7,7 +7,7 @@ pub mod Widened
 pub mod Parts
 pub mod Counted
 pub mod Raced
-pub mod Told
+pub mod Valuation
 pub mod Around
 pub mod Exactly
 pub mod Stepped

@@ -86,19 +86,19 @@ module _ (q : Query) (zero : List Bool) (bound : Bound) (starts : List ℕ) (ask
   module _ (looked : IsLookedAt bound starts s) where
     -- 3. What the down steps pass the lower bounds pass, and what the upper bounds pass the rest of the others does.
 
-    pub lower-told : test_of bound (down_steps q asked s) ≡ true → test_of bound (slice_index found.lower.items s) ≡ true
-    lower-told passes = elim run.bounds.narrow_asked [
+    pub lower-valuation : test_of bound (down_steps q asked s) ≡ true → test_of bound (slice_index found.lower.items s) ≡ true
+    lower-valuation passes = elim run.bounds.narrow_asked [
       | inl settled ↦ elim (settled-test bound _ _ (looked (slice_index found.base.items) (slice_index found.upper.items) settled)) [
-        | inl told ↦ test-more bound (slice_index found.base.items s) (slice_index found.lower.items s) (run.lower.above s inside) told
+        | inl valuation ↦ test-more bound (slice_index found.base.items s) (slice_index found.lower.items s) (run.lower.above s inside) valuation
         | inr fails ↦ let no : false ≡ true = sym fails ∙ test-more bound (down_steps q asked s) (slice_index found.upper.items s) down-upper passes in absurd (cc)
       ]
       | inr narrow ↦ test-more bound (down_steps q asked s) (slice_index found.lower.items s) (le_trans (narrow.swept s inside) (run.lower.above s inside)) passes
     ]
 
-    pub upper-told : test_of bound (slice_index found.upper.items s) ≡ true → test_of bound (unit - down_steps (swapped q zero) asked s) ≡ true
-    upper-told passes = elim run.bounds.narrow_asked [
+    pub upper-valuation : test_of bound (slice_index found.upper.items s) ≡ true → test_of bound (unit - down_steps (swapped q zero) asked s) ≡ true
+    upper-valuation passes = elim run.bounds.narrow_asked [
       | inl settled ↦ elim (settled-test bound _ _ (looked (slice_index found.base.items) (slice_index found.upper.items) settled)) [
-        | inl told ↦ test-more bound (slice_index found.base.items s) (unit - down_steps (swapped q zero) asked s) (omega (arith, base-rest)) told
+        | inl valuation ↦ test-more bound (slice_index found.base.items s) (unit - down_steps (swapped q zero) asked s) (omega (arith, base-rest)) valuation
         | inr fails ↦ let no : false ≡ true = sym fails ∙ passes in absurd (cc)
       ]
       | inr narrow ↦ test-more bound (slice_index found.upper.items s) (unit - down_steps (swapped q zero) asked s) (omega (arith, narrow.coswept s inside)) passes

@@ -11,7 +11,7 @@ use Rattle.rpatl_syntax.specs.Formula.{State, True, False, Label, Not, And, Or, 
 use Rattle.formula_sets.specs.Posing.{Model, next_question_of}
 use Rattle.bounded_rounds.specs.Exact.{next_numerator}
 use Rattle.verdicts.specs.Truth.{IsTrueOf}
-use Rattle.nested_truth.specs.Truth.{Told, IsTruth, IsTrueBy, states, holds, everywhere}
+use Rattle.nested_truth.specs.Truth.{Valuation, IsTruth, IsTrueBy, states, holds, everywhere}
 use Rattle.nested_truth.proofs.Ordered.{next_numerator-wider}
 use Rattle.nested_truth.proofs.Posed.{AreEqual, question-equal}
 
@@ -39,24 +39,24 @@ same-bool true b to from = sym (to refl)
 same-bool false true to from = from refl
 same-bool false false to from = refl
 
-module _ (m : Model) (game : IsGame m.game) (told other : Told) (h : IsTruth m told) (k : IsTruth m other) where
-  told-same : (f : Tree) → AreEqual (states m) (holds m.labels told f.left) (holds m.labels other f.left) → AreEqual (states m) (holds m.labels told f.right) (holds m.labels other f.right) → (s : ℕ) → s < states m → told f s ≡ other f s
-  told-same f lefts rights s inside =
-      same-bool (told f s) (other f s)
-      (λ is. (k f s inside).1 (true-same m game f (holds m.labels told f.left) (holds m.labels told f.right) (holds m.labels other f.left) (holds m.labels other f.right) lefts rights f.kind s ((h f s inside).0 is)))
-      (λ is. (h f s inside).1 (true-same m game f (holds m.labels other f.left) (holds m.labels other f.right) (holds m.labels told f.left) (holds m.labels told f.right)
-      (equal-back (states m) (holds m.labels told f.left) (holds m.labels other f.left) lefts) (equal-back (states m) (holds m.labels told f.right) (holds m.labels other f.right) rights) f.kind s ((k f s inside).0 is)))
+module _ (m : Model) (game : IsGame m.game) (valuation other : Valuation) (h : IsTruth m valuation) (k : IsTruth m other) where
+  valuation-same : (f : Tree) → AreEqual (states m) (holds m.labels valuation f.left) (holds m.labels other f.left) → AreEqual (states m) (holds m.labels valuation f.right) (holds m.labels other f.right) → (s : ℕ) → s < states m → valuation f s ≡ other f s
+  valuation-same f lefts rights s inside =
+      same-bool (valuation f s) (other f s)
+      (λ is. (k f s inside).1 (true-same m game f (holds m.labels valuation f.left) (holds m.labels valuation f.right) (holds m.labels other f.left) (holds m.labels other f.right) lefts rights f.kind s ((h f s inside).0 is)))
+      (λ is. (h f s inside).1 (true-same m game f (holds m.labels other f.left) (holds m.labels other f.right) (holds m.labels valuation f.left) (holds m.labels valuation f.right)
+      (equal-back (states m) (holds m.labels valuation f.left) (holds m.labels other f.left) lefts) (equal-back (states m) (holds m.labels valuation f.right) (holds m.labels other f.right) rights) f.kind s ((k f s inside).0 is)))
 
-  holds-same : (x : State) → AreEqual (states m) (holds m.labels told x) (holds m.labels other x)
+  holds-same : (x : State) → AreEqual (states m) (holds m.labels valuation x) (holds m.labels other x)
   holds-same True s inside = refl
   holds-same False s inside = refl
   holds-same (Label name) s inside = refl
   holds-same (Not x) s inside = ap not (holds-same x s inside)
-  holds-same (And x y) s inside = ap (λ v. v && holds m.labels told y s) (holds-same x s inside) ∙ ap (λ v. holds m.labels other x s && v) (holds-same y s inside)
-  holds-same (Or x y) s inside = ap (λ v. v || holds m.labels told y s) (holds-same x s inside) ∙ ap (λ v. holds m.labels other x s || v) (holds-same y s inside)
-  holds-same (Implies x y) s inside = ap (λ v. not v || holds m.labels told y s) (holds-same x s inside) ∙ ap (λ v. not (holds m.labels other x s) || v) (holds-same y s inside)
+  holds-same (And x y) s inside = ap (λ v. v && holds m.labels valuation y s) (holds-same x s inside) ∙ ap (λ v. holds m.labels other x s && v) (holds-same y s inside)
+  holds-same (Or x y) s inside = ap (λ v. v || holds m.labels valuation y s) (holds-same x s inside) ∙ ap (λ v. holds m.labels other x s || v) (holds-same y s inside)
+  holds-same (Implies x y) s inside = ap (λ v. not v || holds m.labels valuation y s) (holds-same x s inside) ∙ ap (λ v. not (holds m.labels other x s) || v) (holds-same y s inside)
   holds-same (Inner team bound kind left right) s inside =
-      told-same (record { coalition = team; bound = bound; kind = kind; left = left; right = right }) (holds-same left) (holds-same right) s inside
+      valuation-same (record { coalition = team; bound = bound; kind = kind; left = left; right = right }) (holds-same left) (holds-same right) s inside
 
-  pub one-truth : (f : Tree) (s : ℕ) → s < states m → told f s ≡ other f s
-  one-truth f = told-same f (holds-same f.left) (holds-same f.right)
+  pub one-truth : (f : Tree) (s : ℕ) → s < states m → valuation f s ≡ other f s
+  one-truth f = valuation-same f (holds-same f.left) (holds-same f.right)

@@ -19,19 +19,19 @@ abbrev pub inside_of : Tree → State
 inside_of f = Inner f.coalition f.bound f.kind f.left f.right
 
 -- where each formula is said to be true
-abbrev pub Told : Type 0
-Told = Tree → ℕ → Bool
+abbrev pub Valuation : Type 0
+Valuation = Tree → ℕ → Bool
 
--- the state formula holds at a state, where formulas inside hold as told
-abbrev pub holds : Labelling → Told → State → ℕ → Bool
-holds l told True s = true
-holds l told False s = false
-holds l told (Label name) s = holds_at l name s
-holds l told (Not x) s = not (holds l told x s)
-holds l told (And x y) s = holds l told x s && holds l told y s
-holds l told (Or x y) s = holds l told x s || holds l told y s
-holds l told (Implies x y) s = not (holds l told x s) || holds l told y s
-holds l told (Inner team bound kind left right) s = told (record { coalition = team; bound = bound; kind = kind; left = left; right = right }) s
+-- the state formula holds at a state, where formulas inside hold as the valuation says
+abbrev pub holds : Labelling → Valuation → State → ℕ → Bool
+holds l valuation True s = true
+holds l valuation False s = false
+holds l valuation (Label name) s = holds_at l name s
+holds l valuation (Not x) s = not (holds l valuation x s)
+holds l valuation (And x y) s = holds l valuation x s && holds l valuation y s
+holds l valuation (Or x y) s = holds l valuation x s || holds l valuation y s
+holds l valuation (Implies x y) s = not (holds l valuation x s) || holds l valuation y s
+holds l valuation (Inner team bound kind left right) s = valuation (record { coalition = team; bound = bound; kind = kind; left = left; right = right }) s
 
 -- the question of a formula whose sides hold at these states
 abbrev pub question_by : Model → Tree → (ℕ → Bool) → (ℕ → Bool) → Query
@@ -51,10 +51,10 @@ IsTrueBy (Within k) m f left right s = Keeps f.bound (numerator (question_by m f
 IsTrueBy Next m f left right s = Keeps f.bound (next_numerator (next_question_of m.game m.owners f) right s) (denominator m.game)
 IsTrueBy Always m f left right s = IsTrueOf (dual_question_by m f right) (dual_bound f.bound) s
 
--- the formula is true at a state, where formulas inside hold as told
-abbrev pub IsTrue : Model → Told → Tree → ℕ → Type 0
-IsTrue m told f s = IsTrueBy f.kind m f (holds m.labels told f.left) (holds m.labels told f.right) s
+-- the formula is true at a state, where formulas inside hold as the valuation says
+abbrev pub IsTrue : Model → Valuation → Tree → ℕ → Type 0
+IsTrue m valuation f s = IsTrueBy f.kind m f (holds m.labels valuation f.left) (holds m.labels valuation f.right) s
 
--- What is told is the truth: of each formula that it is true at exactly the states where it is. There are no two such tellings.
-abbrev pub IsTruth : Model → Told → Type 0
-IsTruth m told = (f : Tree) (s : ℕ) → s < states m → (told f s ≡ true) ↔ IsTrue m told f s
+-- The valuation is the truth: each formula is true in it at exactly the states where it is. There is only one such.
+abbrev pub IsTruth : Model → Valuation → Type 0
+IsTruth m valuation = (f : Tree) (s : ℕ) → s < states m → (valuation f s ≡ true) ↔ IsTrue m valuation f s

@@ -8,14 +8,14 @@ ghost use Rattle.rpatl_syntax.specs.Formula.{State, Tree};
 ghost use Rattle.rpatl_syntax.specs.Spellable.{HasParts, HasShare};
 ghost use Rattle.verdicts.specs.declared.report.How.{How};
 ghost use Rattle.formula_sets.specs.Posing.{Model};
-ghost use Rattle.nested_truth.specs.Truth.{IsTruth, Told, states};
+ghost use Rattle.nested_truth.specs.Truth.{IsTruth, Valuation, states};
 ghost use Rattle.nested_truth.specs.Bands.{Band, Bands, known, undecided_in};
 ghost use Rattle.nested_truth.specs.Runs.{AreFound, AreFoundBy};
 ghost use Rattle.nested_truth.specs.Coarse.{AreCoarse, AreOpenWithin, AreWithin, IsCoarse, IsFiner};
 
 /// There is at most one truth: two tellings that are true of every formula say the same at all states.
 pub fn there_is_one_truth()
-    ensures { (m : Model) (told other : Told) → IsGame m.game → IsTruth m told → IsTruth m other → (f : Tree) (s : ℕ) → s < states m → told f s ≡ other f s }
+    ensures { (m : Model) (valuation other : Valuation) → IsGame m.game → IsTruth m valuation → IsTruth m other → (f : Tree) (s : ℕ) → s < states m → valuation f s ≡ other f s }
 {}
 
 /// More goals and fewer dead states give no smaller values.

@@ -35,12 +35,12 @@ use Rattle.nested_truth.proofs.Posed.{is_query}
 use Rattle.nested_truth.proofs.Widened.{IsBounded, raced, swept, next-swept, negated-around, exactly-around, rest-at}
 
 -- a verdict that is right of a fact, where the truth tells of it
-told-right : (v : Verdict) (truth : Bool) (P : Type 0) → (truth ≡ true) ↔ P → (v ≡ Yes → P) → (v ≡ No → ¬ P) → IsRightOf v truth
-told-right Yes truth P iff holds fails = iff.1 (holds refl)
-told-right No true P iff holds fails = absurd (fails refl (iff.0 refl))
-told-right No false P iff holds fails = refl
-told-right Undecided truth P iff holds fails = tt
-told-right Bracket truth P iff holds fails = tt
+valuation-right : (v : Verdict) (truth : Bool) (P : Type 0) → (truth ≡ true) ↔ P → (v ≡ Yes → P) → (v ≡ No → ¬ P) → IsRightOf v truth
+valuation-right Yes truth P iff holds fails = iff.1 (holds refl)
+valuation-right No true P iff holds fails = absurd (fails refl (iff.0 refl))
+valuation-right No false P iff holds fails = refl
+valuation-right Undecided truth P iff holds fails = tt
+valuation-right Bracket truth P iff holds fails = tt
 
 right-yes : (bound : Bound) (n d : ℕ) (v : Verdict) → IsRight bound n d v → v ≡ Yes → Keeps bound n d
 right-yes bound n d v h is = subst (λ (w : Verdict). IsRight bound n d w) is h
@@ -60,7 +60,7 @@ sound-at q lower upper s posed near high inside = record {
 
 settled-right : (q : Query) (bound : Bound) (lower upper : ℕ → ℕ) (s : ℕ) (truth : Bool) → AreSound q (lower s) (upper s) s → (truth ≡ true) ↔ IsTrueOf q bound s → IsRightOf (verdict_of bound (lower s) (upper s)) truth
 settled-right q bound lower upper s truth sound iff =
-    told-right (verdict_of bound (lower s) (upper s)) truth (IsTrueOf q bound s) iff (yes-true q bound (lower s) (upper s) s sound)
+    valuation-right (verdict_of bound (lower s) (upper s)) truth (IsTrueOf q bound s) iff (yes-true q bound (lower s) (upper s) s sound)
     (λ is. false-not_true q bound s (no-false q bound (lower s) (upper s) s sound is))
 
 -- 2. With one.
@@ -68,7 +68,7 @@ settled-right q bound lower upper s truth sound iff =
 between-right : (bound : Bound) (n d lower upper : ℕ) (truth : Bool) → 1 ≤ d → IsBetween d lower upper (unit * n) → (truth ≡ true) ↔ Keeps bound n d → IsRightOf (verdict_of bound lower upper) truth
 between-right bound n d lower upper truth some between iff =
     let is = right bound n d lower upper some between.low between.high in
-    told-right (verdict_of bound lower upper) truth (Keeps bound n d) iff (right-yes bound n d (verdict_of bound lower upper) is) (right-no bound n d (verdict_of bound lower upper) is)
+    valuation-right (verdict_of bound lower upper) truth (Keeps bound n d) iff (right-yes bound n d (verdict_of bound lower upper) is) (right-no bound n d (verdict_of bound lower upper) is)
 
 -- 3. Of every kind.
 
