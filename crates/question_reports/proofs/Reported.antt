@@ -30,7 +30,7 @@ use Rattle.rpatl_syntax.specs.declared.formula.PathKind.{PathKind}
 use Rattle.rpatl_syntax.specs.declared.formula.PathKind.TheVariants.{Until, Within, Next, Always}
 use Rattle.rpatl_syntax.specs.Dual.{IsAtMostOne, dual_bound}
 use Rattle.asked_files.specs.Problems.{answered_by, answered}
-use Rattle.run_answers.specs.Printed.{is_mirrored, verdict_as, verdict_with, verdict_by, status_of, output_of}
+use Rattle.run_answers.specs.Printed.{is_mirrored, verdict_as, verdict_by, status_of, output_of}
 use Rattle.bracket_engine.specs.Found.{IsFound}
 use Rattle.question_reports.specs.Reports.{IsShown, IsLeftOpen, IsReport}
 use Rattle.run_answers.specs.Outputs.{output_text, IsInLimits}
@@ -53,7 +53,7 @@ all-told q bound verdict initial if_yes if_no inside =
 abbrev pub Mirrors : Type 0
 Mirrors = (bound : Bound) (lower upper : ℕ) → IsAtMostOne bound → lower ≤ unit → upper ≤ unit → verdict_of bound (unit - upper) (unit - lower) ≡ verdict_of (dual_bound bound) lower upper
 
-pub verdict-answered : Mirrors → (f : Tree) → IsAtMostOne f.bound → (lower upper : ℕ) → lower ≤ unit → upper ≤ unit → verdict_with f lower upper ≡ verdict_of (answered f).bound lower upper
+pub verdict-answered : Mirrors → (f : Tree) → IsAtMostOne f.bound → (lower upper : ℕ) → lower ≤ unit → upper ≤ unit → verdict_as (is_mirrored f.kind) f.bound lower upper ≡ verdict_of (answered f).bound lower upper
 verdict-answered mirrors f share lower upper low high = by f.kind
   where
     by : (kind : PathKind) → verdict_as (is_mirrored kind) f.bound lower upper ≡ verdict_of (answered_by kind f).bound lower upper

@@ -48,9 +48,6 @@ abbrev pub line_at : Bool → Bound → How → List ℕ → List ℕ → ℕ �
 line_at mirrored bound how lower upper s = line_as mirrored bound how s (slice_index lower s) (slice_index upper s)
 
 -- those of a formula
-abbrev pub verdict_with : Tree → ℕ → ℕ → Verdict
-verdict_with f lower upper = verdict_as (is_mirrored f.kind) f.bound lower upper
-
 abbrev pub verdict_by : Tree → List ℕ → List ℕ → ℕ → Verdict
 verdict_by f lower upper s = verdict_at (is_mirrored f.kind) f.bound lower upper s
 
