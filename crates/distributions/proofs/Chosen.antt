@@ -1,6 +1,6 @@
 -- The distribution that is said of parts is the one that they denote.
 use Rattle.std.proofs.Common.{◌≡◌, ◌∙◌, ◌≤◌, ◌*◌, inl, inr, ℕ, List, refl, ap, sym, subst, cond, arith, Result, Ok, Err}
-use Rattle.std.specs.Prelude.{nat_lt, IfOk}
+use Rattle.std.specs.Prelude.{nat_lt}
 use Prim.Native.Nat.{◌∣◌}
 use Rattle.std.specs.List.Sorted.{IsPermutation}
 use Rattle.std.proofs.lemmas.List.Sorted.{All-permutation, sum_by-IsPermutation, IsPermutation-map, IsPermutation-sym}
@@ -10,8 +10,7 @@ use Rattle.distributions.specs.declared.choice.Part.{Part}
 use Rattle.distributions.specs.declared.choice.ChoiceFault.{ChoiceFault}
 use Rattle.distributions.specs.declared.choice.ChoiceFault.TheVariants.{BadSum}
 use Rattle.distributions.specs.Limits.{tolerance}
-use Rattle.game_outside.specs.Answers.{AnswersOrWants}
-use Rattle.distributions.specs.Parts.{edge_of_part, weighted, total_of, distance, Denotes, denominator_said, gathered, sum_said, choice_over, choice_said, IsOutOfMemory}
+use Rattle.distributions.specs.Parts.{edge_of_part, weighted, total_of, distance, Denotes, denominator_said, gathered, sum_said, choice_over, choice_said}
 use Rattle.distributions.proofs.Gathering.{gives, gathered-rises, gathered-weights, gathered-only, IsRising-from, weighty-from, RiseFrom-rising}
 use Rattle.distributions.proofs.Multiples.{AreKept, over, over-is, ge-from, ge-test, common-same, denominator-found, denominator-again, denominator-is}
 use Rattle.distributions.proofs.Grammar.{chosen}
@@ -54,15 +53,6 @@ choice-again parts d kept h =
     ∙ ap (λ es. sum_said h.common es) edges
     ∙ ap (λ b. cond b (Err (BadSum (total_of d.edges) h.common)) (Ok (distribution (total_of d.edges)))) (ge-test h.common (distance (total_of d.edges) h.common * tolerance) near)
     ∙ ap (λ n. Ok (distribution n)) (sym h.total)
-
-pub given-found : (parts : List Part) (result : Result Distribution ChoiceFault) → AreKept parts → AnswersOrWants IsOutOfMemory (λ (d : Distribution). d) result (choice_said parts) → IfOk result (Denotes parts)
-given-found parts (Ok d) kept given = choice-found parts d kept given
-given-found parts (Err fault) kept given = tt
-
-pub given-only : (parts : List Part) (result : Result Distribution ChoiceFault) (d : Distribution) → AreKept parts → AnswersOrWants IsOutOfMemory (λ (x : Distribution). x) result (choice_said parts) → Denotes parts d → AnswersOrWants IsOutOfMemory (λ (x : Distribution). x) result (Ok d)
-given-only parts result d kept given h =
-    let P : Result Distribution ChoiceFault → Type 0 = λ r. AnswersOrWants IsOutOfMemory (λ (x : Distribution). x) result r in
-    subst P (choice-again parts d kept h) given
 
 -- the order of the parts plays no part
 pub Denotes-permutation : (parts others : List Part) (d : Distribution) → IsPermutation parts others → Denotes parts d → Denotes others d

@@ -1,6 +1,6 @@
 -- The fraction that is said of a text is the one that it denotes.
 use Rattle.std.proofs.Common.{◌≡◌, ◌∙◌, ◌≤◌, ◌+◌, ◌*◌, ◌^◌, inl, inr, ℕ, List, ◌++◌, refl, ap, sym, subst, Bool, false, cond, Option, Some, None, Result, Ok, Err, length, arith}
-use Rattle.std.specs.Prelude.{◌==◌, nat_lt, IfOk}
+use Rattle.std.specs.Prelude.{◌==◌, nat_lt}
 use Rattle.std.proofs.lemmas.Bool.Decides.{nat_tests}
 use Rattle.distributions.specs.declared.number.NumberFault.{NumberFault}
 use Rattle.distributions.specs.declared.number.NumberFault.TheVariants.{TooManyDigits, ZeroDenominator, TooFine, TooLarge}
@@ -87,10 +87,6 @@ number-again text f h =
     ap spelling_said (spelling_of-again text h.spelling h.spelled)
     ∙ ap (λ b. cond b (Err TooManyDigits) (fraction_said (value_of h.spelling))) h.short
     ∙ fraction_said-again (value_of h.spelling) f (record { divided = h.divided; value = h.value; fraction = h.fraction })
-
-pub said-denotes : (text : List ℕ) (said : Result Fraction NumberFault) → said ≡ number_said text → IfOk said (Denotes text)
-said-denotes text (Ok f) is = number-found text f (sym is)
-said-denotes text (Err fault) is = tt
 
 -- what is said of a decimal whose exponent is not below zero
 pub point-said : (front back digits : List ℕ) (below : Bool) (all up down : ℕ) → length front + length back ≤ most_digits → length digits ≤ most_exponent_digits → value_onto 0 digits ≤ most_exponent → below ≡ false

@@ -1,12 +1,12 @@
 //! The distribution of a choice.
 
-ghost use Rattle.std.specs.Prelude.{◌≡◌, ◌<◌, ◌≤◌, ◌*◌, ◌/◌, ◌^◌, Ok, IfOk, All, length};
+ghost use Rattle.std.specs.Prelude.{◌≡◌, ◌<◌, ◌≤◌, ◌*◌, ◌/◌, ◌^◌, IfOk, All, length};
 ghost use Prim.Native.Nat.{◌∣◌};
-ghost use Rattle.game_model.specs.Game.{Distribution, IsRising};
+ghost use Rattle.game_model.specs.Game.{IsRising};
 ghost use Rattle.distributions.specs.Limits.{finest, most_parts, most_value};
 ghost use Rattle.distributions.specs.Fraction.{IsFraction};
 ghost use Rattle.game_outside.specs.Answers.{AnswersOrWants};
-ghost use Rattle.distributions.specs.Parts.{choice_said, denominator_said, edge_of_part, weighted, sum_said, total_of, Denotes, IsOutOfMemory};
+ghost use Rattle.distributions.specs.Parts.{choice_said, denominator_said, edge_of_part, weighted, sum_said, total_of, IsOutOfMemory};
 
 use crate::divisors::{MOST_NARROW, least_common_multiple};
 use crate::fraction::Frac;
@@ -32,8 +32,8 @@ pub enum ChoiceFault {
     BadSum { sum: u128, denominator: u128 },
 }
 
-// What every part keeps.
-fn known_of_all(parts: &[Part])
+/// Tells a proof what every part keeps. It does nothing.
+pub fn known_of_all(parts: &[Part])
     ensures { All (λ part. IsFraction part.share) parts.now }
 {
     for part in parts {
@@ -125,11 +125,14 @@ fn choice_of_edges(common: u128, edges: Vec<Edge>) -> Result<Choice, ChoiceFault
     Ok(Choice::of_edges(edges))
 }
 
-fn choice_of_parts(alloc: Global, parts: &[Part]) -> Result<Choice, ChoiceFault>
-    requires few { length parts.now ≤ most_parts }
-    requires known { All (λ part. IsFraction part.share) parts.now }
+/// The choice with these parts, or the first reason why they make none. The weight of a destination is the sum of its
+/// parts over the common denominator; a choice whose weights nearly sum to that denominator is divided by their sum. What
+/// is said of parts is what they denote: `laws::said_is_denoted`.
+pub fn make_choice(alloc: Global, parts: &[Part]) -> Result<Choice, ChoiceFault>
+    requires { length parts.now ≤ most_parts }
     ensures { AnswersOrWants IsOutOfMemory (λ c. c) result (choice_said parts.now) }
 {
+    known_of_all(parts);
     let common = match common_denominator(parts) {
         Ok(common) => common,
         Err(fault) => return Err(fault),
@@ -141,19 +144,6 @@ fn choice_of_parts(alloc: Global, parts: &[Part]) -> Result<Choice, ChoiceFault>
         return Err(ChoiceFault::OutOfMemory);
     };
     choice_of_edges(common, edges)
-}
-
-/// The choice with these parts. The weight of a destination is the sum of its parts over the common
-/// denominator; a choice whose weights nearly sum to that denominator is divided by their sum.
-pub fn make_choice(alloc: Global, parts: &[Part]) -> Result<Choice, ChoiceFault>
-    requires { length parts.now ≤ most_parts }
-    // What is made is what the parts denote, or their first fault.
-    ensures found { IfOk result (Denotes parts.now) }
-    ensures only { (d : Distribution) → Denotes parts.now d → AnswersOrWants IsOutOfMemory (λ c. c) result (Ok d) }
-    ensures exact { AnswersOrWants IsOutOfMemory (λ c. c) result (choice_said parts.now) }
-{
-    known_of_all(parts);
-    choice_of_parts(alloc, parts)
 }
 
 #[cfg(test)]

@@ -25,7 +25,7 @@ mod number;
 mod short;
 mod tens;
 
-pub use choice::{ChoiceFault, Part, make_choice};
+pub use choice::{ChoiceFault, Part, known_of_all, make_choice};
 pub use fraction::{Frac, compare};
 pub use limits::{
     FINEST, FINEST_PLACES, MOST_DIGITS, MOST_EXPONENT, MOST_EXPONENT_DIGITS, MOST_PARTS,

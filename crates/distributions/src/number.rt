@@ -1,10 +1,9 @@
 //! Numbers as texts spell them.
 
-ghost use Rattle.std.specs.Prelude.{◌≡◌, ◌≤◌, ◌<◌, ◌+◌, ◌*◌, ◌^◌, ◌&&◌, not, true, Some, Ok, IfOk, length, option_map};
+ghost use Rattle.std.specs.Prelude.{◌≡◌, ◌≤◌, ◌<◌, ◌+◌, ◌*◌, ◌^◌, ◌&&◌, not, true, Some, length, option_map};
 ghost use Rattle.text_lines.specs.Text.{is_nil, all_digits, value_onto};
 ghost use Rattle.distributions.specs.Limits.{most_digits};
-ghost use Rattle.distributions.specs.Fraction.{Fraction};
-ghost use Rattle.distributions.specs.Number.{number_said, Denotes, leading_digits, behind_digits, digits_len, exponent_digits, exponent_of, decimal_of, behind_front, spelling_of, quotient_of, spelling_said, Decimal, Quotient};
+ghost use Rattle.distributions.specs.Number.{number_said, leading_digits, behind_digits, digits_len, exponent_digits, exponent_of, decimal_of, behind_front, spelling_of, quotient_of, spelling_said, Decimal, Quotient};
 ghost use Rattle.distributions.specs.Written.{exponent_in, spelling_in};
 
 use crate::fraction::Frac;
@@ -226,24 +225,15 @@ fn number_in(text: &[u8]) -> Result<Frac, NumberFault>
     }
 }
 
-// The fraction that a text spells. Most texts are short decimals.
-fn fraction_in(text: &[u8]) -> Result<Frac, NumberFault>
+/// The fraction that a text spells, or the first reason why it spells none. Most texts are short decimals. What is said
+/// of a text is what it denotes: `laws::said_is_denoted`.
+pub fn read_number(text: &[u8]) -> Result<Frac, NumberFault>
     ensures { result ≡ number_said text.now }
 {
     match short_decimal(text) {
         Some(tens) => tens.fraction(),
         None => number_in(text),
     }
-}
-
-/// The fraction that a text spells.
-pub fn read_number(text: &[u8]) -> Result<Frac, NumberFault>
-    // What is read is what the text denotes, or its first fault.
-    ensures found { IfOk result (Denotes text.now) }
-    ensures only { (f : Fraction) → Denotes text.now f → result ≡ Ok f }
-    ensures exact { result ≡ number_said text.now }
-{
-    fraction_in(text)
 }
 
 #[cfg(test)]

@@ -1,6 +1,6 @@
 -- The question that is said to be posed is the one that is posed.
 use Rattle.std.proofs.Common.{◌≡◌, ◌≢◌, ◌∙◌, ◌<◌, ◌+◌, inl, inr, ℕ, suc, Bool, true, false, cond, List, [], ◌∷◌, ◌++◌, length, get_or, refl, sym, ap, subst, arith, Option, Some, None, Result, Ok, Err}
-use Rattle.std.specs.Prelude.{find, not, ◌&&◌, All, IfOk, slice_index_or}
+use Rattle.std.specs.Prelude.{find, not, ◌&&◌, All, slice_index_or}
 use Rattle.std.proofs.lemmas.Bool.{cases_Bool, cases_lt}
 use Rattle.std.proofs.Math.ListN.{get_or-eq_default}
 use Rattle.std.proofs.lemmas.List.Elements.{All-nil, All-cons}
@@ -13,12 +13,9 @@ use Rattle.label_reader.specs.Labels.{Labelling, is_known, states_with}
 use Rattle.label_reader.specs.Owners.{Ownership, is_player}
 use Rattle.rpatl_syntax.specs.Formula.{Tree}
 use Rattle.formula_sets.specs.declared.fault.PoseFault.{PoseFault}
-use Rattle.formula_sets.specs.declared.question.Posed.{Posed}
 use Rattle.formula_sets.specs.Truth.{holds, unknown_label}
 use Rattle.formula_sets.specs.Sides.{side_of, unknown_player}
-use Rattle.game_outside.specs.Answers.{AnswersOrWants}
-use Rattle.formula_sets.specs.Posing.{Posing, IsSetUp, Poses, init, formula_labels, formula_players, is_lost, at_states, question_with, question_of, some_state, known_with, initial_said, made_of, pose_said, IsOutOfMemory}
-use Rattle.formula_sets.specs.Seen.{posing_of}
+use Rattle.formula_sets.specs.Posing.{Posing, IsSetUp, Poses, init, formula_labels, formula_players, is_lost, at_states, question_with, question_of, some_state, known_with, initial_said, made_of, pose_said}
 
 -- 1. What is said at each state.
 
@@ -165,10 +162,3 @@ module _ (game : List (List Distribution)) (l : Labelling) (o : Ownership) (f : 
       let same = question-same p.question p.initial (at_states (holds l f.right) n) (at_states (is_lost l f) n) h.set_up goals deads in
       let whole : Query → Result Posing PoseFault = λ q. Ok (record { question = q; initial = p.initial }) in
       ap (made_of posing) (initial-again l o f p.initial (is_begun p.question p.initial h.set_up)) ∙ ap whole same
-
-  pub given-found : (result : Result Posed PoseFault) → AnswersOrWants IsOutOfMemory posing_of result (pose_said game l o f) → IfOk result (λ posed. Poses game l o f (posing_of posed))
-  given-found (Ok posed) given = pose-found (posing_of posed) given
-  given-found (Err fault) given = tt
-
-  pub given-only : (result : Result Posed PoseFault) (p : Posing) → AnswersOrWants IsOutOfMemory posing_of result (pose_said game l o f) → Poses game l o f p → AnswersOrWants IsOutOfMemory posing_of result (Ok p)
-  given-only result p given h = let P : Result Posing PoseFault → Type 0 = λ r. AnswersOrWants IsOutOfMemory posing_of result r in subst P (pose-again p h) given

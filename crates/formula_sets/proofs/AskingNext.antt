@@ -1,22 +1,19 @@
 -- The question with `X` that is said to be posed is the one that is posed.
-use Rattle.std.proofs.Common.{◌≡◌, ◌∙◌, ◌<◌, ◌≤◌, ℕ, true, false, cond, inl, inr, List, length, get_or, refl, sym, ap, subst, arith, Result, Ok, Err}
-use Rattle.std.specs.Prelude.{All, IfOk, slice_index_or}
+use Rattle.std.proofs.Common.{◌≡◌, ◌∙◌, ◌≤◌, ℕ, true, false, cond, inl, inr, List, length, get_or, refl, sym, ap, subst, arith, Result, Ok}
+use Rattle.std.specs.Prelude.{All, slice_index_or}
 use Rattle.std.proofs.Math.ListN.{replicate, get_or-eq_default}
 use Rattle.std.proofs.lemmas.Bool.{cases_lt}
 use Rattle.std.proofs.lemmas.List.{length-replicate, get_or-replicate}
 use Rattle.std.proofs.lemmas.List.FromFn.{fill_by_all}
 use Rattle.game_model.specs.Game.{Distribution}
 use Rattle.game_model.specs.Limits.{unit}
-use Rattle.game_model.specs.Query.{Query, states}
+use Rattle.game_model.specs.Query.{Query}
 use Rattle.label_reader.specs.Labels.{Labelling}
 use Rattle.label_reader.specs.Owners.{Ownership}
 use Rattle.rpatl_syntax.specs.Formula.{Tree}
 use Rattle.formula_sets.specs.declared.fault.PoseFault.{PoseFault}
-use Rattle.formula_sets.specs.declared.next.PosedNext.{PosedNext}
 use Rattle.formula_sets.specs.Truth.{holds}
-use Rattle.game_outside.specs.Answers.{AnswersOrWants}
-use Rattle.formula_sets.specs.Posing.{NextPosing, PosesNext, at_states, opening_at, unmarked, next_question_of, initial_said, made_of, pose_next_said, IsOutOfMemory}
-use Rattle.formula_sets.specs.Seen.{next_posing_of}
+use Rattle.formula_sets.specs.Posing.{NextPosing, PosesNext, at_states, opening_at, unmarked, next_question_of, initial_said, made_of, pose_next_said}
 use Rattle.formula_sets.proofs.Asking.{at_states-at, length-at_states, made-found, initial-again, set_up, is_begun, question-same}
 
 -- no marks, in one piece
@@ -32,6 +29,14 @@ never_marked n s = elim (cases_lt s n) [
 -- the opening is at most the unit
 opening-unit : (l : Labelling) (f : Tree) (s : ℕ) → opening_at l f s ≤ unit
 opening-unit l f s = elim (holds l f.right s) as (λ b. cond b unit 0 ≤ unit) [ true ↦ omega arith | false ↦ omega arith ]
+
+-- the opening is a table of the question
+pub opening-table : (l : Labelling) (f : Tree) (n : ℕ) (opening : List ℕ) → opening ≡ at_states (opening_at l f) n → (length opening ≡ n) × All (λ v. v ≤ unit) opening
+opening-table l f n opening is =
+    let many : length opening ≡ n = ap (λ (xs : List ℕ). length xs) is ∙ length-at_states (opening_at l f) n in
+    let Q : ℕ → ℕ → List ℕ → Type 0 = λ k d xs. get_or xs k d ≤ unit in
+    let P : ℕ → Type 0 = λ v. v ≤ unit in
+    (many, λ k d short. subst (Q k d) (sym is) (subst P (sym (at_states-at (opening_at l f) n k d (omega (arith, many, short)))) (opening-unit l f k)))
 
 module _ (game : List (List Distribution)) (l : Labelling) (o : Ownership) (f : Tree) where
   posing : List ℕ → NextPosing
@@ -63,28 +68,3 @@ module _ (game : List (List Distribution)) (l : Labelling) (o : Ownership) (f : 
       ap (made_of posing) (initial-again l o f p.initial (is_begun game l o f p.question p.initial h.set_up))
       ∙ ap (λ q. whole q (at_states (opening_at l f) n)) same
       ∙ ap (whole p.question) (sym opening)
-
-  pub next_given-found : (result : Result PosedNext PoseFault) → AnswersOrWants IsOutOfMemory next_posing_of result (pose_next_said game l o f) → IfOk result (λ posed. PosesNext game l o f (next_posing_of posed))
-  next_given-found (Ok posed) given = pose_next-found (next_posing_of posed) given
-  next_given-found (Err fault) given = tt
-
-  pub next_given-only : (result : Result PosedNext PoseFault) (p : NextPosing) → AnswersOrWants IsOutOfMemory next_posing_of result (pose_next_said game l o f) → PosesNext game l o f p → AnswersOrWants IsOutOfMemory next_posing_of result (Ok p)
-  next_given-only result p given h = let P : Result NextPosing PoseFault → Type 0 = λ r. AnswersOrWants IsOutOfMemory next_posing_of result r in subst P (pose_next-again p h) given
-
-  -- the opening that is posed is a table of the question
-  opening-table : (p : NextPosing) → PosesNext game l o f p → (length p.opening ≡ states p.question) × All (λ v. v ≤ unit) p.opening
-  opening-table p h = (
-    h.opening_count ∙ sym (ap length h.set_up.game_same),
-    λ k d short.
-        let n = length game in
-        let small : k < n = omega (arith, h.opening_count) in
-        let same = fill_by_all (opening_at l f) p.opening n 0 h.opening_count h.opening in
-        let Q : List ℕ → Type 0 = λ xs. get_or xs k d ≤ unit in
-        let P : ℕ → Type 0 = λ v. v ≤ unit in
-        subst Q (sym same) (subst P (sym (at_states-at (opening_at l f) n k d small)) (opening-unit l f k)),
-  )
-
-  pub given-table : (result : Result PosedNext PoseFault) → IfOk result (λ posed. PosesNext game l o f (next_posing_of posed))
-      → IfOk result (λ posed. (length posed.opening.items ≡ states posed.question) × All (λ v. v ≤ unit) posed.opening.items)
-  given-table (Ok posed) poses = opening-table (next_posing_of posed) poses
-  given-table (Err fault) poses = tt

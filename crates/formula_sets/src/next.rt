@@ -1,12 +1,12 @@
 //! The question that a formula with `X` poses.
 
-ghost use Rattle.std.specs.Prelude.{◌≡◌, ◌<◌, ◌≤◌, Ok, All, IfOk, length};
+ghost use Rattle.std.specs.Prelude.{◌≡◌, ◌<◌, ◌≤◌, All, IfOk, length};
 ghost use Rattle.game_model.specs.Limits.{unit};
 ghost use Rattle.game_model.specs.Query.{states};
 ghost use Rattle.rpatl_syntax.specs.declared.formula.PathKind.TheVariants.{Next};
 ghost use Rattle.rpatl_syntax.specs.Formula.{IsFlat, tree_of};
 ghost use Rattle.game_outside.specs.Answers.{AnswersOrWants};
-ghost use Rattle.formula_sets.specs.Posing.{NextPosing, PosesNext, at_states, opening_at, unmarked, next_question_of, pose_next_said, IsOutOfMemory};
+ghost use Rattle.formula_sets.specs.Posing.{at_states, opening_at, unmarked, next_question_of, pose_next_said, IsOutOfMemory};
 ghost use Rattle.formula_sets.specs.Seen.{next_posing_of};
 
 use crate::fault::PoseFault;
@@ -76,16 +76,23 @@ fn question_in<'g>(
     Ok(Question::build(game, sides, goals, deads))
 }
 
-fn first_answer<'g>(
+/// The question that a formula with `X` poses of a game whose states have these labels and owners, and the table from
+/// which its step is taken; or its first fault. What is said of a formula is what it poses:
+/// `laws::questions_are_those_that_a_formula_poses`.
+pub fn pose_next<'g>(
     alloc: Global,
     game: &'g Game,
     labels: &Labels,
     owners: &Owners,
     formula: &Formula,
 ) -> Result<PosedNext<'g>, PoseFault>
+    requires kind { formula.now.kind ≡ Next }
     requires labels { labels.now.states ≡ length game.now }
     requires owners { length owners.now.owners ≡ length game.now }
-    ensures { AnswersOrWants IsOutOfMemory next_posing_of result (pose_next_said game.now labels.now owners.now (tree_of formula.now)) }
+    requires flat { IsFlat (tree_of formula.now) }
+    ensures exact { AnswersOrWants IsOutOfMemory next_posing_of result (pose_next_said game.now labels.now owners.now (tree_of formula.now)) }
+    ensures inside { IfOk result (λ posed. All (λ s. s < states posed.question) posed.initial.items) }
+    ensures opening { IfOk result (λ posed. (length posed.opening.items ≡ states posed.question) × All (λ v. v ≤ unit) posed.opening.items) }
 {
     let initial = initial_of(alloc, labels, owners, formula)?;
     let Ok(question) = question_in(alloc, game, owners, formula) else {
@@ -99,27 +106,4 @@ fn first_answer<'g>(
         opening,
         initial,
     })
-}
-
-/// The question that a formula with `X` poses of a game whose states have these labels and owners, and the table from which its step is taken.
-pub fn pose_next<'g>(
-    alloc: Global,
-    game: &'g Game,
-    labels: &Labels,
-    owners: &Owners,
-    formula: &Formula,
-) -> Result<PosedNext<'g>, PoseFault>
-    requires kind { formula.now.kind ≡ Next }
-    requires labels { labels.now.states ≡ length game.now }
-    requires owners { length owners.now.owners ≡ length game.now }
-    requires flat { IsFlat (tree_of formula.now) }
-    // What is posed is what the formula asks, or its first fault.
-    ensures found { IfOk result (λ posed. PosesNext game.now labels.now owners.now (tree_of formula.now) (next_posing_of posed)) }
-    ensures only { (p : NextPosing) → PosesNext game.now labels.now owners.now (tree_of formula.now) p → AnswersOrWants IsOutOfMemory next_posing_of result (Ok p) }
-    ensures exact { AnswersOrWants IsOutOfMemory next_posing_of result (pose_next_said game.now labels.now owners.now (tree_of formula.now)) }
-    ensures inside { IfOk result (λ posed. All (λ s. s < states posed.question) posed.initial.items) }
-    ensures opening { IfOk result (λ posed. (length posed.opening.items ≡ states posed.question) × All (λ v. v ≤ unit) posed.opening.items) }
-{
-    labels.known();
-    first_answer(alloc, game, labels, owners, formula)
 }

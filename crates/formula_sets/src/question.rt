@@ -1,12 +1,12 @@
 //! The question that a formula poses.
 
-ghost use Rattle.std.specs.Prelude.{◌≡◌, ◌<◌, ◌&&◌, not, Ok, All, IfOk, length};
+ghost use Rattle.std.specs.Prelude.{◌≡◌, ◌<◌, ◌&&◌, not, All, IfOk, length};
 ghost use Rattle.game_model.specs.Query.{states};
 ghost use Rattle.rpatl_syntax.specs.Formula.{IsFlat, state_of, tree_of};
 ghost use Rattle.formula_sets.specs.Truth.{holds};
 ghost use Rattle.formula_sets.specs.Sides.{side_of};
 ghost use Rattle.game_outside.specs.Answers.{AnswersOrWants};
-ghost use Rattle.formula_sets.specs.Posing.{Posing, Poses, IsUntil, at_states, is_lost, question_of, initial_said, pose_said, IsOutOfMemory};
+ghost use Rattle.formula_sets.specs.Posing.{IsUntil, at_states, is_lost, question_of, initial_said, pose_said, IsOutOfMemory};
 ghost use Rattle.formula_sets.specs.Seen.{posing_of};
 
 use crate::fault::PoseFault;
@@ -130,25 +130,8 @@ pub fn initial_of(
     Ok(initial)
 }
 
-fn first_answer<'g>(
-    alloc: Global,
-    game: &'g Game,
-    labels: &Labels,
-    owners: &Owners,
-    formula: &Formula,
-) -> Result<Posed<'g>, PoseFault>
-    requires labels { labels.now.states ≡ length game.now }
-    requires owners { length owners.now.owners ≡ length game.now }
-    ensures { AnswersOrWants IsOutOfMemory posing_of result (pose_said game.now labels.now owners.now (tree_of formula.now)) }
-{
-    let initial = initial_of(alloc, labels, owners, formula)?;
-    let Ok(question) = question_in(alloc, game, labels, owners, formula) else {
-        return Err(PoseFault::OutOfMemory);
-    };
-    Ok(Posed { question, initial })
-}
-
-/// The question that a formula with `U` or `F` poses of a game whose states have these labels and owners.
+/// The question that a formula with `U` or `F` poses of a game whose states have these labels and owners, or its first
+/// fault. What is said of a formula is what it poses: `laws::questions_are_those_that_a_formula_poses`.
 pub fn pose<'g>(
     alloc: Global,
     game: &'g Game,
@@ -160,12 +143,12 @@ pub fn pose<'g>(
     requires labels { labels.now.states ≡ length game.now }
     requires owners { length owners.now.owners ≡ length game.now }
     requires flat { IsFlat (tree_of formula.now) }
-    // What is posed is what the formula asks, or its first fault.
-    ensures found { IfOk result (λ posed. Poses game.now labels.now owners.now (tree_of formula.now) (posing_of posed)) }
-    ensures only { (p : Posing) → Poses game.now labels.now owners.now (tree_of formula.now) p → AnswersOrWants IsOutOfMemory posing_of result (Ok p) }
     ensures exact { AnswersOrWants IsOutOfMemory posing_of result (pose_said game.now labels.now owners.now (tree_of formula.now)) }
     ensures inside { IfOk result (λ posed. All (λ s. s < states posed.question) posed.initial.items) }
 {
-    labels.known();
-    first_answer(alloc, game, labels, owners, formula)
+    let initial = initial_of(alloc, labels, owners, formula)?;
+    let Ok(question) = question_in(alloc, game, labels, owners, formula) else {
+        return Err(PoseFault::OutOfMemory);
+    };
+    Ok(Posed { question, initial })
 }

@@ -1,10 +1,8 @@
 //! The reader of label files.
 
-ghost use Rattle.std.specs.Prelude.{◌≡◌, ◌≤◌, Ok, length, IfOk};
-ghost use Rattle.label_reader.specs.Labels.{Labelling};
+ghost use Rattle.std.specs.Prelude.{◌≤◌, length};
 ghost use Rattle.game_outside.specs.Answers.{AnswersOrWants};
 ghost use Rattle.label_reader.specs.Texts.{labels_of, IsOutOfMemory};
-ghost use Rattle.label_reader.specs.Denotes.{DenotesLabels};
 
 use crate::faults::LabFault;
 use crate::headed_lines::HeadedLines;
@@ -16,13 +14,11 @@ use text_lines::{MOST_BYTES, read_lines};
 /// The reader of the lines of a label file.
 pub(crate) type LabelLines = HeadedLines<LabelSets>;
 
-/// The labels of so many states that a text denotes, or its first fault.
+/// The labels of so many states that a text denotes, or its first fault. What is said of a text is what it denotes:
+/// `laws::labels_are_those_that_a_text_denotes`.
 pub fn read_labels(alloc: Global, bytes: &[u8], states: u32) -> Result<Labels, LabFault>
     requires { length bytes.now ≤ MOST_BYTES }
-    // What is read is what the text denotes, or its first fault.
-    ensures found { IfOk result (λ labels. DenotesLabels bytes.now states labels) }
-    ensures only { (l : Labelling) → DenotesLabels bytes.now states l → AnswersOrWants IsOutOfMemory (λ x. x) result (Ok l) }
-    ensures exact { AnswersOrWants IsOutOfMemory (λ x. x) result (labels_of bytes.now states) }
+    ensures { AnswersOrWants IsOutOfMemory (λ x. x) result (labels_of bytes.now states) }
 {
     read_lines(bytes, LabelLines::new(alloc, states))
 }

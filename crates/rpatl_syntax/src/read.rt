@@ -1,11 +1,10 @@
 //! Formulas.
 
-ghost use Rattle.std.specs.Prelude.{◌≡◌, option_map, Ok, IfOk};
+ghost use Rattle.std.specs.Prelude.{option_map};
 ghost use Rattle.game_outside.specs.Answers.{AnswersOrWants};
 ghost use Rattle.rpatl_syntax.specs.Fault.{IsOutOfMemory};
-ghost use Rattle.rpatl_syntax.specs.Formula.{Tree, tree_of, names_of};
+ghost use Rattle.rpatl_syntax.specs.Formula.{tree_of, names_of};
 ghost use Rattle.rpatl_syntax.specs.Grammar.{formula, formula_said, behind_bound};
-ghost use Rattle.rpatl_syntax.specs.Rules.{Denotes};
 ghost use Rattle.rpatl_syntax.specs.Cursor.{tokens_at};
 
 use crate::cursor::Cursor;
@@ -17,21 +16,13 @@ use crate::states::read_sides;
 use crate::tokens::{Lead, next_lead};
 use std::alloc::Global;
 
-/// The formula that a text spells, or the first fault of the text.
-#[tactic(auto, using(crate::proofs::Denoted::formula_denoted, crate::proofs::Again::formula_said_again))]
-pub fn read_formula(alloc: Global, text: &str) -> Result<Formula, FormulaFault>
-    // What is read is what the text spells, and nothing but the first fault refuses a text.
-    ensures found { IfOk result (λ formula. Denotes text.now (tree_of formula)) }
-    ensures only { (tree : Tree) → Denotes text.now tree → AnswersOrWants IsOutOfMemory tree_of result (Ok tree) }
-    ensures exact { AnswersOrWants IsOutOfMemory tree_of result (formula_said text.now) }
-{
-    read_exact(alloc, text.as_bytes())
-}
-
+/// The formula that a text spells, or the first fault of the text. What is said of a text is what it denotes:
+/// `laws::formulas_are_those_that_a_text_denotes`.
 #[tactic(auto, unfolding(crate::specs::Grammar::formula_said))]
-fn read_exact(alloc: Global, text: &[u8]) -> Result<Formula, FormulaFault>
+pub fn read_formula(alloc: Global, text: &str) -> Result<Formula, FormulaFault>
     ensures { AnswersOrWants IsOutOfMemory tree_of result (formula_said text.now) }
 {
+    let text = text.as_bytes();
     if text.len() > LONGEST {
         return Err(FormulaFault::new(LONGEST as u32, FormulaCause::TooLong));
     }

@@ -7,7 +7,8 @@ ghost use Rattle.tra_reader.specs.GrowingGames.{IsBuilt, IsChoiceFault, EndsChoi
 
 use crate::fault::TraFault;
 use crate::limits::MOST_LINES;
-use distributions::{ChoiceFault, Part, make_choice};
+use distributions::laws::said_is_denoted;
+use distributions::{ChoiceFault, Part, known_of_all, make_choice};
 use game_model::{Choice, Edge, GameBuilder, MOST_CHOICES};
 use std::alloc::{AllocError, Global};
 
@@ -92,6 +93,8 @@ fn build(alloc: Global, builder: &mut GameBuilder, parts: &[Part]) -> Result<(),
     if parts.len() > MOST_LINES as usize {
         return Err(ChoiceFault::OutOfMemory);
     }
+    known_of_all(parts);
+    said_is_denoted();
     let choice = make_choice(alloc, parts)?;
     if builder.push_choice(&choice).is_err() {
         return Err(ChoiceFault::OutOfMemory);

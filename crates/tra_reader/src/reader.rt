@@ -1,11 +1,10 @@
 //! The reader of a whole text.
 
-ghost use Rattle.std.specs.Prelude.{◌≤◌, List, Ok, IfOk, length};
-ghost use Rattle.game_model.specs.Game.{Distribution};
+ghost use Rattle.std.specs.Prelude.{◌≤◌, length};
 ghost use Rattle.text_lines.specs.Limits.{most_bytes};
 ghost use Rattle.game_outside.specs.Answers.{AnswersOrWants};
 ghost use Rattle.tra_reader.specs.Faults.{IsOutOfMemory};
-ghost use Rattle.tra_reader.specs.Text.{Denotes, game_of};
+ghost use Rattle.tra_reader.specs.Text.{game_of};
 
 use crate::any_order::AnyLines;
 use crate::fault::TraFault;
@@ -15,19 +14,9 @@ use game_model::Game;
 use std::alloc::Global;
 use text_lines::read_lines;
 
-/// The game that a transition text denotes, or the text's first fault.
+/// The game that a transition text denotes, or the text's first fault. A text in order is read in one pass, any other
+/// once more. What is said of a text is what it denotes: `laws::said_is_denoted`.
 pub fn read_tra(alloc: Global, bytes: &[u8]) -> Result<Game, TraFault>
-    requires { length bytes.now ≤ most_bytes }
-    // What is read is what the text denotes, or its first fault.
-    ensures found { IfOk result (Denotes bytes.now) }
-    ensures only { (game : List (List Distribution)) → Denotes bytes.now game → AnswersOrWants IsOutOfMemory (λ g. g) result (Ok game) }
-    ensures exact { AnswersOrWants IsOutOfMemory (λ g. g) result (game_of bytes.now) }
-{
-    read_exact(alloc, bytes)
-}
-
-// A text in order is read in one pass, any other once more.
-fn read_exact(alloc: Global, bytes: &[u8]) -> Result<Game, TraFault>
     requires { length bytes.now ≤ most_bytes }
     ensures { AnswersOrWants IsOutOfMemory (λ g. g) result (game_of bytes.now) }
 {

@@ -1,22 +1,26 @@
-use Rattle.std.proofs.Common.{List, Result, Ok, Err, subst, IfOk}
-use Rattle.game_model.specs.Game.{Distribution}
-use Rattle.distributions.proofs.Said.{number-found, number-again}
-use Rattle.distributions.proofs.Chosen.{choice-found, choice-again}
+use Rattle.std.proofs.Common.{Ok, Err, Some, ap}
+use Rattle.text_lines.specs.Text.{lines_of, significant}
+use Rattle.tra_reader.specs.declared.halt.Halt.{Halt}
 use Rattle.tra_reader.specs.declared.fault.TraFault.{TraFault}
-use Rattle.game_outside.specs.Answers.{AnswersOrWants}
-use Rattle.tra_reader.specs.Faults.{IsOutOfMemory}
-use Rattle.tra_reader.specs.Text.{Denotes, game_of}
-use Rattle.tra_reader.proofs.TextLaws.{text_found, text_again}
+use Rattle.tra_reader.specs.Text.{game_of, lines_game}
+use Rattle.tra_reader.specs.Ordered.{ordered_header, HoldsOrdered, text_fault}
+use Rattle.tra_reader.specs.AnyOrder.{any_header, HoldsAny}
+use Rattle.tra_reader.proofs.Taking.{right_whole, given}
 use Rattle.tra_reader.proofs.reader.read_tra.Goals as goal
 
-pub returns-clause-found : goal.returns-clause-found
-returns-clause-found c = by_result c.read_exact.result c.read_exact.ensures
-  where
-    by_result : (result : Result (List (List Distribution)) TraFault) → AnswersOrWants IsOutOfMemory (λ (g : List (List Distribution)). g) result (game_of c.args.bytes.now) → IfOk result (Denotes c.args.bytes.now)
-    by_result (Ok game) is = text_found number-found choice-found c.args.bytes.now game is
-    by_result (Err fault) is = tt
+pub returns-in-Ok : goal.returns-in-Ok
+unfolding game_of
+returns-in-Ok c = right_whole ordered_header HoldsOrdered text_fault c.new.result.held (significant (lines_of c.args.bytes.now)) (Ok c.in-Ok.game) c.new.ensures c.in-Ok.ensures
 
-pub returns-clause-only : goal.returns-clause-only
-returns-clause-only c = λ game denotes.
-    let P : Result (List (List Distribution)) TraFault → Type 0 = λ said. AnswersOrWants IsOutOfMemory (λ (g : List (List Distribution)). g) c.read_exact.result said in
-    subst P (text_again number-again choice-again c.args.bytes.now game denotes) c.read_exact.ensures
+pub returns-in-Err-Refused : goal.returns-in-Err-Refused
+unfolding game_of
+returns-in-Err-Refused c =
+    let right = right_whole ordered_header HoldsOrdered text_fault c.new.result.held (significant (lines_of c.args.bytes.now)) (Err c.in-Err-Refused.field-0) c.new.ensures c.in-Err-Refused.ensures in
+    right c.in-Err-Refused.fault (ap (λ (halt : Halt). text_fault halt) c.in-Err-Refused.field-0-is)
+
+pub returns-in-Err-OutOfOrder : goal.returns-in-Err-OutOfOrder
+unfolding game_of
+returns-in-Err-OutOfOrder c =
+    let lines = significant (lines_of c.args.bytes.now) in
+    let again = c.read_lines-in-Err-OutOfOrder in
+    given again.result (lines_game lines) (right_whole any_header HoldsAny (λ (f : TraFault). Some f) c.new-in-Err-OutOfOrder.result.held lines again.result c.new-in-Err-OutOfOrder.ensures again.ensures)
