@@ -12,8 +12,8 @@ use crate::shelf::{PIECE, ReadEnd, Shelf};
 use memchr::memchr;
 use std::alloc::{AllocError, Global};
 use std::marker::Model;
-use text_lines::ends_in_cr;
 use text_lines::laws::lines_end_in_lf_or_crlf;
+use text_lines::without_cr;
 
 /// A text that is being read by lines. It holds at most one piece of the text, and keeps no reference to the shelf, which
 /// each call takes. After a refusal it is closed.
@@ -218,9 +218,8 @@ fn end_line(line: &mut Vec<u8>)
     requires { HasNo 10 line.old.items }
     ensures { (behind : List ℕ) → lines_of (line.old.items ++ 10 ∷ behind) ≡ line.new.items ∷ lines_of behind }
 {
-    if ends_in_cr(line) {
-        line.pop();
-    }
+    let length = without_cr(line).len();
+    line.truncate(length);
 }
 
 // Whether these are the bytes of a last line, which has no ending.

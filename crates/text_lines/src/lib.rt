@@ -31,7 +31,7 @@ mod numbers;
 mod reader;
 
 pub use fields::first_field;
-pub use lines::{ends_in_cr, first_line, only_blank};
+pub use lines::{first_line, only_blank, without_cr};
 pub use numbers::whole;
 pub use reader::{Feed, LineReader, read_lines};
 

@@ -1,6 +1,6 @@
 //! The first line of a text.
 
-ghost use Rattle.std.specs.Prelude.{◌≡◌, ◌<◌, ◌-◌, ◌==◌, ◌∷◌, [], ◌++◌, ℕ, List, length, slice_index, MatchOption};
+ghost use Rattle.std.specs.Prelude.{◌≡◌, ◌<◌, ◌∷◌, [], ◌++◌, ℕ, List, length, take, MatchOption};
 ghost use Rattle.text_lines.specs.Text.{lines_of, is_nil, significant};
 ghost use Rattle.text_lines.specs.Laws.{HasNo};
 
@@ -22,23 +22,16 @@ pub fn first_line(text: &[u8]) -> Option<(&[u8], &[u8])>
     }
 }
 
-// A line without the CR that stands before its LF.
-fn without_cr(line: &[u8]) -> &[u8]
+/// What stands before an LF, less the CR that may end it: the line that the LF ends.
+pub fn without_cr(line: &[u8]) -> &[u8]
     requires { HasNo 10 line.now }
-    ensures { (behind : List ℕ) → lines_of (line.now ++ 10 ∷ behind) ≡ result.now ∷ lines_of behind }
+    ensures line { (behind : List ℕ) → lines_of (line.now ++ 10 ∷ behind) ≡ result.now ∷ lines_of behind }
+    ensures front { result.now ≡ take (length result.now) line.now }
 {
-    if ends_in_cr(line) {
-        &line[..line.len() - 1]
-    } else {
-        line
+    match line {
+        [front @ .., b'\r'] => front,
+        _ => line,
     }
-}
-
-/// Whether the last byte is a CR.
-pub fn ends_in_cr(line: &[u8]) -> bool
-    ensures { result ≡ (slice_index line.now (length line.now - 1) == 13) }
-{
-    matches!(line, [.., b'\r'])
 }
 
 /// Whether no line of the text has a field. It ends at the first line that has one.
