@@ -10,7 +10,7 @@ use Rattle.std.proofs.Math.Nat.{mul-le-mul_left, le-div_iff_mul-le, div-le_of_le
 use Rattle.game_model.specs.declared.game.Edge.{Edge}
 use Rattle.game_model.specs.declared.game.Side.{Side}
 use Rattle.game_model.specs.declared.game.Side.TheVariants.{Max, Min}
-use Rattle.game_model.specs.Game.{Distribution, choices_of, choice_of, choice_in, no_distribution, no_edge}
+use Rattle.game_model.specs.Game.{Distribution, choices_of, choice_of, choice_among, no_distribution, no_edge}
 use Rattle.game_model.specs.Query.{Query, IsQuery, states, is_dead, side_at}
 use Rattle.game_model.specs.Values.{better, optimum, weighted_sum}
 use Rattle.game_model.specs.Limits.{unit}
@@ -26,9 +26,9 @@ pub choice_fits : (q : Query) (s c : ℕ) → IsQuery q → s < states q → c <
 choice_fits q s c h inside in_range = IsChoiceOf-choice_of q.game s c h.game inside in_range
 
 -- what holds of each state holds of each successor of a choice of its row
-pub row-fits : (q : Query) (s c : ℕ) (row : List Distribution) (P : ℕ → Type 0) → IsQuery q → s < states q → row ≡ choices_of q.game s → c < length row → ((t : ℕ) → t < states q → P t) → All (λ e. P e.to) (choice_in row c).edges
+pub row-fits : (q : Query) (s c : ℕ) (row : List Distribution) (P : ℕ → Type 0) → IsQuery q → s < states q → row ≡ choices_of q.game s → c < length row → ((t : ℕ) → t < states q → P t) → All (λ e. P e.to) (choice_among row c).edges
 row-fits q s c row P h inside is chosen each =
-    subst (λ (ms : List Distribution). All (λ (e : Edge). P e.to) (choice_in ms c).edges) (sym is) (λ k d l. each _ (h.game.inside s c inside (omega (arith, ap length is)) k d l))
+    subst (λ (ms : List Distribution). All (λ (e : Edge). P e.to) (choice_among ms c).edges) (sym is) (λ k d l. each _ (h.game.inside s c inside (omega (arith, ap length is)) k d l))
 
 -- a sum over a greater table
 pub weighted_sum-rises : (game : List (List Distribution)) (v w : ℕ → ℕ) (m : Distribution) → IsChoiceOf game m → ((t : ℕ) → t < length game → v t ≤ w t) → weighted_sum v m.edges ≤ weighted_sum w m.edges

@@ -1,7 +1,7 @@
 //! The weighted sums of a choice over the lower and over the upper bounds, in one walk over its edges.
 
 ghost use Rattle.std.specs.Prelude.{◌≡◌, ◌*◌, ◌^◌, ◌<◌, ◌≤◌, length, slice_index, All};
-ghost use Rattle.game_model.specs.Game.{choice_in};
+ghost use Rattle.game_model.specs.Game.{choice_among};
 ghost use Rattle.game_model.specs.Limits.{unit, total_bound};
 ghost use Rattle.game_model.specs.Rounded.{down_value, up_value};
 ghost use Rattle.fixed_bellman.specs.Bounds.{lowers, uppers, AreUnits};
@@ -16,10 +16,10 @@ use game_model::Row;
 #[inline(always)]
 pub fn quotients(row: &Row<'_>, choice: u32, table: &[Bounds]) -> (Quotient, Quotient)
     requires choice { choice < length row.now }
-    requires inside { All (λ e. e.to < length table.now) (choice_in row.now choice).edges }
+    requires inside { All (λ e. e.to < length table.now) (choice_among row.now choice).edges }
     requires units { All AreUnits table.now }
-    ensures down { rounded_down result.0 ≡ down_value (slice_index (lowers table.now)) (choice_in row.now choice) }
-    ensures up { rounded_up result.1 ≡ up_value (slice_index (uppers table.now)) (choice_in row.now choice) }
+    ensures down { rounded_down result.0 ≡ down_value (slice_index (lowers table.now)) (choice_among row.now choice) }
+    ensures up { rounded_up result.1 ≡ up_value (slice_index (uppers table.now)) (choice_among row.now choice) }
 {
     row.known();
     let total = row.total(choice);
@@ -31,10 +31,10 @@ pub fn quotients(row: &Row<'_>, choice: u32, table: &[Bounds]) -> (Quotient, Quo
 #[inline(always)]
 fn sums_of(row: &Row<'_>, choice: u32, total: u128, table: &[Bounds]) -> (u128, u128)
     requires choice { choice < length row.now }
-    requires total { total ≡ (choice_in row.now choice).total }
-    requires inside { All (λ e. e.to < length table.now) (choice_in row.now choice).edges }
+    requires total { total ≡ (choice_among row.now choice).total }
+    requires inside { All (λ e. e.to < length table.now) (choice_among row.now choice).edges }
     requires units { All AreUnits table.now }
-    ensures { AreSums (choice_in row.now choice).edges table.now result.0 result.1 }
+    ensures { AreSums (choice_among row.now choice).edges table.now result.0 result.1 }
 {
     row.known();
     if total >= 18_446_744_073_709_551_616 {
@@ -89,9 +89,9 @@ fn middle_sums(successors: &[u32], weights: &[u64], table: &[Bounds]) -> (u128, 
 #[inline(never)]
 fn wide_sums(row: &Row<'_>, choice: u32, table: &[Bounds]) -> (u128, u128)
     requires choice { choice < length row.now }
-    requires inside { All (λ e. e.to < length table.now) (choice_in row.now choice).edges }
+    requires inside { All (λ e. e.to < length table.now) (choice_among row.now choice).edges }
     requires units { All AreUnits table.now }
-    ensures { AreSums (choice_in row.now choice).edges table.now result.0 result.1 }
+    ensures { AreSums (choice_among row.now choice).edges table.now result.0 result.1 }
 {
     row.known();
     let mut lower: u128 = 0;

@@ -1,7 +1,7 @@
 //! The weighted sum of a choice, by the width that its total needs.
 
 ghost use Rattle.std.specs.Prelude.{◌≡◌, ◌*◌, ◌^◌, ◌<◌, ◌≤◌, length, slice_index, All};
-ghost use Rattle.game_model.specs.Game.{choice_in};
+ghost use Rattle.game_model.specs.Game.{choice_among};
 ghost use Rattle.game_model.specs.Limits.{unit, total_bound};
 ghost use Rattle.game_model.specs.Rounded.{down_value, up_value};
 ghost use Rattle.fixed_bellman.specs.Quotients.{rounded_down, rounded_up, IsBetween};
@@ -15,9 +15,9 @@ use game_model::Row;
 #[inline(always)]
 pub fn quotient<V: Values>(row: &Row<'_>, choice: u32, values: &V, pass: &mut V::Pass) -> Quotient
     requires choice { choice < length row.now }
-    requires fits { All (λ e. V.fits values.now pass.old e.to) (choice_in row.now choice).edges }
+    requires fits { All (λ e. V.fits values.now pass.old e.to) (choice_among row.now choice).edges }
     ensures onward { V.onward values.now pass.old pass.new }
-    ensures between { IsBetween result (V.seen values.now pass.old) (V.seen values.now pass.new) (choice_in row.now choice) }
+    ensures between { IsBetween result (V.seen values.now pass.old) (V.seen values.now pass.new) (choice_among row.now choice) }
 {
     row.known();
     let total = row.total(choice);
@@ -29,10 +29,10 @@ pub fn quotient<V: Values>(row: &Row<'_>, choice: u32, values: &V, pass: &mut V:
 #[inline(always)]
 pub fn table_quotient(row: &Row<'_>, choice: u32, table: &[u64]) -> Quotient
     requires choice { choice < length row.now }
-    requires inside { All (λ e. e.to < length table.now) (choice_in row.now choice).edges }
+    requires inside { All (λ e. e.to < length table.now) (choice_among row.now choice).edges }
     requires units { All (λ v. v ≤ unit) table.now }
-    ensures down { rounded_down result ≡ down_value (slice_index table.now) (choice_in row.now choice) }
-    ensures up { rounded_up result ≡ up_value (slice_index table.now) (choice_in row.now choice) }
+    ensures down { rounded_down result ≡ down_value (slice_index table.now) (choice_among row.now choice) }
+    ensures up { rounded_up result ≡ up_value (slice_index table.now) (choice_among row.now choice) }
 {
     let entries = Entries::new(table);
     quotient(row, choice, &entries, &mut ())
@@ -48,10 +48,10 @@ fn sum_of<V: Values>(
     pass: &mut V::Pass,
 ) -> u128
     requires choice { choice < length row.now }
-    requires total { total ≡ (choice_in row.now choice).total }
-    requires fits { All (λ e. V.fits values.now pass.old e.to) (choice_in row.now choice).edges }
+    requires total { total ≡ (choice_among row.now choice).total }
+    requires fits { All (λ e. V.fits values.now pass.old e.to) (choice_among row.now choice).edges }
     ensures onward { V.onward values.now pass.old pass.new }
-    ensures sum { IsSumBetween (choice_in row.now choice).edges (V.seen values.now pass.old) (V.seen values.now pass.new) result }
+    ensures sum { IsSumBetween (choice_among row.now choice).edges (V.seen values.now pass.old) (V.seen values.now pass.new) result }
 {
     row.known();
     if total >= 18_446_744_073_709_551_616 {
@@ -104,9 +104,9 @@ fn middle_sum<V: Values>(
 #[inline(never)]
 fn wide_sum<V: Values>(row: &Row<'_>, choice: u32, values: &V, pass: &mut V::Pass) -> u128
     requires choice { choice < length row.now }
-    requires fits { All (λ e. V.fits values.now pass.old e.to) (choice_in row.now choice).edges }
+    requires fits { All (λ e. V.fits values.now pass.old e.to) (choice_among row.now choice).edges }
     ensures onward { V.onward values.now pass.old pass.new }
-    ensures sum { IsSumBetween (choice_in row.now choice).edges (V.seen values.now pass.old) (V.seen values.now pass.new) result }
+    ensures sum { IsSumBetween (choice_among row.now choice).edges (V.seen values.now pass.old) (V.seen values.now pass.new) result }
 {
     row.known();
     let mut sum: u128 = 0;

@@ -4,7 +4,7 @@ use Rattle.std.specs.Prelude.{slice_index}
 use Rattle.std.proofs.lemmas.List.{same_lists, length-map, get_or-map, get_or-take, get_or-drop, length-take-le, length-drop}
 use Rattle.std.proofs.lemmas.List.Sums.{get_or-le-sum_by}
 use Rattle.game_model.specs.declared.game.Edge.{Edge}
-use Rattle.game_model.specs.Game.{Distribution, IsDistribution, IsGame, choices_of, choice_in, no_distribution, no_edge}
+use Rattle.game_model.specs.Game.{Distribution, IsDistribution, IsGame, choices_of, choice_among, no_distribution, no_edge}
 use Rattle.game_model.specs.Span.{span}
 use Rattle.game_model.specs.Flat.{edge_at, distribution_at, game_at, last_of, IsLaidOut}
 use Rattle.game_model.specs.Row.{row_at, IsRow}
@@ -34,34 +34,34 @@ module _ (bounds totals to low high : List ℕ) (row : List Distribution) (is : 
   pub bound-inside : (c : ℕ) → c < length row → c + 1 < length bounds
   bound-inside c l = omega (arith, row-count)
 
-  pub choice-in : (c : ℕ) → c < length row → distribution_at bounds totals to low high c ≡ choice_in row c
+  pub choice-in : (c : ℕ) → c < length row → distribution_at bounds totals to low high c ≡ choice_among row c
   choice-in c l =
       let at : 0 + c ≡ c = omega arith in
       sym (ap (λ ms. get_or ms c no_distribution) (sym is) ∙ get_or-span (distribution_at bounds totals to low high) 0 (length bounds - 1) c no_distribution (omega (arith, row-count))
       ∙ ap (distribution_at bounds totals to low high) at)
 
-  pub edges-count : (c : ℕ) → c < length row → slice_index bounds (c + 1) - slice_index bounds c ≡ length (choice_in row c).edges
+  pub edges-count : (c : ℕ) → c < length row → slice_index bounds (c + 1) - slice_index bounds c ≡ length (choice_among row c).edges
   edges-count c l = sym (length-span (edge_at to low high) (slice_index bounds c) (slice_index bounds (c + 1) - slice_index bounds c)) ∙ ap (λ (m : Distribution). length m.edges) (choice-in c l)
 
-  pub edge-in : (c p : ℕ) → c < length row → p < length (choice_in row c).edges → edge_at to low high (slice_index bounds c + p) ≡ get_or (choice_in row c).edges p no_edge
+  pub edge-in : (c p : ℕ) → c < length row → p < length (choice_among row c).edges → edge_at to low high (slice_index bounds c + p) ≡ get_or (choice_among row c).edges p no_edge
   edge-in c p l m =
       sym (get_or-span (edge_at to low high) (slice_index bounds c) (slice_index bounds (c + 1) - slice_index bounds c) p no_edge (omega (arith, edges-count c l)))
       ∙ ap (λ (d : Distribution). get_or d.edges p no_edge) (choice-in c l)
 
   -- the successors and the weights of a choice, as they lie in the lists
-  pub targets-are : (c : ℕ) → c < length row → span (slice_index to) (slice_index bounds c) (slice_index bounds (c + 1) - slice_index bounds c) ≡ map (λ e. e.to) (choice_in row c).edges
+  pub targets-are : (c : ℕ) → c < length row → span (slice_index to) (slice_index bounds c) (slice_index bounds (c + 1) - slice_index bounds c) ≡ map (λ e. e.to) (choice_among row c).edges
   targets-are c l =
       sym (map-span (λ (e : Edge). e.to) (edge_at to low high) (slice_index bounds c) (slice_index bounds (c + 1) - slice_index bounds c))
       ∙ ap (λ (m : Distribution). map (λ (e : Edge). e.to) m.edges) (choice-in c l)
 
   module _ (h : IsRow bounds totals to low high) where
-    pub fine : (c : ℕ) → c < length row → IsDistribution (choice_in row c)
+    pub fine : (c : ℕ) → c < length row → IsDistribution (choice_among row c)
     fine c l = subst IsDistribution (choice-in c l) (h.distributions c (bound-inside c l))
 
     -- the weights of a choice whose total fits 64 bits
-    pub low-are : (c : ℕ) → c < length row → (choice_in row c).total < 2 ^ 64 → span (slice_index low) (slice_index bounds c) (slice_index bounds (c + 1) - slice_index bounds c) ≡ map (λ e. e.weight) (choice_in row c).edges
+    pub low-are : (c : ℕ) → c < length row → (choice_among row c).total < 2 ^ 64 → span (slice_index low) (slice_index bounds c) (slice_index bounds (c + 1) - slice_index bounds c) ≡ map (λ e. e.weight) (choice_among row c).edges
     low-are c l small =
-        low-same low high to (slice_index bounds c) (slice_index bounds (c + 1) - slice_index bounds c) (choice_in row c).edges
+        low-same low high to (slice_index bounds c) (slice_index bounds (c + 1) - slice_index bounds c) (choice_among row c).edges
         (ap (λ (m : Distribution). m.edges) (choice-in c l)) (subst (λ n. n < 2 ^ 64) (sym (fine c l).sums) small)
 
 -- a part of a list, as it is read

@@ -31,20 +31,24 @@ abbrev pub no_distribution : Distribution
 no_distribution = record { total = 0; edges = [] }
 
 -- one of some choices
-abbrev pub choice_in : List Distribution → ℕ → Distribution
-choice_in choices c = slice_index_or choices c no_distribution
+abbrev pub choice_among : List Distribution → ℕ → Distribution
+choice_among choices c = slice_index_or choices c no_distribution
 
 -- a choice of a state
 abbrev pub choice_of : List (List Distribution) → ℕ → ℕ → Distribution
-choice_of game s c = choice_in (choices_of game s) c
+choice_of game s c = choice_among (choices_of game s) c
 
 -- an edge of no weight, which no choice has
 abbrev pub no_edge : Edge
 no_edge = record { to = 0; weight = 0 }
 
 -- an edge of a choice
+abbrev pub edge_in : Distribution → ℕ → Edge
+edge_in choice p = slice_index_or choice.edges p no_edge
+
+-- an edge of a choice of a state
 abbrev pub edge_of : List (List Distribution) → ℕ → ℕ → ℕ → Edge
-edge_of game s c p = slice_index_or (choice_of game s c).edges p no_edge
+edge_of game s c p = edge_in (choice_of game s c) p
 
 -- how many choices the states below this one have together
 abbrev pub choices_below : List (List Distribution) → ℕ → ℕ

@@ -232,17 +232,6 @@ impl Game {
         part(&self.to, begin as usize, end as usize)
     }
 
-    /// The weights of a choice whose total fits 64 bits, in the order of its successors.
-    #[inline(always)]
-    pub fn narrow_weights(&self, state: u32, choice: u32) -> &[u64]
-        requires state { state < length self.now }
-        requires choice { choice < length (choices_of self.now state) }
-        requires narrow { (choice_of self.now state choice).total < 2 ^ 64 }
-        ensures { result.now ≡ map (λ e. e.weight) (choice_of self.now state choice).edges }
-    {
-        self.row(state).narrow_weights(choice)
-    }
-
     /// An edge of a choice. The successors rise with the place.
     #[inline(always)]
     pub fn edge(&self, state: u32, choice: u32, place: u32) -> Edge

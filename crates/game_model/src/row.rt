@@ -1,6 +1,6 @@
 //! The choices of one state.
 
-ghost use Rattle.std.specs.Prelude.{◌≡◌, ℕ, ◌+◌, ◌-◌, ◌*◌, ◌^◌, ◌<◌, ◌≤◌, length, slice_index, slice_index_or, map, take, drop};
+ghost use Rattle.std.specs.Prelude.{◌≡◌, ℕ, ◌+◌, ◌-◌, ◌*◌, ◌^◌, ◌<◌, ◌≤◌, length, slice_index, map, take, drop};
 ghost use Rattle.game_model.specs.Limits.{total_bound};
 
 use crate::game::Edge;
@@ -32,13 +32,13 @@ impl<'g> Model for Row<'g> {
 }
 
 impl<'g> Row<'g> {
-    ghost use Rattle.game_model.specs.Game.{Distribution, IsDistribution, choice_in, no_edge};
+    ghost use Rattle.game_model.specs.Game.{Distribution, IsDistribution, choice_among, edge_in};
 
     /// Tells a proof what every row keeps. It does nothing.
     #[inline(always)]
     pub fn known(&self)
         ensures some { 0 < length self.now }
-        ensures distributions { (c : ℕ) → c < length self.now → IsDistribution (choice_in self.now c) }
+        ensures distributions { (c : ℕ) → c < length self.now → IsDistribution (choice_among self.now c) }
     {
         let _ = &self.to;
     }
@@ -69,7 +69,7 @@ impl<'g> Row<'g> {
     #[inline(always)]
     pub fn total(&self, choice: u32) -> u128
         requires { choice < length self.now }
-        ensures value { result ≡ (choice_in self.now choice).total }
+        ensures value { result ≡ (choice_among self.now choice).total }
         ensures positive { 0 < result }
         ensures small { result < total_bound }
     {
@@ -80,7 +80,7 @@ impl<'g> Row<'g> {
     #[inline(always)]
     pub fn edge_count(&self, choice: u32) -> u32
         requires { choice < length self.now }
-        ensures { result ≡ length (choice_in self.now choice).edges }
+        ensures { result ≡ length (choice_among self.now choice).edges }
     {
         self.bounds[choice as usize + 1] - self.bounds[choice as usize]
     }
@@ -89,7 +89,7 @@ impl<'g> Row<'g> {
     #[inline(always)]
     pub fn successors(&self, choice: u32) -> &'g [u32]
         requires { choice < length self.now }
-        ensures { result.now ≡ map (λ e. e.to) (choice_in self.now choice).edges }
+        ensures { result.now ≡ map (λ e. e.to) (choice_among self.now choice).edges }
     {
         let from = self.bounds[choice as usize];
         let to = self.bounds[choice as usize + 1];
@@ -100,8 +100,8 @@ impl<'g> Row<'g> {
     #[inline(always)]
     pub fn narrow_weights(&self, choice: u32) -> &'g [u64]
         requires choice { choice < length self.now }
-        requires narrow { (choice_in self.now choice).total < 2 ^ 64 }
-        ensures { result.now ≡ map (λ e. e.weight) (choice_in self.now choice).edges }
+        requires narrow { (choice_among self.now choice).total < 2 ^ 64 }
+        ensures { result.now ≡ map (λ e. e.weight) (choice_among self.now choice).edges }
     {
         let from = self.bounds[choice as usize];
         let to = self.bounds[choice as usize + 1];
@@ -112,8 +112,8 @@ impl<'g> Row<'g> {
     #[inline(always)]
     pub fn edge(&self, choice: u32, place: u32) -> Edge
         requires choice { choice < length self.now }
-        requires place { place < length (choice_in self.now choice).edges }
-        ensures { result ≡ slice_index_or (choice_in self.now choice).edges place no_edge }
+        requires place { place < length (choice_among self.now choice).edges }
+        ensures { result ≡ edge_in (choice_among self.now choice) place }
     {
         let at = self.bounds[choice as usize] as usize + place as usize;
         Edge {

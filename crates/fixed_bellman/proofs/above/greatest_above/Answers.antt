@@ -1,5 +1,5 @@
 use Rattle.std.proofs.Common.{◌≡◌, ℕ, ◌<◌, ◌≤◌, List, length, refl, arith, subst}
-use Rattle.game_model.specs.Game.{Distribution, choices_of, choice_of, choice_in}
+use Rattle.game_model.specs.Game.{Distribution, choices_of, choice_of, choice_among}
 use Rattle.fixed_bellman.specs.Quotients.{rounded_down, IsBetween}
 use Rattle.fixed_bellman.proofs.Tables.{row-fits}
 use Rattle.fixed_bellman.proofs.Between.{at-choice, not-less, value-new, low-gains, given-later}
@@ -29,7 +29,7 @@ loop-choice-preserved g c =
     let r = c.quotient-given.result in
     let h = c.loop-choice.invariant in
     let e = c.quotient-given.ensures in
-    let between : IsBetween r (seen middle) (seen end) (choice_of q.game s i) = subst (λ (ms : List Distribution). IsBetween r (seen middle) (seen end) (choice_in ms i)) c.row-row.ensures e.between in
+    let between : IsBetween r (seen middle) (seen end) (choice_of q.game s i) = subst (λ (ms : List Distribution). IsBetween r (seen middle) (seen end) (choice_among ms i)) c.row-row.ensures e.between in
     let chosen : i < length (choices_of q.game s) = at-choice _ _ _ i c.row-row.ensures c.choices-choice-end.ensures c.loop-choice-test.true in
     let earlier = laws.rises values start middle h.onward in
     let later = laws.rises values middle end e.onward in

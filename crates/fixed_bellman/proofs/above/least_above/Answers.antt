@@ -1,5 +1,5 @@
 use Rattle.std.proofs.Common.{◌≡◌, ℕ, ◌<◌, ◌≤◌, List, length, refl, arith, subst}
-use Rattle.game_model.specs.Game.{Distribution, choices_of, choice_of, choice_in}
+use Rattle.game_model.specs.Game.{Distribution, choices_of, choice_of, choice_among}
 use Rattle.fixed_bellman.specs.Quotients.{rounded_down, IsBetween}
 use Rattle.fixed_bellman.proofs.Tables.{row-fits, choice_fits, down_value-units}
 use Rattle.fixed_bellman.proofs.Between.{at-choice, not-less, value-old, high-gains}
@@ -36,7 +36,7 @@ returns-then-not-down_above-clause-low g c =
     let r = c.quotient-given.result in
     let h = c.loop-choice.invariant in
     let e = c.quotient-given.ensures in
-    let between : IsBetween r (seen middle) (seen end) (choice_of q.game s i) = subst (λ (ms : List Distribution). IsBetween r (seen middle) (seen end) (choice_in ms i)) c.row-row.ensures e.between in
+    let between : IsBetween r (seen middle) (seen end) (choice_of q.game s i) = subst (λ (ms : List Distribution). IsBetween r (seen middle) (seen end) (choice_among ms i)) c.row-row.ensures e.between in
     let chosen : i < length (choices_of q.game s) = at-choice _ _ _ i c.row-row.ensures c.choices-choice-end.ensures c.loop-choice-test.true in
     let stays : rounded_down r ≤ c.args.floor = not-less c.args.floor (rounded_down r) c.if-not-down_above.ensures.1 in
     (i, chosen, omega (arith, stays, value-old q s i r (seen start) (seen middle) (seen end) c.known.ensures c.requires.state chosen between (laws.rises values start middle h.onward) (laws.rises values middle end e.onward)))
@@ -64,7 +64,7 @@ loop-choice-preserved g c =
     let r = c.quotient-given.result in
     let h = c.loop-choice.invariant in
     let e = c.quotient-given.ensures in
-    let between : IsBetween r (seen middle) (seen end) (choice_of q.game s i) = subst (λ (ms : List Distribution). IsBetween r (seen middle) (seen end) (choice_in ms i)) c.row-row.ensures e.between in
+    let between : IsBetween r (seen middle) (seen end) (choice_of q.game s i) = subst (λ (ms : List Distribution). IsBetween r (seen middle) (seen end) (choice_among ms i)) c.row-row.ensures e.between in
     let chosen : i < length (choices_of q.game s) = at-choice _ _ _ i c.row-row.ensures c.choices-choice-end.ensures c.loop-choice-test.true in
     let earlier = laws.rises values start middle h.onward in
     let later = laws.rises values middle end e.onward in

@@ -3,7 +3,7 @@ use Rattle.std.specs.Prelude.{slice_index}
 use Rattle.std.proofs.lemmas.Bool.{true≢false}
 use Rattle.std.proofs.lemmas.List.Elements.{recursion_from_All, All-from_get_or}
 use Rattle.game_model.specs.declared.game.Side.TheVariants.{Max}
-use Rattle.game_model.specs.Game.{Distribution, choice_in, no_distribution}
+use Rattle.game_model.specs.Game.{Distribution, choice_among, no_distribution}
 use Rattle.game_model.specs.Values.{optimum}
 use Rattle.game_model.specs.Rounded.{down_value}
 use Rattle.game_model.proofs.Best.{optimum-each, optimum-most}
@@ -14,7 +14,7 @@ returns-then-down_above c =
     let f : Distribution → ℕ = down_value (slice_index c.args.table.now) in
     let i : ℕ = c.loop-choice.choice in
     let inside : i < length c.args.row.now = omega (arith, c.choices-choice-end.ensures, c.loop-choice-test.true) in
-    let here : c.args.floor < f (choice_in c.args.row.now i) = omega (arith, c.if-down_above.ensures.0 refl, c.table_quotient.ensures.down) in
+    let here : c.args.floor < f (choice_among c.args.row.now i) = omega (arith, c.if-down_above.ensures.0 refl, c.table_quotient.ensures.down) in
     (λ _. omega (arith, here, optimum-each f c.args.row.now i no_distribution inside), λ _. refl)
 
 pub returns : goal.returns

@@ -1,6 +1,6 @@
 use Rattle.std.proofs.Common.{◌≤◌, ◌<◌, ℕ, List, length, arith}
 use Rattle.game_model.specs.declared.game.Edge.{Edge}
-use Rattle.game_model.specs.Game.{choice_in}
+use Rattle.game_model.specs.Game.{choice_among}
 use Rattle.fixed_bellman.proofs.Sums.{IsSumBetween-more}
 use Rattle.fixed_bellman.proofs.sum.wide_sum.Goals as goal
 
@@ -10,7 +10,7 @@ loop-place-preserved g c =
     let values = c.args.values.now in
     let seen = g.V.Values.seen values in
     let i : ℕ = c.loop-place.place in
-    let edges : List Edge = (choice_in c.args.row.now c.args.choice).edges in
+    let edges : List Edge = (choice_among c.args.row.now c.args.choice).edges in
     let edge : Edge = c.edge-edge.result in
     let inside : i < length edges = omega (arith, c.edge_count-place-end.ensures, c.loop-place-test.true) in
     let start = c.args.pass.now in
