@@ -2,15 +2,16 @@
 use Rattle.std.proofs.Common.{◌≡◌, ◌≢◌, ◌∙◌, ◌<◌, ◌≤◌, ◌+◌, ◌*◌, ◌⊎◌, inl, inr, ℕ, zero, suc, List, [], ◌∷◌, refl, ap, sym, subst, Bool, true, false, cond, length, get_or, drop, arith, add-one, zero-add}
 use Rattle.std.proofs.Math.Seq.{drop-cons}
 use Rattle.std.specs.List.Sorted.{IsNonDecreasingBy}
-use Rattle.std.specs.Prelude.{◌==◌, All, slice_index}
+use Rattle.std.specs.Prelude.{◌==◌, All}
 use Rattle.std.proofs.lemmas.Bool.{cases_Bool, cases_lt}
 use Rattle.std.proofs.lemmas.Bool.Decides.{nat_tests}
 use Rattle.std.proofs.lemmas.List.Sums.{sum_by-cons, sum_by-le}
-use Rattle.std.proofs.lemmas.List.Elements.{All-nil, All-cons}
 use Rattle.game_model.specs.declared.game.Edge.{Edge}
-use Rattle.game_model.specs.Game.{IsRising, destinations, no_edge}
+use Rattle.game_model.specs.Game.{no_edge}
+use Rattle.game_model.specs.Rising.{RiseFrom}
+use Rattle.game_model.proofs.RisingEdges.{RiseFrom-less}
 use Rattle.distributions.specs.Parts.{weight_to, total_of, keep_edge, edges_from, span, gathered}
-use Rattle.distributions.specs.Merging.{heavier, merged_from, StandFrom, RiseFrom}
+use Rattle.distributions.specs.Merging.{heavier, merged_from, StandFrom}
 
 -- what an edge gives to a destination
 abbrev pub gives : ℕ → Edge → ℕ
@@ -27,45 +28,12 @@ gives-other e to h = let t : (e.to == to) ≡ false = grind (arith, nat_tests) i
 
 -- 1. Rising edges.
 
-pub RiseFrom-less : (less least : ℕ) (edges : List Edge) → less ≤ least → RiseFrom least edges → RiseFrom less edges
-RiseFrom-less less least [] h rise = tt
-RiseFrom-less less least (e ∷ edges) h rise = (omega (arith, rise.0), rise.1, rise.2)
-
 -- destinations below the first have no weight
 pub rising-below : (least : ℕ) (edges : List Edge) (to : ℕ) → RiseFrom least edges → to < least → weight_to edges to ≡ 0
 rising-below least [] to rise h = refl
 rising-below least (e ∷ edges) to rise h =
     let other : e.to ≢ to = λ same. omega (arith, rise.0, same) in
     omega (arith, weight_to-cons e edges to, gives-other e to other, rising-below (e.to + 1) edges to rise.2 (omega (arith, rise.0)))
-
-least-at : (least : ℕ) (edges : List Edge) (j : ℕ) → RiseFrom least edges → j < length edges → least ≤ slice_index (destinations edges) j
-least-at least [] j rise h = absurd (omega arith)
-least-at least (e ∷ edges) zero rise h = rise.0
-least-at least (e ∷ edges) (suc j) rise h = omega (arith, least-at (e.to + 1) edges j rise.2 (omega arith), rise.0)
-
-pub IsRising-from : (least : ℕ) (edges : List Edge) → RiseFrom least edges → IsRising edges
-IsRising-from least [] rise i j h l = absurd (omega arith)
-IsRising-from least (e ∷ edges) rise zero zero h l = absurd (omega arith)
-IsRising-from least (e ∷ edges) rise zero (suc j) h l = omega (arith, least-at (e.to + 1) edges j rise.2 (omega arith))
-IsRising-from least (e ∷ edges) rise (suc i) zero h l = absurd (omega arith)
-IsRising-from least (e ∷ edges) rise (suc i) (suc j) h l = IsRising-from (e.to + 1) edges rise.2 i j (omega arith) (omega arith)
-
-pub weighty-from : (least : ℕ) (edges : List Edge) → RiseFrom least edges → All (λ e. 1 ≤ e.weight) edges
-weighty-from least [] rise = All-nil (λ (e : Edge). 1 ≤ e.weight)
-weighty-from least (e ∷ edges) rise = All-cons (λ (e : Edge). 1 ≤ e.weight) e edges rise.1 (weighty-from (e.to + 1) edges rise.2)
-
--- from the places of a list
-pub RiseFrom-rising : (least : ℕ) (edges : List Edge) → ((d : Edge) → 0 < length edges → least ≤ (get_or edges 0 d).to) → IsRising edges → All (λ e. 1 ≤ e.weight) edges → RiseFrom least edges
-RiseFrom-rising least [] first rising weighty = tt
-RiseFrom-rising least (e ∷ edges) first rising weighty = (
-  first e (omega arith),
-  weighty 0 e (omega arith),
-  RiseFrom-rising (e.to + 1) edges (next edges rising) (λ i j h l. rising (suc i) (suc j) (omega arith) (omega arith)) (λ k d l. weighty (suc k) d (omega arith)),
-)
-  where
-    next : (rest : List Edge) → IsRising (e ∷ rest) → (d : Edge) → 0 < length rest → e.to + 1 ≤ (get_or rest 0 d).to
-    next [] up d h = absurd (omega arith)
-    next (f ∷ rest) up d h = let less : e.to < f.to = up 0 1 (omega arith) (omega arith) in omega arith
 
 -- one edge before those behind it
 pub rise_step : (edges : List Edge) (i least : ℕ) (d : Edge) → i < length edges → least ≤ (get_or edges i d).to → 1 ≤ (get_or edges i d).weight → RiseFrom ((get_or edges i d).to + 1) (drop (i + 1) edges) → RiseFrom least (drop i edges)

@@ -16,8 +16,3 @@ merged_from sum (e ∷ edges) = if e.to == sum.to then merged_from (heavier sum 
 abbrev pub StandFrom : ℕ → List Edge → Type 0
 StandFrom least [] = Unit {0}
 StandFrom least (e ∷ edges) = (least ≤ e.to) × StandFrom e.to edges
-
--- the edges stand by rising destination, from this one on, and none has weight 0
-abbrev pub RiseFrom : ℕ → List Edge → Type 0
-RiseFrom least [] = Unit {0}
-RiseFrom least (e ∷ edges) = (least ≤ e.to) × (1 ≤ e.weight) × RiseFrom (e.to + 1) edges

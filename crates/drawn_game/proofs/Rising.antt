@@ -1,12 +1,14 @@
 -- The edges that parts add up to: they rise, and one part more is one more sum.
 use Rattle.std.proofs.Common.{add-zero, ◌≡◌, ◌≢◌, ◌∙◌, ◌<◌, ◌≤◌, ◌+◌, ◌*◌, ◌==◌, ◌⊎◌, inl, inr, ℕ, zero, suc, cond, nat_lt, List, [], ◌∷◌, ◌++◌, refl, sym, ap, subst, length, map, filter, arith, zero-add}
-use Rattle.std.specs.Prelude.{All, slice_index}
+use Rattle.std.specs.Prelude.{All}
 use Rattle.std.specs.List.{range_with_len}
 use Rattle.std.proofs.lemmas.Bool.{cases_lt, lt-ltb, le-ltb, eq-eqb, ne_eqb}
 use Rattle.std.proofs.lemmas.List.Elements.{All-nil, All-cons, All-weaker}
 use Rattle.std.proofs.lemmas.List.Sums.{sum_by-cons, sum_by_push}
 use Rattle.game_model.specs.declared.game.Edge.{Edge}
-use Rattle.game_model.specs.Game.{IsRising, destinations}
+use Rattle.game_model.specs.Game.{IsRising}
+use Rattle.game_model.specs.Rising.{RiseFrom}
+use Rattle.game_model.proofs.RisingEdges.{RiseFrom-less, IsRising-from, weighty-from}
 use Rattle.drawn_game.specs.Parts.{weight_to, total_of, added_up}
 use Rattle.drawn_game.specs.Adding.{with_part}
 use Rattle.drawn_game.proofs.Adding.{with_part-before, with_part-at, with_part-behind, with_part-some, total_of-with_part}
@@ -29,14 +31,6 @@ none_or_some (suc n) = inr (omega arith)
 
 -- 1. They rise.
 
-abbrev RiseFrom : ℕ → List Edge → Type 0
-RiseFrom least [] = Unit {0}
-RiseFrom least (e ∷ edges) = (least ≤ e.to) × (0 < e.weight) × RiseFrom (e.to + 1) edges
-
-RiseFrom-less : (less least : ℕ) (edges : List Edge) → less ≤ least → RiseFrom least edges → RiseFrom less edges
-RiseFrom-less less least [] h rise = tt
-RiseFrom-less less least (e ∷ edges) h rise = (omega (arith, rise.0), rise.1, rise.2)
-
 edges_of-rises : (weight : ℕ → ℕ) (first n : ℕ) → RiseFrom first (edges_of weight first n)
 edges_of-rises weight first zero = tt
 edges_of-rises weight first (suc n) =
@@ -44,24 +38,8 @@ edges_of-rises weight first (suc n) =
     let rest = edges_of-rises weight (first + 1) n in
     elim (none_or_some (weight first)) [
       | inl none ↦ subst P (sym (edges_of-none weight first n none)) (RiseFrom-less first (first + 1) (edges_of weight (first + 1) n) (omega arith) rest)
-      | inr some ↦ subst P (sym (edges_of-some weight first n some)) (omega arith, some, rest)
+      | inr some ↦ subst P (sym (edges_of-some weight first n some)) (omega arith, omega (arith, some), rest)
     ]
-
-least-at : (least : ℕ) (edges : List Edge) (j : ℕ) → RiseFrom least edges → j < length edges → least ≤ slice_index (destinations edges) j
-least-at least [] j rise h = absurd (omega arith)
-least-at least (e ∷ edges) zero rise h = rise.0
-least-at least (e ∷ edges) (suc j) rise h = omega (arith, least-at (e.to + 1) edges j rise.2 (omega arith), rise.0)
-
-IsRising-from : (least : ℕ) (edges : List Edge) → RiseFrom least edges → IsRising edges
-IsRising-from least [] rise i j h l = absurd (omega arith)
-IsRising-from least (e ∷ edges) rise zero zero h l = absurd (omega arith)
-IsRising-from least (e ∷ edges) rise zero (suc j) h l = omega (arith, least-at (e.to + 1) edges j rise.2 (omega arith))
-IsRising-from least (e ∷ edges) rise (suc i) zero h l = absurd (omega arith)
-IsRising-from least (e ∷ edges) rise (suc i) (suc j) h l = IsRising-from (e.to + 1) edges rise.2 i j (omega arith) (omega arith)
-
-weighty-from : (least : ℕ) (edges : List Edge) → RiseFrom least edges → All (λ e. 1 ≤ e.weight) edges
-weighty-from least [] rise = All-nil (λ (e : Edge). 1 ≤ e.weight)
-weighty-from least (e ∷ edges) rise = All-cons (λ (e : Edge). 1 ≤ e.weight) e edges (omega (arith, rise.1)) (weighty-from (e.to + 1) edges rise.2)
 
 pub added_up-rises : (n : ℕ) (parts : List Edge) → IsRising (added_up n parts)
 unfolding added_up

@@ -1,5 +1,6 @@
 pub mod Limits
 pub mod Game
+pub mod Rising
 pub mod Made
 pub mod Span
 pub mod Flat

@@ -3,8 +3,10 @@ use Rattle.std.specs.Prelude.{All}
 use Rattle.game_model.specs.declared.game.Edge.{Edge}
 use Rattle.game_model.specs.Game.{IsRising, no_edge}
 use Rattle.distributions.specs.Parts.{total_of}
-use Rattle.distributions.specs.Merging.{merged_from, RiseFrom}
-use Rattle.distributions.proofs.Gathering.{gathered-only, merged-rises, merged-gathered, merged-total, IsRising-from, weighty-from}
+use Rattle.distributions.specs.Merging.{merged_from}
+use Rattle.game_model.specs.Rising.{RiseFrom}
+use Rattle.distributions.proofs.Gathering.{gathered-only, merged-rises, merged-gathered, merged-total}
+use Rattle.game_model.proofs.RisingEdges.{IsRising-from, weighty-from}
 use Rattle.distributions.proofs.gather.gather.Goals as goal
 
 pub returns-then-is_gathered-clause-value : goal.returns-then-is_gathered-clause-value

@@ -1,5 +1,5 @@
 use Rattle.std.proofs.Common.{drop}
-use Rattle.distributions.specs.Merging.{RiseFrom}
+use Rattle.game_model.specs.Rising.{RiseFrom}
 use Rattle.distributions.proofs.gather.is_gathered.Given as goal
 
 abbrev pub invariant-loop-edge : goal.invariant-loop-edge
