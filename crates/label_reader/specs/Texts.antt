@@ -68,10 +68,9 @@ owners_of text n = said_by OwnerFile n (ownership n) text
 abbrev pub IsOutOfMemory : LabFault → Type 0
 IsOutOfMemory fault = fault ≡ fault_at 0 OutOfMemory
 
--- a cause whose line is not known yet: the one that is said, or want of memory
-abbrev pub GivesCause : {X : Type 0} → Result X LabCause → Result X LabCause → Type 0
-GivesCause (Ok x) said = said ≡ Ok x
-GivesCause (Err cause) said = (cause ≡ OutOfMemory) ⊎ (said ≡ Err cause)
+-- the cause is want of memory, whose line is not known yet
+abbrev pub IsWant : LabCause → Type 0
+IsWant cause = cause ≡ OutOfMemory
 
 -- the fault of a header with this cause: want of memory has line 0
 abbrev pub GivesFault : LabCause → LabFault → Type 0

@@ -15,7 +15,8 @@ use Rattle.plan_text.specs.declared.version.Version.{Version}
 use Rattle.plan_text.specs.declared.version.Version.TheVariants.{One, Two}
 use Rattle.game_model.specs.Limits.{unit}
 use Rattle.plan_text.specs.Entries.{Entry, IsInRange, IsSmall, greatest_rank, entries_of}
-use Rattle.plan_text.specs.Said.{fault_at, then_at, judged, is_in_range, is_small, entry_in, line_said, counted, heading_said, header_said, is_heading, entries_from, certificate_from, entries_said, GivesPlan}
+use Rattle.plan_text.specs.Said.{fault_at, then_at, judged, is_in_range, is_small, entry_in, line_said, counted, heading_said, header_said, is_heading, entries_from, certificate_from, entries_said, IsOutOfMemory}
+use Rattle.game_outside.specs.Answers.{AnswersOrWants}
 use Rattle.plan_text.specs.Versions.{version_in, version_text}
 use Rattle.plan_text.specs.Read.{end_said}
 use Rattle.plan_text.specs.Certificate.{IsEntryLine, AreEntryLines, IsFirstLine, IsCertificate}
@@ -378,6 +379,6 @@ read_in_range text states entries said =
     let is = (what_is_read text states entries said).1 in
     AreEntryLines-in_range is.version 0 is.states entries is.tells
 
-pub answered_in_range : (result : Result Plan PlanFault) (text : List ℕ) (states : ℕ) → GivesPlan result (entries_said text states) → IfOk result (λ plan. All IsInRange (entries_of plan))
+pub answered_in_range : (result : Result Plan PlanFault) (text : List ℕ) (states : ℕ) → AnswersOrWants IsOutOfMemory entries_of result (entries_said text states) → IfOk result (λ plan. All IsInRange (entries_of plan))
 answered_in_range (Ok plan) text states said = read_in_range text states (entries_of plan) said
 answered_in_range (Err fault) text states said = tt

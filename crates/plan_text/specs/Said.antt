@@ -1,15 +1,14 @@
 -- What the text of a certificate says of so many states: an entry for each, or its first fault.
-use Rattle.std.specs.Prelude.{◌≡◌, ℕ, ◌+◌, ◌-◌, ◌*◌, ◌==◌, ◌&&◌, ◌⊎◌, nat_le, bytes_eq, Bool, true, false, List, [], ◌∷◌, ◌++◌, length, Option, Some, None, option_map, codes, if◌then◌else◌, Result, Ok, Err}
+use Rattle.std.specs.Prelude.{◌≡◌, ℕ, ◌+◌, ◌-◌, ◌*◌, ◌==◌, ◌&&◌, nat_le, bytes_eq, Bool, true, false, List, [], ◌∷◌, ◌++◌, length, Option, Some, None, option_map, codes, if◌then◌else◌, Result, Ok, Err}
 use Rattle.game_model.specs.Limits.{unit}
 use Rattle.text_lines.specs.Text.{lines_of, fields_of, number_of, significant, is_digit, all_digits, is_nil, value_onto}
-use Rattle.plan_text.specs.declared.plan.Plan.{Plan}
 use Rattle.plan_text.specs.declared.fault.PlanFault.{PlanFault}
 use Rattle.plan_text.specs.declared.fault.PlanCause.{PlanCause}
 use Rattle.plan_text.specs.declared.fault.PlanCause.TheVariants.{OutOfMemory, NoCertificate, StateCount, BadLine, NumberOutOfRange, MissingLine}
 use Rattle.plan_text.specs.declared.fault.PlanCause.TheVariants as cause
 use Rattle.plan_text.specs.declared.version.Version.{Version}
 use Rattle.plan_text.specs.Versions.{decimals_of, units_of_last_digit, version_in}
-use Rattle.plan_text.specs.Entries.{Entry, greatest_choice, greatest_rank, entries_of}
+use Rattle.plan_text.specs.Entries.{Entry, greatest_choice, greatest_rank}
 
 -- the units of a value: a digit, a point and the decimals of the version
 abbrev pub units_of : Version → List ℕ → Option ℕ
@@ -102,7 +101,5 @@ certificate_from states number (line ∷ lines) =
 abbrev pub entries_said : List ℕ → ℕ → Result (List Entry) PlanFault
 entries_said text states = certificate_from states 1 (significant (lines_of text))
 
--- What a reader answers: what is said, or that memory was wanting.
-abbrev pub GivesPlan : Result Plan PlanFault → Result (List Entry) PlanFault → Type 0
-GivesPlan (Ok plan) said = said ≡ Ok (entries_of plan)
-GivesPlan (Err fault) said = (fault ≡ fault_at 0 OutOfMemory) ⊎ (said ≡ Err fault)
+abbrev pub IsOutOfMemory : PlanFault → Type 0
+IsOutOfMemory fault = fault ≡ fault_at 0 OutOfMemory

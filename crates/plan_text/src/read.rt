@@ -4,7 +4,8 @@ ghost use Rattle.std.specs.Prelude.{◌≡◌, ◌≤◌, ◌<◌, ◌+◌, ◌&
 ghost use Rattle.text_lines.specs.Limits.{most_bytes};
 ghost use Rattle.text_lines.specs.Text.{lines_of, fields_of, is_nil, significant};
 ghost use Rattle.plan_text.specs.Entries.{HasStates, IsInRange, entries_of};
-ghost use Rattle.plan_text.specs.Said.{GivesPlan, entries_said, entries_from};
+ghost use Rattle.plan_text.specs.Said.{IsOutOfMemory, entries_said, entries_from};
+ghost use Rattle.game_outside.specs.Answers.{AnswersOrWants};
 ghost use Rattle.plan_text.specs.Read.{first_said, end_said};
 
 use crate::entry::StateLine;
@@ -21,7 +22,7 @@ use text_lines::{first_field, first_line, only_blank};
 pub fn read_plan(alloc: Global, bytes: &[u8], states: u32) -> Result<Plan, PlanFault>
     requires { length bytes.now ≤ most_bytes }
     ensures lists { IfOk result (λ plan. HasStates plan states) }
-    ensures said { GivesPlan result (entries_said bytes.now states) }
+    ensures said { AnswersOrWants IsOutOfMemory entries_of result (entries_said bytes.now states) }
     ensures in_range { IfOk result (λ plan. All IsInRange (entries_of plan)) }
 {
     let (version, text, number) = read_heading(bytes, states)?;
@@ -38,7 +39,7 @@ fn read_states(
 ) -> Result<Plan, PlanFault>
     requires { first + length text.now ≤ 1 + most_bytes }
     ensures lists { IfOk result (λ plan. HasStates plan states) }
-    ensures said { GivesPlan result (entries_from version states [] first (significant (lines_of text.now))) }
+    ensures said { AnswersOrWants IsOutOfMemory entries_of result (entries_from version states [] first (significant (lines_of text.now))) }
 {
     let Ok(mut plan) = Plan::with_room(alloc, states) else {
         return Err(PlanFault::out_of_memory());
