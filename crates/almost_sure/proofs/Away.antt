@@ -1,5 +1,6 @@
 -- States that are gone, and those that an inner set leaves: their values stay away from 1.
 use Rattle.std.proofs.Common.{◌≡◌, ℕ, zero, suc, ◌+◌, ◌-◌, ◌*◌, ◌/◌, ◌^◌, ◌<◌, ◌≤◌, Bool, true, false, List, [], ◌∷◌, length, get_or, arith, refl, sym, ap, ◌∙◌, subst, sum_by, inl, inr}
+use Rattle.std.proofs.lemmas.Bool.{cases_Bool}
 use Rattle.std.specs.List.{AllByRecursion, list_any}
 use Rattle.std.specs.Prelude.{slice_index_or}
 use Rattle.std.specs.Bool.{if◌then◌else◌}
@@ -20,7 +21,7 @@ use Rattle.game_model.proofs.Rises.{numerator_of-most}
 use Rattle.game_laws.proofs.Positive.{optimum-affine, quotient-pos}
 use Rattle.zero_sets.specs.Attractor.{meets}
 use Rattle.zero_sets.proofs.Attracting.{all-place}
-use Rattle.zero_sets.proofs.Meeting.{meets-successor, either}
+use Rattle.zero_sets.proofs.Meeting.{meets-successor}
 use Rattle.almost_sure.specs.Values.{IsAway}
 use Rattle.almost_sure.specs.Drawing.{serves, draws, IsInner}
 use Rattle.almost_sure.proofs.Powers.{pow-suc_left, pow-suc_both, pow-more}
@@ -154,7 +155,7 @@ unfolding numerator_of
 away-step q e k s posed inside other far =
     let D : ℕ = denominator q.game in
     let p : D ^ suc k ≤ D ^ (suc e + suc k) = pow-more D (suc e) (suc k) (denominator-pos q.game posed.game) in
-    elim (either (is_dead q s)) [
+    elim (cases_Bool (is_dead q s)) [
       | inl dead ↦ marked-dead (is_goal q s) (is_dead q s) (D ^ suc k) _ (D ^ suc e) (D ^ suc k) (D ^ (suc e + suc k)) other dead p
       | inr alive ↦ marked-away (is_goal q s) (is_dead q s) (D ^ suc k) _ (D ^ suc e) (D ^ suc k) (D ^ (suc e + suc k)) other p (side-away q e k s (side_at q s) refl posed inside (far alive))
     ]
@@ -181,7 +182,7 @@ choice-left q gone set e k m posed fits away left fails = elim (serves-not gone 
   | inr unmet ↦
       far-by-all q e k m fits
       (AllByRecursion-weaker (λ (d : Edge). (d.to < length q.game) × (slice_index_or set d.to false ≡ false)) _
-      (λ d facts. elim (either (slice_index_or gone d.to false)) [
+      (λ d facts. elim (cases_Bool (slice_index_or gone d.to false)) [
         | inl out ↦ IsAway-suc q e d.to posed (away d.to facts.0 out) k
         | inr within ↦ left d.to facts.0 facts.1 within
       ])

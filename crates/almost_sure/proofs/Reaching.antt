@@ -1,5 +1,6 @@
 -- Where the outer set is the inner one, its states reach a goal almost surely, and those that stay away do not.
 use Rattle.std.proofs.Common.{◌≡◌, ℕ, zero, suc, ◌+◌, ◌-◌, ◌*◌, ◌^◌, ◌<◌, ◌≤◌, Bool, true, false, List, length, map, arith, refl, sym, ap, ◌∙◌, subst, inl, inr, not}
+use Rattle.std.proofs.lemmas.Bool.{cases_Bool, not_from_false}
 use Rattle.std.specs.Prelude.{slice_index_or}
 use Rattle.std.proofs.lemmas.Nat.{pow-add}
 use Rattle.std.proofs.lemmas.List.{get_or-map, length-map}
@@ -7,7 +8,6 @@ use Rattle.std.proofs.Math.Nat.{mul-le-mul_left, pow-suc, pow-zero, one-le-pow}
 use Rattle.game_model.specs.Query.{Query, IsQuery, states}
 use Rattle.game_model.specs.Values.{denominator, numerator}
 use Rattle.game_model.proofs.Choices.{denominator-pos}
-use Rattle.zero_sets.proofs.Meeting.{either}
 use Rattle.almost_sure.specs.Values.{IsAlmostSure, IsAway, AreAlmostSure}
 use Rattle.almost_sure.specs.Drawing.{ComesNearer}
 use Rattle.game_laws.proofs.Powers.{horizon_of, pow-horizon_of, pow-far}
@@ -70,10 +70,6 @@ not-false : (b : Bool) → not b ≡ false → b ≡ true
 not-false true h = refl
 not-false false h = absurd (cc)
 
-not-is : (b : Bool) → b ≡ false → not b ≡ true
-not-is true h = absurd (cc)
-not-is false h = refl
-
 -- the answer
 pub AreAlmostSure-others : (q : Query) (gone set : List Bool) → IsQuery q → length gone ≡ states q → ComesNearer q gone set
     → ((s : ℕ) → s < states q → slice_index_or gone s false ≡ false → slice_index_or set s false ≡ true) → ((s : ℕ) → s < states q → slice_index_or gone s false ≡ true → IsAway q (states q) s) → AreAlmostSure q (map not gone)
@@ -83,9 +79,9 @@ AreAlmostSure-others q gone set posed many near all away =
       as_many = length-map gone not ∙ many;
       exact = λ s inside. (
         λ marked. IsAlmostSure-within q gone set posed near all s inside (not-true (slice_index_or gone s false) (sym (at s inside) ∙ marked)),
-        λ sure. at s inside ∙ (elim (either (slice_index_or gone s false)) [
+        λ sure. at s inside ∙ (elim (cases_Bool (slice_index_or gone s false)) [
           | inl out ↦ absurd (IsAway-not_sure q (states q) s posed (away s inside out) sure)
-          | inr within ↦ not-is (slice_index_or gone s false) within
+          | inr within ↦ not_from_false (slice_index_or gone s false) within
         ]),
       );
       unmarked = λ s inside unmarked. away s inside (not-false (slice_index_or gone s false) (sym (at s inside) ∙ unmarked));

@@ -1,23 +1,15 @@
 -- Choices that serve, and states that are drawn in.
 use Rattle.std.proofs.Common.{◌≡◌, ◌⊎◌, ℕ, ◌<◌, Bool, true, false, List, [], ◌∷◌, length, get_or, refl, ap, ◌∙◌, inl, inr, not}
+use Rattle.std.proofs.lemmas.Bool.{cases_Bool}
 use Rattle.std.specs.Prelude.{◌||◌, ◌&&◌}
-use Rattle.std.specs.List.{AllByRecursion, list_any, list_all}
+use Rattle.std.specs.List.{list_any, list_all}
 use Rattle.std.proofs.lemmas.List.Folds.{list_any_at, list_all_at}
 use Rattle.game_model.specs.declared.game.Side.TheVariants.{Max, Min}
 use Rattle.game_model.specs.Game.{Distribution, no_distribution, choices_of, choice_of}
 use Rattle.game_model.specs.Query.{Query, side_at}
 use Rattle.zero_sets.specs.Attractor.{meets}
 use Rattle.zero_sets.proofs.Attracting.{any-place, all-place}
-use Rattle.zero_sets.proofs.Meeting.{either}
 use Rattle.almost_sure.specs.Drawing.{serves, draws}
-
-or-false : (a b : Bool) → (a || b) ≡ false → (a ≡ false) × (b ≡ false)
-or-false true b h = absurd (cc)
-or-false false b h = (refl, h)
-
-and-true : (a b : Bool) → (a && b) ≡ true → (a ≡ true) × (b ≡ true)
-and-true true b h = (refl, h)
-and-true false b h = absurd (cc)
 
 served : (a b : Bool) → (not a && b) ≡ true → (a ≡ false) × (b ≡ true)
 served true b h = absurd (cc)
@@ -54,7 +46,7 @@ pub draws-one : (q : Query) (gone set : List Bool) (s c : ℕ) → side_at q s �
 draws-one q gone set s c is_side l serve = ap (λ side. draws side gone set (choices_of q.game s)) is_side ∙ list_any_at (serves gone set) (choices_of q.game s) c no_distribution l serve
 
 all-serve : (gone set : List Bool) (choices : List Distribution) → ((c : ℕ) → c < length choices → serves gone set (get_or choices c no_distribution) ≡ true) → list_all (serves gone set) choices ≡ true
-all-serve gone set choices each = elim (either (list_all (serves gone set) choices)) [
+all-serve gone set choices each = elim (cases_Bool (list_all (serves gone set) choices)) [
   | inl holds ↦ holds
   | inr fails ↦
       let one : (c : ℕ) × (c < length choices) × (serves gone set (get_or choices c no_distribution) ≡ false) = all-place (serves gone set) choices no_distribution fails in
@@ -68,7 +60,7 @@ draws-all q gone set s is_side each = ap (λ side. draws side gone set (choices_
 
 -- and is left where no choice does so, or one does not
 none-serve : (gone set : List Bool) (choices : List Distribution) → ((c : ℕ) → c < length choices → serves gone set (get_or choices c no_distribution) ≡ true → ⊥) → list_any (serves gone set) choices ≡ false
-none-serve gone set choices none = elim (either (list_any (serves gone set) choices)) [
+none-serve gone set choices none = elim (cases_Bool (list_any (serves gone set) choices)) [
   | inl holds ↦ let one : (c : ℕ) × (c < length choices) × (serves gone set (get_or choices c no_distribution) ≡ true) = any-place (serves gone set) choices no_distribution holds in absurd (none one.0 one.1 one.2)
   | inr fails ↦ fails
 ]

@@ -1,8 +1,8 @@
 -- What a step leaves of parts of tables, and of whole tables.
-use Rattle.std.proofs.Common.{◌≡◌, ℕ, ◌+◌, ◌-◌, ◌/◌, ◌<◌, ◌≤◌, Bool, true, false, List, [], ◌∷◌, length, ◌++◌, arith, ap, refl, sym, subst, ◌∙◌, inl, inr, zero-add, set, ◌≢◌, below_more}
+use Rattle.std.proofs.Common.{◌≡◌, ℕ, ◌+◌, ◌-◌, ◌/◌, ◌<◌, ◌≤◌, Bool, false, List, [], ◌∷◌, length, ◌++◌, arith, ap, refl, sym, subst, ◌∙◌, inl, inr, zero-add, set, ◌≢◌, below_more}
 use Rattle.std.specs.Prelude.{slice_index, All}
 use mathlib.Core.Bool.{◌||◌}
-use Rattle.std.proofs.lemmas.Bool.{cases_lt}
+use Rattle.std.proofs.lemmas.Bool.{cases_lt, or_parts}
 use Rattle.std.proofs.Math.ListN.{get_or-map}
 use Rattle.std.proofs.lemmas.List.{get_or_append_left, get_or-append_right, ext_get_or, length-map, map-append, map-set, get_or-set_same, get_or-set_other}
 use Rattle.std.proofs.lemmas.List.Elements.{All-from_get_or, All-map}
@@ -39,19 +39,14 @@ IsStretch-both step table first second m n part rest front back changed many the
           subst (P j) (sym (get_or-append_right part rest m j 0 many past)) (subst (λ i. P i (slice_index rest (j - m))) (let whole : m + (j - m) ≡ j = omega arith in whole) at)
     ]
 
-none-of : (a b : Bool) → (a || b) ≡ false → (a ≡ false) × (b ≡ false)
-none-of true b h = absurd (cc)
-none-of false true h = absurd (cc)
-none-of false false h = (refl, refl)
-
 pub IsStepped-both : (q : Query) (table : List Bounds) (first second m n count : ℕ) (part rest : List Bounds) (front back : Bool) → length part ≡ m → second ≡ first + m → m + n ≡ count
     → IsStepped q table first m part front → IsStepped q table second n rest back → IsStepped q table first count (part ++ rest) (front || back)
 IsStepped-both q table first second m n count part rest front back many there all h k =
     let lower : (b : Bounds) → ℕ = λ b. b.lower in
     let upper : (b : Bounds) → ℕ = λ b. b.upper in
     subst (λ (j : ℕ). IsStepped q table first j (part ++ rest) (front || back)) all record {
-      down = rw (map-append lower part rest) (IsStretch-both (down_step q (slice_index (lowers table))) (slice_index (lowers table)) first second m n (lowers part) (lowers rest) front back (front || back) (length-map part lower ∙ many) there h.down k.down (none-of front back));
-      up = rw (map-append upper part rest) (IsStretch-both (up_step q (slice_index (uppers table))) (slice_index (uppers table)) first second m n (uppers part) (uppers rest) front back (front || back) (length-map part upper ∙ many) there h.up k.up (none-of front back));
+      down = rw (map-append lower part rest) (IsStretch-both (down_step q (slice_index (lowers table))) (slice_index (lowers table)) first second m n (lowers part) (lowers rest) front back (front || back) (length-map part lower ∙ many) there h.down k.down (or_parts front back));
+      up = rw (map-append upper part rest) (IsStretch-both (up_step q (slice_index (uppers table))) (slice_index (uppers table)) first second m n (uppers part) (uppers rest) front back (front || back) (length-map part upper ∙ many) there h.up k.up (or_parts front back));
     }
 
 -- one more state
@@ -60,7 +55,7 @@ IsStretch-more : (step table : ℕ → ℕ) (first count value : ℕ) (part : Li
 IsStretch-more step table first count value part changed new there h is small rest = record {
   values = each (λ k x. x ≡ step (first + k)) h.values is;
   units = each (λ k x. x ≤ unit) h.units small;
-  same = λ none. let apart = none-of changed new none in each (λ k x. x ≡ table (first + k)) (h.same apart.0) (rest apart.1);
+  same = λ none. let apart = or_parts changed new none in each (λ k x. x ≡ table (first + k)) (h.same apart.0) (rest apart.1);
 }
   where
     each : (P : ℕ → ℕ → Type 0) → ((k : ℕ) → k < count → P k (slice_index part k)) → P count value → (k : ℕ) → k < count + 1 → P k (slice_index (set part count value) k)

@@ -3,7 +3,7 @@ use Rattle.std.proofs.Common.{◌≡◌, ◌≢◌, ◌∙◌, ◌<◌, ◌≤�
 use Rattle.std.proofs.Math.Seq.{drop-cons}
 use Rattle.std.specs.List.Sorted.{IsNonDecreasingBy}
 use Rattle.std.specs.Prelude.{◌==◌, All}
-use Rattle.std.proofs.lemmas.Bool.{cases_Bool, cases_lt}
+use Rattle.std.proofs.lemmas.Bool.{cases_Bool, cases_lt, eqb-true}
 use Rattle.std.proofs.lemmas.Bool.Decides.{nat_tests}
 use Rattle.std.proofs.lemmas.List.Sums.{sum_by-cons, sum_by-le}
 use Rattle.game_model.specs.declared.game.Edge.{Edge}
@@ -181,13 +181,10 @@ gathered-only edges new rise same =
 
 -- 4. Neighbours added up.
 
-same-from : (a b : ℕ) → (a == b) ≡ true → a ≡ b
-same-from a b e = grind (arith, nat_tests)
-
 gives-heavier : (sum e : Edge) (to : ℕ) → e.to ≡ sum.to → gives to (heavier sum e.weight) ≡ gives to sum + gives to e
 gives-heavier sum e to h = elim (cases_Bool (sum.to == to)) [
   | inl t ↦
-      let same : sum.to ≡ to = same-from sum.to to t in
+      let same : sum.to ≡ to = eqb-true sum.to to t in
       omega (arith, gives-same (heavier sum e.weight) to same, gives-same sum to same, gives-same e to (h ∙ same))
   | inr t ↦
       let other : sum.to ≢ to = λ eq. grind (arith, nat_tests) in
@@ -200,7 +197,7 @@ merged-weights sum (e ∷ edges) to = elim (cases_Bool (e.to == sum.to)) [
   | inl t ↦
       ap (λ b. weight_to (cond b (merged_from (heavier sum e.weight) edges) (keep_edge sum.to sum.weight (merged_from e edges))) to) t
       ∙ merged-weights (heavier sum e.weight) edges to
-      ∙ omega (arith, gives-heavier sum e to (same-from e.to sum.to t), weight_to-cons e edges to)
+      ∙ omega (arith, gives-heavier sum e to (eqb-true e.to sum.to t), weight_to-cons e edges to)
   | inr t ↦
       ap (λ b. weight_to (cond b (merged_from (heavier sum e.weight) edges) (keep_edge sum.to sum.weight (merged_from e edges))) to) t
       ∙ weight_to-keep sum.to sum.weight (merged_from e edges) to
@@ -242,7 +239,7 @@ merged-rises least sum (e ∷ edges) h stand =
     elim (cases_Bool (e.to == sum.to)) [
       | inl t ↦
           let Q : ℕ → Type 0 = λ n. StandFrom n edges in
-          subst P (sym t) (merged-rises least (heavier sum e.weight) edges h (subst Q (same-from e.to sum.to t) stand.1))
+          subst P (sym t) (merged-rises least (heavier sum e.weight) edges h (subst Q (eqb-true e.to sum.to t) stand.1))
       | inr t ↦
           let other : e.to ≢ sum.to = λ eq. grind (arith, nat_tests) in
           subst P (sym t) (rises-kept least sum.to sum.weight (merged_from e edges) h (merged-rises (sum.to + 1) e edges (omega (arith, other, stand.0)) stand.1))

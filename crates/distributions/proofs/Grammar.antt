@@ -3,7 +3,7 @@ use Rattle.std.proofs.Common.{◌≡◌, ◌≢◌, ◌∙◌, ◌<◌, ◌+◌,
 use Rattle.std.proofs.Math.Seq.{take-append_seam, drop-append_seam}
 use Rattle.std.proofs.lemmas.List.{take-append-drop}
 use Rattle.std.specs.Prelude.{option_map, ◌==◌, ◌||◌}
-use Rattle.std.proofs.lemmas.Bool.{cases_Bool}
+use Rattle.std.proofs.lemmas.Bool.{cases_Bool, eqb-true, and_parts, or_cases}
 use Rattle.std.proofs.lemmas.Bool.Decides.{nat_tests}
 use Rattle.text_lines.specs.Text.{is_digit, all_digits, is_nil}
 use Rattle.std.proofs.Common.{Bor}
@@ -17,9 +17,6 @@ use Rattle.distributions.specs.Number.{Exponent, no_exponent, Spelling, Decimal,
 pub chosen : {X : Type 0} (b : Bool) (x y z : X) → cond b x y ≡ z → ((b ≡ true) × (x ≡ z)) ⊎ ((b ≡ false) × (y ≡ z))
 chosen true x y z e = inl (refl, e)
 chosen false x y z e = inr (refl, e)
-
-same-from : (x y : ℕ) → (x == y) ≡ true → x ≡ y
-same-from x y e = grind (arith, nat_tests)
 
 -- 1. Digits at the front.
 
@@ -40,15 +37,11 @@ abbrev begins_digit : List ℕ → Bool
 begins_digit [] = false
 begins_digit (b ∷ bytes) = is_digit b
 
-pub both : (a b : Bool) → (a && b) ≡ true → (a ≡ true) × (b ≡ true)
-both true b e = (refl, e)
-both false b e = cc
-
 pub digits_len-front : (front rest : List ℕ) → all_digits front ≡ true → begins_digit rest ≡ false → digits_len (front ++ rest) ≡ length front
 digits_len-front [] [] h e = refl
 digits_len-front [] (b ∷ rest) h e = ap (λ v. cond v (digits_len rest + 1) 0) e
 digits_len-front (b ∷ front) rest h e =
-    let is = both (is_digit b) (all_digits front) h in
+    let is = and_parts (is_digit b) (all_digits front) h in
     ap (λ v. cond v (digits_len (front ++ rest) + 1) 0) is.0 ∙ ap (λ n. n + 1) (digits_len-front front rest is.1 e) ∙ add-one (length front)
 
 pub leading-front : (front rest : List ℕ) → all_digits front ≡ true → begins_digit rest ≡ false → leading_digits (front ++ rest) ≡ front
@@ -87,9 +80,9 @@ pub exponent_of-found : (text : List ℕ) (e : Exponent) → exponent_of text �
 exponent_of-found [] e is = cc
 exponent_of-found (b ∷ bytes) e is =
     elim (chosen (b == 45) (exponent_digits true bytes) (cond (b == 43) (exponent_digits false bytes) (exponent_digits false (b ∷ bytes))) (Some e) is) [
-      | inl t ↦ signed-found (45 ∷ []) bytes (b ∷ bytes) true e (ap (λ x. x ∷ bytes) (same-from b 45 t.0)) (inr (inr (refl, refl))) t.1
+      | inl t ↦ signed-found (45 ∷ []) bytes (b ∷ bytes) true e (ap (λ x. x ∷ bytes) (eqb-true b 45 t.0)) (inr (inr (refl, refl))) t.1
       | inr t ↦ elim (chosen (b == 43) (exponent_digits false bytes) (exponent_digits false (b ∷ bytes)) (Some e) t.1) [
-        | inl u ↦ signed-found (43 ∷ []) bytes (b ∷ bytes) false e (ap (λ x. x ∷ bytes) (same-from b 43 u.0)) (inr (inl (refl, refl))) u.1
+        | inl u ↦ signed-found (43 ∷ []) bytes (b ∷ bytes) false e (ap (λ x. x ∷ bytes) (eqb-true b 43 u.0)) (inr (inl (refl, refl))) u.1
         | inr u ↦ signed-found [] (b ∷ bytes) (b ∷ bytes) false e refl (inl (refl, refl)) u.1
       ]
     ]
@@ -99,14 +92,6 @@ pub record DecimalBehind (front back text : List ℕ) (spelling : Spelling) : Ty
   pub exponent : Exponent
   pub is : spelling ≡ Decimal front back exponent
   pub power : SpellsExponent text exponent
-
-either : (a b : Bool) → (a || b) ≡ true → (a ≡ true) ⊎ (b ≡ true)
-either true b e = inl refl
-either false b e = inr e
-
-neither : (a b : Bool) → (a || b) ≡ false → (a ≡ false) × (b ≡ false)
-neither true b e = cc
-neither false b e = (refl, e)
 
 mapped : {X Y : Type 0} (f : X → Y) (o : Option X) (y : Y) → option_map f o ≡ Some y → (x : X) × (o ≡ Some x) × (y ≡ f x)
 mapped f None y e = cc
@@ -126,7 +111,7 @@ decimal_of-found front back (b ∷ bytes) s is =
               letter = b;
               sign = signed.sign;
               parts = ap (λ x. b ∷ x) signed.parts;
-              marked = elim (either (b == 101) (b == 69) t.0) [ inl e ↦ inl (same-from b 101 e) | inr e ↦ inr (same-from b 69 e) ];
+              marked = elim (or_cases (b == 101) (b == 69) t.0) [ inl e ↦ inl (eqb-true b 101 e) | inr e ↦ inr (eqb-true b 69 e) ];
               signed = signed.signed;
               digits = signed.digits;
             });
@@ -156,10 +141,10 @@ behind-found front (b ∷ bytes) whole s split digits is =
     elim (chosen (b == 46) (decimal_of front (leading_digits bytes) (behind_digits bytes)) (cond (b == 47) (quotient_of front bytes) (decimal_of front [] (b ∷ bytes))) (Some s) is) [
       | inl t ↦
           decimal-found front (leading_digits bytes) (46 ∷ leading_digits bytes) (behind_digits bytes) whole s
-          (split ∙ ap (λ r. front ++ r) (ap (λ x. x ∷ bytes) (same-from b 46 t.0) ∙ ap (λ r. 46 ∷ r) (digits_split bytes)))
+          (split ∙ ap (λ r. front ++ r) (ap (λ x. x ∷ bytes) (eqb-true b 46 t.0) ∙ ap (λ r. 46 ∷ r) (digits_split bytes)))
           digits (inr (refl, leading_all bytes)) t.1
       | inr t ↦ elim (chosen (b == 47) (quotient_of front bytes) (decimal_of front [] (b ∷ bytes)) (Some s) t.1) [
-        | inl u ↦ quotient-found front bytes whole s (split ∙ ap (λ x. front ++ x ∷ bytes) (same-from b 47 u.0)) digits u.1
+        | inl u ↦ quotient-found front bytes whole s (split ∙ ap (λ x. front ++ x ∷ bytes) (eqb-true b 47 u.0)) digits u.1
         | inr u ↦ decimal-found front [] [] (b ∷ bytes) whole s split digits (inl (refl, refl)) u.1
       ]
     ]
@@ -195,7 +180,7 @@ digit-other b k e h = elim h [ inl l ↦ grind (arith, nat_tests) | inr l ↦ gr
 exponent-plain : (text : List ℕ) → AreDigits text → exponent_of text ≡ exponent_digits false text
 exponent-plain [] h = absurd (h.0 refl)
 exponent-plain (b ∷ bytes) h =
-    let digit = (both (is_digit b) (all_digits bytes) h.1).0 in
+    let digit = (and_parts (is_digit b) (all_digits bytes) h.1).0 in
     ap (λ v. cond v (exponent_digits true bytes) (cond (b == 43) (exponent_digits false bytes) (exponent_digits false (b ∷ bytes)))) (digit-other b 45 digit (inl (omega arith)))
     ∙ ap (λ v. cond v (exponent_digits false bytes) (exponent_digits false (b ∷ bytes))) (digit-other b 43 digit (inl (omega arith)))
 

@@ -3,7 +3,7 @@ use Rattle.std.proofs.Common.{◌≡◌, ◌∙◌, ℕ, suc, true, List, [], �
 use Rattle.std.specs.Prelude.{◌==◌}
 use Rattle.std.proofs.Common.{add-one}
 use Rattle.std.proofs.Math.Dec.{eqb-suc-suc, eqb-zero-suc}
-use Rattle.std.proofs.lemmas.Bool.{cases_Bool}
+use Rattle.std.proofs.lemmas.Bool.{cases_Bool, and_parts}
 use Rattle.std.proofs.lemmas.Bool.Decides.{nat_tests}
 use Rattle.std.proofs.lemmas.List.{at_drop_more}
 use Rattle.std.proofs.lemmas.Nat.{pow-add}
@@ -12,7 +12,6 @@ use Rattle.text_lines.specs.Text.{is_digit, all_digits, value_onto}
 use Rattle.distributions.specs.Limits.{most_digits}
 use Rattle.distributions.specs.Number.{digits_len}
 use Rattle.distributions.proofs.Powers.{pow-pos, pow-rises}
-use Rattle.distributions.proofs.Grammar.{both}
 
 -- all are digits where the first digits are all
 pub digits_whole : (text : List ℕ) → (digits_len text == length text) ≡ all_digits text
@@ -51,7 +50,7 @@ digit_step bytes i v bound h is small =
 
 -- the first of digits, and those behind it
 pub digits_next : (bytes : List ℕ) (i : ℕ) → i < length bytes → all_digits (drop i bytes) ≡ true → (is_digit (get_or bytes i 0) ≡ true) × (all_digits (drop (i + 1) bytes) ≡ true)
-digits_next bytes i h all = both (is_digit (get_or bytes i 0)) (all_digits (drop (i + 1) bytes)) (sym (at_drop_more all_digits bytes i 0 h) ∙ all)
+digits_next bytes i h all = and_parts (is_digit (get_or bytes i 0)) (all_digits (drop (i + 1) bytes)) (sym (at_drop_more all_digits bytes i 0 h) ∙ all)
 
 -- behind a digit the digits are what they were
 pub digits_behind : (bytes : List ℕ) (i : ℕ) → i < length bytes → is_digit (get_or bytes i 0) ≡ true → all_digits (drop i bytes) ≡ all_digits (drop (i + 1) bytes)

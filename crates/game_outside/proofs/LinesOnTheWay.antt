@@ -1,5 +1,6 @@
 -- What came off the shelf, and a line on its way.
-use Rattle.std.proofs.Common.{◌≡◌, ◌<◌, ◌⊎◌, inl, inr, ℕ, Bool, true, false, List, [], ◌∷◌, ◌++◌, length, Option, Some, None, sym, ap, ◌∙◌, refl, subst, arith, append_assoc}
+use Rattle.std.proofs.Common.{◌≡◌, ◌<◌, ◌⊎◌, inl, inr, ℕ, true, false, List, [], ◌∷◌, ◌++◌, length, Option, Some, None, sym, ap, ◌∙◌, refl, subst, arith, append_assoc}
+use Rattle.std.proofs.lemmas.Bool.{cases_Bool}
 use Rattle.std.proofs.lemmas.List.{append-nil, length-append}
 use Rattle.std.specs.Io.KnownBytes.{Consumes, IsAtEnd}
 use Rattle.text_lines.specs.Text.{lines_of}
@@ -20,16 +21,12 @@ consumes_more (Some bytes) (Some left) (Some rest) first second a b = a ∙ ap (
 pub takes_none : (text : TextUnderWay) (rest : Option (List ℕ)) → Takes text text rest rest []
 takes_none text rest = record { consumed = consumes_none rest; count = omega arith; end = λ on over. cc }
 
-bool_cases : (v : Bool) → (v ≡ true) ⊎ (v ≡ false)
-bool_cases true = inl refl
-bool_cases false = inr refl
-
 pub takes_more : (old mid new : TextUnderWay) (rest rest' rest'' : Option (List ℕ)) (first second : List ℕ)
     → Takes old mid rest rest' first → (mid.ended ≡ true → rest'' ≡ rest') → Takes mid new rest' rest'' second → Takes old new rest rest'' (first ++ second)
 takes_more old mid new rest rest' rest'' first second a still b = record {
   consumed = consumes_more rest rest' rest'' first second a.consumed b.consumed;
   count = omega (arith, a.count, b.count, length-append first second);
-  end = λ going over. elim (bool_cases mid.ended) [
+  end = λ going over. elim (cases_Bool mid.ended) [
     | inl ended ↦ subst (λ t. IsAtEnd t) (sym (still ended)) (a.end going ended)
     | inr on ↦ b.end on over
   ];

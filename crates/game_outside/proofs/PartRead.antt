@@ -1,5 +1,6 @@
 -- A text that is read in part: what is still to be said of its lines decides what is said of the whole.
-use Rattle.std.proofs.Common.{◌≡◌, ◌≤◌, ◌⊎◌, inl, inr, ℕ, Bool, true, false, List, [], ◌∷◌, ◌++◌, length, Option, Result, Ok, Err, IsErr, IsErrAnd, sym, ap, refl, subst, arith, append_assoc}
+use Rattle.std.proofs.Common.{◌≡◌, ◌≤◌, ◌⊎◌, inl, inr, ℕ, true, false, List, [], ◌∷◌, ◌++◌, length, Option, Result, Ok, Err, IsErr, IsErrAnd, sym, ap, refl, subst, arith, append_assoc}
+use Rattle.std.proofs.lemmas.Bool.{cases_Bool}
 use Rattle.std.proofs.lemmas.List.{append-nil, length-append}
 use Rattle.std.specs.Io.KnownBytes.{IsAtEnd}
 use Rattle.text_lines.specs.Text.{lines_of}
@@ -11,10 +12,6 @@ use Rattle.game_outside.specs.declared.shelf.ReadEnd.TheVariants as read
 use Rattle.game_outside.specs.Files.{HeldTextWith, ReadsFile, of_read}
 use Rattle.game_outside.proofs.Streams.{IsReadSoFar, begun, read_more, read_whole, longer}
 use Rattle.game_outside.proofs.LinesOnTheWay.{consumes_none}
-
-bool_cases : (v : Bool) → (v ≡ true) ⊎ (v ≡ false)
-bool_cases true = inl refl
-bool_cases false = inr refl
 
 none_left : (bytes : List ℕ) → length bytes ≡ 0 → bytes ≡ []
 none_left [] is = refl
@@ -58,7 +55,7 @@ module _ {A : Type 0} (holding : Option Holding) (name : List ℕ) (Whole : List
   all_read rest rest' old new Still line limit answer part end still_there within still = record {
     text = part.bytes;
     told = read_whole holding name rest rest' part.bytes part.so_far end.takes.consumed
-        (elim (bool_cases old.ended) [
+        (elim (cases_Bool old.ended) [
           | inl over ↦ subst (λ t. IsAtEnd t) (sym (still_there over)) (part.at_end over)
           | inr going ↦ end.takes.end going end.ended
         ]);
@@ -73,7 +70,7 @@ module _ {A : Type 0} (holding : Option Holding) (name : List ℕ) (Whole : List
   rest_dropped rest rest' old new Still limit answer part drops still_there none within still = record {
     text = part.bytes ++ drops.more;
     told = read_whole holding name rest' rest' (part.bytes ++ drops.more) (read_more holding name rest rest' part.bytes drops.more part.so_far drops.takes.consumed) (consumes_none rest')
-        (elim (bool_cases old.ended) [
+        (elim (cases_Bool old.ended) [
           | inl over ↦ subst (λ t. IsAtEnd t) (sym (still_there over)) (part.at_end over)
           | inr going ↦ drops.takes.end going drops.ended
         ]);

@@ -1,5 +1,6 @@
 -- One item more in a header.
 use Rattle.std.proofs.Common.{◌≡◌, ◌<◌, ◌≤◌, ◌+◌, ◌⊎◌, ℕ, suc, zero, Bool, true, false, cond, List, [], ◌∷◌, ◌++◌, length, get_or, Option, Some, None, Ok, Err, Vec, Global, refl, sym, ap, ◌∙◌, subst, inl, inr, arith, eqb, ltb, leb, nat_eq, is_some, bytes_eq, ◌||◌}
+use Rattle.std.proofs.lemmas.Bool.{cases_Bool}
 use Rattle.std.specs.Option.{option_map}
 use Rattle.std.specs.HashMap.{get}
 use Rattle.std.specs.List.{list_any}
@@ -8,7 +9,6 @@ use Rattle.std.proofs.lemmas.List.{length-append}
 use Rattle.std.proofs.lemmas.List.Elements.{All-push}
 use Rattle.indexmap.specs.IndexMap.{insert_entry}
 use Rattle.text_lines.specs.Text.{saturated}
-use Rattle.text_lines.proofs.Texts.{bool_cases}
 use Rattle.label_reader.specs.declared.kind.FileKind.{FileKind}
 use Rattle.label_reader.specs.declared.faults.LabCause.TheVariants.{OverLimit, DoubleIndex, DoubleName}
 use Rattle.label_reader.specs.Limits.{greatest_index}
@@ -51,7 +51,7 @@ named n name = record { index = n; name = name }
 -- an item that is read as far as 64 bits go is as good as the item
 pub with_item-saturated : (kind : FileKind) (before : List Item) (read : Option Item) (item : Item) → option_map saturated_item read ≡ Some item → with_item kind before read ≡ with_item kind before (Some item)
 with_item-saturated kind before None item e = cc
-with_item-saturated kind before (Some exact) item e = elim (bool_cases (ltb greatest_index exact.index)) [
+with_item-saturated kind before (Some exact) item e = elim (cases_Bool (ltb greatest_index exact.index)) [
   | inl big ↦
       let far : greatest_index < exact.index = grind (arith, nat_tests, big) in
       is_over kind before exact (over_anyway kind before exact.index far)
@@ -112,7 +112,7 @@ AreSingle-push items item single new small = record {
     old : (k : ℕ) → k < length items → place_of (items ++ item ∷ []) (get_or (indices_of (items ++ item ∷ [])) k 0) ≡ Some k
     old k h =
         let at = single.once k h in
-        let apart : eqb item.index (get_or (indices_of items) k 0) ≡ false = differs (bool_cases (eqb item.index (get_or (indices_of items) k 0))) at in
+        let apart : eqb item.index (get_or (indices_of items) k 0) ≡ false = differs (cases_Bool (eqb item.index (get_or (indices_of items) k 0))) at in
         ap (λ i. place_of (items ++ item ∷ []) i) (indices_of-push items item k h) ∙ place_of-push_other items item (get_or (indices_of items) k 0) apart ∙ at
       where
         equal : (a b : ℕ) → eqb a b ≡ true → a ≡ b
@@ -126,7 +126,7 @@ AreSingle-push items item single new small = record {
     last = ap (λ i. place_of (items ++ item ∷ []) i) (indices_of-last items item) ∙ place_of-push_new items item new
 
     once : (k : ℕ) → k < length (items ++ item ∷ []) → place_of (items ++ item ∷ []) (get_or (indices_of (items ++ item ∷ [])) k 0) ≡ Some k
-    once k h = elim (bool_cases (ltb k (length items))) [
+    once k h = elim (cases_Bool (ltb k (length items))) [
       | inl e ↦ old k (grind (arith, nat_tests, e))
       | inr e ↦
           let at : length items ≡ k = ends k (length items) (omega (arith, h, length-append items (item ∷ []))) e in
@@ -145,7 +145,7 @@ ArePlaced-push items item places more placed new small updates = record { at = a
     equal a b h = grind (arith, nat_tests)
 
     at : (index : ℕ) → get nat_eq more index ≡ place_of (items ++ item ∷ []) index
-    at index = elim (bool_cases (eqb item.index index)) [
+    at index = elim (cases_Bool (eqb item.index index)) [
       | inl e ↦
           updates index ∙ ap (λ v. cond v (Some (length items)) (get nat_eq places index)) e
           ∙ sym (place_of-push_new items item new) ∙ ap (λ i. place_of (items ++ item ∷ []) i) (equal item.index index e)

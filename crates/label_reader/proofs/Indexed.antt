@@ -1,9 +1,9 @@
 -- The places of items by their indices.
 use Rattle.std.proofs.Common.{◌≡◌, ◌<◌, ◌≤◌, ◌+◌, ℕ, suc, Bool, true, false, cond, List, [], ◌∷◌, ◌++◌, length, get_or, Option, Some, None, All, refl, sym, ap, ◌∙◌, subst, inl, inr, arith, eqb}
+use Rattle.std.proofs.lemmas.Bool.{cases_Bool}
 use Rattle.std.specs.Option.{option_map, option_and_then, IfSome}
 use Rattle.std.proofs.lemmas.Bool.Decides.{nat_tests}
 use Rattle.text_lines.specs.Text.{saturated}
-use Rattle.text_lines.proofs.Texts.{bool_cases}
 use Rattle.label_reader.specs.Limits.{greatest_index}
 use Rattle.label_reader.specs.Header.{Item, place_of}
 use Rattle.label_reader.specs.Placed.{indices_of}
@@ -31,7 +31,7 @@ within_more (Some k) n h = omega arith
 
 pub place_of-within : (items : List Item) (index : ℕ) → IfSome (place_of items index) (λ k. k < length items)
 place_of-within [] index = tt
-place_of-within (item ∷ items) index = elim (bool_cases (eqb item.index index)) [
+place_of-within (item ∷ items) index = elim (cases_Bool (eqb item.index index)) [
   | inl e ↦ let P : Option ℕ → Type 0 = λ p. IfSome p (λ k. k < suc (length items)) in subst P (sym (ap (λ v. place_step item items index v) e)) (omega arith)
   | inr e ↦ let P : Option ℕ → Type 0 = λ p. IfSome p (λ k. k < suc (length items)) in subst P (sym (ap (λ v. place_step item items index v) e)) (within_more (place_of items index) (length items) (place_of-within items index))
 ]
@@ -69,7 +69,7 @@ index_behind item items index k (Some j) rest e g =
 -- a place that is found has the index there
 pub index_at_place : (items : List Item) (index k : ℕ) → place_of items index ≡ Some k → get_or (indices_of items) k 0 ≡ index
 index_at_place [] index k h = cc
-index_at_place (item ∷ items) index k h = elim (bool_cases (eqb item.index index)) [
+index_at_place (item ∷ items) index k h = elim (cases_Bool (eqb item.index index)) [
   | inl e ↦
       let zero_is : k ≡ 0 = let first = sym (ap (λ v. place_step item items index v) e) ∙ h in cc in
       ap (λ j. get_or (item.index ∷ indices_of items) j 0) zero_is ∙ (grind (arith, nat_tests, e))

@@ -1,12 +1,12 @@
 -- The header by cases is the header that the relation describes.
 use Rattle.std.proofs.Common.{◌≡◌, ◌≢◌, ◌<◌, ◌≤◌, ◌+◌, inl, inr, ℕ, Bool, true, false, cond, List, [], ◌∷◌, ◌++◌, length, Option, Some, None, Ok, Err, Result, sym, ap, ◌∙◌, refl, subst, arith, eqb, ltb, leb, is_some, bytes_eq, ◌||◌, append_assoc}
+use Rattle.std.proofs.lemmas.Bool.{and_parts, or_parts, eqb-false, ne_eqb, cases_Bool}
 use Rattle.std.specs.Option.{option_map}
 use Rattle.std.proofs.lemmas.Bool.Decides.{nat_tests}
 use Rattle.std.proofs.lemmas.List.{append-nil, length-append}
 use Rattle.std.proofs.lemmas.Slice.Eq.{bytes_eq-Decides}
 use Rattle.text_lines.specs.Text.{fields_of, number_of, all_digits, is_digit, value_onto}
 use Rattle.text_lines.specs.Laws.{HasNo}
-use Rattle.text_lines.proofs.Texts.{bool_cases}
 use Rattle.label_reader.specs.declared.kind.FileKind.{FileKind}
 use Rattle.label_reader.specs.declared.faults.LabCause.{LabCause}
 use Rattle.label_reader.specs.Limits.{greatest_index}
@@ -15,7 +15,6 @@ use Rattle.label_reader.specs.Denotes.{IsItem, AreItems, IsNew, AreApart, IsHead
 use Rattle.label_reader.proofs.Indexed.{none_behind}
 use Rattle.label_reader.proofs.HeaderSteps.{is_added, has_index-none}
 use Rattle.label_reader.proofs.Heads.{with_item-added}
-use Rattle.label_reader.proofs.KnownLines.{both_true}
 use Rattle.label_reader.proofs.Splits.{split_first-found, split_first-again, quoted-found, quoted-again}
 
 -- one item
@@ -67,7 +66,7 @@ are_digits (b ∷ bytes) n h = by (all_digits (b ∷ bytes)) refl h
 
 no_equals : (field : List ℕ) → all_digits field ≡ true → HasNo 61 field
 no_equals [] h = tt
-no_equals (b ∷ bytes) h = let parts = both_true (is_digit b) (all_digits bytes) h in (below b parts.0, no_equals bytes parts.1)
+no_equals (b ∷ bytes) h = let parts = and_parts (is_digit b) (all_digits bytes) h in (below b parts.0, no_equals bytes parts.1)
   where
     below : (b : ℕ) → is_digit b ≡ true → b ≢ 61
     below b h = grind (arith, nat_tests)
@@ -80,25 +79,14 @@ item_of-again kind field item is =
     ∙ ap (λ q. item_named kind (Some item.index) q) (quoted-again item.name)
     ∙ ap (λ v. cond v (Some item) None) is.name
 
--- items apart
-not_or : (a b : Bool) → (a || b) ≡ false → (a ≡ false) × (b ≡ false)
-not_or true b h = cc
-not_or false b h = (refl, h)
-
 other_name : (a b : List ℕ) → bytes_eq a b ≡ false → b ≢ a
 other_name a b h = λ e. let true_is = (bytes_eq-Decides a b).1 (sym e) in cc
 
 no_name : (a b : List ℕ) → b ≢ a → bytes_eq a b ≡ false
-no_name a b apart = elim (bool_cases (bytes_eq a b)) [
+no_name a b apart = elim (cases_Bool (bytes_eq a b)) [
   | inl h ↦ absurd (apart (sym ((bytes_eq-Decides a b).0 h)))
   | inr h ↦ h
 ]
-
-other_index : (a b : ℕ) → eqb a b ≡ false → a ≢ b
-other_index a b h = grind (arith, nat_tests)
-
-no_index : (a b : ℕ) → a ≢ b → eqb a b ≡ false
-no_index a b h = grind (arith, nat_tests)
 
 IsNew-push : (first : Item) (items : List Item) (item : Item) → IsNew first items → first.index ≢ item.index → first.name ≢ item.name → IsNew first (items ++ item ∷ [])
 IsNew-push first [] item new index name = (index, name, tt)
@@ -108,8 +96,8 @@ AreApart-push : (before : List Item) (item : Item) → AreApart before → place
 AreApart-push [] item apart index name = (tt, tt)
 AreApart-push (first ∷ before) item apart index name =
     let i = none_behind (eqb first.index item.index) (place_of before item.index) index in
-    let m = not_or (bytes_eq item.name first.name) (has_name before item.name) name in
-    (IsNew-push first before item apart.0 (other_index first.index item.index i.0) (other_name item.name first.name m.0), AreApart-push before item apart.1 i.1 m.1)
+    let m = or_parts (bytes_eq item.name first.name) (has_name before item.name) name in
+    (IsNew-push first before item apart.0 (eqb-false first.index item.index i.0) (other_name item.name first.name m.0), AreApart-push before item apart.1 i.1 m.1)
 
 IsNew-at : (first : Item) (before : List Item) (item : Item) (rest : List Item) → IsNew first (before ++ item ∷ rest) → (first.index ≢ item.index) × (first.name ≢ item.name)
 IsNew-at first [] item rest new = (new.0, new.1)
@@ -120,7 +108,7 @@ AreApart-at [] item rest apart = (refl, refl)
 AreApart-at (first ∷ before) item rest apart =
     let new = IsNew-at first before item rest apart.0 in
     let behind = AreApart-at before item rest apart.1 in (
-      ap (λ v. is_some (cond v (Some 0) (option_map (λ k. k + 1) (place_of before item.index)))) (no_index first.index item.index new.0) ∙ maps (place_of before item.index) behind.0,
+      ap (λ v. is_some (cond v (Some 0) (option_map (λ k. k + 1) (place_of before item.index)))) (ne_eqb first.index item.index new.0) ∙ maps (place_of before item.index) behind.0,
       ap (λ v. v || has_name before item.name) (no_name item.name first.name new.1) ∙ behind.1,
     )
   where

@@ -1,5 +1,6 @@
 -- A line whose state is in range and whose numbers are all known.
 use Rattle.std.proofs.Common.{◌≡◌, ◌<◌, ℕ, Bool, true, false, cond, List, [], ◌∷◌, map, Option, Some, None, Ok, Err, Result, sym, ap, ◌∙◌, refl, arith, ltb, is_some, ◌&&◌}
+use Rattle.std.proofs.lemmas.Bool.{and_parts}
 use Rattle.std.specs.Option.{option_and_then, unwrap_or}
 use Rattle.std.specs.List.{list_all}
 use Rattle.std.proofs.lemmas.Bool.Decides.{nat_tests}
@@ -8,10 +9,6 @@ use Rattle.label_reader.specs.declared.faults.LabCause.{LabCause}
 use Rattle.label_reader.specs.declared.faults.LabCause.TheVariants.{BadField, StateOutOfRange, UnknownIndex}
 use Rattle.label_reader.specs.Header.{Item, place_of, place_in, has_place, has_index, and_then}
 use Rattle.label_reader.specs.Lines.{StateLine, is_number, number_in, numbered, state_line, known_line, known_fields}
-
-pub both_true : (a b : Bool) → (a && b) ≡ true → (a ≡ true) × (b ≡ true)
-both_true true b h = (refl, h)
-both_true false b h = cc
 
 -- a field that is a number has the place of its number
 pub place_in-number : (items : List Item) (spelled : Option ℕ) → is_some spelled ≡ true → option_and_then (place_of items) spelled ≡ place_of items (unwrap_or spelled 0)
@@ -22,7 +19,7 @@ place_in-number items (Some n) h = refl
 pub list_all-has_place : (items : List Item) (fields : List (List ℕ)) → list_all is_number fields ≡ true → list_all (has_index items) (map number_in fields) ≡ list_all (has_place items) fields
 list_all-has_place items [] h = refl
 list_all-has_place items (field ∷ fields) h =
-    let parts = both_true (is_number field) (list_all is_number fields) h in
+    let parts = and_parts (is_number field) (list_all is_number fields) h in
     ap (λ v. v && list_all (has_index items) (map number_in fields)) (ap is_some (sym (place_in-number items (number_of field) parts.0)))
     ∙ ap (λ v. has_place items field && v) (list_all-has_place items fields parts.1)
 

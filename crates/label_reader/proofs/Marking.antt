@@ -1,5 +1,6 @@
 -- Sets of states, and what the lines say.
 use Rattle.std.proofs.Common.{◌≡◌, ◌≢◌, ◌<◌, ℕ, Bool, true, false, List, [], ◌∷◌, ◌++◌, length, map, get_or, set, replicate, Option, Some, None, sym, ap, ◌∙◌, refl, subst, arith, eqb, is_some, ◌&&◌, ◌||◌, inl, inr, ◌⊎◌}
+use Rattle.std.proofs.lemmas.Bool.{and_parts, eqb-true, eqb-false, cases_Bool}
 use Rattle.std.specs.Option.{IfSome, option_and_then, unwrap_or}
 use Rattle.std.specs.List.{list_any, list_all}
 use Rattle.std.proofs.lemmas.Bool.Decides.{nat_tests}
@@ -7,21 +8,13 @@ use Rattle.std.proofs.lemmas.List.{length-replicate, length-set, get_or-set_same
 use Rattle.std.proofs.lemmas.List.Elements.{All-set}
 use Rattle.std.proofs.lemmas.Grind.{common_steps}
 use Rattle.text_lines.specs.Text.{number_of}
-use Rattle.text_lines.proofs.Texts.{bool_cases}
 use Rattle.label_reader.specs.Header.{Item, place_of, place_in, has_place}
 use Rattle.label_reader.specs.Placed.{indices_of, AreSingle}
 use Rattle.label_reader.specs.Lines.{StateLine, number_in}
 use Rattle.label_reader.specs.Texts.{is_said}
 use Rattle.label_reader.specs.Marked.{with_mark, with_marks, AreMarked}
 use Rattle.label_reader.proofs.Indexed.{place_of-within, index_at_place}
-use Rattle.label_reader.proofs.KnownLines.{both_true}
 use Rattle.label_reader.proofs.SaidOf.{is_said-push}
-
-equal : (a b : ℕ) → eqb a b ≡ true → a ≡ b
-equal a b h = grind (arith, nat_tests)
-
-unequal : (a b : ℕ) → eqb a b ≡ false → a ≢ b
-unequal a b h = grind (arith, nat_tests)
 
 itself : (a : ℕ) → eqb a a ≡ true
 itself a = grind (arith, nat_tests)
@@ -85,11 +78,11 @@ AreMarked-mark n items said sets i k s single place small m = record {
     same_row j t e tl (inl h) =
         ap (λ x. get_or (get_or (with_mark s (Some k) sets) x []) t false) e
         ∙ ap (λ (r : List Bool). get_or r t false) (get_or-set_same sets k (set (get_or sets k []) s true) [] there)
-        ∙ ap (λ x. get_or (set (get_or sets k []) s true) x false) (sym (equal s t h))
+        ∙ ap (λ x. get_or (set (get_or sets k []) s true) x false) (sym (eqb-true s t h))
         ∙ get_or-set_same (get_or sets k []) s true false (omega (arith, row_long))
         ∙ sym (ap (λ v. said (get_or (indices_of items) j 0) t || (v && eqb s t)) (ap (λ x. eqb i x) (ap (λ x. get_or (indices_of items) x 0) e ∙ index_is) ∙ itself i) ∙ ap (λ v. said (get_or (indices_of items) j 0) t || v) h ∙ or_true (said (get_or (indices_of items) j 0) t))
     same_row j t e tl (inr h) =
-        let apart : t ≢ s = λ q. unequal s t h (sym q) in
+        let apart : t ≢ s = λ q. eqb-false s t h (sym q) in
         ap (λ x. get_or (get_or (with_mark s (Some k) sets) x []) t false) e
         ∙ ap (λ (r : List Bool). get_or r t false) (get_or-set_same sets k (set (get_or sets k []) s true) [] there)
         ∙ get_or-set_other (get_or sets k []) s t true false apart
@@ -100,19 +93,19 @@ AreMarked-mark n items said sets i k s single place small m = record {
     other_index : (j : ℕ) → j ≢ k → j < length items → (eqb i (get_or (indices_of items) j 0) ≡ true) ⊎ (eqb i (get_or (indices_of items) j 0) ≡ false) → eqb i (get_or (indices_of items) j 0) ≡ false
     other_index j apart jl (inr h) = h
     other_index j apart jl (inl h) =
-        let back : Some k ≡ Some j = sym place ∙ ap (λ x. place_of items x) (equal i (get_or (indices_of items) j 0) h) ∙ single.once j jl in
+        let back : Some k ≡ Some j = sym place ∙ ap (λ x. place_of items x) (eqb-true i (get_or (indices_of items) j 0) h) ∙ single.once j jl in
         absurd (apart (sym (cc back)))
 
     other_row : (j t : ℕ) → j ≢ k → j < length items → t < n → get_or (get_or (with_mark s (Some k) sets) j []) t false ≡ said_too said i s (get_or (indices_of items) j 0) t
     other_row j t apart jl tl =
         ap (λ (r : List Bool). get_or r t false) (get_or-set_other sets k j (set (get_or sets k []) s true) [] apart)
         ∙ m.marks j t jl tl
-        ∙ sym (ap (λ v. said (get_or (indices_of items) j 0) t || (v && eqb s t)) (other_index j apart jl (bool_cases (eqb i (get_or (indices_of items) j 0)))) ∙ or_false (said (get_or (indices_of items) j 0) t))
+        ∙ sym (ap (λ v. said (get_or (indices_of items) j 0) t || (v && eqb s t)) (other_index j apart jl (cases_Bool (eqb i (get_or (indices_of items) j 0)))) ∙ or_false (said (get_or (indices_of items) j 0) t))
 
     at : (j t : ℕ) → j < length items → t < n → get_or (get_or (with_mark s (Some k) sets) j []) t false ≡ said_too said i s (get_or (indices_of items) j 0) t
-    at j t jl tl = elim (bool_cases (eqb j k)) [
-      | inl h ↦ same_row j t (equal j k h) tl (bool_cases (eqb s t))
-      | inr h ↦ other_row j t (unequal j k h) jl tl
+    at j t jl tl = elim (cases_Bool (eqb j k)) [
+      | inl h ↦ same_row j t (eqb-true j k h) tl (cases_Bool (eqb s t))
+      | inr h ↦ other_row j t (eqb-false j k h) jl tl
     ]
 
 pub record IsPlaced (items : List Item) (field : List ℕ) : Type 0 where
@@ -154,7 +147,7 @@ pub AreMarked-marks : (n : ℕ) (items : List Item) (s : ℕ) (fields : List (Li
 AreMarked-marks n items s [] said sets single small known m =
     AreMarked-same n items said (said_all said s []) sets (λ number state. sym (ap (λ v. said number state || v) (and_false (eqb s state)) ∙ or_false (said number state))) m
 AreMarked-marks n items s (field ∷ fields) said sets single small known m =
-    let parts = both_true (has_place items field) (list_all (has_place items) fields) known in
+    let parts = and_parts (has_place items field) (list_all (has_place items) fields) known in
     let placed = placed_field items field parts.0 in
     let first = AreMarked-mark n items said sets placed.number placed.place s single placed.at small m in
     let rest = AreMarked-marks n items s fields (said_too said placed.number s) (with_mark s (Some placed.place) sets) single small parts.1 first in

@@ -1,10 +1,10 @@
 -- Names in a map, beside what stands at their places.
 use Rattle.std.proofs.Common.{◌≡◌, ◌<◌, ◌≤◌, ◌+◌, ℕ, suc, zero, Bool, true, false, cond, List, [], ◌∷◌, length, replicate, get_or, drop, Some, None, Vec, Global, All, refl, sym, ap, ◌∙◌, inl, inr, arith, is_some, bytes_eq, ltb, ◌||◌}
+use Rattle.std.proofs.lemmas.Bool.{cases_Bool}
 use Rattle.std.specs.List.{list_any, position_or_len}
 use Rattle.std.specs.Map.{keys_of, lookup}
 use Rattle.std.proofs.lemmas.List.{at_drop_more, length-map}
 use Rattle.std.proofs.lemmas.Bool.Decides.{nat_tests}
-use Rattle.text_lines.proofs.Texts.{bool_cases}
 use Rattle.label_reader.specs.Labels.{Label, marks_of, marked_from}
 use Rattle.label_reader.specs.Named.{names_of, labels_named, places_of}
 
@@ -20,7 +20,7 @@ pub marks_of-labels_named : (entries : Entries) (sets : List (List Bool)) (name 
 marks_of-labels_named [] [] name same = refl
 marks_of-labels_named [] (marks ∷ sets) name same = absurd (omega arith)
 marks_of-labels_named (entry ∷ entries) [] name same = absurd (omega arith)
-marks_of-labels_named (entry ∷ entries) (marks ∷ sets) name same = elim (bool_cases (bytes_eq name entry.0.items)) [
+marks_of-labels_named (entry ∷ entries) (marks ∷ sets) name same = elim (cases_Bool (bytes_eq name entry.0.items)) [
   | inl e ↦
       ap (λ v. cond v marks (marks_of (labels_named entries sets) name)) e
       ∙ sym (ap (λ k. get_or (marks ∷ sets) k []) (at_first e))
@@ -53,7 +53,7 @@ past_sets entries sets name same far = past (place_named entries name) (length (
 
 pub is_some-lookup : (entries : Entries) (name : List ℕ) → is_some (lookup (λ (k : Vec ℕ Global). bytes_eq name k.items) entries) ≡ list_any (λ n. bytes_eq name n) (names_of entries)
 is_some-lookup [] name = refl
-is_some-lookup (entry ∷ entries) name = elim (bool_cases (bytes_eq name entry.0.items)) [
+is_some-lookup (entry ∷ entries) name = elim (cases_Bool (bytes_eq name entry.0.items)) [
   | inl e ↦
       ap (λ v. is_some (cond v (Some entry.1) (lookup (λ (k : Vec ℕ Global). bytes_eq name k.items) entries))) e
       ∙ sym (ap (λ v. v || list_any (λ n. bytes_eq name n) (names_of entries)) e)

@@ -1,8 +1,8 @@
 -- Owners by cases are those that the relation describes.
 use Rattle.std.proofs.Common.{◌≡◌, ◌<◌, inl, inr, ℕ, Bool, true, false, List, [], ◌∷◌, length, map, get_or, Option, Some, None, Ok, sym, ap, ◌∙◌, refl, subst, arith, eqb, is_some, ◌&&◌, ◌||◌}
+use Rattle.std.proofs.lemmas.Bool.{and_parts, eqb-true, eq-eqb, or_cases}
 use Rattle.std.specs.Option.{unwrap_or}
 use Rattle.std.specs.List.{list_all, range_with_len}
-use Rattle.std.proofs.lemmas.Bool.Decides.{nat_tests}
 use Rattle.std.proofs.lemmas.List.{ext_get_or}
 use Rattle.std.proofs.lemmas.List.FromFn.{get_or-map-range_with_len, length-map-range_with_len}
 use Rattle.label_reader.specs.declared.kind.FileKind.TheVariants.{OwnerFile}
@@ -11,30 +11,23 @@ use Rattle.label_reader.specs.Lines.{StateLine, said_of, all_same}
 use Rattle.label_reader.specs.Owners.{Ownership}
 use Rattle.label_reader.specs.Texts.{owners_of, owner_place, ownership}
 use Rattle.label_reader.specs.Denotes.{IsOneOf, LineNames, AreIndices, AreStateLines, DenotesOwners}
-use Rattle.label_reader.proofs.KnownLines.{both_true}
 use Rattle.label_reader.proofs.StateLineLaws.{IsIndex-has}
-use Rattle.label_reader.proofs.SetLaws.{or_cases, among, is_said-Says, LineNames-is_said}
+use Rattle.label_reader.proofs.SetLaws.{among, is_said-Says, LineNames-is_said}
 use Rattle.label_reader.proofs.TextLaws.{Agrees, Reads, said_by-found, said_by-again}
-
-equal : (a b : ℕ) → eqb a b ≡ true → a ≡ b
-equal a b h = grind (arith, nat_tests)
-
-itself : (a b : ℕ) → a ≡ b → eqb a b ≡ true
-itself a b h = grind (arith, nat_tests)
 
 -- all that is said is one number
 all_are : (x : ℕ) (numbers : List ℕ) (a : ℕ) → list_all (λ other. eqb other x) numbers ≡ true → among numbers a ≡ true → a ≡ x
 all_are x [] a all h = cc
 all_are x (number ∷ numbers) a all h =
-    let parts = both_true (eqb number x) (list_all (λ other. eqb other x) numbers) all in
+    let parts = and_parts (eqb number x) (list_all (λ other. eqb other x) numbers) all in
     elim (or_cases (eqb number a) (among numbers a) h) [
-      | inl e ↦ sym (equal number a e) ∙ equal number x parts.0
+      | inl e ↦ sym (eqb-true number a e) ∙ eqb-true number x parts.0
       | inr e ↦ all_are x numbers a parts.1 e
     ]
 
 first_is : (x : ℕ) (numbers : List ℕ) (a : ℕ) → all_same (x ∷ numbers) ≡ true → among (x ∷ numbers) a ≡ true → a ≡ x
 first_is x numbers a all h = elim (or_cases (eqb x a) (among numbers a) h) [
-  | inl e ↦ sym (equal x a e)
+  | inl e ↦ sym (eqb-true x a e)
   | inr e ↦ all_are x numbers a all e
 ]
 
@@ -45,7 +38,7 @@ one_is (x ∷ numbers) a b all h g = first_is x numbers a all h ∙ sym (first_i
 all_from : (x : ℕ) (numbers : List ℕ) → ((a : ℕ) → among numbers a ≡ true → a ≡ x) → list_all (λ other. eqb other x) numbers ≡ true
 all_from x [] h = refl
 all_from x (number ∷ numbers) h =
-    ap (λ v. v && list_all (λ other. eqb other x) numbers) (itself number x (h number (ap (λ v. v || among numbers number) (itself number number refl))))
+    ap (λ v. v && list_all (λ other. eqb other x) numbers) (eq-eqb number x (h number (ap (λ v. v || among numbers number) (eq-eqb number number refl))))
     ∙ all_from x numbers (λ a e. h a (ap (λ v. eqb number a || v) e ∙ or_true (eqb number a)))
   where
     or_true : (v : Bool) → (v || true) ≡ true
@@ -54,7 +47,7 @@ all_from x (number ∷ numbers) h =
 
 same_from : (numbers : List ℕ) → ((a b : ℕ) → among numbers a ≡ true → among numbers b ≡ true → a ≡ b) → all_same numbers ≡ true
 same_from [] h = refl
-same_from (x ∷ numbers) h = all_from x numbers (λ a e. h a x (ap (λ v. eqb x a || v) e ∙ or_true (eqb x a)) (ap (λ v. v || among numbers x) (itself x x refl)))
+same_from (x ∷ numbers) h = all_from x numbers (λ a e. h a x (ap (λ v. eqb x a || v) e ∙ or_true (eqb x a)) (ap (λ v. v || among numbers x) (eq-eqb x x refl)))
   where
     or_true : (v : Bool) → (v || true) ≡ true
     or_true true = refl
@@ -86,7 +79,7 @@ owned_by items (x ∷ said) number all h known = some_place (place_of items numb
 
 nobody_by : (items : List Item) (said : List ℕ) → ((number : ℕ) → among said number ≡ true → ⊥) → owner_place items said ≡ 0
 nobody_by items [] h = refl
-nobody_by items (x ∷ said) h = absurd (h x (ap (λ v. v || among said x) (itself x x refl)))
+nobody_by items (x ∷ said) h = absurd (h x (ap (λ v. v || among said x) (eq-eqb x x refl)))
 
 ownership-denoted : (text : List ℕ) (n : ℕ) (o : Ownership) → Reads OwnerFile n (ownership n) text o → DenotesOwners text n o
 ownership-denoted text n o read =
@@ -112,7 +105,7 @@ denoted-agrees text n o is = λ s. same_from (said_of is.lines s) (λ a b h g. i
 owner_is : (items : List Item) (lines : List StateLine) (s place : ℕ) (said : List ℕ) → said ≡ said_of lines s → ((number : ℕ) → LineNames lines number s → place_of items number ≡ Some place) → (((number : ℕ) → LineNames lines number s → ⊥) → place ≡ 0)
     → owner_place items said ≡ place
 owner_is items lines s place [] e owned others = sym (others (λ number says. let h = ap (λ t. among t number) e ∙ LineNames-is_said lines number s says in cc))
-owner_is items lines s place (x ∷ said) e owned others = ap (λ p. unwrap_or p 0) (owned x (is_said-Says lines x s (sym (ap (λ t. among t x) e) ∙ ap (λ v. v || among said x) (itself x x refl))))
+owner_is items lines s place (x ∷ said) e owned others = ap (λ p. unwrap_or p 0) (owned x (is_said-Says lines x s (sym (ap (λ t. among t x) e) ∙ ap (λ v. v || among said x) (eq-eqb x x refl))))
 
 abbrev owned_as : List (List ℕ) → List ℕ → Ownership
 owned_as players owners = record { players = players; owners = owners }

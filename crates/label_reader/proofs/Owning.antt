@@ -1,5 +1,6 @@
 -- Owners of states, and what the lines say.
 use Rattle.std.proofs.Common.{◌≡◌, ◌≢◌, ◌<◌, ℕ, Bool, true, false, cond, List, [], ◌∷◌, ◌++◌, length, map, get_or, set, All, Option, Some, None, Ok, Err, Result, sym, ap, ◌∙◌, refl, subst, arith, eqb, is_some, ◌&&◌, inl, inr}
+use Rattle.std.proofs.lemmas.Bool.{and_parts, eqb-true, eqb-false, ne_eqb, cases_Bool}
 use Rattle.std.specs.Option.{IfSome, option_and_then, unwrap_or}
 use Rattle.std.specs.List.{list_all}
 use Rattle.std.proofs.lemmas.Bool.Decides.{nat_tests}
@@ -7,7 +8,6 @@ use Rattle.std.proofs.lemmas.List.{append-nil, length-set, get_or-set_same, get_
 use Rattle.std.proofs.lemmas.List.Elements.{All-set}
 use Rattle.std.proofs.lemmas.List.Folds.{list_all-append}
 use Rattle.text_lines.specs.Text.{number_of}
-use Rattle.text_lines.proofs.Texts.{bool_cases}
 use Rattle.label_reader.specs.declared.kind.FileKind.TheVariants.{OwnerFile}
 use Rattle.label_reader.specs.declared.faults.LabCause.{LabCause}
 use Rattle.label_reader.specs.declared.faults.LabCause.TheVariants.{TwoOwners}
@@ -15,30 +15,21 @@ use Rattle.label_reader.specs.Header.{Item, place_of, has_place, has_index, and_
 use Rattle.label_reader.specs.Lines.{StateLine, number_in, said_of, all_same, with_line, known_fields}
 use Rattle.label_reader.specs.Owned.{first_of, first_in, owner_then, is_at, all_at, AreRead}
 use Rattle.label_reader.proofs.Indexed.{place_of-within, index_at_place}
-use Rattle.label_reader.proofs.KnownLines.{both_true, line_with}
+use Rattle.label_reader.proofs.KnownLines.{line_with}
 use Rattle.label_reader.proofs.Marking.{placed_field}
 use Rattle.label_reader.proofs.SaidOf.{said_of-push}
-
-equal : (a b : ℕ) → eqb a b ≡ true → a ≡ b
-equal a b h = grind (arith, nat_tests)
-
-unequal : (a b : ℕ) → eqb a b ≡ false → a ≢ b
-unequal a b h = grind (arith, nat_tests)
 
 itself : (a : ℕ) → eqb a a ≡ true
 itself a = grind (arith, nat_tests)
 
-differs : (a b : ℕ) → (a ≡ b → ⊥) → eqb a b ≡ false
-differs a b h = grind (arith, nat_tests)
-
 -- two known indices are one where their places are one
 same_place : (items : List Item) (i j k m : ℕ) → place_of items i ≡ Some k → place_of items j ≡ Some m → eqb m k ≡ eqb j i
-same_place items i j k m at_i at_j = elim (bool_cases (eqb j i)) [
+same_place items i j k m at_i at_j = elim (cases_Bool (eqb j i)) [
   | inl h ↦
-      let one : Some m ≡ Some k = sym at_j ∙ ap (λ x. place_of items x) (equal j i h) ∙ at_i in
+      let one : Some m ≡ Some k = sym at_j ∙ ap (λ x. place_of items x) (eqb-true j i h) ∙ at_i in
       ap (λ x. eqb x k) (cc one) ∙ itself k ∙ sym h
   | inr h ↦
-      differs m k (λ e. unequal j i h (sym (index_at_place items j m at_j) ∙ ap (λ x. get_index items x) e ∙ index_at_place items i k at_i)) ∙ sym h
+      ne_eqb m k (λ e. eqb-false j i h (sym (index_at_place items j m at_j) ∙ ap (λ x. get_index items x) e ∙ index_at_place items i k at_i)) ∙ sym h
 ]
   where
     get_index : List Item → ℕ → ℕ
@@ -48,7 +39,7 @@ same_place items i j k m at_i at_j = elim (bool_cases (eqb j i)) [
 pub all_at-numbers : (items : List Item) (i k : ℕ) (fields : List (List ℕ)) → place_of items i ≡ Some k → list_all (has_place items) fields ≡ true → all_at items (Some k) fields ≡ list_all (λ other. eqb other i) (map number_in fields)
 all_at-numbers items i k [] at known = refl
 all_at-numbers items i k (field ∷ fields) at known =
-    let parts = both_true (has_place items field) (list_all (has_place items) fields) known in
+    let parts = and_parts (has_place items field) (list_all (has_place items) fields) known in
     let placed = placed_field items field parts.0 in
     ap (λ p. is_at k p && all_at items (Some k) fields) placed.is
     ∙ ap (λ v. v && all_at items (Some k) fields) (same_place items i placed.number k placed.place at placed.at)
@@ -60,9 +51,9 @@ pub first_of-append : (items : List Item) (before : List ℕ) (fields : List (Li
     → owner_then (first_of items before) (first_in items fields) ≡ first_of items (before ++ map number_in fields)
 first_of-append items [] [] b f = refl
 first_of-append items [] (field ∷ fields) b f =
-    let placed = placed_field items field (both_true (has_place items field) (list_all (has_place items) fields) f).0 in
+    let placed = placed_field items field (and_parts (has_place items field) (list_all (has_place items) fields) f).0 in
     placed.is ∙ sym placed.at ∙ ap (λ x. place_of items x) (sym placed.spelled)
-first_of-append items (number ∷ before) fields b f = stays (place_of items number) (both_true (has_index items number) (list_all (has_index items) before) b).0
+first_of-append items (number ∷ before) fields b f = stays (place_of items number) (and_parts (has_index items number) (list_all (has_index items) before) b).0
   where
     stays : (p : Option ℕ) → is_some p ≡ true → owner_then p (first_in items fields) ≡ p
     stays None h = cc
@@ -73,13 +64,13 @@ pub all_same-append : (items : List Item) (before : List ℕ) (fields : List (Li
     → all_at items (owner_then (first_of items before) (first_in items fields)) fields ≡ all_same (before ++ map number_in fields)
 all_same-append items [] [] one b f = refl
 all_same-append items [] (field ∷ fields) one b f =
-    let parts = both_true (has_place items field) (list_all (has_place items) fields) f in
+    let parts = and_parts (has_place items field) (list_all (has_place items) fields) f in
     let placed = placed_field items field parts.0 in
     ap (λ p. all_at items p (field ∷ fields)) placed.is
     ∙ all_at-numbers items placed.number placed.place (field ∷ fields) placed.at f
     ∙ ap (λ x. list_all (λ other. eqb other x) (number_in field ∷ map number_in fields)) (sym placed.spelled)
     ∙ ap (λ v. v && list_all (λ other. eqb other (number_in field)) (map number_in fields)) (itself (number_in field))
-all_same-append items (number ∷ before) fields one b f = at_first (place_of items number) refl (both_true (has_index items number) (list_all (has_index items) before) b).0
+all_same-append items (number ∷ before) fields one b f = at_first (place_of items number) refl (and_parts (has_index items number) (list_all (has_index items) before) b).0
   where
     at_first : (p : Option ℕ) → p ≡ place_of items number → is_some p ≡ true → all_at items (owner_then p (first_in items fields)) fields ≡ list_all (λ other. eqb other number) (before ++ map number_in fields)
     at_first None e h = cc
@@ -90,7 +81,7 @@ all_same-append items (number ∷ before) fields one b f = at_first (place_of it
 known_numbers : (items : List Item) (fields : List (List ℕ)) → list_all (has_place items) fields ≡ true → list_all (has_index items) (map number_in fields) ≡ true
 known_numbers items [] h = refl
 known_numbers items (field ∷ fields) h =
-    let parts = both_true (has_place items field) (list_all (has_place items) fields) h in
+    let parts = and_parts (has_place items field) (list_all (has_place items) fields) h in
     let placed = placed_field items field parts.0 in
     ap (λ x. is_some (place_of items x) && list_all (has_index items) (map number_in fields)) placed.spelled
     ∙ ap (λ p. is_some p && list_all (has_index items) (map number_in fields)) placed.at
@@ -154,20 +145,20 @@ module _ (n : ℕ) (items : List Item) (s : ℕ) (fields : List (List ℕ)) (lin
   pub AreRead-line : all_at items (owner_next items owners s fields) fields ≡ true → AreRead n items (lines ++ line_with s fields ∷ []) (set owners s (owner_next items owners s fields))
   AreRead-line agreed = record {
     count = length-set owners s (owner_next items owners s fields) ∙ m.count;
-    first = λ t tl. elim (bool_cases (eqb s t)) [
-      | inl h ↦ let P : ℕ → Type 0 = λ x. get_or (set owners s (owner_next items owners s fields)) x None ≡ first_of items (said_of (lines ++ line_with s fields ∷ []) x) in subst P (equal s t h) first_same
+    first = λ t tl. elim (cases_Bool (eqb s t)) [
+      | inl h ↦ let P : ℕ → Type 0 = λ x. get_or (set owners s (owner_next items owners s fields)) x None ≡ first_of items (said_of (lines ++ line_with s fields ∷ []) x) in subst P (eqb-true s t h) first_same
       | inr h ↦
-          get_or-set_other owners s t (owner_next items owners s fields) None (λ e. unequal s t h (sym e))
+          get_or-set_other owners s t (owner_next items owners s fields) None (λ e. eqb-false s t h (sym e))
           ∙ m.first t tl ∙ sym (ap (λ x. first_of items x) (said_other lines s t fields h))
     ];
-    one = λ t. elim (bool_cases (eqb s t)) [
-      | inl h ↦ let P : ℕ → Type 0 = λ x. all_same (said_of (lines ++ line_with s fields ∷ []) x) ≡ true in subst P (equal s t h) (sym agrees ∙ agreed)
+    one = λ t. elim (cases_Bool (eqb s t)) [
+      | inl h ↦ let P : ℕ → Type 0 = λ x. all_same (said_of (lines ++ line_with s fields ∷ []) x) ≡ true in subst P (eqb-true s t h) (sym agrees ∙ agreed)
       | inr h ↦ ap all_same (said_other lines s t fields h) ∙ m.one t
     ];
-    known = λ t. elim (bool_cases (eqb s t)) [
+    known = λ t. elim (cases_Bool (eqb s t)) [
       | inl h ↦
           let P : ℕ → Type 0 = λ x. list_all (has_index items) (said_of (lines ++ line_with s fields ∷ []) x) ≡ true in
-          subst P (equal s t h)
+          subst P (eqb-true s t h)
           (ap (λ x. list_all (has_index items) x) (said_same lines s fields) ∙ list_all-append (has_index items) (said_of lines s) (map number_in fields) ∙ ap (λ v. v && list_all (has_index items) (map number_in fields)) (m.known s) ∙ known_numbers items fields known)
       | inr h ↦ ap (λ x. list_all (has_index items) x) (said_other lines s t fields h) ∙ m.known t
     ];

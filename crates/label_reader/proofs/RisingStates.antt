@@ -1,5 +1,6 @@
 -- The states at which a label holds, as a rising list.
 use Rattle.std.proofs.Common.{◌≡◌, ◌<◌, ◌≤◌, ◌+◌, ℕ, suc, zero, Bool, true, false, List, [], ◌∷◌, length, get_or, sym, ap, ◌∙◌, refl, subst, arith, eqb, ◌||◌, add-one}
+use Rattle.std.proofs.lemmas.Bool.{eq-eqb}
 use Rattle.std.specs.List.{list_any}
 use Rattle.std.specs.List.Sorted.{IsStrictlyIncreasing}
 use Rattle.std.proofs.lemmas.Bool.Decides.{nat_tests}
@@ -29,9 +30,6 @@ differs a b h = grind (arith, nat_tests)
 smaller : (a b : ℕ) → a < b → eqb a b ≡ false
 smaller a b h = grind (arith, nat_tests)
 
-itself : (a b : ℕ) → a ≡ b → eqb a b ≡ true
-itself a b h = grind (arith, nat_tests)
-
 none_below : (k : ℕ) (marks : List Bool) (x : ℕ) → x < k → list_any (λ s. eqb s x) (marked_from k marks) ≡ false
 none_below k [] x h = refl
 none_below k (true ∷ marks) x h = ap (λ v. v || list_any (λ s. eqb s x) (marked_from (k + 1) marks)) (differs k x h) ∙ none_below (k + 1) marks x (omega arith)
@@ -39,7 +37,7 @@ none_below k (false ∷ marks) x h = none_below (k + 1) marks x (omega arith)
 
 pub list_any-marked_from : (k : ℕ) (marks : List Bool) (j : ℕ) → list_any (λ s. eqb s (k + j)) (marked_from k marks) ≡ get_or marks j false
 list_any-marked_from k [] j = refl
-list_any-marked_from k (true ∷ marks) zero = ap (λ v. v || list_any (λ s. eqb s (k + 0)) (marked_from (k + 1) marks)) (itself k (k + 0) (omega arith))
+list_any-marked_from k (true ∷ marks) zero = ap (λ v. v || list_any (λ s. eqb s (k + 0)) (marked_from (k + 1) marks)) (eq-eqb k (k + 0) (omega arith))
 list_any-marked_from k (true ∷ marks) (suc j) =
     ap (λ v. v || list_any (λ s. eqb s (k + suc j)) (marked_from (k + 1) marks)) (smaller k (k + suc j) (omega arith))
     ∙ ap (λ x. list_any (λ s. eqb s x) (marked_from (k + 1) marks)) (next k j)

@@ -1,46 +1,27 @@
 -- Sets and owners by cases are those that the relation describes.
 use Rattle.std.proofs.Common.{◌≡◌, ◌<◌, ◌⊎◌, inl, inr, ℕ, Bool, true, false, cond, List, [], ◌∷◌, ◌++◌, length, map, get_or, sym, ap, ◌∙◌, refl, arith, eqb, ◌||◌}
+use Rattle.std.proofs.lemmas.Bool.{eqb-true, eq-eqb, or_cases, or_left, or_right, cases_Bool}
 use Rattle.std.specs.List.{list_any, range_with_len}
-use Rattle.std.proofs.lemmas.Bool.Decides.{nat_tests}
 use Rattle.std.proofs.lemmas.List.{ext_get_or}
 use Rattle.std.proofs.lemmas.List.Folds.{list_any-append}
 use Rattle.std.proofs.lemmas.List.FromFn.{get_or-map-range_with_len, length-map-range_with_len}
-use Rattle.text_lines.proofs.Texts.{bool_cases}
 use Rattle.label_reader.specs.Header.{Item}
 use Rattle.label_reader.specs.Labels.{Label}
 use Rattle.label_reader.specs.Lines.{StateLine, said_of}
 use Rattle.label_reader.specs.Texts.{is_said, label_from}
 use Rattle.label_reader.specs.Denotes.{IsOneOf, LineNames, IsLabel, AreLabels}
 
-equal : (a b : ℕ) → eqb a b ≡ true → a ≡ b
-equal a b h = grind (arith, nat_tests)
-
-itself : (a b : ℕ) → a ≡ b → eqb a b ≡ true
-itself a b h = grind (arith, nat_tests)
-
-pub or_cases : (a b : Bool) → (a || b) ≡ true → (a ≡ true) ⊎ (b ≡ true)
-or_cases true b h = inl refl
-or_cases false b h = inr h
-
-or_left : (a b : Bool) → a ≡ true → (a || b) ≡ true
-or_left true b h = refl
-or_left false b h = cc
-
-or_right : (a b : Bool) → b ≡ true → (a || b) ≡ true
-or_right true b h = refl
-or_right false b h = h
-
 -- one of some numbers
 one_of : (numbers : List ℕ) (number : ℕ) → list_any (λ other. eqb other number) numbers ≡ true → IsOneOf numbers number
 one_of [] number h = cc
 one_of (other ∷ numbers) number h = elim (or_cases (eqb other number) (list_any (λ o. eqb o number) numbers) h) [
-  | inl e ↦ inl (equal other number e)
+  | inl e ↦ inl (eqb-true other number e)
   | inr e ↦ inr (one_of numbers number e)
 ]
 
 any_of : (numbers : List ℕ) (number : ℕ) → IsOneOf numbers number → list_any (λ other. eqb other number) numbers ≡ true
 any_of [] number h = absurd h
-any_of (other ∷ numbers) number (inl e) = or_left (eqb other number) (list_any (λ o. eqb o number) numbers) (itself other number e)
+any_of (other ∷ numbers) number (inl e) = or_left (eqb other number) (list_any (λ o. eqb o number) numbers) (eq-eqb other number e)
 any_of (other ∷ numbers) number (inr e) = or_right (eqb other number) (list_any (λ o. eqb o number) numbers) (any_of numbers number e)
 
 -- what the lines say
@@ -49,13 +30,13 @@ among numbers number = list_any (λ other. eqb other number) numbers
 
 pub is_said-Says : (lines : List StateLine) (number s : ℕ) → is_said lines number s ≡ true → LineNames lines number s
 is_said-Says [] number s h = cc
-is_said-Says (line ∷ lines) number s h = by (bool_cases (eqb line.state s)) (λ e. is_said-Says lines number s e)
+is_said-Says (line ∷ lines) number s h = by (cases_Bool (eqb line.state s)) (λ e. is_said-Says lines number s e)
   where
     by : (eqb line.state s ≡ true) ⊎ (eqb line.state s ≡ false) → (is_said lines number s ≡ true → LineNames lines number s) → LineNames (line ∷ lines) number s
     by (inl e) rest =
         let both = sym (list_any-append (λ other. eqb other number) line.numbers (said_of lines s)) ∙ sym (ap (λ v. among (cond v (line.numbers ++ said_of lines s) (said_of lines s)) number) e) ∙ h in
         elim (or_cases (among line.numbers number) (among (said_of lines s) number) both) [
-          | inl a ↦ inl (equal line.state s e, one_of line.numbers number a)
+          | inl a ↦ inl (eqb-true line.state s e, one_of line.numbers number a)
           | inr a ↦ inr (rest a)
         ]
     by (inr e) rest = inr (rest (sym (ap (λ v. among (cond v (line.numbers ++ said_of lines s) (said_of lines s)) number) e) ∙ h))
@@ -63,7 +44,7 @@ is_said-Says (line ∷ lines) number s h = by (bool_cases (eqb line.state s)) (�
 pub LineNames-is_said : (lines : List StateLine) (number s : ℕ) → LineNames lines number s → is_said lines number s ≡ true
 LineNames-is_said [] number s h = absurd h
 LineNames-is_said (line ∷ lines) number s (inl h) =
-    ap (λ v. among (cond v (line.numbers ++ said_of lines s) (said_of lines s)) number) (itself line.state s h.0)
+    ap (λ v. among (cond v (line.numbers ++ said_of lines s) (said_of lines s)) number) (eq-eqb line.state s h.0)
     ∙ list_any-append (λ other. eqb other number) line.numbers (said_of lines s)
     ∙ or_left (among line.numbers number) (among (said_of lines s) number) (any_of line.numbers number h.1)
 LineNames-is_said (line ∷ lines) number s (inr h) = by (eqb line.state s) (LineNames-is_said lines number s h)

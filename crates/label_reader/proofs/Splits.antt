@@ -1,18 +1,12 @@
 -- Bytes that are split at the first of a byte, and what stands between quotes.
 use Rattle.std.proofs.Common.{◌≡◌, ◌≢◌, ◌<◌, ◌+◌, ◌-◌, ℕ, suc, Bool, true, false, cond, List, [], ◌∷◌, ◌++◌, length, get_or, take, drop, Some, None, sym, ap, ◌∙◌, refl, subst, arith, eqb, ltb, leb, ◌&&◌, ◌⊎◌, inl, inr, add-one}
+use Rattle.std.proofs.lemmas.Bool.{eqb-true, eqb-false, cases_Bool}
 use Rattle.std.specs.Option.{option_map}
 use Rattle.std.specs.List.{position_or_len}
 use Rattle.std.proofs.lemmas.Bool.Decides.{nat_tests}
 use Rattle.std.proofs.lemmas.List.{length-append}
 use Rattle.text_lines.specs.Laws.{HasNo}
-use Rattle.text_lines.proofs.Texts.{bool_cases}
 use Rattle.label_reader.specs.Header.{split_first, parted_at, quoted}
-
-same : (a b : ℕ) → eqb a b ≡ true → a ≡ b
-same a b h = grind (arith, nat_tests)
-
-other : (a b : ℕ) → eqb a b ≡ false → a ≢ b
-other a b h = grind (arith, nat_tests)
 
 different : (a b : ℕ) → (a ≢ b) → eqb a b ≡ false
 different a b h = grind (arith, nat_tests)
@@ -34,16 +28,16 @@ pub record IsSplit (x : ℕ) (bytes front back : List ℕ) : Type 0 where
 -- up to the first of a byte there is none
 split_at_place : (x : ℕ) (bytes : List ℕ) → place x bytes < length bytes → IsSplit x bytes (take (place x bytes) bytes) (drop (suc (place x bytes)) bytes)
 split_at_place x [] h = absurd (omega arith)
-split_at_place x (b ∷ bytes) h = by (bool_cases (eqb b x)) (λ lt. split_at_place x bytes lt)
+split_at_place x (b ∷ bytes) h = by (cases_Bool (eqb b x)) (λ lt. split_at_place x bytes lt)
   where
     by : (eqb b x ≡ true) ⊎ (eqb b x ≡ false) → (place x bytes < length bytes → IsSplit x bytes (take (place x bytes) bytes) (drop (suc (place x bytes)) bytes)) → IsSplit x (b ∷ bytes) (take (place x (b ∷ bytes)) (b ∷ bytes)) (drop (suc (place x (b ∷ bytes))) (b ∷ bytes))
     by (inl e) rest =
         let P : ℕ → Type 0 = λ k. IsSplit x (b ∷ bytes) (take k (b ∷ bytes)) (drop (suc k) (b ∷ bytes)) in
-        subst P (sym (place_here x b bytes e)) (record { form = ap (λ y. y ∷ bytes) (same b x e); first = tt })
+        subst P (sym (place_here x b bytes e)) (record { form = ap (λ y. y ∷ bytes) (eqb-true b x e); first = tt })
     by (inr e) rest =
         let P : ℕ → Type 0 = λ k. IsSplit x (b ∷ bytes) (take k (b ∷ bytes)) (drop (suc k) (b ∷ bytes)) in
         let behind = rest (omega (arith, place_behind x b bytes e, h)) in
-        subst P (sym (place_behind x b bytes e)) (record { form = ap (λ t. b ∷ t) behind.form; first = (other b x e, behind.first) })
+        subst P (sym (place_behind x b bytes e)) (record { form = ap (λ t. b ∷ t) behind.form; first = (eqb-false b x e, behind.first) })
 
 split_by : (x : ℕ) (bytes front back : List ℕ) (v : Bool) → v ≡ ltb (place x bytes) (length bytes) → option_map (parted_at bytes) (cond v (Some (place x bytes)) None) ≡ Some (front, back) → IsSplit x bytes front back
 split_by x bytes front back false e g = cc
@@ -120,8 +114,8 @@ quoted_by (x ∷ []) name true true true p q r g = absurd (long (sym p))
     long : leb 2 1 ≡ true → ⊥
     long h = grind (arith, nat_tests)
 quoted_by (x ∷ y ∷ bytes) name true true true p q r g =
-    let first : x ≡ 34 = same x 34 (sym q) in
-    let last : get_or (y ∷ bytes) (length (y ∷ bytes) - 1) 0 ≡ 34 = ap (λ k. get_or (y ∷ bytes) k 0) (behind (length bytes)) ∙ ap (λ k. get_or (x ∷ y ∷ bytes) k 0) (before (length bytes)) ∙ same (get_or (x ∷ y ∷ bytes) (length (x ∷ y ∷ bytes) - 1) 0) 34 (sym r) in
+    let first : x ≡ 34 = eqb-true x 34 (sym q) in
+    let last : get_or (y ∷ bytes) (length (y ∷ bytes) - 1) 0 ≡ 34 = ap (λ k. get_or (y ∷ bytes) k 0) (behind (length bytes)) ∙ ap (λ k. get_or (x ∷ y ∷ bytes) k 0) (before (length bytes)) ∙ eqb-true (get_or (x ∷ y ∷ bytes) (length (x ∷ y ∷ bytes) - 1) 0) 34 (sym r) in
     let inside : take (length (y ∷ bytes) - 1) (y ∷ bytes) ≡ name = ap (λ k. take k (y ∷ bytes)) (within (length bytes)) ∙ some_is _ _ g in
     ap (λ b. b ∷ y ∷ bytes) first ∙ ap (λ t. 34 ∷ t) (last_of (y ∷ bytes) (omega arith) ∙ ap (λ t. t ++ get_or (y ∷ bytes) (length (y ∷ bytes) - 1) 0 ∷ []) inside ∙ ap (λ b. name ++ b ∷ []) last)
   where

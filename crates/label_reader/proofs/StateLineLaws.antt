@@ -1,16 +1,16 @@
 -- A line by cases is the line that the relation describes.
 use Rattle.std.proofs.Common.{◌≡◌, ◌<◌, ◌+◌, inl, inr, ℕ, Bool, true, false, cond, List, [], ◌∷◌, map, Option, Some, None, Ok, Err, Result, sym, ap, ◌∙◌, refl, subst, arith, eqb, ltb, is_some, ◌&&◌}
+use Rattle.std.proofs.lemmas.Bool.{and_parts, eqb-true, cases_Bool}
 use Rattle.std.specs.Option.{option_map, unwrap_or}
 use Rattle.std.specs.List.{list_all}
 use Rattle.std.proofs.lemmas.Bool.Decides.{nat_tests}
 use Rattle.text_lines.specs.Text.{fields_of, number_of}
-use Rattle.text_lines.proofs.Texts.{bool_cases}
 use Rattle.label_reader.specs.declared.faults.LabCause.{LabCause}
 use Rattle.label_reader.specs.declared.faults.LabCause.TheVariants.{UnknownIndex, StateOutOfRange}
 use Rattle.label_reader.specs.Header.{Item, split_first, place_of, has_index}
 use Rattle.label_reader.specs.Lines.{StateLine, is_number, number_in, only_number, numbered, line_parts, state_line, known_line}
 use Rattle.label_reader.specs.Denotes.{Spells, AreNumbers, IsIndex, AreIndices, IsStateLine}
-use Rattle.label_reader.proofs.KnownLines.{both_true, line_with}
+use Rattle.label_reader.proofs.KnownLines.{line_with}
 use Rattle.label_reader.proofs.Splits.{split_first-found, split_first-again}
 
 below : (a b : ℕ) → ltb a b ≡ true → a < b
@@ -18,9 +18,6 @@ below a b h = grind (arith, nat_tests)
 
 is_below : (a b : ℕ) → a < b → ltb a b ≡ true
 is_below a b h = grind (arith, nat_tests)
-
-equal : (a b : ℕ) → eqb a b ≡ true → a ≡ b
-equal a b h = grind (arith, nat_tests)
 
 itself : (a : ℕ) → eqb a a ≡ true
 itself a = grind (arith, nat_tests)
@@ -32,7 +29,7 @@ spelled field (Some n) e h = sym e ∙ ap (λ (x : Option ℕ). Some (unwrap_or 
 
 pub AreNumbers-map : (fields : List (List ℕ)) → list_all is_number fields ≡ true → AreNumbers fields (map number_in fields)
 AreNumbers-map [] h = tt
-AreNumbers-map (field ∷ fields) h = let parts = both_true (is_number field) (list_all is_number fields) h in (spelled field (number_of field) refl parts.0, AreNumbers-map fields parts.1)
+AreNumbers-map (field ∷ fields) h = let parts = and_parts (is_number field) (list_all is_number fields) h in (spelled field (number_of field) refl parts.0, AreNumbers-map fields parts.1)
 
 pub AreNumbers-are : (fields : List (List ℕ)) (numbers : List ℕ) → AreNumbers fields numbers → (list_all is_number fields ≡ true) × (map number_in fields ≡ numbers)
 AreNumbers-are [] [] h = (refl, refl)
@@ -58,8 +55,8 @@ IsIndex-has (item ∷ items) number (inr h) = by (eqb item.index number) (IsInde
 
 has_IsIndex : (items : List Item) (number : ℕ) → has_index items number ≡ true → IsIndex items number
 has_IsIndex [] number h = cc
-has_IsIndex (item ∷ items) number h = elim (bool_cases (eqb item.index number)) [
-  | inl e ↦ inl (equal item.index number e)
+has_IsIndex (item ∷ items) number h = elim (cases_Bool (eqb item.index number)) [
+  | inl e ↦ inl (eqb-true item.index number e)
   | inr e ↦ inr (has_IsIndex items number (sym (some_more (place_of items number)) ∙ sym (ap (λ v. is_some (cond v (Some 0) (option_map (λ k. k + 1) (place_of items number)))) e) ∙ h))
 ]
 
@@ -69,7 +66,7 @@ AreIndices-all items (number ∷ numbers) h = ap (λ v. v && list_all (has_index
 
 pub all-AreIndices : (items : List Item) (numbers : List ℕ) → list_all (has_index items) numbers ≡ true → AreIndices items numbers
 all-AreIndices items [] h = tt
-all-AreIndices items (number ∷ numbers) h = let parts = both_true (has_index items number) (list_all (has_index items) numbers) h in (has_IsIndex items number parts.0, all-AreIndices items numbers parts.1)
+all-AreIndices items (number ∷ numbers) h = let parts = and_parts (has_index items number) (list_all (has_index items) numbers) h in (has_IsIndex items number parts.0, all-AreIndices items numbers parts.1)
 
 -- a line
 pub record IsAlone (fields : List (List ℕ)) (state : ℕ) : Type 0 where

@@ -1,11 +1,11 @@
 -- A whole text by cases is the text that the relation describes.
 use Rattle.std.proofs.Common.{◌≡◌, ◌+◌, ℕ, Bool, true, false, cond, List, [], ◌∷◌, ◌++◌, Ok, Err, Result, sym, ap, ◌∙◌, refl, subst, arith, eqb, append_assoc, inl, inr}
+use Rattle.std.proofs.lemmas.Bool.{and_parts, cases_Bool}
 use Rattle.std.specs.List.{list_all}
 use Rattle.std.proofs.lemmas.Bool.Decides.{nat_tests}
 use Rattle.std.proofs.lemmas.List.{append-nil}
 use Rattle.std.proofs.lemmas.List.Folds.{list_all-append}
 use Rattle.text_lines.specs.Text.{lines_of, fields_of, significant}
-use Rattle.text_lines.proofs.Texts.{bool_cases}
 use Rattle.label_reader.specs.declared.kind.FileKind.{FileKind}
 use Rattle.label_reader.specs.declared.kind.FileKind.TheVariants.{LabelFile, OwnerFile}
 use Rattle.label_reader.specs.declared.faults.LabCause.{LabCause}
@@ -15,7 +15,6 @@ use Rattle.label_reader.specs.Header.{Item, and_then, header_of}
 use Rattle.label_reader.specs.Lines.{StateLine, state_line, known_line, said_of, all_same, with_line, add_line}
 use Rattle.label_reader.specs.Texts.{then_at, lines_from, made_of, said_by_lines, said_by}
 use Rattle.label_reader.specs.Denotes.{AreStateLines, IsText}
-use Rattle.label_reader.proofs.KnownLines.{both_true}
 use Rattle.label_reader.proofs.SaidOf.{said_of-push}
 use Rattle.label_reader.proofs.ItemLaws.{header_of-found, header_of-again}
 use Rattle.label_reader.proofs.StateLineLaws.{known_line-found, known_line-again}
@@ -35,7 +34,7 @@ said_of-append (line ∷ front) back s = by (eqb line.state s) (said_of-append f
 
 all_same-front : (front back : List ℕ) → all_same (front ++ back) ≡ true → all_same front ≡ true
 all_same-front [] back h = refl
-all_same-front (number ∷ front) back h = (both_true (list_all (λ other. eqb other number) front) (list_all (λ other. eqb other number) back) (sym (list_all-append (λ other. eqb other number) front back) ∙ h)).0
+all_same-front (number ∷ front) back h = (and_parts (list_all (λ other. eqb other number) front) (list_all (λ other. eqb other number) back) (sym (list_all-append (λ other. eqb other number) front back) ∙ h)).0
 
 Agrees-front : (front back : List StateLine) → Agrees OwnerFile (front ++ back) → Agrees OwnerFile front
 Agrees-front front back h = λ s. all_same-front (said_of front s) (said_of back s) (sym (ap all_same (said_of-append front back s)) ∙ h s)
@@ -63,7 +62,7 @@ owners_with before line more true e h = record {
   is = sym (ok_is _ _ h);
   agrees = λ agrees s.
       let P : List StateLine → Type 0 = λ ls. all_same (said_of ls s) ≡ true in
-      subst P (ok_is _ _ h) (elim (bool_cases (eqb line.state s)) [
+      subst P (ok_is _ _ h) (elim (cases_Bool (eqb line.state s)) [
         | inl here ↦ ap (λ t. all_same (said_of (before ++ line ∷ []) t)) (sym (equal line.state s here)) ∙ sym e
         | inr there ↦ ap all_same (said_of-push before line s ∙ ap (λ v. said_of before s ++ cond v line.numbers []) there ∙ append-nil (said_of before s)) ∙ agrees s
       ]);

@@ -1,5 +1,6 @@
 -- What surely holds does, and what holds possibly does.
 use Rattle.std.proofs.Common.{◌≡◌, ◌∙◌, ◌<◌, ℕ, Bool, true, false, not, ◌&&◌, ◌||◌, sym, ap, refl}
+use Rattle.std.proofs.lemmas.Bool.{or_left, or_right}
 use Rattle.std.specs.List.{range_with_len}
 use Rattle.game_model.specs.Game.{IsGame}
 use Rattle.rpatl_syntax.specs.declared.formula.Bound.{Bound}
@@ -24,16 +25,9 @@ and-on true true c d h k both = let first : c ≡ true = h refl in let second : 
 and-on true false c d h k both = let wrong : false ≡ true = both in absurd (cc)
 and-on false b c d h k both = let wrong : false ≡ true = both in absurd (cc)
 
-or-left : (c d : Bool) → c ≡ true → (c || d) ≡ true
-or-left c d h = ap (λ x. x || d) h
-
-or-right : (c d : Bool) → d ≡ true → (c || d) ≡ true
-or-right true d h = refl
-or-right false d h = h
-
 pub or-on : (a b c d : Bool) → (a ≡ true → c ≡ true) → (b ≡ true → d ≡ true) → (a || b) ≡ true → (c || d) ≡ true
-or-on true b c d h k one = or-left c d (h refl)
-or-on false true c d h k one = or-right c d (k refl)
+or-on true b c d h k one = or_left c d (h refl)
+or-on false true c d h k one = or_right c d (k refl)
 or-on false false c d h k one = let wrong : false ≡ true = one in absurd (cc)
 
 module _ (m : Model) (x y : ℕ → Bool) (k l : Known) (h : IsAround m x k) (i : IsAround m y l) where

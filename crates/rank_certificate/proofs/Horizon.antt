@@ -2,7 +2,7 @@
 use Rattle.std.proofs.Common.{◌≡◌, ℕ, zero, suc, ◌+◌, ◌-◌, ◌*◌, ◌/◌, ◌^◌, ◌<◌, ◌≤◌, ◌⊎◌, Bool, true, false, List, length, arith, refl, sym, ◌∙◌, ap, subst, sum_by, inl, inr, get_or, add-suc, add-zero}
 use Rattle.std.specs.List.{AllByRecursion}
 use Rattle.std.specs.Bool.{if◌then◌else◌}
-use Rattle.std.proofs.lemmas.Bool.{cases_lt, cases_Bool}
+use Rattle.std.proofs.lemmas.Bool.{cases_lt, cases_Bool, false_from_ne_true}
 use Rattle.std.proofs.lemmas.Nat.{pow-add}
 use Rattle.std.proofs.Math.Nat.{mul-le-mul_left, mul-le-mul_right, pow-suc, pow-zero, one-le-pow}
 use Rattle.game_model.specs.declared.game.Edge.{Edge}
@@ -63,13 +63,9 @@ choice-positive q choices v r most h k s inside some below m share ranked =
     let there : 1 ≤ numerator_of q choices k t = below t within (onward-positive v r s t some ranked.onward) falls in
     scaled-pos q.game m (numerator_of q choices k) ranked.place h.positive share ranked.inside there
 
-not-dead : (dead : Bool) → (dead ≡ true → ⊥) → dead ≡ false
-not-dead true never = absurd (never refl)
-not-dead false never = refl
-
 -- a state of positive value is not dead
 alive : (q : Query) (choices : ℕ → List Distribution) (v r : ℕ → ℕ) (most : ℕ) → Certified q choices v r most → (s : ℕ) → s < length q.game → 0 < v s → is_dead q s ≡ false
-alive q choices v r most h s inside some = not-dead (is_dead q s) (λ dead. let none : v s ≡ 0 = h.deads s inside dead in omega arith)
+alive q choices v r most h s inside some = false_from_ne_true (is_dead q s) (λ dead. let none : v s ≡ 0 = h.deads s inside dead in omega arith)
 
 -- a state of positive value has a positive k-step value, for k above its key
 pub numerator-positive : (q : Query) (choices : ℕ → List Distribution) (v r : ℕ → ℕ) (most : ℕ) → Certified q choices v r most

@@ -1,5 +1,6 @@
 -- Where a spelling stands at the front of a text, the token there is at least as long.
 use Rattle.std.proofs.Common.{◌≡◌, ◌∙◌, ◌+◌, ◌<◌, ◌≤◌, ℕ, List, [], ◌∷◌, ◌++◌, length, Bool, true, false, cond, not, refl, ap, arith, nat_lt, append_assoc}
+use Rattle.std.proofs.lemmas.Bool.{and_parts}
 use Rattle.std.specs.Prelude.{◌==◌, ◌&&◌}
 use Rattle.std.specs.List.{list_all}
 use Rattle.std.proofs.lemmas.Bool.Decides.{nat_tests}
@@ -9,15 +10,6 @@ use Rattle.rpatl_syntax.specs.declared.front.Front.TheVariants.{Blank, Spelling,
 use Rattle.rpatl_syntax.specs.TokenRules.{go_on_number, is_name_byte, IsSpelling, word, number, quoted_name, long_sign, short_sign}
 use Rattle.rpatl_syntax.specs.Limits.{longest_name}
 use Rattle.rpatl_syntax.specs.Tokens.{front_from, begins_word, in_word, in_number, in_name, is_blank, is_long_sign, is_short_sign, word_length, number_length, name_from, sign_from, short_sign as sign_alone}
-
-pub both_true : (a b : Bool) → a ≡ true → b ≡ true → (a && b) ≡ true
-both_true true true e f = refl
-both_true true false e f = cc
-both_true false b e f = cc
-
-pub parts_true : (a b : Bool) → (a && b) ≡ true → (a ≡ true) × (b ≡ true)
-parts_true true b e = (refl, e)
-parts_true false b e = cc
 
 -- 1. What the first byte decides.
 
@@ -93,7 +85,7 @@ name_reads [] read rest e short some =
     let n : read + 2 ≡ read + length {A = ℕ} [] + 2 = omega arith in
     ap (λ t. cond t Strange (Spelling (read + 2))) z ∙ ap (λ k. Spelling k) n
 name_reads (b ∷ name) read rest e short some =
-    let parts = parts_true (is_name_byte b) (list_all is_name_byte name) e in
+    let parts = and_parts (is_name_byte b) (list_all is_name_byte name) e in
     let byte = name_byte_parts (in_name b) (b == 34) parts.0 in
     let few : nat_lt read longest_name ≡ true = few_before read (length name) (omega (arith, short)) in
     let n : read + 1 + length name + 2 ≡ read + length (b ∷ name) + 2 = omega arith in
@@ -106,7 +98,7 @@ name_reads (b ∷ name) read rest e short some =
 word_as_long : (bytes rest : List ℕ) → list_all in_word bytes ≡ true → length bytes ≤ word_length (bytes ++ rest)
 word_as_long [] rest a = omega arith
 word_as_long (b ∷ bytes) rest a =
-    let parts = parts_true (in_word b) (list_all in_word bytes) a in
+    let parts = and_parts (in_word b) (list_all in_word bytes) a in
     let more = word_as_long bytes rest parts.1 in
     let e : word_length (b ∷ (bytes ++ rest)) ≡ word_length (bytes ++ rest) + 1 = ap (λ t. cond t (word_length (bytes ++ rest) + 1) 0) parts.0 in
     omega (arith, more, e)
@@ -114,7 +106,7 @@ word_as_long (b ∷ bytes) rest a =
 number_as_long : (before : ℕ) (bytes rest : List ℕ) → go_on_number before bytes ≡ true → length bytes ≤ number_length before (bytes ++ rest)
 number_as_long before [] rest a = omega arith
 number_as_long before (b ∷ bytes) rest a =
-    let parts = parts_true (in_number before b) (go_on_number b bytes) a in
+    let parts = and_parts (in_number before b) (go_on_number b bytes) a in
     let more = number_as_long b bytes rest parts.1 in
     let e : number_length before (b ∷ (bytes ++ rest)) ≡ number_length b (bytes ++ rest) + 1 = ap (λ t. cond t (number_length b (bytes ++ rest) + 1) 0) parts.0 in
     omega (arith, more, e)

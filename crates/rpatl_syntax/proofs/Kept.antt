@@ -1,5 +1,6 @@
 -- What is read as a name, a coalition or a bound can be spelled.
 use Rattle.std.proofs.Common.{◌≡◌, ◌∙◌, ◌-◌, ℕ, List, [], ◌∷◌, ◌++◌, length, take, true, Option, Some, None, refl, ap, sym, subst, arith}
+use Rattle.std.proofs.lemmas.Bool.{and_from}
 use Rattle.std.specs.Prelude.{◌||◌, codes}
 use Rattle.std.specs.List.{list_all, AllByRecursion}
 use Rattle.std.proofs.Math.Seq.{take-append_seam}
@@ -13,7 +14,7 @@ use Rattle.rpatl_syntax.specs.TokenRules.{IsName, IsSpelling, word, number, quot
 use Rattle.rpatl_syntax.specs.Grammar.{is_word, is_quoted, unquoted}
 use Rattle.rpatl_syntax.specs.Rules.{with_commas, IsWord, IsCoalition, IsComparison, IsBound, Compares}
 use Rattle.rpatl_syntax.specs.Spellable.{IsWholeWord, HasWords, IsShare, HasShare, HasThreshold}
-use Rattle.rpatl_syntax.proofs.Fronts.{both_true, word_no_quote, digit_no_quote, digit_begins_no_word, long_is_other, short_is_other}
+use Rattle.rpatl_syntax.proofs.Fronts.{word_no_quote, digit_no_quote, digit_begins_no_word, long_is_other, short_is_other}
 
 pub all_left : (ts us : List (List ℕ)) → AllByRecursion IsSpelling (ts ++ us) → AllByRecursion IsSpelling ts
 all_left [] us a = tt
@@ -44,7 +45,7 @@ label_kept token q s =
 
 -- a spelling that begins with a letter or `_` is that of a word
 pub word_kept : (token : List ℕ) → IsSpelling token → is_word token ≡ true → IsWholeWord token
-word_kept _ (word b bytes w a) e = record { begins = e; bytes = both_true (in_word b) (list_all in_word bytes) (ap (λ t. t || is_digit b) w) a }
+word_kept _ (word b bytes w a) e = record { begins = e; bytes = and_from (in_word b) (list_all in_word bytes) (ap (λ t. t || is_digit b) w) a }
 word_kept _ (number b bytes d a) e = cc (e, digit_begins_no_word b d)
 word_kept _ (quoted_name name is) e = cc e
 word_kept _ (long_sign b c f) e = cc (e, (long_is_other b c [] f).word)

@@ -1,5 +1,6 @@
 -- The tokens of printed signs, names and numbers.
 use Rattle.std.proofs.Common.{◌≡◌, ◌∙◌, ◌+◌, ℕ, List, [], ◌∷◌, ◌++◌, length, Bool, true, false, cond, refl, ap, sym, subst, arith, append_assoc}
+use Rattle.std.proofs.lemmas.Bool.{and_parts}
 use Rattle.std.specs.Prelude.{◌==◌, ◌||◌, ◌&&◌, codes}
 use Rattle.std.specs.List.{list_all, AllByRecursion}
 use Rattle.std.proofs.lemmas.List.{length-append}
@@ -12,7 +13,7 @@ use Rattle.rpatl_syntax.specs.Grammar.{is_word}
 use Rattle.rpatl_syntax.specs.Rules.{with_commas}
 use Rattle.rpatl_syntax.specs.Spellable.{IsWholeWord}
 use Rattle.rpatl_syntax.proofs.Spans.{Spans, spans_append}
-use Rattle.rpatl_syntax.proofs.Fronts.{parts_true, front_word, front_number}
+use Rattle.rpatl_syntax.proofs.Fronts.{front_word, front_number}
 use Rattle.rpatl_syntax.proofs.Cutting.{token_read}
 
 -- wherever the text stands before rest, these are its tokens
@@ -74,14 +75,14 @@ lays_spaced sign rest lays =
 word_goes_on : (bytes rest : List ℕ) → list_all in_word bytes ≡ true → Ends rest → word_length (bytes ++ rest) ≡ length bytes
 word_goes_on [] rest a e = e
 word_goes_on (b ∷ bytes) rest a e =
-    let parts = parts_true (in_word b) (list_all in_word bytes) a in
+    let parts = and_parts (in_word b) (list_all in_word bytes) a in
     let n : length bytes + 1 ≡ length (b ∷ bytes) = omega arith in
     ap (λ t. cond t (word_length (bytes ++ rest) + 1) 0) parts.0 ∙ ap (λ k. k + 1) (word_goes_on bytes rest parts.1 e) ∙ n
 
 pub lays_word : (word rest : List ℕ) → is_word word ≡ true → list_all in_word word ≡ true → Ends rest → Lays word (word ∷ []) rest
 lays_word [] rest w a e = cc w
 lays_word (b ∷ bytes) rest w a e =
-    let parts = parts_true (in_word b) (list_all in_word bytes) a in
+    let parts = and_parts (in_word b) (list_all in_word bytes) a in
     lays_token b bytes rest (front_word b (bytes ++ rest) w ∙ ap (λ n. Spelling (n + 1)) (word_goes_on bytes rest parts.1 e))
 
 pub lays_names : (name : List ℕ) (others : List (List ℕ)) → AllByRecursion IsWholeWord (name ∷ others) → (rest : List ℕ) → Ends rest → Lays (names_spelling (name ∷ others)) (with_commas (name ∷ others)) rest
@@ -117,7 +118,7 @@ number_goes_on [] before rest a = blank_ends (before == 101 || before == 69)
     blank_ends : (t : Bool) → cond (false && t) (number_length 32 rest + 1) 0 ≡ 0
     blank_ends t = refl
 number_goes_on (b ∷ bytes) before rest a =
-    let parts = parts_true (in_fraction b) (all_in_fraction bytes) a in
+    let parts = and_parts (in_fraction b) (all_in_fraction bytes) a in
     let n : length bytes + 1 ≡ length (b ∷ bytes) = omega arith in
     ap (λ t. cond t (number_length b (bytes ++ 32 ∷ rest) + 1) 0) (in_number_from before b parts.0) ∙ ap (λ k. k + 1) (number_goes_on bytes b rest parts.1) ∙ n
 

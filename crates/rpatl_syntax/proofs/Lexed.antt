@@ -1,5 +1,6 @@
 -- A token that is found has a spelling, and the longest.
 use Rattle.std.proofs.Common.{◌≡◌, ◌∙◌, ◌+◌, ◌<◌, ◌≤◌, inl, inr, ℕ, suc, List, [], ◌∷◌, ◌++◌, length, take, drop, Bool, true, false, cond, not, refl, ap, sym, subst, arith, nat_lt}
+use Rattle.std.proofs.lemmas.Bool.{and_from, and_parts}
 use Rattle.std.specs.Prelude.{◌==◌, ◌&&◌}
 use Rattle.std.specs.List.{list_all}
 use Rattle.std.proofs.Math.Seq.{take-append-add}
@@ -11,7 +12,7 @@ use Rattle.rpatl_syntax.specs.TokenRules.{go_on_number, is_name_byte, IsSpelling
 use Rattle.rpatl_syntax.specs.Limits.{longest_name}
 use Rattle.rpatl_syntax.specs.Tokens.{front_from, begins_word, in_word, in_number, in_name, is_blank, is_long_sign, is_short_sign, word_length, number_length, name_from, sign_from, short_sign as sign_alone}
 use Rattle.rpatl_syntax.proofs.Spans.{chosen}
-use Rattle.rpatl_syntax.proofs.Fronts.{both_true, parts_true, met}
+use Rattle.rpatl_syntax.proofs.Fronts.{met}
 
 -- 1. Each kind of token.
 
@@ -30,7 +31,7 @@ word_front (b ∷ bytes) = by_test (word_front bytes) (in_word b) refl
     by_test more true e =
         let k : word_length bytes + 1 ≡ suc (word_length bytes) = omega arith in
         let P : ℕ → Type 0 = λ n. list_all in_word (take n (b ∷ bytes)) ≡ true in
-        subst P (sym k) (both_true (in_word b) (list_all in_word (take (word_length bytes) bytes)) e more)
+        subst P (sym k) (and_from (in_word b) (list_all in_word (take (word_length bytes) bytes)) e more)
 
 number_front : (before : ℕ) (bytes : List ℕ) → go_on_number before (take (number_length before bytes) bytes) ≡ true
 number_front before [] = refl
@@ -41,7 +42,7 @@ number_front before (b ∷ bytes) = by_test (number_front b bytes) (in_number be
     by_test more true e =
         let k : number_length b bytes + 1 ≡ suc (number_length b bytes) = omega arith in
         let P : ℕ → Type 0 = λ n. go_on_number before (take n (b ∷ bytes)) ≡ true in
-        subst P (sym k) (both_true (in_number before b) (go_on_number b (take (number_length b bytes) bytes)) e more)
+        subst P (sym k) (and_from (in_number before b) (go_on_number b (take (number_length b bytes) bytes)) e more)
 
 test_within : (t : Bool) (n most : ℕ) → n ≤ most → cond t (n + 1) 0 ≤ most + 1
 test_within true n most h = omega (arith, h)
@@ -93,7 +94,7 @@ in_front_of_name b read count bytes q n at = record {
   rest = at.rest;
   whole = ap (λ bs. b ∷ bs) at.whole;
   size = omega (arith, at.size);
-  is_name = both_true (is_name_byte b) (list_all is_name_byte at.name) (both_true (in_name b) (not (b == 34)) n (ap not q)) at.is_name;
+  is_name = and_from (is_name_byte b) (list_all is_name_byte at.name) (and_from (in_name b) (not (b == 34)) n (ap not q)) at.is_name;
   some = omega arith;
   short = omega (arith, at.short);
 }
@@ -119,7 +120,7 @@ name_front (b ∷ bytes) read count h e =
       | inr q ↦ elim (chosen (in_name b && nat_lt read longest_name) (name_from (read + 1) bytes) Strange (Spelling count) q.1) [
         | inr n ↦ cc n.1
         | inl n ↦
-            let parts = parts_true (in_name b) (nat_lt read longest_name) n.0 in
+            let parts = and_parts (in_name b) (nat_lt read longest_name) n.0 in
             in_front_of_name b read count bytes q.0 parts.0 (name_front bytes (read + 1) count (few_read read parts.1) n.1)
       ]
     ]

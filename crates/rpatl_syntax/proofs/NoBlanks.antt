@@ -1,5 +1,6 @@
 -- No blank stands in a spelling, so the longest spelling stays the longest where a blank follows.
 use Rattle.std.proofs.Common.{◌≡◌, ◌∙◌, ◌⊎◌, inl, inr, ℕ, List, [], ◌∷◌, ◌++◌, Bool, true, false, not, refl, ap, sym, arith, append_assoc}
+use Rattle.std.proofs.lemmas.Bool.{and_from, and_parts}
 use Rattle.std.specs.Prelude.{◌==◌, ◌||◌, ◌&&◌}
 use Rattle.std.specs.List.{list_all}
 use Rattle.std.proofs.lemmas.Bool.Decides.{nat_tests}
@@ -8,7 +9,6 @@ use Rattle.text_lines.specs.Text.{is_digit}
 use Rattle.rpatl_syntax.specs.Laws.{IsBlank, space, tab, line_feed, return_and_line_feed}
 use Rattle.rpatl_syntax.specs.TokenRules.{go_on_number, is_name_byte, IsSpelling, word, number, quoted_name, long_sign, short_sign, IsLongest}
 use Rattle.rpatl_syntax.specs.Tokens.{begins_word, in_word, in_number, is_long_sign, is_short_sign}
-use Rattle.rpatl_syntax.proofs.Fronts.{both_true, parts_true}
 
 -- 1. No blank stands in a spelling.
 
@@ -17,7 +17,7 @@ is_no_blank b = not (b == 32 || b == 9 || b == 10 || b == 13)
 
 all_through : (p q : ℕ → Bool) → ((b : ℕ) → p b ≡ true → q b ≡ true) → (bytes : List ℕ) → list_all p bytes ≡ true → list_all q bytes ≡ true
 all_through p q h [] a = refl
-all_through p q h (b ∷ bytes) a = let parts = parts_true (p b) (list_all p bytes) a in both_true (q b) (list_all q bytes) (h b parts.0) (all_through p q h bytes parts.1)
+all_through p q h (b ∷ bytes) a = let parts = and_parts (p b) (list_all p bytes) a in and_from (q b) (list_all q bytes) (h b parts.0) (all_through p q h bytes parts.1)
 
 no_blank_begins_word : (b : ℕ) → begins_word b ≡ true → is_no_blank b ≡ true
 no_blank_begins_word b e = grind (arith, nat_tests)
@@ -46,16 +46,16 @@ no_blank_short b e = grind (arith, nat_tests)
 no_blank_number : (before : ℕ) (bytes : List ℕ) → go_on_number before bytes ≡ true → list_all is_no_blank bytes ≡ true
 no_blank_number before [] a = refl
 no_blank_number before (b ∷ bytes) a =
-    let parts = parts_true (in_number before b) (go_on_number b bytes) a in
-    both_true (is_no_blank b) (list_all is_no_blank bytes) (no_blank_in_number before b parts.0) (no_blank_number b bytes parts.1)
+    let parts = and_parts (in_number before b) (go_on_number b bytes) a in
+    and_from (is_no_blank b) (list_all is_no_blank bytes) (no_blank_in_number before b parts.0) (no_blank_number b bytes parts.1)
 
 no_blanks : (spelling : List ℕ) → IsSpelling spelling → list_all is_no_blank spelling ≡ true
-no_blanks _ (word b bytes w a) = both_true (is_no_blank b) (list_all is_no_blank bytes) (no_blank_begins_word b w) (all_through in_word is_no_blank no_blank_in_word bytes a)
-no_blanks _ (number b bytes d a) = both_true (is_no_blank b) (list_all is_no_blank bytes) (no_blank_digit b d) (no_blank_number b bytes a)
+no_blanks _ (word b bytes w a) = and_from (is_no_blank b) (list_all is_no_blank bytes) (no_blank_begins_word b w) (all_through in_word is_no_blank no_blank_in_word bytes a)
+no_blanks _ (number b bytes d a) = and_from (is_no_blank b) (list_all is_no_blank bytes) (no_blank_digit b d) (no_blank_number b bytes a)
 no_blanks _ (quoted_name name is) =
-    list_all-append is_no_blank name (34 ∷ []) ∙ both_true (list_all is_no_blank name) true (all_through is_name_byte is_no_blank no_blank_in_name name is.bytes) refl
-no_blanks _ (long_sign b c e) = both_true (is_no_blank b) (is_no_blank c && true) (no_blank_long b c e) (both_true (is_no_blank c) true (no_blank_behind b c e) refl)
-no_blanks _ (short_sign b e) = both_true (is_no_blank b) true (no_blank_short b e) refl
+    list_all-append is_no_blank name (34 ∷ []) ∙ and_from (list_all is_no_blank name) true (all_through is_name_byte is_no_blank no_blank_in_name name is.bytes) refl
+no_blanks _ (long_sign b c e) = and_from (is_no_blank b) (is_no_blank c && true) (no_blank_long b c e) (and_from (is_no_blank c) true (no_blank_behind b c e) refl)
+no_blanks _ (short_sign b e) = and_from (is_no_blank b) true (no_blank_short b e) refl
 
 -- 2. The longest spelling stays the longest where the rest ends earlier, or goes on behind a blank.
 
@@ -98,8 +98,8 @@ pub record BeginsBlank (text : List ℕ) : Type 0 where
 
 no_blank_beyond : (front : List ℕ) (b : ℕ) (bytes : List ℕ) → list_all is_no_blank (front ++ b ∷ bytes) ≡ true → is_no_blank b ≡ true
 no_blank_beyond front b bytes a =
-    let parts = parts_true (list_all is_no_blank front) (list_all is_no_blank (b ∷ bytes)) (sym (list_all-append is_no_blank front (b ∷ bytes)) ∙ a) in
-    (parts_true (is_no_blank b) (list_all is_no_blank bytes) parts.1).0
+    let parts = and_parts (list_all is_no_blank front) (list_all is_no_blank (b ∷ bytes)) (sym (list_all-append is_no_blank front (b ∷ bytes)) ∙ a) in
+    (and_parts (is_no_blank b) (list_all is_no_blank bytes) parts.1).0
 
 pub later : (spelling rest more : List ℕ) → BeginsBlank more → IsLongest spelling rest → IsLongest spelling (rest ++ more)
 later spelling rest more begins l = record {

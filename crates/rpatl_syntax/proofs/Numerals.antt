@@ -1,5 +1,6 @@
 -- A printed fraction is a number of its value, and so is a printed number of steps.
 use Rattle.std.proofs.Common.{◌≡◌, ◌∙◌, ◌+◌, ◌-◌, ◌*◌, ◌/◌, ◌%◌, ◌^◌, ◌<◌, ◌≤◌, inl, ℕ, List, [], ◌∷◌, ◌++◌, length, Bool, true, false, cond, Some, None, refl, ap, sym, arith, nat_lt}
+use Rattle.std.proofs.lemmas.Bool.{and_from, and_parts}
 use Rattle.std.specs.Prelude.{◌==◌, ◌||◌, codes, decimal}
 use Rattle.std.proofs.lemmas.Fmt.{decimal_by_steps_wide, length-decimal-le_wide}
 use Rattle.std.proofs.lemmas.List.{append-nil}
@@ -13,7 +14,6 @@ use Rattle.rpatl_syntax.specs.Limits.{most_steps}
 use Rattle.rpatl_syntax.specs.Rules.{IsSteps}
 use Rattle.rpatl_syntax.specs.Spelling.{fraction_spelling}
 use Rattle.rpatl_syntax.specs.Spellable.{IsShare}
-use Rattle.rpatl_syntax.proofs.Fronts.{both_true, parts_true}
 use Rattle.rpatl_syntax.proofs.Laying.{in_fraction, all_in_fraction}
 
 -- 1. Fractions.
@@ -34,15 +34,15 @@ one_digit n h = record {
   first = 48 + n;
   others = [];
   whole = refl;
-  all = both_true (is_digit (48 + n)) true (digit_is n h) refl;
+  all = and_from (is_digit (48 + n)) true (digit_is n h) refl;
   value = let e : 10 * 0 + (48 + n - 48) ≡ n = omega arith in e;
 }
 
 digits_append : (front back : List ℕ) → all_digits front ≡ true → all_digits back ≡ true → all_digits (front ++ back) ≡ true
 digits_append [] back a b = b
 digits_append (d ∷ front) back a b =
-    let parts = parts_true (is_digit d) (all_digits front) a in
-    both_true (is_digit d) (all_digits (front ++ back)) parts.0 (digits_append front back parts.1 b)
+    let parts = and_parts (is_digit d) (all_digits front) a in
+    and_from (is_digit d) (all_digits (front ++ back)) parts.0 (digits_append front back parts.1 b)
 
 last_digit : (n : ℕ) (front : List ℕ) → 10 ≤ n → Numeral (n / 10) front → Numeral n (front ++ ((48 + n % 10) ∷ []))
 last_digit n front h m =
@@ -52,7 +52,7 @@ last_digit n front h m =
       first = m.first;
       others = m.others ++ ((48 + n % 10) ∷ []);
       whole = ap (λ ds. ds ++ ((48 + n % 10) ∷ [])) m.whole;
-      all = digits_append front ((48 + n % 10) ∷ []) m.all (both_true (is_digit (48 + n % 10)) true (digit_is (n % 10) small) refl);
+      all = digits_append front ((48 + n % 10) ∷ []) m.all (and_from (is_digit (48 + n % 10)) true (digit_is (n % 10) small) refl);
       value = value_append 0 front ((48 + n % 10) ∷ []) ∙ ap (λ v. 10 * v + (48 + n % 10 - 48)) m.value ∙ e;
     }
 
@@ -62,14 +62,14 @@ numeral n h = decimal_by_steps_wide Numeral one_digit last_digit n h
 digits_in_fraction : (digits : List ℕ) → all_digits digits ≡ true → all_in_fraction digits ≡ true
 digits_in_fraction [] a = refl
 digits_in_fraction (d ∷ digits) a =
-    let parts = parts_true (is_digit d) (all_digits digits) a in
-    both_true (in_fraction d) (all_in_fraction digits) (ap (λ t. t || d == 47) parts.0) (digits_in_fraction digits parts.1)
+    let parts = and_parts (is_digit d) (all_digits digits) a in
+    and_from (in_fraction d) (all_in_fraction digits) (ap (λ t. t || d == 47) parts.0) (digits_in_fraction digits parts.1)
 
 fraction_append : (front back : List ℕ) → all_in_fraction front ≡ true → all_in_fraction back ≡ true → all_in_fraction (front ++ back) ≡ true
 fraction_append [] back a b = b
 fraction_append (d ∷ front) back a b =
-    let parts = parts_true (in_fraction d) (all_in_fraction front) a in
-    both_true (in_fraction d) (all_in_fraction (front ++ back)) parts.0 (fraction_append front back parts.1 b)
+    let parts = and_parts (in_fraction d) (all_in_fraction front) a in
+    and_from (in_fraction d) (all_in_fraction (front ++ back)) parts.0 (fraction_append front back parts.1 b)
 
 -- the text of a fraction
 pub record FractionText (p : Fraction) (text : List ℕ) : Type 0 where
@@ -84,7 +84,7 @@ some_digits : (n : ℕ) (digits : List ℕ) → Numeral n digits → AreDigits d
 some_digits n digits m = (λ none. let e : m.first ∷ m.others ≡ [] = sym m.whole ∙ none in cc e, m.all)
 
 first_digit : (n : ℕ) (digits : List ℕ) (m : Numeral n digits) → (is_digit m.first ≡ true) × (all_digits m.others ≡ true)
-first_digit n digits m = parts_true (is_digit m.first) (all_digits m.others) (ap all_digits (sym m.whole) ∙ m.all)
+first_digit n digits m = and_parts (is_digit m.first) (all_digits m.others) (ap all_digits (sym m.whole) ∙ m.all)
 
 few_digits : (n : ℕ) → n ≤ finest → nat_lt most_digits (length (decimal n)) ≡ false
 few_digits n h =

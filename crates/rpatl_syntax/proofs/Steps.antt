@@ -1,8 +1,8 @@
 -- Numbers of steps.
 use Rattle.std.proofs.Common.{◌≡◌, inl, inr, ℕ, List, [], ◌∷◌, true, Some, None}
+use Rattle.std.proofs.lemmas.Bool.{and_parts}
 use Rattle.text_lines.specs.Text.{is_digit, all_digits, value_onto, number_of}
 use Rattle.rpatl_syntax.specs.Grammar.{is_number}
-use Rattle.rpatl_syntax.proofs.Fronts.{parts_true}
 use Rattle.rpatl_syntax.proofs.Spans.{chosen}
 
 -- a whole number begins with a digit
@@ -10,6 +10,6 @@ pub steps_number : (token : List ℕ) (k : ℕ) → number_of token ≡ Some k �
 steps_number [] k e = cc e
 steps_number (b ∷ bytes) k e =
     elim (chosen (all_digits (b ∷ bytes)) (Some (value_onto 0 (b ∷ bytes))) None (Some k) e) [
-      | inl t ↦ let parts = parts_true (is_digit b) (all_digits bytes) t.0 in parts.0
+      | inl t ↦ let parts = and_parts (is_digit b) (all_digits bytes) t.0 in parts.0
       | inr t ↦ cc t.1
     ]

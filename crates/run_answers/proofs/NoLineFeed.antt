@@ -1,5 +1,6 @@
 -- Texts in which no line ends, and lines that end with them.
 use Rattle.std.proofs.Common.{◌≡◌, ◌∙◌, ◌<◌, ◌^◌, ◌+◌, ◌%◌, ℕ, Bool, true, false, List, [], ◌∷◌, ◌++◌, Option, Some, None, refl, sym, ap, append_assoc, arith}
+use Rattle.std.proofs.lemmas.Bool.{and_parts}
 use Rattle.std.specs.Prelude.{◌==◌, nat_lt, codes, decimal, if◌then◌else◌}
 use Rattle.std.specs.List.{list_all, AllByRecursion}
 use Rattle.std.proofs.lemmas.Fmt.{decimal_by_steps_wide}
@@ -16,7 +17,6 @@ use Rattle.rpatl_syntax.specs.declared.formula.PathKind.{PathKind}
 use Rattle.rpatl_syntax.specs.declared.formula.PathKind.TheVariants.{Until, Within, Next, Always}
 use Rattle.rpatl_syntax.specs.Spelling.{strength_of, in_place, state_spelling, until_spelling, kind_spelling, spelling_with, names_spelling, coalition_spelling, fraction_spelling, bound_spelling, spelling}
 use Rattle.rpatl_syntax.specs.Spellable.{IsWholeWord, HasWords, HasKind, HasParts}
-use Rattle.rpatl_syntax.proofs.Fronts.{parts_true}
 use Rattle.plan_text.specs.Fixed.{fixed}
 use Rattle.plan_text.proofs.WrittenFields.{AreFrom, IsField-fixed}
 use Rattle.verdicts.specs.declared.verdict.Verdict.{Verdict}
@@ -37,7 +37,7 @@ HasNo-append (x ∷ xs) ys front back = (front.0, HasNo-append xs ys front.1 bac
 passing : (test : ℕ → Bool) → test 10 ≡ false → (bytes : List ℕ) → list_all test bytes ≡ true → HasNo 10 bytes
 passing test fails [] pass = tt
 passing test fails (b ∷ bytes) pass =
-    let parts = parts_true (test b) (list_all test bytes) pass in
+    let parts = and_parts (test b) (list_all test bytes) pass in
     ((λ is. let same : test b ≡ test 10 = ap test is in cc (same, fails, parts.0)), passing test fails bytes parts.1)
 
 plain : (bytes : List ℕ) → list_all (λ b. nat_lt 10 b) bytes ≡ true → HasNo 10 bytes

@@ -2,7 +2,7 @@
 use Rattle.std.proofs.Common.{◌≡◌, ◌≢◌, ℕ, ◌<◌, ◌≤◌, Bool, true, false, List, [], ◌∷◌, length, arith, refl, sym, ap, ◌∙◌, subst, ne_eqb, eq-eqb, inl, inr, ◌⊎◌}
 use Rattle.std.specs.Prelude.{slice_index, ◌==◌, ◌||◌, not, Option, Some, None, IsSome, is_none, nat_lt, nat_le, if◌then◌else◌, Result, Ok, Err, OnOk, IfErr}
 use Rattle.std.proofs.lemmas.Option.{none-some}
-use Rattle.std.proofs.lemmas.Bool.{true≢false, eqb-true}
+use Rattle.std.proofs.lemmas.Bool.{true≢false, eqb-true, or_from, or_parts, not_from_true, eqb-false}
 use Rattle.std.proofs.lemmas.Bool.Decides.{nat_tests}
 use Rattle.game_model.specs.declared.game.Side.{Side}
 use Rattle.game_model.specs.declared.game.Side.TheVariants.{Max, Min}
@@ -41,17 +41,6 @@ live-is_none : (view : Option (List ℕ)) → is_none view ≡ false → IsSome 
 live-is_none None fails = absurd (true≢false fails)
 live-is_none (Some seen) fails = refl
 
-or-false : (a b : Bool) → a ≡ false → b ≡ false → (a || b) ≡ false
-or-false true b h k = absurd (true≢false h)
-or-false false b h k = k
-
-false-or : (a b : Bool) → (a || b) ≡ false → (a ≡ false) × (b ≡ false)
-false-or true b h = absurd (true≢false h)
-false-or false b h = (refl, h)
-
-not-false : (a : Bool) → a ≡ true → not a ≡ false
-not-false a h = ap not h
-
 false-not : (a : Bool) → not a ≡ false → a ≡ true
 false-not true h = refl
 false-not false h = absurd (true≢false h)
@@ -87,7 +76,7 @@ none-there w view state others none =
 -- what gives a value, by tests
 bad_choice-given : (q : Query) (table : ℕ → ℕ) (s value choice : ℕ) (side : Side) → side_at q s ≡ side → IsGivenBy q table s value choice → on_side side (nat_le (length (choices_of q.game s)) choice) (not (choice == 0)) ≡ false
 bad_choice-given q table s value choice Max is given = within (length (choices_of q.game s)) choice (given.greatest is).0
-bad_choice-given q table s value choice Min is given = not-false (choice == 0) (eq-eqb choice 0 (given.least is).0)
+bad_choice-given q table s value choice Min is given = not_from_true (choice == 0) (eq-eqb choice 0 (given.least is).0)
 
 too_high-given : (q : Query) (table : ℕ → ℕ) (s value choice : ℕ) (side : Side) → side_at q s ≡ side → IsQuery q → s < states q → IsFree q s → IsGivenBy q table s value choice
     → nat_lt (on_side side (down_value table (choice_of q.game s choice)) (down_step q table s)) value ≡ false
@@ -117,9 +106,9 @@ Won-none w view state from to h r =
     let q = w.question in
     let table : ℕ → ℕ = value_at (seen_by w view) in
     there-none w view state (unless_raised w state from to (last w view state to)) r.live r.inside
-    ∙ skips (is_goal q state || is_dead q state) FixedState _ (or-false _ _ r.free.0 r.free.1)
+    ∙ skips (is_goal q state || is_dead q state) FixedState _ (or_from _ _ r.free.0 r.free.1)
     ∙ skips (is_bad_choice q state (choice_in to)) BadChoice _ (bad_choice-given q table state (value_in to) (choice_in to) (side_at q state) refl r.given)
-    ∙ skips (not (slice_index w.words state == from)) NotFrom _ (not-false _ (eq-eqb _ _ r.is_from))
+    ∙ skips (not (slice_index w.words state == from)) NotFrom _ (not_from_true _ (eq-eqb _ _ r.is_from))
     ∙ skips (nat_le (value_in to) (value_in from)) NotRaised _ (within (value_in to) (value_in from) r.raised)
     ∙ skips (nat_lt (given_by q table state (choice_in to)) (value_in to)) TooHigh None (too_high-given q table state (value_in to) (choice_in to) (side_at q state) refl h r.inside r.free r.given)
 
@@ -133,7 +122,7 @@ none-Won w view state from to none =
     let not_from = skipped (not (slice_index w.words state == from)) NotFrom _ bad.none in
     let not_raised = skipped (nat_le (value_in to) (value_in from)) NotRaised _ not_from.none in
     let high = skipped (nat_lt (given_by q table state (choice_in to)) (value_in to)) TooHigh None not_raised.none in
-    let free = false-or _ _ fixed.fails in
+    let free = or_parts _ _ fixed.fails in
     record {
       live = there.live;
       inside = there.inside;
@@ -167,11 +156,8 @@ Lawful-none w (Won view state from to) h lawful = Won-none w view state from to 
 Lawful-none w (Lost view state) h lawful = there-none w view state ((slice_index w.words state == slice_index (seen_by w view) state, SameWord) ∷ []) lawful.0 lawful.1 ∙ skips (slice_index w.words state == slice_index (seen_by w view) state) SameWord None (ne_eqb _ _ lawful.2)
 Lawful-none w (Split view) h lawful = skips (is_none (view_of w view)) NoView None (is_none-live (view_of w view) lawful)
 Lawful-none w (Join view other) h lawful =
-    skips (is_none (view_of w view) || is_none (view_of w other)) NoView _ (or-false _ _ (is_none-live (view_of w view) lawful.0) (is_none-live (view_of w other) lawful.1))
+    skips (is_none (view_of w view) || is_none (view_of w other)) NoView _ (or_from _ _ (is_none-live (view_of w view) lawful.0) (is_none-live (view_of w other) lawful.1))
     ∙ skips (view == other) SameView None (ne_eqb view other lawful.2)
-
-differ : (x y : ℕ) → (x == y) ≡ false → x ≢ y
-differ x y fails same = true≢false (sym (eq-eqb x y same) ∙ fails)
 
 -- where there is no reason an event is lawful
 pub none-Lawful : (w : Configuration) (event : Event) → first_of (reasons w event) ≡ None → Lawful w event
@@ -180,13 +166,13 @@ none-Lawful w (Won view state from to) none = none-Won w view state from to none
 none-Lawful w (Lost view state) none =
     let there = none-there w view state ((slice_index w.words state == slice_index (seen_by w view) state, SameWord) ∷ []) none in
     let same = skipped (slice_index w.words state == slice_index (seen_by w view) state) SameWord None there.none in
-    (there.live, there.inside, differ _ _ same.fails)
+    (there.live, there.inside, eqb-false _ _ same.fails)
 none-Lawful w (Split view) none = live-is_none (view_of w view) (skipped (is_none (view_of w view)) NoView None none).fails
 none-Lawful w (Join view other) none =
     let spent = skipped (is_none (view_of w view) || is_none (view_of w other)) NoView _ none in
     let same = skipped (view == other) SameView None spent.none in
-    let live = false-or _ _ spent.fails in
-    (live-is_none (view_of w view) live.0, live-is_none (view_of w other) live.1, differ view other same.fails)
+    let live = or_parts _ _ spent.fails in
+    (live-is_none (view_of w view) live.0, live-is_none (view_of w other) live.1, eqb-false view other same.fails)
 
 -- what `apply` answers
 pub answer-lawful : (w : Configuration) (event : Event) (answer : Result (Unit {0}) Refused) → Answers answer (first_of (reasons w event)) → OnOk answer (Lawful w event)

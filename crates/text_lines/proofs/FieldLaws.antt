@@ -1,8 +1,9 @@
 -- The laws of fields: a blank parts a line, and what has none is one field.
 use Rattle.std.proofs.Common.{◌≡◌, ◌<◌, ℕ, List, [], ◌∷◌, ◌++◌, length, ap, ◌∙◌, sym, refl, true, false, cond, arith, inl, inr}
+use Rattle.std.proofs.lemmas.Bool.{cases_Bool}
 use Rattle.text_lines.specs.Text.{fields_of, prepend, ends_field, is_blank, is_nil}
 use Rattle.text_lines.specs.Laws.{HasNoBlank}
-use Rattle.text_lines.proofs.Texts.{bool_cases, begins, field_split, BeginsField}
+use Rattle.text_lines.proofs.Texts.{begins, field_split, BeginsField}
 
 at_blank : (b : ℕ) (bytes : List ℕ) → is_blank b ≡ true → fields_of (b ∷ bytes) ≡ fields_of bytes
 at_blank b bytes h = ap (λ v. cond v (fields_of bytes) (cond (ends_field bytes) ((b ∷ []) ∷ fields_of bytes) (prepend (b ∷ []) (fields_of bytes)))) h
@@ -25,7 +26,7 @@ prepend-append bytes (field ∷ fields) more h = refl
 -- the same byte in front of both sides
 begun : (c : ℕ) (front : List ℕ) (more : List (List ℕ)) → is_blank c ≡ false
     → cond (ends_field front) ((c ∷ []) ∷ (fields_of front ++ more)) (prepend (c ∷ []) (fields_of front ++ more)) ≡ fields_of (c ∷ front) ++ more
-begun c front more h = elim (bool_cases (ends_field front)) [
+begun c front more h = elim (cases_Bool (ends_field front)) [
   | inl e ↦
       ap (λ v. cond v ((c ∷ []) ∷ (fields_of front ++ more)) (prepend (c ∷ []) (fields_of front ++ more))) e
       ∙ sym (ap (λ fs. fs ++ more) (begins c front h ∙ ap (λ v. cond v ((c ∷ []) ∷ fields_of front) (prepend (c ∷ []) (fields_of front))) e))
@@ -37,7 +38,7 @@ begun c front more h = elim (bool_cases (ends_field front)) [
 
 pub fields_of-parted : (front back : List ℕ) (b : ℕ) → is_blank b ≡ true → fields_of (front ++ b ∷ back) ≡ fields_of front ++ fields_of back
 fields_of-parted [] back b h = at_blank b back h
-fields_of-parted (c ∷ front) back b h = elim (bool_cases (is_blank c)) [
+fields_of-parted (c ∷ front) back b h = elim (cases_Bool (is_blank c)) [
   | inl e ↦ at_blank c (front ++ b ∷ back) e ∙ fields_of-parted front back b h ∙ sym (ap (λ fs. fs ++ fields_of back) (at_blank c front e))
   | inr e ↦
       begins c (front ++ b ∷ back) e

@@ -1,11 +1,11 @@
 -- No row clashes exactly where each choice has one action.
 use Rattle.std.proofs.Common.{◌≡◌, ◌∙◌, inl, inr, ℕ, ◌==◌, ◌&&◌, not, Bool, true, false, cond, List, [], ◌∷◌, ◌++◌, Option, Some, None, option_map, slice_get, refl, sym, ap, ap₂, subst, append_assoc}
+use Rattle.std.proofs.lemmas.Bool.{cases_Bool, eqb-true, eq-eqb}
 use Rattle.std.specs.List.{filter}
 use Rattle.std.specs.Option.{option_map_or, option_or}
 use Rattle.std.specs.Str.{bytes_eq}
 use Rattle.std.proofs.lemmas.Slice.Eq.{bytes_eq-Decides}
 use Rattle.tra_reader.specs.Lines.{Row, is_of, first_action, clashes, HaveActions}
-use Rattle.tra_reader.proofs.Decisions.{bool_cases, is_eq, eq_test}
 use Rattle.tra_reader.proofs.RowLaws.{NoClash}
 
 abbrev first_of : List Row → Option (List ℕ)
@@ -16,7 +16,7 @@ of_choice s k rows = filter (λ (row : Row). is_of s k row.transition) rows
 
 first_append : (before rows : List Row) (s k : ℕ) → first_action (before ++ rows) s k ≡ option_or (first_action before s k) (first_action rows s k)
 first_append [] rows s k = refl
-first_append (b ∷ before) rows s k = elim (bool_cases (is_of s k b.transition)) [
+first_append (b ∷ before) rows s k = elim (cases_Bool (is_of s k b.transition)) [
   | inl e ↦ ap (λ v. first_of (cond v (b ∷ of_choice s k (before ++ rows)) (of_choice s k (before ++ rows)))) e
       ∙ sym (ap (λ v. option_or (first_of (cond v (b ∷ of_choice s k before) (of_choice s k before))) (first_action rows s k)) e)
   | inr e ↦ ap (λ v. first_of (cond v (b ∷ of_choice s k (before ++ rows)) (of_choice s k (before ++ rows)))) e
@@ -25,7 +25,7 @@ first_append (b ∷ before) rows s k = elim (bool_cases (is_of s k b.transition)
 ]
 
 own_choice : (row : Row) → is_of row.transition.source row.transition.choice row.transition ≡ true
-own_choice row = ap₂ (λ a b. a && b) (eq_test row.transition.source row.transition.source refl) (eq_test row.transition.choice row.transition.choice refl)
+own_choice row = ap₂ (λ a b. a && b) (eq-eqb row.transition.source row.transition.source refl) (eq-eqb row.transition.choice row.transition.choice refl)
 
 -- the first action of the choice of the row at the front
 front_action : (row : Row) (rows : List Row) → first_action (row ∷ rows) row.transition.source row.transition.choice ≡ Some row.action
@@ -64,7 +64,7 @@ actions_found rows fine = actions_behind [] rows fine
 -- the first action of a choice is the choice's
 first_has : (rows : List Row) (action_of : ℕ → ℕ → List ℕ) (s k : ℕ) (a : List ℕ) → HaveActions rows action_of → first_action rows s k ≡ Some a → a ≡ action_of s k
 first_has [] action_of s k a have e = cc
-first_has (row ∷ rows) action_of s k a have e = elim (bool_cases (is_of s k row.transition)) [
+first_has (row ∷ rows) action_of s k a have e = elim (cases_Bool (is_of s k row.transition)) [
   | inr other ↦ first_has rows action_of s k a have.1 (sym (ap (λ v. first_of (cond v (row ∷ of_choice s k rows) (of_choice s k rows))) other) ∙ e)
   | inl this ↦
       let is : Some row.action ≡ Some a = sym (ap (λ v. first_of (cond v (row ∷ of_choice s k rows) (of_choice s k rows))) this) ∙ e in
@@ -78,7 +78,7 @@ first_has (row ∷ rows) action_of s k a have e = elim (bool_cases (is_of s k ro
     both_true false c e = cc
 
     is_equal : (i j : ℕ) → (i == j) ≡ true → i ≡ j
-    is_equal i j e = is_eq i j e
+    is_equal i j e = eqb-true i j e
 
 fine_here : (before : List Row) (row : Row) (action_of : ℕ → ℕ → List ℕ) → HaveActions before action_of → row.action ≡ action_of row.transition.source row.transition.choice → clashes before row ≡ false
 fine_here before row action_of have is = by_first (first_action before row.transition.source row.transition.choice) refl

@@ -1,19 +1,7 @@
 -- Tests on numbers.
 use Rattle.std.proofs.Common.{◌≡◌, ◌<◌, ◌≤◌, ◌⊎◌, inl, inr, ℕ, ◌==◌, Bool, true, false, cond, refl, arith, nat_lt}
+use Rattle.std.proofs.lemmas.Bool.{cases_Bool}
 use Rattle.std.proofs.lemmas.Bool.Decides.{nat_tests}
-
-pub bool_cases : (v : Bool) → (v ≡ true) ⊎ (v ≡ false)
-bool_cases true = inl refl
-bool_cases false = inr refl
-
-pub is_eq : (a b : ℕ) → (a == b) ≡ true → a ≡ b
-is_eq a b e = grind (arith, nat_tests)
-
-pub eq_test : (a b : ℕ) → a ≡ b → (a == b) ≡ true
-eq_test a b e = grind (arith, nat_tests)
-
-pub ne_test : (a b : ℕ) → (a ≡ b → ⊥) → (a == b) ≡ false
-ne_test a b e = grind (arith, nat_tests)
 
 pub below_ne : (a b : ℕ) → a < b → (a == b) ≡ false
 below_ne a b h = grind (arith, nat_tests)
@@ -31,7 +19,7 @@ pub ge_test : (a b : ℕ) → b ≤ a → nat_lt a b ≡ false
 ge_test a b h = grind (arith, nat_tests)
 
 pub cases_lt : (a b : ℕ) → (a < b) ⊎ (b ≤ a)
-cases_lt a b = elim (bool_cases (nat_lt a b)) [ inl e ↦ inl (lt_from a b e) | inr e ↦ inr (ge_from a b e) ]
+cases_lt a b = elim (cases_Bool (nat_lt a b)) [ inl e ↦ inl (lt_from a b e) | inr e ↦ inr (ge_from a b e) ]
 
 -- which way a test went
 pub chosen : {X : Type 0} (b : Bool) (x y z : X) → cond b x y ≡ z → ((b ≡ true) × (x ≡ z)) ⊎ ((b ≡ false) × (y ≡ z))

@@ -1,5 +1,6 @@
 -- How many choices a state has, from the transitions of each.
 use Rattle.std.proofs.Common.{◌≡◌, ◌∙◌, ◌<◌, ◌≤◌, ◌⊎◌, inl, inr, ℕ, zero, suc, ◌+◌, ◌-◌, ◌==◌, ◌&&◌, max, Bool, true, false, cond, List, [], ◌∷◌, length, Option, Some, None, option_map, refl, sym, ap, ap₂, subst, arith}
+use Rattle.std.proofs.lemmas.Bool.{cases_Bool}
 use Rattle.std.proofs.lemmas.Bool.Decides.{nat_tests}
 use Rattle.std.specs.List.{filter, All}
 use Rattle.std.specs.Option.{option_or}
@@ -9,7 +10,7 @@ use Rattle.tra_reader.specs.declared.line.Transition.{Transition}
 use Rattle.tra_reader.specs.Lines.{is_of}
 use Rattle.tra_reader.specs.Choices.{transitions_of, choice_end, least_missing, first_gap, of_state}
 use Rattle.tra_reader.specs.Order.{has, place_of, transition_place}
-use Rattle.tra_reader.proofs.Decisions.{bool_cases, cases_lt}
+use Rattle.tra_reader.proofs.Decisions.{cases_lt}
 use Rattle.tra_reader.proofs.Rows.{same_place}
 
 -- each transition has a small choice
@@ -46,7 +47,7 @@ max_le a b c h = (omega arith, omega arith)
 -- no transition is of a choice from the end on
 pub end_none : (ts : List Transition) (s k : ℕ) → choice_end ts s ≤ k → transitions_of ts s k ≡ []
 end_none [] s k h = refl
-end_none (t ∷ ts) s k h = elim (bool_cases (t.source == s)) [
+end_none (t ∷ ts) s k h = elim (cases_Bool (t.source == s)) [
   | inl e ↦
       let P : ℕ → Type 0 = λ m. m ≤ k in
       let le = max_le (t.choice + 1) (choice_end ts s) k (subst P (ap (λ b. cond b (max (t.choice + 1) (choice_end ts s)) (choice_end ts s)) e) h) in
@@ -66,7 +67,7 @@ max_is a b c h = elim (cases_lt a b) [ inl lt ↦ inr (omega (arith, lt, h)) | i
 -- the choice before the end has a transition
 pub end_last : (ts : List Transition) (s k : ℕ) → choice_end ts s ≡ k + 1 → 0 < length (transitions_of ts s k)
 end_last [] s k e = absurd (omega (arith, e))
-end_last (t ∷ ts) s k e = elim (bool_cases (t.source == s)) [
+end_last (t ∷ ts) s k e = elim (cases_Bool (t.source == s)) [
   | inr other ↦ longer (is_of s k t) t (transitions_of ts s k) (end_last ts s k (sym (ap (λ b. cond b (max (t.choice + 1) (choice_end ts s)) (choice_end ts s)) other) ∙ e))
   | inl same ↦
       elim (max_is (t.choice + 1) (choice_end ts s) (k + 1) (sym (ap (λ b. cond b (max (t.choice + 1) (choice_end ts s)) (choice_end ts s)) same) ∙ e)) [

@@ -1,5 +1,6 @@
 -- A header that is read is one that its line spells, and the other way round.
-use Rattle.std.proofs.Common.{◌≡◌, ◌∙◌, ◌<◌, ◌≤◌, inl, inr, ℕ, ◌==◌, ◌||◌, Bool, true, false, cond, List, [], ◌∷◌, map, Option, Some, None, Ok, Err, refl, sym, ap, ap₂, subst, arith, nat_lt}
+use Rattle.std.proofs.Common.{◌≡◌, ◌∙◌, ◌<◌, ◌≤◌, inl, inr, ℕ, ◌==◌, ◌||◌, false, cond, List, [], ◌∷◌, map, Option, Some, None, Ok, Err, refl, sym, ap, ap₂, subst, arith, nat_lt}
+use Rattle.std.proofs.lemmas.Bool.{or_parts, ne_eqb}
 use Rattle.std.proofs.lemmas.Bool.Decides.{nat_tests}
 use Rattle.std.specs.Option.{option_map_or, ForSome}
 use Rattle.text_lines.specs.Text.{fields_of, number_of}
@@ -8,11 +9,7 @@ use Rattle.tra_reader.specs.declared.header.Header.{Header}
 use Rattle.tra_reader.specs.declared.fault.TraCause.TheVariants.{OverLimit, NoStates}
 use Rattle.tra_reader.specs.Limits.{most_stated_choices, most_lines}
 use Rattle.tra_reader.specs.Lines.{IsHeader, header_numbers, header_checked, mdp_header, dtmc_header, header_said}
-use Rattle.tra_reader.proofs.Decisions.{chosen, ge_from, ge_test, ne_test}
-
-either_false : (a b : Bool) → (a || b) ≡ false → (a ≡ false) × (b ≡ false)
-either_false true b e = cc
-either_false false b e = (refl, e)
+use Rattle.tra_reader.proofs.Decisions.{chosen, ge_from, ge_test}
 
 -- numbers that a header accepts
 record Accepts (n : ℕ) (c : Option ℕ) (m : ℕ) (header : Header) : Type 0 where
@@ -41,8 +38,8 @@ checked_found n c m header e =
           elim (chosen (n == 0) (Err NoStates) (Ok (record { states = n; choices = c; lines = m })) (Ok header) within.1) [
             | inl none ↦ cc none.1
             | inr some ↦
-                let first = either_false (nat_lt most_states n) (option_map_or (nat_lt most_stated_choices) c false || nat_lt most_lines m) within.0 in
-                let second = either_false (option_map_or (nat_lt most_stated_choices) c false) (nat_lt most_lines m) first.1 in
+                let first = or_parts (nat_lt most_states n) (option_map_or (nat_lt most_stated_choices) c false || nat_lt most_lines m) within.0 in
+                let second = or_parts (option_map_or (nat_lt most_stated_choices) c false) (nat_lt most_lines m) first.1 in
                 record {
                   is = cc some.1;
                   some = not_nought n some.0;
@@ -58,7 +55,7 @@ checked_again n c m some few bounded short =
     ap (λ b. cond (b || (option_map_or (nat_lt most_stated_choices) c false || nat_lt most_lines m)) (Err OverLimit) (cond (n == 0) (Err NoStates) (Ok (record { states = n; choices = c; lines = m })))) (ge_test most_states n few)
     ∙ ap (λ b. cond (b || nat_lt most_lines m) (Err OverLimit) (cond (n == 0) (Err NoStates) (Ok (record { states = n; choices = c; lines = m })))) (bounded_test c bounded)
     ∙ ap (λ b. cond b (Err OverLimit) (cond (n == 0) (Err NoStates) (Ok (record { states = n; choices = c; lines = m })))) (ge_test most_lines m short)
-    ∙ ap (λ b. cond b (Err NoStates) (Ok (record { states = n; choices = c; lines = m }))) (ne_test n 0 (λ e. omega (arith, e, some)))
+    ∙ ap (λ b. cond b (Err NoStates) (Ok (record { states = n; choices = c; lines = m }))) (ne_eqb n 0 (λ e. omega (arith, e, some)))
 
 header_is : (line : List ℕ) (n : ℕ) (c : Option ℕ) (m : ℕ) (header : Header) → map number_of (fields_of line) ≡ map Some (header_numbers n c m) → Accepts n c m header → IsHeader line header
 header_is line n c m header numbers is =

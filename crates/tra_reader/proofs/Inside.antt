@@ -1,5 +1,6 @@
 -- The edges of a choice lead where its parts do.
 use Rattle.std.proofs.Common.{◌≡◌, ◌∙◌, ◌<◌, ◌≤◌, inl, inr, ℕ, zero, suc, ◌+◌, ◌*◌, ◌/◌, ◌==◌, cond, List, [], ◌∷◌, length, map, get_or, refl, ap, arith, sum_by}
+use Rattle.std.proofs.lemmas.Bool.{eq-eqb}
 use Rattle.std.proofs.lemmas.List.Sums.{sum_by-cons}
 use Rattle.std.specs.List.{All}
 use Rattle.game_model.specs.declared.game.Edge.{Edge}
@@ -8,7 +9,7 @@ use Rattle.distributions.specs.Parts.{Denotes, weighted, weight_to}
 use Rattle.tra_reader.specs.declared.line.Transition.{Transition}
 use Rattle.tra_reader.specs.Choices.{part_of}
 use Rattle.tra_reader.specs.Answers.{LeadsInside}
-use Rattle.tra_reader.proofs.Decisions.{cases_lt, below_ne, eq_test}
+use Rattle.tra_reader.proofs.Decisions.{cases_lt, below_ne}
 
 at_least : {X : Type 0} (f : X → ℕ) (xs : List X) (i : ℕ) (d : X) → i < length xs → f (get_or xs i d) ≤ sum_by f xs
 at_least f [] i d h = absurd (omega arith)
@@ -36,7 +37,7 @@ inside n ts d is all i e h = elim (cases_lt (get_or d.edges i e).to n) [
       let to : ℕ = (get_or d.edges i e).to in
       let weight = λ (edge : Edge). cond (edge.to == to) edge.weight 0 in
       let heavy : 1 ≤ (get_or d.edges i e).weight = is.weighty i e h in
-      let mine : weight (get_or d.edges i e) ≡ (get_or d.edges i e).weight = ap (λ b. cond b (get_or d.edges i e).weight 0) (eq_test to to refl) in
+      let mine : weight (get_or d.edges i e) ≡ (get_or d.edges i e).weight = ap (λ b. cond b (get_or d.edges i e).weight 0) (eq-eqb to to refl) in
       let most : weight (get_or d.edges i e) ≤ weight_to d.edges to = at_least weight d.edges i e h in
       absurd (omega (arith, heavy, mine, most, is.weights to, no_weight is.common n to ts all ge))
 ]

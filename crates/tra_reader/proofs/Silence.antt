@@ -1,5 +1,6 @@
 -- Rows without an action.
 use Rattle.std.proofs.Common.{◌≡◌, ◌∙◌, ◌<◌, ◌+◌, inl, inr, ℕ, ◌==◌, not, Bool, false, cond, List, [], ◌∷◌, ◌++◌, length, take, get_or, option_map, slice_get, refl, ap, ap₂, sym}
+use Rattle.std.proofs.lemmas.Bool.{cases_Bool}
 use Rattle.std.proofs.lemmas.List.{take_more}
 use Rattle.std.specs.List.{filter}
 use Rattle.std.specs.Option.{option_map_or}
@@ -10,7 +11,6 @@ use Rattle.tra_reader.specs.Text.{transitions}
 use Rattle.tra_reader.specs.Order.{has}
 use Rattle.tra_reader.specs.Answers.{row_place, clashes_at}
 use Rattle.tra_reader.specs.Noted.{AreSilent, silent_rows}
-use Rattle.tra_reader.proofs.Decisions.{bool_cases}
 
 abbrev pub with_action : Transition → List ℕ → Row
 with_action transition action = record { transition = transition; action = action }
@@ -31,7 +31,7 @@ differs a rows = option_map_or (λ f. not (bytes_eq f a)) (option_map (λ (row :
 
 agree : (rows : List Row) (q : ℕ) (a : List ℕ) → AreSilent rows → a ≡ [] → differs a (filter (has row_place q) rows) ≡ false
 agree [] q a are none = refl
-agree (b ∷ rows) q a are none = elim (bool_cases (row_place b == q)) [
+agree (b ∷ rows) q a are none = elim (cases_Bool (row_place b == q)) [
   | inl e ↦ ap (λ v. differs a (cond v (b ∷ filter (has row_place q) rows) (filter (has row_place q) rows))) e ∙ same b.action a are.0 none
   | inr e ↦ ap (λ v. differs a (cond v (b ∷ filter (has row_place q) rows) (filter (has row_place q) rows))) e ∙ agree rows q a are.1 none
 ]

@@ -1,6 +1,6 @@
 -- The choices of the states that are made are those that transitions come to, and the other way round.
 use Rattle.std.proofs.Common.{◌≡◌, ◌∙◌, ◌<◌, ◌≤◌, ◌⊎◌, inl, inr, ℕ, zero, suc, ◌==◌, nat_lt, Bool, true, false, cond, List, [], ◌∷◌, ◌++◌, length, map, get_or, take, Option, Some, None, option_map, Result, Ok, Err, refl, sym, ap, ap₂, subst, arith, add-one}
-use Rattle.std.proofs.lemmas.Bool.{cases_eq}
+use Rattle.std.proofs.lemmas.Bool.{cases_eq, eqb-true, eq-eqb, ne_eqb}
 use Rattle.std.proofs.lemmas.List.{length_push, get_or_append_left, get_or_push, take_more}
 use Rattle.std.proofs.Math.Seq.{take-length}
 use Rattle.std.specs.Option.{option_or, ForSome}
@@ -17,7 +17,7 @@ use Rattle.tra_reader.specs.declared.fault.TraFault.{TraFault}
 use Rattle.tra_reader.specs.Faults.{fault_of_all}
 use Rattle.tra_reader.specs.Choices.{transitions_of, part_of, parts_of, HasChoices, IsState, self_loop, sum_of_first, choice_end, least_missing, first_gap, first_crowded, of_state, then_push, choice_at, choices_said, state_said, states_said, unless_gap, unless_crowded, if_as_stated, transitions_game}
 use Rattle.tra_reader.specs.Lines.{is_of}
-use Rattle.tra_reader.proofs.Decisions.{chosen, cases_lt, ge_from, ge_test, is_eq, eq_test, ne_test}
+use Rattle.tra_reader.proofs.Decisions.{chosen, cases_lt, ge_from, ge_test}
 use Rattle.tra_reader.proofs.Ends.{end_is, end_none, all_there, none_missing, no_gap}
 
 -- what the parts of a choice say is what they denote
@@ -95,7 +95,7 @@ pub state_found : ChoicesFound → (ts : List Transition) (s : ℕ) (choices : L
 state_found found ts s choices fractions full few e =
     elim (chosen (choice_end ts s == 0) (Ok (self_loop s ∷ [])) (choices_said ts s (choice_end ts s)) (Ok choices) e) [
       | inl none ↦
-          let nought : choice_end ts s ≡ 0 = is_eq (choice_end ts s) 0 none.0 in
+          let nought : choice_end ts s ≡ 0 = eqb-true (choice_end ts s) 0 none.0 in
           record {
             has = has;
             few = few;
@@ -118,7 +118,7 @@ state_found found ts s choices fractions full few e =
     has = record { there = all_there ts s (choice_end ts s) full; no_more = λ k h. end_none ts s k h }
 
     not_nought : (n : ℕ) → (n == 0) ≡ false → n ≡ 0 → ⊥
-    not_nought n e z = let same : (n == 0) ≡ true = eq_test n 0 z in cc
+    not_nought n e z = let same : (n == 0) ≡ true = eq-eqb n 0 z in cc
 
 end_of : (ts : List Transition) (s count : ℕ) → HasChoices ts s count → choice_end ts s ≡ count
 end_of ts s count has = end_is ts s count (record { none = has.no_more; last = λ k e. has.there k (omega (arith, e)) })
@@ -133,12 +133,12 @@ state_again again ts s count choices fractions is =
   where
     by_count : (0 < count) ⊎ (count ≤ 0) → cond (count == 0) (Ok (self_loop s ∷ [])) (choices_said ts s count) ≡ Ok choices
     by_count (inl some) =
-        ap (λ b. cond b (Ok (self_loop s ∷ [])) (choices_said ts s count)) (ne_test count 0 (λ z. omega (arith, z, some)))
+        ap (λ b. cond b (Ok (self_loop s ∷ [])) (choices_said ts s count)) (ne_eqb count 0 (λ z. omega (arith, z, some)))
         ∙ choices_again ts s count choices (omega (arith, is.as_many some)) (λ k h. again (parts_of ts s k) (get_or choices k no_distribution) (fractions_of ts s k fractions) (is.made k h))
         ∙ ap (λ m. Ok (take m choices)) (sym (is.as_many some)) ∙ ap (λ ds. Ok ds) (take-length choices)
     by_count (inr none) =
         let nought : count ≡ 0 = omega (arith, none) in
-        ap (λ b. cond b (Ok (self_loop s ∷ [])) (choices_said ts s count)) (eq_test count 0 nought) ∙ ap (λ ds. Ok ds) (sym (is.alone nought))
+        ap (λ b. cond b (Ok (self_loop s ∷ [])) (choices_said ts s count)) (eq-eqb count 0 nought) ∙ ap (λ ds. Ok ds) (sym (is.alone nought))
 
 pub states_found : (ts : List Transition) (n : ℕ) (game : List (List Distribution)) → states_said ts n ≡ Ok game → (length game ≡ n) × ((s : ℕ) → s < n → state_said ts s ≡ Ok (choices_of game s))
 states_found ts zero game e = let none : [] ≡ game = cc in (sym (ap length none), λ s h. absurd (omega (arith, h)))
@@ -205,7 +205,7 @@ stated_found : (stated : Option ℕ) (read : ℕ) (said : Result (List (List Dis
 stated_found None read said game e = (λ c is. cc, e)
 stated_found (Some c) read said game e = elim (chosen (read == c) said (Err (fault_of_all (ChoiceCount read c))) (Ok game) e) [
   | inr other ↦ cc other.1
-  | inl same ↦ (λ d is. let eq : read ≡ c = is_eq read c same.0 in cc, same.1)
+  | inl same ↦ (λ d is. let eq : read ≡ c = eqb-true read c same.0 in cc, same.1)
 ]
 
 pub game_found : (ts : List Transition) (n : ℕ) (stated : Option ℕ) (game : List (List Distribution)) → transitions_game ts n stated ≡ Ok game → MakesGame ts n stated game
@@ -224,4 +224,4 @@ game_again ts n stated game is = ap₂ (λ g c. unless_gap g (unless_crowded c (
   where
     by_stated : (stated : Option ℕ) → ForSome stated (λ c. sum_of_first (choice_end ts) n ≡ c) → if_as_stated stated (sum_of_first (choice_end ts) n) (states_said ts n) ≡ states_said ts n
     by_stated None as_stated = refl
-    by_stated (Some c) as_stated = ap (λ b. cond b (states_said ts n) (Err (fault_of_all (ChoiceCount (sum_of_first (choice_end ts) n) c)))) (eq_test (sum_of_first (choice_end ts) n) c (as_stated c refl))
+    by_stated (Some c) as_stated = ap (λ b. cond b (states_said ts n) (Err (fault_of_all (ChoiceCount (sum_of_first (choice_end ts) n) c)))) (eq-eqb (sum_of_first (choice_end ts) n) c (as_stated c refl))

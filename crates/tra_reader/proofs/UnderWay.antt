@@ -1,5 +1,6 @@
 -- The action of a choice that is under way, and that of one that begins.
 use Rattle.std.proofs.Common.{◌≡◌, ◌∙◌, ◌<◌, ◌≤◌, ℕ, zero, suc, not, Bool, true, false, IsTrue, ◌↔◌, cond, List, [], ◌∷◌, ◌++◌, length, Option, Some, None, option_map, slice_get, refl, sym, ap, arith}
+use Rattle.std.proofs.lemmas.Bool.{eq-eqb}
 use Rattle.std.proofs.lemmas.List.{length_push, same_from_push}
 use Rattle.std.specs.List.{filter, All}
 use Rattle.std.specs.Option.{option_map_or}
@@ -12,7 +13,7 @@ use Rattle.tra_reader.specs.Order.{has, transition_place}
 use Rattle.tra_reader.specs.Answers.{row_place, action_at}
 use Rattle.tra_reader.specs.GrowingGames.{Growing, HoldsInOrder, place_under_way}
 use Rattle.tra_reader.specs.Kept.{KeepsAction, Compares}
-use Rattle.tra_reader.proofs.Decisions.{below_ne, eq_test}
+use Rattle.tra_reader.proofs.Decisions.{below_ne}
 use Rattle.tra_reader.proofs.Noting.{noted_stays, newly_noted}
 
 -- no row stands at a place above all
@@ -45,7 +46,7 @@ same_choice rows row place kept clash at noted is =
 new_choice : (rows : List Row) (row : Row) (kept : List ℕ) → kept ≡ row.action → action_at rows (row_place row) ≡ None → Compares kept rows row false
 new_choice rows row kept is none = record {
   is = sym (ap (λ o. compared row o) none);
-  first = newly_noted rows row (row_place row) none ∙ ap (λ b. cond b (Some row.action) (action_at rows (row_place row))) (eq_test (row_place row) (row_place row) refl) ∙ ap (λ a. Some a) (sym is);
+  first = newly_noted rows row (row_place row) none ∙ ap (λ b. cond b (Some row.action) (action_at rows (row_place row))) (eq-eqb (row_place row) (row_place row) refl) ∙ ap (λ a. Some a) (sym is);
 }
 
 -- a row behind the choice under way

@@ -1,5 +1,6 @@
 -- One choice more is whole, and one state more.
 use Rattle.std.proofs.Common.{◌≡◌, ◌∙◌, ◌<◌, ◌≤◌, inl, inr, ℕ, zero, suc, ◌+◌, cond, List, [], ◌∷◌, ◌++◌, length, Option, None, Some, Ok, Err, refl, sym, ap, ap₂, subst, arith, add-one, add-zero}
+use Rattle.std.proofs.lemmas.Bool.{eq-eqb, ne_eqb}
 use Rattle.std.proofs.lemmas.List.{length-map, length_push, nil_from_length}
 use Rattle.std.proofs.lemmas.List.Elements.{All-cons, All-filter, All-push, All-weaker}
 use Rattle.std.specs.List.{All}
@@ -23,7 +24,7 @@ use Rattle.tra_reader.specs.Choices.{transitions_of, part_of, parts_of, choice_e
 use Rattle.tra_reader.specs.Order.{IsWithin}
 use Rattle.tra_reader.specs.Answers.{LeadsInside}
 use Rattle.tra_reader.specs.GrowingGames.{AreCounted, AreDrafted, HaveFault, IsMade, IsBuilt, IsChoiceFault, progress_of, ended}
-use Rattle.tra_reader.proofs.Decisions.{cases_lt, lt_test, ge_test, eq_test, ne_test}
+use Rattle.tra_reader.proofs.Decisions.{cases_lt, lt_test, ge_test}
 use Rattle.tra_reader.proofs.Ends.{end_is, none_missing, no_gap}
 use Rattle.tra_reader.proofs.Inside.{inside}
 
@@ -132,7 +133,7 @@ drafted_state n ts s k draft choices is are = record {
 -- a state without a choice
 alone : (n : ℕ) (ts : List Transition) (s : ℕ) → s < n → choice_end ts s ≡ 0 → AreChoices n ts s (self_loop s ∷ [])
 alone n ts s h end = record {
-  said = ap (λ b. cond b (Ok (self_loop s ∷ [])) (choices_said ts s (choice_end ts s))) (eq_test (choice_end ts s) 0 end);
+  said = ap (λ b. cond b (Ok (self_loop s ∷ [])) (choices_said ts s (choice_end ts s))) (eq-eqb (choice_end ts s) 0 end);
   some = omega arith;
   few = omega arith;
   leads = All-cons (LeadsInside n) (self_loop s) [] (All-cons (λ e. e.to < n) (record { to = s; weight = 1 }) [] h (λ k d g. absurd (omega (arith, g)))) (λ k d g. absurd (omega (arith, g)));
@@ -141,7 +142,7 @@ alone n ts s h end = record {
 -- a state with choices has the first so many
 state_of_first : (ts : List Transition) (s m : ℕ) → choice_end ts s ≡ m → 0 < m → state_said ts s ≡ choices_said ts s m
 state_of_first ts s m end some =
-    ap (λ b. cond b (Ok (self_loop s ∷ [])) (choices_said ts s (choice_end ts s))) (ne_test (choice_end ts s) 0 (λ z. omega (arith, z, end, some)))
+    ap (λ b. cond b (Ok (self_loop s ∷ [])) (choices_said ts s (choice_end ts s))) (ne_eqb (choice_end ts s) 0 (λ z. omega (arith, z, end, some)))
     ∙ ap (λ k. choices_said ts s k) end
 
 -- a state with choices
@@ -157,12 +158,12 @@ ended_state : (n : ℕ) (ts : List Transition) (s k : ℕ) (draft : Draft) → s
 ended_state n ts s k draft h end few are = elim (cases_lt 0 k) [
   | inl some ↦
       let P : Draft → Type 0 = λ new. AreDrafted n ts (s + 1) 0 new in
-      subst P (sym (ap (λ b. cond b (with_state (with_choice draft (self_loop s))) (with_state draft)) (ne_test k 0 (λ e. omega (arith, e, some))))) (drafted_state n ts s k draft draft.under_way (with_some n ts s k draft end some few are) are)
+      subst P (sym (ap (λ b. cond b (with_state (with_choice draft (self_loop s))) (with_state draft)) (ne_eqb k 0 (λ e. omega (arith, e, some))))) (drafted_state n ts s k draft draft.under_way (with_some n ts s k draft end some few are) are)
   | inr none ↦
       let P : Draft → Type 0 = λ new. AreDrafted n ts (s + 1) 0 new in
       let nought : k ≡ 0 = omega (arith, none) in
       let empty : draft.under_way ≡ [] = nil_from_length draft.under_way (are.as_many_under_way ∙ nought) in
-      subst P (sym (ap (λ b. cond b (with_state (with_choice draft (self_loop s))) (with_state draft)) (eq_test k 0 nought) ∙ ap (λ (ds : List Distribution). between (draft.done ++ (ds ++ self_loop s ∷ []) ∷ [])) empty))
+      subst P (sym (ap (λ b. cond b (with_state (with_choice draft (self_loop s))) (with_state draft)) (eq-eqb k 0 nought) ∙ ap (λ (ds : List Distribution). between (draft.done ++ (ds ++ self_loop s ∷ []) ∷ [])) empty))
       (drafted_state n ts s k draft (self_loop s ∷ []) (alone n ts s h (end ∙ nought)) are)
 ]
 

@@ -3,7 +3,7 @@ use Rattle.std.proofs.Common.{◌≡◌, ◌⊎◌, ℕ, zero, suc, ◌*◌, ◌
 use Rattle.std.specs.List.{AllByRecursion, list_any, list_all}
 use Rattle.std.specs.Prelude.{slice_index_or, slice_set, ◌||◌, ◌&&◌}
 use Rattle.std.specs.Bool.{if◌then◌else◌}
-use Rattle.std.proofs.lemmas.Bool.{cases_eq}
+use Rattle.std.proofs.lemmas.Bool.{cases_eq, or_cases, or_parts, and_parts, and_cases}
 use Rattle.std.proofs.lemmas.List.{get_or-set_other, get_or-map, length-map}
 use Rattle.std.proofs.Math.Nat.{one-le-pow, one-le-mul}
 use Rattle.game_model.specs.declared.game.Edge.{Edge}
@@ -20,41 +20,25 @@ use Rattle.game_model.proofs.Rises.{numerator_of-rises}
 use Rattle.game_laws.proofs.Positive.{optimum-positive, marked-at-least, scaled-pos}
 use Rattle.zero_sets.specs.Attractor.{meets, attracts, is_attracted, IsReached, IsClosed, IsAttractor}
 
-or-true : (a b : Bool) → (a || b) ≡ true → (a ≡ true) ⊎ (b ≡ true)
-or-true true b h = inl refl
-or-true false b h = inr h
-
-or-false : (a b : Bool) → (a || b) ≡ false → (a ≡ false) × (b ≡ false)
-or-false true b h = absurd (cc)
-or-false false b h = (refl, h)
-
-and-true : (a b : Bool) → (a && b) ≡ true → (a ≡ true) × (b ≡ true)
-and-true true b h = (refl, h)
-and-true false b h = absurd (cc)
-
-and-false : (a b : Bool) → (a && b) ≡ false → (a ≡ false) ⊎ (b ≡ false)
-and-false true b h = inr h
-and-false false b h = inl refl
-
 -- what a test of a list says of its elements
 pub any-place : {X : Type 0} (p : X → Bool) (xs : List X) (d : X) → list_any p xs ≡ true → (i : ℕ) × (i < length xs) × (p (get_or xs i d) ≡ true)
 any-place p [] d h = absurd (cc)
-any-place p (x ∷ xs) d h = elim (or-true (p x) (list_any p xs) h) [
+any-place p (x ∷ xs) d h = elim (or_cases (p x) (list_any p xs) h) [
   | inl here ↦ (zero, omega arith, here)
   | inr later ↦ let rest : (i : ℕ) × (i < length xs) × (p (get_or xs i d) ≡ true) = any-place p xs d later in (suc rest.0, omega (arith, rest.1), rest.2)
 ]
 
 pub any-none : {X : Type 0} (p : X → Bool) (xs : List X) → list_any p xs ≡ false → AllByRecursion (λ x. p x ≡ false) xs
 any-none p [] h = tt
-any-none p (x ∷ xs) h = let both : (p x ≡ false) × (list_any p xs ≡ false) = or-false (p x) (list_any p xs) h in (both.0, any-none p xs both.1)
+any-none p (x ∷ xs) h = let both : (p x ≡ false) × (list_any p xs ≡ false) = or_parts (p x) (list_any p xs) h in (both.0, any-none p xs both.1)
 
 pub all-each : {X : Type 0} (p : X → Bool) (xs : List X) → list_all p xs ≡ true → AllByRecursion (λ x. p x ≡ true) xs
 all-each p [] h = tt
-all-each p (x ∷ xs) h = let both : (p x ≡ true) × (list_all p xs ≡ true) = and-true (p x) (list_all p xs) h in (both.0, all-each p xs both.1)
+all-each p (x ∷ xs) h = let both : (p x ≡ true) × (list_all p xs ≡ true) = and_parts (p x) (list_all p xs) h in (both.0, all-each p xs both.1)
 
 pub all-place : {X : Type 0} (p : X → Bool) (xs : List X) (d : X) → list_all p xs ≡ false → (i : ℕ) × (i < length xs) × (p (get_or xs i d) ≡ false)
 all-place p [] d h = absurd (cc)
-all-place p (x ∷ xs) d h = elim (and-false (p x) (list_all p xs) h) [
+all-place p (x ∷ xs) d h = elim (and_cases (p x) (list_all p xs) h) [
   | inl here ↦ (zero, omega arith, here)
   | inr later ↦ let rest : (i : ℕ) × (i < length xs) × (p (get_or xs i d) ≡ false) = all-place p xs d later in (suc rest.0, omega (arith, rest.1), rest.2)
 ]

@@ -1,5 +1,6 @@
 -- Choices that meet a set, and states that a set draws in.
 use Rattle.std.proofs.Common.{◌≡◌, ◌⊎◌, ℕ, ◌<◌, Bool, true, false, List, [], ◌∷◌, length, map, get_or, arith, refl, sym, ap, ◌∙◌, inl, inr, ◌||◌}
+use Rattle.std.proofs.lemmas.Bool.{cases_Bool}
 use Rattle.std.specs.Prelude.{slice_index_or, Contains}
 use Rattle.std.specs.Bool.{if◌then◌else◌}
 use Rattle.std.specs.List.{list_any, list_all}
@@ -11,10 +12,6 @@ use Rattle.game_model.specs.Game.{Distribution, IsGame, no_edge, no_distribution
 use Rattle.game_model.specs.Query.{Query, is_goal, is_dead, side_at}
 use Rattle.zero_sets.specs.Attractor.{meets, attracts, is_attracted}
 use Rattle.zero_sets.proofs.Attracting.{any-place, all-place}
-
-pub either : (b : Bool) → (b ≡ true) ⊎ (b ≡ false)
-either true = inl refl
-either false = inr refl
 
 -- a choice meets a set by a successor in it
 pub meets-at : (set : List Bool) (m : Distribution) (u : ℕ) → Contains (destinations m.edges) u → slice_index_or set u false ≡ true → meets set m ≡ true
@@ -53,7 +50,7 @@ pub drawn-by-one : (q : Query) (set : List Bool) (s c : ℕ) → is_dead q s ≡
 drawn-by-one q set s c alive is_side l meet = drawn-by-some q set s alive is_side (list_any_at (meets set) (choices_of q.game s) c no_distribution l meet)
 
 all-meet : (set : List Bool) (choices : List Distribution) → ((c : ℕ) → c < length choices → meets set (get_or choices c no_distribution) ≡ true) → list_all (meets set) choices ≡ true
-all-meet set choices each = elim (either (list_all (meets set) choices)) [
+all-meet set choices each = elim (cases_Bool (list_all (meets set) choices)) [
   | inl holds ↦ holds
   | inr fails ↦
       let one : (c : ℕ) × (c < length choices) × (meets set (get_or choices c no_distribution) ≡ false) = all-place (meets set) choices no_distribution fails in
@@ -68,7 +65,7 @@ drawn-by-all q set s alive is_side each =
 
 -- a state of the maximiser is left by no choice that meets the set, and one of the minimiser by one that does not
 none-meet : (set : List Bool) (choices : List Distribution) → ((c : ℕ) → c < length choices → meets set (get_or choices c no_distribution) ≡ true → ⊥) → list_any (meets set) choices ≡ false
-none-meet set choices none = elim (either (list_any (meets set) choices)) [
+none-meet set choices none = elim (cases_Bool (list_any (meets set) choices)) [
   | inl holds ↦ let one : (c : ℕ) × (c < length choices) × (meets set (get_or choices c no_distribution) ≡ true) = any-place (meets set) choices no_distribution holds in absurd (none one.0 one.1 one.2)
   | inr fails ↦ fails
 ]
@@ -80,7 +77,7 @@ pub left-by-none : (q : Query) (set : List Bool) (s : ℕ) → side_at q s ≡ M
 left-by-none q set s is_side none = ap (λ side. attracts side set (choices_of q.game s)) is_side ∙ none-meet set (choices_of q.game s) none
 
 pub left-by-one : (q : Query) (set : List Bool) (s c : ℕ) → side_at q s ≡ Min → c < length (choices_of q.game s) → (meets set (choice_of q.game s c) ≡ true → ⊥) → attracts (side_at q s) set (choices_of q.game s) ≡ false
-left-by-one q set s c is_side l unmet = ap (λ side. attracts side set (choices_of q.game s)) is_side ∙ (elim (either (meets set (choice_of q.game s c))) [
+left-by-one q set s c is_side l unmet = ap (λ side. attracts side set (choices_of q.game s)) is_side ∙ (elim (cases_Bool (meets set (choice_of q.game s c))) [
   | inl holds ↦ absurd (unmet holds)
   | inr fails ↦ list_all_at (meets set) (choices_of q.game s) c no_distribution l fails
 ])

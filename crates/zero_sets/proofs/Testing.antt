@@ -2,7 +2,7 @@
 use Rattle.std.proofs.Common.{◌≡◌, ◌≢◌, ℕ, suc, ◌+◌, ◌<◌, Bool, true, false, List, [], ◌∷◌, length, get_or, set, take, arith, refl, sym, ap, ◌∙◌, subst, inl, inr}
 use Rattle.std.specs.Prelude.{slice_index, slice_index_or, Contains}
 use Rattle.std.specs.List.{list_any}
-use Rattle.std.proofs.lemmas.Bool.{cases_eq}
+use Rattle.std.proofs.lemmas.Bool.{cases_eq, cases_Bool}
 use Rattle.std.proofs.lemmas.List.{take_all, take-append-le, get_or_default}
 use Rattle.std.proofs.lemmas.List.Folds.{list_any_at}
 use Rattle.std.proofs.lemmas.List.Elements.{Contains-append_cases}
@@ -14,17 +14,17 @@ use Rattle.predecessors.specs.Moves.{move, LeadsTo}
 use Rattle.predecessors.specs.Lists.{ArePredecessors}
 use Rattle.zero_sets.specs.Attractor.{meets}
 use Rattle.zero_sets.specs.Growing.{moves_into, IsOrder, IsGrowth, IsLarger, IsTested}
-use Rattle.zero_sets.proofs.Meeting.{either, meets-at, meets-more}
+use Rattle.zero_sets.proofs.Meeting.{meets-at, meets-more}
 
 -- what a test of a list says of each element
 pub any-false : {X : Type 0} (p : X → Bool) (xs : List X) (i : ℕ) (d : X) → list_any p xs ≡ false → i < length xs → p (get_or xs i d) ≡ false
-any-false p xs i d none l = elim (either (p (get_or xs i d))) [
+any-false p xs i d none l = elim (cases_Bool (p (get_or xs i d))) [
   | inl holds ↦ let some : list_any p xs ≡ true = list_any_at p xs i d l holds in absurd (cc)
   | inr fails ↦ fails
 ]
 
 smaller-misses : (set more : List Bool) (m : Distribution) → IsLarger set more → meets more m ≡ false → meets set m ≡ false
-smaller-misses set more m larger misses = elim (either (meets set m)) [
+smaller-misses set more m larger misses = elim (cases_Bool (meets set m)) [
   | inl meet ↦ let too : meets more m ≡ true = meets-more set more m larger meet in absurd (cc)
   | inr not_ ↦ not_
 ]
@@ -51,7 +51,7 @@ tested-more q old members members' awaited awaited' t larger grown before others
   | inl same ↦
       subst (λ u. slice_index_or members' u false ≡ false → is_dead q u ≡ false → IsTested q old awaited' u) (sym same) (λ out' alive'. IsTested-smaller q old members awaited' t larger (here out' alive')) out alive
   | inr other ↦
-      let was_out : slice_index_or members s false ≡ false = elim (either (slice_index_or members s false)) [
+      let was_out : slice_index_or members s false ≡ false = elim (cases_Bool (slice_index_or members s false)) [
         | inl member ↦ let still : slice_index_or members' s false ≡ true = grown s member in absurd (cc)
         | inr left ↦ left
       ] in
