@@ -1,4 +1,4 @@
--- A report on a problem is no longer than a text may be.
+-- A report is no longer than a text may be.
 use Rattle.std.proofs.Common.{◌<◌, ◌≤◌, ◌+◌, ◌*◌, ◌^◌, ℕ, Bool, true, false, List, ◌++◌, length, map, ap, arith}
 use Rattle.std.specs.Prelude.{All, codes, decimal}
 use Rattle.std.proofs.lemmas.List.{length-append, length-map}
@@ -19,11 +19,10 @@ use Rattle.command_words.specs.Words.{Check}
 use Rattle.run_answers.specs.declared.status.Status.{Status}
 use Rattle.run_answers.specs.Outputs.{certificate_part, AreEntriesInLimits}
 use Rattle.run_answers.specs.Printed.{line_at, line_by, certificate_of}
-use Rattle.asked_files.specs.Problems.{Problem, OfUntil, OfWithin, OfNext, OfAlways, OfNested, initial_of, answered}
+use Rattle.asked_files.specs.Problems.{answered}
 use Rattle.question_reports.specs.Reports.{IsReport}
 use Rattle.question_reports.specs.Sweeps.{IsSweepReport}
 use Rattle.question_reports.specs.Nested.{IsNestedReport, inside_text}
-use Rattle.question_reports.specs.Problems.{IsReportOn}
 use Rattle.run_answers.proofs.ShortLines.{entry_bytes, line_bytes, joined-short, decimal-short, report-short, certificate-short}
 use Rattle.run_answers.proofs.ShortSpellings.{most_spelled}
 
@@ -44,7 +43,7 @@ part-short true f plan small are =
 lines-short : (initial : List ℕ) (line : ℕ → ReportLine) → length initial ≤ most_states → All IsLine (map line initial) → length (report (map line initial)) ≤ line_bytes * most_states
 lines-short initial line few are = omega (arith, few, length-map initial line, report-short (map line initial) are)
 
-report-text-short : (q : Query) (initial : List ℕ) (f : Tree) (check : Check) (text : List ℕ) (status : Status) → length initial ≤ most_states → length (spelling (answered f)) ≤ most_spelled
+pub report-text-short : (q : Query) (initial : List ℕ) (f : Tree) (check : Check) (text : List ℕ) (status : Status) → length initial ≤ most_states → length (spelling (answered f)) ≤ most_spelled
     → IsReport q initial f check text status → length text ≤ most_bytes
 report-text-short q initial f check text status few small r =
     let lines = map (line_by f (Rounds r.found.rounds) r.plan.lower.items r.plan.upper.items) initial in
@@ -57,7 +56,7 @@ report-text-short q initial f check text status few small r =
       part-short check.plan f r.plan small r.limits.entries,
     )
 
-sweep-text-short : (q : Query) (opening : ℕ → ℕ) (steps : ℕ) (numerators : ℕ → ℕ) (initial : List ℕ) (f : Tree) (text : List ℕ) (status : Status) → length initial ≤ most_states
+pub sweep-text-short : (q : Query) (opening : ℕ → ℕ) (steps : ℕ) (numerators : ℕ → ℕ) (initial : List ℕ) (f : Tree) (text : List ℕ) (status : Status) → length initial ≤ most_states
     → IsSweepReport q opening steps numerators initial f text status → length text ≤ most_bytes
 sweep-text-short q opening steps numerators initial f text status few r =
     omega (arith, ap (λ (t : List ℕ). length t) r.written, lines-short initial (line_at false f.bound (Steps steps) r.lower r.upper) few r.lines)
@@ -68,7 +67,7 @@ inside-short inner undecided one other =
     joined-short 16 22 (codes "inner " ++ decimal inner) _ (joined-short 6 10 (codes "inner ") (decimal inner) (omega arith) (decimal-short inner (omega (arith, one))))
     (joined-short 21 1 (codes " undecided " ++ decimal undecided) (codes "\n") (joined-short 11 10 (codes " undecided ") (decimal undecided) (omega arith) (decimal-short undecided (omega (arith, other)))) (omega arith))
 
-nested-text-short : (m : Model) (initial : List ℕ) (f : Tree) (asked : ℕ) (text : List ℕ) (status : Status) → length initial ≤ most_states → IsNestedReport m initial f asked text status → length text ≤ most_bytes
+pub nested-text-short : (m : Model) (initial : List ℕ) (f : Tree) (asked : ℕ) (text : List ℕ) (status : Status) → length initial ≤ most_states → IsNestedReport m initial f asked text status → length text ≤ most_bytes
 nested-text-short m initial f asked text status few r =
     let lines = map (line_at false f.bound r.how r.band.lower r.band.upper) initial in
     omega (
@@ -78,11 +77,3 @@ nested-text-short m initial f asked text status few r =
       inside-short r.inner r.undecided r.counts.0 r.counts.1,
       lines-short initial (line_at false f.bound r.how r.band.lower r.band.upper) few r.lines,
     )
-
-pub problem-short : (problem : Problem) (f : Tree) (check : Check) (text : List ℕ) (status : Status) → length (initial_of problem) ≤ most_states → length (spelling (answered f)) ≤ most_spelled
-    → IsReportOn problem f check text status → length text ≤ most_bytes
-problem-short (OfUntil p) f check text status few small r = report-text-short p.question p.initial f check text status few small r
-problem-short (OfAlways p) f check text status few small r = report-text-short p.question p.initial f check text status few small r
-problem-short (OfWithin k p) f check text status few small r = sweep-text-short _ _ _ _ p.initial f text status few r
-problem-short (OfNext p) f check text status few small r = sweep-text-short _ _ _ _ p.initial f text status few r
-problem-short (OfNested m initial) f check text status few small r = nested-text-short m initial f check.rounds text status few r

@@ -17,6 +17,7 @@ ghost use Rattle.run_answers.specs.Status.{IsAnswer};
 
 use bracket_engine::{Bracket, bracket_for};
 use command_words::CheckWords;
+use formula_sets::Posed;
 use game_model::Question;
 use game_outside::{Gate, OutOfMemory};
 use plan_text::{Plan, append, append_plan};
@@ -32,39 +33,41 @@ use verdicts::laws::{
     undecided_thresholds_are_left_open, verdicts_are_true,
 };
 
-/// A formula as the words spell it, and the one whose question is answered: of `G` the dual, else the same.
+// A formula as the words spell it, and the one whose question is answered: of `G` the dual, else the same.
 #[derive(Clone, Copy)]
-pub struct Formulas<'a> {
-    pub spelled: &'a Formula,
-    pub answered: &'a Formula,
+struct Formulas<'a> {
+    spelled: &'a Formula,
+    answered: &'a Formula,
 }
 
 /// One line for each initial state, with the bounds after at most the asked rounds and what they say of the formula's bound;
 /// the upper ones lowered to the best exits of traps, where that is asked for; and behind them the certificate, where it is
-/// asked for. The only error is want of memory.
-pub fn report<R: Threads + Sync, G: Gate + Sync>(
+/// asked for. The question is that of the answered formula: of `G` the dual, else the same. The only error is want of memory.
+pub fn bracket_report<R: Threads + Sync, G: Gate + Sync>(
     rt: &R,
     alloc: Global,
-    question: &Question,
-    initial: &[u32],
-    formulas: Formulas<'_>,
+    posed: &Posed<'_>,
+    spelled: &Formula,
+    answered: &Formula,
     check: &CheckWords<'_>,
     gate: &G,
 ) -> Result<Answer, OutOfMemory>
-    requires inside { All (λ s. s < states question.now) initial.now }
+    requires inside { All (λ s. s < states posed.now.question) posed.now.initial.items }
     requires in_range { AreInRange (check_of check.now) }
-    requires same { tree_of formulas.answered.now ≡ answered_of (tree_of formulas.spelled.now) }
-    requires share { IsAtMostOne formulas.spelled.now.bound }
-    ensures report { IfOk result (λ answer. IsReport question.now initial.now (tree_of formulas.entry.spelled.now) (check_of check.now) answer.text.items answer.status) }
+    requires same { tree_of answered.now ≡ answered_of (tree_of spelled.now) }
+    requires share { IsAtMostOne spelled.now.bound }
+    ensures report { IfOk result (λ answer. IsReport posed.now.question posed.now.initial.items (tree_of spelled.now) (check_of check.now) answer.text.items answer.status) }
     ensures answer { IfOk result (λ answer. IsAnswer answer.status) }
 {
+    let question = &posed.question;
+    let initial: &[u32] = &posed.initial;
     let predecessors = Predecessors::of_game(alloc, question.game())?;
     let bracketed = bracket_for(
         rt,
         alloc,
         question,
         &predecessors,
-        formulas.answered.bound,
+        answered.bound,
         initial,
         check.rounds,
         check.workers,
@@ -78,6 +81,7 @@ pub fn report<R: Threads + Sync, G: Gate + Sync>(
     mirrored_verdicts_are_those_of_the_dual();
     let found = bracketed.bracket;
     let how = How::Rounds(found.rounds);
+    let formulas = Formulas { spelled, answered };
     let plan = shown(alloc, question, &predecessors, check.traps, found)?;
     make_answer(alloc, &plan, how, formulas, initial, check.plan)
 }

@@ -1,10 +1,10 @@
 -- The answer to a command that asks a question, from what its parts answered.
-use Rattle.std.proofs.Common.{◌≡◌, ◌<◌, ◌≤◌, ◌∙◌, All, inl, inr, ℕ, Bool, true, Option, Some, None, Result, Ok, Err, ap, subst, arith}
+use Rattle.std.proofs.Common.{◌≡◌, ◌<◌, ◌≤◌, ◌∙◌, All, inl, inr, ℕ, Bool, true, List, Option, Some, None, Result, Ok, Err, ap, subst, arith}
 use Rattle.std.specs.Prelude.{IfOk, IsErrOf}
 use Rattle.text_lines.specs.Limits.{most_bytes}
 use Rattle.game_outside.specs.Outside.{Holding}
 use Rattle.game_model.specs.Query.{states}
-use Rattle.command_words.specs.Words.{Asked, Check, Audit, Command, OfCheck, OfAudit, OfSure}
+use Rattle.command_words.specs.Words.{Asked, Check, Audit, Command, OfCheck, OfAudit, OfSure, AreCommand}
 use Rattle.run_refusals.specs.declared.refusal.Refusal.{Refusal}
 use Rattle.run_refusals.specs.declared.refusal.Refusal.TheVariants.{TooLong}
 use Rattle.asked_files.specs.declared.load.End.{End}
@@ -21,7 +21,8 @@ use Rattle.asked_files.specs.Asks.{Asks}
 use Rattle.asked_files.specs.Questions.{LacksText, PosesIt, Reads, ReadsAs, RefusesCertificate, RefusesQuestion}
 use Rattle.run_answers.specs.declared.answer.Answer.{Answer}
 use Rattle.run_answers.specs.Status.{IsAnswer}
-use Rattle.stogame_app.specs.Commands.{IsMissing, IsReportOf, ReadsFiles, RefusesIt, check_paths}
+use Rattle.stogame_app.specs.Commands.{IsMissing, ReadsFiles, RefusesIt, check_paths}
+use Rattle.stogame_app.specs.Reports.{IsReportOfWords}
 use Rattle.stogame_app.specs.Answers.{IsAnswered}
 
 -- 1. An end is the same of another answer.
@@ -100,7 +101,7 @@ module _ {S : Type 0} {held : S → Option Holding} {steady : S → Bool} {fault
       → (IsErrOf {T = X} (Err end) ReadFault → steady old ≡ true → LacksText (held old) asked) → LoadingLeaves {X = X} held steady faults took old new (Err end) → RefusesCaused {X = X} (Err end)
       → IsAnswered held steady faults took command old new (Err end)
   unloaded {X} {end} refused steadily leaves caused = record {
-    answered = tt;
+    answered = λ words denoted. tt;
     status = tt;
     refused = λ refusal is. asks.refuses (held old) refusal (reading_refuses (held old) asked paths refusal (refused refusal (same_end end (Refused refusal) is)));
     caused = same_caused X Answer end caused;
@@ -111,7 +112,7 @@ module _ {S : Type 0} {held : S → Option Holding} {steady : S → Bool} {fault
   }
 
   -- behind what was loaded nothing is asked of the shelf
-  behind : {X : Type 0} {x : X} → LoadingLeaves held steady faults took old new (Ok x) → (result : Result Answer End) → IfOk result (λ answer. IsReportOf (held old) command answer.text.items answer.status) → IfOk result (λ answer. IsAnswer answer.status)
+  behind : {X : Type 0} {x : X} → LoadingLeaves held steady faults took old new (Ok x) → (result : Result Answer End) → ((words : List (List ℕ)) → AreCommand words command → IfOk result (λ answer. IsReportOfWords words (held old) (took new) answer.text.items answer.status)) → IfOk result (λ answer. IsAnswer answer.status)
       → ((refusal : Refusal) → result ≡ Err (Refused refusal) → RefusesIt (held old) command refusal) → RefusesCaused result → (IsErrOf result ReadFault → ⊥) → (IsTooLong result → ⊥) → IsAnswered held steady faults took command old new result
   behind {X} {x} leaves result answered status refused caused read short =
       let small = answer_small x (took new) leaves.takes in
@@ -130,17 +131,17 @@ module _ {S : Type 0} {held : S → Option Holding} {steady : S → Bool} {fault
   pub unposed : {X Y : Type 0} {x : X} {end : End} {reading : Reading} (view : Y → Problem) → LoadingLeaves held steady faults took old new (Ok x) → Reads (held old) asked reading → Loads view (Err end) (posed paths reading)
       → ReadsNothing {X = Y} (Err end) → IsAnswered held steady faults took command old new (Err end)
   unposed {X} {Y} {x} {end} {reading} view leaves reads loads nothing =
-      behind leaves (Err end) tt tt (λ refusal is. asks.refuses (held old) refusal (reads.refuses paths refusal (is_refused view (posed paths reading) end refusal (same_end end (Refused refusal) is) loads)))
+      behind leaves (Err end) (λ words denoted. tt) tt (λ refusal is. asks.refuses (held old) refusal (reads.refuses paths refusal (is_refused view (posed paths reading) end refusal (same_end end (Refused refusal) is) loads)))
       (same_caused Y Answer end nothing.caused) (λ is. nothing.read (same_end end ReadFault is)) (λ long. nothing.short (long.0, same_end end (Refused (TooLong long.0)) long.1))
 
   -- where memory was wanting
   pub wanting : {X : Type 0} {x : X} → LoadingLeaves held steady faults took old new (Ok x) → IsAnswered held steady faults took command old new (Err OutOfMemory)
-  wanting leaves = behind leaves (Err OutOfMemory) tt tt (λ refusal is. absurd (cc (is))) tt (λ is. cc (is)) (λ long. cc (long.1))
+  wanting leaves = behind leaves (Err OutOfMemory) (λ words denoted. tt) tt (λ refusal is. absurd (cc (is))) tt (λ is. cc (is)) (λ long. cc (long.1))
 
   -- where there is a report
-  pub reported : {X : Type 0} {x : X} → LoadingLeaves held steady faults took old new (Ok x) → (answer : Answer) → IsReportOf (held old) command answer.text.items answer.status → IsAnswer answer.status
+  pub reported : {X : Type 0} {x : X} → LoadingLeaves held steady faults took old new (Ok x) → (answer : Answer) → ((words : List (List ℕ)) → AreCommand words command → took new ≤ most_bytes → IsReportOfWords words (held old) (took new) answer.text.items answer.status) → IsAnswer answer.status
       → IsAnswered held steady faults took command old new (Ok answer)
-  reported leaves answer report status = behind leaves (Ok answer) report status (λ refusal is. absurd (cc (is))) tt (λ is. cc (is)) (λ long. cc (long.1))
+  reported {X} {x} leaves answer report status = behind leaves (Ok answer) (λ words denoted. report words denoted (answer_small x (took new) leaves.takes)) status (λ refusal is. absurd (cc (is))) tt (λ is. cc (is)) (λ long. cc (long.1))
 
 -- 4. The certificate behind the question.
 
@@ -159,7 +160,7 @@ module _ {S X : Type 0} {held : S → Option Holding} {steady : S → Bool} {fau
       → (IsErrOf {T = Y} (Err end) ReadFault → steady middle ≡ true → IfKnown (held middle) (λ held. held audit.certificate ≡ None)) → LoadingLeaves {X = Y} held steady faults took middle new (Err end) → RefusesCaused {X = Y} (Err end)
       → IsAnswered held steady faults took (OfAudit audit) old new (Err end)
   uncertified {Y} {end} audit problem posing poses reached refused steadily rest caused = record {
-    answered = tt;
+    answered = λ words denoted. tt;
     status = tt;
     refused = λ refusal is. inr (record {
       problem = problem;

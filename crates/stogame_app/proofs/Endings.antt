@@ -18,8 +18,8 @@ use Rattle.stogame_app.specs.Status.{IsRefusal, refused_status}
 use Rattle.run_answers.specs.Status.{IsAnswer}
 use Rattle.stogame_app.specs.Commands.{ReadsFiles, RefusesIt}
 use Rattle.stogame_app.specs.Answers.{IsAnswered}
-use Rattle.stogame_app.specs.Run.{AnswersWords, AsksShelf, IsEnding, IsLong, IsOutput, IsRefusalOfWords, IsReportOfWords, RefusesWords, Writes}
-use Rattle.stogame_app.proofs.Answered.{answer_small}
+use Rattle.stogame_app.specs.Reports.{IsReportOfWords}
+use Rattle.stogame_app.specs.Run.{AnswersWords, AsksShelf, IsEnding, IsLong, IsOutput, IsRefusalOfWords, RefusesWords, Writes}
 
 -- 1. What was made for a command that the words denote.
 
@@ -49,7 +49,7 @@ reads_or_not (OfMake make) = inr (λ reads. reads)
 
 module _ {S : Type 0} {held : S → Option Holding} {steady : S → Bool} {faults took : S → ℕ} {old new : S} (words : List (List ℕ)) (command : Command) (denoted : AreCommand words command) where
   pub answers_words : (made : Result Answer End) → IsAnswered held steady faults took command old new made → AnswersWords words (held old) (took new) made
-  answers_words (Ok answer) is = record { command = command; denoted = denoted; report = is.answered; short = λ reads. answer_small answer (took new) (is.takes reads) }
+  answers_words (Ok answer) is = is.answered words denoted
   answers_words (Err end.OutOfMemory) is = tt
   answers_words (Err end.ReadFault) is =
       let reads = (is.read_fault refl).1 in

@@ -1,7 +1,7 @@
 -- What is made for a command: an answer, or why there is none.
-use Rattle.std.specs.Prelude.{◌≡◌, ℕ, Bool, true, Option, Result, Err, IfOk, IsErrOf}
+use Rattle.std.specs.Prelude.{◌≡◌, ℕ, List, Bool, true, Option, Result, Err, IfOk, IsErrOf}
 use Rattle.game_outside.specs.Outside.{Holding, Rose}
-use Rattle.command_words.specs.Words.{Command}
+use Rattle.command_words.specs.Words.{Command, AreCommand}
 use Rattle.run_refusals.specs.declared.refusal.Refusal.{Refusal}
 use Rattle.asked_files.specs.declared.load.End.{End}
 use Rattle.asked_files.specs.declared.load.End.TheVariants.{ReadFault, Refused}
@@ -9,12 +9,13 @@ use Rattle.asked_files.specs.Loading.{RefusesCaused, Takes}
 use Rattle.asked_files.specs.Sources.{IfKnown}
 use Rattle.run_answers.specs.declared.answer.Answer.{Answer}
 use Rattle.run_answers.specs.Status.{IsAnswer}
-use Rattle.stogame_app.specs.Commands.{IsMissing, IsReportOf, ReadsFiles, RefusesIt}
+use Rattle.stogame_app.specs.Commands.{IsMissing, ReadsFiles, RefusesIt}
+use Rattle.stogame_app.specs.Reports.{IsReportOfWords}
 
 -- The answer to a command, and what making it does to a shelf.
 pub record IsAnswered {S : Type 0} (held : S → Option Holding) (steady : S → Bool) (faults took : S → ℕ) (command : Command) (old new : S) (result : Result Answer End) : Type 0 where
-  -- the report of the command, and its status
-  pub answered : IfOk result (λ answer. IsReportOf (held old) command answer.text.items answer.status)
+  -- to words that denote it, its report, and its status
+  pub answered : (words : List (List ℕ)) → AreCommand words command → IfOk result (λ answer. IsReportOfWords words (held old) (took new) answer.text.items answer.status)
   pub status : IfOk result (λ answer. IsAnswer answer.status)
   -- its first refusal, and never one for want of memory
   pub refused : (refusal : Refusal) → result ≡ Err (Refused refusal) → RefusesIt (held old) command refusal

@@ -1,4 +1,5 @@
 pub mod Answers
 pub mod Commands
+pub mod Reports
 pub mod Run
 pub mod Status

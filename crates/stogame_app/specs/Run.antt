@@ -17,16 +17,10 @@ use Rattle.run_answers.specs.declared.answer.Answer.{Answer}
 use Rattle.run_answers.specs.declared.status.Status.{Status}
 use Rattle.run_answers.specs.declared.status.Status.TheVariants.{Fine, SomeFalse, SomeUndecided, Usage, ModelRefused, ReadFault, WriteFault, OutOfMemory, CertificateRefused}
 use Rattle.stogame_app.specs.Status.{refused_status}
-use Rattle.stogame_app.specs.Commands.{IsAcceptedOf, IsMissing, IsReportOf, ReadsFiles, RefusesIt}
+use Rattle.stogame_app.specs.Commands.{IsAcceptedOf, IsMissing, ReadsFiles, RefusesIt}
+use Rattle.stogame_app.specs.Reports.{IsReportOfWords}
 
 -- 1. What is written.
-
--- the words denote a command, and this is its report; where it reads files, no more than the limit was taken of the last one
-pub record IsReportOfWords (words : List (List ℕ)) (holding : Option Holding) (taken : ℕ) (text : List ℕ) (status : Status) : Type 0 where
-  pub command : Command
-  pub denoted : AreCommand words command
-  pub report : IsReportOf holding command text status
-  pub short : ReadsFiles command → taken ≤ most_bytes
 
 abbrev pub IsLong : Refusal → Type 0
 IsLong refusal = (text : Text) × (refusal ≡ TooLong text)

@@ -1,14 +1,25 @@
 //! The answer of `check`: the bracket of a question, or exactly so many steps.
 
-ghost use Rattle.std.specs.Prelude.{◌≡◌};
+ghost use Rattle.std.specs.Prelude.{◌≡◌, ◌<◌, ℕ, List, Option, All, IfOk};
+ghost use Rattle.game_outside.specs.Outside.{Holding};
+ghost use Rattle.rpatl_syntax.specs.Dual.{IsAtMostOne};
+ghost use Rattle.rpatl_syntax.specs.Formula.{tree_of};
+ghost use Rattle.rpatl_syntax.specs.Spellable.{HasKind};
 ghost use Rattle.command_words.specs.Words.{AreInRange, OfCheck, check_of};
+ghost use Rattle.asked_files.specs.Problems.{initial_of, states_of};
+ghost use Rattle.asked_files.specs.SeenProblems.{HasDual, IsOfKind, problem_of};
+ghost use Rattle.run_answers.specs.Status.{IsAnswer};
+ghost use Rattle.question_reports.specs.Nested.{HasAnswer};
+ghost use Rattle.question_reports.specs.Sweeps.{HasOpening};
 ghost use Rattle.stogame_app.specs.Answers.{IsAnswered};
 ghost use Rattle.stogame_app.specs.Commands.{check_paths};
+ghost use Rattle.stogame_app.specs.Reports.{Checks, IsReportOfWords};
 
-use asked_files::{End, Paths, load_model, pose_loaded};
+use asked_files::{End, Paths, Problem, load_model, pose_loaded};
 use command_words::CheckWords;
-use game_outside::{Gate, Shelf};
-use question_reports::report_on;
+use game_outside::{Gate, OutOfMemory, Shelf};
+use question_reports::{bracket_report, nested_report, next_report, within_report};
+use rpatl_syntax::Formula;
 use rpatl_syntax::laws::{formulas_inside_are_few, formulas_of_texts_are_spellable};
 use run_answers::Answer;
 use std::alloc::Global;
@@ -33,6 +44,40 @@ pub fn answer_check<R: Threads + Sync, H: Shelf, G: Gate + Sync>(
     match report_on(rt, alloc, &problem, &loaded.formula, check, gate) {
         Ok(answer) => Ok(answer),
         Err(_) => Err(End::OutOfMemory),
+    }
+}
+
+// The report on a problem, by the kind of its paths, with its certificate where that is asked for.
+fn report_on<R: Threads + Sync, G: Gate + Sync>(
+    rt: &R,
+    alloc: Global,
+    problem: &Problem<'_>,
+    formula: &Formula,
+    check: &CheckWords<'_>,
+    gate: &G,
+) -> Result<Answer, OutOfMemory>
+    requires in_range { AreInRange (check_of check.now) }
+    requires inside { All (λ s. s < states_of (problem_of problem.now)) (initial_of (problem_of problem.now)) }
+    requires kind { IsOfKind formula.now.kind problem.now }
+    requires dual { HasDual (tree_of formula.now) problem.now }
+    requires share { IsAtMostOne formula.now.bound }
+    requires steps { HasKind formula.now.kind (tree_of formula.now).left }
+    requires opening { HasOpening problem.now }
+    requires nested { HasAnswer problem.now (tree_of formula.now) }
+    ensures report { IfOk result (λ answer. (words : List (List ℕ)) (holding : Option Holding) (taken : ℕ) → Checks words holding taken (check_of check.now) (problem_of problem.now) (tree_of formula.now)
+        → IsReportOfWords words holding taken answer.text.items answer.status) }
+    ensures answer { IfOk result (λ answer. IsAnswer answer.status) }
+{
+    match problem {
+        Problem::Until(posed) => bracket_report(rt, alloc, posed, formula, formula, check, gate),
+        Problem::Always(posed, dual) => {
+            bracket_report(rt, alloc, posed, formula, dual, check, gate)
+        }
+        Problem::Within(posed, steps) => {
+            within_report(rt, alloc, posed, *steps, formula, check.workers, gate)
+        }
+        Problem::Next(posed) => next_report(rt, alloc, posed, formula, check.workers, gate),
+        Problem::Nested(loaded, initial) => nested_report(rt, alloc, loaded, initial, check, gate),
     }
 }
 

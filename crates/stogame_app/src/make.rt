@@ -1,9 +1,10 @@
 //! The answer of `make`: the bracket of a game that a seed draws.
 
-ghost use Rattle.std.specs.Prelude.{◌≡◌, Err, IfOk};
-ghost use Rattle.command_words.specs.Words.{IsMakeInRange, make_of};
+ghost use Rattle.std.specs.Prelude.{◌≡◌, ℕ, List, Option, Err, IfOk};
+ghost use Rattle.game_outside.specs.Outside.{Holding};
+ghost use Rattle.command_words.specs.Words.{AreCommand, IsMakeInRange, OfMake, make_of};
 ghost use Rattle.run_answers.specs.Status.{IsAnswer};
-ghost use Rattle.drawn_report.specs.Made.{IsMade};
+ghost use Rattle.stogame_app.specs.Reports.{IsReportOfWords};
 
 use asked_files::End;
 use command_words::MakeWords;
@@ -21,7 +22,7 @@ pub fn answer_make<R: Threads + Sync, G: Gate + Sync>(
     gate: &G,
 ) -> Result<Answer, End>
     requires { IsMakeInRange (make_of make.now) }
-    ensures made { IfOk result (λ answer. IsMade make.now.seed make.now.states make.now.rounds answer.text.items answer.status) }
+    ensures made { (words : List (List ℕ)) (holding : Option Holding) (taken : ℕ) → AreCommand words (OfMake (make_of make.now)) → IfOk result (λ answer. IsReportOfWords words holding taken answer.text.items answer.status) }
     ensures answer { IfOk result (λ answer. IsAnswer answer.status) }
     ensures memory { (end : End) → result ≡ Err end → end ≡ End.OutOfMemory }
 {

@@ -9,6 +9,7 @@ use Rattle.asked_files.specs.Asks.{GivenTextWith}
 use Rattle.formula_sets.specs.Seen.{posing_of}
 use Rattle.asked_files.specs.SeenProblems.{problem_of}
 use Rattle.asked_files.specs.Sources.{SourceWith}
+use Rattle.stogame_app.specs.Reports.{of_audit}
 use Rattle.stogame_app.proofs.Answered.{audit_asks, more_loaded, reached-inside, reported, uncertified, unloaded, unposed, wanting}
 use Rattle.question_reports.proofs.AuditedTexts.{accepted_audited}
 use Rattle.stogame_app.proofs.audit.answer_audit.Goals as goal
@@ -49,16 +50,10 @@ returns-in-Ok g c =
     let formula = tree_of c.in_ok-loaded.loaded.formula in
     let plan = c.in_ok-plan.plan in
     let Q : Option Holding → Type 0 = λ h. SourceWith h name (λ source. GivenTextWith source (λ bytes. IsAccepted question bytes plan)) in
-    reported (audit_asks (audit_of c.args.audit.now)) (more_loaded loaded.shelf c.in_ok-plan.ensures.shelf) answer (record {
-      problem = problem;
-      posed = loaded.reads.asks Unbounded problem c.in_ok-problem.ensures.says;
-      formula = formula;
-      spelled = loaded.reads.spelled;
-      posing = posing;
-      reached = c.reached-posed.ensures;
-      certificate = accepted_audited holding name question posing.initial formula plan answer.text.items answer.status
-          (subst Q loaded.shelf.kept.held c.in_ok-plan.ensures.accepted) (rw c.deref.ensures.value at c.in-Ok.ensures.audited);
-    }) c.in-Ok.ensures.answer
+    reported (audit_asks (audit_of c.args.audit.now)) (more_loaded loaded.shelf c.in_ok-plan.ensures.shelf) answer (λ words denoted short. of_audit (audit_of c.args.audit.now) problem posing formula
+    (record { denoted = denoted; posed = loaded.reads.asks Unbounded problem c.in_ok-problem.ensures.says; spelled = loaded.reads.spelled; short = short }) c.reached-posed.ensures
+    (accepted_audited holding name question posing.initial formula plan answer.text.items answer.status
+    (subst Q loaded.shelf.kept.held c.in_ok-plan.ensures.accepted) (rw c.deref.ensures.value at c.in-Ok.ensures.audited))) c.in-Ok.ensures.answer
 
 pub returns : goal.returns
 returns g c = wanting (audit_asks (audit_of c.args.audit.now)) (more_loaded c.in_ok-loaded.ensures.shelf c.in_ok-plan.ensures.shelf)

@@ -1,5 +1,4 @@
 use Rattle.std.proofs.lemmas.Result.{err_from_is_err_and}
-use Rattle.rpatl_syntax.specs.Formula.{tree_of}
 use Rattle.command_words.specs.Words.{check_of}
 use Rattle.asked_files.specs.SeenProblems.{problem_of}
 use Rattle.stogame_app.specs.Commands.{check_paths}
@@ -40,13 +39,8 @@ pub returns-in-Ok : goal.returns-in-Ok
 returns-in-Ok g c =
     let loaded = c.in_ok-loaded.ensures in
     let problem = problem_of c.in_ok-problem.problem in
-    reported (check_asks (check_of c.args.check.now)) loaded.shelf c.in-Ok.answer (record {
-      problem = problem;
-      posed = loaded.reads.asks (check_paths (check_of c.args.check.now)) problem (rw c.check_paths.ensures at c.in_ok-problem.ensures.says);
-      formula = tree_of c.in_ok-loaded.loaded.formula;
-      spelled = loaded.reads.spelled;
-      report = c.in-Ok.ensures.report;
-    }) c.in-Ok.ensures.answer
+    reported (check_asks (check_of c.args.check.now)) loaded.shelf c.in-Ok.answer (λ words denoted short. c.in-Ok.ensures.report words _ _
+    (record { denoted = denoted; posed = loaded.reads.asks (check_paths (check_of c.args.check.now)) problem (rw c.check_paths.ensures at c.in_ok-problem.ensures.says); spelled = loaded.reads.spelled; short = short })) c.in-Ok.ensures.answer
 
 pub returns : goal.returns
 returns g c = wanting (check_asks (check_of c.args.check.now)) c.in_ok-loaded.ensures.shelf

@@ -9,4 +9,4 @@ returns c =
     let read_back : AreReadBack = c.certificates_are_read_back.ensures in
     let certificates : AreCertificates = λ text entries said. ((c.certificates_are_what_is_read.ensures text (length entries) entries).0 said).1 in
     let spellable : AreSpellable = c.formulas_of_texts_are_spellable.ensures in
-    saved-accepted read_back certificates spellable
+    saved-accepted read_back certificates c.words_denote_one_command.ensures spellable

@@ -3,6 +3,8 @@ use Rattle.asked_files.specs.declared.problem.Paths.TheVariants.{Reaching}
 use Rattle.formula_sets.specs.Seen.{posing_of}
 use Rattle.asked_files.specs.SeenProblems.{problem_of}
 use Rattle.command_words.specs.Words.{asked_of_words}
+use Rattle.rpatl_syntax.specs.Formula.{tree_of}
+use Rattle.stogame_app.specs.Reports.{of_sure}
 use Rattle.stogame_app.proofs.Answered.{reached-inside, sure_asks, reported, unloaded, unposed, wanting}
 use Rattle.stogame_app.proofs.sure.answer_sure.Goals as goal
 
@@ -27,15 +29,9 @@ returns-in-Ok g c =
     let loaded = c.in_ok-loaded.ensures in
     let report = c.in-Ok.report in
     let problem = problem_of c.in_ok-problem.problem in
-    reported (sure_asks (asked_of_words c.args.asked.now)) loaded.shelf _ (record {
-      problem = problem;
-      posed = loaded.reads.asks Reaching problem c.in_ok-problem.ensures.says;
-      posing = posing_of c.reached-posed.result.now;
-      reached = c.reached-posed.ensures;
-      all = report.all;
-      sure = rw c.deref.ensures.value at c.in-Ok.ensures;
-      ends = c.sure_status.ensures.status;
-    }) c.sure_status.ensures.answer
+    reported (sure_asks (asked_of_words c.args.asked.now)) loaded.shelf _ (λ words denoted short. of_sure (asked_of_words c.args.asked.now) problem (posing_of c.reached-posed.result.now) (tree_of c.in_ok-loaded.loaded.formula) report.all
+    (record { denoted = denoted; posed = loaded.reads.asks Reaching problem c.in_ok-problem.ensures.says; spelled = loaded.reads.spelled; short = short }) c.reached-posed.ensures
+    (rw c.deref.ensures.value at c.in-Ok.ensures) c.sure_status.ensures.status) c.sure_status.ensures.answer
 
 pub returns : goal.returns
 returns g c = wanting (sure_asks (asked_of_words c.args.asked.now)) c.in_ok-loaded.ensures.shelf

@@ -15,28 +15,28 @@ use Rattle.bracket_engine.specs.Found.{IsFound}
 use Rattle.question_reports.proofs.Limits.{plan-units, printed-in_limits}
 use Rattle.question_reports.proofs.Reported.{all-told, all-left_open, reported, verdict-answered, verdict_at}
 use Rattle.question_reports.proofs.Shown.{held-found, shown-lists, shown-passes, shown-sound, shown-above, shown-printable}
-use Rattle.question_reports.proofs.reports.report.Goals as goal
+use Rattle.question_reports.proofs.reports.bracket_report.Goals as goal
 
 pub shown-requires-clause-held : goal.shown-requires-clause-held
 shown-requires-clause-held g c =
     let it = c.in_ok-bracketed.bracketed in
-    held-found c.args.question.now it.zero _ c.args.initial.now c.args.check.now.rounds it.bracket c.in_ok-bracketed.ensures.found
+    held-found c.args.posed.now.question it.zero _ c.deref-initial.result.now c.args.check.now.rounds it.bracket c.in_ok-bracketed.ensures.found
 
 pub returns-clause-report : goal.returns-clause-report
 returns-clause-report g c =
-    let q = c.args.question.now in
+    let q = c.args.posed.now.question in
     let zero = c.in_ok-bracketed.bracketed.zero in
     let found = c.in_ok-bracketed.bracketed.bracket in
     let plan = c.in_ok-plan.plan in
-    let f = tree_of c.args.formulas.spelled.now in
+    let f = tree_of c.args.spelled.now in
     let bound = (answered f).bound in
     let lower = plan.lower.items in
     let upper = plan.upper.items in
-    let initial = c.args.initial.now in
+    let initial = c.args.posed.now.initial.items in
     let check = check_of c.args.check.now in
     let asked = c.args.check.now.rounds in
     let P : Bound → Type 0 = λ b. IsFound q zero b initial asked found in
-    let is_found : IsFound q zero bound initial asked found = subst P (ap (λ (t : Tree). t.bound) c.requires.same) c.in_ok-bracketed.ensures.found in
+    let is_found : IsFound q zero bound initial asked found = subst P (ap (λ (t : Tree). t.bound) c.requires.same) (rw c.deref-initial.ensures.value at c.in_ok-bracketed.ensures.found) in
     let shown = c.in_ok-plan.ensures.shown in
     let held = c.in_ok-plan.ensures.held in
     let lists = shown-lists q zero bound initial asked check.traps found plan is_found shown held in
@@ -60,4 +60,4 @@ returns-clause-report g c =
       right = all-told q bound (verdict_by f lower upper) initial (λ s within is. c.verdicts_are_true.ensures.yes q _ _ bound s c.known.ensures (reached s within) sound.high within (sym (agree s within) ∙ is))
           (λ s within is. c.verdicts_are_true.ensures.no q _ _ bound s c.known.ensures (reached s within) sound.high within (sym (agree s within) ∙ is)) c.requires.inside;
       left_open = λ i d there undecided. left_open i d there (sym (agree _ (c.requires.inside i d there)) ∙ undecided);
-    }) c.make_answer.result c.make_answer.ensures.text c.make_answer.ensures.status
+    }) c.make_answer.result (rw c.deref-initial.ensures.value at c.make_answer.ensures.text) (rw c.deref-initial.ensures.value at c.make_answer.ensures.status)
