@@ -24,7 +24,7 @@ use Rattle.run_answers.specs.declared.status.Status.{Status}
 use Rattle.run_answers.specs.declared.status.Status.TheVariants.{Fine, SomeFalse, SomeUndecided, Usage, ModelRefused, ReadFault, WriteFault, OutOfMemory, CertificateRefused}
 use Rattle.run_answers.specs.Status.{IsAnswer}
 use Rattle.stogame_app.specs.Commands.{IsAcceptedOf, IsMissing, RefusesBehind, RefusesIt, check_paths}
-use Rattle.stogame_app.specs.Run.{AsksShelf, IsAcceptedOfWords, IsEnding, IsMissingOfWords, RefusesWords}
+use Rattle.stogame_app.specs.Run.{AsksShelf, IsAcceptedOfWords, IsEnding, IsMissingOfWords, IsReadable, RefusesWords}
 
 -- 1. A question, and a certificate.
 
@@ -154,7 +154,7 @@ module _ (are : AreAsked) (apart : AreApart) (one : AreOneCommand) {words : List
 
   -- a text that is held and accepted is read, unless the shelf fails
   pub is_read : {S : Type 0} {of : S → Option Holding} {steady : S → Bool} {faults took : S → ℕ} {old new : S} {status : Status} → AsksShelf of steady faults took words old new status → of old ≡ holding
-      → (steady old ≡ true) ⊎ (Rose (faults old) (faults new) → ⊥) → status ≡ ReadFault → ⊥
+      → IsReadable steady faults old new → status ≡ ReadFault → ⊥
   is_read shelf same calm is = elim calm [
     | inl steady ↦ not_missing (subst (λ (h : Option Holding). IsMissingOfWords words h) same (shelf.steadily is steady))
     | inr still ↦ still (shelf.read_fault is)

@@ -87,6 +87,10 @@ IsEnding words holding taken old new OutOfMemory = new ≡ old
 
 -- 3. What it asks of the shelf.
 
+-- a shelf can be read: it is steady, or no fault of it arose
+abbrev pub IsReadable : {S : Type 0} → (S → Bool) → (S → ℕ) → S → S → Type 0
+IsReadable steady faults old new = (steady old ≡ true) ⊎ (¬ Rose (faults old) (faults new))
+
 -- the words denote no command that reads files
 abbrev pub NeedNoFile : List (List ℕ) → Type 0
 NeedNoFile words = (command : Command) → AreCommand words command → ¬ ReadsFiles command

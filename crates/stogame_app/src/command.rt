@@ -7,7 +7,7 @@ ghost use Rattle.command_words.specs.Words.{command_of};
 ghost use Rattle.run_answers.specs.Status.{IsAnswer};
 ghost use Rattle.stogame_app.specs.Commands.{IsInRange};
 ghost use Rattle.stogame_app.specs.Answers.{IsAnswered};
-ghost use Rattle.stogame_app.specs.Run.{AsksShelf, IsAcceptedOfWords, IsEnding};
+ghost use Rattle.stogame_app.specs.Run.{AsksShelf, IsAcceptedOfWords, IsEnding, IsReadable};
 
 use crate::audit::answer_audit;
 use crate::check::answer_check;
@@ -53,9 +53,10 @@ pub fn run<R: Threads + Sync, H: Shelf, K: Sink, G: Gate + Sync>(
     ensures shelf { AsksShelf H.held H.steady H.faults H.taken (map string_bytes words.now) shelf.old shelf.new result }
     ensures write_fault { result ≡ Status.WriteFault → Rose (K.faults out.old) (K.faults out.new) }
 
-    // It does not give up by itself.
+    // It does not give up by itself: where what the words need is held and accepted, the shelf can be read, and no fault of
+    // writing arose, it answers, or lacks memory.
     ensures complete { (held : Holding) → H.held shelf.old ≡ Some held → IsAcceptedOfWords (map string_bytes words.now) held
-        → (H.steady shelf.old ≡ true) ⊎ (Rose (H.faults shelf.old) (H.faults shelf.new) → ⊥) → (Rose (K.faults out.old) (K.faults out.new) → ⊥)
+        → IsReadable H.steady H.faults shelf.old shelf.new → ¬ Rose (K.faults out.old) (K.faults out.new)
         → IsAnswer result ⊎ (result ≡ Status.OutOfMemory) }
 {
     match read_words(alloc, words) {
