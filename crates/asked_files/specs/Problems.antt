@@ -53,16 +53,6 @@ PosesProblem game l o f (OfNext p) = IsFlat f × (f.kind ≡ Next) × PosesNext 
 PosesProblem game l o f (OfAlways p) = IsFlat f × (f.kind ≡ Always) × Poses game l o (dual_of f) p
 PosesProblem game l o f (OfNested m initial) = (¬ IsFlat f) × (m ≡ record { game = game; labels = l; owners = o }) × (initial_said l o f ≡ Ok initial)
 
--- the formula whose question is answered: of `G` the dual
-abbrev pub answered_by : PathKind → Tree → Tree
-answered_by Until f = f
-answered_by (Within k) f = f
-answered_by Next f = f
-answered_by Always f = dual_of f
-
-abbrev pub answered : Tree → Tree
-answered f = answered_by f.kind f
-
 -- 2. Which formulas a command takes.
 
 -- the command takes a formula with such a path, and none inside

@@ -13,7 +13,8 @@ use Rattle.command_words.specs.Words.{Check}
 use Rattle.run_answers.specs.declared.status.Status.{Status}
 use Rattle.run_answers.specs.Printed.{line_by, output_of}
 use Rattle.asked_files.specs.declared.problem.Paths.TheVariants.{Unbounded}
-use Rattle.asked_files.specs.Problems.{Problem, OfUntil, OfWithin, OfNext, OfAlways, OfNested, PosesProblem, posing_in, answered, takes, takes_formula}
+use Rattle.asked_files.specs.Problems.{Problem, OfUntil, OfWithin, OfNext, OfAlways, OfNested, PosesProblem, posing_in, takes, takes_formula}
+use Rattle.rpatl_syntax.specs.Dual.{answered}
 use Rattle.question_reports.specs.Reports.{IsReport}
 use Rattle.run_answers.proofs.Passing.{AreReadBack, read-behind}
 use Rattle.run_answers.proofs.PlainParts.{HasPlainParts}

@@ -17,7 +17,7 @@ use Rattle.verdicts.specs.declared.verdict.Verdict.TheVariants.{Undecided}
 use Rattle.run_answers.specs.declared.status.Status.{Status}
 use Rattle.run_answers.specs.Printed.{is_mirrored, verdict_by, line_by, status_of}
 use Rattle.question_reports.specs.Audits.{IsAudited}
-use Rattle.asked_files.specs.Problems.{answered}
+use Rattle.rpatl_syntax.specs.Dual.{answered}
 use Rattle.question_reports.proofs.Limits.{plan-units, printed-units}
 
 module _ (q : Query) (posed : IsQuery q) (f : Tree) (plan : Plan) (lists : HasStates plan (states q)) (passes : Passes q plan) where

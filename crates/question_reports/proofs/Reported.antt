@@ -28,8 +28,7 @@ use Rattle.command_words.specs.Words.{Check}
 use Rattle.run_answers.specs.declared.status.Status.{Status}
 use Rattle.rpatl_syntax.specs.declared.formula.PathKind.{PathKind}
 use Rattle.rpatl_syntax.specs.declared.formula.PathKind.TheVariants.{Until, Within, Next, Always}
-use Rattle.rpatl_syntax.specs.Dual.{IsAtMostOne, dual_bound}
-use Rattle.asked_files.specs.Problems.{answered_by, answered}
+use Rattle.rpatl_syntax.specs.Dual.{IsAtMostOne, dual_bound, answered_by, answered}
 use Rattle.run_answers.specs.Printed.{is_mirrored, verdict_as, verdict_by, status_of, output_of}
 use Rattle.bracket_engine.specs.Found.{IsFound}
 use Rattle.question_reports.specs.Reports.{IsShown, IsLeftOpen, IsReport}

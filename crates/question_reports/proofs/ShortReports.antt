@@ -19,7 +19,7 @@ use Rattle.command_words.specs.Words.{Check}
 use Rattle.run_answers.specs.declared.status.Status.{Status}
 use Rattle.run_answers.specs.Outputs.{certificate_part, AreEntriesInLimits}
 use Rattle.run_answers.specs.Printed.{line_at, line_by, certificate_of}
-use Rattle.asked_files.specs.Problems.{answered}
+use Rattle.rpatl_syntax.specs.Dual.{answered}
 use Rattle.question_reports.specs.Reports.{IsReport}
 use Rattle.question_reports.specs.Sweeps.{IsSweepReport}
 use Rattle.question_reports.specs.Nested.{IsNestedReport, inside_text}

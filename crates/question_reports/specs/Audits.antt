@@ -11,7 +11,7 @@ use Rattle.verdicts.specs.Open.{LeavesOpen}
 use Rattle.verdicts.specs.Report.{IsLine, report}
 use Rattle.verdicts.specs.declared.report.How.TheVariants.{Audited}
 use Rattle.verdicts.specs.declared.verdict.Verdict.TheVariants.{Undecided}
-use Rattle.asked_files.specs.Problems.{answered}
+use Rattle.rpatl_syntax.specs.Dual.{answered}
 use Rattle.run_answers.specs.Printed.{verdict_by, line_by, status_of}
 use Rattle.run_answers.specs.declared.status.Status.{Status}
 

@@ -19,7 +19,7 @@ use Rattle.verdicts.specs.declared.verdict.Verdict.TheVariants.{Undecided}
 use Rattle.bracket_engine.specs.declared.bounds.Bracket.{Bracket}
 use Rattle.bracket_engine.specs.Found.{IsFound}
 use Rattle.trap_sets.specs.Lowered.{IsLoweredTable}
-use Rattle.asked_files.specs.Problems.{answered}
+use Rattle.rpatl_syntax.specs.Dual.{answered}
 use Rattle.command_words.specs.Words.{Check}
 use Rattle.run_answers.specs.Outputs.{output_text, IsInLimits}
 use Rattle.run_answers.specs.Printed.{verdict_by, output_of, status_of}

@@ -3,7 +3,8 @@ use Rattle.std.specs.Prelude.{ℕ, ◌*◌, ◌<◌, ◌≤◌}
 use Rattle.distributions.specs.Fraction.{rest_of}
 use Rattle.rpatl_syntax.specs.declared.formula.Bound.{Bound}
 use Rattle.rpatl_syntax.specs.declared.formula.Bound.TheVariants.{AtLeast, Above, AtMost, Below, AskMax, AskMin}
-use Rattle.rpatl_syntax.specs.declared.formula.PathKind.TheVariants.{Until}
+use Rattle.rpatl_syntax.specs.declared.formula.PathKind.{PathKind}
+use Rattle.rpatl_syntax.specs.declared.formula.PathKind.TheVariants.{Until, Within, Next, Always}
 use Rattle.rpatl_syntax.specs.Formula.{True, Not, Tree}
 
 -- the threshold, where there is one, is at most 1
@@ -36,3 +37,13 @@ dual_bound AskMin = AskMax
 -- of `G y` the dual bound on `F !y`
 abbrev pub dual_of : Tree → Tree
 dual_of f = record { coalition = f.coalition; bound = dual_bound f.bound; kind = Until; left = True; right = Not f.right }
+
+-- the formula whose question is answered: of `G` the dual
+abbrev pub answered_by : PathKind → Tree → Tree
+answered_by Until f = f
+answered_by (Within k) f = f
+answered_by Next f = f
+answered_by Always f = dual_of f
+
+abbrev pub answered : Tree → Tree
+answered f = answered_by f.kind f

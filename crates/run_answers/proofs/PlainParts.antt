@@ -6,10 +6,9 @@ use Rattle.rpatl_syntax.specs.declared.formula.Bound.{Bound}
 use Rattle.rpatl_syntax.specs.declared.formula.Bound.TheVariants.{AtLeast, Above, AtMost, Below, AskMax, AskMin}
 use Rattle.rpatl_syntax.specs.declared.formula.PathKind.{PathKind}
 use Rattle.rpatl_syntax.specs.declared.formula.PathKind.TheVariants.{Until, Within, Next, Always}
-use Rattle.rpatl_syntax.specs.Dual.{dual_bound}
+use Rattle.rpatl_syntax.specs.Dual.{dual_bound, answered_by, answered}
 use Rattle.rpatl_syntax.specs.Formula.{Tree}
 use Rattle.rpatl_syntax.specs.Spellable.{HasWords, HasShare, HasThreshold, HasKind, HasParts, IsSpellable}
-use Rattle.asked_files.specs.Problems.{answered_by, answered}
 
 -- a threshold is at most 1, and its denominator not too great
 abbrev pub IsFine : Fraction → Type 0

@@ -6,11 +6,10 @@ use Rattle.rpatl_syntax.specs.Formula.{State, True, Not, Tree}
 use Rattle.rpatl_syntax.specs.Grammar.{is_quoted, unquoted}
 use Rattle.rpatl_syntax.specs.declared.formula.PathKind.{PathKind}
 use Rattle.rpatl_syntax.specs.declared.formula.PathKind.TheVariants.{Until, Within, Next, Always}
-use Rattle.rpatl_syntax.specs.Dual.{dual_of}
+use Rattle.rpatl_syntax.specs.Dual.{dual_of, answered_by, answered}
 use Rattle.rpatl_syntax.specs.Limits.{longest}
 use Rattle.rpatl_syntax.specs.Rules.{between, IsState, IsEither, IsBoth, IsUnary, IsPath, plain_state, implies, plain_either, or, plain_both, and, negation, brackets, everywhere, nowhere, label, inside, reach, reach_within, until, until_within, next, always, IsFormula, Denotes}
 use Rattle.rpatl_syntax.specs.Spelling.{strength_of, in_place, state_spelling, kind_spelling, coalition_spelling, spelling}
-use Rattle.asked_files.specs.Problems.{answered_by, answered}
 use Rattle.run_answers.proofs.PlainParts.{HasFine, HasPlainParts, answered-plain}
 use Rattle.run_answers.proofs.ShortParts.{bytes_in, bytes_in-append, cut-short, until-short, within-short, coalition-short, bound-fine, bound-some, with-short, formula-bytes}
 

@@ -22,7 +22,8 @@ use Rattle.run_answers.specs.declared.status.Status.{Status}
 use Rattle.asked_files.specs.Asks.{Asks}
 use Rattle.asked_files.specs.declared.problem.Paths.{Paths}
 use Rattle.asked_files.specs.declared.problem.Paths.TheVariants.{Any, Unbounded}
-use Rattle.asked_files.specs.Problems.{Problem, OfUntil, OfWithin, OfNext, OfAlways, OfNested, PosesProblem, answered, initial_of, posing_in}
+use Rattle.asked_files.specs.Problems.{Problem, OfUntil, OfWithin, OfNext, OfAlways, OfNested, PosesProblem, initial_of, posing_in}
+use Rattle.rpatl_syntax.specs.Dual.{answered}
 use Rattle.asked_files.specs.Sources.{Sources, sources_of}
 use Rattle.stogame_app.specs.Commands.{IsAcceptedOf, check_paths}
 use Rattle.stogame_app.specs.Reports.{Checks, IsReportOfWords, of_until, of_always, of_within, of_next, of_nested, of_audit, of_sure, of_make}

@@ -7,7 +7,7 @@ use Rattle.game_model.specs.Bounds.{Reaches}
 use Rattle.rpatl_syntax.specs.Formula.{tree_of}
 use Rattle.verdicts.specs.Open.{LeavesOpen}
 use Rattle.verdicts.specs.declared.verdict.Verdict.TheVariants.{Undecided}
-use Rattle.asked_files.specs.Problems.{answered}
+use Rattle.rpatl_syntax.specs.Dual.{answered}
 use Rattle.run_answers.specs.Printed.{verdict_by}
 use Rattle.question_reports.proofs.Limits.{plan-units}
 use Rattle.question_reports.proofs.Reported.{all-told, verdict-answered, verdict_at}

@@ -9,7 +9,7 @@ use Rattle.game_model.proofs.Choices.{denominator-pos}
 use Rattle.rpatl_syntax.specs.declared.formula.Bound.{Bound}
 use Rattle.rpatl_syntax.specs.Formula.{Tree, tree_of}
 use Rattle.command_words.specs.Words.{check_of}
-use Rattle.asked_files.specs.Problems.{answered}
+use Rattle.rpatl_syntax.specs.Dual.{answered}
 use Rattle.run_answers.specs.Printed.{verdict_by}
 use Rattle.bracket_engine.specs.Found.{IsFound}
 use Rattle.question_reports.proofs.Limits.{plan-units, printed-in_limits}
