@@ -5,4 +5,5 @@ pub mod Found
 pub mod Choices
 pub mod Race
 pub mod Replies
+pub mod Sides
 pub mod Stop

@@ -1,77 +1,88 @@
-//! The tables of a run that is over.
+//! The bracket of a run that is over.
 
 ghost use Rattle.std.specs.Prelude.{◌≡◌, ◌↔◌, ◌<◌, ◌≤◌, true, length, slice_index, All, IfOk};
 ghost use Rattle.game_model.specs.Query.{states};
 ghost use Rattle.game_model.specs.Limits.{unit};
 ghost use Rattle.game_model.specs.Dual.{swapped, IsZeroSet};
 ghost use Rattle.game_model.specs.Rounded.{IsSettled};
-ghost use Rattle.step_core.specs.Word.{values_of};
+ghost use Rattle.predecessors.specs.Lists.{ArePredecessors};
 ghost use Rattle.verdicts.specs.Stop.{bound_of};
 ghost use Rattle.bracket_engine.specs.Bracket.{IsBracket};
+ghost use Rattle.bracket_engine.specs.Choices.{AreChoices, AreRanks};
+ghost use Rattle.bracket_engine.specs.Lower.{IsLowerTable};
 ghost use Rattle.bracket_engine.specs.Race.{AreOver};
-ghost use Rattle.bracket_engine.specs.Stop.{IsUpper};
+ghost use Rattle.bracket_engine.specs.Replies.{AreRepliesTo};
 
-use crate::race::Ended;
+use crate::bounds::Bracket;
+use crate::race::{Ended, Raced};
+use crate::sides::both_sides;
 use crate::stopping::Ending;
 use crate::tables::values_of_words;
-use crate::upper::upper_table;
 use fixed_bellman::settled;
 use game_model::Question;
 use game_outside::OutOfMemory;
+use predecessors::Predecessors;
 use std::alloc::Global;
 use std::thread::Threads;
 use team_tables::Team;
 
-/// Both tables, the number of completed rounds, and whether both races are settled.
-#[derive(Drop)]
-pub struct Tables {
-    pub base: Vec<u64>,
-    pub upper: Vec<u64>,
-    pub rounds: u32,
-    pub stable: bool,
-}
-
-/// The tables of two races that are over. The team fills those of the guess.
-pub fn tables_of<F: Fn(u64, u64) -> bool, R: Threads + Sync>(
+/// The bracket of two races that are over: the tables, and the strategies for them. The other question and the co-words are
+/// let go once they are read.
+pub fn bracket_of<F: Fn(u64, u64) -> bool, R: Threads + Sync>(
     team: &Team<'_, R>,
     alloc: Global,
     ending: &Ending<'_, F>,
-    other: &Question,
-    words: &[u64],
-    cowords: &[u64],
-    ended: Ended,
-) -> Result<Tables, OutOfMemory>
+    other: Question<'_>,
+    predecessors: &Predecessors,
+    raced: Raced,
+) -> Result<Bracket, OutOfMemory>
     requires zero { IsZeroSet ending.now.question.now ending.now.zero.now }
     requires initial { All (λ s. s < states ending.now.question.now) ending.now.initial.now }
-    requires other { other.now ≡ swapped ending.now.question.now ending.now.zero.now }
-    requires asked { (asked : _) × AreOver ending.now.question.now other.now ending.now.zero.now (bound_of ending.now.rule.now) ending.now.initial.now asked words.now cowords.now ended }
-    ensures bracket { (asked : _) → AreOver ending.now.question.now other.now ending.now.zero.now (bound_of ending.now.rule.now) ending.now.initial.now asked words.now cowords.now ended
-        → IfOk result (λ t. IsBracket ending.now.question.now ending.now.zero.now (bound_of ending.now.rule.now) ending.now.initial.now asked t.base.items t.upper.items t.rounds t.stable) }
-    ensures base { IfOk result (λ t. t.base.items ≡ values_of words.now) }
-    ensures upper { IfOk result (λ t. IsUpper ending.now.question.now t.upper.items) }
+    requires other { other ≡ swapped ending.now.question.now ending.now.zero.now }
+    requires asked { (asked : _) × AreOver ending.now.question.now other ending.now.zero.now (bound_of ending.now.rule.now) ending.now.initial.now asked raced.words raced.cowords raced.ended }
+    requires lists { ArePredecessors ending.now.question.now.game predecessors.now }
+    ensures bounds { (asked : _) → AreOver ending.now.question.now other.entry ending.now.zero.now (bound_of ending.now.rule.now) ending.now.initial.now asked raced.words raced.cowords raced.ended
+        → IfOk result (λ b. IsBracket ending.now.question.now ending.now.zero.now (bound_of ending.now.rule.now) ending.now.initial.now asked b.base.items b.upper.items b.rounds b.stable) }
+    ensures lower { IfOk result (λ b. IsLowerTable ending.now.question.now ending.now.zero.now b.base.items b.lower.items b.choices.items b.ranks.items) }
+    ensures choices { IfOk result (λ b. AreChoices ending.now.question.now b.lower.items b.choices.items) }
+    ensures ranks { IfOk result (λ b. AreRanks ending.now.question.now b.lower.items b.choices.items b.ranks.items) }
+    ensures replies { IfOk result (λ b. AreRepliesTo ending.now.question.now b.upper.items b.replies.items) }
 {
     ending.question.known();
     other.known();
+    let Raced {
+        words,
+        cowords,
+        ended,
+    } = raced;
     let Ended {
         rounds,
         rests,
         kept,
     } = ended;
-    let base = values_of_words(alloc, words)?;
-    let covalues = values_of_words(alloc, cowords)?;
-    let stable = is_stable(ending.question, other, &base, &covalues, rests);
-    let upper = upper_table(
+    let covalues = values_of_words(alloc, cowords.as_slice())?;
+    drop(cowords);
+    let base = values_of_words(alloc, words.as_slice())?;
+    let stable = is_stable(ending.question, &other, &base, &covalues, rests);
+    drop(other);
+    let (lower, upper) = both_sides(
         team,
         alloc,
         ending.question,
         ending.zero,
+        predecessors,
+        words,
         &base,
-        &covalues,
+        covalues,
         kept,
     )?;
-    Ok(Tables {
+    Ok(Bracket {
         base,
-        upper,
+        lower: lower.values,
+        upper: upper.table,
+        choices: lower.plan.choices,
+        ranks: lower.plan.ranks,
+        replies: upper.replies,
         rounds,
         stable,
     })

@@ -13,10 +13,11 @@ mod bounds;
 mod bracketed;
 mod closing;
 pub mod laws;
+mod lower;
 mod race;
 mod run;
+mod sides;
 mod stopping;
-mod strategies;
 mod tables;
 mod upper;
 

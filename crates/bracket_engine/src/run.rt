@@ -13,10 +13,9 @@ ghost use Rattle.bracket_engine.specs.Lower.{IsLowerTable};
 ghost use Rattle.bracket_engine.specs.Replies.{AreRepliesTo};
 
 use crate::bounds::Bracket;
-use crate::closing::tables_of;
-use crate::race::{Raced, race};
+use crate::closing::bracket_of;
+use crate::race::race;
 use crate::stopping::Ending;
-use crate::strategies::with_strategies;
 use game_model::{Marks, Question};
 use game_outside::{Gate, OutOfMemory};
 use inductive_check::swap;
@@ -116,11 +115,7 @@ pub fn bracket_over<R: Threads + Sync, F: Fn(u64, u64) -> bool, G: Gate + Sync>(
         rt,
         workers: busy_workers(question, workers, question.game().states()),
     };
-    let Raced {
-        words,
-        cowords,
-        ended,
-    } = race::<R, Brand, Brand, F, G>(
+    let raced = race::<R, Brand, Brand, F, G>(
         rt,
         &team,
         alloc,
@@ -131,21 +126,5 @@ pub fn bracket_over<R: Threads + Sync, F: Fn(u64, u64) -> bool, G: Gate + Sync>(
         workers,
         gate,
     )?;
-    let tables = tables_of(
-        &team,
-        alloc,
-        &ending,
-        &other,
-        words.as_slice(),
-        cowords.as_slice(),
-        ended,
-    )?;
-    with_strategies(
-        alloc,
-        question,
-        zero,
-        predecessors,
-        words.as_slice(),
-        tables,
-    )
+    bracket_of(&team, alloc, &ending, other, predecessors, raced)
 }

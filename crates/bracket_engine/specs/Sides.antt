@@ -1,0 +1,21 @@
+-- The two sides of a bracket.
+use Rattle.std.specs.Prelude.{ℕ, Bool, List, Option}
+use Rattle.game_model.specs.Query.{Query}
+use Rattle.rank_certificate.specs.declared.guess.LowerGuess.{LowerGuess}
+use Rattle.bracket_engine.specs.declared.upper.UpperSide.{UpperSide}
+use Rattle.bracket_engine.specs.declared.stopping.SettlingGuess.{SettlingGuess}
+use Rattle.bracket_engine.specs.Choices.{AreChoices, AreRanks}
+use Rattle.bracket_engine.specs.Lower.{IsLowerTable}
+use Rattle.bracket_engine.specs.Replies.{AreRepliesTo}
+use Rattle.bracket_engine.specs.Stop.{IsUpperFrom}
+
+-- a lower table over a base, with choices and ranks that vouch for it
+pub record IsLowerSide (q : Query) (zero : List Bool) (base : List ℕ) (side : LowerGuess) : Type 0 where
+  pub lower : IsLowerTable q zero base side.values.items side.plan.choices.items side.plan.ranks.items
+  pub choices : AreChoices q side.values.items side.plan.choices.items
+  pub ranks : AreRanks q side.values.items side.plan.choices.items side.plan.ranks.items
+
+-- an upper table from a base, co-values and a guess that was kept, if any, and the replies to it
+pub record IsUpperSide (q : Query) (zero : List Bool) (base covalue : ℕ → ℕ) (kept : Option SettlingGuess) (side : UpperSide) : Type 0 where
+  pub upper : IsUpperFrom q zero base covalue kept side.table.items
+  pub replies : AreRepliesTo q side.table.items side.replies.items
