@@ -23,7 +23,7 @@ use formula_sets::{PoseFault, Posed, PosedNext, initial_of, is_flat, pose, pose_
 use game_model::Game;
 use game_outside::Shelf;
 use label_reader::{Labels, Owners};
-use rpatl_syntax::laws::thresholds_are_at_most_one;
+use rpatl_syntax::laws::{formulas_are_those_that_a_text_denotes, thresholds_are_at_most_one};
 use rpatl_syntax::{Formula, FormulaCause, PathKind, dual, read_formula};
 use run_refusals::Refusal;
 use std::alloc::Global;
@@ -46,7 +46,8 @@ fn load_formula(alloc: Global, text: &str) -> Result<Formula, End>
     ensures caused { RefusesCaused result }
     ensures short { IsTooLong result → ⊥ }
 {
-    // A law: this call does nothing.
+    // Laws: these calls do nothing.
+    formulas_are_those_that_a_text_denotes();
     thresholds_are_at_most_one();
     match read_formula(alloc, text) {
         Ok(formula) => Ok(formula),
