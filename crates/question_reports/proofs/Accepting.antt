@@ -15,7 +15,7 @@ use Rattle.run_answers.specs.Printed.{line_by, output_of}
 use Rattle.asked_files.specs.declared.problem.Paths.TheVariants.{Unbounded}
 use Rattle.asked_files.specs.Problems.{Problem, OfUntil, OfWithin, OfNext, OfAlways, OfNested, PosesProblem, posing_in, takes, takes_formula}
 use Rattle.rpatl_syntax.specs.Dual.{answered}
-use Rattle.question_reports.specs.Reports.{IsReport}
+use Rattle.question_reports.specs.Reports.{IsBracketReport}
 use Rattle.run_answers.proofs.Passing.{AreReadBack, read-behind}
 use Rattle.run_answers.proofs.PlainParts.{HasPlainParts}
 use Rattle.plan_text.specs.Said.{entries_said}
@@ -28,7 +28,7 @@ abbrev pub AreCertificates : Type 0
 AreCertificates = (text : List ℕ) (entries : List Entry) → entries_said text (length entries) ≡ Ok entries → IsCertificate text entries
 
 pub report-accepted : AreReadBack → AreCertificates → (q : Query) (initial : List ℕ) (f : Tree) (check : Check) (text : List ℕ) (status : Status) → check.plan ≡ true → HasPlainParts (answered f)
-    → (r : IsReport q initial f check text status) → IsAccepted q text r.plan
+    → (r : IsBracketReport q initial f check text status) → IsAccepted q text r.plan
 report-accepted read_back certificates q initial f check text status planned parts r =
     let how = Rounds r.found.rounds in
     let entries = entries_of r.plan in

@@ -3,7 +3,6 @@ pub mod Audited
 pub mod AuditedTexts
 pub mod Limits
 pub mod NestedReports
-pub mod Openings
 pub mod Reported
 pub mod Rests
 pub mod ShortReports

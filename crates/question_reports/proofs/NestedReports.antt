@@ -1,39 +1,22 @@
 -- What is reported of a formula with others inside.
-use Rattle.std.proofs.Common.{◌≡◌, ◌<◌, ◌≤◌, ◌^◌, ◌++◌, ℕ, false, List, length, map, All, Result, Ok, Err, arith, refl, sym, subst}
+use Rattle.std.proofs.Common.{◌≡◌, ◌<◌, ◌≤◌, ◌^◌, ◌++◌, ℕ, false, List, length, map, All, Result, Ok, Err, arith, subst}
 use Rattle.std.specs.Prelude.{IfOk}
 use Rattle.std.proofs.lemmas.List.Elements.{All-map, All-weaker}
 use Rattle.game_outside.specs.declared.OutOfMemory.{OutOfMemory}
 use Rattle.game_model.specs.Game.{IsGame}
 use Rattle.game_model.specs.Limits.{unit}
-use Rattle.rpatl_syntax.specs.Formula.{Tree, formulas_inside, tree_of}
-use Rattle.rpatl_syntax.specs.Limits.{longest}
-use Rattle.rpatl_syntax.specs.Spellable.{IsSpellable}
+use Rattle.rpatl_syntax.specs.Formula.{Tree}
 use Rattle.formula_sets.specs.Posing.{Model}
 use Rattle.nested_truth.specs.declared.answer.Nested.{Nested}
 use Rattle.nested_truth.specs.Nested.{IsNested}
 use Rattle.nested_truth.specs.Seen.{band_of}
 use Rattle.verdicts.specs.Report.{HasCount, IsLine, report}
 use Rattle.verdicts.specs.declared.report.ReportLine.{ReportLine}
-use Rattle.asked_files.specs.declared.model.Loaded.{Loaded}
-use Rattle.asked_files.specs.declared.problem.Problem.{Problem}
-use Rattle.asked_files.specs.declared.problem.Problem.TheVariants.{Until, Within, Next, Always, Nested as Nested'}
-use Rattle.asked_files.specs.Posed.{HasSizes}
-use Rattle.asked_files.specs.SeenProblems.{IsOfLoaded}
-use Rattle.question_reports.specs.Nested.{HasAnswer, IsAnswerable, IsNestedReport, inside_text}
+use Rattle.question_reports.specs.Nested.{IsNestedReport, inside_text}
 use Rattle.run_answers.specs.Printed.{line_at, verdict_at, status_of}
 use Rattle.run_answers.specs.declared.answer.Answer.{Answer}
 use Rattle.run_answers.specs.declared.status.Status.{Status}
 use Rattle.question_reports.proofs.Limits.{at-most}
-
--- what was loaded can be answered, where its formula was read from a text
-pub has-answer : (loaded : Loaded) (problem : Problem) → IsOfLoaded loaded problem → HasSizes loaded.game loaded.labels loaded.owners → IsSpellable (tree_of loaded.formula) → formulas_inside (tree_of loaded.formula) ≤ longest
-    → HasAnswer problem (tree_of loaded.formula)
-has-answer loaded (Until posed) of sizes spellable few = tt
-has-answer loaded (Within posed steps) of sizes spellable few = tt
-has-answer loaded (Next posed) of sizes spellable few = tt
-has-answer loaded (Always posed dual) of sizes spellable few = tt
-has-answer loaded (Nested' other initial) of sizes spellable few =
-    subst (λ (l : Loaded). IsAnswerable l initial.items × (tree_of l.formula ≡ tree_of loaded.formula)) (sym of.0) (record { sizes = sizes; spellable = spellable; few = few; named = of.1 }, refl)
 
 -- bounds that were found, with what their types and their game keep
 pub record IsPrinted (m : Model) (found : Nested) : Type 0 where

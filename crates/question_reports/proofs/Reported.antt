@@ -31,7 +31,7 @@ use Rattle.rpatl_syntax.specs.declared.formula.PathKind.TheVariants.{Until, With
 use Rattle.rpatl_syntax.specs.Dual.{IsAtMostOne, dual_bound, answered_by, answered}
 use Rattle.run_answers.specs.Printed.{is_mirrored, verdict_as, verdict_by, status_of, output_of}
 use Rattle.bracket_engine.specs.Found.{IsFound}
-use Rattle.question_reports.specs.Reports.{IsShown, IsLeftOpen, IsReport}
+use Rattle.question_reports.specs.Reports.{IsShown, IsLeftOpen, IsBracketReport}
 use Rattle.run_answers.specs.Outputs.{output_text, IsInLimits}
 
 -- 1. What verdicts say is so.
@@ -131,7 +131,7 @@ pub reported : {X E : Type 0} (text : X → List ℕ) (ends : X → Status) (q :
     → (result : Result X E)
     → IfOk result (λ answer. text answer ≡ output_text (output_of check.plan f (Rounds found.rounds) initial plan))
     → IfOk result (λ answer. ends answer ≡ status_of (map (verdict_by f plan.lower.items plan.upper.items) initial))
-    → IfOk result (λ answer. IsReport q initial f check (text answer) (ends answer))
+    → IfOk result (λ answer. IsBracketReport q initial f check (text answer) (ends answer))
 reported text ends q initial f check zero found plan ready (Ok answer) written ended = record {
   zero = zero;
   is_zero = ready.is_zero;

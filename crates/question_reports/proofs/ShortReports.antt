@@ -20,7 +20,7 @@ use Rattle.run_answers.specs.declared.status.Status.{Status}
 use Rattle.run_answers.specs.Outputs.{certificate_part, AreEntriesInLimits}
 use Rattle.run_answers.specs.Printed.{line_at, line_by, certificate_of}
 use Rattle.rpatl_syntax.specs.Dual.{answered}
-use Rattle.question_reports.specs.Reports.{IsReport}
+use Rattle.question_reports.specs.Reports.{IsBracketReport}
 use Rattle.question_reports.specs.Sweeps.{IsSweepReport}
 use Rattle.question_reports.specs.Nested.{IsNestedReport, inside_text}
 use Rattle.run_answers.proofs.ShortLines.{entry_bytes, line_bytes, joined-short, decimal-short, report-short, certificate-short}
@@ -44,7 +44,7 @@ lines-short : (initial : List ℕ) (line : ℕ → ReportLine) → length initia
 lines-short initial line few are = omega (arith, few, length-map initial line, report-short (map line initial) are)
 
 pub report-text-short : (q : Query) (initial : List ℕ) (f : Tree) (check : Check) (text : List ℕ) (status : Status) → length initial ≤ most_states → length (spelling (answered f)) ≤ most_spelled
-    → IsReport q initial f check text status → length text ≤ most_bytes
+    → IsBracketReport q initial f check text status → length text ≤ most_bytes
 report-text-short q initial f check text status few small r =
     let lines = map (line_by f (Rounds r.found.rounds) r.plan.lower.items r.plan.upper.items) initial in
     let part = certificate_part (certificate_of check.plan f r.plan) in

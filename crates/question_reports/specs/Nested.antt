@@ -10,8 +10,6 @@ use Rattle.run_refusals.specs.Refusals.{numbered}
 use Rattle.verdicts.specs.Report.{IsLine, report}
 use Rattle.verdicts.specs.declared.report.How.{How}
 use Rattle.asked_files.specs.declared.model.Loaded.{Loaded}
-use Rattle.asked_files.specs.declared.problem.Problem.{Problem}
-use Rattle.asked_files.specs.declared.problem.Problem.TheVariants.{Until, Within, Next, Always, Nested}
 use Rattle.asked_files.specs.Posed.{HasSizes}
 use Rattle.run_answers.specs.Printed.{line_at, verdict_at, status_of}
 use Rattle.run_answers.specs.declared.status.Status.{Status}
@@ -38,11 +36,3 @@ pub record IsAnswerable (loaded : Loaded) (initial : List ℕ) : Type 0 where
   pub spellable : IsSpellable (tree_of loaded.formula)
   pub few : formulas_inside (tree_of loaded.formula) ≤ longest
   pub named : initial_said loaded.labels loaded.owners (tree_of loaded.formula) ≡ Ok initial
-
--- the report can be made: of a formula with others inside, what was loaded poses it, and is of this formula
-abbrev pub HasAnswer : Problem → Tree → Type 0
-HasAnswer (Until posed) f = Unit {0}
-HasAnswer (Within posed steps) f = Unit {0}
-HasAnswer (Next posed) f = Unit {0}
-HasAnswer (Always posed dual) f = Unit {0}
-HasAnswer (Nested loaded initial) f = IsAnswerable loaded.now initial.items × (tree_of loaded.now.formula ≡ f)

@@ -60,7 +60,7 @@ pub record IsLeftOpen (q : Query) (zero : List Bool) (bound : Bound) (asked : �
 -- 2. The answer.
 
 -- the text and the status are the answer to a question: they are those of a bracket after at most the asked rounds. Of `G` the question is that of its dual, and the bounds are mirrored when they are printed.
-pub record IsReport (q : Query) (initial : List ℕ) (f : Tree) (check : Check) (text : List ℕ) (status : Status) : Type 0 where
+pub record IsBracketReport (q : Query) (initial : List ℕ) (f : Tree) (check : Check) (text : List ℕ) (status : Status) : Type 0 where
   pub zero : List Bool
   pub is_zero : IsZeroSet q zero
   pub found : Bracket

@@ -9,8 +9,6 @@ use Rattle.bounded_rounds.specs.Steps.{IsSweep}
 use Rattle.verdicts.specs.Exact.{IsRight}
 use Rattle.verdicts.specs.Report.{IsLine, report}
 use Rattle.verdicts.specs.declared.report.How.TheVariants.{Steps}
-use Rattle.asked_files.specs.declared.problem.Problem.{Problem}
-use Rattle.asked_files.specs.declared.problem.Problem.TheVariants.{Until, Within, Next, Always, Nested}
 use Rattle.run_answers.specs.Printed.{line_at, verdict_at, status_of}
 use Rattle.run_answers.specs.declared.status.Status.{Status}
 
@@ -36,10 +34,3 @@ pub record IsOpening (q : Query) (opening : List ℕ) : Type 0 where
   pub many : length opening ≡ states q
   pub units : All (λ v. v ≤ unit) opening
   pub next : IsNext q (slice_index opening) (opens opening)
-
-abbrev pub HasOpening : Problem → Type 0
-HasOpening (Until posed) = Unit {0}
-HasOpening (Within posed steps) = Unit {0}
-HasOpening (Next posed) = IsOpening posed.question posed.opening.items
-HasOpening (Always posed dual) = Unit {0}
-HasOpening (Nested loaded initial) = Unit {0}

@@ -10,7 +10,7 @@ ghost use Rattle.rpatl_syntax.specs.Formula.{tree_of};
 ghost use Rattle.plan_text.specs.Entries.{HasStates, greatest_rank};
 ghost use Rattle.command_words.specs.Words.{AreInRange, check_of};
 ghost use Rattle.run_answers.specs.Printed.{certificate_of, output_of, status_of, verdict_by};
-ghost use Rattle.question_reports.specs.Reports.{IsReport, IsShown, IsUpperHeld, IsUpperShown};
+ghost use Rattle.question_reports.specs.Reports.{IsBracketReport, IsShown, IsUpperHeld, IsUpperShown};
 ghost use Rattle.run_answers.specs.Outputs.{certificate_part, output_text};
 ghost use Rattle.run_answers.specs.Status.{IsAnswer};
 
@@ -55,7 +55,7 @@ pub fn bracket_report<R: Threads + Sync, G: Gate + Sync>(
     requires in_range { AreInRange (check_of check.now) }
     requires same { tree_of answered.now ≡ answered_of (tree_of spelled.now) }
     requires share { IsAtMostOne spelled.now.bound }
-    ensures report { IfOk result (λ answer. IsReport posed.now.question posed.now.initial.items (tree_of spelled.now) (check_of check.now) answer.text.items answer.status) }
+    ensures report { IfOk result (λ answer. IsBracketReport posed.now.question posed.now.initial.items (tree_of spelled.now) (check_of check.now) answer.text.items answer.status) }
     ensures answer { IfOk result (λ answer. IsAnswer answer.status) }
 {
     let question = &posed.question;

@@ -1,7 +1,7 @@
 -- What is accepted is answered.
-use Rattle.std.proofs.Common.{◌≡◌, ◌<◌, ◌≤◌, ◌⊎◌, ◌↔◌, ◌∙◌, inl, inr, ℕ, Bool, true, List, length, Option, Some, None, ap, refl, subst, sym, arith}
+use Rattle.std.proofs.Common.{◌≡◌, ◌<◌, ◌≤◌, ◌⊎◌, ◌↔◌, ◌∙◌, inl, inr, ℕ, Bool, List, length, Option, Some, None, ap, refl, subst, sym, arith}
 use Rattle.text_lines.specs.Limits.{most_bytes}
-use Rattle.game_outside.specs.Outside.{Holding, Rose}
+use Rattle.game_outside.specs.Outside.{Holding}
 use Rattle.game_model.specs.Query.{Query}
 use Rattle.plan_text.specs.declared.plan.Plan.{Plan}
 use Rattle.certificate_audit.specs.declared.fault.AuditFault.{AuditFault}

@@ -1,4 +1,5 @@
 pub mod Answered
 pub mod Complete
 pub mod Endings
+pub mod Posed
 pub mod Saved

@@ -31,7 +31,7 @@ use Rattle.stogame_app.proofs.Complete.{AreOneCommand}
 use Rattle.run_answers.proofs.Passing.{AreReadBack}
 use Rattle.run_answers.proofs.PlainParts.{spellable-plain, answered-plain}
 use Rattle.run_answers.proofs.ShortSpellings.{most_spelled, spelling-short}
-use Rattle.question_reports.specs.Reports.{IsReport}
+use Rattle.question_reports.specs.Reports.{IsBracketReport}
 use Rattle.question_reports.proofs.ShortReports.{report-text-short, sweep-text-short, nested-text-short}
 use Rattle.question_reports.proofs.Accepting.{AreCertificates, has-posing, report-accepted}
 
@@ -130,7 +130,7 @@ module _ (read_back : AreReadBack) (certificates : AreCertificates) (one : AreOn
 
   -- a certificate of a question whose goals are reached
   reached-accepted : (check : Check) (problem : Problem) (p : Posing) (f : Tree) → posing_in problem ≡ Some p → initial_of problem ≡ p.initial → IsSaved held later check audit text → Checks words (Some held) taken check problem f
-      → IsReport p.question p.initial f check text status → IsAcceptedOf later (OfAudit audit)
+      → IsBracketReport p.question p.initial f check text status → IsAcceptedOf later (OfAudit audit)
   reached-accepted check problem p f reached same saved asks report =
       let few = check-few spellable check problem f asks in
       let states : length p.initial ≤ most_states = subst (λ (xs : List ℕ). length xs ≤ most_states) same few.states in

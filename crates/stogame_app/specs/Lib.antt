@@ -1,5 +1,6 @@
 pub mod Answers
 pub mod Commands
+pub mod Posed
 pub mod Reports
 pub mod Run
 pub mod Status

@@ -16,7 +16,7 @@ use Rattle.asked_files.specs.Sources.{SourceWith}
 use Rattle.asked_files.specs.Asks.{GivenTextWith}
 use Rattle.asked_files.specs.Questions.{PosesIt}
 use Rattle.run_answers.specs.declared.status.Status.{Status}
-use Rattle.question_reports.specs.Reports.{IsReport}
+use Rattle.question_reports.specs.Reports.{IsBracketReport}
 use Rattle.question_reports.specs.Sweeps.{IsSweepReport, opens}
 use Rattle.question_reports.specs.Nested.{IsNestedReport}
 use Rattle.question_reports.specs.Audits.{IsAudit}
@@ -40,10 +40,10 @@ Checks words holding taken check problem f = WordsPose words holding taken (OfCh
 pub data IsReportOfWords (words : List (List ℕ)) (holding : Option Holding) (taken : ℕ) (text : List ℕ) (status : Status) : Type 0 where
   -- `check` of `F` and `U`: bounds of the k-step values
   of_until : (check : Check) (p : Posing) (f : Tree) → Checks words holding taken check (OfUntil p) f
-      → IsReport p.question p.initial f check text status → IsReportOfWords words holding taken text status
+      → IsBracketReport p.question p.initial f check text status → IsReportOfWords words holding taken text status
   -- of `G`: bounds of those of the dual
   of_always : (check : Check) (p : Posing) (f : Tree) → Checks words holding taken check (OfAlways p) f
-      → IsReport p.question p.initial f check text status → IsReportOfWords words holding taken text status
+      → IsBracketReport p.question p.initial f check text status → IsReportOfWords words holding taken text status
   -- of `F<=k` and `U<=k`: bounds of the values of exactly so many steps
   of_within : (check : Check) (steps : ℕ) (p : Posing) (f : Tree) → Checks words holding taken check (OfWithin steps p) f
       → IsSweepReport p.question (opening p.question) steps (numerator p.question steps) p.initial f text status → IsReportOfWords words holding taken text status

@@ -9,10 +9,9 @@ ghost use Rattle.command_words.specs.Words.{AreInRange, OfCheck, check_of};
 ghost use Rattle.asked_files.specs.Problems.{initial_of, states_of};
 ghost use Rattle.asked_files.specs.SeenProblems.{HasDual, IsOfKind, problem_of};
 ghost use Rattle.run_answers.specs.Status.{IsAnswer};
-ghost use Rattle.question_reports.specs.Nested.{HasAnswer};
-ghost use Rattle.question_reports.specs.Sweeps.{HasOpening};
 ghost use Rattle.stogame_app.specs.Answers.{IsAnswered};
 ghost use Rattle.stogame_app.specs.Commands.{check_paths};
+ghost use Rattle.stogame_app.specs.Posed.{IsReportable};
 ghost use Rattle.stogame_app.specs.Reports.{Checks, IsReportOfWords};
 
 use asked_files::{End, Paths, Problem, load_model, pose_loaded};
@@ -62,8 +61,7 @@ fn report_on<R: Threads + Sync, G: Gate + Sync>(
     requires dual { HasDual (tree_of formula.now) problem.now }
     requires share { IsAtMostOne formula.now.bound }
     requires steps { HasKind formula.now.kind (tree_of formula.now).left }
-    requires opening { HasOpening problem.now }
-    requires nested { HasAnswer problem.now (tree_of formula.now) }
+    requires reportable { IsReportable problem.now (tree_of formula.now) }
     ensures report { IfOk result (λ answer. (words : List (List ℕ)) (holding : Option Holding) (taken : ℕ) → Checks words holding taken (check_of check.now) (problem_of problem.now) (tree_of formula.now)
         → IsReportOfWords words holding taken answer.text.items answer.status) }
     ensures answer { IfOk result (λ answer. IsAnswer answer.status) }

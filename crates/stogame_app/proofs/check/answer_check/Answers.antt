@@ -3,8 +3,7 @@ use Rattle.command_words.specs.Words.{check_of}
 use Rattle.asked_files.specs.SeenProblems.{problem_of}
 use Rattle.stogame_app.specs.Commands.{check_paths}
 use Rattle.stogame_app.proofs.Answered.{check_asks, reported, unloaded, unposed, wanting}
-use Rattle.question_reports.proofs.NestedReports.{has-answer}
-use Rattle.question_reports.proofs.Openings.{has-opening}
+use Rattle.stogame_app.proofs.Posed.{reportable}
 use Rattle.stogame_app.proofs.check.answer_check.Goals as goal
 
 pub returns-in_err-loaded : goal.returns-in_err-loaded
@@ -20,17 +19,14 @@ returns-in_err-problem g c =
     let e = c.in_err-problem.ensures in
     rw (p.1, p.2) (unposed (check_asks (check_of c.args.check.now)) problem_of loaded.shelf loaded.reads (rw c.check_paths.ensures at e.says) e.nothing)
 
-pub report_on-requires-clause-opening : goal.report_on-requires-clause-opening
-report_on-requires-clause-opening g c =
-    let asks = c.in_ok-loaded.ensures.reads.asks (check_paths (check_of c.args.check.now)) (problem_of c.in_ok-problem.problem) (rw c.check_paths.ensures at c.in_ok-problem.ensures.says) in
-    let a = asks.asks in
-    λ κs live. has-opening a.game a.labels a.owners a.formula c.in_ok-problem.problem a.poses
-
-pub report_on-requires-clause-nested : goal.report_on-requires-clause-nested
-report_on-requires-clause-nested g c =
+pub report_on-requires-clause-reportable : goal.report_on-requires-clause-reportable
+report_on-requires-clause-reportable g c =
     let loaded = c.in_ok-loaded.ensures in
     let spelled = loaded.reads.spelled in
-    λ κs live. has-answer c.in_ok-loaded.loaded c.in_ok-problem.problem c.in_ok-problem.ensures.same loaded.sizes (c.formulas_of_texts_are_spellable.ensures _ _ spelled) (c.formulas_inside_are_few.ensures _ _ spelled)
+    let asks = loaded.reads.asks (check_paths (check_of c.args.check.now)) (problem_of c.in_ok-problem.problem) (rw c.check_paths.ensures at c.in_ok-problem.ensures.says) in
+    let a = asks.asks in
+    λ κs live. reportable a.game a.labels a.owners a.formula c.in_ok-loaded.loaded c.in_ok-problem.problem a.poses c.in_ok-problem.ensures.same loaded.sizes
+    (c.formulas_of_texts_are_spellable.ensures _ _ spelled) (c.formulas_inside_are_few.ensures _ _ spelled)
 
 pub report_on-requires-clause-steps : goal.report_on-requires-clause-steps
 report_on-requires-clause-steps g c = λ κs live. (c.formulas_of_texts_are_spellable.ensures _ _ c.in_ok-loaded.ensures.reads.spelled).kind

@@ -8,7 +8,7 @@ use Rattle.formula_sets.specs.Seen.{posing_of, next_posing_of}
 use Rattle.command_words.specs.Words.{check_of}
 use Rattle.asked_files.specs.declared.problem.Problem.{Problem}
 use Rattle.asked_files.specs.SeenProblems.{IsOfKind, problem_of}
-use Rattle.question_reports.specs.Nested.{HasAnswer}
+use Rattle.stogame_app.specs.Posed.{IsReportable}
 use Rattle.stogame_app.specs.Reports.{Checks, of_until, of_always, of_within, of_next, of_nested}
 use Rattle.stogame_app.proofs.check.report_on.Goals as goal
 
@@ -50,7 +50,7 @@ pub returns-in-Nested-clause-report : goal.returns-in-Nested-clause-report
 returns-in-Nested-clause-report g c =
     let check = check_of c.args.check.now in
     let f = tree_of c.args.formula.now in
-    let answerable = subst (λ (p : Problem). HasAnswer p f) c.in-Nested.is c.requires.nested in
+    let answerable = subst (λ (p : Problem). IsReportable p f) c.in-Nested.is c.requires.reportable in
     let same = answerable.1 in
     IfOk-weaker c.nested_report.result _ _
     (λ answer report words holding taken asks. of_nested check _ _ f (subst (λ (p : Problem). Checks words holding taken check (problem_of p) f) c.in-Nested.is asks) (rw (same, c.deref.ensures.value) at report)) c.nested_report.ensures.report

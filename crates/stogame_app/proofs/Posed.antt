@@ -1,4 +1,4 @@
--- The opening table of `X`, from what the formula poses.
+-- A problem that was posed can be reported on.
 use Rattle.std.proofs.Common.{◌≡◌, ◌<◌, ◌≤◌, ◌∙◌, ℕ, Bool, true, false, cond, List, length, get_or, refl, sym, ap, subst, arith}
 use Rattle.std.specs.Prelude.{◌==◌, All, slice_index}
 use Rattle.std.proofs.lemmas.Grind.{get_or_default_zero}
@@ -6,14 +6,20 @@ use Rattle.game_model.specs.Game.{Distribution}
 use Rattle.game_model.specs.Limits.{unit}
 use Rattle.label_reader.specs.Labels.{Labelling}
 use Rattle.label_reader.specs.Owners.{Ownership}
-use Rattle.rpatl_syntax.specs.Formula.{Tree}
+use Rattle.rpatl_syntax.specs.Formula.{Tree, formulas_inside, tree_of}
+use Rattle.rpatl_syntax.specs.Limits.{longest}
+use Rattle.rpatl_syntax.specs.Spellable.{IsSpellable}
 use Rattle.formula_sets.specs.Truth.{holds}
 use Rattle.formula_sets.specs.Posing.{NextPosing, PosesNext}
 use Rattle.asked_files.specs.declared.problem.Problem.{Problem}
 use Rattle.asked_files.specs.declared.problem.Problem.TheVariants.{Until, Within, Next, Always, Nested}
 use Rattle.asked_files.specs.Problems.{PosesProblem}
-use Rattle.asked_files.specs.SeenProblems.{problem_of}
-use Rattle.question_reports.specs.Sweeps.{HasOpening, IsOpening, opens}
+use Rattle.asked_files.specs.declared.model.Loaded.{Loaded}
+use Rattle.asked_files.specs.Posed.{HasSizes}
+use Rattle.asked_files.specs.SeenProblems.{IsOfLoaded, problem_of}
+use Rattle.question_reports.specs.Sweeps.{IsOpening, opens}
+use Rattle.question_reports.specs.Nested.{IsAnswerable}
+use Rattle.stogame_app.specs.Posed.{IsReportable}
 
 -- the unit or 0, and which of them it is
 opens-at : (held : Bool) (value : ℕ) → value ≡ cond held unit 0 → (value ≤ unit) × (value ≡ cond (value == unit) unit 0)
@@ -40,9 +46,12 @@ of_next game l o f p poses =
         at-state : (i d : ℕ) → i < length opening → get_or opening i d ≤ unit
         at-state i d there = subst (λ v. v ≤ unit) (sym (get_or_default_zero opening i d there)) (at i (omega (arith, many, there))).0
 
-pub has-opening : (game : List (List Distribution)) (l : Labelling) (o : Ownership) (f : Tree) (problem : Problem) → PosesProblem game l o f (problem_of problem) → HasOpening problem
-has-opening game l o f (Until posed) poses = tt
-has-opening game l o f (Within posed steps) poses = tt
-has-opening game l o f (Next posed) (flat, of, poses) = of_next game l o f _ poses
-has-opening game l o f (Always posed dual) poses = tt
-has-opening game l o f (Nested loaded initial) poses = tt
+-- what was loaded poses a problem that can be reported on, where its formula was read from a text
+pub reportable : (game : List (List Distribution)) (l : Labelling) (o : Ownership) (f : Tree) (loaded : Loaded) (problem : Problem) → PosesProblem game l o f (problem_of problem) → IsOfLoaded loaded problem → HasSizes loaded.game loaded.labels loaded.owners
+    → IsSpellable (tree_of loaded.formula) → formulas_inside (tree_of loaded.formula) ≤ longest → IsReportable problem (tree_of loaded.formula)
+reportable game l o f loaded (Until posed) poses of sizes spellable few = tt
+reportable game l o f loaded (Within posed steps) poses of sizes spellable few = tt
+reportable game l o f loaded (Next posed) (flat, kind, poses) of sizes spellable few = of_next game l o f _ poses
+reportable game l o f loaded (Always posed dual) poses of sizes spellable few = tt
+reportable game l o f loaded (Nested other initial) poses of sizes spellable few =
+    subst (λ (k : Loaded). IsAnswerable k initial.items × (tree_of k.formula ≡ tree_of loaded.formula)) (sym of.0) (record { sizes = sizes; spellable = spellable; few = few; named = of.1 }, refl)
