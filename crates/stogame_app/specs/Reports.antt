@@ -25,7 +25,7 @@ use Rattle.sure_report.specs.Sure.{IsSure}
 use Rattle.stogame_app.specs.Status.{sure_status}
 use Rattle.stogame_app.specs.Commands.{check_paths}
 
--- the words denote this command; there are texts, those that are held where this is told, that pose the problem with what is asked; the formula is spelled there; and no more than the limit was taken of the last text
+-- the words denote this command, and spell this formula; there are texts, those that are held where this is told, that pose this problem with them; and no more than the limit was taken of the last one
 pub record WordsPose (words : List (List ℕ)) (holding : Option Holding) (taken : ℕ) (command : Command) (asked : Asked) (paths : Paths) (problem : Problem) (formula : Tree) : Type 0 where
   pub denoted : AreCommand words command
   pub posed : PosesIt holding asked paths problem
@@ -38,19 +38,19 @@ Checks words holding taken check problem f = WordsPose words holding taken (OfCh
 
 -- The text and the status are the report of the command that the words denote.
 pub data IsReportOfWords (words : List (List ℕ)) (holding : Option Holding) (taken : ℕ) (text : List ℕ) (status : Status) : Type 0 where
-  -- `check` of `F` and `U`: bounds of the k-step values
+  -- `check` of `F` and `U`: bounds of the k-step values of a question
   of_until : (check : Check) (p : Posing) (f : Tree) → Checks words holding taken check (OfUntil p) f
       → IsBracketReport p.question p.initial f check text status → IsReportOfWords words holding taken text status
-  -- of `G`: bounds of those of the dual
+  -- `check` of `G`: the same of its dual
   of_always : (check : Check) (p : Posing) (f : Tree) → Checks words holding taken check (OfAlways p) f
       → IsBracketReport p.question p.initial f check text status → IsReportOfWords words holding taken text status
-  -- of `F<=k` and `U<=k`: bounds of the values of exactly so many steps
+  -- `check` of `F<=k` and `U<=k`: bounds of the values of exactly so many steps
   of_within : (check : Check) (steps : ℕ) (p : Posing) (f : Tree) → Checks words holding taken check (OfWithin steps p) f
       → IsSweepReport p.question (opening p.question) steps (numerator p.question steps) p.initial f text status → IsReportOfWords words holding taken text status
-  -- of `X`: bounds of the values of the next step
+  -- `check` of `X`: bounds of the values of the next step
   of_next : (check : Check) (p : NextPosing) (f : Tree) → Checks words holding taken check (OfNext p) f
       → IsSweepReport p.question (slice_index p.opening) 1 (next_numerator p.question (opens p.opening)) p.initial f text status → IsReportOfWords words holding taken text status
-  -- of a formula with others inside: bounds that are sound for the exact question
+  -- `check` of a formula with others inside: bounds that are sound for the exact question
   of_nested : (check : Check) (model : Model) (initial : List ℕ) (f : Tree) → Checks words holding taken check (OfNested model initial) f
       → IsNestedReport model initial f check.rounds text status → IsReportOfWords words holding taken text status
   -- `audit`: the numbers of a certificate that the question accepts, from the text under its name
