@@ -25,8 +25,8 @@ use std::thread::{Threads, join};
 use team_tables::Team;
 use value_words::Words;
 
-/// Both sides over a base, the values of these words. Where the team has several workers, another thread makes the lower
-/// side while they make the upper one. One worker makes one after the other, and costs no thread.
+/// Both sides over a base, the values of these words. Where the team has several workers, one of them makes the lower side
+/// while the others make the upper one. One worker makes one after the other, and costs no thread.
 pub fn both_sides<R: Threads + Sync>(
     team: &Team<'_, R>,
     alloc: Global,
@@ -63,8 +63,12 @@ pub fn both_sides<R: Threads + Sync>(
         words,
         base,
     };
+    let others = Team {
+        rt: team.rt,
+        workers: team.workers - 1,
+    };
     let upper = UpperJob {
-        team,
+        team: &others,
         alloc,
         question,
         zero,
