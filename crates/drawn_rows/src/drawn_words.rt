@@ -4,7 +4,7 @@ use crate::draws::Draws;
 use crate::plain_reading::{PlainWords, plain_words};
 use command_words::{AskedWords, AuditWords, CheckWords, CommandWords, read_words};
 use game_outside::{OpenGate, SteadyShelf, SteadySink};
-use run_rows::{coin_loop_files, words};
+use run_rows::coin_loop_files;
 use std::alloc::Global;
 use std::process::Abort;
 use std::test::Fail;
@@ -169,7 +169,7 @@ fn read_drawn<R: Threads + Sync + Abort>(
     let mut commands = 0_u32;
     for _ in 0..2500 {
         let list = draw_list(alloc, draws, words)?;
-        let given = words(alloc, &list)?;
+        let given = run_rows::words(alloc, &list)?;
         let plain = plain_words(alloc, &list)?;
         let read = read_words(alloc, &given)?;
         assert!(rt;
