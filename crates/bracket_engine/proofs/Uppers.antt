@@ -41,11 +41,6 @@ IsLeastGuess-both q zero lower kept guess least h first one other lesser = recor
   upper = IsUpper-lesser q guess kept.guess.items least h one other lesser;
 }
 
--- a guess over the same lower bounds is the one that was kept
-pub IsLeastGuess-kept : (q : Query) (zero : List Bool) (kept : SettlingGuess) → IsFirstGuess q zero (slice_index kept.lower.items) kept.guess.items → IsUpper q kept.guess.items
-    → IsLeastGuess q zero (slice_index kept.lower.items) (Some kept) kept.guess.items
-IsLeastGuess-kept q zero kept first one = record { guess = kept.guess.items; first = first; each = λ s inside. omega arith; upper = one }
-
 -- the unit less the co-values, where that is inductive
 rest-at : (covalues unlost : List ℕ) (s : ℕ) → unlost ≡ rests_of covalues → s < length covalues → slice_index unlost s ≡ unit - slice_index covalues s
 rest-at covalues unlost s is inside = ap (λ (l : List ℕ). slice_index l s) is ∙ get_or-map (λ (v : ℕ). unit - v) covalues s 0 0 inside

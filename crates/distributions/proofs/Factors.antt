@@ -35,9 +35,6 @@ twos_divide n some small = lows-divide n (trailing_zeros w64 n) (bit_at-trailing
 pub twos_out : (n : ℕ) → 1 ≤ n → n < 2 ^ 64 → n / 2 ^ trailing_zeros w64 n % 2 ≢ 0
 twos_out n some small = λ e. omega (arith, (bit_at-trailing_zeros w64 n some small).1)
 
-pub twos_few : (n : ℕ) → 1 ≤ n → n < 2 ^ 64 → trailing_zeros w64 n < 64
-twos_few n some small = (bit_at-trailing_zeros w64 n some small).0
-
 -- 2. Both numbers over a factor.
 
 pub value_over : (f a b num den : ℕ) → 1 ≤ f → f ∣ num → f ∣ den → num * b ≡ a * den → (num / f) * b ≡ a * (den / f)

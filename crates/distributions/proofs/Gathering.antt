@@ -1,6 +1,5 @@
 -- Edges by rising destination, and the weights of their destinations.
-use Rattle.std.proofs.Common.{◌≡◌, ◌≢◌, ◌∙◌, ◌<◌, ◌≤◌, ◌+◌, ◌*◌, ◌⊎◌, inl, inr, ℕ, zero, suc, List, [], ◌∷◌, refl, ap, sym, subst, Bool, true, false, cond, length, get_or, drop, arith, add-one, zero-add}
-use Rattle.std.proofs.Math.Seq.{drop-cons}
+use Rattle.std.proofs.Common.{◌≡◌, ◌≢◌, ◌∙◌, ◌<◌, ◌≤◌, ◌+◌, ◌*◌, ◌⊎◌, inl, inr, ℕ, zero, suc, List, [], ◌∷◌, refl, ap, sym, subst, Bool, true, false, cond, length, get_or, arith, zero-add}
 use Rattle.std.specs.List.Sorted.{IsNonDecreasingBy}
 use Rattle.std.specs.Prelude.{◌==◌, All}
 use Rattle.std.proofs.lemmas.Bool.{cases_Bool, cases_lt, eqb-true}
@@ -34,17 +33,6 @@ rising-below least [] to rise h = refl
 rising-below least (e ∷ edges) to rise h =
     let other : e.to ≢ to = λ same. omega (arith, rise.0, same) in
     omega (arith, weight_to-cons e edges to, gives-other e to other, rising-below (e.to + 1) edges to rise.2 (omega (arith, rise.0)))
-
--- one edge before those behind it
-pub rise_step : (edges : List Edge) (i least : ℕ) (d : Edge) → i < length edges → least ≤ (get_or edges i d).to → 1 ≤ (get_or edges i d).weight → RiseFrom ((get_or edges i d).to + 1) (drop (i + 1) edges) → RiseFrom least (drop i edges)
-rise_step edges i least d h up some rest =
-    let P : List Edge → Type 0 = λ es. RiseFrom least es in
-    subst P (sym (drop-cons edges i d h)) (up, some, let Q : ℕ → Type 0 = λ n. RiseFrom ((get_or edges i d).to + 1) (drop n edges) in subst Q (add-one i) rest)
-
-pub stand_step : (edges : List Edge) (i least : ℕ) (d : Edge) → i < length edges → least ≤ (get_or edges i d).to → StandFrom (get_or edges i d).to (drop (i + 1) edges) → StandFrom least (drop i edges)
-stand_step edges i least d h up rest =
-    let P : List Edge → Type 0 = λ es. StandFrom least es in
-    subst P (sym (drop-cons edges i d h)) (up, let Q : ℕ → Type 0 = λ n. StandFrom (get_or edges i d).to (drop n edges) in subst Q (add-one i) rest)
 
 pub StandFrom-places : (least : ℕ) (edges : List Edge) → ((i : ℕ) (d : Edge) → i < length edges → least ≤ (get_or edges i d).to) → IsNonDecreasingBy (λ e. e.to) edges → StandFrom least edges
 StandFrom-places least [] first up = tt

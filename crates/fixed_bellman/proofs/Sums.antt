@@ -9,9 +9,10 @@ use Rattle.game_model.specs.declared.game.Edge.{Edge}
 use Rattle.game_model.specs.Game.{no_edge}
 use Rattle.game_model.specs.Values.{weighted_sum}
 use Rattle.game_model.specs.Limits.{unit, total_bound}
-use Rattle.fixed_bellman.specs.Sums.{IsSumBetween}
+use Rattle.fixed_bellman.specs.Sums.{edges_of, IsSumBetween}
 use Rattle.game_model.proofs.Best.{weighted_sum-le, weighted_sum-most}
 use Rattle.game_model.proofs.Each.{AllByRecursion-always}
+use Rattle.fixed_bellman.proofs.Edges.{length-edges_of, get_or-edges_of}
 
 -- a table of units, past its end too
 pub slice_index-units : (table : List ℕ) → All (λ v. v ≤ unit) table → (t : ℕ) → slice_index table t ≤ unit
@@ -61,3 +62,19 @@ module _ (edges : List Edge) (p sum value : ℕ) (edge : Edge) (there : p < leng
 -- the sum over all edges
 pub IsSumBetween-all : (edges : List Edge) (p sum : ℕ) (old new : ℕ → ℕ) → length edges ≤ p → IsSumBetween (take p edges) old new sum → IsSumBetween edges old new sum
 IsSumBetween-all edges p sum old new past h = subst (λ es. IsSumBetween es old new sum) (take_all p edges past) h
+
+-- Edges that lie as two lists, of successors and of weights: one more, and all.
+module _ (successors weights : List ℕ) (many : length weights ≡ length successors) (p sum : ℕ) where
+  pub listed-more : (value : ℕ) → p < length successors → (old mid new : ℕ → ℕ) → IsSumBetween (take p (edges_of successors weights)) old mid sum
+      → old (get_or successors p 0) ≤ value → ((t : ℕ) → mid t ≤ new t) → value ≤ new (get_or successors p 0) → value ≤ unit
+      → IsSumBetween (take (p + 1) (edges_of successors weights)) old new (sum + get_or weights p 0 * value)
+  listed-more value inside = IsSumBetween-more (edges_of successors weights) p sum value (record { to = get_or successors p 0; weight = get_or weights p 0 })
+      (omega (arith, length-edges_of successors weights many, inside)) (get_or-edges_of successors weights p 0 0 many inside)
+
+  pub listed-fits : (value : ℕ) → p < length successors → (old mid : ℕ → ℕ) → IsSumBetween (take p (edges_of successors weights)) old mid sum
+      → value ≤ unit → sum_by (λ e. e.weight) (edges_of successors weights) * unit < 2 ^ 64 → sum + get_or weights p 0 * value < 2 ^ 64
+  listed-fits value inside = narrow-fits (edges_of successors weights) p sum value (record { to = get_or successors p 0; weight = get_or weights p 0 })
+      (omega (arith, length-edges_of successors weights many, inside)) (get_or-edges_of successors weights p 0 0 many inside)
+
+  pub listed-all : (old new : ℕ → ℕ) → length successors ≤ p → IsSumBetween (take p (edges_of successors weights)) old new sum → IsSumBetween (edges_of successors weights) old new sum
+  listed-all old new past = IsSumBetween-all (edges_of successors weights) p sum old new (omega (arith, length-edges_of successors weights many, past))

@@ -1,5 +1,5 @@
 -- A plan of the Max side reaches at most what the side reaches.
-use Rattle.std.proofs.Common.{◌≡◌, ℕ, zero, suc, ◌*◌, ◌/◌, ◌^◌, ◌≤◌, ◌⊎◌, true, false, List, length, take, drop, arith, refl, inl, inr, Option}
+use Rattle.std.proofs.Common.{ℕ, zero, suc, ◌*◌, ◌/◌, ◌^◌, ◌≤◌, true, false, List, length, take, drop, arith, Option}
 use Rattle.std.specs.Bool.{if◌then◌else◌}
 use Rattle.std.proofs.lemmas.List.Elements.{recursion_from_All, All-from_get_or}
 use Rattle.game_model.specs.declared.game.Side.{Side}
@@ -19,10 +19,6 @@ one-most f xs i =
     let P : Distribution → Type 0 = λ m. f m ≤ optimum Max f xs in
     optimum-most Max f (optimum Max f xs) (take 1 (drop i xs))
     (AllByRecursion-one P xs i (recursion_from_All P xs (All-from_get_or P xs no_distribution (λ k l. optimum-each f xs k no_distribution l))))
-
-cases_side : (side : Side) → (side ≡ Max) ⊎ (side ≡ Min)
-cases_side Max = inl refl
-cases_side Min = inr refl
 
 -- with the plan of the Max side a state has at most what it has without
 planned-most : (f : Distribution → ℕ) (xs : List Distribution) (i : ℕ) (side : Side) → optimum side f (if same_side side Max then take 1 (drop i xs) else xs) ≤ optimum side f xs

@@ -44,9 +44,6 @@ HasNo-append : (x : ℕ) (front back : List ℕ) → HasNo x front → HasNo x b
 HasNo-append x [] back a b = b
 HasNo-append x (y ∷ front) back a b = (a.0, HasNo-append x front back a.1 b)
 
-pub sets_out : (text : TextUnderWay) (rest : Option (List ℕ)) → IsOnTheWay text text rest rest []
-sets_out text rest = record { more = []; takes = takes_none text rest; parts = append-nil text.held; no_lf = tt }
-
 -- where nothing changes but what is held, as much came
 kept_count : (old now new : TextUnderWay) (rest rest' : Option (List ℕ)) (more : List ℕ)
     → Takes old now rest rest' more → new ≡ record now { held = new.held } → Takes old new rest rest' more

@@ -1,11 +1,11 @@
 -- Names in a map, beside what stands at their places.
-use Rattle.std.proofs.Common.{◌≡◌, ◌<◌, ◌≤◌, ◌+◌, ℕ, suc, zero, Bool, true, false, cond, List, [], ◌∷◌, length, replicate, get_or, drop, Some, None, Vec, Global, All, refl, sym, ap, ◌∙◌, inl, inr, arith, is_some, bytes_eq, ltb, ◌||◌}
+use Rattle.std.proofs.Common.{◌≡◌, ◌<◌, ◌≤◌, ◌+◌, ℕ, suc, zero, Bool, true, false, cond, List, [], ◌∷◌, length, replicate, get_or, Some, None, Vec, Global, All, refl, sym, ap, ◌∙◌, inl, inr, arith, is_some, bytes_eq, ltb, ◌||◌}
 use Rattle.std.proofs.lemmas.Bool.{cases_Bool}
 use Rattle.std.specs.List.{list_any, position_or_len}
 use Rattle.std.specs.Map.{keys_of, lookup}
-use Rattle.std.proofs.lemmas.List.{at_drop_more, length-map}
+use Rattle.std.proofs.lemmas.List.{length-map}
 use Rattle.std.proofs.lemmas.Bool.Decides.{nat_tests}
-use Rattle.label_reader.specs.Labels.{Label, marks_of, marked_from}
+use Rattle.label_reader.specs.Labels.{Label, marks_of}
 use Rattle.label_reader.specs.Named.{names_of, labels_named, places_of}
 
 abbrev pub Entries : Type 0
@@ -88,6 +88,3 @@ All-labels_named n (entry ∷ entries) (marks ∷ sets) h = All-front (λ (label
 pub places_of-replicate : (n : ℕ) → places_of (replicate n None) ≡ replicate n 0
 places_of-replicate zero = refl
 places_of-replicate (suc n) = ap (λ (ps : List ℕ). 0 ∷ ps) (places_of-replicate n)
-
-pub marked_more : (marks : List Bool) (i : ℕ) → i < length marks → marked_from i (drop i marks) ≡ cond (get_or marks i false) (i ∷ marked_from (i + 1) (drop (i + 1) marks)) (marked_from (i + 1) (drop (i + 1) marks))
-marked_more marks i h = at_drop_more (λ (t : List Bool). marked_from i t) marks i false h

@@ -1,19 +1,15 @@
 -- What is printed of a bracket.
-use Rattle.std.proofs.Common.{◌≤◌, ◌∙◌, ℕ, Bool, List, length, Result, Ok, Err, sym, ap, subst}
-use Rattle.std.specs.Prelude.{All, IfOk, Option, slice_index}
-use Rattle.game_model.specs.Limits.{unit}
+use Rattle.std.proofs.Common.{◌≤◌, ◌∙◌, ℕ, Bool, List, length, sym, ap, subst}
+use Rattle.std.specs.Prelude.{All, Option, slice_index}
 use Rattle.game_model.specs.Query.{Query, IsQuery, states}
-use Rattle.game_model.specs.Rounded.{IsBelow, IsInductive}
-use Rattle.game_model.specs.Bounds.{IsHigh}
+use Rattle.game_model.specs.Rounded.{IsBelow}
 use Rattle.game_model.specs.Ranks.{Ranked, ReachesUnder}
-use Rattle.inductive_check.specs.Replies.{AreReplies, HoldsUnder}
 use Rattle.rpatl_syntax.specs.declared.formula.Bound.{Bound}
 use Rattle.plan_text.specs.declared.plan.Plan.{Plan}
 use Rattle.plan_text.specs.Entries.{HasStates, greatest_rank}
 use Rattle.certificate_audit.specs.Accepted.{Passes, IsSoundPlan}
 use Rattle.bracket_engine.specs.declared.bounds.Bracket.{Bracket}
 use Rattle.bracket_engine.specs.Choices.{AreChoices}
-use Rattle.trap_sets.specs.Lowered.{IsLoweredTable}
 use Rattle.bracket_engine.specs.Found.{IsFound}
 use Rattle.question_reports.specs.Reports.{IsShown, IsUpperHeld}
 use Rattle.question_reports.proofs.Limits.{IsPrintable}
@@ -31,26 +27,6 @@ held-found q zero bound initial asked found h = record {
   good = h.replies.good;
   holds = h.replies.holds;
 }
-
--- one that is lowered
-pub held-lowered : {X E : Type 0} (items : X → List ℕ) (q : Query) (upper : List ℕ) (replies : List (Option ℕ)) → IsUpperHeld q upper replies → (result : Result X E)
-    → IfOk result (λ table. IsLoweredTable q replies upper (items table))
-    → IfOk result (λ table. All (λ v. v ≤ unit) (items table))
-    → IfOk result (λ table. IsInductive q (slice_index (items table)))
-    → IfOk result (λ table. IsHigh q (slice_index (items table)))
-    → IfOk result (λ table. AreReplies q (slice_index (items table)) replies)
-    → IfOk result (λ table. HoldsUnder q replies (slice_index (items table)))
-    → IfOk result (λ table. IsUpperHeld q (items table) replies)
-held-lowered items q upper replies h (Ok table) lowered units inductive high good holds = record {
-  as_many = lowered.lowered.many ∙ h.as_many;
-  replied = h.replied;
-  units = units;
-  inductive = inductive;
-  high = high;
-  good = good;
-  holds = holds;
-}
-held-lowered items q upper replies h (Err error) lowered units inductive high good holds = tt
 
 -- 2. Plans.
 

@@ -56,6 +56,8 @@ impl Guesses<'_> {
         for steps in 0..MOST_STEPS + 1 {
             let next = lesser_table(alloc, self.question, &table, &marks)?;
             if is_same(&next, &table) {
+                drop(next);
+                drop(marks);
                 return self.rank(alloc, steps, table, predecessors);
             }
             mark_again(

@@ -1,7 +1,6 @@
 -- One stretch of states after another.
-use Rattle.std.proofs.Common.{◌≡◌, ℕ, ◌+◌, ◌≤◌, Bool, true, false, List, arith, refl, sym, ◌∙◌, le_refl, le_trans, inl, inr, subst}
+use Rattle.std.proofs.Common.{◌≡◌, ℕ, ◌+◌, ◌≤◌, Bool, List, arith, sym, ◌∙◌, le_trans, inl, inr, subst}
 use Rattle.std.proofs.lemmas.Bool.{cases_lt}
-use Rattle.std.specs.List.{AllWithin}
 use Rattle.game_model.specs.Query.{Query, IsQuery}
 use Rattle.game_model.specs.Rounded.{down_step}
 use Rattle.step_core.specs.Word.{value_at}
@@ -9,16 +8,6 @@ use Rattle.value_words.specs.Passes.{PassSeat, GrewSeat, LookedSeat}
 use Rattle.value_words.proofs.Grown.{grew-twice, step-rises}
 use Rattle.predecessors.specs.Marks.{IsMarked}
 use Rattle.round_workers.specs.Share.{IsSwept}
-
--- no states yet
-pub swept-none : (q : Query) (marks : List Bool) (low : ℕ) (old : PassSeat) → IsSwept q marks 1 low low old old 0
-swept-none q marks low old = record {
-  grew = record { table = refl; up = λ s. le_refl (value_at old.me.0.seen s) };
-  step = λ s from to _. absurd (omega arith);
-  won = omega arith;
-  few = omega arith;
-  parts = λ _. refl;
-}
 
 -- two stretches, one behind the other
 pub swept-twice : (q : Query) (marks : List Bool) (low middle high : ℕ) (a b c : PassSeat) (m n : ℕ) → IsQuery q → IsSwept q marks 1 low middle a b m → IsSwept q marks 1 middle high b c n → IsSwept q marks 1 low high a c (m + n)
@@ -48,16 +37,6 @@ swept-one q marks i n a b grew step won few parts = record {
   won = won;
   few = omega arith;
   parts = λ _. parts;
-}
-
--- a stretch without a mark
-pub swept-over : (q : Query) (marks : List Bool) (low high : ℕ) (old : PassSeat) → low ≤ high → AllWithin (λ m. m ≡ false) marks low high → IsSwept q marks 1 low high old old 0
-swept-over q marks low high old order off = record {
-  grew = record { table = refl; up = λ s. le_refl (value_at old.me.0.seen s) };
-  step = λ s from to marked. absurd (let clash : true ≡ false = sym marked ∙ off s false from to in cc);
-  won = omega arith;
-  few = omega arith;
-  parts = λ _. refl;
 }
 
 -- a stretch, after words were looked at

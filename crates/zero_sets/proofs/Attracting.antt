@@ -1,7 +1,7 @@
 -- Members that a set draws in have positive values, and outside a closed set all values are 0.
-use Rattle.std.proofs.Common.{◌≡◌, ◌⊎◌, ℕ, zero, suc, ◌*◌, ◌/◌, ◌^◌, ◌<◌, ◌≤◌, Bool, true, false, List, [], ◌∷◌, length, map, get_or, arith, refl, sym, ◌∙◌, subst, sum_by, inl, inr, not}
+use Rattle.std.proofs.Common.{◌≡◌, ℕ, zero, suc, ◌*◌, ◌/◌, ◌^◌, ◌<◌, ◌≤◌, Bool, true, false, List, [], ◌∷◌, length, map, get_or, arith, refl, sym, ◌∙◌, subst, sum_by, inl, inr, not}
 use Rattle.std.specs.List.{AllByRecursion, list_any, list_all}
-use Rattle.std.specs.Prelude.{slice_index_or, slice_set, ◌||◌, ◌&&◌}
+use Rattle.std.specs.Prelude.{slice_index_or, slice_set}
 use Rattle.std.specs.Bool.{if◌then◌else◌}
 use Rattle.std.proofs.lemmas.Bool.{cases_eq, or_cases, or_parts, and_parts, and_cases}
 use Rattle.std.proofs.lemmas.List.{get_or-set_other, get_or-map, length-map}

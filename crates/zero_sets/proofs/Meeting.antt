@@ -1,5 +1,5 @@
 -- Choices that meet a set, and states that a set draws in.
-use Rattle.std.proofs.Common.{◌≡◌, ◌⊎◌, ℕ, ◌<◌, Bool, true, false, List, [], ◌∷◌, length, map, get_or, arith, refl, sym, ap, ◌∙◌, inl, inr, ◌||◌}
+use Rattle.std.proofs.Common.{◌≡◌, ℕ, ◌<◌, Bool, true, false, List, [], ◌∷◌, length, map, get_or, arith, refl, sym, ap, ◌∙◌, inl, inr, ◌||◌}
 use Rattle.std.proofs.lemmas.Bool.{cases_Bool}
 use Rattle.std.specs.Prelude.{slice_index_or, Contains}
 use Rattle.std.specs.Bool.{if◌then◌else◌}

@@ -1,10 +1,8 @@
 -- Testing the states that are no members.
-use Rattle.std.proofs.Common.{◌≡◌, ◌≢◌, ℕ, suc, ◌+◌, ◌<◌, Bool, true, false, List, [], ◌∷◌, length, get_or, set, take, arith, refl, sym, ap, ◌∙◌, subst, inl, inr}
+use Rattle.std.proofs.Common.{◌≡◌, ◌≢◌, ℕ, suc, ◌+◌, ◌<◌, Bool, true, false, List, [], ◌∷◌, length, set, take, arith, refl, sym, ap, ◌∙◌, subst, inl, inr}
 use Rattle.std.specs.Prelude.{slice_index, slice_index_or, Contains}
-use Rattle.std.specs.List.{list_any}
 use Rattle.std.proofs.lemmas.Bool.{cases_eq, cases_Bool}
 use Rattle.std.proofs.lemmas.List.{take_all, take-append-le, get_or_default}
-use Rattle.std.proofs.lemmas.List.Folds.{list_any_at}
 use Rattle.std.proofs.lemmas.List.Elements.{Contains-append_cases}
 use Rattle.game_model.specs.Growing.{IsLonger}
 use Rattle.game_model.specs.Game.{Distribution, choice_of}
@@ -15,13 +13,6 @@ use Rattle.predecessors.specs.Lists.{ArePredecessors}
 use Rattle.zero_sets.specs.Attractor.{meets}
 use Rattle.zero_sets.specs.Growing.{moves_into, IsOrder, IsGrowth, IsLarger, IsTested}
 use Rattle.zero_sets.proofs.Meeting.{meets-at, meets-more}
-
--- what a test of a list says of each element
-pub any-false : {X : Type 0} (p : X → Bool) (xs : List X) (i : ℕ) (d : X) → list_any p xs ≡ false → i < length xs → p (get_or xs i d) ≡ false
-any-false p xs i d none l = elim (cases_Bool (p (get_or xs i d))) [
-  | inl holds ↦ let some : list_any p xs ≡ true = list_any_at p xs i d l holds in absurd (cc)
-  | inr fails ↦ fails
-]
 
 smaller-misses : (set more : List Bool) (m : Distribution) → IsLarger set more → meets more m ≡ false → meets set m ≡ false
 smaller-misses set more m larger misses = elim (cases_Bool (meets set m)) [
@@ -57,25 +48,6 @@ tested-more q old members members' awaited awaited' t larger grown before others
       ] in
       IsTested-in q old awaited awaited' s (others s other) (before s (omega arith) was_out alive)
 ]
-
--- growth by some moves is growth by none
-pub IsGrowth-none : (q : Query) (followed : List Move) (members : List Bool) (awaited order : List ℕ) → IsGrowth q followed members awaited order → IsGrowth q [] members awaited order
-IsGrowth-none q followed members awaited order h = record {
-  many = h.many;
-  as_many = h.as_many;
-  ordered = h.ordered;
-  reached = h.reached;
-  goals = h.goals;
-  leads = λ s c among. absurd (omega (arith, among.1));
-  left = λ s l out alive. record {
-    greatest = λ is_side c lc among. omega (arith, among.1);
-    least = λ is_side. record {
-      inside = ((h.left s l out alive).least is_side).inside;
-      before = ((h.left s l out alive).least is_side).before;
-      still = λ among. omega (arith, among.1);
-    };
-  };
-}
 
 -- a move in these lists is in one of them
 moves_into-cases : (lists : List (List Move)) (order : List ℕ) (m : Move) → Contains (moves_into lists order) m → (u : ℕ) × Contains order u × Contains (slice_index_or lists u []) m
