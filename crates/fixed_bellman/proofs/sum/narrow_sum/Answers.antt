@@ -4,13 +4,19 @@ use Rattle.fixed_bellman.proofs.sum.narrow_sum.Goals as goal
 
 pub overflow_mul-sum : goal.overflow_mul-sum
 overflow_mul-sum g c =
-    omega (arith, listed-fits c.args.successors.now c.args.weights.now c.requires.many c.loop-place.place c.loop-place.sum c.value.result c.loop-place-test.true
-    (g.V.Values.seen c.args.values.now c.args.pass.now) (g.V.Values.seen c.args.values.now c.loop-place.pass) c.loop-place.invariant.sum c.value.ensures.units c.requires.narrow)
+    omega (
+      arith,
+      listed-fits c.args.successors.now c.args.weights.now c.requires.many c.loop-place.place c.loop-place.sum c.value.result c.loop-place-test.true
+          (g.V.Values.seen c.args.values.now c.args.pass.now) (g.V.Values.seen c.args.values.now c.loop-place.pass) c.loop-place.invariant.sum c.value.ensures.units c.requires.narrow,
+    )
 
 pub overflow_add-sum : goal.overflow_add-sum
 overflow_add-sum g c =
-    omega (arith, listed-fits c.args.successors.now c.args.weights.now c.requires.many c.loop-place.place c.loop-place.sum c.value.result c.loop-place-test.true
-    (g.V.Values.seen c.args.values.now c.args.pass.now) (g.V.Values.seen c.args.values.now c.loop-place.pass) c.loop-place.invariant.sum c.value.ensures.units c.requires.narrow)
+    omega (
+      arith,
+      listed-fits c.args.successors.now c.args.weights.now c.requires.many c.loop-place.place c.loop-place.sum c.value.result c.loop-place-test.true
+          (g.V.Values.seen c.args.values.now c.args.pass.now) (g.V.Values.seen c.args.values.now c.loop-place.pass) c.loop-place.invariant.sum c.value.ensures.units c.requires.narrow,
+    )
 
 pub loop-place-preserved : goal.loop-place-preserved
 loop-place-preserved g c =
