@@ -1,7 +1,10 @@
 //! Formulas with formulas inside, over random games of two players: the bounds lie around the exact values, and what they say of
 //! thresholds is true.
 
-ghost use Rattle.std.specs.Prelude.{◌≤◌};
+ghost use Rattle.std.specs.Prelude.{◌≤◌, IfOk};
+ghost use Rattle.rpatl_syntax.specs.Formula.{formulas_inside, tree_of};
+ghost use Rattle.rpatl_syntax.specs.Limits.{longest};
+ghost use Rattle.rpatl_syntax.specs.Spellable.{IsSpellable};
 ghost use Rattle.bracket_engine.specs.Limits.{most_rounds};
 ghost use Rattle.bounded_rounds.specs.Limits.{most_workers};
 
@@ -14,8 +17,11 @@ use crate::nested_values::{Exact, share_of};
 use crate::random_games::Draw;
 use game_outside::OpenGate;
 use nested_truth::{Nested, nested};
-use rpatl_syntax::laws::{formulas_inside_are_few, formulas_of_texts_are_spellable};
-use rpatl_syntax::read_formula;
+use rpatl_syntax::laws::{
+    formulas_are_those_that_a_text_denotes, formulas_inside_are_few,
+    formulas_of_texts_are_spellable,
+};
+use rpatl_syntax::{Formula, read_formula};
 use std::alloc::Global;
 use std::process::Abort;
 use std::test::Fail;
@@ -63,6 +69,21 @@ fn with_values<'t>(
     Ok(all)
 }
 
+// The formula that a text denotes.
+fn formula_of(alloc: Global, text: &str) -> Result<Formula, Fail>
+    ensures spellable { IfOk result (λ formula. IsSpellable (tree_of formula)) }
+    ensures few { IfOk result (λ formula. formulas_inside (tree_of formula) ≤ longest) }
+{
+    // Three laws: these calls do nothing.
+    formulas_are_those_that_a_text_denotes();
+    formulas_of_texts_are_spellable();
+    formulas_inside_are_few();
+    match read_formula(alloc, text) {
+        Ok(formula) => Ok(formula),
+        Err(_) => Err(Fail::new("the formula is refused")),
+    }
+}
+
 // The answer to a formula, read from its text.
 fn answer_of<R: Threads + Sync>(
     rt: &R,
@@ -76,11 +97,7 @@ fn answer_of<R: Threads + Sync>(
     requires some { 1 ≤ workers }
     requires few { workers ≤ most_workers }
 {
-    let Ok(formula) = read_formula(alloc, text) else {
-        return Err(Fail::new("the formula is refused"));
-    };
-    formulas_of_texts_are_spellable();
-    formulas_inside_are_few();
+    let formula = formula_of(alloc, text)?;
     match nested(
         rt,
         alloc,

@@ -1,11 +1,15 @@
 //! Random games of two players whose states have labels, the same for the same seed.
 
-ghost use Rattle.std.specs.Prelude.{◌≡◌, length};
+ghost use Rattle.std.specs.Prelude.{◌≡◌, ◌≤◌, IfOk, length};
+ghost use Rattle.text_lines.specs.Limits.{most_bytes};
 
 use crate::draft::Draft;
 use crate::nested_values::Seen;
 use crate::random_games::{Draw, Shape, random_edges};
 use game_model::Game;
+use label_reader::laws::{
+    labels_are_those_that_a_text_denotes, owners_are_those_that_a_text_denotes,
+};
 use label_reader::{Labels, Owners, read_labels, read_owners};
 use std::alloc::Global;
 use std::test::Fail;
@@ -87,6 +91,32 @@ fn text_of_owners(alloc: Global, of_second: &[bool]) -> Result<String, Fail> {
     Ok(text)
 }
 
+// The labels that a text denotes.
+fn labels_of(alloc: Global, text: &[u8], states: u32) -> Result<Labels, Fail>
+    requires { length text.now ≤ most_bytes }
+    ensures { IfOk result (λ labels. labels.states ≡ states) }
+{
+    // A law: this call does nothing.
+    labels_are_those_that_a_text_denotes();
+    match read_labels(alloc, text, states) {
+        Ok(labels) => Ok(labels),
+        Err(_) => Err(Fail::new("the labels are refused")),
+    }
+}
+
+// The owners that a text denotes.
+fn owners_of(alloc: Global, text: &[u8], states: u32) -> Result<Owners, Fail>
+    requires { length text.now ≤ most_bytes }
+    ensures { IfOk result (λ owners. length owners.owners ≡ states) }
+{
+    // A law: this call does nothing.
+    owners_are_those_that_a_text_denotes();
+    match read_owners(alloc, text, states) {
+        Ok(owners) => Ok(owners),
+        Err(_) => Err(Fail::new("the owners are refused")),
+    }
+}
+
 /// A game with owners and labels that are drawn.
 pub fn random_model<'g>(alloc: Global, draw: &mut Draw, game: &'g Game) -> Result<Model<'g>, Fail> {
     let states = game.states();
@@ -99,12 +129,8 @@ pub fn random_model<'g>(alloc: Global, draw: &mut Draw, game: &'g Game) -> Resul
     if labels_text.len() > MOST_BYTES || owners_text.len() > MOST_BYTES {
         return Err(Fail::new("the texts are too long"));
     }
-    let Ok(labels) = read_labels(alloc, labels_text, states) else {
-        return Err(Fail::new("the labels are refused"));
-    };
-    let Ok(owners) = read_owners(alloc, owners_text, states) else {
-        return Err(Fail::new("the owners are refused"));
-    };
+    let labels = labels_of(alloc, labels_text, states)?;
+    let owners = owners_of(alloc, owners_text, states)?;
     let seen = Seen {
         game,
         of_second,
