@@ -57,7 +57,7 @@ pub record LoadingLeaves {S X : Type 0} (held : S → Option Holding) (steady : 
   pub takes : Takes result (took new)
   pub kept : KeepsShelf (held old) (held new) (steady old) (steady new) (faults old) (faults new)
 
--- the fault for which a file that has this text's place is refused; or else how loading ends
+-- why a file that was not accepted gives no text: the fault that its reader found; or, where it was not read to its end, how loading ends
 abbrev pub fault_of : {F : Type 0} → Text → FileEnd F → Result F End
 fault_of text file.OutOfMemory = Err OutOfMemory
 fault_of text file.ReadFault = Err ReadFault

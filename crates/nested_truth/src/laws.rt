@@ -13,7 +13,7 @@ ghost use Rattle.nested_truth.specs.Bands.{Band, Bands, known, undecided_in};
 ghost use Rattle.nested_truth.specs.Runs.{AreFound, AreFoundBy};
 ghost use Rattle.nested_truth.specs.Coarse.{AreCoarse, AreOpenWithin, AreWithin, IsCoarse, IsFiner};
 
-/// There is at most one truth: two tellings that are true of every formula say the same at all states.
+/// There is at most one truth: two valuations that are true of every formula say the same at all states.
 pub fn there_is_one_truth()
     ensures { (m : Model) (valuation other : Valuation) → IsGame m.game → IsTruth m valuation → IsTruth m other → (f : Tree) (s : ℕ) → s < states m → valuation f s ≡ other f s }
 {}

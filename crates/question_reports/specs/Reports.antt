@@ -68,9 +68,9 @@ pub record IsBracketReport (q : Query) (initial : List ℕ) (f : Tree) (check : 
   pub plan : Plan
   pub shown : IsShown q check.traps found plan
   pub lists : HasStates plan (states q)
-  -- each lower bound, less any 1/m, is at most some k-step value
+  -- each lower bound of the plan, less any 1/m, is at most some k-step value
   pub near : IsNear q (slice_index plan.lower.items)
-  -- each upper bound is at least every k-step value (so is it in `sound`; here it is read)
+  -- each upper bound of the plan is at least every k-step value; `sound` says so too
   pub high : IsHigh q (slice_index plan.upper.items)
   -- the minimiser's choices hold every opponent to the upper bounds, and the maximiser's reach the lower ones, less any 1/m
   pub sound : IsSoundPlan q plan

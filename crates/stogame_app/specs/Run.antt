@@ -60,13 +60,13 @@ IsOutput words holding taken text = ((status : Status) × IsReportOfWords words 
 
 -- 2. How a run ends.
 
--- the output grew by such a text
+-- there is such a text, by which the output grew where its bytes are told
 pub record Writes (old new : Option (List ℕ)) (IsText : List ℕ → Type 0) : Type 0 where
   pub text : List ℕ
   pub is : IsText text
   pub grows : GrowsBy old new text
 
--- it grew by a front of such a text
+-- there is such a text, by a front of which it grew where they are told
 pub record WritesFront (old new : Option (List ℕ)) (IsText : List ℕ → Type 0) : Type 0 where
   pub text : List ℕ
   pub is : IsText text
