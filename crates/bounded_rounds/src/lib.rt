@@ -13,8 +13,6 @@ mod limits;
 mod part;
 mod sweep;
 mod tables;
-#[cfg(test)]
-mod tests;
 mod values;
 
 pub use limits::{MOST_STEPS, MOST_WORKERS};

@@ -24,6 +24,3 @@ mod upper;
 pub use bounds::Bracket;
 pub use bracketed::{Bracketed, bracket_for};
 pub use run::{MOST_ROUNDS, bracket, bracket_over};
-
-#[cfg(test)]
-mod tests;

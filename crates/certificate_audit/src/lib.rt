@@ -11,8 +11,6 @@ mod certificate;
 mod fault;
 pub mod laws;
 mod plan;
-#[cfg(test)]
-mod tests;
 
 pub use certificate::audit;
 pub use fault::AuditFault;

@@ -8,8 +8,6 @@ mod grammar;
 pub mod laws;
 mod limits;
 mod said;
-#[cfg(test)]
-mod tests;
 mod words;
 
 pub use words::{AskedWords, AuditWords, CheckWords, CommandWords, MakeWords, read_words};

@@ -145,33 +145,3 @@ pub fn make_choice(alloc: Global, parts: &[Part]) -> Result<Choice, ChoiceFault>
     };
     choice_of_edges(common, edges)
 }
-
-#[cfg(test)]
-mod tests {
-    use super::*;
-    use crate::fraction::compare;
-    use crate::number::read_number;
-    use std::cmp::Ordering;
-    use std::test::Fail;
-
-    #[test]
-    fn parts_add_up(rt: HostRuntime) -> Result<(), Fail> {
-        let half = read_number(b"0.5").ok().ok_or("no half")?;
-        let quarter = read_number(b"1/4").ok().ok_or("no quarter")?;
-        assert_eq!(rt; compare(&quarter, &half), Ordering::Less);
-        let parts = [
-            Part {
-                to: 7,
-                share: quarter,
-            },
-            Part { to: 3, share: half },
-            Part {
-                to: 7,
-                share: quarter,
-            },
-        ];
-        let choice = make_choice(rt.alloc(), &parts).ok().ok_or("no choice")?;
-        assert_eq!(rt; choice.total(), 4);
-        Ok(())
-    }
-}

@@ -106,21 +106,3 @@ fn wide_product(a: u128, b: u128) -> Wide
         low: lowest % WORD,
     }
 }
-
-#[cfg(test)]
-mod tests {
-    use super::*;
-    use crate::number::read_number;
-    use std::test::Fail;
-
-    #[test]
-    fn rests_make_one(rt: HostRuntime) -> Result<(), Fail> {
-        let share = read_number(b"3/8").ok().ok_or("no share")?;
-        if share.num() <= share.den() {
-            let rest = share.rest();
-            assert_eq!(rt; (rest.num(), rest.den()), (5, 8));
-            return Ok(());
-        }
-        Err(Fail::new("above one"))
-    }
-}

@@ -235,25 +235,3 @@ pub fn read_number(text: &[u8]) -> Result<Frac, NumberFault>
         None => number_in(text),
     }
 }
-
-#[cfg(test)]
-mod tests {
-    use super::*;
-    use std::test::Fail;
-
-    fn read(text: &[u8]) -> Result<(u128, u128), NumberFault> {
-        match read_number(text) {
-            Ok(number) => Ok((number.num(), number.den())),
-            Err(fault) => Err(fault),
-        }
-    }
-
-    #[test]
-    fn numbers_are_read(rt: HostRuntime) -> Result<(), Fail> {
-        assert_eq!(rt; read(b"0.25"), Ok((1, 4)));
-        assert_eq!(rt; read(b"1e-23"), Ok((1, 100_000_000_000_000_000_000_000)));
-        assert_eq!(rt; read(b"2/6"), Ok((1, 3)));
-        assert_eq!(rt; read(b"1e-24"), Err(NumberFault::TooFine));
-        Ok(())
-    }
-}

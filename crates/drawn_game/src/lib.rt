@@ -26,8 +26,7 @@ mod draws;
 pub mod laws;
 mod limits;
 mod states;
-#[cfg(test)]
-mod tests;
 
 pub use drawn::{Drawn, draw_game};
+pub use draws::Draws;
 pub use limits::{FEWEST_STATES, MOST_SEED};

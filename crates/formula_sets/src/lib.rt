@@ -23,8 +23,6 @@ pub mod laws;
 mod next;
 mod question;
 mod sides;
-#[cfg(test)]
-mod tests;
 
 pub use fault::PoseFault;
 pub use flat::is_flat;

@@ -26,8 +26,6 @@ mod name;
 mod search;
 mod shelf;
 mod sink;
-#[cfg(test)]
-mod tests;
 
 pub use file::{FileEnd, read_lines_from};
 pub use gate::{Gate, OpenGate};

@@ -13,8 +13,6 @@ mod dual;
 mod held;
 pub mod laws;
 mod reply;
-#[cfg(test)]
-mod tests;
 mod upper;
 
 pub use dual::swap;

@@ -33,8 +33,6 @@ mod owner_text;
 mod owners;
 mod state_line;
 mod state_set;
-#[cfg(test)]
-mod tests;
 
 pub use faults::{LabCause, LabFault};
 pub use files::{read_labels_from, read_owners_from};

@@ -21,8 +21,6 @@ mod run;
 mod setting;
 mod states;
 mod sweeps;
-#[cfg(test)]
-mod tests;
 
 pub use answer::Nested;
 pub use run::nested;

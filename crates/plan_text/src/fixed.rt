@@ -46,22 +46,3 @@ fn last_digits_of(number: u64) -> [u8; UNIT_DIGITS]
     }
     digits
 }
-
-#[cfg(test)]
-mod tests {
-    use super::*;
-    use std::test::Fail;
-
-    #[test]
-    fn values_have_fifteen_digits_behind_the_point(rt: HostRuntime) -> Result<(), Fail> {
-        let Ok(most) = fixed_text(rt.alloc(), 1_000_000_000_000_000) else {
-            return Err(Fail::new("no memory"));
-        };
-        assert_eq!(rt; most.as_slice(), b"1.000000000000000".as_slice());
-        let Ok(small) = fixed_text(rt.alloc(), 20_003) else {
-            return Err(Fail::new("no memory"));
-        };
-        assert_eq!(rt; small.as_slice(), b"0.000000000020003".as_slice());
-        Ok(())
-    }
-}

@@ -14,8 +14,6 @@ pub mod laws;
 mod onto;
 mod plan;
 mod read;
-#[cfg(test)]
-mod tests;
 mod version;
 mod write;
 

@@ -27,10 +27,6 @@ mod layers;
 mod lesser;
 mod met;
 mod table;
-#[cfg(test)]
-mod tests;
-#[cfg(test)]
-mod tests_of_guesses;
 
 pub use check::{RankCause, RankFault, check_ranks};
 pub use find::{find_ranks, find_ranks_over};

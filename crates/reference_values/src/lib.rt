@@ -12,6 +12,3 @@ mod sum;
 
 pub use fault::ValueFault;
 pub use recursion::numerators;
-
-#[cfg(test)]
-mod tests;

@@ -126,6 +126,3 @@ fn copied_place(alloc: Global, state: &StateFormula) -> Result<Box<StateFormula>
         Err(_) => Err(OutOfMemory {}),
     }
 }
-
-#[cfg(test)]
-mod tests;

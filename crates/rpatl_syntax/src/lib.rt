@@ -22,8 +22,6 @@ mod limits;
 mod print;
 mod read;
 mod states;
-#[cfg(test)]
-mod tests;
 mod tokens;
 
 pub use duals::dual;

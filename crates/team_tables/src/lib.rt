@@ -6,7 +6,5 @@
 #![tactic(auto)]
 
 mod team;
-#[cfg(test)]
-mod tests;
 
 pub use team::Team;

@@ -34,8 +34,6 @@ mod order;
 mod ordered;
 mod progress;
 mod reader;
-#[cfg(test)]
-mod tests;
 mod whole_choices;
 
 pub use fault::{TraCause, TraFault};

@@ -36,8 +36,6 @@ mod lower;
 mod numbers;
 mod order;
 mod rounds;
-#[cfg(test)]
-mod tests;
 mod trim;
 
 pub use lower::{lower_traps, lower_traps_over};

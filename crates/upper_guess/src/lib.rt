@@ -108,6 +108,3 @@ pub fn guess_with<'a, M: UpTables>(
     }
     unreachable!()
 }
-
-#[cfg(test)]
-mod tests;

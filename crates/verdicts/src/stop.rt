@@ -53,27 +53,3 @@ impl<F: Fn(u64, u64) -> bool> StopRule<F> {
         self.bound
     }
 }
-
-#[cfg(test)]
-mod tests {
-    use super::*;
-    use crate::verdict::{Verdict, settle};
-    use distributions::read_number;
-    use std::test::Fail;
-
-    #[test]
-    fn a_run_may_stop_where_its_bound_is_settled(rt: HostRuntime) -> Result<(), Fail> {
-        let Ok(share) = read_number(b"3/5") else {
-            return Err(Fail::new("no number"));
-        };
-        let bound = Bound::AtLeast(share);
-        let stop = StopRule::of_bound(bound, |lower, upper| {
-            matches!(settle(&bound, lower, upper), Verdict::Yes | Verdict::No)
-        });
-        assert_eq!(rt; stop.bound(), bound);
-        assert!(rt; stop.asks(600_000_000_000_000, 1_000_000_000_000_000));
-        assert!(rt; stop.asks(0, 599_999_999_999_999));
-        assert!(rt; !stop.asks(0, 600_000_000_000_000));
-        Ok(())
-    }
-}

@@ -48,6 +48,3 @@ pub fn zero_set_over(
     let attractor = attractor_of(alloc, question, predecessors)?;
     Ok(Marks::of_list(attractor.others(alloc)?))
 }
-
-#[cfg(test)]
-mod tests;

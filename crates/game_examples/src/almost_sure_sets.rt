@@ -1,0 +1,87 @@
+//! Worked almost-sure sets.
+
+ghost use Rattle.std.specs.Prelude.{◌≡◌, [], ◌∷◌, length, IfOk};
+
+use almost_sure::almost_sure;
+use game_model::{Choice, Game, Question, Side};
+use game_outside::OutOfMemory;
+use sample_games::{all_of, chain, coin_loop, goal_or_sink, none_of, only, pair, to};
+use std::alloc::{AllocError, Global};
+use std::test::Fail;
+
+#[test]
+fn three_states(rt: HostRuntime) -> Result<(), Fail> {
+    let alloc = rt.alloc();
+    // A coin that may fall on the sink.
+    let game = coin_loop(alloc)?;
+    assert_eq!(rt; sure_of(alloc, &game, Side::Max)?, (false, true, false));
+    // One that is tossed until it falls on the goal.
+    let game = coin(alloc)?;
+    assert_eq!(rt; sure_of(alloc, &game, Side::Max)?, (true, true, false));
+    // Where it may fall on the sink, to wait does not help.
+    let game = wait_or_coin(alloc)?;
+    assert_eq!(rt; sure_of(alloc, &game, Side::Max)?, (false, true, false));
+    // The minimiser goes to the sink.
+    let game = goal_or_sink(alloc)?;
+    assert_eq!(rt; sure_of(alloc, &game, Side::Max)?, (true, true, false));
+    assert_eq!(rt; sure_of(alloc, &game, Side::Min)?, (false, true, false));
+    Ok(())
+}
+
+#[test]
+fn a_dead_state_cuts_a_chain(rt: HostRuntime) -> Result<(), Fail> {
+    let alloc = rt.alloc();
+    let game = chain(alloc, 40)?;
+    let sides = all_of(alloc, Side::Min, 40)?;
+    let question = Question::build(&game, sides, only(alloc, 39, 40)?, only(alloc, 20, 40)?);
+    let Ok(marks) = almost_sure(alloc, &question) else {
+        return Err(Fail::new("no memory"));
+    };
+    assert_eq!(rt; marks.count(), 19);
+    Ok(())
+}
+
+/// Whether each of three states is almost sure, where state 1 is the goal and one side chooses at all.
+fn sure_of(alloc: Global, game: &Game, side: Side) -> Result<(bool, bool, bool), OutOfMemory>
+    requires { length game.now ≡ 3 }
+{
+    let sides = all_of(alloc, side, 3)?;
+    let question = Question::build(game, sides, only(alloc, 1, 3)?, none_of(alloc, 3)?);
+    match almost_sure(alloc, &question) {
+        Ok(marks) => Ok((marks.has(0), marks.has(1), marks.has(2))),
+        Err(error) => Err(error),
+    }
+}
+
+/// State 0 stays or goes to 1 with 1/2 each; 1 and 2 stay.
+fn coin(alloc: Global) -> Result<Game, OutOfMemory>
+    ensures { IfOk result (λ game. length game ≡ 3) }
+{
+    let mut states = Vec::new(alloc);
+    states.push(alone(alloc, pair(alloc, (0, 1), (1, 1))?)?)?;
+    states.push(alone(alloc, to(alloc, 1)?)?)?;
+    states.push(alone(alloc, to(alloc, 2)?)?)?;
+    Game::from_choices(alloc, states)
+}
+
+/// State 0 stays, or goes to 1 and 2 with 1/2 each; 1 and 2 stay.
+fn wait_or_coin(alloc: Global) -> Result<Game, OutOfMemory>
+    ensures { IfOk result (λ game. length game ≡ 3) }
+{
+    let mut states = Vec::new(alloc);
+    let mut choices = alone(alloc, to(alloc, 0)?)?;
+    choices.push(pair(alloc, (1, 1), (2, 1))?)?;
+    states.push(choices)?;
+    states.push(alone(alloc, to(alloc, 1)?)?)?;
+    states.push(alone(alloc, to(alloc, 2)?)?)?;
+    Game::from_choices(alloc, states)
+}
+
+/// One choice at a state.
+fn alone(alloc: Global, choice: Choice) -> Result<Vec<Choice>, AllocError>
+    ensures { IfOk result (λ c. c.items ≡ choice ∷ []) }
+{
+    let mut choices = Vec::new(alloc);
+    choices.push(choice)?;
+    Ok(choices)
+}

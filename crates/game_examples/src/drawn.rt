@@ -1,0 +1,164 @@
+//! Drawn games against the rules as they are written down.
+
+ghost use Rattle.std.specs.Prelude.{◌<◌, ◌≤◌, ◌^◌, length};
+ghost use Rattle.game_model.specs.Game.{choices_of};
+
+use drawn_game::{Drawn, Draws, draw_game};
+use game_model::{Game, Side};
+use std::alloc::{AllocError, Global};
+use std::test::Fail;
+
+#[test]
+fn the_generator_gives_the_known_draw(rt: HostRuntime) {
+    // The C++ standard gives the 10,000th draw of `minstd_rand`, whose seed is 1.
+    let mut draws = Draws::from_seed(1);
+    for _draw in 1..10_000 {
+        draws.draw();
+    }
+    assert_eq!(rt; draws.draw(), 399_268_537);
+}
+
+// A line for each state: its side, and of each choice the total and the edges.
+fn text_of(alloc: Global, drawn: &Drawn) -> Result<String, AllocError> {
+    drawn.known();
+    let game = drawn.game();
+    let sides = drawn.sides();
+    let mut text = String::new(alloc);
+    for state in 0..game.states() {
+        text.push_str(side_text(sides[state as usize]))?;
+        for choice in 0..game.choices_of(state) {
+            let choice_text = choice_text(alloc, game, state, choice)?;
+            text.push_str(choice_text.as_str())?;
+        }
+        text.push('\n')?;
+    }
+    Ok(text)
+}
+
+fn side_text(side: Side) -> &'static str {
+    match side {
+        Side::Max => "Max",
+        Side::Min => "Min",
+    }
+}
+
+fn choice_text(alloc: Global, game: &Game, state: u32, choice: u32) -> Result<String, AllocError>
+    requires state { state < length game.now }
+    requires choice { choice < length (choices_of game.now state) }
+{
+    let mut text = format!(in alloc; " {}", game.total(state, choice))?;
+    for place in 0..game.edge_count(state, choice) {
+        let edge = game.edge(state, choice, place);
+        text.push_str(format!(in alloc; " {}:{}", edge.to, edge.weight)?.as_str())?;
+    }
+    text.push(';')?;
+    Ok(text)
+}
+
+#[test]
+fn the_worked_row_is_drawn(rt: HostRuntime) -> Result<(), Fail> {
+    let drawn = draw_game(rt.alloc(), 1, 3)?;
+    let text = text_of(rt.alloc(), &drawn)?;
+    assert_eq!(rt; text.as_str(), "Min 17 1:8 2:9;\nMax 1 1:1;\nMax 1 2:1;\n");
+    Ok(())
+}
+
+// The next draw.
+fn next(x: u64) -> u64 {
+    x.wrapping_mul(48_271) % 2_147_483_647
+}
+
+// The text of a game by the rules, with the weights of all states for each choice.
+fn plain_text(alloc: Global, seed: u64, states: u64) -> Result<String, AllocError>
+    requires { (3 ≤ states) × (states < 2 ^ 32) }
+{
+    let mut x = seed;
+    let mut text = String::new(alloc);
+    for _state in 0..states - 2 {
+        x = next(x);
+        text.push_str(if x % 2 == 0 { "Max" } else { "Min" })?;
+        x = next(x);
+        for _choice in 0..1 + x % 3 {
+            x = add_plain_choice(alloc, x, states, &mut text)?;
+        }
+        text.push('\n')?;
+    }
+    let goal = states - 2;
+    let sink = states - 1;
+    text.push_str(format!(in alloc; "Max 1 {goal}:1;\nMax 1 {sink}:1;\n")?.as_str())?;
+    Ok(text)
+}
+
+// Adds the text of a choice, and gives the last draw.
+fn add_plain_choice(
+    alloc: Global,
+    last: u64,
+    states: u64,
+    text: &mut String,
+) -> Result<u64, AllocError>
+    requires { (3 ≤ states) × (states < 2 ^ 32) }
+{
+    let mut weights = vec![in alloc; 0u64; states as usize]?;
+    let mut total = 0u64;
+    let mut x = next(last);
+    for part in 0..2 + x % 3 {
+        x = next(x);
+        let to = match part {
+            0 if x % 2 == 1 => states - 2,
+            0 => states - 1,
+            _ => x % states,
+        };
+        x = next(x);
+        let weight = 1 + x % 9;
+        if let Some(sum) = weights.get_mut(to as usize) {
+            *sum = sum.saturating_add(weight);
+        }
+        total = total.saturating_add(weight);
+    }
+    text.push_str(format!(in alloc; " {total}")?.as_str())?;
+    for (to, weight) in weights.iter().enumerate() {
+        if *weight > 0 {
+            text.push_str(format!(in alloc; " {to}:{weight}")?.as_str())?;
+        }
+    }
+    text.push(';')?;
+    Ok(x)
+}
+
+#[test]
+fn games_are_as_a_plain_reading_says(rt: HostRuntime) -> Result<(), Fail> {
+    let alloc = rt.alloc();
+    for (seed, states) in [(7, 20), (2_147_483_646, 3), (1, 4), (48_271, 100)] {
+        assert!(rt; 1 <= seed && seed <= 2_147_483_646 && 3 <= states && states <= 1_000);
+        let drawn = draw_game(alloc, seed, states)?;
+        let text = text_of(alloc, &drawn)?;
+        let plain = plain_text(alloc, u64::from(seed), u64::from(states))?;
+        assert_eq!(rt; text.as_str(), plain.as_str());
+    }
+    Ok(())
+}
+
+#[test]
+fn the_maximiser_wants_the_goal(rt: HostRuntime) -> Result<(), Fail> {
+    let drawn = draw_game(rt.alloc(), 7, 20)?;
+    let question = drawn.question(rt.alloc())?;
+    drawn.known();
+    assert_eq!(rt; question.game().states(), 20);
+    for state in 0..20 {
+        assert_eq!(rt; question.is_goal(state), state == 18);
+        assert!(rt; !question.is_dead(state));
+    }
+    Ok(())
+}
+
+#[test]
+fn many_states_are_drawn(rt: HostRuntime) -> Result<(), Fail> {
+    // The numbers are those of a plain reading of the rules in another language.
+    let drawn = draw_game(rt.alloc(), 1, 100_000)?;
+    let game = drawn.game();
+    let states = game.states();
+    assert_eq!(rt; states, 100_000);
+    assert_eq!(rt; game.choices_below(states), 200_100);
+    assert_eq!(rt; game.edges_below(states), 600_562);
+    Ok(())
+}

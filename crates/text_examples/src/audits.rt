@@ -1,0 +1,152 @@
+//! Worked certificates.
+
+use certificate_audit::{AuditFault, audit};
+use game_model::{Question, Side};
+use inductive_check::{UpperCause, UpperFault};
+use plan_text::{Plan, PlanCause, PlanFault};
+use rank_certificate::{RankCause, RankFault};
+use sample_games::{all_of, coin_loop, goal_or_sink, none_of, only};
+use std::alloc::Global;
+use std::test::Fail;
+use text_lines::MOST_BYTES;
+
+fn answer(
+    alloc: Global,
+    question: &Question,
+    text: &[u8],
+) -> Result<Result<Plan, AuditFault>, Fail> {
+    if text.len() > MOST_BYTES {
+        return Err(Fail::new("too long"));
+    }
+    Ok(audit(alloc, question, text))
+}
+
+// The fault for which a text is refused.
+fn fault_of(alloc: Global, question: &Question, text: &[u8]) -> Result<AuditFault, Fail> {
+    match answer(alloc, question, text)? {
+        Ok(_) => Err(Fail::new("accepted")),
+        Err(fault) => Ok(fault),
+    }
+}
+
+fn at_line(line: u32, cause: PlanCause) -> AuditFault {
+    AuditFault::Text(PlanFault { line, cause })
+}
+
+fn at_upper(state: u32, cause: UpperCause) -> AuditFault {
+    AuditFault::Upper(UpperFault { state, cause })
+}
+
+fn at_ranks(state: u32, cause: RankCause) -> AuditFault {
+    AuditFault::Ranks(RankFault { state, cause })
+}
+
+#[test]
+fn a_coin_loop_has_the_value_one_half(rt: HostRuntime) -> Result<(), Fail> {
+    let alloc = rt.alloc();
+    let game = coin_loop(alloc)?;
+    let sides = all_of(alloc, Side::Max, 3)?;
+    let question = Question::build(&game, sides, only(alloc, 1, 3)?, only(alloc, 2, 3)?);
+    let texts: [&[u8]; 3] = [
+        b"certificate 2 3\n\
+            0 0.500000000000000 0 0 0.500000000000000 -\n\
+            1 1.000000000000000 - 0 1.000000000000000 -\n\
+            2 0.000000000000000 - 0 0.000000000000000 -\n",
+        b"state 0 lower 0.500000000000000 upper 0.500000000000000 rounds 40 Bracket\n\
+            \n\
+            certificate 2 3\n\
+            0 0.500000000000000 0 7 0.500000000000000 9\n\
+            1 1.000000000000000 - 0 1.000000000000000 -\n\
+            2 0.000000000000000 - 0 0.000000000000000 -",
+        b"certificate 1 3\n\
+            0 0.000000000000 - 0 1.000000000000 -\n\
+            1 1.000000000000 - 0 1.000000000000 -\n\
+            2 0.000000000000 - 0 1.000000000000 -\n",
+    ];
+    for text in texts {
+        let Ok(plan) = answer(alloc, &question, text)? else {
+            return Err(Fail::new("refused"));
+        };
+        assert_eq!(rt; plan.lower.len(), 3);
+    }
+    Ok(())
+}
+
+#[test]
+fn the_first_fault_is_named(rt: HostRuntime) -> Result<(), Fail> {
+    let alloc = rt.alloc();
+    let game = coin_loop(alloc)?;
+    let sides = all_of(alloc, Side::Max, 3)?;
+    let question = Question::build(&game, sides, only(alloc, 1, 3)?, only(alloc, 2, 3)?);
+    let texts: [(&[u8], AuditFault); 7] = [
+        (b"", at_line(0, PlanCause::NoCertificate)),
+        (b"certificate 2 2\n", at_line(1, PlanCause::StateCount)),
+        (
+            b"certificate 2 3\n\
+                0 0.500000000000001 0 0 0.400000000000000 -\n\
+                1 1.000000000000000 - 0 1.000000000000000 -\n",
+            at_line(4, PlanCause::MissingLine),
+        ),
+        (
+            b"certificate 2 3\n\
+                0 0.500000000000001 0 0 0.499999999999999 -\n\
+                1 1.000000000000000 - 0 1.000000000000000 -\n\
+                2 0.000000000000000 - 0 0.000000000000000 -\n",
+            at_upper(0, UpperCause::Above { choice: 0 }),
+        ),
+        (
+            b"certificate 1 3\n\
+                0 0.500000000001 0 0 1.000000000000 -\n\
+                1 0.999999999999 - 0 0.999999999999 -\n\
+                2 0.000000000000 - 0 0.000000000000 -\n",
+            at_upper(1, UpperCause::Goal),
+        ),
+        (
+            b"certificate 2 3\n\
+                0 0.500000000000001 0 0 0.500000000000000 -\n\
+                1 1.000000000000000 - 0 1.000000000000000 -\n\
+                2 0.000000000000000 - 0 0.000000000000000 -\n",
+            at_ranks(0, RankCause::Short { choice: 0 }),
+        ),
+        (
+            b"certificate 2 3\n\
+                0 0.500000000000000 - 0 0.500000000000000 0\n\
+                1 1.000000000000000 - 0 1.000000000000000 -\n\
+                2 0.000000000000000 - 0 0.000000000000000 -\n",
+            at_ranks(0, RankCause::Choice),
+        ),
+    ];
+    for (text, fault) in texts {
+        assert_eq!(rt; fault_of(alloc, &question, text)?, fault);
+    }
+    Ok(())
+}
+
+// The minimiser goes from state 0 to the sink, not to the goal.
+#[test]
+fn a_reply_that_is_not_held_is_refused(rt: HostRuntime) -> Result<(), Fail> {
+    let alloc = rt.alloc();
+    let game = goal_or_sink(alloc)?;
+    let sides = all_of(alloc, Side::Min, 3)?;
+    let question = Question::build(&game, sides, only(alloc, 1, 3)?, none_of(alloc, 3)?);
+    let held = b"certificate 2 3\n\
+        0 0.000000000000000 - 0 0.000000000000000 1\n\
+        1 1.000000000000000 - 0 1.000000000000000 -\n\
+        2 0.000000000000000 - 0 0.000000000000000 0\n";
+    let Ok(plan) = answer(alloc, &question, held)? else {
+        return Err(Fail::new("refused"));
+    };
+    assert_eq!(rt;
+        plan.replies.as_slice(),
+        [Some(1), None, Some(0)].as_slice()
+    );
+    let to_the_goal = b"certificate 2 3\n\
+        0 0.500000000000000 - 0 0.000000000000000 0\n\
+        1 1.000000000000000 - 0 1.000000000000000 -\n\
+        2 0.000000000000000 - 0 0.000000000000000 0\n";
+    assert_eq!(rt;
+        fault_of(alloc, &question, to_the_goal)?,
+        at_upper(0, UpperCause::Reply)
+    );
+    Ok(())
+}

@@ -1,0 +1,28 @@
+//! Worked examples of the crates that read and write texts: shelves and sinks, numbers, transition, label and owner files,
+//! formulas, the questions that they pose, words, verdicts and certificates.
+//!
+//! They stand over these crates, since a test in a crate proves that crate once more.
+#![tactic(auto)]
+
+#[cfg(test)]
+mod audits;
+#[cfg(test)]
+mod duals;
+#[cfg(test)]
+mod formulas;
+#[cfg(test)]
+mod labels;
+#[cfg(test)]
+mod numbers;
+#[cfg(test)]
+mod outside;
+#[cfg(test)]
+mod plans;
+#[cfg(test)]
+mod questions;
+#[cfg(test)]
+mod transitions;
+#[cfg(test)]
+mod verdict_lines;
+#[cfg(test)]
+mod words;

@@ -1,0 +1,286 @@
+//! Words, read whole. A line of a test has words that are parted by one space each.
+
+use command_words::{CommandWords, read_words};
+use std::alloc::Global;
+use std::test::Fail;
+
+// Words that denote a command.
+const TAKEN: [&str; 25] = [
+    "check m.tra m.lab F",
+    "check m.tra m.lab ",
+    "check --plan --own m.own m.tra --rounds=0 m.lab --traps F --workers 64",
+    "check m.tra m.lab F --rounds 1000000 --workers=1",
+    "check m.tra m.lab --rounds +007 F",
+    "check --own=m.own -- m.tra m.lab --plan",
+    "check m.tra -- m.lab --",
+    "check - - -",
+    "audit m.tra m.lab F m.cert",
+    "audit m.tra m.lab  m.cert",
+    "audit m.tra --own m.own m.lab F m.cert",
+    "audit --own=m.own -- m.tra m.lab F --own",
+    "audit m.tra m.lab F m.cert --own -",
+    "audit check audit check audit",
+    "make 1 3",
+    "make 2147483646 1000000",
+    "make +1 003",
+    "make 00000000007 +3",
+    "make --rounds 0 1 --workers=64 3",
+    "make 1 3 --workers 1 --rounds=1000000",
+    "make --rounds=+5 -- 1 3",
+    "make 1 -- 3",
+    "sure m.tra m.lab F",
+    "sure m.tra --own m.own m.lab ",
+    "sure --own=m.own -- m.tra m.lab --own",
+];
+
+// Words that denote no command: no name is one, or `sure` does not take them.
+const UNNAMED: [&str; 15] = [
+    "",
+    "m.tra m.lab F",
+    " m.tra m.lab F",
+    "Check m.tra m.lab F",
+    "--plan check m.tra m.lab F",
+    "-- check m.tra m.lab F",
+    "1 3",
+    "Make 1 3",
+    "made 1 3",
+    "--rounds 5 make 1 3",
+    "surely m.tra m.lab F",
+    "sure m.tra m.lab",
+    "sure m.tra m.lab F m.cert",
+    "sure m.tra m.lab F --plan",
+    "sure m.tra m.lab F --rounds 5",
+];
+
+// Words that are no `check`.
+const NO_CHECK: [&str; 32] = [
+    "check",
+    "check m.tra m.lab",
+    "check m.tra m.lab F m.cert",
+    "check m.tra m.lab F ",
+    "check m.tra m.lab F -- --plan",
+    "check  m.lab F",
+    "check m.tra  F",
+    "check m.tra m.lab F --own",
+    "check m.tra m.lab F --own ",
+    "check m.tra m.lab F --own=",
+    "check m.tra m.lab --own -- F",
+    "check m.tra m.lab F --own a --own b",
+    "check m.tra m.lab F --plan --plan",
+    "check m.tra m.lab F --plan=true",
+    "check m.tra m.lab F --traps --traps",
+    "check m.tra m.lab F --traps=true",
+    "check m.tra m.lab F --pla",
+    "check m.tra m.lab F -p",
+    "check m.tra m.lab F --help",
+    "check m.tra m.lab F -h",
+    "check m.tra m.lab F --version",
+    "check m.tra m.lab F --rounds",
+    "check m.tra m.lab F --rounds ",
+    "check m.tra m.lab F --rounds 1 --rounds 1",
+    "check m.tra m.lab F --rounds 1000001",
+    "check m.tra m.lab F --rounds 4294967296",
+    "check m.tra m.lab F --rounds=-0",
+    "check m.tra m.lab F --rounds 1e3",
+    "check m.tra m.lab F --rounds ++1",
+    "check m.tra m.lab F --workers 0",
+    "check m.tra m.lab F --workers=65",
+    "check m.tra m.lab F --certificate m.cert",
+];
+
+// Words that are no `audit`.
+const NO_AUDIT: [&str; 17] = [
+    "audit",
+    "audit m.tra m.lab F",
+    "audit m.tra m.lab F ",
+    "audit m.tra m.lab F m.cert more",
+    "audit  m.lab F m.cert",
+    "audit m.tra  F m.cert",
+    "audit m.tra m.lab F -m.cert",
+    "audit m.tra m.lab F m.cert --own",
+    "audit m.tra m.lab F m.cert --own=",
+    "audit m.tra m.lab F m.cert --own a --own b",
+    "audit m.tra m.lab F m.cert --rounds 5",
+    "audit m.tra m.lab F m.cert --workers=2",
+    "audit m.tra m.lab F m.cert --plan",
+    "audit m.tra m.lab F m.cert --traps",
+    "audit m.tra m.lab F m.cert --help",
+    "audit m.tra m.lab F m.cert -h",
+    "audit m.tra m.lab F --certificate m.cert",
+];
+
+// Words that are no `make`.
+const NO_MAKE: [&str; 45] = [
+    "make",
+    "make 1",
+    "make 1 ",
+    "make  3",
+    "make 1 3 ",
+    "make 1 3 5",
+    "make m.tra m.lab F",
+    "make 0 3",
+    "make 00 3",
+    "make -0 3",
+    "make -1 3",
+    "make -- -1 3",
+    "make -- -0 3",
+    "make 2147483647 3",
+    "make 4294967297 3",
+    "make 18446744073709551617 3",
+    "make 1 2",
+    "make 1 0",
+    "make 1 -3",
+    "make 1 1000001",
+    "make 1 4294967299",
+    "make 1 1e3",
+    "make 1 3.0",
+    "make 0x1 3",
+    "make ++1 3",
+    "make + 3",
+    "make 1 + 3",
+    "make seed 3",
+    "make 1 3 --rounds",
+    "make 1 3 --rounds ",
+    "make 1 3 --rounds=-0",
+    "make 1 3 --rounds 1000001",
+    "make 1 3 --rounds 1 --rounds 1",
+    "make 1 3 --workers 0",
+    "make 1 3 --workers=65",
+    "make 1 3 --workers 2 --workers=2",
+    "make 1 3 -- --rounds=5",
+    "make --rounds 1 3",
+    "make 1 3 --own m.own",
+    "make 1 3 --plan",
+    "make --seed 1 --states 3",
+    "make 1 --states=3",
+    "make 1 3 --help",
+    "make 1 3 -h",
+    "make 1 3 --version",
+];
+
+// The words of a line.
+fn words(alloc: Global, line: &str) -> Result<Vec<String>, Fail> {
+    let mut words = Vec::new(alloc);
+    for word in line.split(' ') {
+        words.push(String::from_str(alloc, word)?)?;
+    }
+    Ok(words)
+}
+
+// Whether words denote a command.
+fn is_command(alloc: Global, words: &[String]) -> Result<bool, Fail> {
+    match read_words(alloc, words) {
+        Ok(read) => Ok(read.is_some()),
+        Err(_) => Err(Fail::new("no memory")),
+    }
+}
+
+#[test]
+fn words_denote_a_command(rt: HostRuntime) -> Result<(), Fail> {
+    let alloc = rt.alloc();
+    for line in TAKEN {
+        assert!(rt;
+            is_command(alloc, &words(alloc, line)?)?,
+            "not taken: {line}"
+        );
+    }
+    Ok(())
+}
+
+#[test]
+fn words_denote_no_command(rt: HostRuntime) -> Result<(), Fail> {
+    let alloc = rt.alloc();
+    assert!(rt; !is_command(alloc, &[])?, "no words are taken");
+    for lines in [
+        UNNAMED.as_slice(),
+        NO_CHECK.as_slice(),
+        NO_AUDIT.as_slice(),
+        NO_MAKE.as_slice(),
+    ] {
+        for line in lines {
+            assert!(rt; !is_command(alloc, &words(alloc, line)?)?, "taken: {line}");
+        }
+    }
+    Ok(())
+}
+
+#[test]
+fn a_check_says_its_words(rt: HostRuntime) -> Result<(), Fail> {
+    let line = "check m.tra --plan --own=m.own m.lab --rounds +099 -- -F";
+    let words = words(rt.alloc(), line)?;
+    let Ok(Some(CommandWords::Check(check))) = read_words(rt.alloc(), &words) else {
+        return Err(Fail::new("no check"));
+    };
+    assert_eq!(rt; check.asked.tra, "m.tra");
+    assert_eq!(rt; check.asked.lab, "m.lab");
+    assert_eq!(rt; check.asked.formula, "-F");
+    assert_eq!(rt; check.asked.own, Some("m.own"));
+    assert_eq!(rt;
+        (check.rounds, check.workers, check.plan, check.traps),
+        (99, 4, true, false)
+    );
+    Ok(())
+}
+
+#[test]
+fn traps_are_not_a_plan(rt: HostRuntime) -> Result<(), Fail> {
+    let words = words(rt.alloc(), "check m.tra --traps m.lab F")?;
+    let Ok(Some(CommandWords::Check(check))) = read_words(rt.alloc(), &words) else {
+        return Err(Fail::new("no check"));
+    };
+    assert_eq!(rt; (check.plan, check.traps), (false, true));
+    Ok(())
+}
+
+#[test]
+fn a_check_has_defaults(rt: HostRuntime) -> Result<(), Fail> {
+    let words = words(rt.alloc(), "check m.tra m.lab F")?;
+    let Ok(Some(CommandWords::Check(check))) = read_words(rt.alloc(), &words) else {
+        return Err(Fail::new("no check"));
+    };
+    assert_eq!(rt; check.asked.own, None);
+    assert_eq!(rt;
+        (check.rounds, check.workers, check.plan, check.traps),
+        (10_000, 4, false, false)
+    );
+    Ok(())
+}
+
+#[test]
+fn an_audit_says_its_words(rt: HostRuntime) -> Result<(), Fail> {
+    let words = words(rt.alloc(), "audit --own m.own m.tra m.lab F m.cert")?;
+    let Ok(Some(CommandWords::Audit(audit))) = read_words(rt.alloc(), &words) else {
+        return Err(Fail::new("no audit"));
+    };
+    assert_eq!(rt; audit.asked.tra, "m.tra");
+    assert_eq!(rt; audit.asked.lab, "m.lab");
+    assert_eq!(rt; audit.asked.formula, "F");
+    assert_eq!(rt; audit.asked.own, Some("m.own"));
+    assert_eq!(rt; audit.certificate, "m.cert");
+    Ok(())
+}
+
+#[test]
+fn a_make_says_its_words(rt: HostRuntime) -> Result<(), Fail> {
+    let words = words(
+        rt.alloc(),
+        "make --workers=8 +2147483646 --rounds 099 -- 007",
+    )?;
+    let Ok(Some(CommandWords::Make(make))) = read_words(rt.alloc(), &words) else {
+        return Err(Fail::new("no make"));
+    };
+    assert_eq!(rt; (make.seed, make.states), (2_147_483_646, 7));
+    assert_eq!(rt; (make.rounds, make.workers), (99, 8));
+    Ok(())
+}
+
+#[test]
+fn a_make_has_defaults(rt: HostRuntime) -> Result<(), Fail> {
+    let words = words(rt.alloc(), "make 5 1000000")?;
+    let Ok(Some(CommandWords::Make(make))) = read_words(rt.alloc(), &words) else {
+        return Err(Fail::new("no make"));
+    };
+    assert_eq!(rt; (make.seed, make.states), (5, 1_000_000));
+    assert_eq!(rt; (make.rounds, make.workers), (10_000, 4));
+    Ok(())
+}
