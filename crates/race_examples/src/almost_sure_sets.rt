@@ -5,10 +5,10 @@
 //! minimiser. With both strategies fixed the game is a Markov chain, in which a goal is reached with probability 1 exactly where
 //! from each state that is reached some goal can be reached (Baier and Katoen 2008, section 10.1.2).
 
-use crate::random_games::{Draw, Shape, random_game, random_question};
 use crate::searches::{longer, reached};
 use almost_sure::almost_sure;
 use game_model::{Question, Side};
+use random_games::{Draw, Shape, random_game, random_question};
 use std::alloc::Global;
 use std::process::Abort;
 use std::test::Fail;

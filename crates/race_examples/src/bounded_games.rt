@@ -1,9 +1,9 @@
 //! Bounded values compared with the definition, and with each other for every number of workers.
 
-use crate::random_games::{Draw, Shape, random_game, random_question};
 use bounded_rounds::{Sweep, bounded};
 use game_model::{Question, UNIT};
 use game_outside::OpenGate;
+use random_games::{Draw, Shape, opening_table, random_game, random_question};
 use reference_values::numerators;
 use std::alloc::Global;
 use std::test::Fail;
@@ -18,17 +18,6 @@ const FEW_TOSSES: Shape = Shape {
     most_weight: 2,
     most_tosses: 4,
 };
-
-/// The table that iteration opens with.
-fn opening(alloc: Global, question: &Question<'_>) -> Option<Vec<u64>> {
-    let mut table = Vec::new(alloc);
-    for state in 0..question.game().states() {
-        table
-            .push(if question.is_goal(state) { UNIT } else { 0 })
-            .ok()?;
-    }
-    Some(table)
-}
 
 // The sweep of so many steps by so many workers.
 fn sweep_of<R: Threads + Sync>(
@@ -92,7 +81,7 @@ fn has_its_values<R: Threads + Sync>(
     alloc: Global,
     question: &Question<'_>,
 ) -> Option<bool> {
-    let table = opening(alloc, question)?;
+    let table = opening_table(alloc, question)?;
     for steps in 0..5 {
         let exact = numerators(alloc, question, steps).ok()?;
         let one = numerator_of_one(question, &exact)?;

@@ -4,10 +4,10 @@ ghost use Rattle.std.specs.Prelude.{◌≡◌, ◌≤◌, length};
 ghost use Rattle.game_model.specs.Query.{states};
 ghost use Rattle.value_words.specs.Passes.{IsOf, Grew};
 
-use crate::games::{agreement_game, agreement_question};
 use game_model::{Question, UNIT};
 use game_outside::HoldGate;
 use predecessors::Predecessors;
+use random_games::{agreement_game, agreement_question};
 use round_workers::{first_state, round, worker_of};
 use std::alloc::Global;
 use std::marker::Brand;

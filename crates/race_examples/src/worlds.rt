@@ -2,8 +2,8 @@
 
 ghost use Rattle.std.specs.Prelude.{◌≡◌, length};
 
-use crate::games::{coin_game, coin_question};
 use game_model::UNIT;
+use random_games::{coin_game, coin_question};
 use std::process::Abort;
 use std::test::Fail;
 use step_core::{Event, Refused, World, pack};

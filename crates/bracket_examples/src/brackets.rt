@@ -1,0 +1,191 @@
+//! Brackets: those of one worker are plain sweeps.
+
+ghost use Rattle.std.specs.Prelude.{◌≤◌, ◌<◌, [], ◌∷◌, All, IfSome};
+ghost use Rattle.game_model.specs.Query.{states};
+ghost use Rattle.game_model.specs.Dual.{IsZeroSet};
+ghost use Rattle.rpatl_syntax.specs.declared.formula.Bound.TheVariants.{AskMax};
+ghost use Rattle.round_workers.specs.Share.{most_workers};
+ghost use Rattle.bracket_engine.specs.Limits.{most_rounds};
+ghost use Rattle.bracket_engine.specs.Bracket.{IsBracket};
+ghost use Rattle.bracket_engine.specs.Lower.{IsLowerTable};
+ghost use Rattle.bracket_engine.specs.Choices.{AreChoices, AreRanks};
+ghost use Rattle.bracket_engine.specs.Replies.{AreRepliesTo};
+
+use crate::guesses::agrees_with_the_plain_guess;
+use bracket_engine::{Bracket, bracket};
+use game_model::{Marks, Question, UNIT};
+use game_outside::OpenGate;
+use inductive_check::swap;
+use random_games::{Draw, SMALL, opening_table, plain_sweep, random_game, random_question};
+use rpatl_syntax::Bound;
+use std::alloc::Global;
+use std::process::Abort;
+use std::test::Fail;
+use std::thread::Threads;
+use verdicts::{StopRule, settle};
+use zero_sets::zero_set;
+
+/// The zero set of a question.
+pub fn zero_set_of(alloc: Global, question: &Question<'_>) -> Option<Marks>
+    ensures { IfSome result (λ zero. IsZeroSet question.now zero) }
+{
+    match zero_set(alloc, question) {
+        Ok(zero) => Some(zero),
+        Err(_) => None,
+    }
+}
+
+/// The bracket of a question with a bound, by workers whom no gate stops, which may end where the bound is settled at
+/// the initial states.
+pub fn bracket_for<R: Threads + Sync>(
+    rt: &R,
+    alloc: Global,
+    question: &Question<'_>,
+    zero: &Marks,
+    rounds: u32,
+    workers: u32,
+    bound: Bound,
+    initial: &[u32],
+) -> Option<Bracket>
+    requires zero { IsZeroSet question.now zero.now }
+    requires rounds { rounds ≤ most_rounds }
+    requires some { 1 ≤ workers }
+    requires few { workers ≤ most_workers }
+    requires initial { All (λ s. s < states question.now) initial.now }
+    ensures bounds { IfSome result (λ b. IsBracket question.now zero.now bound initial.now rounds b.base.items b.upper.items b.rounds b.stable) }
+    ensures lower { IfSome result (λ b. IsLowerTable question.now zero.now b.base.items b.lower.items b.choices.items b.ranks.items) }
+    ensures choices { IfSome result (λ b. AreChoices question.now b.lower.items b.choices.items) }
+    ensures ranks { IfSome result (λ b. AreRanks question.now b.lower.items b.choices.items b.ranks.items) }
+    ensures replies { IfSome result (λ b. AreRepliesTo question.now b.upper.items b.replies.items) }
+{
+    let stop = StopRule::of_bound(bound, |lower, upper| {
+        settle(&bound, lower, upper).is_settling()
+    });
+    match bracket(
+        rt,
+        alloc,
+        question,
+        zero,
+        rounds,
+        workers,
+        &stop,
+        initial,
+        &OpenGate {},
+    ) {
+        Ok(found) => Some(found),
+        Err(_) => None,
+    }
+}
+
+/// The bracket of a question that asks for its value at state 0.
+pub fn value_bracket<R: Threads + Sync>(
+    rt: &R,
+    alloc: Global,
+    question: &Question<'_>,
+    zero: &Marks,
+    rounds: u32,
+    workers: u32,
+) -> Option<Bracket>
+    requires zero { IsZeroSet question.now zero.now }
+    requires rounds { rounds ≤ most_rounds }
+    requires some { 1 ≤ workers }
+    requires few { workers ≤ most_workers }
+    ensures bounds { IfSome result (λ b. IsBracket question.now zero.now AskMax (0 ∷ []) rounds b.base.items b.upper.items b.rounds b.stable) }
+    ensures lower { IfSome result (λ b. IsLowerTable question.now zero.now b.base.items b.lower.items b.choices.items b.ranks.items) }
+    ensures choices { IfSome result (λ b. AreChoices question.now b.lower.items b.choices.items) }
+    ensures ranks { IfSome result (λ b. AreRanks question.now b.lower.items b.choices.items b.ranks.items) }
+    ensures replies { IfSome result (λ b. AreRepliesTo question.now b.upper.items b.replies.items) }
+{
+    question.known();
+    bracket_for(
+        rt,
+        alloc,
+        question,
+        zero,
+        rounds,
+        workers,
+        Bound::AskMax,
+        &[0],
+    )
+}
+
+// Whether no upper bound is above the unit less the co-value.
+fn are_within(uppers: &[u64], covalues: &[u64]) -> bool {
+    uppers.len() == covalues.len()
+        && uppers
+            .iter()
+            .zip(covalues.iter())
+            .all(|(upper, covalue)| *upper <= UNIT.saturating_sub(*covalue))
+}
+
+// Compares the brackets of one worker with plain sweeps on the question and on the swapped one, after each number of
+// rounds up to eleven or until both sweeps raise nothing.
+fn agrees_with_plain_sweeps<R: Abort + Threads + Sync>(
+    rt: &R,
+    alloc: Global,
+    question: &Question<'_>,
+    other: &Question<'_>,
+    zero: &Marks,
+) -> Option<()>
+    requires { IsZeroSet question.now zero.now }
+{
+    let mut table = opening_table(alloc, question)?;
+    let mut covalues = opening_table(alloc, other)?;
+    let mut rounds = 0;
+    let mut ended = false;
+    for asked in 0..12 {
+        let found = value_bracket(rt, alloc, question, zero, asked, 1)?;
+        assert_eq!(rt;
+            found.base.as_slice(),
+            table.as_slice(),
+            "after {asked} rounds"
+        );
+        let within = are_within(&found.upper, &covalues);
+        assert!(rt; within, "the upper table after {asked} rounds");
+        if asked == 2 {
+            agrees_with_the_plain_guess(
+                rt,
+                alloc,
+                question,
+                zero,
+                &table,
+                &covalues,
+                &found.upper,
+            )?;
+        }
+        assert_eq!(rt; found.rounds, rounds, "of {asked} rounds");
+        if rounds < asked {
+            return Some(());
+        }
+        if !ended {
+            let raised = plain_sweep(question, table.as_mut_slice());
+            let coraised = plain_sweep(other, covalues.as_mut_slice());
+            ended = !raised && !coraised;
+            rounds = asked + 1;
+        }
+    }
+    Some(())
+}
+
+// The same for a random game and question.
+fn agrees_on_a_random_question<R: Abort + Threads + Sync>(
+    rt: &R,
+    alloc: Global,
+    draw: &mut Draw,
+) -> Option<()> {
+    let game = random_game(alloc, draw, &SMALL)?;
+    let question = random_question(alloc, draw, &game)?;
+    let zero = zero_set_of(alloc, &question)?;
+    let other = swap(alloc, &question, &zero).ok()?;
+    agrees_with_plain_sweeps(rt, alloc, &question, &other, &zero)
+}
+
+#[test]
+fn marked_rounds_of_one_worker_are_plain_sweeps(rt: HostRuntime) -> Result<(), Fail> {
+    let alloc = rt.alloc();
+    let mut draw = Draw::new(7);
+    for _model in 0..2_000 {
+        agrees_on_a_random_question(&rt, alloc, &mut draw).ok_or("no game, question or memory")?;
+    }
+    Ok(())
+}
