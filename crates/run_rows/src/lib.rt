@@ -1,11 +1,28 @@
-//! Models, and rows of tests over them: files in memory and words, run, and what is written.
+//! Models, and rows of tests over them: files in memory and words, run, what is written, and what is expected.
 #![tactic(auto)]
 
+mod audits;
+mod cases;
+mod certificates;
+mod checks;
 mod coin_loop;
+mod commands;
 mod models;
 mod rows;
 
+pub use audits::{CERTIFICATE, audit_refuses, audit_words, audit_writes};
+pub use cases::{
+    AUDIT_OF_LOOP_OR_COIN, AUDIT_OF_TWO_PLAYERS, CHECK_OF_AGREEMENT, CHECK_OF_COIN_LOOP,
+    COIN_LOOP_OUT_OF_ORDER, Case, DRAWN_GAME, MOST_OF_AGREEMENT, MOST_OF_COIN_LOOP, NO_COMMAND,
+    OTHER_VERSION, PLAN_OF_LOOP_OR_COIN, PLAN_OF_TWO_PLAYERS, STATE_OUT_OF_RANGE,
+};
+pub use certificates::{
+    FIRST_OF_TWO_PLAYERS, LOOP_OR_COIN_PLAN, MOST_OF_COIN_LOOP_WITH_PLAN, MOST_OF_LOOP_OR_COIN,
+    PLAN, TWO_PLAYERS_PLAN,
+};
+pub use checks::{comes_to, refuses, sure_writes, writes};
 pub use coin_loop::coin_loop_files;
+pub use commands::{Command, Ended, Outside, STEP, ends_over, gives};
 pub use models::{
     AGREEMENT, AGREEMENT_LABELS, AGREEMENT_OWNERS, COIN_LOOP, COIN_LOOP_REPORT, FIRST_IS_TRUE,
     FORK, GOAL_AT_1, GOAL_AT_2, LOOP_OR_COIN, OF_THREE_STATES, SECOND_OWNS_1, TWO_PLAYERS, USAGE,

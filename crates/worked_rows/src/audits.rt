@@ -1,79 +1,13 @@
 //! Certificates that are audited.
 
-use crate::certificates::{
-    FIRST_OF_TWO_PLAYERS, MOST_OF_COIN_LOOP_WITH_PLAN, MOST_OF_LOOP_OR_COIN,
-};
-use game_outside::{OpenGate, SteadyShelf};
+use game_outside::OpenGate;
 use run_rows::{
-    COIN_LOOP, GOAL_AT_1, Row, add_words, ends, file_of_bytes, files, plain_row, runs, words,
+    COIN_LOOP, FIRST_OF_TWO_PLAYERS, GOAL_AT_1, MOST_OF_COIN_LOOP_WITH_PLAN, MOST_OF_LOOP_OR_COIN,
+    audit_refuses, audit_writes, plain_row, runs,
 };
 use std::alloc::Global;
-use std::process::Abort;
 use std::test::Fail;
-use std::thread::Threads;
 use stogame_app::Status;
-
-/// The name of the certificate's file.
-pub const CERTIFICATE: &str = "c";
-
-/// The words that audit a certificate for the model and the formula of a row.
-pub fn audit_words(alloc: Global, row: Row<'_>) -> Result<Vec<String>, Fail> {
-    let mut owned = words(
-        alloc,
-        &["audit", "m.tra", "m.lab", row.formula, CERTIFICATE],
-    )?;
-    if row.own.is_some() {
-        add_words(alloc, &mut owned, &["--own", "m.own"])?;
-    }
-    Ok(owned)
-}
-
-// How the audit of a certificate for the model and the formula of a row ends, and what it writes.
-fn audits<R: Threads + Sync + Abort>(
-    rt: &R,
-    alloc: Global,
-    row: Row<'_>,
-    certificate: &[u8],
-) -> Result<(Status, Vec<u8>), Fail> {
-    let words = audit_words(alloc, row)?;
-    let mut held = files(alloc, row)?;
-    held.push(file_of_bytes(alloc, CERTIFICATE, certificate)?)?;
-    ends(rt, alloc, &words, &mut SteadyShelf::new(held), &OpenGate {})
-}
-
-/// The audit of a certificate writes this text and ends with this status.
-pub fn audit_writes<R: Threads + Sync + Abort>(
-    rt: &R,
-    alloc: Global,
-    row: Row<'_>,
-    certificate: &[u8],
-    text: &str,
-    status: Status,
-) -> Result<(), Fail> {
-    let (ended, written) = audits(rt, alloc, row, certificate)?;
-    assert_eq!(rt; written.as_slice(), text.as_bytes());
-    assert!(rt; ended == status, "{text} ends with {ended:?}");
-    Ok(())
-}
-
-/// The certificate is refused with this line and cause.
-pub fn audit_refuses<R: Threads + Sync + Abort>(
-    rt: &R,
-    alloc: Global,
-    row: Row<'_>,
-    certificate: &[u8],
-    cause: &str,
-) -> Result<(), Fail> {
-    let text = format!(in alloc; "refused cert line {cause}\n")?;
-    audit_writes(
-        rt,
-        alloc,
-        row,
-        certificate,
-        text.as_str(),
-        Status::CertificateRefused,
-    )
-}
 
 #[test]
 fn what_a_check_prints_is_accepted(rt: HostRuntime) -> Result<(), Fail> {

@@ -1,14 +1,12 @@
 //! Formulas that are refused.
 
-use crate::rows::refuses;
-use run_rows::{COIN_LOOP, GOAL_AT_1, plain_row, push_times};
+use run_rows::{COIN_LOOP, GOAL_AT_1, plain_row, push_times, refuses};
 use std::alloc::Global;
-use std::process::Abort;
 use std::test::Fail;
 use std::thread::Threads;
 
 // The formula is refused at this place for this cause.
-fn refused<R: Threads + Sync + Abort>(
+fn refused<R: Threads + Sync>(
     rt: &R,
     alloc: Global,
     formula: &str,

@@ -1,20 +1,13 @@
 //! Label files, owner files and questions that are refused.
 
-use crate::rows::refuses;
-use run_rows::{COIN_LOOP, GOAL_AT_1, GOAL_AT_2, ONE_WORKER, Row, TWO_PLAYERS, plain_row};
+use run_rows::{COIN_LOOP, GOAL_AT_1, GOAL_AT_2, ONE_WORKER, Row, TWO_PLAYERS, plain_row, refuses};
 use std::alloc::Global;
-use std::process::Abort;
 use std::test::Fail;
 use std::thread::Threads;
 
 const REACH: &str = "Pmax=? [ F \"goal\" ]";
 
-fn refused<R: Threads + Sync + Abort>(
-    rt: &R,
-    alloc: Global,
-    lab: &str,
-    text: &str,
-) -> Result<(), Fail> {
+fn refused<R: Threads + Sync>(rt: &R, alloc: Global, lab: &str, text: &str) -> Result<(), Fail> {
     refuses(rt, alloc, plain_row(COIN_LOOP, lab, REACH), text)
 }
 

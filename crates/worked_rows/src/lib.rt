@@ -5,39 +5,17 @@
 #![tactic(auto)]
 
 #[cfg(test)]
-mod adapters;
-#[cfg(test)]
-mod all_workers;
-#[cfg(test)]
-mod audit_faults;
-#[cfg(test)]
 mod audits;
-#[cfg(test)]
-mod cases;
 #[cfg(test)]
 mod certificates;
 #[cfg(test)]
-mod commands;
-#[cfg(test)]
-mod damaged;
-#[cfg(test)]
-mod failing_calls;
-#[cfg(test)]
 mod formulas;
 #[cfg(test)]
-mod hostile_files;
-#[cfg(test)]
 mod labels;
-#[cfg(test)]
-mod late_workers;
-#[cfg(test)]
-mod long_texts;
 #[cfg(test)]
 mod made;
 #[cfg(test)]
 mod many_choices;
-#[cfg(test)]
-mod names_begun;
 #[cfg(test)]
 mod nested;
 #[cfg(test)]
@@ -47,20 +25,12 @@ mod other_certificates;
 #[cfg(test)]
 mod paths;
 #[cfg(test)]
-mod pieces;
-#[cfg(test)]
-mod rows;
-#[cfg(test)]
 mod sure;
 #[cfg(test)]
 mod thresholds;
-#[cfg(test)]
-mod transitions;
 #[cfg(test)]
 mod traps;
 #[cfg(test)]
 mod values;
 #[cfg(test)]
 mod words;
-#[cfg(test)]
-mod workers;

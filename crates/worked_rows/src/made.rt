@@ -10,7 +10,7 @@ use std::thread::Threads;
 use stogame_app::Status;
 
 // How a run with these words ends that has no file, and what it writes.
-fn ends_with<R: Threads + Sync + Abort, G: Gate + Sync>(
+fn ends_with<R: Threads + Sync, G: Gate + Sync>(
     rt: &R,
     alloc: Global,
     given: &[&str],

@@ -1,7 +1,6 @@
 //! As many choices of a state as there may be, and one more.
 
-use crate::rows::writes;
-use run_rows::{plain_row, push_times};
+use run_rows::{plain_row, push_times, writes};
 use std::alloc::Global;
 use std::test::Fail;
 use stogame_app::Status;

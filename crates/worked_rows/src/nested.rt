@@ -1,10 +1,10 @@
 //! Formulas with others inside.
 
-use crate::audits::audit_writes;
-use crate::rows::{refuses, writes};
-use crate::sure::sure_writes;
 use game_outside::HoldGate;
-use run_rows::{COIN_LOOP, GOAL_AT_1, ONE_WORKER, Row, plain_row, runs};
+use run_rows::{
+    COIN_LOOP, GOAL_AT_1, ONE_WORKER, Row, audit_writes, plain_row, refuses, runs, sure_writes,
+    writes,
+};
 use std::alloc::Global;
 use std::process::Abort;
 use std::test::Fail;

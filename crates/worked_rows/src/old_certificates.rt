@@ -1,8 +1,8 @@
 //! Certificates that the program wrote when its values had 12 decimals, as it wrote them: they mean what they meant.
 
-use crate::audits::{audit_refuses, audit_writes};
-use crate::cases::MOST_OF_COIN_LOOP;
-use crate::certificates::{FIRST_OF_TWO_PLAYERS, MOST_OF_LOOP_OR_COIN};
+use run_rows::{
+    FIRST_OF_TWO_PLAYERS, MOST_OF_COIN_LOOP, MOST_OF_LOOP_OR_COIN, audit_refuses, audit_writes,
+};
 use std::test::Fail;
 use stogame_app::Status;
 

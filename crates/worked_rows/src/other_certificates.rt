@@ -1,9 +1,10 @@
 //! Certificates that were written for another formula or another model: each is refused, or is right there too.
 
-use crate::audits::{audit_refuses, audit_writes};
-use crate::certificates::{FIRST_OF_TWO_PLAYERS, PLAN};
 use game_outside::OpenGate;
-use run_rows::{COIN_LOOP, FORK, GOAL_AT_1, LOOP_OR_COIN, Row, runs};
+use run_rows::{
+    COIN_LOOP, FIRST_OF_TWO_PLAYERS, FORK, GOAL_AT_1, LOOP_OR_COIN, PLAN, Row, audit_refuses,
+    audit_writes, runs,
+};
 use std::test::Fail;
 use stogame_app::Status;
 

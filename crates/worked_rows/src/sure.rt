@@ -1,14 +1,10 @@
 //! The states from which the goal is reached almost surely.
 
-use game_outside::{OpenGate, SteadyShelf};
 use run_rows::{
-    AGREEMENT, AGREEMENT_LABELS, AGREEMENT_OWNERS, COIN_LOOP, FORK, GOAL_AT_1, Row, add_words,
-    ends, files, plain_row, words,
+    AGREEMENT, AGREEMENT_LABELS, AGREEMENT_OWNERS, COIN_LOOP, FORK, GOAL_AT_1, Row, plain_row,
+    sure_writes,
 };
-use std::alloc::Global;
-use std::process::Abort;
 use std::test::Fail;
-use std::thread::Threads;
 use stogame_app::Status;
 
 // A coin that is tossed until it falls on the goal.
@@ -16,25 +12,6 @@ const COIN: &str = "3 3 4\n0 0 0 0.5\n0 0 1 0.5\n1 0 1 1\n2 0 2 1\n";
 
 // State 0 may wait, or toss a coin that may fall on the trap.
 const WAIT_OR_COIN: &str = "3 4 5\n0 0 0 1\n0 1 1 0.5\n0 1 2 0.5\n1 0 1 1\n2 0 2 1\n";
-
-/// The words of `sure` over the model and the formula of a row write this text.
-pub fn sure_writes<R: Threads + Sync + Abort>(
-    rt: &R,
-    alloc: Global,
-    row: Row<'_>,
-    text: &str,
-    status: Status,
-) -> Result<(), Fail> {
-    let mut owned = words(alloc, &["sure", "m.tra", "m.lab", row.formula])?;
-    if row.own.is_some() {
-        add_words(alloc, &mut owned, &["--own", "m.own"])?;
-    }
-    let mut shelf = SteadyShelf::new(files(alloc, row)?);
-    let (ended, written) = ends(rt, alloc, &owned, &mut shelf, &OpenGate {})?;
-    assert_eq!(rt; written.as_slice(), text.as_bytes());
-    assert!(rt; ended == status, "{text} ends with {ended:?}");
-    Ok(())
-}
 
 #[test]
 fn sure_states_are_listed(rt: HostRuntime) -> Result<(), Fail> {

@@ -1,10 +1,9 @@
 //! Thresholds, and what the bounds say of them.
 
-use crate::rows::writes;
 use game_outside::OpenGate;
 use run_rows::{
     AGREEMENT, AGREEMENT_LABELS, AGREEMENT_OWNERS, COIN_LOOP, GOAL_AT_1, GOAL_AT_2, ONE_WORKER,
-    Row, SECOND_OWNS_1, TWO_PLAYERS, plain_row, runs,
+    Row, SECOND_OWNS_1, TWO_PLAYERS, plain_row, runs, writes,
 };
 use std::test::Fail;
 use stogame_app::Status;

@@ -1,9 +1,7 @@
 //! Upper tables that are lowered to the best exits of traps.
 
-use crate::audits::audit_writes;
-use crate::rows::writes;
 use game_outside::OpenGate;
-use run_rows::{COIN_LOOP, GOAL_AT_1, Row, runs};
+use run_rows::{COIN_LOOP, GOAL_AT_1, Row, audit_writes, runs, writes};
 use std::test::Fail;
 use stogame_app::Status;
 

@@ -1,9 +1,8 @@
 //! Values of models.
 
-use crate::rows::writes;
 use run_rows::{
     AGREEMENT, AGREEMENT_LABELS, AGREEMENT_OWNERS, COIN_LOOP, COIN_LOOP_REPORT, FORK, GOAL_AT_1,
-    GOAL_AT_2, ONE_WORKER, Row, SECOND_OWNS_1, TWO_PLAYERS, plain_row,
+    GOAL_AT_2, ONE_WORKER, Row, SECOND_OWNS_1, TWO_PLAYERS, plain_row, writes,
 };
 use std::test::Fail;
 use stogame_app::Status;

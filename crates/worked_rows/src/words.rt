@@ -11,7 +11,7 @@ use stogame_app::Status;
 const REACH: &str = "Pmax=? [ F \"goal\" ]";
 
 // How a run with these words ends, and what it writes.
-fn ends_with<R: Threads + Sync + Abort>(
+fn ends_with<R: Threads + Sync>(
     rt: &R,
     alloc: Global,
     given: &[&str],

@@ -1,18 +1,11 @@
 //! Transition files that are refused.
 
-use crate::rows::refuses;
-use run_rows::{COIN_LOOP, FORK, GOAL_AT_1, plain_row};
+use run_rows::{COIN_LOOP, FORK, GOAL_AT_1, plain_row, refuses};
 use std::alloc::Global;
-use std::process::Abort;
 use std::test::Fail;
 use std::thread::Threads;
 
-fn refused<R: Threads + Sync + Abort>(
-    rt: &R,
-    alloc: Global,
-    tra: &str,
-    text: &str,
-) -> Result<(), Fail> {
+fn refused<R: Threads + Sync>(rt: &R, alloc: Global, tra: &str, text: &str) -> Result<(), Fail> {
     refuses(
         rt,
         alloc,
@@ -22,12 +15,7 @@ fn refused<R: Threads + Sync + Abort>(
 }
 
 // The coin loop with another number in its second line.
-fn number<R: Threads + Sync + Abort>(
-    rt: &R,
-    alloc: Global,
-    number: &str,
-    cause: &str,
-) -> Result<(), Fail> {
+fn number<R: Threads + Sync>(rt: &R, alloc: Global, number: &str, cause: &str) -> Result<(), Fail> {
     let tra = format!(in alloc;
         "3 3 5\n0 0 0 {number}\n0 0 1 0.25\n0 0 2 0.25\n1 0 1 1\n2 0 2 1\n"
     )?;

@@ -1,8 +1,7 @@
 //! The first round has as many workers as are asked for.
 
-use crate::cases::MOST_OF_AGREEMENT;
 use game_outside::{Gate, SteadyShelf};
-use run_rows::{Row, ends, runs, words};
+use run_rows::{MOST_OF_AGREEMENT, Row, ends, runs, words};
 use std::sync::atomic::{AtomicBool, Ordering};
 use std::test::Fail;
 use stogame_app::Status;

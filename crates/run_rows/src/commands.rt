@@ -3,10 +3,10 @@
 ghost use Rattle.std.specs.Prelude.{◌<◌};
 
 use crate::audits::{CERTIFICATE, audit_words};
+use crate::checks::comes_to;
+use crate::rows::{Row, file, files, row_words, words};
 use game_outside::{HeldFile, MemShelf, MemSink, OpenGate};
-use run_rows::{Row, file, files, row_words, words};
 use std::alloc::Global;
-use std::process::Abort;
 use std::test::Fail;
 use std::thread::Threads;
 use stogame_app::{Status, run};
@@ -64,7 +64,7 @@ pub struct Ended {
 }
 
 /// How a command ends.
-pub fn ends_over<R: Threads + Sync + Abort>(
+pub fn ends_over<R: Threads + Sync>(
     rt: &R,
     alloc: Global,
     command: Command<'_>,
@@ -95,7 +95,7 @@ pub fn ends_over<R: Threads + Sync + Abort>(
 }
 
 /// A command writes this text and ends with this status.
-pub fn gives<R: Threads + Sync + Abort>(
+pub fn gives<R: Threads + Sync>(
     rt: &R,
     alloc: Global,
     command: Command<'_>,
@@ -107,11 +107,11 @@ pub fn gives<R: Threads + Sync + Abort>(
 {
     let ended = ends_over(rt, alloc, command, outside)?;
     let piece = outside.piece;
-    assert_eq!(rt;
-        ended.written.as_slice(),
-        text.as_bytes(),
-        "pieces of {piece}"
-    );
-    assert!(rt; ended.status == status, "pieces of {piece}: {text}");
-    Ok(())
+    comes_to(
+        format_args!("pieces of {piece}"),
+        ended.status,
+        &ended.written,
+        status,
+        text,
+    )
 }

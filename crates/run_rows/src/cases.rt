@@ -4,10 +4,11 @@ use crate::certificates::{
     FIRST_OF_TWO_PLAYERS, LOOP_OR_COIN_PLAN, MOST_OF_LOOP_OR_COIN, TWO_PLAYERS_PLAN,
 };
 use crate::commands::Command;
-use run_rows::{
+use crate::models::{
     AGREEMENT, AGREEMENT_LABELS, AGREEMENT_OWNERS, COIN_LOOP, COIN_LOOP_REPORT, GOAL_AT_1,
-    OF_THREE_STATES, ONE_WORKER, Row, USAGE,
+    OF_THREE_STATES, USAGE,
 };
+use crate::rows::{ONE_WORKER, Row};
 use stogame_app::Status;
 
 /// A command with what it writes and how it ends where no call fails.

@@ -1,9 +1,8 @@
 //! A worker that comes late reads what another has just raised.
 
-use crate::cases::MOST_OF_AGREEMENT;
 use crate::workers::agrees;
 use game_outside::LateGate;
-use run_rows::{Row, runs};
+use run_rows::{MOST_OF_AGREEMENT, Row, runs};
 use std::test::Fail;
 use stogame_app::Status;
 

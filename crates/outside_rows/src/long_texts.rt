@@ -2,18 +2,14 @@
 
 ghost use Rattle.std.specs.Prelude.{◌<◌};
 
-use crate::cases::{Case, MOST_OF_COIN_LOOP};
-use crate::certificates::FIRST_OF_TWO_PLAYERS;
-use crate::commands::Command;
 use crate::pieces::gives_in_pieces;
 use game_outside::{FileEnd, MemShelf};
 use label_reader::{read_labels_from, read_owners_from};
 use run_rows::{
-    COIN_LOOP, COIN_LOOP_REPORT, FIRST_IS_TRUE, GOAL_AT_1, ONE_WORKER, Row, SECOND_OWNS_1, file,
-    push_times,
+    COIN_LOOP, COIN_LOOP_REPORT, Case, Command, FIRST_IS_TRUE, FIRST_OF_TWO_PLAYERS, GOAL_AT_1,
+    MOST_OF_COIN_LOOP, ONE_WORKER, Row, SECOND_OWNS_1, file, push_times,
 };
 use std::alloc::Global;
-use std::process::Abort;
 use std::test::Fail;
 use std::thread::Threads;
 use stogame_app::Status;
@@ -77,7 +73,7 @@ fn if_long(text: String) -> Result<String, Fail> {
 }
 
 // The check of a row gives the same in pieces of each size.
-fn check_gives<R: Threads + Sync + Abort>(
+fn check_gives<R: Threads + Sync>(
     rt: &R,
     alloc: Global,
     row: Row<'_>,
@@ -93,7 +89,7 @@ fn check_gives<R: Threads + Sync + Abort>(
     gives_in_pieces(rt, alloc, case)
 }
 
-fn transitions_give<R: Threads + Sync + Abort>(
+fn transitions_give<R: Threads + Sync>(
     rt: &R,
     alloc: Global,
     lines: Lines,
@@ -112,7 +108,7 @@ fn transitions_give<R: Threads + Sync + Abort>(
     Ok(())
 }
 
-fn labels_give<R: Threads + Sync + Abort>(
+fn labels_give<R: Threads + Sync>(
     rt: &R,
     alloc: Global,
     lines: Lines,
@@ -130,7 +126,7 @@ fn labels_give<R: Threads + Sync + Abort>(
     Ok(())
 }
 
-fn owners_give<R: Threads + Sync + Abort>(
+fn owners_give<R: Threads + Sync>(
     rt: &R,
     alloc: Global,
     lines: Lines,

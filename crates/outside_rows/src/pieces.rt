@@ -1,13 +1,10 @@
 //! Files in pieces of any size.
 
-use crate::cases::{
-    AUDIT_OF_TWO_PLAYERS, CHECK_OF_AGREEMENT, CHECK_OF_COIN_LOOP, Case, MOST_OF_COIN_LOOP,
-    PLAN_OF_TWO_PLAYERS, STATE_OUT_OF_RANGE,
+use run_rows::{
+    AUDIT_OF_TWO_PLAYERS, CHECK_OF_AGREEMENT, CHECK_OF_COIN_LOOP, Case, Command, MOST_OF_COIN_LOOP,
+    Outside, PLAN_OF_TWO_PLAYERS, Row, STATE_OUT_OF_RANGE, gives,
 };
-use crate::commands::{Command, Outside, gives};
-use run_rows::Row;
 use std::alloc::Global;
-use std::process::Abort;
 use std::test::Fail;
 use std::thread::Threads;
 use stogame_app::Status;
@@ -33,7 +30,7 @@ const UNKNOWN_INDEX: Case<'static> = Case {
 };
 
 /// A case gives the same in pieces of each size.
-pub fn gives_in_pieces<R: Threads + Sync + Abort>(
+pub fn gives_in_pieces<R: Threads + Sync>(
     rt: &R,
     alloc: Global,
     case: Case<'_>,

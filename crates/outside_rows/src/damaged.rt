@@ -2,14 +2,12 @@
 
 ghost use Rattle.std.specs.Prelude.{◌<◌};
 
-use crate::audits::CERTIFICATE;
-use crate::cases::{AUDIT_OF_TWO_PLAYERS, MOST_OF_AGREEMENT, MOST_OF_COIN_LOOP};
-use crate::certificates::{FIRST_OF_TWO_PLAYERS, TWO_PLAYERS_PLAN};
-use crate::commands::Command;
 use game_outside::{MemShelf, OpenGate};
 use run_rows::{
-    AGREEMENT, AGREEMENT_LABELS, AGREEMENT_OWNERS, COIN_LOOP, COIN_LOOP_REPORT, GOAL_AT_1,
-    GOAL_AT_2, Row, SECOND_OWNS_1, TWO_PLAYERS, ends, file_of_bytes, with_file,
+    AGREEMENT, AGREEMENT_LABELS, AGREEMENT_OWNERS, AUDIT_OF_TWO_PLAYERS, CERTIFICATE, COIN_LOOP,
+    COIN_LOOP_REPORT, Command, FIRST_OF_TWO_PLAYERS, GOAL_AT_1, GOAL_AT_2, MOST_OF_AGREEMENT,
+    MOST_OF_COIN_LOOP, Row, SECOND_OWNS_1, TWO_PLAYERS, TWO_PLAYERS_PLAN, ends, file_of_bytes,
+    with_file,
 };
 use std::alloc::Global;
 use std::process::Abort;
@@ -120,7 +118,7 @@ fn of_row<'a>(row: Row<'a>, file: Damaged, text: &'a str) -> Target<'a> {
 }
 
 // How the command ends where the file has these bytes and comes in pieces of so many, and what it writes.
-fn ends_with<R: Threads + Sync + Abort>(
+fn ends_with<R: Threads + Sync>(
     rt: &R,
     alloc: Global,
     target: Target<'_>,

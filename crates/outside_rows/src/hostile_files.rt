@@ -1,16 +1,12 @@
 //! Files that no tool writes: each is refused with its line.
 
-use crate::audits::audit_refuses;
-use crate::cases::MOST_OF_COIN_LOOP;
-use crate::certificates::{FIRST_OF_TWO_PLAYERS, MOST_OF_LOOP_OR_COIN};
-use crate::rows::{refuses, writes};
 use game_outside::{OpenGate, SteadyShelf};
 use run_rows::{
-    COIN_LOOP_REPORT, FIRST_IS_TRUE, ONE_WORKER, Row, ends, file_of_bytes, files, push_times,
-    row_words, with_file,
+    COIN_LOOP_REPORT, FIRST_IS_TRUE, FIRST_OF_TWO_PLAYERS, MOST_OF_COIN_LOOP, MOST_OF_LOOP_OR_COIN,
+    ONE_WORKER, Row, audit_refuses, ends, file_of_bytes, files, push_times, refuses, row_words,
+    with_file, writes,
 };
 use std::alloc::Global;
-use std::process::Abort;
 use std::test::Fail;
 use std::thread::Threads;
 use stogame_app::Status;
@@ -19,12 +15,7 @@ use stogame_app::Status;
 const FAR: &str = "9999999999999999999999999999999999999999";
 
 // The check of the coin loop with this transition file is refused for this cause.
-fn refused<R: Threads + Sync + Abort>(
-    rt: &R,
-    alloc: Global,
-    tra: &str,
-    cause: &str,
-) -> Result<(), Fail> {
+fn refused<R: Threads + Sync>(rt: &R, alloc: Global, tra: &str, cause: &str) -> Result<(), Fail> {
     let row = Row {
         tra,
         ..MOST_OF_COIN_LOOP
@@ -95,7 +86,7 @@ fn compressed_files_have_no_header(rt: HostRuntime) -> Result<(), Fail> {
 }
 
 // The check of the coin loop with this label file writes this text.
-fn labels_give<R: Threads + Sync + Abort>(
+fn labels_give<R: Threads + Sync>(
     rt: &R,
     alloc: Global,
     lab: &str,
@@ -110,7 +101,7 @@ fn labels_give<R: Threads + Sync + Abort>(
 }
 
 // The check of the game of two players with this owner file writes this text.
-fn owners_give<R: Threads + Sync + Abort>(
+fn owners_give<R: Threads + Sync>(
     rt: &R,
     alloc: Global,
     own: &str,

@@ -1,9 +1,7 @@
 //! Rounds and workers.
 
-use crate::cases::{MOST_OF_AGREEMENT, MOST_OF_COIN_LOOP};
-use crate::rows::writes;
 use game_outside::{Gate, HoldGate, OpenGate};
-use run_rows::{COIN_LOOP_REPORT, Row, runs};
+use run_rows::{COIN_LOOP_REPORT, MOST_OF_AGREEMENT, MOST_OF_COIN_LOOP, Row, runs, writes};
 use std::alloc::Global;
 use std::process::Abort;
 use std::sync::atomic::{AtomicU32, Ordering};

@@ -1,11 +1,10 @@
 //! Every call of the shelf and of the sink fails in turn.
 
-use crate::cases::{
+use run_rows::{
     AUDIT_OF_LOOP_OR_COIN, AUDIT_OF_TWO_PLAYERS, CHECK_OF_AGREEMENT, CHECK_OF_COIN_LOOP,
-    COIN_LOOP_OUT_OF_ORDER, Case, DRAWN_GAME, NO_COMMAND, OTHER_VERSION, PLAN_OF_LOOP_OR_COIN,
-    PLAN_OF_TWO_PLAYERS, STATE_OUT_OF_RANGE,
+    COIN_LOOP_OUT_OF_ORDER, Case, DRAWN_GAME, Ended, NO_COMMAND, OTHER_VERSION, Outside,
+    PLAN_OF_LOOP_OR_COIN, PLAN_OF_TWO_PLAYERS, STATE_OUT_OF_RANGE, STEP, ends_over,
 };
-use crate::commands::{Ended, Outside, STEP, ends_over};
 use std::alloc::Global;
 use std::process::Abort;
 use std::test::Fail;

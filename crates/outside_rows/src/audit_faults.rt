@@ -1,11 +1,11 @@
 //! Certificates that are refused: the faults of their texts, and of what they say.
 
-use crate::audits::{audit_refuses, audit_words, audit_writes};
-use crate::certificates::{FIRST_OF_TWO_PLAYERS, MOST_OF_LOOP_OR_COIN};
 use game_outside::{MemShelf, OpenGate};
-use run_rows::{COIN_LOOP, GOAL_AT_1, Row, ends, files, plain_row};
+use run_rows::{
+    COIN_LOOP, FIRST_OF_TWO_PLAYERS, GOAL_AT_1, MOST_OF_LOOP_OR_COIN, Row, audit_refuses,
+    audit_words, audit_writes, ends, files, plain_row,
+};
 use std::alloc::Global;
-use std::process::Abort;
 use std::test::Fail;
 use std::thread::Threads;
 use stogame_app::Status;
@@ -96,7 +96,7 @@ fn with_changes(alloc: Global, changes: &[&str]) -> Result<String, Fail> {
 }
 
 // The certificate with these changes is refused with this line and cause.
-fn refused<R: Threads + Sync + Abort>(
+fn refused<R: Threads + Sync>(
     rt: &R,
     alloc: Global,
     changes: &[&str],
@@ -254,7 +254,7 @@ fn the_text_comes_first_and_then_upper_bounds_replies_and_lower_bounds(
 }
 
 // How an audit ends where the file of the certificate is not held, and what it writes.
-fn ends_without<R: Threads + Sync + Abort>(
+fn ends_without<R: Threads + Sync>(
     rt: &R,
     alloc: Global,
     row: Row<'_>,

@@ -2,11 +2,11 @@
 
 ghost use Rattle.std.specs.Prelude.{None, false};
 
-use crate::cases::{
+use game_outside::{Failed, OpenGate, Shelf, SteadyShelf, SteadySink};
+use run_rows::{
     AUDIT_OF_LOOP_OR_COIN, CHECK_OF_AGREEMENT, CHECK_OF_COIN_LOOP, COIN_LOOP_OUT_OF_ORDER, Case,
     DRAWN_GAME, NO_COMMAND, STATE_OUT_OF_RANGE,
 };
-use game_outside::{Failed, OpenGate, Shelf, SteadyShelf, SteadySink};
 use std::alloc::Global;
 use std::process::Abort;
 use std::test::Fail;

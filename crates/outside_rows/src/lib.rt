@@ -1,0 +1,29 @@
+//! Rows over an outside that fails, comes in pieces or is late, and over texts that are hostile or damaged: each is a row of a test.
+//!
+//! Expected values were worked out by hand or by a program apart from this one.
+#![tactic(auto)]
+
+#[cfg(test)]
+mod adapters;
+#[cfg(test)]
+mod all_workers;
+#[cfg(test)]
+mod audit_faults;
+#[cfg(test)]
+mod damaged;
+#[cfg(test)]
+mod failing_calls;
+#[cfg(test)]
+mod hostile_files;
+#[cfg(test)]
+mod late_workers;
+#[cfg(test)]
+mod long_texts;
+#[cfg(test)]
+mod names_begun;
+#[cfg(test)]
+mod pieces;
+#[cfg(test)]
+mod transitions;
+#[cfg(test)]
+mod workers;

@@ -1,0 +1,95 @@
+//! What is expected of rows: what they write, and how they end.
+
+use crate::rows::{Row, add_words, ends, files, runs, words};
+use game_outside::{OpenGate, SteadyShelf};
+use std::alloc::Global;
+use std::fmt::{Display, InlineText};
+use std::test::Fail;
+use std::thread::Threads;
+use stogame_app::Status;
+
+// How many bytes of a text stand in a message.
+const SHOWN: usize = 160;
+
+// How many bytes both begin with.
+fn alike(written: &[u8], expected: &[u8]) -> usize {
+    for (place, (byte, other)) in written.iter().zip(expected.iter()).enumerate() {
+        if byte != other {
+            return place;
+        }
+    }
+    written.len().min(expected.len())
+}
+
+// What stands from this byte on, cut where it is long.
+fn shown(bytes: &[u8], from: usize) -> InlineText<{ SHOWN }> {
+    let rest = bytes.get(from..).unwrap_or(&[]);
+    InlineText::of(rest.escape_ascii())
+}
+
+/// A run ended with this status and wrote this text. Else the failure says what it did in their place, and `of` which run it is.
+pub fn comes_to<D: Display + Drop>(
+    of: D,
+    ended: Status,
+    written: &[u8],
+    status: Status,
+    text: &str,
+) -> Result<(), Fail> {
+    let expected = text.as_bytes();
+    if ended == status && written == expected {
+        return Ok(());
+    }
+    let from = alike(written, expected);
+    let found = shown(written, from);
+    let wanted = shown(expected, from);
+    let (found, wanted) = (found.as_str(), wanted.as_str());
+    Err(Fail::new(format_args!(
+        "from byte {from} on '{found}' is written and '{wanted}' expected, it ends with {ended:?} and is to end with {status:?}: {of}"
+    )))
+}
+
+/// A row over a shelf and a sink that never fail writes this text and ends with this status.
+pub fn writes<R: Threads + Sync>(
+    rt: &R,
+    alloc: Global,
+    row: Row<'_>,
+    text: &str,
+    status: Status,
+) -> Result<(), Fail> {
+    let (ended, written) = runs(rt, alloc, row, &OpenGate {})?;
+    comes_to(row.formula, ended, &written, status, text)
+}
+
+/// The row is refused with this line.
+pub fn refuses<R: Threads + Sync>(
+    rt: &R,
+    alloc: Global,
+    row: Row<'_>,
+    text: &str,
+) -> Result<(), Fail> {
+    writes(rt, alloc, row, text, Status::ModelRefused)
+}
+
+/// The words of `sure` over the model and the formula of a row write this text.
+pub fn sure_writes<R: Threads + Sync>(
+    rt: &R,
+    alloc: Global,
+    row: Row<'_>,
+    text: &str,
+    status: Status,
+) -> Result<(), Fail> {
+    let mut owned = words(alloc, &["sure", "m.tra", "m.lab", row.formula])?;
+    if row.own.is_some() {
+        add_words(alloc, &mut owned, &["--own", "m.own"])?;
+    }
+    let mut shelf = SteadyShelf::new(files(alloc, row)?);
+    let (ended, written) = ends(rt, alloc, &owned, &mut shelf, &OpenGate {})?;
+    let formula = row.formula;
+    comes_to(
+        format_args!("sure {formula}"),
+        ended,
+        &written,
+        status,
+        text,
+    )
+}
