@@ -1,4 +1,4 @@
-//! Rows over an outside that fails, comes in pieces or is late, and over texts that are hostile or damaged: each is a row of a test.
+//! Rows over an outside that fails, is late or comes in pieces, and over texts that are refused, hostile or damaged.
 //!
 //! Expected values were worked out by hand or by a program apart from this one.
 #![tactic(auto)]

@@ -11,14 +11,18 @@ use stogame_app::Status;
 // How many bytes of a text stand in a message.
 const SHOWN: usize = 160;
 
-// How many bytes both begin with.
-fn alike(written: &[u8], expected: &[u8]) -> usize {
+// Where the first line begins in which both differ.
+fn differing_line(written: &[u8], expected: &[u8]) -> usize {
+    let mut line = 0;
     for (place, (byte, other)) in written.iter().zip(expected.iter()).enumerate() {
         if byte != other {
-            return place;
+            return line;
+        }
+        if *byte == b'\n' {
+            line = place.saturating_add(1);
         }
     }
-    written.len().min(expected.len())
+    line
 }
 
 // What stands from this byte on, cut where it is long.
@@ -39,7 +43,7 @@ pub fn comes_to<D: Display + Drop>(
     if ended == status && written == expected {
         return Ok(());
     }
-    let from = alike(written, expected);
+    let from = differing_line(written, expected);
     let found = shown(written, from);
     let wanted = shown(expected, from);
     let (found, wanted) = (found.as_str(), wanted.as_str());

@@ -4,9 +4,7 @@ use crate::traps::{
     GOAL_AT_2, GOAL_AT_3, NO_ROUNDS, SECOND_OWNS_1, STAY_OR_COIN, TO_AND_FRO, TRAPS,
 };
 use game_outside::{HoldGate, OpenGate};
-use run_rows::{
-    COIN_LOOP, GOAL_AT_1, ONE_WORKER, Row, audit_writes, plain_row, refuses, runs, writes,
-};
+use run_rows::{COIN_LOOP, GOAL_AT_1, Row, audit_writes, plain_row, refuses, runs, writes};
 use std::alloc::Global;
 use std::process::Abort;
 use std::test::Fail;
