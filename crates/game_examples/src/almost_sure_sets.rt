@@ -1,12 +1,12 @@
 //! Worked almost-sure sets.
 
-ghost use Rattle.std.specs.Prelude.{◌≡◌, [], ◌∷◌, length, IfOk};
+ghost use Rattle.std.specs.Prelude.{◌≡◌, length};
 
 use almost_sure::almost_sure;
-use game_model::{Choice, Game, Question, Side};
+use game_model::{Game, Question, Side};
 use game_outside::OutOfMemory;
-use sample_games::{all_of, chain, coin_loop, goal_or_sink, none_of, only, pair, to};
-use std::alloc::{AllocError, Global};
+use sample_games::{all_of, chain, coin, coin_loop, goal_or_sink, none_of, only, wait_or_coin};
+use std::alloc::Global;
 use std::test::Fail;
 
 #[test]
@@ -51,37 +51,4 @@ fn sure_of(alloc: Global, game: &Game, side: Side) -> Result<(bool, bool, bool),
         Ok(marks) => Ok((marks.has(0), marks.has(1), marks.has(2))),
         Err(error) => Err(error),
     }
-}
-
-/// State 0 stays or goes to 1 with 1/2 each; 1 and 2 stay.
-fn coin(alloc: Global) -> Result<Game, OutOfMemory>
-    ensures { IfOk result (λ game. length game ≡ 3) }
-{
-    let mut states = Vec::new(alloc);
-    states.push(alone(alloc, pair(alloc, (0, 1), (1, 1))?)?)?;
-    states.push(alone(alloc, to(alloc, 1)?)?)?;
-    states.push(alone(alloc, to(alloc, 2)?)?)?;
-    Game::from_choices(alloc, states)
-}
-
-/// State 0 stays, or goes to 1 and 2 with 1/2 each; 1 and 2 stay.
-fn wait_or_coin(alloc: Global) -> Result<Game, OutOfMemory>
-    ensures { IfOk result (λ game. length game ≡ 3) }
-{
-    let mut states = Vec::new(alloc);
-    let mut choices = alone(alloc, to(alloc, 0)?)?;
-    choices.push(pair(alloc, (1, 1), (2, 1))?)?;
-    states.push(choices)?;
-    states.push(alone(alloc, to(alloc, 1)?)?)?;
-    states.push(alone(alloc, to(alloc, 2)?)?)?;
-    Game::from_choices(alloc, states)
-}
-
-/// One choice at a state.
-fn alone(alloc: Global, choice: Choice) -> Result<Vec<Choice>, AllocError>
-    ensures { IfOk result (λ c. c.items ≡ choice ∷ []) }
-{
-    let mut choices = Vec::new(alloc);
-    choices.push(choice)?;
-    Ok(choices)
 }

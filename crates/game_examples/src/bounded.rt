@@ -1,12 +1,12 @@
 //! Worked sweeps.
 
-ghost use Rattle.std.specs.Prelude.{◌≡◌, ◌≤◌, [], ◌∷◌, length, All, IfOk};
-ghost use Rattle.game_model.specs.Limits.{unit, most_states};
+ghost use Rattle.std.specs.Prelude.{◌≡◌, ◌≤◌, length, All, IfOk};
+ghost use Rattle.game_model.specs.Limits.{unit};
 
 use bounded_rounds::{MOST_STEPS, bounded, bounded_values};
-use game_model::{Choice, Game, Question, Side, UNIT};
-use game_outside::{HoldGate, OpenGate, OutOfMemory};
-use sample_games::{all_of, coin_loop, four_states, none_of, only, pair};
+use game_model::{Game, Question, Side, UNIT};
+use game_outside::{HoldGate, OpenGate};
+use sample_games::{all_of, coin_loop, four_states, ladder, none_of, only};
 use std::alloc::{AllocError, Global};
 use std::test::Fail;
 
@@ -77,33 +77,6 @@ fn each_player_takes_its_better_choice(rt: HostRuntime) -> Result<(), Fail> {
     assert_eq!(rt; found.lower.as_slice(), values.as_slice());
     assert_eq!(rt; found.upper.as_slice(), values.as_slice());
     Ok(())
-}
-
-// Two choices at a state.
-fn two_choices(alloc: Global, first: Choice, second: Choice) -> Result<Vec<Choice>, AllocError>
-    ensures { IfOk result (λ c. c.items ≡ first ∷ second ∷ []) }
-{
-    let mut choices = Vec::new(alloc);
-    choices.push(first)?;
-    choices.push(second)?;
-    Ok(choices)
-}
-
-// Each state goes on to the next one, or falls back to the first with 1/3, or half of the way with 3/7; the last one stays or
-// falls back.
-fn ladder(alloc: Global, count: u32) -> Result<Game, OutOfMemory>
-    requires some { 2 ≤ count }
-    requires few { count ≤ most_states }
-    ensures { IfOk result (λ game. length game ≡ count) }
-{
-    let mut states = Vec::new(alloc);
-    for state in 0..count {
-        let next = (state + 1).min(count - 1);
-        let first = pair(alloc, (0, 1), (next, 2))?;
-        let second = pair(alloc, (state / 2, 3), (next, 4))?;
-        states.push(two_choices(alloc, first, second)?)?;
-    }
-    Game::from_choices(alloc, states)
 }
 
 // The unit at one state, and 0 elsewhere.

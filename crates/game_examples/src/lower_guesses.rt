@@ -1,13 +1,12 @@
 //! Worked plans and lower guesses.
 
-ghost use Rattle.std.specs.Prelude.{◌≡◌, ◌≤◌, [], ◌∷◌, length, IfOk};
+ghost use Rattle.std.specs.Prelude.{◌≡◌, ◌≤◌, length};
 ghost use Rattle.game_model.specs.Limits.{unit};
 
-use game_model::{Choice, Game, Question, Side, UNIT};
-use game_outside::OutOfMemory;
+use game_model::{Game, Question, Side, UNIT};
 use rank_certificate::{LowerGuess, lower_guess, rank_table};
-use sample_games::{all_of, chain, coin_loop, four_states, none_of, only, pair, to};
-use std::alloc::{AllocError, Global};
+use sample_games::{all_of, chain, coin_loop, four_states, none_of, only, wait_or_coin};
+use std::alloc::Global;
 use std::test::Fail;
 use zero_sets::zero_set;
 
@@ -74,36 +73,6 @@ fn the_first_choice_for_the_rank_is_taken(rt: HostRuntime) -> Result<(), Fail> {
     Ok(())
 }
 
-/// One choice at a state.
-fn only_choice(alloc: Global, choice: Choice) -> Result<Vec<Choice>, AllocError>
-    ensures { IfOk result (λ c. c.items ≡ choice ∷ []) }
-{
-    let mut choices = Vec::new(alloc);
-    choices.push(choice)?;
-    Ok(choices)
-}
-
-/// Two choices at a state.
-fn two_choices(alloc: Global, first: Choice, second: Choice) -> Result<Vec<Choice>, AllocError>
-    ensures { IfOk result (λ c. c.items ≡ first ∷ second ∷ []) }
-{
-    let mut choices = Vec::new(alloc);
-    choices.push(first)?;
-    choices.push(second)?;
-    Ok(choices)
-}
-
-/// State 0 stays, or goes to 1 and to 2 with 1/2 each; 1 and 2 stay.
-fn stay_or_toss(alloc: Global) -> Result<Game, OutOfMemory>
-    ensures { IfOk result (λ game. length game ≡ 3) }
-{
-    let mut states = Vec::new(alloc);
-    states.push(two_choices(alloc, to(alloc, 0)?, pair(alloc, (1, 1), (2, 1))?)?)?;
-    states.push(only_choice(alloc, to(alloc, 1)?)?)?;
-    states.push(only_choice(alloc, to(alloc, 2)?)?)?;
-    Game::from_choices(alloc, states)
-}
-
 /// The lower guess of this value of state 0, where the goal is state 1.
 fn guess_of(alloc: Global, game: &Game, value: u64) -> Result<LowerGuess, Fail>
     requires { length game.now ≡ 3 }
@@ -142,7 +111,7 @@ fn the_coin_loop_is_met_in_the_limit(rt: HostRuntime) -> Result<(), Fail> {
 #[test]
 fn a_loop_that_keeps_its_excess_has_no_rank(rt: HostRuntime) -> Result<(), Fail> {
     let alloc = rt.alloc();
-    let game = stay_or_toss(alloc)?;
+    let game = wait_or_coin(alloc)?;
     let found = guess_of(alloc, &game, HALF)?;
     assert_eq!(rt; found.values.as_slice(), [HALF, UNIT, 0].as_slice());
     assert_eq!(rt;

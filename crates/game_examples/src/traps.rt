@@ -1,12 +1,11 @@
 //! Worked traps and lowered tables.
 
-ghost use Rattle.std.specs.Prelude.{◌≡◌, ◌∷◌, [], length, IfOk};
+ghost use Rattle.std.specs.Prelude.{◌≡◌, length, IfOk};
 ghost use Rattle.game_model.specs.Query.{states};
 
-use game_model::{Choice, Game, Question, Side, UNIT};
-use game_outside::OutOfMemory;
+use game_model::{Question, Side, UNIT};
 use inductive_check::{check_replies, check_upper};
-use sample_games::{all_of, coin_loop, none_of, only, pair, to, triple};
+use sample_games::{all_of, coin_loop, leaky_ring, none_of, only, ring_of_two, stay_or_coin};
 use std::alloc::{AllocError, Global};
 use std::process::Abort;
 use std::test::Fail;
@@ -44,23 +43,6 @@ fn assert_row(rt: &impl Abort, alloc: Global, question: &Question, row: Row<'_>)
     Ok(())
 }
 
-fn one_choice(alloc: Global, choice: Choice) -> Result<Vec<Choice>, AllocError>
-    ensures { IfOk result (λ c. c.items ≡ choice ∷ []) }
-{
-    let mut choices = Vec::new(alloc);
-    choices.push(choice)?;
-    Ok(choices)
-}
-
-fn two_choices(alloc: Global, first: Choice, second: Choice) -> Result<Vec<Choice>, AllocError>
-    ensures { IfOk result (λ c. c.items ≡ first ∷ second ∷ []) }
-{
-    let mut choices = Vec::new(alloc);
-    choices.push(first)?;
-    choices.push(second)?;
-    Ok(choices)
-}
-
 #[test]
 fn a_coin_loop_traps_at_its_sink(rt: HostRuntime) -> Result<(), Fail> {
     let alloc = rt.alloc();
@@ -78,19 +60,6 @@ fn a_coin_loop_traps_at_its_sink(rt: HostRuntime) -> Result<(), Fail> {
             lowered: &[ONE, ONE, 0],
         },
     )
-}
-
-/// State 0 stays, or goes to 2 and 3 with 1/2 each; state 1 stays with 1/2 and goes to 2 and 3 with 1/4 each; 2 and 3
-/// stay.
-fn stay_or_coin(alloc: Global) -> Result<Game, OutOfMemory>
-    ensures { IfOk result (λ game. length game ≡ 4) }
-{
-    let mut states = Vec::new(alloc);
-    states.push(two_choices(alloc, to(alloc, 0)?, pair(alloc, (2, 1), (3, 1))?)?)?;
-    states.push(one_choice(alloc, triple(alloc, (1, 2), (2, 1), (3, 1))?)?)?;
-    states.push(one_choice(alloc, to(alloc, 2)?)?)?;
-    states.push(one_choice(alloc, to(alloc, 3)?)?)?;
-    Game::from_choices(alloc, states)
 }
 
 #[test]
@@ -134,20 +103,6 @@ fn the_minimiser_traps_where_its_reply_stays(rt: HostRuntime) -> Result<(), Fail
     Ok(())
 }
 
-/// State 0 goes to 1, or to 3 and 4 with 1/2 each; state 1 goes to 0 or to 3; state 2 stays with 1/2 and goes to 3 and
-/// 4 with 1/4 each; 3 and 4 stay.
-fn ring_of_two(alloc: Global) -> Result<Game, OutOfMemory>
-    ensures { IfOk result (λ game. length game ≡ 5) }
-{
-    let mut states = Vec::new(alloc);
-    states.push(two_choices(alloc, to(alloc, 1)?, pair(alloc, (3, 1), (4, 1))?)?)?;
-    states.push(two_choices(alloc, to(alloc, 0)?, to(alloc, 3)?)?)?;
-    states.push(one_choice(alloc, triple(alloc, (2, 2), (3, 1), (4, 1))?)?)?;
-    states.push(one_choice(alloc, to(alloc, 3)?)?)?;
-    states.push(one_choice(alloc, to(alloc, 4)?)?)?;
-    Game::from_choices(alloc, states)
-}
-
 /// The minimiser at state 1, the maximiser at the four others.
 fn least_at_one(alloc: Global) -> Result<Vec<Side>, AllocError>
     ensures { IfOk result (λ sides. length sides.items ≡ 5) }
@@ -178,18 +133,6 @@ fn a_ring_of_both_players_is_held_to_its_one_exit(rt: HostRuntime) -> Result<(),
             lowered: &[HALF, HALF, HIGH, ONE, 0],
         },
     )
-}
-
-/// State 0 goes to 1; state 1 goes to 0 and 2 with 1/2 each, or stays; 2 and 3 go to each other.
-fn leaky_ring(alloc: Global) -> Result<Game, OutOfMemory>
-    ensures { IfOk result (λ game. length game ≡ 4) }
-{
-    let mut states = Vec::new(alloc);
-    states.push(one_choice(alloc, to(alloc, 1)?)?)?;
-    states.push(two_choices(alloc, pair(alloc, (0, 1), (2, 1))?, to(alloc, 1)?)?)?;
-    states.push(one_choice(alloc, to(alloc, 3)?)?)?;
-    states.push(one_choice(alloc, to(alloc, 2)?)?)?;
-    Game::from_choices(alloc, states)
 }
 
 #[test]

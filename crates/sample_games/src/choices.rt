@@ -1,6 +1,6 @@
-//! Choices with one, two and three successors.
+//! Choices with one, two and three successors, and the choices of a state.
 
-ghost use Rattle.std.specs.Prelude.{◌≡◌, ◌<◌, ◌≤◌, All, IfOk};
+ghost use Rattle.std.specs.Prelude.{◌≡◌, ◌<◌, ◌≤◌, [], ◌∷◌, All, IfOk};
 
 use game_model::{Choice, Edge};
 use std::alloc::{AllocError, Global};
@@ -56,4 +56,23 @@ fn edge(pair: (u32, u32)) -> Edge
         to: pair.0,
         weight: u128::from(pair.1),
     }
+}
+
+/// One choice at a state.
+pub fn only_choice(alloc: Global, choice: Choice) -> Result<Vec<Choice>, AllocError>
+    ensures { IfOk result (λ c. c.items ≡ choice ∷ []) }
+{
+    let mut choices = Vec::new(alloc);
+    choices.push(choice)?;
+    Ok(choices)
+}
+
+/// Two choices at a state.
+pub fn two_choices(alloc: Global, first: Choice, second: Choice) -> Result<Vec<Choice>, AllocError>
+    ensures { IfOk result (λ c. c.items ≡ first ∷ second ∷ []) }
+{
+    let mut choices = Vec::new(alloc);
+    choices.push(first)?;
+    choices.push(second)?;
+    Ok(choices)
 }

@@ -3,29 +3,10 @@
 ghost use Rattle.std.specs.Prelude.{◌≡◌, ◌+◌, ◌<◌, ◌≤◌, [], ◌∷◌, length, All, IfOk};
 ghost use Rattle.game_model.specs.Limits.{most_states};
 
-use crate::choices::{pair, to, triple};
-use game_model::{Choice, Game};
+use crate::choices::{only_choice, pair, to, triple, two_choices};
+use game_model::Game;
 use game_outside::OutOfMemory;
-use std::alloc::{AllocError, Global};
-
-/// One choice at a state.
-fn only_choice(alloc: Global, choice: Choice) -> Result<Vec<Choice>, AllocError>
-    ensures { IfOk result (λ c. c.items ≡ choice ∷ []) }
-{
-    let mut choices = Vec::new(alloc);
-    choices.push(choice)?;
-    Ok(choices)
-}
-
-/// Two choices at a state.
-fn two_choices(alloc: Global, first: Choice, second: Choice) -> Result<Vec<Choice>, AllocError>
-    ensures { IfOk result (λ c. c.items ≡ first ∷ second ∷ []) }
-{
-    let mut choices = Vec::new(alloc);
-    choices.push(first)?;
-    choices.push(second)?;
-    Ok(choices)
-}
+use std::alloc::Global;
 
 /// The coin loop: state 0 stays with probability 1/2, and goes to 1 and to 2 with 1/4 each; 1 and 2 stay.
 pub fn coin_loop(alloc: Global) -> Result<Game, OutOfMemory>
@@ -76,6 +57,56 @@ pub fn chain(alloc: Global, count: u32) -> Result<Game, OutOfMemory>
     for state in 0..count {
         let next = (state + 1).min(count - 1);
         states.push(only_choice(alloc, to(alloc, next)?)?)?;
+    }
+    Game::from_choices(alloc, states)
+}
+
+/// One state that stays where it is.
+pub fn one_state(alloc: Global) -> Result<Game, OutOfMemory>
+    ensures { IfOk result (λ game. length game ≡ 1) }
+{
+    let mut states = Vec::new(alloc);
+    states.push(only_choice(alloc, to(alloc, 0)?)?)?;
+    Game::from_choices(alloc, states)
+}
+
+/// State 0 stays or goes to 1 with 1/2 each; 1 and 2 stay.
+pub fn coin(alloc: Global) -> Result<Game, OutOfMemory>
+    ensures { IfOk result (λ game. length game ≡ 3) }
+{
+    let mut states = Vec::new(alloc);
+    states.push(only_choice(alloc, pair(alloc, (0, 1), (1, 1))?)?)?;
+    states.push(only_choice(alloc, to(alloc, 1)?)?)?;
+    states.push(only_choice(alloc, to(alloc, 2)?)?)?;
+    Game::from_choices(alloc, states)
+}
+
+/// State 0 stays, or goes to 1 and 2 with 1/2 each; 1 and 2 stay.
+pub fn wait_or_coin(alloc: Global) -> Result<Game, OutOfMemory>
+    ensures { IfOk result (λ game. length game ≡ 3) }
+{
+    let mut states = Vec::new(alloc);
+    let mut choices = only_choice(alloc, to(alloc, 0)?)?;
+    choices.push(pair(alloc, (1, 1), (2, 1))?)?;
+    states.push(choices)?;
+    states.push(only_choice(alloc, to(alloc, 1)?)?)?;
+    states.push(only_choice(alloc, to(alloc, 2)?)?)?;
+    Game::from_choices(alloc, states)
+}
+
+/// Each state goes on to the next one, or falls back to the first with 1/3, or half of the way with 3/7; the last one stays or
+/// falls back.
+pub fn ladder(alloc: Global, count: u32) -> Result<Game, OutOfMemory>
+    requires some { 2 ≤ count }
+    requires few { count ≤ most_states }
+    ensures { IfOk result (λ game. length game ≡ count) }
+{
+    let mut states = Vec::new(alloc);
+    for state in 0..count {
+        let next = (state + 1).min(count - 1);
+        let first = pair(alloc, (0, 1), (next, 2))?;
+        let second = pair(alloc, (state / 2, 3), (next, 4))?;
+        states.push(two_choices(alloc, first, second)?)?;
     }
     Game::from_choices(alloc, states)
 }

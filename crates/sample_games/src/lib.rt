@@ -4,7 +4,11 @@
 mod choices;
 mod games;
 mod questions;
+mod rings;
 
 pub use choices::{pair, to, triple};
-pub use games::{chain, coin_loop, four_states, goal_or_sink};
+pub use games::{
+    chain, coin, coin_loop, four_states, goal_or_sink, ladder, one_state, wait_or_coin,
+};
 pub use questions::{all_of, none_of, only};
+pub use rings::{leaky_ring, ring_of_two, stay_or_coin};

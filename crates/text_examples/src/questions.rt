@@ -4,25 +4,12 @@ ghost use Rattle.std.specs.Prelude.{◌≡◌, ◌↔◌, IfOk, IsTrue, length};
 ghost use Rattle.formula_sets.specs.Posing.{IsUntil};
 
 use formula_sets::{is_flat, pose, pose_next};
-use game_model::{Choice, Edge, Game, Side, UNIT};
-use game_outside::OutOfMemory;
+use game_model::{Side, UNIT};
 use label_reader::{Labels, Owners, read_labels};
 use rpatl_syntax::{PathKind, read_formula};
+use sample_games::one_state;
 use std::alloc::Global;
 use std::test::Fail;
-
-// One state that stays where it is.
-fn one_state(alloc: Global) -> Result<Game, OutOfMemory>
-    ensures { IfOk result (λ game. length game ≡ 1) }
-{
-    let mut edges = Vec::new(alloc);
-    edges.push(Edge { to: 0, weight: 1 })?;
-    let mut choices = Vec::new(alloc);
-    choices.push(Choice::of_edges(edges))?;
-    let mut states = Vec::new(alloc);
-    states.push(choices)?;
-    Game::from_choices(alloc, states)
-}
 
 fn labels_of_one_state(alloc: Global) -> Result<Labels, &'static str>
     ensures { IfOk result (λ labels. labels.states ≡ 1) }
