@@ -42,11 +42,18 @@ module _ {X : Type 0} (said : List ℕ → Result X LabFault) (Answers : List �
   exactly (Err file.ReadFault) after without of = subst Exact (sym without) tt
   exactly (Err file.TooLong) after without of = subst Exact (sym without) of
 
--- the same of a reader that has taken nothing yet
+-- A reader that has taken nothing yet says of a text what is said of it.
+pub says_exactly : {X R : Type 0} (kind : FileKind) (make : ℕ → List Item → List StateLine → X) (states n : ℕ) (behind : Option R) (lines : List (List ℕ)) (answer : Result X LabFault) (Rest : R → Type 0)
+    → behind ≡ None → n ≡ states → MatchOption behind (◌≡◌ {A = ℕ} 1 1 → AnswersOrWants IsOutOfMemory (λ x. x) answer (said_by_lines kind n (make n) lines)) Rest
+    → AnswersOrWants IsOutOfMemory (λ x. x) answer (said_by_lines kind states (make states) lines)
+says_exactly kind make states n None lines answer Rest is same holds = subst (λ m. AnswersOrWants IsOutOfMemory (λ x. x) answer (said_by_lines kind m (make m) lines)) same (holds refl)
+says_exactly kind make states n (Some reader) lines answer Rest is same holds = cc
+
+-- the same of a file
 pub reads_exactly : {X R : Type 0} (kind : FileKind) (make : ℕ → List Item → List StateLine → X) (states n : ℕ) (behind : Option R) (Rest : List ℕ → Result X LabFault → R → Type 0)
     → behind ≡ None → n ≡ states → (holding : Option Holding) (name : List ℕ) (limit : ℕ) (read after : Result X (FileEnd LabFault)) → IsWithoutWant read after
     → ReadsFile (λ text answer. MatchOption behind (◌≡◌ {A = ℕ} 1 1 → AnswersOrWants IsOutOfMemory (λ x. x) answer (said_by_lines kind n (make n) (significant (lines_of text)))) (Rest text answer)) holding name limit read
     → ReadsFile (λ text answer. said_by kind states (make states) text ≡ answer) holding name limit after
 reads_exactly kind make states n None Rest is same holding name limit read after without of =
-    exactly (said_by kind states (make states)) (λ text answer. ◌≡◌ {A = ℕ} 1 1 → AnswersOrWants IsOutOfMemory (λ x. x) answer (said_by_lines kind n (make n) (significant (lines_of text)))) (λ text answer holds. subst (λ m. AnswersOrWants IsOutOfMemory (λ x. x) answer (said_by_lines kind m (make m) (significant (lines_of text)))) same (holds refl)) holding name limit read after without of
+    exactly (said_by kind states (make states)) (λ text answer. ◌≡◌ {A = ℕ} 1 1 → AnswersOrWants IsOutOfMemory (λ x. x) answer (said_by_lines kind n (make n) (significant (lines_of text)))) (λ text answer. says_exactly kind make states n None (significant (lines_of text)) answer (Rest text answer) is same) holding name limit read after without of
 reads_exactly kind make states n (Some reader) Rest is same holding name limit read after without of = cc

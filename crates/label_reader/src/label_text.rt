@@ -1,6 +1,6 @@
 //! The reader of label files.
 
-ghost use Rattle.std.specs.Prelude.{◌≤◌, length};
+ghost use Rattle.std.specs.Prelude.{◌≡◌, ◌≤◌, IfOk, length};
 ghost use Rattle.game_outside.specs.Answers.{AnswersOrWants};
 ghost use Rattle.label_reader.specs.Texts.{labels_of, IsOutOfMemory};
 
@@ -18,7 +18,8 @@ pub(crate) type LabelLines = HeadedLines<LabelSets>;
 /// `laws::labels_are_those_that_a_text_denotes`.
 pub fn read_labels(alloc: Global, bytes: &[u8], states: u32) -> Result<Labels, LabFault>
     requires { length bytes.now ≤ MOST_BYTES }
-    ensures { AnswersOrWants IsOutOfMemory (λ x. x) result (labels_of bytes.now states) }
+    ensures exact { AnswersOrWants IsOutOfMemory (λ x. x) result (labels_of bytes.now states) }
+    ensures sizes { IfOk result (λ labels. labels.states ≡ states) }
 {
     read_lines(bytes, LabelLines::new(alloc, states))
 }

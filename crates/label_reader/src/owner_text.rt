@@ -1,6 +1,6 @@
 //! The reader of owner files.
 
-ghost use Rattle.std.specs.Prelude.{◌≤◌, length};
+ghost use Rattle.std.specs.Prelude.{◌≡◌, ◌≤◌, IfOk, length};
 ghost use Rattle.game_outside.specs.Answers.{AnswersOrWants};
 ghost use Rattle.label_reader.specs.Texts.{owners_of, IsOutOfMemory};
 
@@ -18,7 +18,8 @@ pub(crate) type OwnerLines = HeadedLines<OwnerTable>;
 /// `laws::owners_are_those_that_a_text_denotes`.
 pub fn read_owners(alloc: Global, bytes: &[u8], states: u32) -> Result<Owners, LabFault>
     requires { length bytes.now ≤ MOST_BYTES }
-    ensures { AnswersOrWants IsOutOfMemory (λ x. x) result (owners_of bytes.now states) }
+    ensures exact { AnswersOrWants IsOutOfMemory (λ x. x) result (owners_of bytes.now states) }
+    ensures sizes { IfOk result (λ owners. length owners.owners ≡ states) }
 {
     read_lines(bytes, OwnerLines::new(alloc, states))
 }

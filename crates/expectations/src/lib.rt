@@ -1,0 +1,36 @@
+//! What a test expects of what it found, as errors that say both.
+//!
+//! An assertion ends the process, and each one is proved with its text at the place where it stands. These are proved once;
+//! a test hands their errors on with `?`, and with them the words that tell its rows apart.
+#![tactic(auto)]
+
+ghost use Rattle.std.specs.Prelude.{◌≡◌, ◌↔◌, IsOk, IsTrue, true};
+
+use std::fmt::{Debug, Display};
+use std::test::Fail;
+
+/// Ok where a test found what it wanted, by `==`; else what was found, and what was wanted.
+pub fn same<D: Display + Drop, T: PartialEq + Debug + Drop>(
+    what: D,
+    found: T,
+    wanted: T,
+) -> Result<(), Fail>
+    ensures { IsOk result ↔ T.eq found wanted ≡ true }
+{
+    if found == wanted {
+        Ok(())
+    } else {
+        Err(Fail::new(format_args!("{what}: {found:?}, and not {wanted:?}")))
+    }
+}
+
+/// Ok where a fact holds; else its words.
+pub fn holds<D: Display + Drop>(what: D, fact: bool) -> Result<(), Fail>
+    ensures { IsOk result ↔ IsTrue fact }
+{
+    if fact {
+        Ok(())
+    } else {
+        Err(Fail::new(format_args!("not so: {what}")))
+    }
+}
