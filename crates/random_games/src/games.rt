@@ -1,7 +1,7 @@
 //! The games of the tests.
 
-use crate::draft::{Draft, question_with};
 use game_model::{Game, Question};
+use sample_games::{Draft, question_with};
 use std::alloc::Global;
 
 /// A coin is thrown again and again: at state 0 it stands with weight 2, wins with weight 1 and is lost

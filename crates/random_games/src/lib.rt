@@ -1,14 +1,12 @@
 //! Games for tests that are drawn at random or have a known shape, and plain tables over them.
 #![tactic(auto)]
 
-mod draft;
 mod games;
 mod plain_tables;
 mod planned;
 mod random;
 mod structured;
 
-pub use draft::Draft;
 pub use games::{agreement_game, agreement_question, coin_game, coin_question};
 pub use plain_tables::{
     guess_of_excess, is_below, opening_table, plain_guess, plain_sweep, swept, swept_down,

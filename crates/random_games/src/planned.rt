@@ -3,8 +3,8 @@
 ghost use Rattle.std.specs.Prelude.{◌<◌, ◌≤◌, length};
 ghost use Rattle.game_model.specs.Game.{choices_of};
 
-use crate::draft::{Draft, question};
 use game_model::{Game, Question, Side};
+use sample_games::{Draft, question};
 use std::alloc::Global;
 
 // The edges of a choice, where their weights fit 64 bits.

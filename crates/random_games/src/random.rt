@@ -2,8 +2,8 @@
 
 ghost use Rattle.std.specs.Prelude.{◌≤◌};
 
-use crate::draft::{Draft, merged, question};
 use game_model::{Game, Question, Side};
+use sample_games::{Draft, merged, question};
 use std::alloc::Global;
 
 /// Numbers that are drawn one after another (a linear congruential generator: Knuth, The Art of Computer Programming, volume 2,

@@ -7,8 +7,8 @@ mod numbered;
 pub mod retransmission;
 pub mod robot;
 
-use crate::draft::question;
 use game_model::{Game, Question, Side};
+use sample_games::question;
 use std::alloc::Global;
 
 /// A game and its goal states.

@@ -1,12 +1,12 @@
-//! Small games for tests and measurements.
+//! Small games for tests and measurements, and the drafts that they are made from.
 #![tactic(auto)]
 
-mod choices;
+mod draft;
 mod games;
 mod questions;
 mod rings;
 
-pub use choices::{pair, to, triple};
+pub use draft::{Draft, game_of, merged, question, question_with};
 pub use games::{
     chain, coin, coin_loop, four_states, goal_or_sink, ladder, one_state, wait_or_coin,
 };

@@ -1,6 +1,6 @@
 // Contract signing by two parties.
 use super::Model;
-use crate::draft::Draft;
+use sample_games::Draft;
 use std::alloc::Global;
 
 /// The stages of the protocol.

@@ -1,6 +1,6 @@
 // Models from a rule of successors.
 use super::Model;
-use crate::draft::{Draft, merged};
+use sample_games::{Draft, merged};
 use std::alloc::Global;
 
 /// The most states that are numbered.

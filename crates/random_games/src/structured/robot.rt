@@ -1,6 +1,6 @@
 // A robot on a square grid with wind.
 use super::Model;
-use crate::draft::{Draft, merged};
+use sample_games::{Draft, merged};
 use std::alloc::Global;
 
 /// The fields of a side of the grid.

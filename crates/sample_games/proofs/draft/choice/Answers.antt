@@ -1,7 +1,7 @@
 use Rattle.std.proofs.Common.{◌+◌, get_or, sym, subst, arith}
 use Rattle.game_model.specs.declared.game.Edge.{Edge}
-use Rattle.random_games.proofs.Drafts.{AreEdges, AreEdges-more}
-use Rattle.random_games.proofs.draft.choice.Goals as goal
+use Rattle.sample_games.proofs.Drafts.{AreEdges, AreEdges-more}
+use Rattle.sample_games.proofs.draft.choice.Goals as goal
 
 pub loop-to-preserved : goal.loop-to-preserved
 loop-to-preserved c =

@@ -1,12 +1,13 @@
 //! Games from lists of edges.
 
-ghost use Rattle.std.specs.Prelude.{◌≡◌, ℕ, ◌+◌, ◌*◌, ◌<◌, ◌≤◌, All, IfSome, length, slice_index_or, true, false};
+ghost use Rattle.std.specs.Prelude.{◌≡◌, ℕ, ◌+◌, ◌*◌, ◌<◌, ◌≤◌, All, IfOk, IfSome, length, slice_index_or, true, false};
 ghost use Rattle.game_model.specs.Limits.{most_choices};
 ghost use Rattle.std.specs.Bool.{OnTrue};
 
 use game_model::{Choice, Edge, Game, MOST_STATES, Question, Side};
 use std::alloc::Global;
 use std::mem::replace;
+use std::test::Fail;
 
 /// The most choices of a state of a draft.
 const MOST_CHOICES: usize = 8;
@@ -58,6 +59,14 @@ impl Draft {
         self.all.push(made).ok()
     }
 
+    /// The next state, with these choices.
+    pub fn state(&mut self, alloc: Global, choices: &[&[(u32, u64)]]) -> Option<()> {
+        for edges in choices {
+            self.choice(alloc, edges)?;
+        }
+        self.end_state(alloc)
+    }
+
     /// The next state, with one choice.
     pub fn one(&mut self, alloc: Global, edges: &[(u32, u64)]) -> Option<()> {
         self.choice(alloc, edges)?;
@@ -87,6 +96,32 @@ impl Draft {
         }
         Game::from_choices(alloc, all).ok()
     }
+
+    /// The game, where it has so many states.
+    pub(crate) fn game_with(self, alloc: Global, states: usize) -> Result<Game, Fail>
+        ensures { IfOk result (λ game. length game ≡ states) }
+    {
+        match self.game(alloc) {
+            Some(game) if game.states() as usize == states => Ok(game),
+            _ => Err(Fail::new("no game of so many states")),
+        }
+    }
+}
+
+/// The game of these states: each has these choices, and each choice these successors, by rising number, with these weights.
+pub fn game_of(alloc: Global, states: &[&[&[(u32, u64)]]]) -> Result<Game, Fail>
+    ensures { IfOk result (λ game. length game ≡ length states.now) }
+{
+    let Ok(count) = u32::try_from(states.len()) else {
+        return Err(Fail::new("too many states"));
+    };
+    let mut draft = Draft::new(alloc, count);
+    for choices in states {
+        if draft.state(alloc, choices).is_none() {
+            return Err(Fail::new("no state with these choices"));
+        }
+    }
+    draft.game_with(alloc, states.len())
 }
 
 /// The edges of a choice by rising successor, the parts of one successor as one.

@@ -1,6 +1,6 @@
 use Rattle.std.proofs.Common.{◌≡◌, ℕ, ◌<◌, true, false}
 use Rattle.std.specs.Prelude.{slice_index_or}
-use Rattle.random_games.proofs.draft.are_apart.Given as goal
+use Rattle.sample_games.proofs.draft.are_apart.Given as goal
 
 abbrev pub invariant-loop-state : goal.invariant-loop-state
 invariant-loop-state l = (s : ℕ) → s < l.state → slice_index_or l.goal s false ≡ true → slice_index_or l.dead s false ≡ false
