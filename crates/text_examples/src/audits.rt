@@ -1,6 +1,7 @@
 //! Worked certificates.
 
 use certificate_audit::{AuditFault, audit};
+use expectations::same;
 use game_model::{Question, Side};
 use inductive_check::{UpperCause, UpperFault};
 use plan_text::{Plan, PlanCause, PlanFault};
@@ -21,12 +22,20 @@ fn answer(
     Ok(audit(alloc, question, text))
 }
 
-// The fault for which a text is refused.
-fn fault_of(alloc: Global, question: &Question, text: &[u8]) -> Result<AuditFault, Fail> {
-    match answer(alloc, question, text)? {
-        Ok(_) => Err(Fail::new("accepted")),
-        Err(fault) => Ok(fault),
-    }
+// What the audit of a text says of the coin loop.
+fn coin_answer(alloc: Global, text: &[u8]) -> Result<Result<Plan, AuditFault>, Fail> {
+    let game = coin_loop(alloc)?;
+    let sides = all_of(alloc, Side::Max, 3)?;
+    let question = Question::build(&game, sides, only(alloc, 1, 3)?, only(alloc, 2, 3)?);
+    answer(alloc, &question, text)
+}
+
+// What the audit of a text says of a minimiser at the goal or the sink.
+fn sink_answer(alloc: Global, text: &[u8]) -> Result<Result<Plan, AuditFault>, Fail> {
+    let game = goal_or_sink(alloc)?;
+    let sides = all_of(alloc, Side::Min, 3)?;
+    let question = Question::build(&game, sides, only(alloc, 1, 3)?, none_of(alloc, 3)?);
+    answer(alloc, &question, text)
 }
 
 fn at_line(line: u32, cause: PlanCause) -> AuditFault {
@@ -43,10 +52,6 @@ fn at_ranks(state: u32, cause: RankCause) -> AuditFault {
 
 #[test]
 fn a_coin_loop_has_the_value_one_half(rt: HostRuntime) -> Result<(), Fail> {
-    let alloc = rt.alloc();
-    let game = coin_loop(alloc)?;
-    let sides = all_of(alloc, Side::Max, 3)?;
-    let question = Question::build(&game, sides, only(alloc, 1, 3)?, only(alloc, 2, 3)?);
     let texts: [&[u8]; 3] = [
         b"certificate 2 3\n\
             0 0.500000000000000 0 0 0.500000000000000 -\n\
@@ -64,20 +69,14 @@ fn a_coin_loop_has_the_value_one_half(rt: HostRuntime) -> Result<(), Fail> {
             2 0.000000000000 - 0 1.000000000000 -\n",
     ];
     for text in texts {
-        let Ok(plan) = answer(alloc, &question, text)? else {
-            return Err(Fail::new("refused"));
-        };
-        assert_eq!(rt; plan.lower.len(), 3);
+        let plan = coin_answer(rt.alloc(), text)??;
+        same("states", plan.lower.len(), 3)?;
     }
     Ok(())
 }
 
 #[test]
 fn the_first_fault_is_named(rt: HostRuntime) -> Result<(), Fail> {
-    let alloc = rt.alloc();
-    let game = coin_loop(alloc)?;
-    let sides = all_of(alloc, Side::Max, 3)?;
-    let question = Question::build(&game, sides, only(alloc, 1, 3)?, only(alloc, 2, 3)?);
     let texts: [(&[u8], AuditFault); 7] = [
         (b"", at_line(0, PlanCause::NoCertificate)),
         (b"certificate 2 2\n", at_line(1, PlanCause::StateCount)),
@@ -117,7 +116,7 @@ fn the_first_fault_is_named(rt: HostRuntime) -> Result<(), Fail> {
         ),
     ];
     for (text, fault) in texts {
-        assert_eq!(rt; fault_of(alloc, &question, text)?, fault);
+        same("fault", coin_answer(rt.alloc(), text)?.err(), Some(fault))?;
     }
     Ok(())
 }
@@ -125,28 +124,24 @@ fn the_first_fault_is_named(rt: HostRuntime) -> Result<(), Fail> {
 // The minimiser goes from state 0 to the sink, not to the goal.
 #[test]
 fn a_reply_that_is_not_held_is_refused(rt: HostRuntime) -> Result<(), Fail> {
-    let alloc = rt.alloc();
-    let game = goal_or_sink(alloc)?;
-    let sides = all_of(alloc, Side::Min, 3)?;
-    let question = Question::build(&game, sides, only(alloc, 1, 3)?, none_of(alloc, 3)?);
     let held = b"certificate 2 3\n\
         0 0.000000000000000 - 0 0.000000000000000 1\n\
         1 1.000000000000000 - 0 1.000000000000000 -\n\
         2 0.000000000000000 - 0 0.000000000000000 0\n";
-    let Ok(plan) = answer(alloc, &question, held)? else {
-        return Err(Fail::new("refused"));
-    };
-    assert_eq!(rt;
+    let plan = sink_answer(rt.alloc(), held)??;
+    same(
+        "replies",
         plan.replies.as_slice(),
-        [Some(1), None, Some(0)].as_slice()
-    );
+        [Some(1), None, Some(0)].as_slice(),
+    )?;
     let to_the_goal = b"certificate 2 3\n\
         0 0.500000000000000 - 0 0.000000000000000 0\n\
         1 1.000000000000000 - 0 1.000000000000000 -\n\
         2 0.000000000000000 - 0 0.000000000000000 0\n";
-    assert_eq!(rt;
-        fault_of(alloc, &question, to_the_goal)?,
-        at_upper(0, UpperCause::Reply)
-    );
-    Ok(())
+    let fault = at_upper(0, UpperCause::Reply);
+    same(
+        "fault",
+        sink_answer(rt.alloc(), to_the_goal)?.err(),
+        Some(fault),
+    )
 }
