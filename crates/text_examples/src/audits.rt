@@ -1,12 +1,14 @@
 //! Worked certificates.
 
+ghost use Rattle.std.specs.Prelude.{◌≡◌, ◌≢◌, length};
+
 use certificate_audit::{AuditFault, audit};
 use expectations::same;
-use game_model::{Question, Side};
+use game_model::{Game, Question, Side};
 use inductive_check::{UpperCause, UpperFault};
 use plan_text::{Plan, PlanCause, PlanFault};
 use rank_certificate::{RankCause, RankFault};
-use sample_games::{all_of, coin_loop, goal_or_sink, none_of, only};
+use sample_games::{all_of, coin_loop, goal_or_sink, only};
 use std::alloc::Global;
 use std::test::Fail;
 use text_lines::MOST_BYTES;
@@ -22,20 +24,35 @@ fn answer(
     Ok(audit(alloc, question, text))
 }
 
+// What the audit of a text says of a game of three states, of which one side has all, state 1 is the goal, and one is
+// dead, or none where it is past the last.
+fn answer_in(
+    alloc: Global,
+    game: &Game,
+    side: Side,
+    dead: u32,
+    text: &[u8],
+) -> Result<Result<Plan, AuditFault>, Fail>
+    requires states { length game.now ≡ 3 }
+    requires apart { dead ≢ 1 }
+{
+    let sides = all_of(alloc, side, 3)?;
+    let goals = only(alloc, 1, 3)?;
+    let deads = only(alloc, dead, 3)?;
+    let question = Question::build(game, sides, goals, deads);
+    answer(alloc, &question, text)
+}
+
 // What the audit of a text says of the coin loop.
 fn coin_answer(alloc: Global, text: &[u8]) -> Result<Result<Plan, AuditFault>, Fail> {
     let game = coin_loop(alloc)?;
-    let sides = all_of(alloc, Side::Max, 3)?;
-    let question = Question::build(&game, sides, only(alloc, 1, 3)?, only(alloc, 2, 3)?);
-    answer(alloc, &question, text)
+    answer_in(alloc, &game, Side::Max, 2, text)
 }
 
 // What the audit of a text says of a minimiser at the goal or the sink.
 fn sink_answer(alloc: Global, text: &[u8]) -> Result<Result<Plan, AuditFault>, Fail> {
     let game = goal_or_sink(alloc)?;
-    let sides = all_of(alloc, Side::Min, 3)?;
-    let question = Question::build(&game, sides, only(alloc, 1, 3)?, none_of(alloc, 3)?);
-    answer(alloc, &question, text)
+    answer_in(alloc, &game, Side::Min, 3, text)
 }
 
 fn at_line(line: u32, cause: PlanCause) -> AuditFault {

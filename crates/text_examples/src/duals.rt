@@ -60,10 +60,15 @@ fn always_formula(alloc: Global, text: &str) -> Result<Formula, Fail>
     Ok(formula)
 }
 
+// The dual of the formula that a text spells.
+fn dual_of(alloc: Global, text: &str) -> Result<Formula, Fail> {
+    let formula = always_formula(alloc, text)?;
+    Ok(dual(alloc, &formula)?)
+}
+
 // The spelling of the dual of the formula that a text spells.
 fn dual_spelling(alloc: Global, text: &str) -> Result<Vec<u8>, Fail> {
-    let formula = always_formula(alloc, text)?;
-    let other = dual(alloc, &formula)?;
+    let other = dual_of(alloc, text)?;
     Ok(print_formula(alloc, &other)?)
 }
 

@@ -31,13 +31,27 @@ fn labels_of_one_state(alloc: Global) -> Result<Labels, Fail>
     labels_of(alloc, b"0=\"init\" 1=\"goal\"\n0: 0\n")
 }
 
-fn owner_of_one_state(alloc: Global) -> Result<Owners, &'static str>
-    ensures { IfOk result (λ owners. length owners.owners ≡ 1) }
+// A game of one state, with its labels and owners.
+#[derive(Drop)]
+struct Setting {
+    game: Game,
+    labels: Labels,
+    owners: Owners,
+}
+
+fn set_up(alloc: Global) -> Result<Setting, Fail>
+    ensures states { IfOk result (λ setting. length setting.game ≡ 1) }
+    ensures labels { IfOk result (λ setting. setting.labels.states ≡ 1) }
+    ensures owners { IfOk result (λ setting. length setting.owners.owners ≡ 1) }
 {
-    match Owners::single(alloc, 1) {
-        Ok(owners) => Ok(owners),
-        Err(_) => Err("no owners"),
-    }
+    let game = one_state(alloc)?;
+    let labels = labels_of_one_state(alloc)?;
+    let owners = Owners::single(alloc, 1)?;
+    Ok(Setting {
+        game,
+        labels,
+        owners,
+    })
 }
 
 fn is_until(kind: PathKind) -> bool
@@ -61,14 +75,13 @@ fn until_formula(alloc: Global, text: &str) -> Result<Formula, Fail>
 }
 
 // What such a formula asks of a game of one state.
-fn is_asked(alloc: Global, game: &Game, formula: &Formula) -> Result<(), Fail>
-    requires states { length game.now ≡ 1 }
+fn is_asked(alloc: Global, formula: &Formula) -> Result<(), Fail>
     requires kind { IsUntil formula.now.kind }
     requires flat { IsFlat (tree_of formula.now) }
 {
-    let labels = labels_of_one_state(alloc)?;
-    let owners = owner_of_one_state(alloc)?;
-    let Ok(posed) = pose(alloc, game, &labels, &owners, formula) else {
+    let setting = set_up(alloc)?;
+    let (labels, owners) = (&setting.labels, &setting.owners);
+    let Ok(posed) = pose(alloc, &setting.game, labels, owners, formula) else {
         return Err(Fail::new("no question"));
     };
     let question = &posed.question;
@@ -88,8 +101,7 @@ fn is_asked(alloc: Global, game: &Game, formula: &Formula) -> Result<(), Fail>
 fn a_formula_poses_a_question(rt: HostRuntime) -> Result<(), Fail> {
     let alloc = rt.alloc();
     let formula = until_formula(alloc, "<<p0>> P<=0.5 [ F<=3 \"goal\" ]")?;
-    let game = one_state(alloc)?;
-    is_asked(alloc, &game, &formula)
+    is_asked(alloc, &formula)
 }
 
 // The formula that a text with `X` spells.
@@ -104,14 +116,13 @@ fn next_formula(alloc: Global, text: &str) -> Result<Formula, Fail>
 }
 
 // The opening of the question that such a formula poses in a game of one state.
-fn has_opening(alloc: Global, game: &Game, formula: &Formula, wanted: &[u64]) -> Result<(), Fail>
-    requires states { length game.now ≡ 1 }
+fn has_opening(alloc: Global, formula: &Formula, wanted: &[u64]) -> Result<(), Fail>
     requires kind { formula.now.kind ≡ Next }
     requires flat { IsFlat (tree_of formula.now) }
 {
-    let labels = labels_of_one_state(alloc)?;
-    let owners = owner_of_one_state(alloc)?;
-    let Ok(posed) = pose_next(alloc, game, &labels, &owners, formula) else {
+    let setting = set_up(alloc)?;
+    let (labels, owners) = (&setting.labels, &setting.owners);
+    let Ok(posed) = pose_next(alloc, &setting.game, labels, owners, formula) else {
         return Err(Fail::new("no question"));
     };
     same("opening", posed.opening.as_slice(), wanted)
@@ -120,8 +131,7 @@ fn has_opening(alloc: Global, game: &Game, formula: &Formula, wanted: &[u64]) ->
 // A text with `X` poses a question with this opening.
 fn opens_with(alloc: Global, text: &str, opening: &[u64]) -> Result<(), Fail> {
     let formula = next_formula(alloc, text)?;
-    let game = one_state(alloc)?;
-    has_opening(alloc, &game, &formula, opening)
+    has_opening(alloc, &formula, opening)
 }
 
 #[test]

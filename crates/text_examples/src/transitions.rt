@@ -248,11 +248,16 @@ fn faults_have_their_lines(rt: HostRuntime) -> Result<(), Fail> {
     are_refused(rt.alloc(), REFUSED.as_slice())
 }
 
+// The line of a choice that stays in state 0.
+fn line_of(alloc: Global, choice: u32) -> Result<String, AllocError> {
+    format!(in alloc; "0 {choice} 0 1\n")
+}
+
 // One state with so many choices, each a move to itself.
 fn one_state(alloc: Global, choices: u32) -> Result<String, AllocError> {
     let mut text = format!(in alloc; "1 {choices} {choices}\n")?;
     for choice in 0..choices {
-        text.push_str(format!(in alloc; "0 {choice} 0 1\n")?.as_str())?;
+        text.push_str(line_of(alloc, choice)?.as_str())?;
     }
     Ok(text)
 }

@@ -178,29 +178,27 @@ fn is_taken(alloc: Global, line: &str) -> Result<bool, Fail> {
     is_command(alloc, &words(alloc, line)?)
 }
 
-#[test]
-fn words_denote_a_command(rt: HostRuntime) -> Result<(), Fail> {
-    for line in TAKEN {
-        same(line, is_taken(rt.alloc(), line)?, true)?;
+// The words of each line denote a command, or those of none do.
+fn are_taken(alloc: Global, lines: &[&str], wanted: bool) -> Result<(), Fail> {
+    for line in lines {
+        same(line, is_taken(alloc, line)?, wanted)?;
     }
     Ok(())
+}
+
+#[test]
+fn words_denote_a_command(rt: HostRuntime) -> Result<(), Fail> {
+    are_taken(rt.alloc(), TAKEN.as_slice(), true)
 }
 
 #[test]
 fn words_denote_no_command(rt: HostRuntime) -> Result<(), Fail> {
     let alloc = rt.alloc();
     same("no words", is_command(alloc, &[])?, false)?;
-    for lines in [
-        UNNAMED.as_slice(),
-        NO_CHECK.as_slice(),
-        NO_AUDIT.as_slice(),
-        NO_MAKE.as_slice(),
-    ] {
-        for line in lines {
-            same(line, is_taken(alloc, line)?, false)?;
-        }
-    }
-    Ok(())
+    are_taken(alloc, UNNAMED.as_slice(), false)?;
+    are_taken(alloc, NO_CHECK.as_slice(), false)?;
+    are_taken(alloc, NO_AUDIT.as_slice(), false)?;
+    are_taken(alloc, NO_MAKE.as_slice(), false)
 }
 
 // The check that words ask for.
@@ -218,14 +216,15 @@ fn a_check_says_its_words(rt: HostRuntime) -> Result<(), Fail> {
     let check = check_in(rt.alloc(), &words)?;
     let asked = check.asked;
     same(
-        "question",
-        (asked.tra, asked.lab, asked.formula, asked.own),
-        ("m.tra", "m.lab", "-F", Some("m.own")),
-    )?;
-    same(
-        "rest",
-        (check.rounds, check.workers, check.plan, check.traps),
-        (99, 4, true, false),
+        "words",
+        (
+            (asked.tra, asked.lab, asked.formula, asked.own),
+            (check.rounds, check.workers, check.plan, check.traps),
+        ),
+        (
+            ("m.tra", "m.lab", "-F", Some("m.own")),
+            (99, 4, true, false),
+        ),
     )
 }
 
