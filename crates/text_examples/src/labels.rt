@@ -39,7 +39,7 @@ fn are_labelled(alloc: Global, labels: &Labels, name: &[u8], states: &[u32]) -> 
     same("states", labels.states_of(alloc, name)?.as_slice(), states)
 }
 
-// States 0 and 2 are goals, and state 2 is initial.
+// States 0 and 2 have both labels, and state 1 has none.
 fn are_as_said(alloc: Global, labels: &Labels) -> Result<(), Fail>
     requires { labels.now.states ≡ 3 }
 {

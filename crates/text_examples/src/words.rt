@@ -1,6 +1,6 @@
 //! Words, read whole. A line of a test has words that are parted by one space each.
 
-use command_words::{AuditWords, CheckWords, CommandWords, read_words};
+use command_words::{AuditWords, CheckWords, CommandWords, MakeWords, read_words};
 use expectations::same;
 use std::alloc::Global;
 use std::test::Fail;
@@ -278,12 +278,10 @@ fn an_audit_says_its_words(rt: HostRuntime) -> Result<(), Fail> {
     )
 }
 
-// The numbers of the words of a `make`: its seed, its states, its rounds and its workers.
-fn numbers_of(alloc: Global, line: &str) -> Result<(u32, u32, u32, u32), Fail> {
-    match read_words(alloc, &words(alloc, line)?)? {
-        Some(CommandWords::Make(make)) => {
-            Ok((make.seed, make.states, make.rounds, make.workers))
-        }
+// The `make` that words ask for.
+fn make_in(alloc: Global, words: &[String]) -> Result<MakeWords, Fail> {
+    match read_words(alloc, words)? {
+        Some(CommandWords::Make(make)) => Ok(make),
         _ => Err(Fail::new("no make")),
     }
 }
@@ -291,12 +289,22 @@ fn numbers_of(alloc: Global, line: &str) -> Result<(u32, u32, u32, u32), Fail> {
 #[test]
 fn a_make_says_its_words(rt: HostRuntime) -> Result<(), Fail> {
     let line = "make --workers=8 +2147483646 --rounds 099 -- 007";
-    let numbers = numbers_of(rt.alloc(), line)?;
-    same(line, numbers, (2_147_483_646, 7, 99, 8))
+    let words = words(rt.alloc(), line)?;
+    let make = make_in(rt.alloc(), &words)?;
+    same(
+        "numbers",
+        (make.seed, make.states, make.rounds, make.workers),
+        (2_147_483_646, 7, 99, 8),
+    )
 }
 
 #[test]
 fn a_make_has_defaults(rt: HostRuntime) -> Result<(), Fail> {
-    let numbers = numbers_of(rt.alloc(), "make 5 1000000")?;
-    same("numbers", numbers, (5, 1_000_000, 10_000, 4))
+    let words = words(rt.alloc(), "make 5 1000000")?;
+    let make = make_in(rt.alloc(), &words)?;
+    same(
+        "numbers",
+        (make.seed, make.states, make.rounds, make.workers),
+        (5, 1_000_000, 10_000, 4),
+    )
 }
