@@ -1,11 +1,14 @@
 //! Worked certificates.
 
+ghost use Rattle.std.specs.Prelude.{◌≡◌, ◌≢◌, length};
+
 use certificate_audit::{AuditFault, audit};
-use game_model::{Question, Side};
+use expectations::same;
+use game_model::{Game, Question, Side};
 use inductive_check::{UpperCause, UpperFault};
 use plan_text::{Plan, PlanCause, PlanFault};
 use rank_certificate::{RankCause, RankFault};
-use sample_games::{all_of, coin_loop, goal_or_sink, none_of, only};
+use sample_games::{all_of, coin_loop, goal_or_sink, only};
 use std::alloc::Global;
 use std::test::Fail;
 use text_lines::MOST_BYTES;
@@ -21,12 +24,35 @@ fn answer(
     Ok(audit(alloc, question, text))
 }
 
-// The fault for which a text is refused.
-fn fault_of(alloc: Global, question: &Question, text: &[u8]) -> Result<AuditFault, Fail> {
-    match answer(alloc, question, text)? {
-        Ok(_) => Err(Fail::new("accepted")),
-        Err(fault) => Ok(fault),
-    }
+// What the audit of a text says of a game of three states, of which one side has all, state 1 is the goal, and one is
+// dead, or none where it is past the last.
+fn answer_in(
+    alloc: Global,
+    game: &Game,
+    side: Side,
+    dead: u32,
+    text: &[u8],
+) -> Result<Result<Plan, AuditFault>, Fail>
+    requires states { length game.now ≡ 3 }
+    requires apart { dead ≢ 1 }
+{
+    let sides = all_of(alloc, side, 3)?;
+    let goals = only(alloc, 1, 3)?;
+    let deads = only(alloc, dead, 3)?;
+    let question = Question::build(game, sides, goals, deads);
+    answer(alloc, &question, text)
+}
+
+// What the audit of a text says of the coin loop.
+fn coin_answer(alloc: Global, text: &[u8]) -> Result<Result<Plan, AuditFault>, Fail> {
+    let game = coin_loop(alloc)?;
+    answer_in(alloc, &game, Side::Max, 2, text)
+}
+
+// What the audit of a text says of a minimiser at the goal or the sink.
+fn sink_answer(alloc: Global, text: &[u8]) -> Result<Result<Plan, AuditFault>, Fail> {
+    let game = goal_or_sink(alloc)?;
+    answer_in(alloc, &game, Side::Min, 3, text)
 }
 
 fn at_line(line: u32, cause: PlanCause) -> AuditFault {
@@ -43,10 +69,6 @@ fn at_ranks(state: u32, cause: RankCause) -> AuditFault {
 
 #[test]
 fn a_coin_loop_has_the_value_one_half(rt: HostRuntime) -> Result<(), Fail> {
-    let alloc = rt.alloc();
-    let game = coin_loop(alloc)?;
-    let sides = all_of(alloc, Side::Max, 3)?;
-    let question = Question::build(&game, sides, only(alloc, 1, 3)?, only(alloc, 2, 3)?);
     let texts: [&[u8]; 3] = [
         b"certificate 2 3\n\
             0 0.500000000000000 0 0 0.500000000000000 -\n\
@@ -64,20 +86,14 @@ fn a_coin_loop_has_the_value_one_half(rt: HostRuntime) -> Result<(), Fail> {
             2 0.000000000000 - 0 1.000000000000 -\n",
     ];
     for text in texts {
-        let Ok(plan) = answer(alloc, &question, text)? else {
-            return Err(Fail::new("refused"));
-        };
-        assert_eq!(rt; plan.lower.len(), 3);
+        let plan = coin_answer(rt.alloc(), text)??;
+        same("states", plan.lower.len(), 3)?;
     }
     Ok(())
 }
 
 #[test]
 fn the_first_fault_is_named(rt: HostRuntime) -> Result<(), Fail> {
-    let alloc = rt.alloc();
-    let game = coin_loop(alloc)?;
-    let sides = all_of(alloc, Side::Max, 3)?;
-    let question = Question::build(&game, sides, only(alloc, 1, 3)?, only(alloc, 2, 3)?);
     let texts: [(&[u8], AuditFault); 7] = [
         (b"", at_line(0, PlanCause::NoCertificate)),
         (b"certificate 2 2\n", at_line(1, PlanCause::StateCount)),
@@ -117,7 +133,7 @@ fn the_first_fault_is_named(rt: HostRuntime) -> Result<(), Fail> {
         ),
     ];
     for (text, fault) in texts {
-        assert_eq!(rt; fault_of(alloc, &question, text)?, fault);
+        same("fault", coin_answer(rt.alloc(), text)?.err(), Some(fault))?;
     }
     Ok(())
 }
@@ -125,28 +141,24 @@ fn the_first_fault_is_named(rt: HostRuntime) -> Result<(), Fail> {
 // The minimiser goes from state 0 to the sink, not to the goal.
 #[test]
 fn a_reply_that_is_not_held_is_refused(rt: HostRuntime) -> Result<(), Fail> {
-    let alloc = rt.alloc();
-    let game = goal_or_sink(alloc)?;
-    let sides = all_of(alloc, Side::Min, 3)?;
-    let question = Question::build(&game, sides, only(alloc, 1, 3)?, none_of(alloc, 3)?);
     let held = b"certificate 2 3\n\
         0 0.000000000000000 - 0 0.000000000000000 1\n\
         1 1.000000000000000 - 0 1.000000000000000 -\n\
         2 0.000000000000000 - 0 0.000000000000000 0\n";
-    let Ok(plan) = answer(alloc, &question, held)? else {
-        return Err(Fail::new("refused"));
-    };
-    assert_eq!(rt;
+    let plan = sink_answer(rt.alloc(), held)??;
+    same(
+        "replies",
         plan.replies.as_slice(),
-        [Some(1), None, Some(0)].as_slice()
-    );
+        [Some(1), None, Some(0)].as_slice(),
+    )?;
     let to_the_goal = b"certificate 2 3\n\
         0 0.500000000000000 - 0 0.000000000000000 0\n\
         1 1.000000000000000 - 0 1.000000000000000 -\n\
         2 0.000000000000000 - 0 0.000000000000000 0\n";
-    assert_eq!(rt;
-        fault_of(alloc, &question, to_the_goal)?,
-        at_upper(0, UpperCause::Reply)
-    );
-    Ok(())
+    let fault = at_upper(0, UpperCause::Reply);
+    same(
+        "fault",
+        sink_answer(rt.alloc(), to_the_goal)?.err(),
+        Some(fault),
+    )
 }

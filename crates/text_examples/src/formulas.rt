@@ -1,6 +1,7 @@
 //! Formulas as texts: what is read, how it is printed, and each fault with its place.
 
 use distributions::NumberFault;
+use expectations::same;
 use rpatl_syntax::{FormulaCause, FormulaFault, print_formula, read_formula};
 use std::alloc::Global;
 use std::test::Fail;
@@ -392,107 +393,110 @@ const REFUSED: [(&str, u32, FormulaCause); 65] = [
     ("Pmax=? [ G P>=1 ]", 16, FormulaCause::Unexpected),
 ];
 
-// What a text is printed as, or nothing where it is refused.
-fn printed(alloc: Global, text: &str) -> Result<Option<Vec<u8>>, FormulaFault> {
-    match read_formula(alloc, text) {
-        Ok(formula) => match print_formula(alloc, &formula) {
-            Ok(spelling) => Ok(Some(spelling)),
-            Err(_) => Ok(None),
-        },
-        Err(fault) => Err(fault),
-    }
+// Texts of a front, a piece so many times and a back, each with its fault.
+const LIMITS: [(&str, &str, usize, &str, u32, FormulaCause); 14] = [
+    ("Pmax=? [ F ", "(", 65, "", 75, FormulaCause::TooDeep),
+    ("Pmax=? [ F ", "(", 64, "", 75, FormulaCause::End),
+    ("Pmax=? [ F ", "!", 65, "", 75, FormulaCause::TooDeep),
+    ("Pmax=? [ F ", "!(", 33, "", 75, FormulaCause::TooDeep),
+    ("Pmax=? [ F ", "P>=1[X ", 65, "", 463, FormulaCause::TooDeep),
+    ("Pmax=? [ F ", "P>=1[X ", 64, "", 459, FormulaCause::End),
+    (
+        "Pmax=? [ F ",
+        "!",
+        64,
+        "<<a>>P>=1[",
+        84,
+        FormulaCause::TooDeep,
+    ),
+    ("Pmax=? [ F ", "!", 63, "<<a>>P>=1[", 84, FormulaCause::End),
+    ("Pmax=? [ F ", "(", 64, "Pmax", 75, FormulaCause::AskInside),
+    (
+        "Pmax=? [ F ",
+        "(",
+        64,
+        "P>=1 F",
+        80,
+        FormulaCause::Unexpected,
+    ),
+    ("", " ", 4097, "", 4096, FormulaCause::TooLong),
+    ("", " ", 4096, "", 4096, FormulaCause::End),
+    ("Pmax=? [ F \"", "a", 256, "", 11, FormulaCause::Unexpected),
+    ("Pmax=? [ F \"", "a", 255, "", 267, FormulaCause::End),
+];
+
+// What a text is printed as.
+fn printed(alloc: Global, text: &str) -> Result<Vec<u8>, Fail> {
+    let formula = read_formula(alloc, text)?;
+    Ok(print_formula(alloc, &formula)?)
 }
 
-// A text and its spelling are both read, and printed so.
-fn is_spelled(alloc: Global, text: &str, spelling: &str) -> bool {
-    let first = printed(alloc, text);
-    let again = printed(alloc, spelling);
-    matches!(first, Ok(Some(ref v)) if v.as_slice() == spelling.as_bytes())
-        && matches!(again, Ok(Some(ref v)) if v.as_slice() == spelling.as_bytes())
+// A text is read, and printed with this spelling.
+fn is_printed(alloc: Global, text: &str, spelling: &str) -> Result<(), Fail> {
+    let found = printed(alloc, text)?;
+    same(text, found.as_slice(), spelling.as_bytes())
+}
+
+// Texts and their spellings are read, and printed so.
+fn are_spelled(alloc: Global, rows: &[(&str, &str)]) -> Result<(), Fail> {
+    for (text, spelling) in rows {
+        is_printed(alloc, text, spelling)?;
+        is_printed(alloc, spelling, spelling)?;
+    }
+    Ok(())
 }
 
 #[test]
-fn formulas_are_read_printed_and_read_again(rt: HostRuntime) {
-    for (text, spelling) in SPELLED {
-        assert!(rt; is_spelled(rt.alloc(), text, spelling), "{text}");
-    }
+fn formulas_are_read_printed_and_read_again(rt: HostRuntime) -> Result<(), Fail> {
+    are_spelled(rt.alloc(), SPELLED.as_slice())
 }
 
 #[test]
-fn paths_are_read_printed_and_read_again(rt: HostRuntime) {
-    for (text, spelling) in PATHS {
-        assert!(rt; is_spelled(rt.alloc(), text, spelling), "{text}");
-    }
+fn paths_are_read_printed_and_read_again(rt: HostRuntime) -> Result<(), Fail> {
+    are_spelled(rt.alloc(), PATHS.as_slice())
 }
 
 #[test]
-fn formulas_inside_are_read_printed_and_read_again(rt: HostRuntime) {
-    for (text, spelling) in INSIDE {
-        assert!(rt; is_spelled(rt.alloc(), text, spelling), "{text}");
-    }
+fn formulas_inside_are_read_printed_and_read_again(rt: HostRuntime) -> Result<(), Fail> {
+    are_spelled(rt.alloc(), INSIDE.as_slice())
+}
+
+// The fault for which a text is refused, or nothing.
+fn fault_of(alloc: Global, text: &str) -> Option<FormulaFault> {
+    read_formula(alloc, text).err()
 }
 
 #[test]
-fn each_fault_has_its_place(rt: HostRuntime) {
-    let alloc = rt.alloc();
-    for (text, place, cause) in REFUSED {
-        let fault = FormulaFault { place, cause };
-        assert!(rt;
-            matches!(printed(alloc, text), Err(found) if found == fault),
-            "{text}"
-        );
+fn each_fault_has_its_place(rt: HostRuntime) -> Result<(), Fail> {
+    for (text, place, cause) in REFUSED.as_slice() {
+        let wanted = FormulaFault::new(*place, *cause);
+        same(text, fault_of(rt.alloc(), text), Some(wanted))?;
     }
+    Ok(())
 }
 
-// A text with a piece so many times at its end.
-fn repeated(alloc: Global, front: &str, piece: &str, count: usize) -> Result<String, Fail> {
+// A text with a piece so many times in its middle.
+fn repeated(
+    alloc: Global,
+    front: &str,
+    piece: &str,
+    count: usize,
+    back: &str,
+) -> Result<String, Fail> {
     let mut text = String::from_str(alloc, front)?;
     for _ in 0..count {
         text.push_str(piece)?;
     }
+    text.push_str(back)?;
     Ok(text)
 }
 
 #[test]
 fn limits_are_kept(rt: HostRuntime) -> Result<(), Fail> {
-    let alloc = rt.alloc();
-    for (front, piece, count, back, place, cause) in [
-        ("Pmax=? [ F ", "(", 65, "", 75, FormulaCause::TooDeep),
-        ("Pmax=? [ F ", "(", 64, "", 75, FormulaCause::End),
-        ("Pmax=? [ F ", "!", 65, "", 75, FormulaCause::TooDeep),
-        ("Pmax=? [ F ", "!(", 33, "", 75, FormulaCause::TooDeep),
-        ("Pmax=? [ F ", "P>=1[X ", 65, "", 463, FormulaCause::TooDeep),
-        ("Pmax=? [ F ", "P>=1[X ", 64, "", 459, FormulaCause::End),
-        (
-            "Pmax=? [ F ",
-            "!",
-            64,
-            "<<a>>P>=1[",
-            84,
-            FormulaCause::TooDeep,
-        ),
-        ("Pmax=? [ F ", "!", 63, "<<a>>P>=1[", 84, FormulaCause::End),
-        ("Pmax=? [ F ", "(", 64, "Pmax", 75, FormulaCause::AskInside),
-        (
-            "Pmax=? [ F ",
-            "(",
-            64,
-            "P>=1 F",
-            80,
-            FormulaCause::Unexpected,
-        ),
-        ("", " ", 4097, "", 4096, FormulaCause::TooLong),
-        ("", " ", 4096, "", 4096, FormulaCause::End),
-        ("Pmax=? [ F \"", "a", 256, "", 11, FormulaCause::Unexpected),
-        ("Pmax=? [ F \"", "a", 255, "", 267, FormulaCause::End),
-    ] {
-        let mut text = repeated(alloc, front, piece, count)?;
-        text.push_str(back)?;
-        let fault = FormulaFault { place, cause };
-        assert!(rt;
-            matches!(printed(alloc, text.as_str()), Err(found) if found == fault),
-            "{piece} {count} {back}"
-        );
+    for (front, piece, count, back, place, cause) in LIMITS.as_slice() {
+        let text = repeated(rt.alloc(), front, piece, *count, back)?;
+        let wanted = FormulaFault::new(*place, *cause);
+        same(piece, fault_of(rt.alloc(), text.as_str()), Some(wanted))?;
     }
     Ok(())
 }
@@ -500,9 +504,7 @@ fn limits_are_kept(rt: HostRuntime) -> Result<(), Fail> {
 #[test]
 fn sixty_four_formulas_inside_one_another_are_read(rt: HostRuntime) -> Result<(), Fail> {
     let alloc = rt.alloc();
-    let mut text = repeated(alloc, "Pmax=? [ F ", "P>=1 [ X ", 64)?;
-    text.push_str("true")?;
-    text.push_str(repeated(alloc, " ]", " ]", 64)?.as_str())?;
-    assert!(rt; is_spelled(alloc, text.as_str(), text.as_str()));
-    Ok(())
+    let ends = repeated(alloc, "true ]", " ]", 64, "")?;
+    let text = repeated(alloc, "Pmax=? [ F ", "P>=1 [ X ", 64, ends.as_str())?;
+    is_printed(alloc, text.as_str(), text.as_str())
 }

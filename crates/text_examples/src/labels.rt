@@ -1,73 +1,129 @@
 //! Small files, read whole.
 
-use label_reader::{LabCause, Owners, read_labels, read_owners};
+ghost use Rattle.std.specs.Prelude.{◌≡◌, IfOk, length};
+
+use expectations::same;
+use label_reader::{LabCause, LabFault, Labels, Owners, read_labels, read_owners};
+use std::alloc::Global;
 use std::test::Fail;
+use text_lines::MOST_BYTES;
+
+// Texts that give three states no labels, each with its fault.
+const REFUSED: [(&str, u32, LabCause); 12] = [
+    ("", 1, LabCause::NoHeader),
+    ("0=init", 1, LabCause::BadHeader),
+    ("0=\"a\" 1=\"a\"", 1, LabCause::DoubleName),
+    ("0=\"a\" 00=\"a\"", 1, LabCause::DoubleIndex),
+    ("1000000=\"a\"", 1, LabCause::OverLimit),
+    ("0=\"a\"\n\n0: 0", 2, LabCause::BadField),
+    ("0=\"a\"\n3: 0", 2, LabCause::StateOutOfRange),
+    ("0=\"a\"\n0: 0\n1: 7", 3, LabCause::UnknownIndex),
+    ("0=\"a\"\n0 0", 2, LabCause::BadField),
+    ("0=\"a\"\n3: 7 x", 2, LabCause::BadField),
+    ("0=\"a\"\n3: 7", 2, LabCause::StateOutOfRange),
+    ("0=\"a\"\n0: 7 x", 2, LabCause::BadField),
+];
+
+// The labels of three states in a text.
+fn labels_of(alloc: Global, text: &[u8]) -> Result<Labels, Fail>
+    ensures { IfOk result (λ labels. labels.states ≡ 3) }
+{
+    if text.len() > MOST_BYTES {
+        return Err(Fail::new("too long"));
+    }
+    Ok(read_labels(alloc, text, 3)?)
+}
+
+// These states, and no other, have a label.
+fn are_labelled(alloc: Global, labels: &Labels, name: &[u8], states: &[u32]) -> Result<(), Fail> {
+    same("states", labels.states_of(alloc, name)?.as_slice(), states)
+}
+
+// States 0 and 2 have both labels, and state 1 has none.
+fn are_as_said(alloc: Global, labels: &Labels) -> Result<(), Fail>
+    requires { labels.now.states ≡ 3 }
+{
+    same(
+        "names, and states 2 and 1",
+        (
+            labels.knows(b"goal"),
+            labels.knows(b"gaol"),
+            labels.holds(b"init", 2),
+            labels.holds(b"init", 1),
+        ),
+        (true, false, true, false),
+    )?;
+    are_labelled(alloc, labels, b"goal", &[0, 2])?;
+    are_labelled(alloc, labels, b"gaol", &[])
+}
 
 #[test]
 fn labels_add_up_in_any_order(rt: HostRuntime) -> Result<(), Fail> {
-    let alloc = rt.alloc();
     let text = b"0=\"init\" 7=\"goal\"\r\n2: 7\n\t0 :0 7\r\n2:7 0\n \n\n";
-    let Ok(labels) = read_labels(alloc, text, 3) else {
-        return Err(Fail::new("refused"));
-    };
-    assert!(rt; labels.knows(b"goal") && !labels.knows(b"gaol"));
-    assert!(rt; labels.holds(b"init", 2) && !labels.holds(b"init", 1));
-    let Ok(goals) = labels.states_of(alloc, b"goal") else {
-        return Err(Fail::new("no memory"));
-    };
-    assert!(rt; goals.as_slice() == [0, 2].as_slice());
-    let Ok(unknown) = labels.states_of(alloc, b"gaol") else {
-        return Err(Fail::new("no memory"));
-    };
-    assert!(rt; unknown.is_empty());
-    Ok(())
+    let labels = labels_of(rt.alloc(), text)?;
+    are_as_said(rt.alloc(), &labels)
+}
+
+// The fault of a text of the labels of three states.
+fn fault_of(alloc: Global, text: &[u8]) -> Option<LabFault> {
+    if text.len() > MOST_BYTES {
+        return None;
+    }
+    read_labels(alloc, text, 3).err()
 }
 
 #[test]
 fn the_first_fault_is_named_with_its_line(rt: HostRuntime) -> Result<(), Fail> {
-    let alloc = rt.alloc();
-    let cases: [(&[u8], u32, LabCause); 12] = [
-        (b"", 1, LabCause::NoHeader),
-        (b"0=init", 1, LabCause::BadHeader),
-        (b"0=\"a\" 1=\"a\"", 1, LabCause::DoubleName),
-        (b"0=\"a\" 00=\"a\"", 1, LabCause::DoubleIndex),
-        (b"1000000=\"a\"", 1, LabCause::OverLimit),
-        (b"0=\"a\"\n\n0: 0", 2, LabCause::BadField),
-        (b"0=\"a\"\n3: 0", 2, LabCause::StateOutOfRange),
-        (b"0=\"a\"\n0: 0\n1: 7", 3, LabCause::UnknownIndex),
-        (b"0=\"a\"\n0 0", 2, LabCause::BadField),
-        (b"0=\"a\"\n3: 7 x", 2, LabCause::BadField),
-        (b"0=\"a\"\n3: 7", 2, LabCause::StateOutOfRange),
-        (b"0=\"a\"\n0: 7 x", 2, LabCause::BadField),
-    ];
-    for (text, line, cause) in cases.iter() {
-        let Err(fault) = read_labels(alloc, text, 3) else {
-            return Err(Fail::new("accepted"));
-        };
-        assert!(rt; fault.line == *line && fault.cause == *cause);
+    for (text, line, cause) in REFUSED.as_slice() {
+        let (line, cause) = (*line, *cause);
+        let fault = fault_of(rt.alloc(), text.as_bytes());
+        same(text, fault, Some(LabFault { line, cause }))?;
     }
     Ok(())
+}
+
+// A text of the owners of three states is refused in this line.
+fn is_refused(alloc: Global, text: &[u8], line: u32, cause: LabCause) -> Result<(), Fail> {
+    if text.len() > MOST_BYTES {
+        return Err(Fail::new("too long"));
+    }
+    let fault = read_owners(alloc, text, 3).err();
+    same("fault", fault, Some(LabFault { line, cause }))
+}
+
+// The owners of three states in a text.
+fn owners_of(alloc: Global, text: &[u8]) -> Result<Owners, Fail>
+    ensures { IfOk result (λ owners. length owners.owners ≡ 3) }
+{
+    if text.len() > MOST_BYTES {
+        return Err(Fail::new("too long"));
+    }
+    Ok(read_owners(alloc, text, 3)?)
+}
+
+// One player has all states.
+fn one_owns_all(alloc: Global) -> Result<(), Fail> {
+    let owners = Owners::single(alloc, 3)?;
+    same("the only owner", owners.owner(2), b"p0".as_slice())
 }
 
 #[test]
 fn owners_are_read(rt: HostRuntime) -> Result<(), Fail> {
     let alloc = rt.alloc();
-    let Ok(owners) = read_owners(alloc, b"0=\"p1\" 1=\"p2\"\n1: 1 1\n1: 1\n2:\n", 3) else {
-        return Err(Fail::new("refused"));
-    };
-    let Err(two) = read_owners(alloc, b"0=\"p1\" 1=\"p2\"\n1: 0\n1: 1\n", 3) else {
-        return Err(Fail::new("accepted"));
-    };
-    assert!(rt; two.line == 3 && two.cause == LabCause::TwoOwners { state: 1 });
-    let Err(unknown) = read_owners(alloc, b"0=\"p1\" 1=\"p2\"\n1: 0 1 7\n", 3) else {
-        return Err(Fail::new("accepted"));
-    };
-    assert!(rt; unknown.line == 2 && unknown.cause == LabCause::UnknownIndex);
-    assert!(rt; owners.knows(b"p2") && !owners.knows(b"p0"));
-    assert!(rt; owners.owner(0) == b"p1".as_slice() && owners.owner(1) == b"p2".as_slice());
-    let Ok(single) = Owners::single(alloc, 3) else {
-        return Err(Fail::new("no memory"));
-    };
-    assert!(rt; single.owner(2) == b"p0".as_slice());
-    Ok(())
+    let two = LabCause::TwoOwners { state: 1 };
+    is_refused(alloc, b"0=\"p1\" 1=\"p2\"\n1: 0\n1: 1\n", 3, two)?;
+    let unknown = LabCause::UnknownIndex;
+    is_refused(alloc, b"0=\"p1\" 1=\"p2\"\n1: 0 1 7\n", 2, unknown)?;
+    one_owns_all(alloc)?;
+    let owners = owners_of(alloc, b"0=\"p1\" 1=\"p2\"\n1: 1 1\n1: 1\n2:\n")?;
+    same(
+        "names, and states 0 and 1",
+        (
+            owners.knows(b"p2"),
+            owners.knows(b"p0"),
+            owners.owner(0),
+            owners.owner(1),
+        ),
+        (true, false, b"p1".as_slice(), b"p2".as_slice()),
+    )
 }

@@ -1,6 +1,7 @@
 //! Numbers, fractions and the choices that they make.
 
 use distributions::{NumberFault, Part, compare, make_choice, read_number};
+use expectations::same;
 use std::cmp::Ordering;
 use std::test::Fail;
 
@@ -12,30 +13,33 @@ fn read(text: &[u8]) -> Result<(u128, u128), NumberFault> {
 }
 
 #[test]
-fn numbers_are_read(rt: HostRuntime) -> Result<(), Fail> {
-    assert_eq!(rt; read(b"0.25"), Ok((1, 4)));
-    assert_eq!(rt; read(b"1e-23"), Ok((1, 100_000_000_000_000_000_000_000)));
-    assert_eq!(rt; read(b"2/6"), Ok((1, 3)));
-    assert_eq!(rt; read(b"1e-24"), Err(NumberFault::TooFine));
+fn numbers_are_read() -> Result<(), Fail> {
+    for (text, wanted) in [
+        ("0.25", Ok((1, 4))),
+        ("1e-23", Ok((1, 100_000_000_000_000_000_000_000))),
+        ("2/6", Ok((1, 3))),
+        ("1e-24", Err(NumberFault::TooFine)),
+    ] {
+        same(text, read(text.as_bytes()), wanted)?;
+    }
     Ok(())
 }
 
 #[test]
-fn rests_make_one(rt: HostRuntime) -> Result<(), Fail> {
-    let share = read_number(b"3/8").ok().ok_or("no share")?;
-    if share.num() <= share.den() {
-        let rest = share.rest();
-        assert_eq!(rt; (rest.num(), rest.den()), (5, 8));
-        return Ok(());
+fn rests_make_one() -> Result<(), Fail> {
+    let share = read_number(b"3/8")?;
+    if share.num() > share.den() {
+        return Err(Fail::new("above one"));
     }
-    Err(Fail::new("above one"))
+    let rest = share.rest();
+    same("the rest of 3/8", (rest.num(), rest.den()), (5, 8))
 }
 
 #[test]
 fn parts_add_up(rt: HostRuntime) -> Result<(), Fail> {
-    let half = read_number(b"0.5").ok().ok_or("no half")?;
-    let quarter = read_number(b"1/4").ok().ok_or("no quarter")?;
-    assert_eq!(rt; compare(&quarter, &half), Ordering::Less);
+    let half = read_number(b"0.5")?;
+    let quarter = read_number(b"1/4")?;
+    same("order", compare(&quarter, &half), Ordering::Less)?;
     let parts = [
         Part {
             to: 7,
@@ -47,7 +51,6 @@ fn parts_add_up(rt: HostRuntime) -> Result<(), Fail> {
             share: quarter,
         },
     ];
-    let choice = make_choice(rt.alloc(), &parts).ok().ok_or("no choice")?;
-    assert_eq!(rt; choice.total(), 4);
-    Ok(())
+    let choice = make_choice(rt.alloc(), &parts)?;
+    same("total", choice.total(), 4)
 }

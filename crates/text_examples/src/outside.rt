@@ -1,7 +1,8 @@
 //! Whole texts over shelves and sinks in memory.
 
+use expectations::{holds, same};
 use game_outside::{
-    Gate, HeldFile, HoldGate, LateGate, MemShelf, MemSink, Name, ReadEnd, Sink, SteadyShelf,
+    Gate, HeldFile, HoldGate, LateGate, MemShelf, MemSink, Name, ReadEnd, Shelf, SteadyShelf,
     SteadySink, read_all, write_all,
 };
 use std::alloc::{AllocError, Global};
@@ -26,10 +27,17 @@ fn held(alloc: Global, name: &[u8], bytes: &[u8]) -> Result<HeldFile, AllocError
     }
 }
 
-fn is_text(all: &Result<Vec<u8>, ReadEnd>, text: &[u8]) -> bool {
-    match all {
-        Ok(bytes) => bytes.as_slice() == text,
-        Err(_) => false,
+// A shelf gives this of the text under a name, within a limit.
+fn gives<H: Shelf>(
+    alloc: Global,
+    shelf: &mut H,
+    name: &str,
+    limit: u64,
+    wanted: Result<&[u8], ReadEnd>,
+) -> Result<(), Fail> {
+    match read_all(alloc, shelf, name, limit) {
+        Ok(bytes) => same(name, Ok(bytes.as_slice()), wanted),
+        Err(end) => same(name, Err(end), wanted),
     }
 }
 
@@ -37,13 +45,9 @@ fn is_text(all: &Result<Vec<u8>, ReadEnd>, text: &[u8]) -> bool {
 fn a_steady_shelf_gives_all(rt: HostRuntime) -> Result<(), Fail> {
     let alloc = rt.alloc();
     let mut shelf = SteadyShelf::new(files(alloc)?);
-    let all = read_all(alloc, &mut shelf, "m.tra", 12);
-    assert!(rt; is_text(&all, b"hello, world"));
-    let long = read_all(alloc, &mut shelf, "m.tra", 11);
-    assert!(rt; matches!(long, Err(ReadEnd::TooLong)));
-    let other = read_all(alloc, &mut shelf, "m.own", 0);
-    assert!(rt; is_text(&other, b""));
-    Ok(())
+    gives(alloc, &mut shelf, "m.tra", 12, Ok(b"hello, world"))?;
+    gives(alloc, &mut shelf, "m.tra", 11, Err(ReadEnd::TooLong))?;
+    gives(alloc, &mut shelf, "m.own", 0, Ok(b""))
 }
 
 #[test]
@@ -51,69 +55,65 @@ fn a_shelf_gives_pieces_and_fails_where_named(rt: HostRuntime) -> Result<(), Fai
     let alloc = rt.alloc();
     let mut shelf = MemShelf::new(files(alloc)?, 5, vec![in alloc; 8]?);
     // Calls 1 to 5: `begin`, pieces of 5, 5 and 2 bytes, and the end.
-    let all = read_all(alloc, &mut shelf, "m.tra", 100);
-    assert!(rt; is_text(&all, b"hello, world"));
+    gives(alloc, &mut shelf, "m.tra", 100, Ok(b"hello, world"))?;
     // Call 7 gives a piece, and call 8 fails.
-    let failed = read_all(alloc, &mut shelf, "m.lab", 100);
-    assert!(rt; matches!(failed, Err(ReadEnd::ReadFault)));
-    assert!(rt; shelf.fault_count() == 1);
-    let missing = read_all(alloc, &mut shelf, "m.own", 100);
-    assert!(rt; matches!(missing, Err(ReadEnd::ReadFault)));
-    assert!(rt; shelf.fault_count() == 2);
-    Ok(())
+    gives(alloc, &mut shelf, "m.lab", 100, Err(ReadEnd::ReadFault))?;
+    same("faults of m.lab", shelf.fault_count(), 1)?;
+    gives(alloc, &mut shelf, "m.own", 100, Err(ReadEnd::ReadFault))?;
+    same("faults", shelf.fault_count(), 2)
 }
 
 #[test]
 fn a_sink_takes_steps_and_fails_where_named(rt: HostRuntime) -> Result<(), Fail> {
     let alloc = rt.alloc();
     let mut sink = MemSink::new(alloc, 7, vec![in alloc; 4]?);
-    assert!(rt; sink.reserve(100).is_ok());
-    assert!(rt; write_all(&mut sink, b"state 0 lower").is_ok());
-    assert!(rt; write_all(&mut sink, b" upper 1.0").is_err());
-    assert!(rt; sink.bytes() == Some(b"state 0 lower upper ".as_slice()));
-    assert!(rt; sink.fault_count() == 1);
-    Ok(())
+    let room = sink.reserve(100).is_ok();
+    let first = write_all(&mut sink, b"state 0 lower").is_ok();
+    let second = write_all(&mut sink, b" upper 1.0").is_ok();
+    same("calls", (room, first, second), (true, true, false))?;
+    same(
+        "sink",
+        (sink.bytes(), sink.fault_count()),
+        (Some(b"state 0 lower upper ".as_slice()), 1),
+    )
 }
 
 #[test]
 fn a_sink_tells_nothing_once_its_room_is_used_up(rt: HostRuntime) -> Result<(), Fail> {
-    let alloc = rt.alloc();
-    let mut sink = SteadySink::new(alloc);
-    assert!(rt; sink.reserve(4).is_ok());
-    assert!(rt; write_all(&mut sink, b"four").is_ok());
-    assert!(rt; sink.bytes() == Some(b"four".as_slice()));
-    assert!(rt; write_all(&mut sink, b"!").is_ok());
-    assert!(rt; sink.bytes().is_none());
-    Ok(())
+    let mut sink = SteadySink::new(rt.alloc());
+    let room = sink.reserve(4).is_ok();
+    let first = write_all(&mut sink, b"four").is_ok();
+    same("bytes", sink.bytes(), Some(b"four".as_slice()))?;
+    let second = write_all(&mut sink, b"!").is_ok();
+    same("calls", (room, first, second), (true, true, true))?;
+    same("bytes past the room", sink.bytes(), None)
 }
 
 #[test]
-fn a_hold_gate_gives_up_where_a_worker_is_alone(rt: HostRuntime) -> Result<(), Fail> {
+fn a_hold_gate_gives_up_where_a_worker_is_alone() -> Result<(), Fail> {
     let gate = HoldGate::holding_for(FEW_TURNS);
     gate.arrive(2, 0);
-    assert!(rt; !gate.gave_up(), "another worker is not held");
+    holds("another worker is not held", !gate.gave_up())?;
     gate.arrive(0, 0);
-    assert!(rt; gate.gave_up(), "worker 0 is alone");
+    holds("worker 0 is alone", gate.gave_up())?;
     let gate = HoldGate::holding_for(FEW_TURNS);
     gate.arrive(1, 0);
-    assert!(rt; gate.gave_up(), "worker 1 is alone");
-    Ok(())
+    holds("worker 1 is alone", gate.gave_up())
 }
 
 #[test]
-fn a_late_gate_gives_up_where_the_others_come_too_rarely(rt: HostRuntime) -> Result<(), Fail> {
+fn a_late_gate_gives_up_where_the_others_come_too_rarely() -> Result<(), Fail> {
     let gate = LateGate::holding_for(0, 3, FEW_TURNS);
     for state in 0..2 {
         gate.arrive(1, state);
     }
-    assert!(rt; !gate.gave_up(), "the others are not held");
+    holds("the others are not held", !gate.gave_up())?;
     gate.arrive(0, 0);
-    assert!(rt; gate.gave_up(), "two arrivals for three");
+    holds("two arrivals for three", gate.gave_up())?;
     let gate = LateGate::holding_for(0, 3, FEW_TURNS);
     for worker in 1..4 {
         gate.arrive(worker, 0);
     }
     gate.arrive(0, 0);
-    assert!(rt; !gate.gave_up(), "three arrivals for three");
-    Ok(())
+    holds("three arrivals for three", !gate.gave_up())
 }

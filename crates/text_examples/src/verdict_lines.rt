@@ -1,23 +1,32 @@
 //! Verdicts, when a run may stop, and the lines of a report.
 
 use distributions::read_number;
+use expectations::same;
 use game_model::UNIT;
 use rpatl_syntax::Bound;
 use std::test::Fail;
 use verdicts::{How, ReportLine, StopRule, Verdict, report_text, settle};
 
+// Bounds of a value have this verdict under a bound.
+fn has_verdict(bound: &Bound, (lower, upper): (u64, u64), wanted: Verdict) -> Result<(), Fail> {
+    if lower > UNIT || upper > UNIT {
+        return Err(Fail::new("above 1"));
+    }
+    same(
+        format_args!("{bound:?}"),
+        settle(bound, lower, upper),
+        wanted,
+    )
+}
+
 #[test]
-fn worked_bounds_have_their_verdicts(rt: HostRuntime) -> Result<(), Fail> {
-    let (Ok(share), Ok(half), Ok(third)) = (
-        read_number(b"3/5"),
-        read_number(b"1/2"),
-        read_number(b"1/3"),
-    ) else {
-        return Err(Fail::new("no number"));
-    };
+fn worked_bounds_have_their_verdicts() -> Result<(), Fail> {
+    let share = read_number(b"3/5")?;
+    let half = read_number(b"1/2")?;
+    let third = read_number(b"1/3")?;
     let near = (499_999_999_999_999, 500_000_000_000_000);
     let around = (333_333_333_333_333, 333_333_333_333_334);
-    let rows = [
+    for (bound, ends, wanted) in [
         (
             Bound::AtLeast(share),
             (650_000_000_000_000, 650_000_000_000_000),
@@ -31,28 +40,29 @@ fn worked_bounds_have_their_verdicts(rt: HostRuntime) -> Result<(), Fail> {
         (Bound::AtLeast(third), around, Verdict::Undecided),
         (Bound::AskMax, near, Verdict::Bracket),
         (Bound::AskMin, near, Verdict::Bracket),
-    ];
-    for (bound, (lower, upper), expected) in &rows {
-        assert!(rt; *lower <= UNIT && *upper <= UNIT);
-        assert_eq!(rt; settle(bound, *lower, *upper), *expected, "{bound:?}");
+    ] {
+        has_verdict(&bound, ends, wanted)?;
     }
     Ok(())
 }
 
 #[test]
-fn a_run_may_stop_where_its_bound_is_settled(rt: HostRuntime) -> Result<(), Fail> {
-    let Ok(share) = read_number(b"3/5") else {
-        return Err(Fail::new("no number"));
-    };
+fn a_run_may_stop_where_its_bound_is_settled() -> Result<(), Fail> {
+    let share = read_number(b"3/5")?;
     let bound = Bound::AtLeast(share);
     let stop = StopRule::of_bound(bound, |lower, upper| {
         matches!(settle(&bound, lower, upper), Verdict::Yes | Verdict::No)
     });
-    assert_eq!(rt; stop.bound(), bound);
-    assert!(rt; stop.asks(600_000_000_000_000, 1_000_000_000_000_000));
-    assert!(rt; stop.asks(0, 599_999_999_999_999));
-    assert!(rt; !stop.asks(0, 600_000_000_000_000));
-    Ok(())
+    same("bound", stop.bound(), Bound::AtLeast(share))?;
+    same(
+        "asks",
+        (
+            stop.asks(600_000_000_000_000, 1_000_000_000_000_000),
+            stop.asks(0, 599_999_999_999_999),
+            stop.asks(0, 600_000_000_000_000),
+        ),
+        (true, true, false),
+    )
 }
 
 #[test]
@@ -80,11 +90,8 @@ fn a_report_has_a_line_for_each_state(rt: HostRuntime) -> Result<(), Fail> {
             verdict: Verdict::Yes,
         },
     ];
-    let Ok(text) = report_text(rt.alloc(), &lines) else {
-        return Err(Fail::new("no memory"));
-    };
+    let text = report_text(rt.alloc(), &lines)?;
     let expected =
         b"state 0 lower 0.499999999999999 upper 1.000000000000000 rounds 40 Bracket\nstate 12 lower 0.000000000000000 upper 0.000000000000000 audited False\nstate 3 lower 0.375000000000000 upper 0.375000000000000 steps 2 True\n";
-    assert_eq!(rt; text.as_slice(), expected.as_slice());
-    Ok(())
+    same("report", text.as_slice(), expected.as_slice())
 }

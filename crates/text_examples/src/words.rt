@@ -1,6 +1,7 @@
 //! Words, read whole. A line of a test has words that are parted by one space each.
 
-use command_words::{CommandWords, read_words};
+use command_words::{AuditWords, CheckWords, CommandWords, MakeWords, read_words};
+use expectations::same;
 use std::alloc::Global;
 use std::test::Fail;
 
@@ -169,118 +170,141 @@ fn words(alloc: Global, line: &str) -> Result<Vec<String>, Fail> {
 
 // Whether words denote a command.
 fn is_command(alloc: Global, words: &[String]) -> Result<bool, Fail> {
-    match read_words(alloc, words) {
-        Ok(read) => Ok(read.is_some()),
-        Err(_) => Err(Fail::new("no memory")),
+    Ok(read_words(alloc, words)?.is_some())
+}
+
+// Whether the words of a line denote a command.
+fn is_taken(alloc: Global, line: &str) -> Result<bool, Fail> {
+    is_command(alloc, &words(alloc, line)?)
+}
+
+// The words of each line denote a command, or those of none do.
+fn are_taken(alloc: Global, lines: &[&str], wanted: bool) -> Result<(), Fail> {
+    for line in lines {
+        same(line, is_taken(alloc, line)?, wanted)?;
     }
+    Ok(())
 }
 
 #[test]
 fn words_denote_a_command(rt: HostRuntime) -> Result<(), Fail> {
-    let alloc = rt.alloc();
-    for line in TAKEN {
-        assert!(rt;
-            is_command(alloc, &words(alloc, line)?)?,
-            "not taken: {line}"
-        );
-    }
-    Ok(())
+    are_taken(rt.alloc(), TAKEN.as_slice(), true)
 }
 
 #[test]
 fn words_denote_no_command(rt: HostRuntime) -> Result<(), Fail> {
     let alloc = rt.alloc();
-    assert!(rt; !is_command(alloc, &[])?, "no words are taken");
-    for lines in [
-        UNNAMED.as_slice(),
-        NO_CHECK.as_slice(),
-        NO_AUDIT.as_slice(),
-        NO_MAKE.as_slice(),
-    ] {
-        for line in lines {
-            assert!(rt; !is_command(alloc, &words(alloc, line)?)?, "taken: {line}");
-        }
+    same("no words", is_command(alloc, &[])?, false)?;
+    are_taken(alloc, UNNAMED.as_slice(), false)?;
+    are_taken(alloc, NO_CHECK.as_slice(), false)?;
+    are_taken(alloc, NO_AUDIT.as_slice(), false)?;
+    are_taken(alloc, NO_MAKE.as_slice(), false)
+}
+
+// The check that words ask for.
+fn check_in(alloc: Global, words: &[String]) -> Result<CheckWords<'_>, Fail> {
+    match read_words(alloc, words)? {
+        Some(CommandWords::Check(check)) => Ok(check),
+        _ => Err(Fail::new("no check")),
     }
-    Ok(())
 }
 
 #[test]
 fn a_check_says_its_words(rt: HostRuntime) -> Result<(), Fail> {
     let line = "check m.tra --plan --own=m.own m.lab --rounds +099 -- -F";
     let words = words(rt.alloc(), line)?;
-    let Ok(Some(CommandWords::Check(check))) = read_words(rt.alloc(), &words) else {
-        return Err(Fail::new("no check"));
-    };
-    assert_eq!(rt; check.asked.tra, "m.tra");
-    assert_eq!(rt; check.asked.lab, "m.lab");
-    assert_eq!(rt; check.asked.formula, "-F");
-    assert_eq!(rt; check.asked.own, Some("m.own"));
-    assert_eq!(rt;
-        (check.rounds, check.workers, check.plan, check.traps),
-        (99, 4, true, false)
-    );
-    Ok(())
+    let check = check_in(rt.alloc(), &words)?;
+    let asked = check.asked;
+    same(
+        "words",
+        (
+            (asked.tra, asked.lab, asked.formula, asked.own),
+            (check.rounds, check.workers, check.plan, check.traps),
+        ),
+        (
+            ("m.tra", "m.lab", "-F", Some("m.own")),
+            (99, 4, true, false),
+        ),
+    )
 }
 
 #[test]
 fn traps_are_not_a_plan(rt: HostRuntime) -> Result<(), Fail> {
     let words = words(rt.alloc(), "check m.tra --traps m.lab F")?;
-    let Ok(Some(CommandWords::Check(check))) = read_words(rt.alloc(), &words) else {
-        return Err(Fail::new("no check"));
-    };
-    assert_eq!(rt; (check.plan, check.traps), (false, true));
-    Ok(())
+    let check = check_in(rt.alloc(), &words)?;
+    same("plan and traps", (check.plan, check.traps), (false, true))
 }
 
 #[test]
 fn a_check_has_defaults(rt: HostRuntime) -> Result<(), Fail> {
     let words = words(rt.alloc(), "check m.tra m.lab F")?;
-    let Ok(Some(CommandWords::Check(check))) = read_words(rt.alloc(), &words) else {
-        return Err(Fail::new("no check"));
-    };
-    assert_eq!(rt; check.asked.own, None);
-    assert_eq!(rt;
-        (check.rounds, check.workers, check.plan, check.traps),
-        (10_000, 4, false, false)
-    );
-    Ok(())
+    let check = check_in(rt.alloc(), &words)?;
+    same(
+        "words",
+        (
+            check.asked.own,
+            check.rounds,
+            check.workers,
+            check.plan,
+            check.traps,
+        ),
+        (None, 10_000, 4, false, false),
+    )
+}
+
+// The audit that words ask for.
+fn audit_in(alloc: Global, words: &[String]) -> Result<AuditWords<'_>, Fail> {
+    match read_words(alloc, words)? {
+        Some(CommandWords::Audit(audit)) => Ok(audit),
+        _ => Err(Fail::new("no audit")),
+    }
 }
 
 #[test]
 fn an_audit_says_its_words(rt: HostRuntime) -> Result<(), Fail> {
     let words = words(rt.alloc(), "audit --own m.own m.tra m.lab F m.cert")?;
-    let Ok(Some(CommandWords::Audit(audit))) = read_words(rt.alloc(), &words) else {
-        return Err(Fail::new("no audit"));
-    };
-    assert_eq!(rt; audit.asked.tra, "m.tra");
-    assert_eq!(rt; audit.asked.lab, "m.lab");
-    assert_eq!(rt; audit.asked.formula, "F");
-    assert_eq!(rt; audit.asked.own, Some("m.own"));
-    assert_eq!(rt; audit.certificate, "m.cert");
-    Ok(())
+    let audit = audit_in(rt.alloc(), &words)?;
+    let asked = audit.asked;
+    same(
+        "words",
+        (
+            asked.tra,
+            asked.lab,
+            asked.formula,
+            asked.own,
+            audit.certificate,
+        ),
+        ("m.tra", "m.lab", "F", Some("m.own"), "m.cert"),
+    )
+}
+
+// The `make` that words ask for.
+fn make_in(alloc: Global, words: &[String]) -> Result<MakeWords, Fail> {
+    match read_words(alloc, words)? {
+        Some(CommandWords::Make(make)) => Ok(make),
+        _ => Err(Fail::new("no make")),
+    }
 }
 
 #[test]
 fn a_make_says_its_words(rt: HostRuntime) -> Result<(), Fail> {
-    let words = words(
-        rt.alloc(),
-        "make --workers=8 +2147483646 --rounds 099 -- 007",
-    )?;
-    let Ok(Some(CommandWords::Make(make))) = read_words(rt.alloc(), &words) else {
-        return Err(Fail::new("no make"));
-    };
-    assert_eq!(rt; (make.seed, make.states), (2_147_483_646, 7));
-    assert_eq!(rt; (make.rounds, make.workers), (99, 8));
-    Ok(())
+    let line = "make --workers=8 +2147483646 --rounds 099 -- 007";
+    let words = words(rt.alloc(), line)?;
+    let make = make_in(rt.alloc(), &words)?;
+    same(
+        "numbers",
+        (make.seed, make.states, make.rounds, make.workers),
+        (2_147_483_646, 7, 99, 8),
+    )
 }
 
 #[test]
 fn a_make_has_defaults(rt: HostRuntime) -> Result<(), Fail> {
     let words = words(rt.alloc(), "make 5 1000000")?;
-    let Ok(Some(CommandWords::Make(make))) = read_words(rt.alloc(), &words) else {
-        return Err(Fail::new("no make"));
-    };
-    assert_eq!(rt; (make.seed, make.states), (5, 1_000_000));
-    assert_eq!(rt; (make.rounds, make.workers), (10_000, 4));
-    Ok(())
+    let make = make_in(rt.alloc(), &words)?;
+    same(
+        "numbers",
+        (make.seed, make.states, make.rounds, make.workers),
+        (5, 1_000_000, 10_000, 4),
+    )
 }
