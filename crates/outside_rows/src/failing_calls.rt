@@ -1,12 +1,12 @@
 //! Every call of the shelf and of the sink fails in turn.
 
+use expectations::same;
 use run_rows::{
     AUDIT_OF_LOOP_OR_COIN, AUDIT_OF_TWO_PLAYERS, CHECK_OF_AGREEMENT, CHECK_OF_COIN_LOOP,
     COIN_LOOP_OUT_OF_ORDER, Case, DRAWN_GAME, Ended, NO_COMMAND, OTHER_VERSION, Outside,
     PLAN_OF_LOOP_OR_COIN, PLAN_OF_TWO_PLAYERS, STATE_OUT_OF_RANGE, STEP, ends_over,
 };
 use std::alloc::Global;
-use std::process::Abort;
 use std::test::Fail;
 use std::thread::Threads;
 use stogame_app::Status;
@@ -29,66 +29,88 @@ const CASES: [Case<'static>; 11] = [
 ];
 
 // A run without a fault is that of the case.
-fn is_whole<R: Abort>(rt: &R, case: Case<'_>, ended: &Ended) -> Result<(), Fail> {
-    let text = case.text;
-    assert_eq!(rt; ended.written.as_slice(), text.as_bytes());
-    assert!(rt; ended.status == case.status, "the status of {text}");
-    Ok(())
+fn is_whole(case: &Case<'_>, ended: &Ended) -> Result<(), Fail> {
+    same(
+        case.text,
+        (ended.status, ended.written.as_slice()),
+        (case.status, case.text.as_bytes()),
+    )
+}
+
+// How a case ends where one call of the shelf fails.
+fn with_read_fault<R: Threads + Sync>(
+    rt: &R,
+    alloc: Global,
+    case: &Case<'_>,
+    call: u64,
+) -> Result<Ended, Fail> {
+    let outside = Outside {
+        piece: 8,
+        reads: &[call],
+        writes: &[],
+    };
+    ends_over(rt, alloc, case.command, outside)
 }
 
 // A run where a call of the shelf fails writes nothing. It gives how many calls a run without a fault makes.
-fn each_reading_fails<R: Threads + Sync + Abort>(
+fn each_reading_fails<R: Threads + Sync>(
     rt: &R,
     alloc: Global,
-    case: Case<'_>,
+    case: &Case<'_>,
 ) -> Result<u64, Fail> {
     for call in 1..MOST_CALLS {
-        let outside = Outside {
-            piece: 8,
-            reads: &[call],
-            writes: &[],
-        };
-        let ended = ends_over(rt, alloc, case.command, outside)?;
+        let ended = with_read_fault(rt, alloc, case, call)?;
         if ended.read_faults == 0 {
-            is_whole(rt, case, &ended)?;
+            is_whole(case, &ended)?;
             return Ok(call - 1);
         }
-        assert!(rt; ended.status == Status::ReadFault, "call {call}");
-        assert!(rt; ended.written.is_empty(), "call {call}");
+        let found = (ended.status, ended.written.len());
+        same(call, found, (Status::ReadFault, 0))?;
     }
     Err(Fail::new("each run has a fault"))
 }
 
-// A run where a call of the sink fails leaves what the earlier calls took, whatever its status would have been.
-fn each_writing_fails<R: Threads + Sync + Abort>(
+// How a case ends where one call of the sink fails.
+fn with_write_fault<R: Threads + Sync>(
     rt: &R,
     alloc: Global,
-    case: Case<'_>,
+    case: &Case<'_>,
+    call: u64,
+) -> Result<Ended, Fail> {
+    let outside = Outside {
+        piece: 8,
+        reads: &[],
+        writes: &[call],
+    };
+    ends_over(rt, alloc, case.command, outside)
+}
+
+// So many bytes of the text of a case were written before a write failed.
+fn is_front(case: &Case<'_>, ended: &Ended, taken: usize) -> Result<(), Fail> {
+    let is_front = case.text.as_bytes().starts_with(&ended.written);
+    let found = (ended.status, ended.written.len(), is_front);
+    same(case.text, found, (Status::WriteFault, taken, true))
+}
+
+// A run where a call of the sink fails leaves what the earlier calls took, whatever its status would have been.
+fn each_writing_fails<R: Threads + Sync>(
+    rt: &R,
+    alloc: Global,
+    case: &Case<'_>,
 ) -> Result<(), Fail> {
     for call in 1..MOST_CALLS {
-        let outside = Outside {
-            piece: 8,
-            reads: &[],
-            writes: &[call],
-        };
-        let ended = ends_over(rt, alloc, case.command, outside)?;
+        let ended = with_write_fault(rt, alloc, case, call)?;
         if ended.write_faults == 0 {
-            return is_whole(rt, case, &ended);
+            return is_whole(case, &ended);
         }
-        let taken = (call as usize - 1) * STEP;
-        assert!(rt; ended.status == Status::WriteFault, "call {call}");
-        assert_eq!(rt; ended.written.len(), taken, "call {call}");
-        assert!(rt;
-            case.text.as_bytes().starts_with(&ended.written),
-            "call {call}"
-        );
+        is_front(case, &ended, (call as usize - 1) * STEP)?;
     }
     Err(Fail::new("each run has a fault"))
 }
 
 #[test]
 fn a_shelf_that_fails_leaves_nothing_written(rt: HostRuntime) -> Result<(), Fail> {
-    for case in CASES {
+    for case in CASES.as_slice() {
         let _calls = each_reading_fails(&rt, rt.alloc(), case)?;
     }
     Ok(())
@@ -103,14 +125,18 @@ fn a_file_out_of_order_fails_in_each_call_of_both_readings(rt: HostRuntime) -> R
         (DRAWN_GAME, 0),
         (NO_COMMAND, 0),
     ] {
-        assert_eq!(rt; each_reading_fails(&rt, rt.alloc(), case)?, calls);
+        same(
+            case.text,
+            each_reading_fails(&rt, rt.alloc(), &case)?,
+            calls,
+        )?;
     }
     Ok(())
 }
 
 #[test]
 fn a_sink_that_fails_leaves_a_front_of_the_text(rt: HostRuntime) -> Result<(), Fail> {
-    for case in CASES {
+    for case in CASES.as_slice() {
         each_writing_fails(&rt, rt.alloc(), case)?;
     }
     Ok(())
