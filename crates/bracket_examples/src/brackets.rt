@@ -1,6 +1,6 @@
 //! Brackets: those of one worker are plain sweeps.
 
-ghost use Rattle.std.specs.Prelude.{◌≡◌, ◌≤◌, ◌<◌, [], ◌∷◌, All, IfSome, length};
+ghost use Rattle.std.specs.Prelude.{◌≡◌, ◌≤◌, ◌<◌, [], ◌∷◌, All, IfOk, length};
 ghost use Rattle.game_model.specs.Limits.{unit};
 ghost use Rattle.game_model.specs.Query.{states};
 ghost use Rattle.game_model.specs.Dual.{IsZeroSet};
@@ -16,7 +16,7 @@ use crate::guesses::agrees_with_the_plain_guess;
 use bracket_engine::{Bracket, bracket};
 use expectations::same;
 use game_model::{Marks, Question, UNIT};
-use game_outside::OpenGate;
+use game_outside::{OpenGate, OutOfMemory};
 use inductive_check::swap;
 use random_games::{Draw, SMALL, opening_table, plain_sweep, random_game, random_question};
 use rpatl_syntax::Bound;
@@ -25,16 +25,6 @@ use std::test::Fail;
 use std::thread::Threads;
 use verdicts::{StopRule, settle};
 use zero_sets::zero_set;
-
-/// The zero set of a question.
-pub fn zero_set_of(alloc: Global, question: &Question<'_>) -> Option<Marks>
-    ensures { IfSome result (λ zero. IsZeroSet question.now zero) }
-{
-    match zero_set(alloc, question) {
-        Ok(zero) => Some(zero),
-        Err(_) => None,
-    }
-}
 
 /// The bracket of a question with a bound, by workers whom no gate stops, which may end where the bound is settled at
 /// the initial states.
@@ -47,22 +37,22 @@ pub fn bracket_for<R: Threads + Sync>(
     workers: u32,
     bound: Bound,
     initial: &[u32],
-) -> Option<Bracket>
+) -> Result<Bracket, OutOfMemory>
     requires zero { IsZeroSet question.now zero.now }
     requires rounds { rounds ≤ most_rounds }
     requires some { 1 ≤ workers }
     requires few { workers ≤ most_workers }
     requires initial { All (λ s. s < states question.now) initial.now }
-    ensures bounds { IfSome result (λ b. IsBracket question.now zero.now bound initial.now rounds b.base.items b.upper.items b.rounds b.stable) }
-    ensures lower { IfSome result (λ b. IsLowerTable question.now zero.now b.base.items b.lower.items b.choices.items b.ranks.items) }
-    ensures choices { IfSome result (λ b. AreChoices question.now b.lower.items b.choices.items) }
-    ensures ranks { IfSome result (λ b. AreRanks question.now b.lower.items b.choices.items b.ranks.items) }
-    ensures replies { IfSome result (λ b. AreRepliesTo question.now b.upper.items b.replies.items) }
+    ensures bounds { IfOk result (λ b. IsBracket question.now zero.now bound initial.now rounds b.base.items b.upper.items b.rounds b.stable) }
+    ensures lower { IfOk result (λ b. IsLowerTable question.now zero.now b.base.items b.lower.items b.choices.items b.ranks.items) }
+    ensures choices { IfOk result (λ b. AreChoices question.now b.lower.items b.choices.items) }
+    ensures ranks { IfOk result (λ b. AreRanks question.now b.lower.items b.choices.items b.ranks.items) }
+    ensures replies { IfOk result (λ b. AreRepliesTo question.now b.upper.items b.replies.items) }
 {
     let stop = StopRule::of_bound(bound, |lower, upper| {
         settle(&bound, lower, upper).is_settling()
     });
-    match bracket(
+    bracket(
         rt,
         alloc,
         question,
@@ -72,10 +62,7 @@ pub fn bracket_for<R: Threads + Sync>(
         &stop,
         initial,
         &OpenGate {},
-    ) {
-        Ok(found) => Some(found),
-        Err(_) => None,
-    }
+    )
 }
 
 /// The bracket of a question that asks for its value at state 0.
@@ -86,16 +73,16 @@ pub fn value_bracket<R: Threads + Sync>(
     zero: &Marks,
     rounds: u32,
     workers: u32,
-) -> Option<Bracket>
+) -> Result<Bracket, OutOfMemory>
     requires zero { IsZeroSet question.now zero.now }
     requires rounds { rounds ≤ most_rounds }
     requires some { 1 ≤ workers }
     requires few { workers ≤ most_workers }
-    ensures bounds { IfSome result (λ b. IsBracket question.now zero.now AskMax (0 ∷ []) rounds b.base.items b.upper.items b.rounds b.stable) }
-    ensures lower { IfSome result (λ b. IsLowerTable question.now zero.now b.base.items b.lower.items b.choices.items b.ranks.items) }
-    ensures choices { IfSome result (λ b. AreChoices question.now b.lower.items b.choices.items) }
-    ensures ranks { IfSome result (λ b. AreRanks question.now b.lower.items b.choices.items b.ranks.items) }
-    ensures replies { IfSome result (λ b. AreRepliesTo question.now b.upper.items b.replies.items) }
+    ensures bounds { IfOk result (λ b. IsBracket question.now zero.now AskMax (0 ∷ []) rounds b.base.items b.upper.items b.rounds b.stable) }
+    ensures lower { IfOk result (λ b. IsLowerTable question.now zero.now b.base.items b.lower.items b.choices.items b.ranks.items) }
+    ensures choices { IfOk result (λ b. AreChoices question.now b.lower.items b.choices.items) }
+    ensures ranks { IfOk result (λ b. AreRanks question.now b.lower.items b.choices.items b.ranks.items) }
+    ensures replies { IfOk result (λ b. AreRepliesTo question.now b.upper.items b.replies.items) }
 {
     question.known();
     bracket_for(
@@ -135,7 +122,7 @@ fn agrees_with_the_tables<R: Threads + Sync>(
     requires units { All (λ v. v ≤ unit) table.now }
     requires asked { asked ≤ most_rounds }
 {
-    let found = value_bracket(rt, alloc, question, zero, asked, 1).ok_or("no bracket")?;
+    let found = value_bracket(rt, alloc, question, zero, asked, 1)?;
     let within = are_within(&found.upper, covalues);
     same(
         asked,
@@ -213,7 +200,7 @@ fn agrees_on_a_random_question<R: Threads + Sync>(
 ) -> Result<(), Fail> {
     let game = random_game(alloc, draw, &SMALL).ok_or("no game")?;
     let question = random_question(alloc, draw, &game).ok_or("no question")?;
-    let zero = zero_set_of(alloc, &question).ok_or("no zero set")?;
+    let zero = zero_set(alloc, &question)?;
     agrees(rt, alloc, &question, &zero)
 }
 

@@ -4,7 +4,7 @@ ghost use Rattle.std.specs.Prelude.{◌≤◌};
 ghost use Rattle.game_model.specs.Dual.{IsZeroSet};
 ghost use Rattle.bracket_engine.specs.Limits.{most_rounds};
 
-use crate::brackets::{value_bracket, zero_set_of};
+use crate::brackets::value_bracket;
 use expectations::same;
 use game_model::{Marks, Question};
 use inductive_check::{check_replies, check_upper};
@@ -13,6 +13,7 @@ use rank_certificate::check_ranks;
 use std::alloc::Global;
 use std::test::Fail;
 use std::thread::Threads;
+use zero_sets::zero_set;
 
 // Checks the certificates of a bracket of so many rounds, by one worker or by two.
 fn are_accepted<R: Threads + Sync>(
@@ -28,7 +29,7 @@ fn are_accepted<R: Threads + Sync>(
     requires some { 1 ≤ workers }
     requires few { workers ≤ 2 }
 {
-    let found = value_bracket(rt, alloc, question, zero, rounds, workers).ok_or("no bracket")?;
+    let found = value_bracket(rt, alloc, question, zero, rounds, workers)?;
     let upper = check_upper(question, &found.upper);
     let replies = check_replies(question, &found.upper, &found.replies);
     let ranks = check_ranks(question, &found.lower, &found.choices, &found.ranks);
@@ -60,7 +61,7 @@ fn are_accepted_of_a_random_question<R: Threads + Sync>(
 ) -> Result<(), Fail> {
     let game = random_game(alloc, draw, &SMALL).ok_or("no game")?;
     let question = random_question(alloc, draw, &game).ok_or("no question")?;
-    let zero = zero_set_of(alloc, &question).ok_or("no zero set")?;
+    let zero = zero_set(alloc, &question)?;
     are_accepted_after_few_and_many(rt, alloc, draw, &question, &zero)
 }
 

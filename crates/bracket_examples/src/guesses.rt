@@ -6,7 +6,7 @@ ghost use Rattle.game_model.specs.Query.{states};
 ghost use Rattle.game_model.specs.Dual.{IsZeroSet};
 ghost use Rattle.bracket_engine.specs.Limits.{most_rounds};
 
-use crate::brackets::{value_bracket, zero_set_of};
+use crate::brackets::value_bracket;
 use expectations::{holds, same};
 use game_model::{Marks, Question, Side, UNIT};
 use random_games::{
@@ -17,6 +17,7 @@ use std::alloc::Global;
 use std::test::Fail;
 use std::thread::Threads;
 use upper_guess::{Alone, Witnesses, guess, guess_with};
+use zero_sets::zero_set;
 
 // Compares an upper table with the lesser of a guess and of the unit less the co-values.
 fn are_the_lesser(uppers: &[u64], covalues: &[u64], guess: &[u64]) -> Result<(), Fail> {
@@ -56,11 +57,11 @@ fn up_steps<R: Threads + Sync>(
     alloc: Global,
     question: &Question<'_>,
     rounds: u32,
-) -> Option<u64>
+) -> Result<u64, Fail>
     requires { rounds ≤ most_rounds }
 {
     question.known();
-    let zero = zero_set_of(alloc, question)?;
+    let zero = zero_set(alloc, question)?;
     let found = value_bracket(rt, alloc, question, &zero, rounds, 1)?;
     let mut witnesses = Witnesses::none();
     let _guess = guess_with(
@@ -70,9 +71,22 @@ fn up_steps<R: Threads + Sync>(
         &zero,
         &found.base,
         &mut witnesses,
-    )
-    .ok()?;
-    Some(witnesses.up_steps())
+    )?;
+    Ok(witnesses.up_steps())
+}
+
+// Compares the up steps of the guess over the base after so many rounds.
+fn makes_up_steps<R: Threads + Sync>(
+    rt: &R,
+    alloc: Global,
+    question: &Question<'_>,
+    rounds: u32,
+    count: u64,
+) -> Result<(), Fail>
+    requires { rounds ≤ most_rounds }
+{
+    let made = up_steps(rt, alloc, question, rounds)?;
+    same(rounds, made, count)
 }
 
 // The guess makes exactly so many up steps: without an excess it takes two at the values of the coin loop, and after three
@@ -82,11 +96,8 @@ fn guesses_of_the_coin_loop_make_so_many_up_steps(rt: HostRuntime) -> Result<(),
     let alloc = rt.alloc();
     let game = coin_game(alloc).ok_or("the game")?;
     let question = coin_question(alloc, &game).ok_or("the question")?;
-    for (rounds, count) in [(3, 1), (1_000, 2)] {
-        let made = up_steps(&rt, alloc, &question, rounds).ok_or("memory")?;
-        same(rounds, made, count)?;
-    }
-    Ok(())
+    makes_up_steps(&rt, alloc, &question, 3, 1)?;
+    makes_up_steps(&rt, alloc, &question, 1_000, 2)
 }
 
 // The guess makes few up steps, after few rounds and after many.
@@ -97,7 +108,7 @@ fn are_few<R: Threads + Sync>(
     question: &Question<'_>,
 ) -> Result<(), Fail> {
     for rounds in [3, 1_000] {
-        let count = up_steps(rt, alloc, question, rounds).ok_or("memory")?;
+        let count = up_steps(rt, alloc, question, rounds)?;
         holds(
             format_args!("few: {name}, {count} after {rounds} rounds"),
             count <= FEW,

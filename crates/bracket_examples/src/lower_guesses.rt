@@ -5,7 +5,6 @@ ghost use Rattle.game_model.specs.Limits.{unit};
 ghost use Rattle.game_model.specs.Query.{states};
 ghost use Rattle.game_model.specs.Dual.{IsZeroSet};
 
-use crate::brackets::zero_set_of;
 use crate::counts::are_more;
 use crate::plain_ranks::{entry, plain_plan};
 use expectations::{holds, same};
@@ -17,6 +16,7 @@ use rank_certificate::{LowerGuess, RankPlan, lower_guess, rank_table};
 use std::alloc::Global;
 use std::test::Fail;
 use upper_guess::guess;
+use zero_sets::zero_set;
 
 /// Games with small weights, so that many values are equal.
 const EVEN: Shape = Shape {
@@ -253,7 +253,7 @@ fn agrees_over_quarters(
 fn agrees(alloc: Global, draw: &mut Draw, count: &mut Count) -> Result<(), Fail> {
     let game = random_game(alloc, draw, &EVEN).ok_or("no game")?;
     let question = random_question(alloc, draw, &game).ok_or("no question")?;
-    let zero = zero_set_of(alloc, &question).ok_or("no zero set")?;
+    let zero = zero_set(alloc, &question)?;
     agrees_over_sweeps(alloc, draw, &question, &zero, count)?;
     agrees_over_quarters(alloc, draw, &question, &zero, count)
 }

@@ -5,9 +5,8 @@ ghost use Rattle.game_model.specs.Limits.{unit};
 ghost use Rattle.game_model.specs.Query.{states};
 ghost use Rattle.game_model.specs.Dual.{IsZeroSet};
 
-use crate::brackets::{bracket_for, value_bracket, zero_set_of};
+use crate::brackets::{bracket_for, value_bracket};
 use crate::counts::are_more;
-use bracket_engine::Bracket;
 use distributions::read_number;
 use expectations::holds;
 use game_model::{Marks, Question};
@@ -17,6 +16,7 @@ use std::alloc::Global;
 use std::test::Fail;
 use std::thread::Threads;
 use verdicts::{Verdict, settle};
+use zero_sets::zero_set;
 
 /// Games with few states, since each bound is asked of each state.
 const FEW_STATES: Shape = Shape {
@@ -54,15 +54,13 @@ fn is_settled_rightly(
     )
 }
 
-// What a bracket says of a bound at a state.
-fn verdict_at(found: &Bracket, bound: &Bound, state: u32) -> Verdict
-    requires lower { state < length found.now.lower.items }
-    requires upper { state < length found.now.upper.items }
-    requires lower_units { All (λ v. v ≤ unit) found.now.lower.items }
-    requires upper_units { All (λ v. v ≤ unit) found.now.upper.items }
+// The entry of a state.
+fn entry_at(table: &[u64], state: u32) -> u64
+    requires state { state < length table.now }
+    requires units { All (λ v. v ≤ unit) table.now }
+    ensures { result ≤ unit }
 {
-    let place = state as usize;
-    settle(bound, found.lower[place], found.upper[place])
+    table[state as usize]
 }
 
 // Whether a run with this bound ended early. Where it did, it settles the bound at the state, and as wanted if that is
@@ -79,12 +77,12 @@ fn ends_rightly<R: Threads + Sync>(
     requires zero { IsZeroSet question.now zero.now }
     requires state { state < states question.now }
 {
-    let found = bracket_for(rt, alloc, question, zero, ASKED, 1, bound, &[state]).ok_or(
-        "no bracket",
-    )?;
+    let found = bracket_for(rt, alloc, question, zero, ASKED, 1, bound, &[state])?;
     let is_early = found.rounds < ASKED && !found.stable;
     if is_early {
-        is_settled_rightly(&bound, state, verdict_at(&found, &bound, state), wanted)?;
+        let lower = entry_at(&found.lower, state);
+        let upper = entry_at(&found.upper, state);
+        is_settled_rightly(&bound, state, settle(&bound, lower, upper), wanted)?;
     }
     Ok(is_early)
 }
@@ -121,12 +119,11 @@ fn early_ends_of<R: Threads + Sync>(
     question: &Question<'_>,
     bounds: &[Bound],
 ) -> Result<u32, Fail> {
-    let zero = zero_set_of(alloc, question).ok_or("no zero set")?;
-    let full = value_bracket(rt, alloc, question, &zero, 1_000, 1).ok_or("no bracket")?;
+    let zero = zero_set(alloc, question)?;
+    let full = value_bracket(rt, alloc, question, &zero, 1_000, 1)?;
     let mut early: u32 = 0;
     for state in 0..question.game().states() {
-        let place = state as usize;
-        let value = (full.lower[place], full.upper[place]);
+        let value = (entry_at(&full.lower, state), entry_at(&full.upper, state));
         let count = early_ends_at(rt, alloc, question, &zero, bounds, state, value)?;
         early = early.saturating_add(count);
     }

@@ -1,25 +1,27 @@
 //! Wrong certificates: what the audit accepts of them is right.
 
-ghost use Rattle.std.specs.Prelude.{◌≤◌, All, IfSome, length};
+ghost use Rattle.std.specs.Prelude.{◌≤◌, All, IfOk, length};
 ghost use Rattle.game_model.specs.Limits.{unit};
 ghost use Rattle.game_model.specs.Query.{states};
 ghost use Rattle.text_lines.specs.Limits.{most_bytes};
 ghost use Rattle.plan_text.specs.Entries.{HasStates};
 ghost use Rattle.bracket_engine.specs.Limits.{most_rounds};
 
-use crate::brackets::{value_bracket, zero_set_of};
+use crate::brackets::value_bracket;
 use crate::counts::are_more;
 use crate::known::{Known, MANY_ROUNDS, MOST_STEPS, is_right, known_of};
 use crate::mutants::{Line, lines_of, mutants, text_of};
 use certificate_audit::{AuditFault, audit};
 use expectations::{holds, same};
 use game_model::Question;
+use game_outside::OutOfMemory;
 use plan_text::{Plan, PlanCause, read_plan, write_plan};
 use random_games::{Draw, Shape, random_game, random_question};
 use std::alloc::Global;
 use std::test::Fail;
 use std::thread::Threads;
 use text_lines::MOST_BYTES;
+use zero_sets::zero_set;
 
 /// Games whose common denominator is 4 at most, since two choices at most toss a coin.
 const COINS: Shape = Shape {
@@ -123,15 +125,15 @@ fn plan_of<R: Threads + Sync>(
     alloc: Global,
     question: &Question<'_>,
     rounds: u32,
-) -> Option<Plan>
+) -> Result<Plan, OutOfMemory>
     requires { rounds ≤ most_rounds }
-    ensures lists { IfSome result (λ plan. HasStates plan (states question.now)) }
-    ensures lower { IfSome result (λ plan. All (λ v. v ≤ unit) plan.lower.items) }
-    ensures upper { IfSome result (λ plan. All (λ v. v ≤ unit) plan.upper.items) }
+    ensures lists { IfOk result (λ plan. HasStates plan (states question.now)) }
+    ensures lower { IfOk result (λ plan. All (λ v. v ≤ unit) plan.lower.items) }
+    ensures upper { IfOk result (λ plan. All (λ v. v ≤ unit) plan.upper.items) }
 {
-    let zero = zero_set_of(alloc, question)?;
+    let zero = zero_set(alloc, question)?;
     let found = value_bracket(rt, alloc, question, &zero, rounds, 1)?;
-    Some(Plan {
+    Ok(Plan {
         lower: found.lower,
         choices: found.choices,
         ranks: found.ranks,
@@ -162,7 +164,7 @@ fn lines_of_bracket<R: Threads + Sync>(
     requires { rounds ≤ most_rounds }
 {
     question.known();
-    let plan = plan_of(rt, alloc, question, rounds).ok_or("no bracket")?;
+    let plan = plan_of(rt, alloc, question, rounds)?;
     let lines = lines_of(alloc, &plan).ok_or("no memory")?;
     is_written(alloc, &plan, &lines)?;
     Ok(lines)
