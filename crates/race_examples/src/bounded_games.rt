@@ -1,6 +1,7 @@
 //! Bounded values compared with the definition, and with each other for every number of workers.
 
 use bounded_rounds::{Sweep, bounded};
+use expectations::same;
 use game_model::{Question, UNIT};
 use game_outside::OpenGate;
 use random_games::{Draw, Shape, opening_table, random_game, random_question};
@@ -75,35 +76,49 @@ fn is_swept_around(sweep: &Sweep, numerators: &[u128], one: u128, steps: u32) ->
     Some(all)
 }
 
-// Compares the bounds of up to four steps of a question with its values, by one worker and by several.
+// Compares the bounds of so many steps of a question with its values, by one worker and by several.
+fn has_its_values_after<R: Threads + Sync>(
+    rt: &R,
+    alloc: Global,
+    question: &Question<'_>,
+    table: &[u64],
+    steps: u32,
+) -> Option<bool> {
+    let alone = sweep_of(rt, alloc, question, table, steps, 1)?;
+    let shared = sweep_of(rt, alloc, question, table, steps, 3)?;
+    let same = alone.lower == shared.lower && alone.upper == shared.upper;
+    let exact = numerators(alloc, question, steps).ok()?;
+    let one = numerator_of_one(question, &exact)?;
+    Some(same && is_swept_around(&alone, &exact, one, steps)?)
+}
+
+// Compares the bounds of up to four steps of a question with its values.
 fn has_its_values<R: Threads + Sync>(
     rt: &R,
     alloc: Global,
     question: &Question<'_>,
-) -> Option<bool> {
-    let table = opening_table(alloc, question)?;
+) -> Result<(), Fail> {
+    let table = opening_table(alloc, question).ok_or("no table")?;
     for steps in 0..5 {
-        let exact = numerators(alloc, question, steps).ok()?;
-        let one = numerator_of_one(question, &exact)?;
-        let alone = sweep_of(rt, alloc, question, &table, steps, 1)?;
-        let shared = sweep_of(rt, alloc, question, &table, steps, 3)?;
-        let same = alone.lower == shared.lower && alone.upper == shared.upper;
-        if !same || !is_swept_around(&alone, &exact, one, steps)? {
-            return Some(false);
-        }
+        let agrees = has_its_values_after(rt, alloc, question, &table, steps);
+        same(steps, agrees, Some(true))?;
     }
-    Some(true)
+    Ok(())
+}
+
+// The same for a random question.
+fn agrees<R: Threads + Sync>(rt: &R, alloc: Global, draw: &mut Draw) -> Result<(), Fail> {
+    let game = random_game(alloc, draw, &FEW_TOSSES).ok_or("no game")?;
+    let question = random_question(alloc, draw, &game).ok_or("no question")?;
+    has_its_values(rt, alloc, &question)
 }
 
 #[test]
 fn bounded_values_of_random_games_are_those_of_the_definition(rt: HostRuntime) -> Result<(), Fail> {
     let alloc = rt.alloc();
     let mut draw = Draw::new(37);
-    for number in 0..300 {
-        let game = random_game(alloc, &mut draw, &FEW_TOSSES).ok_or("no game")?;
-        let question = random_question(alloc, &mut draw, &game).ok_or("no question")?;
-        let agrees = has_its_values(&rt, alloc, &question).ok_or("no values")?;
-        assert!(rt; agrees, "game {number}");
+    for _game in 0..300 {
+        agrees(&rt, alloc, &mut draw)?;
     }
     Ok(())
 }
