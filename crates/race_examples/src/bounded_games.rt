@@ -1,5 +1,10 @@
 //! Bounded values compared with the definition, and with each other for every number of workers.
 
+ghost use Rattle.std.specs.Prelude.{◌≡◌, ◌≤◌, All, length};
+ghost use Rattle.game_model.specs.Limits.{unit};
+ghost use Rattle.game_model.specs.Query.{states};
+ghost use Rattle.bounded_rounds.specs.Limits.{most_steps};
+
 use bounded_rounds::{Sweep, bounded};
 use expectations::same;
 use game_model::{Question, UNIT};
@@ -19,26 +24,6 @@ const FEW_TOSSES: Shape = Shape {
     most_weight: 2,
     most_tosses: 4,
 };
-
-// The sweep of so many steps by so many workers.
-fn sweep_of<R: Threads + Sync>(
-    rt: &R,
-    alloc: Global,
-    question: &Question<'_>,
-    table: &[u64],
-    steps: u32,
-    workers: u32,
-) -> Option<Sweep> {
-    let fits = table.len() == question.game().states() as usize
-        && table.iter().all(|value| *value <= UNIT)
-        && steps <= 1_000_000
-        && 1 <= workers
-        && workers <= 64;
-    if !fits {
-        return None;
-    }
-    bounded(rt, alloc, question, table, steps, workers, &OpenGate {}).ok()
-}
 
 // Whether the bounds of a value lie around it, each at most so many units from it; none where a product does not fit. The
 // value is a numerator over the numerator of 1.
@@ -83,9 +68,13 @@ fn has_its_values_after<R: Threads + Sync>(
     question: &Question<'_>,
     table: &[u64],
     steps: u32,
-) -> Option<bool> {
-    let alone = sweep_of(rt, alloc, question, table, steps, 1)?;
-    let shared = sweep_of(rt, alloc, question, table, steps, 3)?;
+) -> Option<bool>
+    requires many { length table.now ≡ states question.now }
+    requires units { All (λ v. v ≤ unit) table.now }
+    requires steps { steps ≤ most_steps }
+{
+    let alone = bounded(rt, alloc, question, table, steps, 1, &OpenGate {}).ok()?;
+    let shared = bounded(rt, alloc, question, table, steps, 3, &OpenGate {}).ok()?;
     let same = alone.lower == shared.lower && alone.upper == shared.upper;
     let exact = numerators(alloc, question, steps).ok()?;
     let one = numerator_of_one(question, &exact)?;
