@@ -1,6 +1,7 @@
 //! Brackets: those of one worker are plain sweeps.
 
-ghost use Rattle.std.specs.Prelude.{◌≤◌, ◌<◌, [], ◌∷◌, All, IfSome};
+ghost use Rattle.std.specs.Prelude.{◌≡◌, ◌≤◌, ◌<◌, [], ◌∷◌, All, IfOk, length};
+ghost use Rattle.game_model.specs.Limits.{unit};
 ghost use Rattle.game_model.specs.Query.{states};
 ghost use Rattle.game_model.specs.Dual.{IsZeroSet};
 ghost use Rattle.rpatl_syntax.specs.declared.formula.Bound.TheVariants.{AskMax};
@@ -13,27 +14,17 @@ ghost use Rattle.bracket_engine.specs.Replies.{AreRepliesTo};
 
 use crate::guesses::agrees_with_the_plain_guess;
 use bracket_engine::{Bracket, bracket};
+use expectations::same;
 use game_model::{Marks, Question, UNIT};
-use game_outside::OpenGate;
+use game_outside::{OpenGate, OutOfMemory};
 use inductive_check::swap;
 use random_games::{Draw, SMALL, opening_table, plain_sweep, random_game, random_question};
 use rpatl_syntax::Bound;
 use std::alloc::Global;
-use std::process::Abort;
 use std::test::Fail;
 use std::thread::Threads;
 use verdicts::{StopRule, settle};
 use zero_sets::zero_set;
-
-/// The zero set of a question.
-pub fn zero_set_of(alloc: Global, question: &Question<'_>) -> Option<Marks>
-    ensures { IfSome result (λ zero. IsZeroSet question.now zero) }
-{
-    match zero_set(alloc, question) {
-        Ok(zero) => Some(zero),
-        Err(_) => None,
-    }
-}
 
 /// The bracket of a question with a bound, by workers whom no gate stops, which may end where the bound is settled at
 /// the initial states.
@@ -46,22 +37,22 @@ pub fn bracket_for<R: Threads + Sync>(
     workers: u32,
     bound: Bound,
     initial: &[u32],
-) -> Option<Bracket>
+) -> Result<Bracket, OutOfMemory>
     requires zero { IsZeroSet question.now zero.now }
     requires rounds { rounds ≤ most_rounds }
     requires some { 1 ≤ workers }
     requires few { workers ≤ most_workers }
     requires initial { All (λ s. s < states question.now) initial.now }
-    ensures bounds { IfSome result (λ b. IsBracket question.now zero.now bound initial.now rounds b.base.items b.upper.items b.rounds b.stable) }
-    ensures lower { IfSome result (λ b. IsLowerTable question.now zero.now b.base.items b.lower.items b.choices.items b.ranks.items) }
-    ensures choices { IfSome result (λ b. AreChoices question.now b.lower.items b.choices.items) }
-    ensures ranks { IfSome result (λ b. AreRanks question.now b.lower.items b.choices.items b.ranks.items) }
-    ensures replies { IfSome result (λ b. AreRepliesTo question.now b.upper.items b.replies.items) }
+    ensures bounds { IfOk result (λ b. IsBracket question.now zero.now bound initial.now rounds b.base.items b.upper.items b.rounds b.stable) }
+    ensures lower { IfOk result (λ b. IsLowerTable question.now zero.now b.base.items b.lower.items b.choices.items b.ranks.items) }
+    ensures choices { IfOk result (λ b. AreChoices question.now b.lower.items b.choices.items) }
+    ensures ranks { IfOk result (λ b. AreRanks question.now b.lower.items b.choices.items b.ranks.items) }
+    ensures replies { IfOk result (λ b. AreRepliesTo question.now b.upper.items b.replies.items) }
 {
     let stop = StopRule::of_bound(bound, |lower, upper| {
         settle(&bound, lower, upper).is_settling()
     });
-    match bracket(
+    bracket(
         rt,
         alloc,
         question,
@@ -71,10 +62,7 @@ pub fn bracket_for<R: Threads + Sync>(
         &stop,
         initial,
         &OpenGate {},
-    ) {
-        Ok(found) => Some(found),
-        Err(_) => None,
-    }
+    )
 }
 
 /// The bracket of a question that asks for its value at state 0.
@@ -85,16 +73,16 @@ pub fn value_bracket<R: Threads + Sync>(
     zero: &Marks,
     rounds: u32,
     workers: u32,
-) -> Option<Bracket>
+) -> Result<Bracket, OutOfMemory>
     requires zero { IsZeroSet question.now zero.now }
     requires rounds { rounds ≤ most_rounds }
     requires some { 1 ≤ workers }
     requires few { workers ≤ most_workers }
-    ensures bounds { IfSome result (λ b. IsBracket question.now zero.now AskMax (0 ∷ []) rounds b.base.items b.upper.items b.rounds b.stable) }
-    ensures lower { IfSome result (λ b. IsLowerTable question.now zero.now b.base.items b.lower.items b.choices.items b.ranks.items) }
-    ensures choices { IfSome result (λ b. AreChoices question.now b.lower.items b.choices.items) }
-    ensures ranks { IfSome result (λ b. AreRanks question.now b.lower.items b.choices.items b.ranks.items) }
-    ensures replies { IfSome result (λ b. AreRepliesTo question.now b.upper.items b.replies.items) }
+    ensures bounds { IfOk result (λ b. IsBracket question.now zero.now AskMax (0 ∷ []) rounds b.base.items b.upper.items b.rounds b.stable) }
+    ensures lower { IfOk result (λ b. IsLowerTable question.now zero.now b.base.items b.lower.items b.choices.items b.ranks.items) }
+    ensures choices { IfOk result (λ b. AreChoices question.now b.lower.items b.choices.items) }
+    ensures ranks { IfOk result (λ b. AreRanks question.now b.lower.items b.choices.items b.ranks.items) }
+    ensures replies { IfOk result (λ b. AreRepliesTo question.now b.upper.items b.replies.items) }
 {
     question.known();
     bracket_for(
@@ -118,66 +106,102 @@ fn are_within(uppers: &[u64], covalues: &[u64]) -> bool {
             .all(|(upper, covalue)| *upper <= UNIT.saturating_sub(*covalue))
 }
 
+// Compares the bracket of one worker with the tables of plain sweeps after so many rounds; after two of them the guess too.
+fn agrees_with_the_tables<R: Threads + Sync>(
+    rt: &R,
+    alloc: Global,
+    question: &Question<'_>,
+    zero: &Marks,
+    table: &[u64],
+    covalues: &[u64],
+    asked: u32,
+    rounds: u32,
+) -> Result<(), Fail>
+    requires zero { IsZeroSet question.now zero.now }
+    requires many { length table.now ≡ states question.now }
+    requires units { All (λ v. v ≤ unit) table.now }
+    requires asked { asked ≤ most_rounds }
+{
+    let found = value_bracket(rt, alloc, question, zero, asked, 1)?;
+    let within = are_within(&found.upper, covalues);
+    same(
+        asked,
+        (found.base.as_slice(), found.rounds, within),
+        (table, rounds, true),
+    )?;
+    if asked == 2 {
+        return agrees_with_the_plain_guess(alloc, question, zero, table, covalues, &found.upper);
+    }
+    Ok(())
+}
+
 // Compares the brackets of one worker with plain sweeps on the question and on the swapped one, after each number of
 // rounds up to eleven or until both sweeps raise nothing.
-fn agrees_with_plain_sweeps<R: Abort + Threads + Sync>(
+fn agrees_with_plain_sweeps<R: Threads + Sync>(
     rt: &R,
     alloc: Global,
     question: &Question<'_>,
     other: &Question<'_>,
     zero: &Marks,
-) -> Option<()>
-    requires { IsZeroSet question.now zero.now }
+    table: &mut [u64],
+    covalues: &mut [u64],
+) -> Result<(), Fail>
+    requires zero { IsZeroSet question.now zero.now }
+    requires many { length table.old ≡ states question.now }
+    requires units { All (λ v. v ≤ unit) table.old }
+    requires comany { length covalues.old ≡ states other.now }
+    requires counits { All (λ v. v ≤ unit) covalues.old }
 {
-    let mut table = opening_table(alloc, question)?;
-    let mut covalues = opening_table(alloc, other)?;
     let mut rounds = 0;
     let mut ended = false;
     for asked in 0..12 {
-        let found = value_bracket(rt, alloc, question, zero, asked, 1)?;
-        assert_eq!(rt;
-            found.base.as_slice(),
-            table.as_slice(),
-            "after {asked} rounds"
-        );
-        let within = are_within(&found.upper, &covalues);
-        assert!(rt; within, "the upper table after {asked} rounds");
-        if asked == 2 {
-            agrees_with_the_plain_guess(
-                rt,
-                alloc,
-                question,
-                zero,
-                &table,
-                &covalues,
-                &found.upper,
-            )?;
-        }
-        assert_eq!(rt; found.rounds, rounds, "of {asked} rounds");
+        agrees_with_the_tables(rt, alloc, question, zero, table, covalues, asked, rounds)?;
         if rounds < asked {
-            return Some(());
+            return Ok(());
         }
         if !ended {
-            let raised = plain_sweep(question, table.as_mut_slice());
-            let coraised = plain_sweep(other, covalues.as_mut_slice());
+            let raised = plain_sweep(question, table);
+            let coraised = plain_sweep(other, covalues);
             ended = !raised && !coraised;
             rounds = asked + 1;
         }
     }
-    Some(())
+    Ok(())
+}
+
+// The same for a question, from its opening tables.
+fn agrees<R: Threads + Sync>(
+    rt: &R,
+    alloc: Global,
+    question: &Question<'_>,
+    zero: &Marks,
+) -> Result<(), Fail>
+    requires { IsZeroSet question.now zero.now }
+{
+    let other = swap(alloc, question, zero)?;
+    let mut table = opening_table(alloc, question).ok_or("no table")?;
+    let mut covalues = opening_table(alloc, &other).ok_or("no table")?;
+    agrees_with_plain_sweeps(
+        rt,
+        alloc,
+        question,
+        &other,
+        zero,
+        table.as_mut_slice(),
+        covalues.as_mut_slice(),
+    )
 }
 
 // The same for a random game and question.
-fn agrees_on_a_random_question<R: Abort + Threads + Sync>(
+fn agrees_on_a_random_question<R: Threads + Sync>(
     rt: &R,
     alloc: Global,
     draw: &mut Draw,
-) -> Option<()> {
-    let game = random_game(alloc, draw, &SMALL)?;
-    let question = random_question(alloc, draw, &game)?;
-    let zero = zero_set_of(alloc, &question)?;
-    let other = swap(alloc, &question, &zero).ok()?;
-    agrees_with_plain_sweeps(rt, alloc, &question, &other, &zero)
+) -> Result<(), Fail> {
+    let game = random_game(alloc, draw, &SMALL).ok_or("no game")?;
+    let question = random_question(alloc, draw, &game).ok_or("no question")?;
+    let zero = zero_set(alloc, &question)?;
+    agrees(rt, alloc, &question, &zero)
 }
 
 #[test]
@@ -185,7 +209,7 @@ fn marked_rounds_of_one_worker_are_plain_sweeps(rt: HostRuntime) -> Result<(), F
     let alloc = rt.alloc();
     let mut draw = Draw::new(7);
     for _model in 0..2_000 {
-        agrees_on_a_random_question(&rt, alloc, &mut draw).ok_or("no game, question or memory")?;
+        agrees_on_a_random_question(&rt, alloc, &mut draw)?;
     }
     Ok(())
 }

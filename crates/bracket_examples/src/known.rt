@@ -1,12 +1,14 @@
 //! What is known of a question without any certificate, and refutes wrong ones.
 
-use crate::brackets::{value_bracket, zero_set_of};
+use crate::brackets::value_bracket;
 use game_model::{Question, Side};
+use game_outside::OutOfMemory;
 use plan_text::Plan;
 use random_games::{planned_game, same_question};
 use reference_values::numerators;
 use std::alloc::Global;
 use std::thread::Threads;
+use zero_sets::zero_set;
 
 /// How many digits a value has behind its point; the unit is ten to this power.
 const UNIT_DIGITS: u32 = 15;
@@ -84,10 +86,14 @@ fn values_up_to(
 }
 
 // The upper bounds of a question after many rounds.
-fn upper_of<R: Threads + Sync>(rt: &R, alloc: Global, question: &Question<'_>) -> Option<Vec<u64>> {
-    let zero = zero_set_of(alloc, question)?;
+fn upper_of<R: Threads + Sync>(
+    rt: &R,
+    alloc: Global,
+    question: &Question<'_>,
+) -> Result<Vec<u64>, OutOfMemory> {
+    let zero = zero_set(alloc, question)?;
     let found = value_bracket(rt, alloc, question, &zero, MANY_ROUNDS, 1)?;
-    Some(found.upper)
+    Ok(found.upper)
 }
 
 /// What is known of a question.
@@ -97,7 +103,7 @@ pub fn known_of<R: Threads + Sync>(
     question: &Question<'_>,
 ) -> Option<Known> {
     let (values, steps) = values_up_to(alloc, question, MOST_STEPS)?;
-    let upper = upper_of(rt, alloc, question)?;
+    let upper = upper_of(rt, alloc, question).ok()?;
     Some(Known {
         values,
         steps,
@@ -145,7 +151,7 @@ fn is_reached<R: Threads + Sync>(
 ) -> Option<bool> {
     let game = planned_game(alloc, question, Side::Max, &plan.choices)?;
     let played = same_question(alloc, question, &game)?;
-    let upper = upper_of(rt, alloc, &played)?;
+    let upper = upper_of(rt, alloc, &played).ok()?;
     Some(are_below(&plan.lower, &upper))
 }
 

@@ -33,23 +33,23 @@ pub struct Line {
     pub reply: Option<u32>,
 }
 
+// What a certificate says of the state at a place.
+fn line_at(plan: &Plan, place: usize) -> Option<Line> {
+    Some(Line {
+        state: u32::try_from(place).ok()?,
+        lower: *plan.lower.get(place)?,
+        choice: *plan.choices.get(place)?,
+        rank: *plan.ranks.get(place)?,
+        upper: *plan.upper.get(place)?,
+        reply: *plan.replies.get(place)?,
+    })
+}
+
 /// The lines of a certificate.
 pub fn lines_of(alloc: Global, plan: &Plan) -> Option<Vec<Line>> {
-    let bounds = plan.lower.iter().zip(plan.upper.iter());
-    let choices = plan.choices.iter().zip(plan.replies.iter());
     let mut lines = Vec::new(alloc);
-    let mut state = 0_u32;
-    for (((lower, upper), (choice, reply)), rank) in bounds.zip(choices).zip(plan.ranks.iter()) {
-        let line = Line {
-            state,
-            lower: *lower,
-            choice: *choice,
-            rank: *rank,
-            upper: *upper,
-            reply: *reply,
-        };
-        lines.push(line).ok()?;
-        state = state.checked_add(1)?;
+    for place in 0..plan.lower.len() {
+        lines.push(line_at(plan, place)?).ok()?;
     }
     Some(lines)
 }
@@ -83,28 +83,53 @@ fn other_choices(choice: Option<u32>) -> &'static [Option<u32>] {
     }
 }
 
+// Adds a line, unless it is this one.
+fn add_other(made: &mut Vec<Line>, line: Line, other: Line) -> Option<()> {
+    if other != line {
+        made.push(other).ok()?;
+    }
+    Some(())
+}
+
+// Adds this line with another bound, each in turn.
+fn add_bounds(made: &mut Vec<Line>, line: Line) -> Option<()> {
+    for lower in other_values(line.lower) {
+        add_other(made, line, Line { lower, ..line })?;
+    }
+    for upper in other_values(line.upper) {
+        add_other(made, line, Line { upper, ..line })?;
+    }
+    Some(())
+}
+
+// Adds this line with another choice of one side, each in turn.
+fn add_choices(made: &mut Vec<Line>, line: Line) -> Option<()> {
+    for choice in other_choices(line.choice) {
+        let choice = *choice;
+        add_other(made, line, Line { choice, ..line })?;
+    }
+    for reply in other_choices(line.reply) {
+        let reply = *reply;
+        add_other(made, line, Line { reply, ..line })?;
+    }
+    Some(())
+}
+
+// Adds this line with another rank, each in turn.
+fn add_ranks(made: &mut Vec<Line>, line: Line) -> Option<()> {
+    for rank in other_ranks(line.rank) {
+        add_other(made, line, Line { rank, ..line })?;
+    }
+    Some(())
+}
+
 // This line with another entry in one of its fields, each in turn.
 fn changed_lines(alloc: Global, line: Line) -> Option<Vec<Line>> {
-    let lowers = other_values(line.lower).into_iter();
-    let uppers = other_values(line.upper).into_iter();
-    let choices = other_choices(line.choice).iter();
-    let replies = other_choices(line.reply).iter();
-    let ranks = other_ranks(line.rank).into_iter();
-    lowers
-        .map(|lower| Line { lower, ..line })
-        .chain(uppers.map(|upper| Line { upper, ..line }))
-        .chain(choices.map(|choice| Line {
-            choice: *choice,
-            ..line
-        }))
-        .chain(replies.map(|reply| Line {
-            reply: *reply,
-            ..line
-        }))
-        .chain(ranks.map(|rank| Line { rank, ..line }))
-        .filter(|other| *other != line)
-        .collect::<Vec<Line>>(alloc)
-        .ok()
+    let mut made = Vec::new(alloc);
+    add_bounds(&mut made, line)?;
+    add_choices(&mut made, line)?;
+    add_ranks(&mut made, line)?;
+    Some(made)
 }
 
 // Adds the certificates with the line at a place changed.
@@ -123,6 +148,21 @@ fn add_changes(
     Some(())
 }
 
+// Adds the certificate with these lines at a place and the next one.
+fn add_pair(
+    alloc: Global,
+    made: &mut Vec<Vec<Line>>,
+    lines: &[Line],
+    place: usize,
+    pair: [Line; 2],
+) -> Option<()> {
+    let [first, second] = pair;
+    let mut mutant = lines.to_vec(alloc).ok()?;
+    *mutant.get_mut(place)? = first;
+    *mutant.get_mut(place.saturating_add(1))? = second;
+    made.push(mutant).ok()
+}
+
 // Adds the certificates with the line at a place and the next one, or what is said of their states, in the other order.
 fn add_swaps(
     alloc: Global,
@@ -131,8 +171,7 @@ fn add_swaps(
     place: usize,
     line: Line,
 ) -> Option<()> {
-    let next = place.saturating_add(1);
-    let Some(behind) = lines.get(next).copied() else {
+    let Some(behind) = lines.get(place.saturating_add(1)).copied() else {
         return Some(());
     };
     let here = Line {
@@ -143,13 +182,8 @@ fn add_swaps(
         state: behind.state,
         ..line
     };
-    for (first, second) in [(behind, line), (here, there)] {
-        let mut mutant = lines.to_vec(alloc).ok()?;
-        *mutant.get_mut(place)? = first;
-        *mutant.get_mut(next)? = second;
-        made.push(mutant).ok()?;
-    }
-    Some(())
+    add_pair(alloc, made, lines, place, [behind, line])?;
+    add_pair(alloc, made, lines, place, [here, there])
 }
 
 /// The certificates that are made of one: with one line changed, or two neighbouring lines, or what is said of two

@@ -5,17 +5,18 @@ ghost use Rattle.game_model.specs.Limits.{unit};
 ghost use Rattle.game_model.specs.Query.{states};
 ghost use Rattle.game_model.specs.Dual.{IsZeroSet};
 
-use crate::brackets::{bracket_for, value_bracket, zero_set_of};
-use bracket_engine::Bracket;
+use crate::brackets::{bracket_for, value_bracket};
+use crate::counts::are_more;
 use distributions::read_number;
+use expectations::holds;
 use game_model::{Marks, Question};
 use random_games::{Draw, SMALL, Shape, random_game, random_question};
 use rpatl_syntax::Bound;
 use std::alloc::Global;
-use std::process::Abort;
 use std::test::Fail;
 use std::thread::Threads;
 use verdicts::{Verdict, settle};
+use zero_sets::zero_set;
 
 /// Games with few states, since each bound is asked of each state.
 const FEW_STATES: Shape = Shape {
@@ -39,20 +40,32 @@ fn bounds(alloc: Global) -> Option<Vec<Bound>> {
     Some(bounds)
 }
 
-// What a bracket says of a bound at a state.
-fn verdict_at(found: &Bracket, bound: &Bound, state: u32) -> Verdict
-    requires lower { state < length found.now.lower.items }
-    requires upper { state < length found.now.upper.items }
-    requires lower_units { All (λ v. v ≤ unit) found.now.lower.items }
-    requires upper_units { All (λ v. v ≤ unit) found.now.upper.items }
+// A verdict settles a bound, and as wanted if that is settled.
+fn is_settled_rightly(
+    bound: &Bound,
+    state: u32,
+    said: Verdict,
+    wanted: Verdict,
+) -> Result<(), Fail> {
+    let is_right = said == wanted || wanted == Verdict::Undecided;
+    holds(
+        format_args!("{bound:?} at {state} is settled, and as wanted"),
+        said.is_settling() && is_right,
+    )
+}
+
+// The entry of a state.
+fn entry_at(table: &[u64], state: u32) -> u64
+    requires state { state < length table.now }
+    requires units { All (λ v. v ≤ unit) table.now }
+    ensures { result ≤ unit }
 {
-    let place = state as usize;
-    settle(bound, found.lower[place], found.upper[place])
+    table[state as usize]
 }
 
 // Whether a run with this bound ended early. Where it did, it settles the bound at the state, and as wanted if that is
 // settled.
-fn ends_rightly<R: Abort + Threads + Sync>(
+fn ends_rightly<R: Threads + Sync>(
     rt: &R,
     alloc: Global,
     question: &Question<'_>,
@@ -60,44 +73,73 @@ fn ends_rightly<R: Abort + Threads + Sync>(
     bound: Bound,
     state: u32,
     wanted: Verdict,
-) -> Option<bool>
+) -> Result<bool, Fail>
     requires zero { IsZeroSet question.now zero.now }
     requires state { state < states question.now }
 {
     let found = bracket_for(rt, alloc, question, zero, ASKED, 1, bound, &[state])?;
     let is_early = found.rounds < ASKED && !found.stable;
     if is_early {
-        let said = verdict_at(&found, &bound, state);
-        assert!(rt; said.is_settling(), "{bound:?} at {state}");
-        assert!(rt;
-            said == wanted || wanted == Verdict::Undecided,
-            "{bound:?} at {state}"
-        );
+        let lower = entry_at(&found.lower, state);
+        let upper = entry_at(&found.upper, state);
+        is_settled_rightly(&bound, state, settle(&bound, lower, upper), wanted)?;
     }
-    Some(is_early)
+    Ok(is_early)
 }
 
-// Tries these bounds at all states of a random game and question. It gives how many runs ended early.
-fn early_ends<R: Abort + Threads + Sync>(
+// Tries these bounds at a state with these bounds of its value. It gives how many runs ended early.
+fn early_ends_at<R: Threads + Sync>(
+    rt: &R,
+    alloc: Global,
+    question: &Question<'_>,
+    zero: &Marks,
+    bounds: &[Bound],
+    state: u32,
+    value: (u64, u64),
+) -> Result<u32, Fail>
+    requires zero { IsZeroSet question.now zero.now }
+    requires state { state < states question.now }
+    requires lower { value.0 ≤ unit }
+    requires upper { value.1 ≤ unit }
+{
+    let (lower, upper) = value;
+    let mut early: u32 = 0;
+    for bound in bounds {
+        let wanted = settle(bound, lower, upper);
+        let is_early = ends_rightly(rt, alloc, question, zero, *bound, state, wanted)?;
+        early = early.saturating_add(u32::from(is_early));
+    }
+    Ok(early)
+}
+
+// The same at all states of a question.
+fn early_ends_of<R: Threads + Sync>(
+    rt: &R,
+    alloc: Global,
+    question: &Question<'_>,
+    bounds: &[Bound],
+) -> Result<u32, Fail> {
+    let zero = zero_set(alloc, question)?;
+    let full = value_bracket(rt, alloc, question, &zero, 1_000, 1)?;
+    let mut early: u32 = 0;
+    for state in 0..question.game().states() {
+        let value = (entry_at(&full.lower, state), entry_at(&full.upper, state));
+        let count = early_ends_at(rt, alloc, question, &zero, bounds, state, value)?;
+        early = early.saturating_add(count);
+    }
+    Ok(early)
+}
+
+// The same of a random game and question.
+fn early_ends<R: Threads + Sync>(
     rt: &R,
     alloc: Global,
     draw: &mut Draw,
     bounds: &[Bound],
-) -> Option<u32> {
-    let game = random_game(alloc, draw, &FEW_STATES)?;
-    let question = random_question(alloc, draw, &game)?;
-    let zero = zero_set_of(alloc, &question)?;
-    let full = value_bracket(rt, alloc, &question, &zero, 1_000, 1)?;
-    let mut early: u32 = 0;
-    for state in 0..question.game().states() {
-        for bound in bounds {
-            let wanted = verdict_at(&full, bound, state);
-            if ends_rightly(rt, alloc, &question, &zero, *bound, state, wanted)? {
-                early = early.saturating_add(1);
-            }
-        }
-    }
-    Some(early)
+) -> Result<u32, Fail> {
+    let game = random_game(alloc, draw, &FEW_STATES).ok_or("no game")?;
+    let question = random_question(alloc, draw, &game).ok_or("no question")?;
+    early_ends_of(rt, alloc, &question, bounds)
 }
 
 #[test]
@@ -107,11 +149,7 @@ fn a_threshold_ends_a_run_early_and_rightly(rt: HostRuntime) -> Result<(), Fail>
     let mut draw = Draw::new(13);
     let mut early: u32 = 0;
     for _model in 0..300 {
-        let count = early_ends(&rt, alloc, &mut draw, &bounds).ok_or(
-            "no game, question or memory",
-        )?;
-        early = early.saturating_add(count);
+        early = early.saturating_add(early_ends(&rt, alloc, &mut draw, &bounds)?);
     }
-    assert!(rt; early > 100, "{early} runs ended early");
-    Ok(())
+    are_more("runs ended early", early, 100)
 }

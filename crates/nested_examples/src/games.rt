@@ -14,6 +14,7 @@ use crate::formulas::{Head, Tree};
 use crate::models::{Model, random_model, random_trapping_game};
 use crate::tally::Tally;
 use crate::values::{Exact, share_of};
+use expectations::{holds, same};
 use game_outside::OpenGate;
 use nested_truth::{Nested, nested};
 use random_games::Draw;
@@ -23,7 +24,6 @@ use rpatl_syntax::laws::{
 };
 use rpatl_syntax::{Formula, read_formula};
 use std::alloc::Global;
-use std::process::Abort;
 use std::test::Fail;
 use std::thread::Threads;
 
@@ -114,38 +114,106 @@ fn answer_of<R: Threads + Sync>(
     }
 }
 
+// Whether bounds lie around the value at a state, and near it where the steps are bounded and nothing inside is undecided.
+fn lie_right(
+    valued: &Valued<'_>,
+    undecided: u32,
+    state: usize,
+    lower: u64,
+    upper: u64,
+) -> Option<bool> {
+    let exact = &valued.exact;
+    let around = lie_around(lower, upper, exact, state)?;
+    match steps_of(valued.head.way) {
+        Some(steps) if undecided == 0 => {
+            Some(around && lie_near(lower, upper, exact, state, steps)?)
+        }
+        _ => Some(around),
+    }
+}
+
+// Compares what bounds say of a threshold at a state with what its value keeps. It tells whether they leave it open.
+fn compare_verdict(
+    valued: &Valued<'_>,
+    text: &str,
+    state: usize,
+    lower: u64,
+    upper: u64,
+    tally: &mut Tally,
+) -> Result<bool, Fail> {
+    let asked = valued.head.asked;
+    if share_of(asked).is_none() {
+        return Ok(false);
+    }
+    let verdict = said(asked, lower, upper);
+    let truth = valued.exact.keeps(state, asked).ok_or("no products")?;
+    tally.note_verdict(verdict);
+    holds(format_args!("{text} at {state}"), verdict != Some(!truth))?;
+    Ok(verdict.is_none())
+}
+
+// Compares bounds at a state with its value, and what they say of what is asked. It tells whether they leave it open.
+fn compare_state(
+    valued: &Valued<'_>,
+    undecided: u32,
+    text: &str,
+    state: usize,
+    lower: u64,
+    upper: u64,
+    tally: &mut Tally,
+) -> Result<bool, Fail> {
+    let right = lie_right(valued, undecided, state, lower, upper).ok_or("no products")?;
+    holds(
+        format_args!("{text} at {state}: {lower} and {upper}"),
+        right,
+    )?;
+    tally.note_value(&valued.exact, state).ok_or("no value")?;
+    compare_verdict(valued, text, state, lower, upper, tally)
+}
+
 // Compares an answer with the values at each state: bounds lie around them, and verdicts are true. It gives at how many states
 // the bounds leave open what is asked.
-fn compare_bounds<R: Abort>(
-    rt: &R,
+fn compare_bounds(
     valued: &Valued<'_>,
     answer: &Nested,
     text: &str,
     tally: &mut Tally,
-) -> Option<u32> {
-    let (head, exact) = (valued.head, &valued.exact);
+) -> Result<u32, Fail> {
     let mut open: u32 = 0;
     for (state, (lower, upper)) in answer.lower.iter().zip(answer.upper.iter()).enumerate() {
-        let around = lie_around(*lower, *upper, exact, state)?;
-        assert!(rt; around, "{text} at {state}: {lower} and {upper}");
-        if let (Some(steps), 0) = (steps_of(head.way), answer.undecided) {
-            let near = lie_near(*lower, *upper, exact, state, steps)?;
-            assert!(rt; near, "{text} at {state}: {lower} and {upper}");
-        }
-        tally.note_value(exact, state)?;
-        if share_of(head.asked).is_some() {
-            let verdict = said(head.asked, *lower, *upper);
-            let truth = exact.keeps(state, head.asked)?;
-            assert!(rt; verdict != Some(!truth), "{text} at {state}");
-            tally.note_verdict(verdict);
-            open = open.saturating_add(u32::from(verdict.is_none()));
-        }
+        let left = compare_state(valued, answer.undecided, text, state, *lower, *upper, tally)?;
+        open = open.saturating_add(u32::from(left));
     }
-    Some(open)
+    Ok(open)
 }
 
-// Compares the answer to a formula with its values. It gives the answer, and at how many states it is left open.
-fn compare<R: Abort + Threads + Sync>(
+// How many formulas are inside one, how many of their verdicts are undecided, and at how many states it is left open itself.
+#[derive(Clone, Copy)]
+struct Compared {
+    inner: u32,
+    undecided: u32,
+    open: u32,
+}
+
+// Compares an answer of so many states with the values of its formula.
+fn compare_answer(
+    valued: &Valued<'_>,
+    answer: &Nested,
+    states: usize,
+    text: &str,
+    tally: &mut Tally,
+) -> Result<Compared, Fail> {
+    let entries = (answer.initial.len(), answer.lower.len(), answer.upper.len());
+    same("entries", entries, (states, states, states))?;
+    Ok(Compared {
+        inner: answer.inner,
+        undecided: answer.undecided,
+        open: compare_bounds(valued, answer, text, tally)?,
+    })
+}
+
+// Compares the answer to a formula with its values.
+fn compare<R: Threads + Sync>(
     rt: &R,
     alloc: Global,
     model: &Model<'_>,
@@ -153,7 +221,7 @@ fn compare<R: Abort + Threads + Sync>(
     rounds: u32,
     workers: u32,
     tally: &mut Tally,
-) -> Result<(Nested, u32), Fail>
+) -> Result<Compared, Fail>
     requires rounds { rounds ≤ most_rounds }
     requires some { 1 ≤ workers }
     requires few { workers ≤ most_workers }
@@ -161,17 +229,12 @@ fn compare<R: Abort + Threads + Sync>(
     let text = valued.formula.text(alloc, 0)?;
     let text = text.as_str();
     let answer = answer_of(rt, alloc, model, text, rounds, workers)?;
-    let states = model.seen.of_second.len();
-    assert_eq!(rt; answer.initial.len(), states);
-    assert_eq!(rt; answer.lower.len(), states);
-    assert_eq!(rt; answer.upper.len(), states);
-    let open = compare_bounds(rt, valued, &answer, text, tally).ok_or("no products")?;
-    Ok((answer, open))
+    compare_answer(valued, &answer, model.seen.of_second.len(), text, tally)
 }
 
 // Compares the answers to a formula and to each one inside, asked by itself. What is undecided inside is what these leave
 // open; workers that race may leave open something else.
-fn compare_all<R: Abort + Threads + Sync>(
+fn compare_all<R: Threads + Sync>(
     rt: &R,
     alloc: Global,
     model: &Model<'_>,
@@ -187,22 +250,38 @@ fn compare_all<R: Abort + Threads + Sync>(
     let [outermost, inside @ ..] = all else {
         return Err(Fail::new("no formula"));
     };
-    let (answer, _) = compare(rt, alloc, model, outermost, rounds, workers, tally)?;
+    let found = compare(rt, alloc, model, outermost, rounds, workers, tally)?;
     let mut open: u32 = 0;
     for one in inside {
-        let (_, count) = compare(rt, alloc, model, one, rounds, workers, tally)?;
+        let count = compare(rt, alloc, model, one, rounds, workers, tally)?.open;
         open = open.saturating_add(count);
     }
-    assert_eq!(rt; answer.inner as usize, inside.len());
+    same("formulas inside", found.inner as usize, inside.len())?;
+    tally.note_inside(found.inner, found.undecided);
     if workers == 1 {
-        assert_eq!(rt; answer.undecided, open);
+        return same("undecided inside", found.undecided, open);
     }
-    tally.note_inside(&answer);
     Ok(())
 }
 
-// Compares the answers of ample rounds and of few for a game and a formula that are drawn.
-fn compare_drawn<R: Abort + Threads + Sync>(
+// Compares the answers of ample rounds and of few for a formula.
+fn compare_formula<R: Threads + Sync>(
+    rt: &R,
+    alloc: Global,
+    model: &Model<'_>,
+    formula: &Tree,
+    number: u32,
+    ample: &mut Tally,
+    few: &mut Tally,
+) -> Result<(), Fail> {
+    let all = with_values(alloc, model, formula)?;
+    let workers = if number % 4 == 3 { 3 } else { 1 };
+    compare_all(rt, alloc, model, &all, AMPLE, workers, ample)?;
+    compare_all(rt, alloc, model, &all, number % 3, 1, few)
+}
+
+// The same for a game and a formula that are drawn.
+fn compare_drawn<R: Threads + Sync>(
     rt: &R,
     alloc: Global,
     draw: &mut Draw,
@@ -213,10 +292,7 @@ fn compare_drawn<R: Abort + Threads + Sync>(
     let game = random_trapping_game(alloc, draw).ok_or("no game")?;
     let model = random_model(alloc, draw, &game)?;
     let formula = random_formula(alloc, draw).ok_or("no formula")?;
-    let all = with_values(alloc, &model, &formula)?;
-    let workers = if number % 4 == 3 { 3 } else { 1 };
-    compare_all(rt, alloc, &model, &all, AMPLE, workers, ample)?;
-    compare_all(rt, alloc, &model, &all, number % 3, 1, few)
+    compare_formula(rt, alloc, &model, &formula, number, ample, few)
 }
 
 #[test]
@@ -228,7 +304,6 @@ fn answers_with_formulas_inside_are_right_over_random_games(rt: HostRuntime) -> 
     for number in 0..500 {
         compare_drawn(&rt, alloc, &mut draw, number, &mut ample, &mut few)?;
     }
-    ample.is_telling(&rt, 300, 0);
-    few.is_telling(&rt, 200, 30);
-    Ok(())
+    ample.is_telling(300, 0)?;
+    few.is_telling(200, 30)
 }

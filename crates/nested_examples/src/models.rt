@@ -1,16 +1,12 @@
 //! Random games of two players whose states have labels, the same for the same seed.
 
-ghost use Rattle.std.specs.Prelude.{◌≡◌, ◌≤◌, IfOk, length};
-ghost use Rattle.text_lines.specs.Limits.{most_bytes};
+ghost use Rattle.std.specs.Prelude.{◌≡◌, IfOk, length};
 
 use crate::values::Seen;
 use game_model::Game;
-use label_reader::laws::{
-    labels_are_those_that_a_text_denotes, owners_are_those_that_a_text_denotes,
-};
 use label_reader::{Labels, Owners, read_labels, read_owners};
 use random_games::{Draft, Draw, Shape, random_edges};
-use std::alloc::Global;
+use std::alloc::{AllocError, Global};
 use std::test::Fail;
 use text_lines::MOST_BYTES;
 
@@ -67,24 +63,34 @@ fn random_marks(alloc: Global, draw: &mut Draw, states: u32, often: u32) -> Opti
     Some(marks)
 }
 
-// The label file: each state is initial.
-fn text_of_labels(alloc: Global, has_a: &[bool], has_b: &[bool]) -> Result<String, Fail> {
+// The line of a state in the label file: each is initial.
+fn label_line(alloc: Global, state: usize, is_a: bool, is_b: bool) -> Result<String, AllocError> {
+    let a = if is_a { " 1" } else { "" };
+    let b = if is_b { " 2" } else { "" };
+    format!(in alloc; "{state}: 0{a}{b}\n")
+}
+
+// The label file.
+fn text_of_labels(alloc: Global, has_a: &[bool], has_b: &[bool]) -> Result<String, AllocError> {
     let mut text = String::from_str(alloc, "0=\"init\" 1=\"a\" 2=\"b\"\n")?;
     for (state, (is_a, is_b)) in has_a.iter().zip(has_b.iter()).enumerate() {
-        let a = if *is_a { " 1" } else { "" };
-        let b = if *is_b { " 2" } else { "" };
-        let line = format!(in alloc; "{state}: 0{a}{b}\n")?;
+        let line = label_line(alloc, state, *is_a, *is_b)?;
         text.push_str(line.as_str())?;
     }
     Ok(text)
 }
 
+// The line of a state in the owner file.
+fn owner_line(alloc: Global, state: usize, is_second: bool) -> Result<String, AllocError> {
+    let player = if is_second { "1" } else { "0" };
+    format!(in alloc; "{state}: {player}\n")
+}
+
 // The owner file.
-fn text_of_owners(alloc: Global, of_second: &[bool]) -> Result<String, Fail> {
+fn text_of_owners(alloc: Global, of_second: &[bool]) -> Result<String, AllocError> {
     let mut text = String::from_str(alloc, "0=\"p1\" 1=\"p2\"\n")?;
     for (state, is_second) in of_second.iter().enumerate() {
-        let player = if *is_second { "1" } else { "0" };
-        let line = format!(in alloc; "{state}: {player}\n")?;
+        let line = owner_line(alloc, state, *is_second)?;
         text.push_str(line.as_str())?;
     }
     Ok(text)
@@ -92,11 +98,11 @@ fn text_of_owners(alloc: Global, of_second: &[bool]) -> Result<String, Fail> {
 
 // The labels that a text denotes.
 fn labels_of(alloc: Global, text: &[u8], states: u32) -> Result<Labels, Fail>
-    requires { length text.now ≤ most_bytes }
     ensures { IfOk result (λ labels. labels.states ≡ states) }
 {
-    // A law: this call does nothing.
-    labels_are_those_that_a_text_denotes();
+    if text.len() > MOST_BYTES {
+        return Err(Fail::new("the labels are too long"));
+    }
     match read_labels(alloc, text, states) {
         Ok(labels) => Ok(labels),
         Err(_) => Err(Fail::new("the labels are refused")),
@@ -105,37 +111,49 @@ fn labels_of(alloc: Global, text: &[u8], states: u32) -> Result<Labels, Fail>
 
 // The owners that a text denotes.
 fn owners_of(alloc: Global, text: &[u8], states: u32) -> Result<Owners, Fail>
-    requires { length text.now ≤ most_bytes }
     ensures { IfOk result (λ owners. length owners.owners ≡ states) }
 {
-    // A law: this call does nothing.
-    owners_are_those_that_a_text_denotes();
+    if text.len() > MOST_BYTES {
+        return Err(Fail::new("the owners are too long"));
+    }
     match read_owners(alloc, text, states) {
         Ok(owners) => Ok(owners),
         Err(_) => Err(Fail::new("the owners are refused")),
     }
 }
 
+// A game with marks that are drawn.
+fn random_seen<'g>(alloc: Global, draw: &mut Draw, game: &'g Game) -> Option<Seen<'g>> {
+    let states = game.states();
+    Some(Seen {
+        game,
+        of_second: random_marks(alloc, draw, states, 2)?,
+        has_a: random_marks(alloc, draw, states, 3)?,
+        has_b: random_marks(alloc, draw, states, 3)?,
+    })
+}
+
+// The labels of marked states, read from their file.
+fn labels_of_marks(alloc: Global, seen: &Seen<'_>) -> Result<Labels, Fail>
+    ensures { IfOk result (λ labels. labels.states ≡ length seen.now.game.now) }
+{
+    let text = text_of_labels(alloc, &seen.has_a, &seen.has_b)?;
+    labels_of(alloc, text.as_bytes(), seen.game.states())
+}
+
+// The owners of marked states, read from their file.
+fn owners_of_marks(alloc: Global, seen: &Seen<'_>) -> Result<Owners, Fail>
+    ensures { IfOk result (λ owners. length owners.owners ≡ length seen.now.game.now) }
+{
+    let text = text_of_owners(alloc, &seen.of_second)?;
+    owners_of(alloc, text.as_bytes(), seen.game.states())
+}
+
 /// A game with owners and labels that are drawn.
 pub fn random_model<'g>(alloc: Global, draw: &mut Draw, game: &'g Game) -> Result<Model<'g>, Fail> {
-    let states = game.states();
-    let of_second = random_marks(alloc, draw, states, 2).ok_or("no owners")?;
-    let has_a = random_marks(alloc, draw, states, 3).ok_or("no labels")?;
-    let has_b = random_marks(alloc, draw, states, 3).ok_or("no labels")?;
-    let labels_text = text_of_labels(alloc, &has_a, &has_b)?;
-    let owners_text = text_of_owners(alloc, &of_second)?;
-    let (labels_text, owners_text) = (labels_text.as_bytes(), owners_text.as_bytes());
-    if labels_text.len() > MOST_BYTES || owners_text.len() > MOST_BYTES {
-        return Err(Fail::new("the texts are too long"));
-    }
-    let labels = labels_of(alloc, labels_text, states)?;
-    let owners = owners_of(alloc, owners_text, states)?;
-    let seen = Seen {
-        game,
-        of_second,
-        has_a,
-        has_b,
-    };
+    let seen = random_seen(alloc, draw, game).ok_or("no marks")?;
+    let labels = labels_of_marks(alloc, &seen)?;
+    let owners = owners_of_marks(alloc, &seen)?;
     Ok(Model {
         seen,
         labels,

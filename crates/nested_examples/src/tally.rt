@@ -1,8 +1,8 @@
 //! What a comparison of many answers to formulas with others inside came upon, so that it shows something.
 
 use crate::values::Exact;
-use nested_truth::Nested;
-use std::process::Abort;
+use expectations::holds;
+use std::test::Fail;
 
 /// What was found.
 #[derive(Clone, Copy)]
@@ -20,6 +20,7 @@ pub struct Tally {
 }
 
 impl Tally {
+    /// Nothing yet.
     pub fn new() -> Tally {
         Tally {
             settled: 0,
@@ -31,6 +32,7 @@ impl Tally {
         }
     }
 
+    /// One more value: that at a state, which counts where it is neither 0 nor 1. None where there is no such state.
     pub fn note_value(&mut self, exact: &Exact, state: usize) -> Option<()> {
         let value = *exact.numerators.get(state)?;
         if value != 0 && value != exact.one {
@@ -39,6 +41,7 @@ impl Tally {
         Some(())
     }
 
+    /// One more verdict; none is an undecided one.
     pub fn note_verdict(&mut self, verdict: Option<bool>) {
         match verdict {
             Some(true) => self.yes = self.yes.saturating_add(1),
@@ -47,27 +50,32 @@ impl Tally {
         }
     }
 
-    /// More formulas than this have all inside settled, and more than that something open; and there are many verdicts of each
-    /// kind, and many values between 0 and 1.
-    pub fn is_telling<R: Abort>(&self, rt: &R, settled: u32, open: u32) {
-        assert!(rt;
-            self.settled > settled,
-            "{} are settled inside",
-            self.settled
-        );
-        assert!(rt; self.open > open, "{} are open inside", self.open);
-        assert!(rt; self.undecided > open, "{} are undecided", self.undecided);
-        assert!(rt; self.yes > 1_000, "{} are true", self.yes);
-        assert!(rt; self.no > 1_000, "{} are false", self.no);
-        assert!(rt; self.between > 300, "{} lie between", self.between);
-    }
-
-    pub fn note_inside(&mut self, answer: &Nested) {
-        if answer.inner > 0 && answer.undecided == 0 {
+    /// One more formula, with so many inside it, and so many verdicts of these undecided.
+    pub fn note_inside(&mut self, inner: u32, undecided: u32) {
+        if inner > 0 && undecided == 0 {
             self.settled = self.settled.saturating_add(1);
         }
-        if answer.undecided > 0 {
+        if undecided > 0 {
             self.open = self.open.saturating_add(1);
         }
     }
+
+    /// More formulas than this have all inside settled, and more than that something open; and there are many verdicts of each
+    /// kind, and many values between 0 and 1.
+    pub fn is_telling(&self, settled: u32, open: u32) -> Result<(), Fail> {
+        are_more("settled inside", self.settled, settled)?;
+        are_more("open inside", self.open, open)?;
+        are_more("undecided", self.undecided, open)?;
+        are_more("true", self.yes, 1_000)?;
+        are_more("false", self.no, 1_000)?;
+        are_more("values between", self.between, 300)
+    }
+}
+
+// There are more than so many.
+fn are_more(what: &str, count: u32, least: u32) -> Result<(), Fail> {
+    holds(
+        format_args!("more than {least} {what}: {count}"),
+        count > least,
+    )
 }

@@ -176,15 +176,15 @@ impl<'g> Seen<'g> {
             Tree::Not(x) => negated(alloc, &self.truth(alloc, x)?),
             Tree::And(x, y) => {
                 let (x, y) = (self.truth(alloc, x)?, self.truth(alloc, y)?);
-                combined(alloc, &x, &y, |x, y| x && y)
+                combined(alloc, &x, &y, Connective::And)
             }
             Tree::Or(x, y) => {
                 let (x, y) = (self.truth(alloc, x)?, self.truth(alloc, y)?);
-                combined(alloc, &x, &y, |x, y| x || y)
+                combined(alloc, &x, &y, Connective::Or)
             }
             Tree::Implies(x, y) => {
                 let (x, y) = (self.truth(alloc, x)?, self.truth(alloc, y)?);
-                combined(alloc, &x, &y, |x, y| !x || y)
+                combined(alloc, &x, &y, Connective::Implies)
             }
             Tree::Bounded(head, x, y) => {
                 let (left, right) = (self.truth(alloc, x)?, self.truth(alloc, y)?);
@@ -210,18 +210,35 @@ impl<'g> Seen<'g> {
     }
 }
 
+// What stands between two formulas.
+#[derive(Clone, Copy)]
+enum Connective {
+    And,
+    Or,
+    Implies,
+}
+
+impl Connective {
+    // What it says of two marks.
+    fn of(self, x: bool, y: bool) -> bool {
+        match self {
+            Connective::And => x && y,
+            Connective::Or => x || y,
+            Connective::Implies => !x || y,
+        }
+    }
+}
+
 // What a connective says of two lists of marks.
-fn combined<F: Fn(bool, bool) -> bool>(
+fn combined(
     alloc: Global,
     one: &[bool],
     other: &[bool],
-    connective: F,
-) -> Option<Vec<bool>>
-    requires { F.IsAlwaysCallable connective }
-{
+    connective: Connective,
+) -> Option<Vec<bool>> {
     let mut marks = Vec::new(alloc);
     for (x, y) in one.iter().zip(other.iter()) {
-        marks.push(connective(*x, *y)).ok()?;
+        marks.push(connective.of(*x, *y)).ok()?;
     }
     Some(marks)
 }

@@ -5,12 +5,16 @@
 //! minimiser. With both strategies fixed the game is a Markov chain, in which a goal is reached with probability 1 exactly where
 //! from each state that is reached some goal can be reached (Baier and Katoen 2008, section 10.1.2).
 
+ghost use Rattle.std.specs.Prelude.{◌<◌};
+ghost use Rattle.game_model.specs.Query.{states};
+
+use crate::counts::are_more;
 use crate::searches::{longer, reached};
 use almost_sure::almost_sure;
+use expectations::same;
 use game_model::{Question, Side};
 use random_games::{Draw, Shape, random_game, random_question};
 use std::alloc::Global;
-use std::process::Abort;
 use std::test::Fail;
 
 /// Games in which both sides together have at most 3^5 strategies.
@@ -141,20 +145,38 @@ fn can_win(alloc: Global, question: &Question<'_>, from: u32) -> Option<bool> {
     Some(false)
 }
 
-// Compares the almost-sure set of a random question with the search.
-fn agrees<R: Abort>(rt: &R, alloc: Global, draw: &mut Draw, count: &mut Count) -> Option<()> {
-    let game = random_game(alloc, draw, &FEW_STRATEGIES)?;
-    let question = random_question(alloc, draw, &game)?;
-    let sure = almost_sure(alloc, &question).ok()?;
-    for state in 0..question.game().states() {
-        let is_sure = sure.has(state);
-        let wanted = can_win(alloc, &question, state)?;
-        assert_eq!(rt; is_sure, wanted, "at state {state}");
-        if !question.is_goal(state) {
-            count.add(question.side(state), is_sure);
-        }
+// Compares a state's being in the almost-sure set with the search.
+fn agrees_at(
+    alloc: Global,
+    question: &Question<'_>,
+    state: u32,
+    is_sure: bool,
+    count: &mut Count,
+) -> Result<(), Fail>
+    requires { state < states question.now }
+{
+    let wanted = can_win(alloc, question, state).ok_or("no memory")?;
+    same(state, is_sure, wanted)?;
+    if !question.is_goal(state) {
+        count.add(question.side(state), is_sure);
     }
-    Some(())
+    Ok(())
+}
+
+// Compares the almost-sure set of a question with the search.
+fn agrees_on(alloc: Global, question: &Question<'_>, count: &mut Count) -> Result<(), Fail> {
+    let sure = almost_sure(alloc, question)?;
+    for state in 0..question.game().states() {
+        agrees_at(alloc, question, state, sure.has(state), count)?;
+    }
+    Ok(())
+}
+
+// The same for a random question.
+fn agrees(alloc: Global, draw: &mut Draw, count: &mut Count) -> Result<(), Fail> {
+    let game = random_game(alloc, draw, &FEW_STRATEGIES).ok_or("no game")?;
+    let question = random_question(alloc, draw, &game).ok_or("no question")?;
+    agrees_on(alloc, &question, count)
 }
 
 #[test]
@@ -167,15 +189,9 @@ fn almost_sure_sets_are_those_of_a_search_over_strategies(rt: HostRuntime) -> Re
         others: 0,
     };
     for _game in 0..1_000 {
-        agrees(&rt, alloc, &mut draw, &mut count).ok_or("no game, question or memory")?;
+        agrees(alloc, &mut draw, &mut count)?;
     }
-    let Count {
-        of_max,
-        of_min,
-        others,
-    } = count;
-    assert!(rt; of_max > 500, "{of_max} of the maximiser");
-    assert!(rt; of_min > 300, "{of_min} of the minimiser");
-    assert!(rt; others > 1_000, "{others} others");
-    Ok(())
+    are_more("of the maximiser", count.of_max, 500)?;
+    are_more("of the minimiser", count.of_min, 300)?;
+    are_more("others", count.others, 1_000)
 }

@@ -1,6 +1,12 @@
 //! Bounded values compared with the definition, and with each other for every number of workers.
 
+ghost use Rattle.std.specs.Prelude.{◌≡◌, ◌≤◌, All, length};
+ghost use Rattle.game_model.specs.Limits.{unit};
+ghost use Rattle.game_model.specs.Query.{states};
+ghost use Rattle.bounded_rounds.specs.Limits.{most_steps};
+
 use bounded_rounds::{Sweep, bounded};
+use expectations::same;
 use game_model::{Question, UNIT};
 use game_outside::OpenGate;
 use random_games::{Draw, Shape, opening_table, random_game, random_question};
@@ -18,26 +24,6 @@ const FEW_TOSSES: Shape = Shape {
     most_weight: 2,
     most_tosses: 4,
 };
-
-// The sweep of so many steps by so many workers.
-fn sweep_of<R: Threads + Sync>(
-    rt: &R,
-    alloc: Global,
-    question: &Question<'_>,
-    table: &[u64],
-    steps: u32,
-    workers: u32,
-) -> Option<Sweep> {
-    let fits = table.len() == question.game().states() as usize
-        && table.iter().all(|value| *value <= UNIT)
-        && steps <= 1_000_000
-        && 1 <= workers
-        && workers <= 64;
-    if !fits {
-        return None;
-    }
-    bounded(rt, alloc, question, table, steps, workers, &OpenGate {}).ok()
-}
 
 // Whether the bounds of a value lie around it, each at most so many units from it; none where a product does not fit. The
 // value is a numerator over the numerator of 1.
@@ -75,35 +61,53 @@ fn is_swept_around(sweep: &Sweep, numerators: &[u128], one: u128, steps: u32) ->
     Some(all)
 }
 
-// Compares the bounds of up to four steps of a question with its values, by one worker and by several.
+// Compares the bounds of so many steps of a question with its values, by one worker and by several.
+fn has_its_values_after<R: Threads + Sync>(
+    rt: &R,
+    alloc: Global,
+    question: &Question<'_>,
+    table: &[u64],
+    steps: u32,
+) -> Option<bool>
+    requires many { length table.now ≡ states question.now }
+    requires units { All (λ v. v ≤ unit) table.now }
+    requires steps { steps ≤ most_steps }
+{
+    let alone = bounded(rt, alloc, question, table, steps, 1, &OpenGate {}).ok()?;
+    let shared = bounded(rt, alloc, question, table, steps, 3, &OpenGate {}).ok()?;
+    let same = alone.lower == shared.lower && alone.upper == shared.upper;
+    let exact = numerators(alloc, question, steps).ok()?;
+    let one = numerator_of_one(question, &exact)?;
+    Some(same && is_swept_around(&alone, &exact, one, steps)?)
+}
+
+// Compares the bounds of up to four steps of a question with its values.
 fn has_its_values<R: Threads + Sync>(
     rt: &R,
     alloc: Global,
     question: &Question<'_>,
-) -> Option<bool> {
-    let table = opening_table(alloc, question)?;
+) -> Result<(), Fail> {
+    let table = opening_table(alloc, question).ok_or("no table")?;
     for steps in 0..5 {
-        let exact = numerators(alloc, question, steps).ok()?;
-        let one = numerator_of_one(question, &exact)?;
-        let alone = sweep_of(rt, alloc, question, &table, steps, 1)?;
-        let shared = sweep_of(rt, alloc, question, &table, steps, 3)?;
-        let same = alone.lower == shared.lower && alone.upper == shared.upper;
-        if !same || !is_swept_around(&alone, &exact, one, steps)? {
-            return Some(false);
-        }
+        let agrees = has_its_values_after(rt, alloc, question, &table, steps);
+        same(steps, agrees, Some(true))?;
     }
-    Some(true)
+    Ok(())
+}
+
+// The same for a random question.
+fn agrees<R: Threads + Sync>(rt: &R, alloc: Global, draw: &mut Draw) -> Result<(), Fail> {
+    let game = random_game(alloc, draw, &FEW_TOSSES).ok_or("no game")?;
+    let question = random_question(alloc, draw, &game).ok_or("no question")?;
+    has_its_values(rt, alloc, &question)
 }
 
 #[test]
 fn bounded_values_of_random_games_are_those_of_the_definition(rt: HostRuntime) -> Result<(), Fail> {
     let alloc = rt.alloc();
     let mut draw = Draw::new(37);
-    for number in 0..300 {
-        let game = random_game(alloc, &mut draw, &FEW_TOSSES).ok_or("no game")?;
-        let question = random_question(alloc, &mut draw, &game).ok_or("no question")?;
-        let agrees = has_its_values(&rt, alloc, &question).ok_or("no values")?;
-        assert!(rt; agrees, "game {number}");
+    for _game in 0..300 {
+        agrees(&rt, alloc, &mut draw)?;
     }
     Ok(())
 }

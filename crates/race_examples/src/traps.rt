@@ -4,13 +4,14 @@ ghost use Rattle.std.specs.Prelude.{◌≡◌, ◌<◌, ◌≤◌, All, IfSome, 
 ghost use Rattle.game_model.specs.Limits.{unit};
 ghost use Rattle.game_model.specs.Query.{states};
 
+use crate::counts::are_more;
 use crate::end_components::{greatest_end_components, has, stays};
+use expectations::same;
 use fixed_bellman::up_choice;
 use game_model::{Question, Side};
 use inductive_check::{check_upper, replies};
 use random_games::{Draw, Shape, random_game, random_question, swept_down};
 use std::alloc::Global;
-use std::process::Abort;
 use std::test::Fail;
 use trap_sets::{lower_traps, traps};
 
@@ -113,45 +114,96 @@ fn lowered(
     Some(table)
 }
 
-// Compares the traps of these replies with the greatest end components of a search, and gives these.
-fn has_the_traps_of_all_sets<R: Abort>(
-    rt: &R,
+impl Count {
+    // One more game with so many traps.
+    fn note_traps(&mut self, number: u32) {
+        self.some = self.some.saturating_add(u32::from(number > 0));
+        self.several = self.several.saturating_add(u32::from(number > 1));
+    }
+
+    // One more table.
+    fn note_table(&mut self, is_lower: bool) {
+        self.lowered = self.lowered.saturating_add(u32::from(is_lower));
+    }
+}
+
+// Compares the traps of these replies with sets, and notes how many there are.
+fn has_the_traps(
+    alloc: Global,
+    question: &Question<'_>,
+    replies: &[Option<u32>],
+    sets: &[Vec<bool>],
+    count: &mut Count,
+) -> Result<(), Fail>
+    requires { length replies.now ≡ states question.now }
+{
+    let found = traps(alloc, question, replies)?;
+    let (of, number) = numbers(alloc, question.game().states(), sets).ok_or("no memory")?;
+    count.note_traps(number);
+    same(
+        "traps",
+        (found.of.as_slice(), found.count),
+        (of.as_slice(), number),
+    )
+}
+
+// Compares the traps of these replies with the greatest end components of a search.
+fn has_the_traps_of_all_sets(
     alloc: Global,
     question: &Question<'_>,
     replies: &[Option<u32>],
     count: &mut Count,
-) -> Option<Vec<Vec<bool>>>
+) -> Result<(), Fail>
     requires { length replies.now ≡ states question.now }
 {
-    let found = traps(alloc, question, replies).ok()?;
-    let sets = greatest_end_components(alloc, question, replies)?;
-    let (of, number) = numbers(alloc, question.game().states(), &sets)?;
-    assert_eq!(rt; found.of.as_slice(), of.as_slice());
-    assert_eq!(rt; found.count, number);
-    count.some = count.some.saturating_add(u32::from(number > 0));
-    count.several = count.several.saturating_add(u32::from(number > 1));
-    Some(sets)
+    let sets = greatest_end_components(alloc, question, replies).ok_or("no memory")?;
+    has_the_traps(alloc, question, replies, &sets, count)
 }
 
-// Compares the lowered table with one that is lowered by the sets of a search, over the table of units after so many up steps.
-// These leave an end component as it was, however low its exits are.
-fn has_the_lowered_table<R: Abort>(
-    rt: &R,
+// Compares a lowered table with one that is lowered by these sets.
+fn is_lowered(
+    alloc: Global,
+    question: &Question<'_>,
+    upper: &[u64],
+    sets: &[Vec<bool>],
+    found: &[u64],
+    count: &mut Count,
+) -> Result<(), Fail>
+    requires length { length upper.now ≡ states question.now }
+    requires units { All (λ v. v ≤ unit) upper.now }
+{
+    let wanted = lowered(alloc, question, upper, sets).ok_or("no memory")?;
+    count.note_table(found != upper);
+    same("the table", found, wanted.as_slice())
+}
+
+// Compares the traps and the lowered table of an upper table with those of all sets.
+fn has_the_lowered_table(
+    alloc: Global,
+    question: &Question<'_>,
+    upper: &[u64],
+    count: &mut Count,
+) -> Result<(), Fail>
+    requires length { length upper.now ≡ states question.now }
+    requires units { All (λ v. v ≤ unit) upper.now }
+{
+    check_upper(question, upper)?;
+    let replies = replies(alloc, question, upper)?;
+    let found = lower_traps(alloc, question, upper, &replies)?;
+    let sets = greatest_end_components(alloc, question, &replies).ok_or("no memory")?;
+    has_the_traps(alloc, question, &replies, &sets, count)?;
+    is_lowered(alloc, question, upper, &sets, &found, count)
+}
+
+// The same over the table of units after so many up steps. These leave an end component as it was, however low its exits are.
+fn has_the_lowered_units(
     alloc: Global,
     question: &Question<'_>,
     steps: u32,
     count: &mut Count,
-) -> Option<()> {
-    let upper = swept_down(alloc, question, steps)?;
-    assert!(rt; check_upper(question, &upper).is_ok());
-    let replies = replies(alloc, question, &upper).ok()?;
-    let sets = has_the_traps_of_all_sets(rt, alloc, question, &replies, count)?;
-    let wanted = lowered(alloc, question, &upper, &sets)?;
-    let found = lower_traps(alloc, question, &upper, &replies).ok()?;
-    assert_eq!(rt; found.as_slice(), wanted.as_slice());
-    let is_lower = found.as_slice() != upper.as_slice();
-    count.lowered = count.lowered.saturating_add(u32::from(is_lower));
-    Some(())
+) -> Result<(), Fail> {
+    let upper = swept_down(alloc, question, steps).ok_or("no table")?;
+    has_the_lowered_table(alloc, question, &upper, count)
 }
 
 // A choice at random for each state.
@@ -170,13 +222,23 @@ fn random_replies(
     Some(replies)
 }
 
-// The same for a random question.
-fn agrees<R: Abort>(rt: &R, alloc: Global, draw: &mut Draw, count: &mut Count) -> Option<()> {
-    let game = random_game(alloc, draw, &FEW_SETS)?;
-    let question = random_question(alloc, draw, &game)?;
-    let replies = random_replies(alloc, draw, &question)?;
-    has_the_traps_of_all_sets(rt, alloc, &question, &replies, count)?;
-    has_the_lowered_table(rt, alloc, &question, draw.between(0, 9), count)
+// Compares the traps of replies at random.
+fn has_the_traps_of_random_replies(
+    alloc: Global,
+    draw: &mut Draw,
+    question: &Question<'_>,
+    count: &mut Count,
+) -> Result<(), Fail> {
+    let replies = random_replies(alloc, draw, question).ok_or("no memory")?;
+    has_the_traps_of_all_sets(alloc, question, &replies, count)
+}
+
+// The same for a random question, and its lowered table.
+fn agrees(alloc: Global, draw: &mut Draw, count: &mut Count) -> Result<(), Fail> {
+    let game = random_game(alloc, draw, &FEW_SETS).ok_or("no game")?;
+    let question = random_question(alloc, draw, &game).ok_or("no question")?;
+    has_the_traps_of_random_replies(alloc, draw, &question, count)?;
+    has_the_lowered_units(alloc, &question, draw.between(0, 9), count)
 }
 
 #[test]
@@ -189,15 +251,9 @@ fn traps_are_the_greatest_end_components_of_all_sets(rt: HostRuntime) -> Result<
         lowered: 0,
     };
     for _game in 0..1_000 {
-        agrees(&rt, alloc, &mut draw, &mut count).ok_or("no game, question or memory")?;
+        agrees(alloc, &mut draw, &mut count)?;
     }
-    let Count {
-        some,
-        several,
-        lowered,
-    } = count;
-    assert!(rt; some > 200, "{some} with traps");
-    assert!(rt; several > 20, "{several} with several traps");
-    assert!(rt; lowered > 100, "{lowered} lowered");
-    Ok(())
+    are_more("with traps", count.some, 200)?;
+    are_more("with several traps", count.several, 20)?;
+    are_more("lowered", count.lowered, 100)
 }

@@ -4,7 +4,8 @@ ghost use Rattle.std.specs.Prelude.{◌≡◌, ◌≤◌, length};
 ghost use Rattle.game_model.specs.Query.{states};
 ghost use Rattle.value_words.specs.Passes.{IsOf, Grew};
 
-use game_model::{Question, UNIT};
+use expectations::{holds, same};
+use game_model::{Game, Question, UNIT};
 use game_outside::HoldGate;
 use predecessors::Predecessors;
 use random_games::{agreement_game, agreement_question};
@@ -18,8 +19,8 @@ use step_core::value_of;
 use value_words::{Pass, Posing, ValueTable, Words};
 
 #[test]
-fn a_pass_has_no_bytes(rt: HostRuntime) {
-    assert_eq!(rt; size_of::<Pass<Brand>>(), 0);
+fn a_pass_has_no_bytes() -> Result<(), Fail> {
+    same("bytes", size_of::<Pass<Brand>>(), 0)
 }
 
 // Updates all states three times.
@@ -66,24 +67,33 @@ fn two_threads<P: Posing + Send + Sync, R: Threads + Sync>(
     Some((words, seen))
 }
 
+// No value that was read is above the final one.
+fn are_read(words: &[u64], seen: &[u64]) -> Result<(), Fail> {
+    same("entries", (words.len(), seen.len()), (12, 12))?;
+    for (state, (word, value)) in words.iter().zip(seen.iter()).enumerate() {
+        holds(state, value_of(*word) >= *value)?;
+    }
+    Ok(())
+}
+
+// Three sweeps reach what one thread reaches: state 3 leads to state 4, and state 4 to the goal.
+fn are_reached(seen: &[u64]) -> Result<(), Fail> {
+    let third = seen.get(3).copied().unwrap_or(0);
+    same(
+        "seen",
+        (seen.get(11), seen.get(4), seen.get(10), third >= UNIT / 2),
+        (Some(&UNIT), Some(&UNIT), Some(&0), true),
+    )
+}
+
 #[test]
 fn two_threads_race_over_the_agreement_protocol(rt: HostRuntime) -> Result<(), Fail> {
     let alloc = rt.alloc();
     let game = agreement_game(alloc).ok_or("the game")?;
     let question = agreement_question(alloc, &game).ok_or("the question")?;
     let (words, seen) = two_threads::<Brand, _>(&rt, alloc, &question).ok_or("memory")?;
-    let words = words.as_slice();
-    assert_eq!(rt; words.len(), 12);
-    assert_eq!(rt; seen.len(), 12);
-    for state in 0..12 {
-        assert!(rt; value_of(words[state]) >= seen[state]);
-    }
-    // Three sweeps reach what one thread reaches: state 3 leads to state 4, and state 4 to the goal.
-    assert_eq!(rt; seen[11], UNIT);
-    assert_eq!(rt; seen[4], UNIT);
-    assert!(rt; seen[3] >= UNIT / 2);
-    assert_eq!(rt; seen[10], 0);
-    Ok(())
+    are_read(words.as_slice(), &seen)?;
+    are_reached(&seen)
 }
 
 // So many rounds of two workers over all states. It gives the final words.
@@ -137,6 +147,21 @@ fn repeat<P: Posing + Send + Sync, R: Threads + Sync>(
     pass
 }
 
+// The values of the first states of twelve.
+fn have_the_values(words: &[u64]) -> Result<(), Fail> {
+    same("words", words.len(), 12)?;
+    let wanted = [
+        839_999_999_999_999,
+        699_999_999_999_999,
+        899_999_999_999_999,
+        919_999_999_999_999,
+    ];
+    for (state, (word, value)) in words.iter().zip(wanted.iter()).enumerate() {
+        same(state, value_of(*word), *value)?;
+    }
+    Ok(())
+}
+
 #[test]
 fn two_workers_work_at_once_and_reach_the_values(rt: HostRuntime) -> Result<(), Fail> {
     let alloc = rt.alloc();
@@ -144,25 +169,22 @@ fn two_workers_work_at_once_and_reach_the_values(rt: HostRuntime) -> Result<(), 
     let question = agreement_question(alloc, &game).ok_or("the question")?;
     let gate = HoldGate::new();
     let words = rounds::<Brand, _>(&rt, alloc, &question, 100, &gate).ok_or("memory")?;
-    assert!(rt; !gate.gave_up());
-    let words = words.as_slice();
-    assert_eq!(rt; words.len(), 12);
-    assert_eq!(rt; value_of(words[0]), 839_999_999_999_999);
-    assert_eq!(rt; value_of(words[1]), 699_999_999_999_999);
-    assert_eq!(rt; value_of(words[2]), 899_999_999_999_999);
-    assert_eq!(rt; value_of(words[3]), 919_999_999_999_999);
+    holds("both work at once", !gate.gave_up())?;
+    have_the_values(words.as_slice())
+}
+
+// How two workers share a game by edges.
+fn are_shared(game: &Game) -> Result<(), Fail> {
+    same("states", game.states(), 12)?;
+    same("edges", game.edges_below(12), 20)?;
+    same("the second share", first_state(game, 2, 1), 4)?;
+    for (state, worker) in [(0, 0), (3, 0), (4, 1), (11, 1)] {
+        same(state, worker_of(game, 2, state), worker)?;
+    }
     Ok(())
 }
 
 #[test]
 fn two_workers_share_the_agreement_protocol_by_edges(rt: HostRuntime) -> Result<(), Fail> {
-    let game = agreement_game(rt.alloc()).ok_or("the game")?;
-    assert_eq!(rt; game.states(), 12);
-    assert_eq!(rt; game.edges_below(12), 20);
-    assert_eq!(rt; first_state(&game, 2, 1), 4);
-    assert_eq!(rt; worker_of(&game, 2, 0), 0);
-    assert_eq!(rt; worker_of(&game, 2, 3), 0);
-    assert_eq!(rt; worker_of(&game, 2, 4), 1);
-    assert_eq!(rt; worker_of(&game, 2, 11), 1);
-    Ok(())
+    are_shared(&agreement_game(rt.alloc()).ok_or("the game")?)
 }

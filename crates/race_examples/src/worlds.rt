@@ -2,47 +2,60 @@
 
 ghost use Rattle.std.specs.Prelude.{◌≡◌, length};
 
+use expectations::same;
 use game_model::UNIT;
 use random_games::{coin_game, coin_question};
-use std::process::Abort;
 use std::test::Fail;
 use step_core::{Event, Refused, World, pack};
 
-// Events on a world of the coin game that has one view.
-fn take_events<R: Abort>(rt: &R, world: &mut World<'_>)
+// What a world says of an exchange of a word of the first state, by a view.
+fn exchanged(world: &mut World<'_>, view: u32, from: u64, to: u64) -> Result<(), Refused>
+    ensures { length world.new.views ≡ length world.old.views }
+{
+    let state = 0;
+    world.apply(Event::Won {
+        view,
+        state,
+        from,
+        to,
+    })
+}
+
+// The first view of a world wins an exchange and is refused two others, and a second view is split off.
+fn takes_an_exchange(world: &mut World<'_>) -> Result<(), Fail>
     requires { length world.old.views ≡ 1 }
 {
     let quarter = pack(UNIT / 4, 0);
-    let three_eighths = pack(UNIT / 8 * 3, 0);
     let half = pack(UNIT / 2, 0);
-    let to = |from, to| Event::Won {
-        view: 0,
-        state: 0,
-        from,
-        to,
-    };
-    assert_eq!(rt; world.apply(to(0, quarter)), Ok(()));
-    assert_eq!(rt; world.apply(to(0, quarter)), Err(Refused::NotFrom));
-    assert_eq!(rt; world.apply(to(quarter, half)), Err(Refused::TooHigh));
-    assert_eq!(rt; world.apply(Event::Split { view: 0 }), Ok(()));
-    assert_eq!(rt;
-        world.apply(Event::Lost { view: 1, state: 0 }),
-        Err(Refused::SameWord)
-    );
-    let other = Event::Won {
-        view: 1,
-        state: 0,
-        from: quarter,
-        to: three_eighths,
-    };
-    assert_eq!(rt; world.apply(other), Ok(()));
-    assert_eq!(rt; world.apply(Event::Lost { view: 0, state: 0 }), Ok(()));
-    let joined = Event::Join { view: 0, other: 1 };
-    assert_eq!(rt; world.apply(joined), Ok(()));
-    assert_eq!(rt;
-        world.apply(Event::Load { view: 1, state: 0 }),
-        Err(Refused::NoView)
-    );
+    same("from 0", exchanged(world, 0, 0, quarter), Ok(()))?;
+    same(
+        "again",
+        exchanged(world, 0, 0, quarter),
+        Err(Refused::NotFrom),
+    )?;
+    same(
+        "too high",
+        exchanged(world, 0, quarter, half),
+        Err(Refused::TooHigh),
+    )?;
+    same("split", world.apply(Event::Split { view: 0 }), Ok(()))
+}
+
+// The second view loses no exchange of the word that it has seen, and wins one; the first loses one, and takes the second in.
+fn takes_a_race(world: &mut World<'_>) -> Result<(), Fail> {
+    let quarter = pack(UNIT / 4, 0);
+    let higher = pack(UNIT / 8 * 3, 0);
+    let lost = world.apply(Event::Lost { view: 1, state: 0 });
+    let won = exchanged(world, 1, quarter, higher);
+    same("the second", (lost, won), (Err(Refused::SameWord), Ok(())))?;
+    let lost = world.apply(Event::Lost { view: 0, state: 0 });
+    let joined = world.apply(Event::Join { view: 0, other: 1 });
+    let spent = world.apply(Event::Load { view: 1, state: 0 });
+    same(
+        "the first",
+        (lost, joined, spent),
+        (Ok(()), Ok(()), Err(Refused::NoView)),
+    )
 }
 
 #[test]
@@ -50,9 +63,7 @@ fn a_world_takes_lawful_events_and_refuses_others(rt: HostRuntime) -> Result<(),
     let alloc = rt.alloc();
     let game = coin_game(alloc).ok_or("the game")?;
     let question = coin_question(alloc, &game).ok_or("the question")?;
-    let Ok(mut world) = World::start(alloc, &question) else {
-        return Err(Fail::new("the world"));
-    };
-    take_events(&rt, &mut world);
-    Ok(())
+    let mut world = World::start(alloc, &question)?;
+    takes_an_exchange(&mut world)?;
+    takes_a_race(&mut world)
 }

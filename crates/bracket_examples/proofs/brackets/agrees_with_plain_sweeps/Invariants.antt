@@ -1,13 +1,10 @@
 use Rattle.std.proofs.Common.{◌≡◌, ◌≤◌, length}
 use Rattle.std.specs.Prelude.{All}
-use Rattle.game_model.specs.Query.{states}
 use Rattle.game_model.specs.Limits.{unit}
 use Rattle.bracket_examples.proofs.brackets.agrees_with_plain_sweeps.Given as goal
 
 abbrev pub invariant-loop-asked : goal.invariant-loop-asked
 invariant-loop-asked g l = record {
-  many : length l.table.items ≡ states l.question;
-  units : All (λ v. v ≤ unit) l.table.items;
-  comany : length l.covalues.items ≡ states l.other;
-  counits : All (λ v. v ≤ unit) l.covalues.items;
+  units : All (λ v. v ≤ unit) l.table;
+  counits : All (λ v. v ≤ unit) l.covalues;
 }
