@@ -7,8 +7,6 @@ mod brackets;
 #[cfg(test)]
 mod certificates;
 #[cfg(test)]
-mod counts;
-#[cfg(test)]
 mod guesses;
 #[cfg(test)]
 mod known;

@@ -5,9 +5,8 @@ ghost use Rattle.game_model.specs.Limits.{unit};
 ghost use Rattle.game_model.specs.Query.{states};
 ghost use Rattle.game_model.specs.Dual.{IsZeroSet};
 
-use crate::counts::are_more;
 use crate::plain_ranks::{entry, plain_plan};
-use expectations::{holds, same};
+use expectations::{are_more, holds, same};
 use fixed_bellman::down_state;
 use game_model::{Marks, Question, UNIT};
 use inductive_check::check_upper;

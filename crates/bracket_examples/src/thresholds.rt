@@ -6,9 +6,8 @@ ghost use Rattle.game_model.specs.Query.{states};
 ghost use Rattle.game_model.specs.Dual.{IsZeroSet};
 
 use crate::brackets::{bracket_for, value_bracket};
-use crate::counts::are_more;
 use distributions::read_number;
-use expectations::holds;
+use expectations::{are_more, holds};
 use game_model::{Marks, Question};
 use random_games::{Draw, SMALL, Shape, random_game, random_question};
 use rpatl_syntax::Bound;

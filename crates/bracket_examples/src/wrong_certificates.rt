@@ -8,11 +8,10 @@ ghost use Rattle.plan_text.specs.Entries.{HasStates};
 ghost use Rattle.bracket_engine.specs.Limits.{most_rounds};
 
 use crate::brackets::value_bracket;
-use crate::counts::are_more;
 use crate::known::{Known, MANY_ROUNDS, MOST_STEPS, is_right, known_of};
 use crate::mutants::{Line, lines_of, mutants, text_of};
 use certificate_audit::{AuditFault, audit};
-use expectations::{holds, same};
+use expectations::{are_more, holds, same};
 use game_model::Question;
 use game_outside::OutOfMemory;
 use plan_text::{Plan, PlanCause, read_plan, write_plan};

@@ -4,7 +4,7 @@
 //! a test hands their errors on with `?`, and with them the words that tell its rows apart.
 #![tactic(auto)]
 
-ghost use Rattle.std.specs.Prelude.{◌≡◌, ◌↔◌, IsOk, IsTrue, true};
+ghost use Rattle.std.specs.Prelude.{◌≡◌, ◌↔◌, ◌<◌, IsOk, IsTrue, true};
 
 use std::fmt::{Debug, Display};
 use std::test::Fail;
@@ -33,4 +33,14 @@ pub fn holds<D: Display + Drop>(what: D, fact: bool) -> Result<(), Fail>
     } else {
         Err(Fail::new(format_args!("not so: {what}")))
     }
+}
+
+/// Ok where there are more than so many, so that comparisons over random games show something; else how many there are.
+pub fn are_more(what: &str, count: u32, least: u32) -> Result<(), Fail>
+    ensures { IsOk result ↔ least < count }
+{
+    holds(
+        format_args!("more than {least} {what}: {count}"),
+        count > least,
+    )
 }

@@ -8,10 +8,9 @@
 ghost use Rattle.std.specs.Prelude.{◌<◌};
 ghost use Rattle.game_model.specs.Query.{states};
 
-use crate::counts::are_more;
 use crate::searches::{longer, reached};
 use almost_sure::almost_sure;
-use expectations::same;
+use expectations::{are_more, same};
 use game_model::{Question, Side};
 use random_games::{Draw, Shape, random_game, random_question};
 use std::alloc::Global;

@@ -7,8 +7,6 @@ mod almost_sure_sets;
 #[cfg(test)]
 mod bounded_games;
 #[cfg(test)]
-mod counts;
-#[cfg(test)]
 mod end_components;
 #[cfg(test)]
 mod searches;

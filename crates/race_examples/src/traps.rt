@@ -4,9 +4,8 @@ ghost use Rattle.std.specs.Prelude.{◌≡◌, ◌<◌, ◌≤◌, All, IfSome, 
 ghost use Rattle.game_model.specs.Limits.{unit};
 ghost use Rattle.game_model.specs.Query.{states};
 
-use crate::counts::are_more;
 use crate::end_components::{greatest_end_components, has, stays};
-use expectations::same;
+use expectations::{are_more, same};
 use fixed_bellman::up_choice;
 use game_model::{Question, Side};
 use inductive_check::{check_upper, replies};
