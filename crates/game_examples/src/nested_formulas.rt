@@ -6,6 +6,7 @@ ghost use Rattle.rpatl_syntax.specs.Spellable.{IsShare, IsSpellable};
 ghost use Rattle.bracket_engine.specs.Limits.{most_rounds};
 
 use distributions::{Frac, read_number};
+use expectations::{holds, same};
 use game_model::UNIT;
 use game_outside::{Name, OpenGate};
 use label_reader::{Labels, Owners, read_labels};
@@ -129,7 +130,6 @@ struct Row {
 
 #[test]
 fn what_is_open_inside_is_open_both_ways(rt: HostRuntime) -> Result<(), Fail> {
-    let alloc = rt.alloc();
     let rows = [
         // Settled at every state.
         Row {
@@ -162,17 +162,30 @@ fn what_is_open_inside_is_open_both_ways(rt: HostRuntime) -> Result<(), Fail> {
         },
     ];
     for row in &rows {
-        let formula = formula_of(alloc, row)?;
-        assert!(rt; row.rounds <= 10_000);
-        let answer = answer_of(&rt, alloc, &formula, row.rounds)?;
-        assert_eq!(rt; answer.initial.as_slice(), [0].as_slice());
-        assert_eq!(rt; answer.lower.first().copied(), Some(row.lower));
-        assert_eq!(rt; answer.upper.first().copied(), Some(UNIT));
-        assert_eq!(rt; answer.how, row.how);
-        assert_eq!(rt; answer.inner, 1);
-        assert_eq!(rt; answer.undecided, row.undecided);
-        let outer = Bound::AtLeast(share(row.outer)?);
-        assert_eq!(rt; settle(&outer, row.lower, UNIT), row.verdict);
+        check_row(&rt, rt.alloc(), row)?;
     }
     Ok(())
+}
+
+/// The answer at state 0 is that of the row.
+fn check_row<R: Threads + Sync>(rt: &R, alloc: Global, row: &Row) -> Result<(), Fail> {
+    holds("few rounds", row.rounds <= 10_000)?;
+    let formula = formula_of(alloc, row)?;
+    let answer = answer_of(rt, alloc, &formula, row.rounds)?;
+    same(
+        "bounds",
+        (
+            answer.initial.as_slice(),
+            answer.lower.first().copied(),
+            answer.upper.first().copied(),
+        ),
+        ([0].as_slice(), Some(row.lower), Some(UNIT)),
+    )?;
+    same(
+        "rounds, formulas inside, undecided",
+        (answer.how, answer.inner, answer.undecided),
+        (row.how, 1, row.undecided),
+    )?;
+    let outer = Bound::AtLeast(share(row.outer)?);
+    same("verdict", settle(&outer, row.lower, UNIT), row.verdict)
 }

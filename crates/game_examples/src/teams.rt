@@ -2,21 +2,41 @@
 
 ghost use Rattle.std.specs.Prelude.{◌≡◌, ◌≤◌, length, All, IfOk};
 ghost use Rattle.game_model.specs.Limits.{unit};
+ghost use Rattle.game_model.specs.Dual.{IsZeroSet};
 ghost use Rattle.game_model.specs.Query.{states};
 
 use drawn_game::draw_game;
-use game_model::{Question, Side, UNIT};
-use sample_games::{all_of, chain, four_states, none_of, only};
+use expectations::same;
+use game_model::{Marks, Question, Side, UNIT};
+use sample_games::{chain, four_states, question_of};
 use std::alloc::{AllocError, Global};
-use std::process::Abort;
 use std::test::Fail;
 use std::thread::Threads;
 use team_tables::Team;
-use upper_guess::{Alone, Witnesses, guess_with};
+use upper_guess::{Alone, UpTables, Witnesses, guess_with};
 use zero_sets::zero_set;
 
+// A guess, and how many up steps it took.
+fn guess_by<M: UpTables>(
+    maker: &M,
+    alloc: Global,
+    question: &Question<'_>,
+    zero: &Marks,
+    lower: &[u64],
+) -> Result<(Vec<u64>, u64), Fail>
+    requires can { M.can_fill }
+    requires zero { IsZeroSet question.now zero.now }
+    requires many { length lower.now ≡ states question.now }
+    requires units { All (λ v. v ≤ unit) lower.now }
+{
+    question.known();
+    let mut witnesses = Witnesses::none();
+    let guess = guess_with(maker, alloc, &*question, &*zero, &*lower, &mut witnesses)?;
+    Ok((guess, witnesses.up_steps()))
+}
+
 // Teams of several sizes guess what one worker does, by as many up steps.
-fn teams_agree<R: Abort + Threads + Sync>(
+fn teams_agree<R: Threads + Sync>(
     rt: &R,
     alloc: Global,
     question: &Question<'_>,
@@ -26,15 +46,14 @@ fn teams_agree<R: Abort + Threads + Sync>(
     requires units { All (λ v. v ≤ unit) lower.now }
 {
     let zero = zero_set(alloc, question)?;
-    question.known();
-    let mut alone = Witnesses::none();
-    let guess = guess_with(&Alone {}, alloc, &*question, &zero, &*lower, &mut alone)?;
+    let alone = guess_by(&Alone {}, alloc, question, &zero, lower)?;
     for workers in [1, 2, 3, 7] {
-        let team = Team { rt, workers };
-        let mut found = Witnesses::none();
-        let guessed = guess_with(&team, alloc, &*question, &zero, &*lower, &mut found)?;
-        assert_eq!(rt; guessed.as_slice(), guess.as_slice(), "{workers} workers");
-        assert_eq!(rt; found.up_steps(), alone.up_steps(), "{workers} workers");
+        let found = guess_by(&Team { rt, workers }, alloc, question, &zero, lower)?;
+        same(
+            workers,
+            (found.0.as_slice(), found.1),
+            (alone.0.as_slice(), alone.1),
+        )?;
     }
     Ok(())
 }
@@ -43,12 +62,10 @@ fn teams_agree<R: Abort + Threads + Sync>(
 fn teams_guess_what_one_worker_does(rt: HostRuntime) -> Result<(), Fail> {
     let alloc = rt.alloc();
     let game = chain(alloc, 8)?;
-    let sides = all_of(alloc, Side::Max, 8)?;
-    let question = Question::build(&game, sides, only(alloc, 7, 8)?, none_of(alloc, 8)?);
+    let question = question_of(alloc, &game, Side::Max, 7)?;
     teams_agree(&rt, alloc, &question, &[0, 0, 0, 0, 0, 0, 0, UNIT])?;
     let game = four_states(alloc)?;
-    let sides = all_of(alloc, Side::Min, 4)?;
-    let question = Question::build(&game, sides, only(alloc, 2, 4)?, none_of(alloc, 4)?);
+    let question = question_of(alloc, &game, Side::Min, 2)?;
     teams_agree(&rt, alloc, &question, &[0, 0, UNIT, 0])
 }
 
@@ -82,9 +99,7 @@ const MANY: u32 = 300_000;
 fn teams_guess_the_same_over_many_states(rt: HostRuntime) -> Result<(), Fail> {
     let alloc = rt.alloc();
     let game = chain(alloc, MANY)?;
-    let sides = all_of(alloc, Side::Max, MANY)?;
-    let goals = only(alloc, MANY - 1, MANY)?;
-    let question = Question::build(&game, sides, goals, none_of(alloc, MANY)?);
+    let question = question_of(alloc, &game, Side::Max, MANY - 1)?;
     let lower = nothing(alloc, MANY)?;
     teams_agree(&rt, alloc, &question, &lower)
 }

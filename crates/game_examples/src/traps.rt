@@ -1,13 +1,15 @@
 //! Worked traps and lowered tables.
 
-ghost use Rattle.std.specs.Prelude.{◌≡◌, length, IfOk};
+ghost use Rattle.std.specs.Prelude.{◌≡◌, length};
 ghost use Rattle.game_model.specs.Query.{states};
 
+use expectations::same;
 use game_model::{Question, Side, UNIT};
 use inductive_check::{check_replies, check_upper};
-use sample_games::{all_of, coin_loop, leaky_ring, none_of, only, ring_of_two, stay_or_coin};
-use std::alloc::{AllocError, Global};
-use std::process::Abort;
+use sample_games::{
+    coin_loop, leaky_ring, least_at, question_of, question_of_sides, ring_of_two, stay_or_coin,
+};
+use std::alloc::Global;
 use std::test::Fail;
 use trap_sets::{lower_traps, traps};
 
@@ -28,29 +30,29 @@ struct Row<'a> {
 }
 
 /// The table and the replies pass the checks, before and after the table is lowered.
-fn assert_row(rt: &impl Abort, alloc: Global, question: &Question, row: Row<'_>) -> Result<(), Fail>
+fn check_row(alloc: Global, question: &Question, row: Row<'_>) -> Result<(), Fail>
     requires replies { length row.replies.now ≡ states question.now }
     requires upper { length row.upper.now ≡ states question.now }
 {
     check_upper(question, row.upper)?;
     check_replies(question, row.upper, row.replies)?;
     let sets = traps(alloc, question, row.replies)?;
-    assert_eq!(rt; sets.of.as_slice(), row.traps);
     let table = lower_traps(alloc, question, row.upper, row.replies)?;
-    assert_eq!(rt; table.as_slice(), row.lowered);
-    assert!(rt; check_upper(question, &table).is_ok());
-    assert!(rt; check_replies(question, &table, row.replies).is_ok());
-    Ok(())
+    check_upper(question, &table)?;
+    check_replies(question, &table, row.replies)?;
+    same(
+        "traps and lowered table",
+        (sets.of.as_slice(), table.as_slice()),
+        (row.traps, row.lowered),
+    )
 }
 
 #[test]
 fn a_coin_loop_traps_at_its_sink(rt: HostRuntime) -> Result<(), Fail> {
     let alloc = rt.alloc();
     let game = coin_loop(alloc)?;
-    let sides = all_of(alloc, Side::Max, 3)?;
-    let question = Question::build(&game, sides, only(alloc, 1, 3)?, none_of(alloc, 3)?);
-    assert_row(
-        &rt,
+    let question = question_of(alloc, &game, Side::Max, 1)?;
+    check_row(
         alloc,
         &question,
         Row {
@@ -66,10 +68,8 @@ fn a_coin_loop_traps_at_its_sink(rt: HostRuntime) -> Result<(), Fail> {
 fn who_may_stay_is_held_to_the_coin(rt: HostRuntime) -> Result<(), Fail> {
     let alloc = rt.alloc();
     let game = stay_or_coin(alloc)?;
-    let sides = all_of(alloc, Side::Max, 4)?;
-    let question = Question::build(&game, sides, only(alloc, 2, 4)?, none_of(alloc, 4)?);
-    assert_row(
-        &rt,
+    let question = question_of(alloc, &game, Side::Max, 2)?;
+    check_row(
         alloc,
         &question,
         Row {
@@ -85,11 +85,9 @@ fn who_may_stay_is_held_to_the_coin(rt: HostRuntime) -> Result<(), Fail> {
 fn the_minimiser_traps_where_its_reply_stays(rt: HostRuntime) -> Result<(), Fail> {
     let alloc = rt.alloc();
     let game = stay_or_coin(alloc)?;
-    let sides = all_of(alloc, Side::Min, 4)?;
-    let question = Question::build(&game, sides, only(alloc, 2, 4)?, none_of(alloc, 4)?);
+    let question = question_of(alloc, &game, Side::Min, 2)?;
     for (reply, set, entry) in [(0, [1, 0, 0, 2], 0), (1, [0, 0, 0, 1], HIGH)] {
-        assert_row(
-            &rt,
+        check_row(
             alloc,
             &question,
             Row {
@@ -103,27 +101,12 @@ fn the_minimiser_traps_where_its_reply_stays(rt: HostRuntime) -> Result<(), Fail
     Ok(())
 }
 
-/// The minimiser at state 1, the maximiser at the four others.
-fn least_at_one(alloc: Global) -> Result<Vec<Side>, AllocError>
-    ensures { IfOk result (λ sides. length sides.items ≡ 5) }
-{
-    let mut sides = Vec::new(alloc);
-    sides.push(Side::Max)?;
-    sides.push(Side::Min)?;
-    sides.push(Side::Max)?;
-    sides.push(Side::Max)?;
-    sides.push(Side::Max)?;
-    Ok(sides)
-}
-
 #[test]
 fn a_ring_of_both_players_is_held_to_its_one_exit(rt: HostRuntime) -> Result<(), Fail> {
     let alloc = rt.alloc();
     let game = ring_of_two(alloc)?;
-    let sides = least_at_one(alloc)?;
-    let question = Question::build(&game, sides, only(alloc, 3, 5)?, none_of(alloc, 5)?);
-    assert_row(
-        &rt,
+    let question = question_of_sides(alloc, &game, least_at(alloc, 1, 5)?, 3)?;
+    check_row(
         alloc,
         &question,
         Row {
@@ -139,10 +122,9 @@ fn a_ring_of_both_players_is_held_to_its_one_exit(rt: HostRuntime) -> Result<(),
 fn a_ring_with_a_leak_breaks_up(rt: HostRuntime) -> Result<(), Fail> {
     let alloc = rt.alloc();
     let game = leaky_ring(alloc)?;
-    let sides = all_of(alloc, Side::Max, 4)?;
-    let question = Question::build(&game, sides, none_of(alloc, 4)?, none_of(alloc, 4)?);
-    assert_row(
-        &rt,
+    // No state is a goal.
+    let question = question_of(alloc, &game, Side::Max, 4)?;
+    check_row(
         alloc,
         &question,
         Row {
