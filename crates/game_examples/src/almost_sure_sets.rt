@@ -4,8 +4,10 @@ ghost use Rattle.std.specs.Prelude.{◌≡◌, length};
 
 use almost_sure::almost_sure;
 use expectations::same;
-use game_model::{Game, Question, Side};
-use sample_games::{all_of, chain, coin, coin_loop, goal_or_sink, only, question_of, wait_or_coin};
+use game_model::{Game, Side};
+use sample_games::{
+    chain, coin, coin_loop, goal_or_sink, question_of, question_with_dead, wait_or_coin,
+};
 use std::alloc::Global;
 use std::test::Fail;
 
@@ -47,8 +49,7 @@ fn check_three(
 fn a_dead_state_cuts_a_chain(rt: HostRuntime) -> Result<(), Fail> {
     let alloc = rt.alloc();
     let game = chain(alloc, 40)?;
-    let sides = all_of(alloc, Side::Min, 40)?;
-    let question = Question::build(&game, sides, only(alloc, 39, 40)?, only(alloc, 20, 40)?);
+    let question = question_with_dead(alloc, &game, Side::Min, 39, 20)?;
     let marks = almost_sure(alloc, &question)?;
     same("count", marks.count(), 19)
 }

@@ -44,9 +44,7 @@ fn check_coin_loop<R: Threads + Sync>(
     requires steps { steps ≤ most_steps }
     requires workers { (1 ≤ workers) × (workers ≤ most_workers) }
 {
-    let game = coin_loop(alloc)?;
-    let question = question_of(alloc, &game, Side::Max, 1)?;
-    let found = bounded_values(rt, alloc, &question, steps, workers, &OpenGate {})?;
+    let found = coin_values(rt, alloc, steps, workers)?;
     same(
         format_args!("{steps} steps, {workers} workers"),
         (found.lower.as_slice(), found.upper.as_slice()),
@@ -57,13 +55,25 @@ fn check_coin_loop<R: Threads + Sync>(
     )
 }
 
-#[test]
-fn two_workers_run_at_once(rt: HostRuntime) -> Result<(), Fail> {
-    let alloc = rt.alloc();
+/// The sweep of the coin loop from the table that iteration opens with.
+fn coin_values<R: Threads + Sync>(
+    rt: &R,
+    alloc: Global,
+    steps: u32,
+    workers: u32,
+) -> Result<Sweep, Fail>
+    requires steps { steps ≤ most_steps }
+    requires workers { (1 ≤ workers) × (workers ≤ most_workers) }
+{
     let game = coin_loop(alloc)?;
     let question = question_of(alloc, &game, Side::Max, 1)?;
+    Ok(bounded_values(rt, alloc, &question, steps, workers, &OpenGate {})?)
+}
+
+#[test]
+fn two_workers_run_at_once(rt: HostRuntime) -> Result<(), Fail> {
     let gate = HoldGate::new();
-    let found = bounded(&rt, alloc, &question, &[0, UNIT, 0], 2, 2, &gate)?;
+    let found = two_steps(&rt, rt.alloc(), &gate)?;
     same(
         "lower",
         found.lower.as_slice(),
@@ -72,19 +82,29 @@ fn two_workers_run_at_once(rt: HostRuntime) -> Result<(), Fail> {
     holds("the workers ran at once", !gate.gave_up())
 }
 
+/// Two steps of the coin loop by two workers.
+fn two_steps<R: Threads + Sync>(rt: &R, alloc: Global, gate: &HoldGate) -> Result<Sweep, Fail> {
+    let game = coin_loop(alloc)?;
+    let question = question_of(alloc, &game, Side::Max, 1)?;
+    Ok(bounded(rt, alloc, &question, &[0, UNIT, 0], 2, 2, gate)?)
+}
+
 #[test]
 fn each_player_takes_its_better_choice(rt: HostRuntime) -> Result<(), Fail> {
-    let alloc = rt.alloc();
-    let game = four_states(alloc)?;
-    // Without goals: is state 2 the next one?
-    let question = question_of_sides(alloc, &game, least_at(alloc, 1, 4)?, 4)?;
-    let found = bounded(&rt, alloc, &question, &[0, 0, UNIT, 0], 1, 4, &OpenGate {})?;
+    let found = one_step(&rt, rt.alloc())?;
     let values = [UNIT / 100 * 65, UNIT / 5, UNIT, 0];
     same(
         "lower and upper",
         (found.lower.as_slice(), found.upper.as_slice()),
         (values.as_slice(), values.as_slice()),
     )
+}
+
+/// One step of the game of four states and two players. Without goals: is state 2 the next one?
+fn one_step<R: Threads + Sync>(rt: &R, alloc: Global) -> Result<Sweep, Fail> {
+    let game = four_states(alloc)?;
+    let question = question_of_sides(alloc, &game, least_at(alloc, 1, 4)?, 4)?;
+    Ok(bounded(rt, alloc, &question, &[0, 0, UNIT, 0], 1, 4, &OpenGate {})?)
 }
 
 // The unit at one state, and 0 elsewhere.

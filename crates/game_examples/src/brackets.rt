@@ -48,6 +48,23 @@ fn value_bracket<R: Threads + Sync, G: Gate + Sync>(
     )?)
 }
 
+// The bracket of the coin loop, where the goal is state 1.
+fn coin_bracket<R: Threads + Sync, G: Gate + Sync>(
+    rt: &R,
+    alloc: Global,
+    rounds: u32,
+    workers: u32,
+    gate: &G,
+) -> Result<Bracket, Fail>
+    requires rounds { rounds ≤ most_rounds }
+    requires some { 1 ≤ workers }
+    requires few { workers ≤ most_workers }
+{
+    let game = coin_loop(alloc)?;
+    let question = question_of(alloc, &game, Side::Max, 1)?;
+    value_bracket(rt, alloc, &question, rounds, workers, gate)
+}
+
 #[test]
 fn the_coin_loop_settles_at_round_50(rt: HostRuntime) -> Result<(), Fail> {
     for (asked, base, lower, upper, rounds, stable) in [
@@ -74,8 +91,7 @@ fn the_coin_loop_settles_at_round_50(rt: HostRuntime) -> Result<(), Fail> {
     Ok(())
 }
 
-/// After so many rounds at most, these are the base and the bounds of state 0 of the coin loop, where the goal is state 1,
-/// and these are the rounds that it took and whether it settled.
+/// After so many rounds at most, these are the base and the bounds of state 0 of the coin loop, and these are the rounds that it took and whether it settled.
 fn check_coin_loop<R: Threads + Sync>(
     rt: &R,
     alloc: Global,
@@ -85,9 +101,7 @@ fn check_coin_loop<R: Threads + Sync>(
 ) -> Result<(), Fail>
     requires { asked ≤ most_rounds }
 {
-    let game = coin_loop(alloc)?;
-    let question = question_of(alloc, &game, Side::Max, 1)?;
-    let found = value_bracket(rt, alloc, &question, asked, 1, &OpenGate {})?;
+    let found = coin_bracket(rt, alloc, asked, 1, &OpenGate {})?;
     same(
         asked,
         (
@@ -113,14 +127,12 @@ fn the_first_player_chooses_the_better_lottery(rt: HostRuntime) -> Result<(), Fa
     Ok(())
 }
 
-/// The values, the choice and the reply of two players in the game of four states, where the goal is state 2.
+/// The values, the choice and the reply of two players in the game of four states.
 fn check_lotteries<R: Threads + Sync>(rt: &R, alloc: Global, workers: u32) -> Result<(), Fail>
     requires some { 1 ≤ workers }
     requires few { workers ≤ most_workers }
 {
-    let game = four_states(alloc)?;
-    let question = question_of_sides(alloc, &game, least_at(alloc, 1, 4)?, 2)?;
-    let found = value_bracket(rt, alloc, &question, 1_000, workers, &OpenGate {})?;
+    let found = lottery_bracket(rt, alloc, workers)?;
     let values = [UNIT / 100 * 65, UNIT / 5, UNIT, 0];
     same(
         workers,
@@ -139,6 +151,16 @@ fn check_lotteries<R: Threads + Sync>(rt: &R, alloc: Global, workers: u32) -> Re
             true,
         ),
     )
+}
+
+// The bracket of two players in the game of four states, where the goal is state 2.
+fn lottery_bracket<R: Threads + Sync>(rt: &R, alloc: Global, workers: u32) -> Result<Bracket, Fail>
+    requires some { 1 ≤ workers }
+    requires few { workers ≤ most_workers }
+{
+    let game = four_states(alloc)?;
+    let question = question_of_sides(alloc, &game, least_at(alloc, 1, 4)?, 2)?;
+    value_bracket(rt, alloc, &question, 1_000, workers, &OpenGate {})
 }
 
 #[test]
@@ -160,10 +182,8 @@ fn check_missing<R: Threads + Sync>(
 ) -> Result<(), Fail>
     requires { rounds ≤ most_rounds }
 {
-    let game = coin_loop(alloc)?;
-    let question = question_of(alloc, &game, Side::Max, 1)?;
-    let found = value_bracket(rt, alloc, &question, rounds, 1, &OpenGate {})?;
-    let exact = numerators(alloc, &question, rounds)?;
+    let found = coin_bracket(rt, alloc, rounds, 1, &OpenGate {})?;
+    let exact = coin_numerators(alloc, rounds)?;
     for (base, numerator) in found.base.iter().zip(exact.iter()) {
         let reached = (u128::from(*base) + u128::from(rounds)).saturating_mul(power);
         let value = numerator.saturating_mul(u128::from(UNIT));
@@ -172,13 +192,17 @@ fn check_missing<R: Threads + Sync>(
     Ok(())
 }
 
-#[test]
-fn two_workers_run_at_once(rt: HostRuntime) -> Result<(), Fail> {
-    let alloc = rt.alloc();
+// The numerators of the coin loop after so many rounds.
+fn coin_numerators(alloc: Global, rounds: u32) -> Result<Vec<u128>, Fail> {
     let game = coin_loop(alloc)?;
     let question = question_of(alloc, &game, Side::Max, 1)?;
+    Ok(numerators(alloc, &question, rounds)?)
+}
+
+#[test]
+fn two_workers_run_at_once(rt: HostRuntime) -> Result<(), Fail> {
     let gate = HoldGate::new();
-    let found = value_bracket(&rt, alloc, &question, 10, 2, &gate)?;
+    let found = coin_bracket(&rt, rt.alloc(), 10, 2, &gate)?;
     same("rounds", found.rounds, 10)?;
     holds("the workers ran at once", !gate.gave_up())
 }

@@ -7,7 +7,7 @@ ghost use Rattle.game_model.specs.Limits.{most_states};
 
 use drawn_game::{Drawn, Draws, draw_game};
 use expectations::same;
-use game_model::{Game, Side};
+use game_model::{Game, Question, Side};
 use std::alloc::{AllocError, Global};
 use std::test::Fail;
 
@@ -58,10 +58,18 @@ fn choice_text(alloc: Global, game: &Game, state: u32, choice: u32) -> Result<St
     Ok(text)
 }
 
+// The text of the game that is drawn.
+fn drawn_text(alloc: Global, seed: u32, states: u32) -> Result<String, Fail>
+    requires seed { (1 ≤ seed) × (seed ≤ most_seed) }
+    requires states { (fewest_states ≤ states) × (states ≤ most_states) }
+{
+    let drawn = draw_game(alloc, seed, states)?;
+    Ok(text_of(alloc, &drawn)?)
+}
+
 #[test]
 fn the_worked_row_is_drawn(rt: HostRuntime) -> Result<(), Fail> {
-    let drawn = draw_game(rt.alloc(), 1, 3)?;
-    let text = text_of(rt.alloc(), &drawn)?;
+    let text = drawn_text(rt.alloc(), 1, 3)?;
     same(
         "text",
         text.as_str(),
@@ -136,8 +144,7 @@ fn check_drawn(alloc: Global, seed: u32, states: u32) -> Result<(), Fail>
     requires seed { (1 ≤ seed) × (seed ≤ most_seed) }
     requires states { (fewest_states ≤ states) × (states ≤ most_states) }
 {
-    let drawn = draw_game(alloc, seed, states)?;
-    let text = text_of(alloc, &drawn)?;
+    let text = drawn_text(alloc, seed, states)?;
     let plain = plain_text(alloc, u64::from(seed), u64::from(states))?;
     same(seed, text.as_str(), plain.as_str())
 }
@@ -152,15 +159,28 @@ fn games_are_as_a_plain_reading_says(rt: HostRuntime) -> Result<(), Fail> {
 
 #[test]
 fn the_maximiser_wants_the_goal(rt: HostRuntime) -> Result<(), Fail> {
-    let drawn = draw_game(rt.alloc(), 7, 20)?;
-    let question = drawn.question(rt.alloc())?;
-    drawn.known();
-    same("states", question.game().states(), 20)?;
-    for state in 0..20 {
+    check_question(rt.alloc(), 7, 20)
+}
+
+/// The state before the last is the goal.
+fn check_question(alloc: Global, seed: u32, states: u32) -> Result<(), Fail>
+    requires seed { (1 ≤ seed) × (seed ≤ most_seed) }
+    requires states { (fewest_states ≤ states) × (states ≤ most_states) }
+{
+    let drawn = draw_game(alloc, seed, states)?;
+    let question = drawn.question(alloc)?;
+    same("states", question.game().states(), states)?;
+    check_goal(&question, states - 2)
+}
+
+/// This state and no other is a goal, and none is dead.
+fn check_goal(question: &Question<'_>, goal: u32) -> Result<(), Fail> {
+    question.known();
+    for state in 0..question.game().states() {
         same(
             state,
             (question.is_goal(state), question.is_dead(state)),
-            (state == 18, false),
+            (state == goal, false),
         )?;
     }
     Ok(())
@@ -169,12 +189,20 @@ fn the_maximiser_wants_the_goal(rt: HostRuntime) -> Result<(), Fail> {
 #[test]
 fn many_states_are_drawn(rt: HostRuntime) -> Result<(), Fail> {
     // The numbers are those of a plain reading of the rules in another language.
-    let drawn = draw_game(rt.alloc(), 1, 100_000)?;
+    check_sizes(rt.alloc(), 1, 100_000, (200_100, 600_562))
+}
+
+/// The states, and the choices and edges of all of them.
+fn check_sizes(alloc: Global, seed: u32, states: u32, wanted: (u64, u64)) -> Result<(), Fail>
+    requires seed { (1 ≤ seed) × (seed ≤ most_seed) }
+    requires states { (fewest_states ≤ states) × (states ≤ most_states) }
+{
+    let drawn = draw_game(alloc, seed, states)?;
     let game = drawn.game();
-    let states = game.states();
+    let count = game.states();
     same(
         "states, choices, edges",
-        (states, game.choices_below(states), game.edges_below(states)),
-        (100_000, 200_100, 600_562),
+        (count, game.choices_below(count), game.edges_below(count)),
+        (states, wanted.0, wanted.1),
     )
 }

@@ -6,7 +6,7 @@ ghost use Rattle.game_model.specs.Query.{states};
 use expectations::same;
 use game_model::{Question, Side, UNIT};
 use rank_certificate::{RankCause, RankFault, check_ranks, find_ranks};
-use sample_games::{all_of, chain, coin_loop, four_states, goal_or_sink, only, question_of};
+use sample_games::{chain, coin_loop, four_states, goal_or_sink, question_of, question_with_dead};
 use std::alloc::Global;
 use std::test::Fail;
 
@@ -20,19 +20,43 @@ fn fault(state: u32, cause: RankCause) -> RankFault {
     RankFault { state, cause }
 }
 
+fn short(state: u32, choice: u32) -> RankFault {
+    fault(state, RankCause::Short { choice })
+}
+
+fn no_step(state: u32, choice: u32) -> RankFault {
+    fault(state, RankCause::NoStep { choice })
+}
+
+/// What the check says of the values and ranks of three states, and of this choice at the first.
+fn check_three(
+    question: &Question<'_>,
+    values: [u64; 3],
+    choice: Option<u32>,
+    ranks: [u32; 3],
+    wanted: Result<(), RankFault>,
+) -> Result<(), Fail>
+    requires { states question.now ≡ 3 }
+{
+    let found = check_ranks(question, &values, &[choice, None, None], &ranks);
+    same(
+        format_args!("{values:?}, {choice:?}, {ranks:?}"),
+        found,
+        wanted,
+    )
+}
+
 #[test]
 fn a_coin_loop_reaches_one_half(rt: HostRuntime) -> Result<(), Fail> {
     let alloc = rt.alloc();
     let game = coin_loop(alloc)?;
-    let sides = all_of(alloc, Side::Max, 3)?;
-    let question = Question::build(&game, sides, only(alloc, 1, 3)?, only(alloc, 2, 3)?);
-    let short = RankCause::Short { choice: 0 };
+    let question = question_with_dead(alloc, &game, Side::Max, 1, 2)?;
     for (values, choice, wanted) in [
         ([HALF, ONE, 0], Some(0), Ok(())),
         ([0, ONE, 0], None, Ok(())),
         ([HALF, ONE, 0], None, Err(fault(0, RankCause::Choice))),
         ([HALF, ONE, 0], Some(1), Err(fault(0, RankCause::Choice))),
-        ([HALF + 1, ONE, 0], Some(0), Err(fault(0, short))),
+        ([HALF + 1, ONE, 0], Some(0), Err(short(0, 0))),
         (
             [HALF - 1, ONE - 1, 0],
             Some(0),
@@ -45,9 +69,7 @@ fn a_coin_loop_reaches_one_half(rt: HostRuntime) -> Result<(), Fail> {
             Err(fault(2, RankCause::Value)),
         ),
     ] {
-        let choices = [choice, None, None];
-        let found = check_ranks(&question, &values, &choices, &[0, 0, 0]);
-        same(format_args!("{values:?}, {choice:?}"), found, wanted)?;
+        check_three(&question, values, choice, [0, 0, 0], wanted)?;
     }
     Ok(())
 }
@@ -58,18 +80,14 @@ fn every_choice_of_the_minimiser_leads_on(rt: HostRuntime) -> Result<(), Fail> {
     let game = goal_or_sink(alloc)?;
     let question = question_of(alloc, &game, Side::Min, 1)?;
     let ones = [ONE, ONE, ONE];
-    let short = RankCause::Short { choice: 1 };
-    let first = RankCause::NoStep { choice: 0 };
-    let second = RankCause::NoStep { choice: 1 };
     for (values, ranks, wanted) in [
         ([0, ONE, 0], [0, 0, 0], Ok(())),
-        ([1, ONE, 0], [0, 0, 0], Err(fault(0, short))),
-        (ones, [0, 0, 1], Err(fault(0, first))),
-        (ones, [1, 0, 1], Err(fault(0, second))),
-        (ones, [2, 0, 1], Err(fault(2, first))),
+        ([1, ONE, 0], [0, 0, 0], Err(short(0, 1))),
+        (ones, [0, 0, 1], Err(no_step(0, 0))),
+        (ones, [1, 0, 1], Err(no_step(0, 1))),
+        (ones, [2, 0, 1], Err(no_step(2, 0))),
     ] {
-        let found = check_ranks(&question, &values, &[None, None, None], &ranks);
-        same(format_args!("{values:?}, {ranks:?}"), found, wanted)?;
+        check_three(&question, values, None, ranks, wanted)?;
     }
     Ok(())
 }

@@ -1,13 +1,14 @@
 //! Tables and guesses of several workers, beside those of one.
 
 ghost use Rattle.std.specs.Prelude.{◌≡◌, ◌≤◌, length, All, IfOk};
-ghost use Rattle.game_model.specs.Limits.{unit};
+ghost use Rattle.game_model.specs.Limits.{most_states, unit};
+ghost use Rattle.drawn_game.specs.Limits.{fewest_states, most_seed};
 ghost use Rattle.game_model.specs.Dual.{IsZeroSet};
 ghost use Rattle.game_model.specs.Query.{states};
 
 use drawn_game::draw_game;
 use expectations::same;
-use game_model::{Marks, Question, Side, UNIT};
+use game_model::{Game, Marks, Question, Side, UNIT};
 use sample_games::{chain, four_states, question_of};
 use std::alloc::{AllocError, Global};
 use std::test::Fail;
@@ -58,15 +59,30 @@ fn teams_agree<R: Threads + Sync>(
     Ok(())
 }
 
+// They do so over a game of one player, whose goal is this state.
+fn teams_agree_over<R: Threads + Sync>(
+    rt: &R,
+    alloc: Global,
+    game: Game,
+    side: Side,
+    goal: u32,
+    lower: &[u64],
+) -> Result<(), Fail>
+    requires many { length lower.now ≡ length game }
+    requires units { All (λ v. v ≤ unit) lower.now }
+{
+    let question = question_of(alloc, &game, side, goal)?;
+    teams_agree(rt, alloc, &question, lower)
+}
+
 #[test]
 fn teams_guess_what_one_worker_does(rt: HostRuntime) -> Result<(), Fail> {
     let alloc = rt.alloc();
     let game = chain(alloc, 8)?;
-    let question = question_of(alloc, &game, Side::Max, 7)?;
-    teams_agree(&rt, alloc, &question, &[0, 0, 0, 0, 0, 0, 0, UNIT])?;
+    let lower = [0, 0, 0, 0, 0, 0, 0, UNIT];
+    teams_agree_over(&rt, alloc, game, Side::Max, 7, &lower)?;
     let game = four_states(alloc)?;
-    let question = question_of(alloc, &game, Side::Min, 2)?;
-    teams_agree(&rt, alloc, &question, &[0, 0, UNIT, 0])
+    teams_agree_over(&rt, alloc, game, Side::Min, 2, &[0, 0, UNIT, 0])
 }
 
 // A table that is 0 everywhere.
@@ -81,15 +97,35 @@ fn nothing(alloc: Global, count: u32) -> Result<Vec<u64>, AllocError>
     Ok(table)
 }
 
-#[test]
-fn teams_guess_the_same_over_a_drawn_game(rt: HostRuntime) -> Result<(), Fail> {
-    let alloc = rt.alloc();
-    let drawn = draw_game(alloc, 7, 200)?;
-    drawn.known();
-    let question = drawn.question(alloc)?;
+// They do so over the table that is 0 everywhere.
+fn teams_agree_from_nothing<R: Threads + Sync>(
+    rt: &R,
+    alloc: Global,
+    question: &Question<'_>,
+) -> Result<(), Fail> {
     question.known();
     let lower = nothing(alloc, question.game().states())?;
-    teams_agree(&rt, alloc, &question, &lower)
+    teams_agree(rt, alloc, question, &lower)
+}
+
+#[test]
+fn teams_guess_the_same_over_a_drawn_game(rt: HostRuntime) -> Result<(), Fail> {
+    teams_agree_over_drawn(&rt, rt.alloc(), 7, 200)
+}
+
+// They do so over a drawn game.
+fn teams_agree_over_drawn<R: Threads + Sync>(
+    rt: &R,
+    alloc: Global,
+    seed: u32,
+    states: u32,
+) -> Result<(), Fail>
+    requires seed { (1 ≤ seed) × (seed ≤ most_seed) }
+    requires states { (fewest_states ≤ states) × (states ≤ most_states) }
+{
+    let drawn = draw_game(alloc, seed, states)?;
+    let question = drawn.question(alloc)?;
+    teams_agree_from_nothing(rt, alloc, &question)
 }
 
 /// More states than those whose table stays near the processor.
@@ -100,6 +136,5 @@ fn teams_guess_the_same_over_many_states(rt: HostRuntime) -> Result<(), Fail> {
     let alloc = rt.alloc();
     let game = chain(alloc, MANY)?;
     let question = question_of(alloc, &game, Side::Max, MANY - 1)?;
-    let lower = nothing(alloc, MANY)?;
-    teams_agree(&rt, alloc, &question, &lower)
+    teams_agree_from_nothing(&rt, alloc, &question)
 }

@@ -1,7 +1,10 @@
 //! Worked traps and lowered tables.
 
-ghost use Rattle.std.specs.Prelude.{◌≡◌, length};
+ghost use Rattle.std.specs.Prelude.{◌≡◌, ◌≤◌, length, slice_index, All, IsOk};
+ghost use Rattle.game_model.specs.Limits.{unit};
 ghost use Rattle.game_model.specs.Query.{states};
+ghost use Rattle.game_model.specs.Rounded.{IsInductive};
+ghost use Rattle.inductive_check.specs.Replies.{AreReplies};
 
 use expectations::same;
 use game_model::{Question, Side, UNIT};
@@ -29,22 +32,38 @@ struct Row<'a> {
     lowered: &'a [u64],
 }
 
-/// The table and the replies pass the checks, before and after the table is lowered.
+/// The traps and the lowered table of the row are found.
 fn check_row(alloc: Global, question: &Question, row: Row<'_>) -> Result<(), Fail>
     requires replies { length row.replies.now ≡ states question.now }
     requires upper { length row.upper.now ≡ states question.now }
 {
-    check_upper(question, row.upper)?;
-    check_replies(question, row.upper, row.replies)?;
     let sets = traps(alloc, question, row.replies)?;
+    same("traps", sets.of.as_slice(), row.traps)?;
+    check_lowered(alloc, question, row)
+}
+
+/// The table and the replies pass the checks, before and after the table is lowered.
+fn check_lowered(alloc: Global, question: &Question, row: Row<'_>) -> Result<(), Fail>
+    requires replies { length row.replies.now ≡ states question.now }
+    requires upper { length row.upper.now ≡ states question.now }
+{
+    check_held(question, row.upper, row.replies)?;
     let table = lower_traps(alloc, question, row.upper, row.replies)?;
-    check_upper(question, &table)?;
-    check_replies(question, &table, row.replies)?;
-    same(
-        "traps and lowered table",
-        (sets.of.as_slice(), table.as_slice()),
-        (row.traps, row.lowered),
-    )
+    same("lowered table", table.as_slice(), row.lowered)?;
+    check_held(question, &table, row.replies)
+}
+
+/// A table and replies pass the checks.
+fn check_held(question: &Question, upper: &[u64], replies: &[Option<u32>]) -> Result<(), Fail>
+    requires upper { length upper.now ≡ states question.now }
+    requires replies { length replies.now ≡ states question.now }
+    ensures units { IsOk result → All (λ v. v ≤ unit) upper.now }
+    ensures inductive { IsOk result → IsInductive question.now (slice_index upper.now) }
+    ensures replies { IsOk result → AreReplies question.now (slice_index upper.now) replies.now }
+{
+    check_upper(question, upper)?;
+    check_replies(question, upper, replies)?;
+    Ok(())
 }
 
 #[test]
@@ -84,21 +103,24 @@ fn who_may_stay_is_held_to_the_coin(rt: HostRuntime) -> Result<(), Fail> {
 #[test]
 fn the_minimiser_traps_where_its_reply_stays(rt: HostRuntime) -> Result<(), Fail> {
     let alloc = rt.alloc();
+    check_reply(alloc, 0, &[1, 0, 0, 2], &[0, HIGH, ONE, 0])?;
+    check_reply(alloc, 1, &[0, 0, 0, 1], &[HIGH, HIGH, ONE, 0])
+}
+
+/// The traps and the lowered table where the minimiser replies with this choice at state 0.
+fn check_reply(alloc: Global, reply: u32, traps: &[u32], lowered: &[u64]) -> Result<(), Fail> {
     let game = stay_or_coin(alloc)?;
     let question = question_of(alloc, &game, Side::Min, 2)?;
-    for (reply, set, entry) in [(0, [1, 0, 0, 2], 0), (1, [0, 0, 0, 1], HIGH)] {
-        check_row(
-            alloc,
-            &question,
-            Row {
-                replies: &[Some(reply), Some(0), None, Some(0)],
-                upper: &[HIGH, HIGH, ONE, 0],
-                traps: &set,
-                lowered: &[entry, HIGH, ONE, 0],
-            },
-        )?;
-    }
-    Ok(())
+    check_row(
+        alloc,
+        &question,
+        Row {
+            replies: &[Some(reply), Some(0), None, Some(0)],
+            upper: &[HIGH, HIGH, ONE, 0],
+            traps,
+            lowered,
+        },
+    )
 }
 
 #[test]

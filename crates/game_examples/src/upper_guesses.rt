@@ -1,20 +1,31 @@
 //! Worked guesses, computed by hand.
 
+ghost use Rattle.std.specs.Prelude.{◌≡◌, ◌≤◌, length, All};
+ghost use Rattle.game_model.specs.Limits.{unit};
+ghost use Rattle.game_model.specs.Query.{states};
+
 use expectations::same;
-use game_model::{Side, UNIT};
+use game_model::{Question, Side, UNIT};
 use sample_games::{chain, coin_loop, four_states, question_of};
 use std::alloc::Global;
 use std::test::Fail;
 use upper_guess::{Alone, Witnesses, guess, guess_with};
 use zero_sets::zero_set;
 
+/// The guess over this table.
+fn guess_of(alloc: Global, question: &Question<'_>, lower: &[u64]) -> Result<Vec<u64>, Fail>
+    requires many { length lower.now ≡ states question.now }
+    requires units { All (λ v. v ≤ unit) lower.now }
+{
+    let zero = zero_set(alloc, question)?;
+    Ok(guess(alloc, &*question, &zero, &*lower)?)
+}
+
 /// The guess of the coin loop over this lower value of state 0, where the goal is state 1, has this value there.
 fn check_coin_loop(alloc: Global, value: u64, wanted: u64) -> Result<(), Fail> {
     let game = coin_loop(alloc)?;
     let question = question_of(alloc, &game, Side::Max, 1)?;
-    let zero = zero_set(alloc, &question)?;
-    let lower = [value.min(UNIT), UNIT, 0];
-    let found = guess(alloc, &question, &zero, &lower)?;
+    let found = guess_of(alloc, &question, &[value.min(UNIT), UNIT, 0])?;
     same(value, found.as_slice(), [wanted, UNIT, 0].as_slice())
 }
 
@@ -40,9 +51,7 @@ fn the_coin_loop(rt: HostRuntime) -> Result<(), Fail> {
 fn check_four_states(alloc: Global, side: Side, first: u64, second: u64) -> Result<(), Fail> {
     let game = four_states(alloc)?;
     let question = question_of(alloc, &game, side, 2)?;
-    let zero = zero_set(alloc, &question)?;
-    let lower = [0, 0, UNIT, 0];
-    let found = guess(alloc, &question, &zero, &lower)?;
+    let found = guess_of(alloc, &question, &[0, 0, UNIT, 0])?;
     same(
         format_args!("{side:?}"),
         found.as_slice(),
@@ -68,14 +77,22 @@ fn a_guess_looks_first_at_the_states_that_refused_the_last_one(
     let alloc = rt.alloc();
     let game = chain(alloc, 8)?;
     let question = question_of(alloc, &game, Side::Max, 7)?;
-    let zero = zero_set(alloc, &question)?;
-    let lower = [0, 0, 0, 0, 0, 0, 0, UNIT];
+    check_steps(alloc, &question, &[0, 0, 0, 0, 0, 0, 0, UNIT])
+}
+
+/// Two guesses over one table of a chain of eight states take 6 up steps, and 1 more.
+fn check_steps(alloc: Global, question: &Question<'_>, lower: &[u64]) -> Result<(), Fail>
+    requires many { length lower.now ≡ states question.now }
+    requires units { All (λ v. v ≤ unit) lower.now }
+{
+    question.known();
+    let zero = zero_set(alloc, question)?;
     let mut witnesses = Witnesses::none();
     // The five tables without an excess are made, and each is refused at another state. These states refuse all others up to
     // the one that has the unit everywhere.
-    let _first = guess_with(&Alone {}, alloc, &question, &zero, &lower, &mut witnesses)?;
-    same("first", witnesses.up_steps(), 6)?;
+    guess_with(&Alone {}, alloc, &*question, &zero, &*lower, &mut witnesses)?;
+    let first = witnesses.up_steps();
     // Now they refuse the five as well.
-    let _second = guess_with(&Alone {}, alloc, &question, &zero, &lower, &mut witnesses)?;
-    same("second", witnesses.up_steps(), 7)
+    guess_with(&Alone {}, alloc, &*question, &zero, &*lower, &mut witnesses)?;
+    same("up steps", (first, witnesses.up_steps()), (6, 7))
 }

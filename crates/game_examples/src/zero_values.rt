@@ -1,8 +1,8 @@
 //! Worked zero sets.
 
 use expectations::same;
-use game_model::{Question, Side};
-use sample_games::{all_of, chain, goal_or_sink, only, question_of};
+use game_model::Side;
+use sample_games::{chain, goal_or_sink, question_of, question_with_dead};
 use std::alloc::Global;
 use std::test::Fail;
 use zero_sets::zero_set;
@@ -34,8 +34,7 @@ fn a_dead_state_cuts_a_chain(rt: HostRuntime) -> Result<(), Fail> {
 /// Up to the dead state, all 21 have the value 0.
 fn check_cut_chain(alloc: Global, side: Side) -> Result<(), Fail> {
     let game = chain(alloc, 40)?;
-    let sides = all_of(alloc, side, 40)?;
-    let question = Question::build(&game, sides, only(alloc, 39, 40)?, only(alloc, 20, 40)?);
+    let question = question_with_dead(alloc, &game, side, 39, 20)?;
     let marks = zero_set(alloc, &question)?;
     same(format_args!("{side:?}"), marks.count(), 21)
 }

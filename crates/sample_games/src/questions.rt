@@ -1,6 +1,6 @@
 //! The lists of a question, and questions of one goal.
 
-ghost use Rattle.std.specs.Prelude.{◌≡◌, ℕ, ◌<◌, length, All, slice_index_or, true, false, IfOk};
+ghost use Rattle.std.specs.Prelude.{◌≡◌, ◌≢◌, ℕ, ◌<◌, length, All, slice_index_or, true, false, IfOk};
 
 use game_model::{Game, Question, Side};
 use std::alloc::{AllocError, Global};
@@ -77,4 +77,22 @@ pub fn question_of_sides(
     let states = game.states();
     let goals = only(alloc, goal, states)?;
     Ok(Question::build(game, sides, goals, none_of(alloc, states)?))
+}
+
+/// How likely is this goal reached, where one side chooses at all states and one state is dead? None is a goal, or dead,
+/// where it is past the last.
+pub fn question_with_dead(
+    alloc: Global,
+    game: &Game,
+    side: Side,
+    goal: u32,
+    dead: u32,
+) -> Result<Question<'_>, AllocError>
+    requires { goal ≢ dead }
+    ensures { IfOk result (λ question. question.game ≡ game.now) }
+{
+    let states = game.states();
+    let sides = all_of(alloc, side, states)?;
+    let goals = only(alloc, goal, states)?;
+    Ok(Question::build(game, sides, goals, only(alloc, dead, states)?))
 }
