@@ -10,7 +10,7 @@ use game_model::{Question, Side, UNIT};
 use game_outside::{Gate, HoldGate, OpenGate};
 use reference_values::numerators;
 use rpatl_syntax::Bound;
-use sample_games::{coin_loop, four_states, least_at, question_of, question_of_sides};
+use sample_games::{coin_loop, four_states, question_of, question_with_least};
 use std::alloc::Global;
 use std::test::Fail;
 use std::thread::Threads;
@@ -159,7 +159,7 @@ fn lottery_bracket<R: Threads + Sync>(rt: &R, alloc: Global, workers: u32) -> Re
     requires few { workers ≤ most_workers }
 {
     let game = four_states(alloc)?;
-    let question = question_of_sides(alloc, &game, least_at(alloc, 1, 4)?, 2)?;
+    let question = question_with_least(alloc, &game, 1, 2)?;
     value_bracket(rt, alloc, &question, 1_000, workers, &OpenGate {})
 }
 

@@ -46,28 +46,21 @@ fn the_coin_loop(rt: HostRuntime) -> Result<(), Fail> {
     Ok(())
 }
 
-/// The guess of the game of four states over the table that is 0 but at the goal, with one player, has these values at the
-/// first two.
-fn check_four_states(alloc: Global, side: Side, first: u64, second: u64) -> Result<(), Fail> {
+/// The guess of the game of four states over the table that is 0 but at the goal, with one player.
+fn check_four_states(name: &str, alloc: Global, side: Side, wanted: &[u64]) -> Result<(), Fail> {
     let game = four_states(alloc)?;
     let question = question_of(alloc, &game, side, 2)?;
     let found = guess_of(alloc, &question, &[0, 0, UNIT, 0])?;
-    same(
-        format_args!("{side:?}"),
-        found.as_slice(),
-        [first, second, UNIT, 0].as_slice(),
-    )
+    same(name, found.as_slice(), wanted)
 }
 
 #[test]
 fn up_steps_alone_reach_the_values_of_four_states(rt: HostRuntime) -> Result<(), Fail> {
-    for (side, first, second) in [
-        (Side::Max, 650_000_000_000_000, 500_000_000_000_000),
-        (Side::Min, 200_000_000_000_000, 200_000_000_000_000),
-    ] {
-        check_four_states(rt.alloc(), side, first, second)?;
-    }
-    Ok(())
+    let alloc = rt.alloc();
+    let most = [650_000_000_000_000, 500_000_000_000_000, UNIT, 0];
+    check_four_states("maximiser", alloc, Side::Max, &most)?;
+    let least = [200_000_000_000_000, 200_000_000_000_000, UNIT, 0];
+    check_four_states("minimiser", alloc, Side::Min, &least)
 }
 
 #[test]

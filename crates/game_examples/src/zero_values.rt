@@ -9,32 +9,33 @@ use zero_sets::zero_set;
 
 #[test]
 fn the_minimiser_goes_to_the_sink(rt: HostRuntime) -> Result<(), Fail> {
-    check_three(rt.alloc(), Side::Min, (true, false, true))?;
-    check_three(rt.alloc(), Side::Max, (false, false, true))
+    check_three("minimiser", rt.alloc(), Side::Min, (true, false, true))?;
+    check_three("maximiser", rt.alloc(), Side::Max, (false, false, true))
 }
 
 /// Where one side chooses between goal and sink, these states have the value 0.
-fn check_three(alloc: Global, side: Side, wanted: (bool, bool, bool)) -> Result<(), Fail> {
+fn check_three(
+    name: &str,
+    alloc: Global,
+    side: Side,
+    wanted: (bool, bool, bool),
+) -> Result<(), Fail> {
     let game = goal_or_sink(alloc)?;
     let question = question_of(alloc, &game, side, 1)?;
     let marks = zero_set(alloc, &question)?;
-    same(
-        format_args!("{side:?}"),
-        (marks.has(0), marks.has(1), marks.has(2)),
-        wanted,
-    )
+    same(name, (marks.has(0), marks.has(1), marks.has(2)), wanted)
 }
 
 #[test]
 fn a_dead_state_cuts_a_chain(rt: HostRuntime) -> Result<(), Fail> {
-    check_cut_chain(rt.alloc(), Side::Min)?;
-    check_cut_chain(rt.alloc(), Side::Max)
+    check_cut_chain("minimiser", rt.alloc(), Side::Min)?;
+    check_cut_chain("maximiser", rt.alloc(), Side::Max)
 }
 
 /// Up to the dead state, all 21 have the value 0.
-fn check_cut_chain(alloc: Global, side: Side) -> Result<(), Fail> {
+fn check_cut_chain(name: &str, alloc: Global, side: Side) -> Result<(), Fail> {
     let game = chain(alloc, 40)?;
     let question = question_with_dead(alloc, &game, side, 39, 20)?;
     let marks = zero_set(alloc, &question)?;
-    same(format_args!("{side:?}"), marks.count(), 21)
+    same(name, marks.count(), 21)
 }

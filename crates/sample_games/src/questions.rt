@@ -17,7 +17,7 @@ pub fn all_of(alloc: Global, side: Side, states: u32) -> Result<Vec<Side>, Alloc
 }
 
 /// The minimiser at one state, the maximiser at the others.
-pub fn least_at(alloc: Global, place: u32, states: u32) -> Result<Vec<Side>, AllocError>
+fn least_at(alloc: Global, place: u32, states: u32) -> Result<Vec<Side>, AllocError>
     requires { place < states }
     ensures { IfOk result (λ sides. length sides.items ≡ states) }
 {
@@ -77,6 +77,20 @@ pub fn question_of_sides(
     let states = game.states();
     let goals = only(alloc, goal, states)?;
     Ok(Question::build(game, sides, goals, none_of(alloc, states)?))
+}
+
+/// How likely is this goal reached, where the minimiser chooses at one state and the maximiser at the others? None is dead.
+pub fn question_with_least(
+    alloc: Global,
+    game: &Game,
+    place: u32,
+    goal: u32,
+) -> Result<Question<'_>, AllocError>
+    requires { place < length game.now }
+    ensures { IfOk result (λ question. question.game ≡ game.now) }
+{
+    let sides = least_at(alloc, place, game.states())?;
+    question_of_sides(alloc, game, sides, goal)
 }
 
 /// How likely is this goal reached, where one side chooses at all states and one state is dead? None is a goal, or dead,
