@@ -2,28 +2,22 @@
 
 ghost use Rattle.std.specs.Prelude.{◌≡◌, ◌≤◌, length, All, IfOk};
 ghost use Rattle.game_model.specs.Limits.{unit};
+ghost use Rattle.bounded_rounds.specs.Limits.{most_steps};
+ghost use Rattle.round_workers.specs.Share.{most_workers};
 
-use bounded_rounds::{MOST_STEPS, bounded, bounded_values};
-use game_model::{Game, Question, Side, UNIT};
+use bounded_rounds::{MOST_STEPS, Sweep, bounded, bounded_values};
+use expectations::{holds, same};
+use game_model::{Side, UNIT};
 use game_outside::{HoldGate, OpenGate};
-use sample_games::{all_of, coin_loop, four_states, ladder, none_of, only};
+use sample_games::{
+    all_of, coin_loop, four_states, ladder, question_of, question_of_sides, question_with_least,
+};
 use std::alloc::{AllocError, Global};
 use std::test::Fail;
-
-// How likely does the coin loop end at state 1?
-fn coin_question(alloc: Global, game: &Game) -> Result<Question<'_>, Fail>
-    requires { length game.now ≡ 3 }
-    ensures { IfOk result (λ question. question.game ≡ game.now) }
-{
-    let sides = all_of(alloc, Side::Max, 3)?;
-    Ok(Question::build(game, sides, only(alloc, 1, 3)?, none_of(alloc, 3)?))
-}
+use std::thread::Threads;
 
 #[test]
 fn the_coin_loop_step_by_step(rt: HostRuntime) -> Result<(), Fail> {
-    let alloc = rt.alloc();
-    let game = coin_loop(alloc)?;
-    let question = coin_question(alloc, &game)?;
     for (steps, lower, upper) in [
         (0, 0, 0),
         (1, 250_000_000_000_000, 250_000_000_000_000),
@@ -33,50 +27,84 @@ fn the_coin_loop_step_by_step(rt: HostRuntime) -> Result<(), Fail> {
         (MOST_STEPS, 499_999_999_999_999, 500_000_000_000_000),
     ] {
         for workers in [1, 2, 3, 64] {
-            let found = bounded_values(&rt, alloc, &question, steps, workers, &OpenGate {})?;
-            assert_eq!(rt;
-                found.lower.as_slice(),
-                [lower, UNIT, 0].as_slice(),
-                "{steps} steps, {workers} workers"
-            );
-            assert_eq!(rt;
-                found.upper.as_slice(),
-                [upper, UNIT, 0].as_slice(),
-                "{steps} steps, {workers} workers"
-            );
+            check_coin_loop(&rt, rt.alloc(), steps, workers, (lower, upper))?;
         }
     }
     Ok(())
 }
 
+/// The bounds of state 0 of the coin loop, where the goal is state 1, are these.
+fn check_coin_loop<R: Threads + Sync>(
+    rt: &R,
+    alloc: Global,
+    steps: u32,
+    workers: u32,
+    wanted: (u64, u64),
+) -> Result<(), Fail>
+    requires steps { steps ≤ most_steps }
+    requires workers { (1 ≤ workers) × (workers ≤ most_workers) }
+{
+    let found = coin_values(rt, alloc, steps, workers)?;
+    same(
+        format_args!("{steps} steps, {workers} workers"),
+        (found.lower.as_slice(), found.upper.as_slice()),
+        (
+            [wanted.0, UNIT, 0].as_slice(),
+            [wanted.1, UNIT, 0].as_slice(),
+        ),
+    )
+}
+
+/// The sweep of the coin loop from the table that iteration opens with.
+fn coin_values<R: Threads + Sync>(
+    rt: &R,
+    alloc: Global,
+    steps: u32,
+    workers: u32,
+) -> Result<Sweep, Fail>
+    requires steps { steps ≤ most_steps }
+    requires workers { (1 ≤ workers) × (workers ≤ most_workers) }
+{
+    let game = coin_loop(alloc)?;
+    let question = question_of(alloc, &game, Side::Max, 1)?;
+    Ok(bounded_values(rt, alloc, &question, steps, workers, &OpenGate {})?)
+}
+
 #[test]
 fn two_workers_run_at_once(rt: HostRuntime) -> Result<(), Fail> {
-    let alloc = rt.alloc();
-    let game = coin_loop(alloc)?;
-    let question = coin_question(alloc, &game)?;
     let gate = HoldGate::new();
-    let found = bounded(&rt, alloc, &question, &[0, UNIT, 0], 2, 2, &gate)?;
-    assert_eq!(rt;
+    let found = two_steps(&rt, rt.alloc(), &gate)?;
+    same(
+        "lower",
         found.lower.as_slice(),
-        [375_000_000_000_000, UNIT, 0].as_slice()
-    );
-    assert!(rt; !gate.gave_up(), "the workers ran one after another");
-    Ok(())
+        [375_000_000_000_000, UNIT, 0].as_slice(),
+    )?;
+    holds("the workers ran at once", !gate.gave_up())
+}
+
+/// Two steps of the coin loop by two workers.
+fn two_steps<R: Threads + Sync>(rt: &R, alloc: Global, gate: &HoldGate) -> Result<Sweep, Fail> {
+    let game = coin_loop(alloc)?;
+    let question = question_of(alloc, &game, Side::Max, 1)?;
+    Ok(bounded(rt, alloc, &question, &[0, UNIT, 0], 2, 2, gate)?)
 }
 
 #[test]
 fn each_player_takes_its_better_choice(rt: HostRuntime) -> Result<(), Fail> {
-    let alloc = rt.alloc();
-    let game = four_states(alloc)?;
-    let mut sides = all_of(alloc, Side::Max, 4)?;
-    sides[1] = Side::Min;
-    let question = Question::build(&game, sides, none_of(alloc, 4)?, none_of(alloc, 4)?);
-    // Without goals: is state 2 the next one?
-    let found = bounded(&rt, alloc, &question, &[0, 0, UNIT, 0], 1, 4, &OpenGate {})?;
+    let found = one_step(&rt, rt.alloc())?;
     let values = [UNIT / 100 * 65, UNIT / 5, UNIT, 0];
-    assert_eq!(rt; found.lower.as_slice(), values.as_slice());
-    assert_eq!(rt; found.upper.as_slice(), values.as_slice());
-    Ok(())
+    same(
+        "lower and upper",
+        (found.lower.as_slice(), found.upper.as_slice()),
+        (values.as_slice(), values.as_slice()),
+    )
+}
+
+/// One step of the game of four states and two players. Without goals: is state 2 the next one?
+fn one_step<R: Threads + Sync>(rt: &R, alloc: Global) -> Result<Sweep, Fail> {
+    let game = four_states(alloc)?;
+    let question = question_with_least(alloc, &game, 1, 4)?;
+    Ok(bounded(rt, alloc, &question, &[0, 0, UNIT, 0], 1, 4, &OpenGate {})?)
 }
 
 // The unit at one state, and 0 elsewhere.
@@ -91,33 +119,42 @@ fn unit_at(alloc: Global, place: u32, states: u32) -> Result<Vec<u64>, AllocErro
     Ok(table)
 }
 
-#[test]
-fn every_number_of_workers_finds_the_same(rt: HostRuntime) -> Result<(), Fail> {
-    let alloc = rt.alloc();
-    let game = ladder(alloc, 100)?;
+/// Where every third state of the first 99 is the minimiser's, and the maximiser has the others.
+fn every_third(alloc: Global) -> Result<Vec<Side>, AllocError>
+    ensures { IfOk result (λ sides. length sides.items ≡ 100) }
+{
     let mut sides = all_of(alloc, Side::Max, 100)?;
     for place in 0..33 {
         sides[3 * place] = Side::Min;
     }
-    let question = Question::build(&game, sides, only(alloc, 60, 100)?, none_of(alloc, 100)?);
+    Ok(sides)
+}
+
+/// The sweep of 40 steps over a ladder of two players.
+fn ladder_sweep<R: Threads + Sync>(rt: &R, alloc: Global, workers: u32) -> Result<Sweep, Fail>
+    requires { (1 ≤ workers) × (workers ≤ most_workers) }
+    ensures { IfOk result (λ sweep. length sweep.lower.items ≡ 100) }
+{
+    let game = ladder(alloc, 100)?;
+    let question = question_of_sides(alloc, &game, every_third(alloc)?, 60)?;
     let opening = unit_at(alloc, 60, 100)?;
-    let alone = bounded(&rt, alloc, &question, &opening, 40, 1, &OpenGate {})?;
-    assert!(rt;
+    Ok(bounded(rt, alloc, &question, &opening, 40, workers, &OpenGate {})?)
+}
+
+#[test]
+fn every_number_of_workers_finds_the_same(rt: HostRuntime) -> Result<(), Fail> {
+    let alone = ladder_sweep(&rt, rt.alloc(), 1)?;
+    holds(
+        "40 steps reach 40 states down",
         alone.lower[25] > 0 && alone.lower[15] == 0,
-        "40 steps reach 40 states down"
-    );
+    )?;
     for workers in [2, 3, 8, 64] {
-        let found = bounded(&rt, alloc, &question, &opening, 40, workers, &OpenGate {})?;
-        assert_eq!(rt;
-            found.lower.as_slice(),
-            alone.lower.as_slice(),
-            "{workers} workers"
-        );
-        assert_eq!(rt;
-            found.upper.as_slice(),
-            alone.upper.as_slice(),
-            "{workers} workers"
-        );
+        let found = ladder_sweep(&rt, rt.alloc(), workers)?;
+        same(
+            workers,
+            (found.lower.as_slice(), found.upper.as_slice()),
+            (alone.lower.as_slice(), alone.upper.as_slice()),
+        )?;
     }
     Ok(())
 }

@@ -1,80 +1,72 @@
 //! Worked brackets.
 
-ghost use Rattle.std.specs.Prelude.{◌≡◌, ◌≤◌, IfOk, length};
-ghost use Rattle.game_model.specs.Dual.{IsZeroSet};
+ghost use Rattle.std.specs.Prelude.{◌≤◌};
 ghost use Rattle.round_workers.specs.Share.{most_workers};
 ghost use Rattle.bracket_engine.specs.Limits.{most_rounds};
 
 use bracket_engine::{Bracket, bracket};
-use game_model::{Game, Marks, Question, Side, UNIT};
+use expectations::{holds, same};
+use game_model::{Question, Side, UNIT};
 use game_outside::{Gate, HoldGate, OpenGate};
 use reference_values::numerators;
 use rpatl_syntax::Bound;
-use sample_games::{all_of, coin_loop, four_states, none_of, only};
+use sample_games::{coin_loop, four_states, question_of, question_with_least};
 use std::alloc::Global;
 use std::test::Fail;
 use std::thread::Threads;
 use verdicts::{StopRule, settle};
 use zero_sets::zero_set;
 
-// How likely does the coin loop end at state 1?
-fn coin_question(alloc: Global, game: &Game) -> Result<Question<'_>, Fail>
-    requires { length game.now ≡ 3 }
-{
-    let sides = all_of(alloc, Side::Max, 3)?;
-    Ok(Question::build(game, sides, only(alloc, 1, 3)?, none_of(alloc, 3)?))
-}
-
-fn zeros_of(alloc: Global, question: &Question) -> Result<Marks, Fail>
-    ensures { IfOk result (λ zero. IsZeroSet question.now zero) }
-{
-    match zero_set(alloc, question) {
-        Ok(zero) => Ok(zero),
-        Err(_) => Err(Fail::new("no memory")),
-    }
-}
-
 // The bracket of a question that asks for the value at state 0.
 fn value_bracket<R: Threads + Sync, G: Gate + Sync>(
     rt: &R,
     alloc: Global,
     question: &Question<'_>,
-    zero: &Marks,
     rounds: u32,
     workers: u32,
     gate: &G,
 ) -> Result<Bracket, Fail>
-    requires zero { IsZeroSet question.now zero.now }
     requires rounds { rounds ≤ most_rounds }
     requires some { 1 ≤ workers }
     requires few { workers ≤ most_workers }
 {
     question.known();
+    let zero = zero_set(alloc, question)?;
     let stop = StopRule::of_bound(Bound::AskMax, |lower, upper| {
         settle(&Bound::AskMax, lower, upper).is_settling()
     });
-    match bracket(
+    Ok(bracket(
         rt,
         alloc,
         question,
-        zero,
+        &zero,
         rounds,
         workers,
         &stop,
         &[0],
         gate,
-    ) {
-        Ok(found) => Ok(found),
-        Err(_) => Err(Fail::new("no memory")),
-    }
+    )?)
+}
+
+// The bracket of the coin loop, where the goal is state 1.
+fn coin_bracket<R: Threads + Sync, G: Gate + Sync>(
+    rt: &R,
+    alloc: Global,
+    rounds: u32,
+    workers: u32,
+    gate: &G,
+) -> Result<Bracket, Fail>
+    requires rounds { rounds ≤ most_rounds }
+    requires some { 1 ≤ workers }
+    requires few { workers ≤ most_workers }
+{
+    let game = coin_loop(alloc)?;
+    let question = question_of(alloc, &game, Side::Max, 1)?;
+    value_bracket(rt, alloc, &question, rounds, workers, gate)
 }
 
 #[test]
 fn the_coin_loop_settles_at_round_50(rt: HostRuntime) -> Result<(), Fail> {
-    let alloc = rt.alloc();
-    let game = coin_loop(alloc)?;
-    let question = coin_question(alloc, &game)?;
-    let zero = zeros_of(alloc, &question)?;
     for (asked, base, lower, upper, rounds, stable) in [
         (0, 0, 4, 562_949_953_421_312, 0, false),
         (
@@ -88,94 +80,129 @@ fn the_coin_loop_settles_at_round_50(rt: HostRuntime) -> Result<(), Fail> {
         (49, UNIT / 2 - 1, UNIT / 2, UNIT / 2, 49, true),
         (1_000, UNIT / 2 - 1, UNIT / 2, UNIT / 2, 50, true),
     ] {
-        let found = value_bracket(&rt, alloc, &question, &zero, asked, 1, &OpenGate {})?;
-        assert_eq!(rt;
-            found.base.as_slice(),
-            [base, UNIT, 0].as_slice(),
-            "after {asked}"
-        );
-        assert_eq!(rt;
-            found.lower.as_slice(),
-            [lower, UNIT, 0].as_slice(),
-            "after {asked}"
-        );
-        assert_eq!(rt;
-            found.upper.as_slice(),
-            [upper, UNIT, 0].as_slice(),
-            "after {asked}"
-        );
-        assert_eq!(rt; found.rounds, rounds, "after {asked}");
-        assert_eq!(rt; found.stable, stable, "after {asked}");
+        check_coin_loop(
+            &rt,
+            rt.alloc(),
+            asked,
+            (base, lower, upper),
+            (rounds, stable),
+        )?;
     }
     Ok(())
+}
+
+/// After so many rounds at most, these are the base and the bounds of state 0 of the coin loop, and these are the rounds that it took and whether it settled.
+fn check_coin_loop<R: Threads + Sync>(
+    rt: &R,
+    alloc: Global,
+    asked: u32,
+    entries: (u64, u64, u64),
+    end: (u32, bool),
+) -> Result<(), Fail>
+    requires { asked ≤ most_rounds }
+{
+    let found = coin_bracket(rt, alloc, asked, 1, &OpenGate {})?;
+    same(
+        asked,
+        (
+            found.base.as_slice(),
+            found.lower.as_slice(),
+            found.upper.as_slice(),
+            (found.rounds, found.stable),
+        ),
+        (
+            [entries.0, UNIT, 0].as_slice(),
+            [entries.1, UNIT, 0].as_slice(),
+            [entries.2, UNIT, 0].as_slice(),
+            end,
+        ),
+    )
 }
 
 #[test]
 fn the_first_player_chooses_the_better_lottery(rt: HostRuntime) -> Result<(), Fail> {
-    let alloc = rt.alloc();
-    let game = four_states(alloc)?;
-    let mut sides = all_of(alloc, Side::Max, 4)?;
-    sides[1] = Side::Min;
-    let question = Question::build(&game, sides, only(alloc, 2, 4)?, none_of(alloc, 4)?);
-    let zero = zeros_of(alloc, &question)?;
     for workers in [1, 2, 3, 64] {
-        let found = value_bracket(&rt, alloc, &question, &zero, 1_000, workers, &OpenGate {})?;
-        assert_eq!(rt;
-            found.lower.as_slice(),
-            [UNIT / 100 * 65, UNIT / 5, UNIT, 0].as_slice(),
-            "{workers} workers"
-        );
-        assert_eq!(rt;
-            found.upper.as_slice(),
-            [UNIT / 100 * 65, UNIT / 5, UNIT, 0].as_slice(),
-            "{workers} workers"
-        );
-        assert_eq!(rt;
-            found.choices.as_slice(),
-            [Some(1), None, None, None].as_slice(),
-            "{workers} workers"
-        );
-        assert_eq!(rt;
-            found.replies.as_slice(),
-            [None, Some(1), None, None].as_slice(),
-            "{workers} workers"
-        );
-        assert!(rt; found.stable, "{workers} workers");
+        check_lotteries(&rt, rt.alloc(), workers)?;
     }
     Ok(())
 }
 
+/// The values, the choice and the reply of two players in the game of four states.
+fn check_lotteries<R: Threads + Sync>(rt: &R, alloc: Global, workers: u32) -> Result<(), Fail>
+    requires some { 1 ≤ workers }
+    requires few { workers ≤ most_workers }
+{
+    let found = lottery_bracket(rt, alloc, workers)?;
+    let values = [UNIT / 100 * 65, UNIT / 5, UNIT, 0];
+    same(
+        workers,
+        (
+            found.lower.as_slice(),
+            found.upper.as_slice(),
+            found.choices.as_slice(),
+            found.replies.as_slice(),
+            found.stable,
+        ),
+        (
+            values.as_slice(),
+            values.as_slice(),
+            [Some(1), None, None, None].as_slice(),
+            [None, Some(1), None, None].as_slice(),
+            true,
+        ),
+    )
+}
+
+// The bracket of two players in the game of four states, where the goal is state 2.
+fn lottery_bracket<R: Threads + Sync>(rt: &R, alloc: Global, workers: u32) -> Result<Bracket, Fail>
+    requires some { 1 ≤ workers }
+    requires few { workers ≤ most_workers }
+{
+    let game = four_states(alloc)?;
+    let question = question_with_least(alloc, &game, 1, 2)?;
+    value_bracket(rt, alloc, &question, 1_000, workers, &OpenGate {})
+}
+
 #[test]
 fn after_r_rounds_r_units_at_most_are_missing(rt: HostRuntime) -> Result<(), Fail> {
-    let alloc = rt.alloc();
-    let game = coin_loop(alloc)?;
-    let question = coin_question(alloc, &game)?;
-    let zero = zeros_of(alloc, &question)?;
     let mut power: u128 = 1;
     for rounds in 0..20u32 {
-        let found = value_bracket(&rt, alloc, &question, &zero, rounds, 1, &OpenGate {})?;
-        let Ok(exact) = numerators(alloc, &question, rounds) else {
-            return Err(Fail::new("no numerators"));
-        };
-        for (base, numerator) in found.base.iter().zip(exact.iter()) {
-            let reached = (u128::from(*base) + u128::from(rounds)).saturating_mul(power);
-            let value = numerator.saturating_mul(u128::from(UNIT));
-            assert!(rt; reached >= value, "after {rounds} rounds");
-        }
+        check_missing(&rt, rt.alloc(), rounds, power)?;
         power = power.saturating_mul(4);
     }
     Ok(())
 }
 
+/// As many units as rounds at most are missing at each state of the coin loop, by its numerators over this power of 4.
+fn check_missing<R: Threads + Sync>(
+    rt: &R,
+    alloc: Global,
+    rounds: u32,
+    power: u128,
+) -> Result<(), Fail>
+    requires { rounds ≤ most_rounds }
+{
+    let found = coin_bracket(rt, alloc, rounds, 1, &OpenGate {})?;
+    let exact = coin_numerators(alloc, rounds)?;
+    for (base, numerator) in found.base.iter().zip(exact.iter()) {
+        let reached = (u128::from(*base) + u128::from(rounds)).saturating_mul(power);
+        let value = numerator.saturating_mul(u128::from(UNIT));
+        holds(rounds, reached >= value)?;
+    }
+    Ok(())
+}
+
+// The numerators of the coin loop after so many rounds.
+fn coin_numerators(alloc: Global, rounds: u32) -> Result<Vec<u128>, Fail> {
+    let game = coin_loop(alloc)?;
+    let question = question_of(alloc, &game, Side::Max, 1)?;
+    Ok(numerators(alloc, &question, rounds)?)
+}
+
 #[test]
 fn two_workers_run_at_once(rt: HostRuntime) -> Result<(), Fail> {
-    let alloc = rt.alloc();
-    let game = coin_loop(alloc)?;
-    let question = coin_question(alloc, &game)?;
-    let zero = zeros_of(alloc, &question)?;
     let gate = HoldGate::new();
-    let found = value_bracket(&rt, alloc, &question, &zero, 10, 2, &gate)?;
-    assert!(rt; found.rounds == 10, "a round is missing");
-    assert!(rt; !gate.gave_up(), "the workers ran one after another");
-    Ok(())
+    let found = coin_bracket(&rt, rt.alloc(), 10, 2, &gate)?;
+    same("rounds", found.rounds, 10)?;
+    holds("the workers ran at once", !gate.gave_up())
 }

@@ -1,21 +1,24 @@
 //! Drawn games against the rules as they are written down.
 
 ghost use Rattle.std.specs.Prelude.{◌<◌, ◌≤◌, ◌^◌, length};
+ghost use Rattle.drawn_game.specs.Limits.{fewest_states, most_seed};
 ghost use Rattle.game_model.specs.Game.{choices_of};
+ghost use Rattle.game_model.specs.Limits.{most_states};
 
 use drawn_game::{Drawn, Draws, draw_game};
-use game_model::{Game, Side};
+use expectations::same;
+use game_model::{Game, Question, Side};
 use std::alloc::{AllocError, Global};
 use std::test::Fail;
 
 #[test]
-fn the_generator_gives_the_known_draw(rt: HostRuntime) {
+fn the_generator_gives_the_known_draw() -> Result<(), Fail> {
     // The C++ standard gives the 10,000th draw of `minstd_rand`, whose seed is 1.
     let mut draws = Draws::from_seed(1);
     for _draw in 1..10_000 {
         draws.draw();
     }
-    assert_eq!(rt; draws.draw(), 399_268_537);
+    same("draw", draws.draw(), 399_268_537)
 }
 
 // A line for each state: its side, and of each choice the total and the edges.
@@ -55,12 +58,23 @@ fn choice_text(alloc: Global, game: &Game, state: u32, choice: u32) -> Result<St
     Ok(text)
 }
 
+// The text of the game that is drawn.
+fn drawn_text(alloc: Global, seed: u32, states: u32) -> Result<String, Fail>
+    requires seed { (1 ≤ seed) × (seed ≤ most_seed) }
+    requires states { (fewest_states ≤ states) × (states ≤ most_states) }
+{
+    let drawn = draw_game(alloc, seed, states)?;
+    Ok(text_of(alloc, &drawn)?)
+}
+
 #[test]
 fn the_worked_row_is_drawn(rt: HostRuntime) -> Result<(), Fail> {
-    let drawn = draw_game(rt.alloc(), 1, 3)?;
-    let text = text_of(rt.alloc(), &drawn)?;
-    assert_eq!(rt; text.as_str(), "Min 17 1:8 2:9;\nMax 1 1:1;\nMax 1 2:1;\n");
-    Ok(())
+    let text = drawn_text(rt.alloc(), 1, 3)?;
+    same(
+        "text",
+        text.as_str(),
+        "Min 17 1:8 2:9;\nMax 1 1:1;\nMax 1 2:1;\n",
+    )
 }
 
 // The next draw.
@@ -125,28 +139,49 @@ fn add_plain_choice(
     Ok(x)
 }
 
+/// The drawn game reads as the rules say.
+fn check_drawn(alloc: Global, seed: u32, states: u32) -> Result<(), Fail>
+    requires seed { (1 ≤ seed) × (seed ≤ most_seed) }
+    requires states { (fewest_states ≤ states) × (states ≤ most_states) }
+{
+    let text = drawn_text(alloc, seed, states)?;
+    let plain = plain_text(alloc, u64::from(seed), u64::from(states))?;
+    same(seed, text.as_str(), plain.as_str())
+}
+
 #[test]
 fn games_are_as_a_plain_reading_says(rt: HostRuntime) -> Result<(), Fail> {
-    let alloc = rt.alloc();
     for (seed, states) in [(7, 20), (2_147_483_646, 3), (1, 4), (48_271, 100)] {
-        assert!(rt; 1 <= seed && seed <= 2_147_483_646 && 3 <= states && states <= 1_000);
-        let drawn = draw_game(alloc, seed, states)?;
-        let text = text_of(alloc, &drawn)?;
-        let plain = plain_text(alloc, u64::from(seed), u64::from(states))?;
-        assert_eq!(rt; text.as_str(), plain.as_str());
+        check_drawn(rt.alloc(), seed, states)?;
     }
     Ok(())
 }
 
 #[test]
 fn the_maximiser_wants_the_goal(rt: HostRuntime) -> Result<(), Fail> {
-    let drawn = draw_game(rt.alloc(), 7, 20)?;
-    let question = drawn.question(rt.alloc())?;
-    drawn.known();
-    assert_eq!(rt; question.game().states(), 20);
-    for state in 0..20 {
-        assert_eq!(rt; question.is_goal(state), state == 18);
-        assert!(rt; !question.is_dead(state));
+    check_question(rt.alloc(), 7, 20)
+}
+
+/// The state before the last is the goal.
+fn check_question(alloc: Global, seed: u32, states: u32) -> Result<(), Fail>
+    requires seed { (1 ≤ seed) × (seed ≤ most_seed) }
+    requires states { (fewest_states ≤ states) × (states ≤ most_states) }
+{
+    let drawn = draw_game(alloc, seed, states)?;
+    let question = drawn.question(alloc)?;
+    same("states", question.game().states(), states)?;
+    check_goal(&question, states - 2)
+}
+
+/// This state and no other is a goal, and none is dead.
+fn check_goal(question: &Question<'_>, goal: u32) -> Result<(), Fail> {
+    question.known();
+    for state in 0..question.game().states() {
+        same(
+            state,
+            (question.is_goal(state), question.is_dead(state)),
+            (state == goal, false),
+        )?;
     }
     Ok(())
 }
@@ -154,11 +189,20 @@ fn the_maximiser_wants_the_goal(rt: HostRuntime) -> Result<(), Fail> {
 #[test]
 fn many_states_are_drawn(rt: HostRuntime) -> Result<(), Fail> {
     // The numbers are those of a plain reading of the rules in another language.
-    let drawn = draw_game(rt.alloc(), 1, 100_000)?;
+    check_sizes(rt.alloc(), 1, 100_000, (200_100, 600_562))
+}
+
+/// The states, and the choices and edges of all of them.
+fn check_sizes(alloc: Global, seed: u32, states: u32, wanted: (u64, u64)) -> Result<(), Fail>
+    requires seed { (1 ≤ seed) × (seed ≤ most_seed) }
+    requires states { (fewest_states ≤ states) × (states ≤ most_states) }
+{
+    let drawn = draw_game(alloc, seed, states)?;
     let game = drawn.game();
-    let states = game.states();
-    assert_eq!(rt; states, 100_000);
-    assert_eq!(rt; game.choices_below(states), 200_100);
-    assert_eq!(rt; game.edges_below(states), 600_562);
-    Ok(())
+    let count = game.states();
+    same(
+        "states, choices, edges",
+        (count, game.choices_below(count), game.edges_below(count)),
+        (states, wanted.0, wanted.1),
+    )
 }

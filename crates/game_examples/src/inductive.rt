@@ -1,8 +1,13 @@
 //! Worked upper tables.
 
-use game_model::{Question, Side, UNIT};
+ghost use Rattle.std.specs.Prelude.{◌≡◌, length};
+ghost use Rattle.game_model.specs.Query.{states};
+
+use expectations::same;
+use game_model::{Game, Question, Side, UNIT};
 use inductive_check::{UpperCause, UpperFault, check_replies, check_upper, replies, swap};
-use sample_games::{all_of, coin_loop, goal_or_sink, none_of, only};
+use sample_games::{coin_loop, goal_or_sink, question_of};
+use std::alloc::Global;
 use std::test::Fail;
 use zero_sets::zero_set;
 
@@ -14,73 +19,104 @@ fn fault(state: u32, cause: UpperCause) -> UpperFault {
     UpperFault { state, cause }
 }
 
+/// What the check says of a table, where one side chooses at all three states and the goal is state 1.
+fn check_table(
+    alloc: Global,
+    game: Game,
+    side: Side,
+    table: [u64; 3],
+    wanted: Result<(), UpperFault>,
+) -> Result<(), Fail>
+    requires { length game ≡ 3 }
+{
+    let question = question_of(alloc, &game, side, 1)?;
+    let found = check_upper(&question, &table);
+    same(format_args!("{table:?}"), found, wanted)
+}
+
 #[test]
 fn a_coin_loop_is_held_to_one_half(rt: HostRuntime) -> Result<(), Fail> {
     let alloc = rt.alloc();
-    let game = coin_loop(alloc)?;
-    let sides = all_of(alloc, Side::Max, 3)?;
-    let question = Question::build(&game, sides, only(alloc, 1, 3)?, none_of(alloc, 3)?);
-    assert_eq!(rt; check_upper(&question, &[HALF, ONE, 0]), Ok(()));
-    assert_eq!(rt; check_upper(&question, &[ONE, ONE, ONE]), Ok(()));
-    assert_eq!(rt;
-        check_upper(&question, &[HALF - 1, ONE, 0]),
-        Err(fault(0, UpperCause::Above { choice: 0 }))
-    );
-    assert_eq!(rt;
-        check_upper(&question, &[HALF, ONE - 1, 0]),
-        Err(fault(1, UpperCause::Goal))
-    );
-    assert_eq!(rt;
-        check_upper(&question, &[0, ONE, ONE + 1]),
-        Err(fault(2, UpperCause::OverOne))
-    );
+    for (table, wanted) in [
+        ([HALF, ONE, 0], Ok(())),
+        ([ONE, ONE, ONE], Ok(())),
+        (
+            [HALF - 1, ONE, 0],
+            Err(fault(0, UpperCause::Above { choice: 0 })),
+        ),
+        ([HALF, ONE - 1, 0], Err(fault(1, UpperCause::Goal))),
+        ([0, ONE, ONE + 1], Err(fault(2, UpperCause::OverOne))),
+    ] {
+        check_table(alloc, coin_loop(alloc)?, Side::Max, table, wanted)?;
+    }
     Ok(())
 }
 
 #[test]
 fn the_minimiser_replies_with_the_sink(rt: HostRuntime) -> Result<(), Fail> {
     let alloc = rt.alloc();
-    let game = goal_or_sink(alloc)?;
-    let sides = all_of(alloc, Side::Min, 3)?;
-    let question = Question::build(&game, sides, only(alloc, 1, 3)?, none_of(alloc, 3)?);
-    assert_eq!(rt;
-        check_upper(&question, &[0, ONE, 1]),
-        Err(fault(0, UpperCause::NoReply))
-    );
-    let upper = [0, ONE, 0];
-    let Ok(()) = check_upper(&question, &upper) else {
-        return Err(Fail::new("the table is refused"));
-    };
-    let Ok(found) = replies(alloc, &question, &upper) else {
-        return Err(Fail::new("no memory"));
-    };
-    assert_eq!(rt; found.as_slice(), [Some(1), None, Some(0)].as_slice());
-    for (given, want) in [
-        ([Some(1), None, Some(0)], None),
-        ([Some(0), None, Some(0)], Some(0)),
-        ([Some(2), None, Some(0)], Some(0)),
-        ([Some(1), None, None], Some(2)),
+    let no_reply = Err(fault(0, UpperCause::NoReply));
+    check_table(
+        alloc,
+        goal_or_sink(alloc)?,
+        Side::Min,
+        [0, ONE, 1],
+        no_reply,
+    )?;
+    check_found(alloc, [0, ONE, 0], [Some(1), None, Some(0)])?;
+    for (given, wanted) in [
+        ([Some(1), None, Some(0)], Ok(())),
+        ([Some(0), None, Some(0)], Err(fault(0, UpperCause::Reply))),
+        ([Some(2), None, Some(0)], Err(fault(0, UpperCause::Reply))),
+        ([Some(1), None, None], Err(fault(2, UpperCause::Reply))),
     ] {
-        let found = check_replies(&question, &upper, &given).err();
-        assert_eq!(rt; found, want.map(|state| fault(state, UpperCause::Reply)));
+        check_given(alloc, [0, ONE, 0], given, wanted)?;
     }
     Ok(())
+}
+
+/// The minimiser chooses between goal and sink: these replies are found for a table that passes the check.
+fn check_found(alloc: Global, upper: [u64; 3], wanted: [Option<u32>; 3]) -> Result<(), Fail> {
+    let game = goal_or_sink(alloc)?;
+    let question = question_of(alloc, &game, Side::Min, 1)?;
+    check_upper(&question, &upper)?;
+    let found = replies(alloc, &question, &upper)?;
+    same("replies", found.as_slice(), wanted.as_slice())
+}
+
+/// There, this is what the check says of given replies to a table that passes its own.
+fn check_given(
+    alloc: Global,
+    upper: [u64; 3],
+    given: [Option<u32>; 3],
+    wanted: Result<(), UpperFault>,
+) -> Result<(), Fail> {
+    let game = goal_or_sink(alloc)?;
+    let question = question_of(alloc, &game, Side::Min, 1)?;
+    check_upper(&question, &upper)?;
+    let found = check_replies(&question, &upper, &given);
+    same(format_args!("{given:?}"), found, wanted)
 }
 
 #[test]
 fn the_other_side_wants_the_zero_set(rt: HostRuntime) -> Result<(), Fail> {
     let alloc = rt.alloc();
     let game = goal_or_sink(alloc)?;
-    let sides = all_of(alloc, Side::Min, 3)?;
-    let question = Question::build(&game, sides, only(alloc, 1, 3)?, none_of(alloc, 3)?);
-    let Ok(zero) = zero_set(alloc, &question) else {
-        return Err(Fail::new("no memory"));
-    };
-    let Ok(other) = swap(alloc, &question, &zero) else {
-        return Err(Fail::new("no memory"));
-    };
-    assert_eq!(rt; other.side(0), Side::Max);
-    assert!(rt; other.is_goal(0) && other.is_goal(2));
-    assert!(rt; other.is_dead(1));
-    Ok(())
+    check_other(alloc, &question_of(alloc, &game, Side::Min, 1)?)
+}
+
+/// The other side wants states 0 and 2, and state 1 is dead.
+fn check_other(alloc: Global, question: &Question<'_>) -> Result<(), Fail>
+    requires { states question.now ≡ 3 }
+{
+    let zero = zero_set(alloc, question)?;
+    let other = swap(alloc, question, &zero)?;
+    same(
+        "side, goals, dead state",
+        (
+            other.side(0),
+            (other.is_goal(0), other.is_goal(2), other.is_dead(1)),
+        ),
+        (Side::Max, (true, true, true)),
+    )
 }

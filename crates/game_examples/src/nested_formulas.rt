@@ -6,6 +6,7 @@ ghost use Rattle.rpatl_syntax.specs.Spellable.{IsShare, IsSpellable};
 ghost use Rattle.bracket_engine.specs.Limits.{most_rounds};
 
 use distributions::{Frac, read_number};
+use expectations::{holds, same};
 use game_model::UNIT;
 use game_outside::{Name, OpenGate};
 use label_reader::{Labels, Owners, read_labels};
@@ -69,13 +70,11 @@ fn formula_of(alloc: Global, row: &Row) -> Result<Formula, Fail>
     Ok(reaching(Bound::AtLeast(outer), StateFormula::Inner(place)))
 }
 
-fn labels_of_coins(alloc: Global) -> Result<Labels, Fail>
-    ensures { IfOk result (λ labels. labels.states ≡ 3) }
+fn labels_of(alloc: Global, text: &[u8], states: u32) -> Result<Labels, Fail>
+    requires { length text.now ≤ 1000 }
+    ensures { IfOk result (λ labels. labels.states ≡ states) }
 {
-    match read_labels(alloc, b"0=\"init\" 1=\"goal\"\n0: 0\n1: 1\n", 3) {
-        Ok(labels) => Ok(labels),
-        Err(_) => Err(Fail::new("no labels")),
-    }
+    Ok(read_labels(alloc, text, states)?)
 }
 
 fn owner_of_coins(alloc: Global) -> Result<Owners, Fail>
@@ -96,7 +95,7 @@ fn answer_of<R: Threads + Sync>(
     requires rounds { rounds ≤ most_rounds }
 {
     let game = coin_loop(alloc)?;
-    let labels = labels_of_coins(alloc)?;
+    let labels = labels_of(alloc, b"0=\"init\" 1=\"goal\"\n0: 0\n1: 1\n", 3)?;
     let owners = owner_of_coins(alloc)?;
     match nested(
         rt,
@@ -129,7 +128,6 @@ struct Row {
 
 #[test]
 fn what_is_open_inside_is_open_both_ways(rt: HostRuntime) -> Result<(), Fail> {
-    let alloc = rt.alloc();
     let rows = [
         // Settled at every state.
         Row {
@@ -162,17 +160,36 @@ fn what_is_open_inside_is_open_both_ways(rt: HostRuntime) -> Result<(), Fail> {
         },
     ];
     for row in &rows {
-        let formula = formula_of(alloc, row)?;
-        assert!(rt; row.rounds <= 10_000);
-        let answer = answer_of(&rt, alloc, &formula, row.rounds)?;
-        assert_eq!(rt; answer.initial.as_slice(), [0].as_slice());
-        assert_eq!(rt; answer.lower.first().copied(), Some(row.lower));
-        assert_eq!(rt; answer.upper.first().copied(), Some(UNIT));
-        assert_eq!(rt; answer.how, row.how);
-        assert_eq!(rt; answer.inner, 1);
-        assert_eq!(rt; answer.undecided, row.undecided);
-        let outer = Bound::AtLeast(share(row.outer)?);
-        assert_eq!(rt; settle(&outer, row.lower, UNIT), row.verdict);
+        check_row(&rt, rt.alloc(), row)?;
     }
     Ok(())
+}
+
+/// The answer at state 0 and its verdict are those of the row.
+fn check_row<R: Threads + Sync>(rt: &R, alloc: Global, row: &Row) -> Result<(), Fail> {
+    holds("few rounds", row.rounds <= 10_000)?;
+    let formula = formula_of(alloc, row)?;
+    let answer = answer_of(rt, alloc, &formula, row.rounds)?;
+    check_answer(&answer, row)?;
+    check_verdict(row)
+}
+
+fn check_answer(answer: &Nested, row: &Row) -> Result<(), Fail> {
+    same("initial states", answer.initial.as_slice(), [0].as_slice())?;
+    same(
+        "bounds",
+        (answer.lower.first().copied(), answer.upper.first().copied()),
+        (Some(row.lower), Some(UNIT)),
+    )?;
+    same(
+        "rounds, formulas inside, undecided",
+        (answer.how, answer.inner, answer.undecided),
+        (row.how, 1, row.undecided),
+    )
+}
+
+fn check_verdict(row: &Row) -> Result<(), Fail> {
+    holds("at most 1", row.lower <= UNIT)?;
+    let outer = Bound::AtLeast(share(row.outer)?);
+    same("verdict", settle(&outer, row.lower, UNIT), row.verdict)
 }

@@ -1,22 +1,43 @@
 //! Tables and guesses of several workers, beside those of one.
 
 ghost use Rattle.std.specs.Prelude.{◌≡◌, ◌≤◌, length, All, IfOk};
-ghost use Rattle.game_model.specs.Limits.{unit};
+ghost use Rattle.game_model.specs.Limits.{most_states, unit};
+ghost use Rattle.drawn_game.specs.Limits.{fewest_states, most_seed};
+ghost use Rattle.game_model.specs.Dual.{IsZeroSet};
 ghost use Rattle.game_model.specs.Query.{states};
 
 use drawn_game::draw_game;
-use game_model::{Question, Side, UNIT};
-use sample_games::{all_of, chain, four_states, none_of, only};
+use expectations::same;
+use game_model::{Game, Marks, Question, Side, UNIT};
+use sample_games::{chain, four_states, question_of};
 use std::alloc::{AllocError, Global};
-use std::process::Abort;
 use std::test::Fail;
 use std::thread::Threads;
 use team_tables::Team;
-use upper_guess::{Alone, Witnesses, guess_with};
+use upper_guess::{Alone, UpTables, Witnesses, guess_with};
 use zero_sets::zero_set;
 
+// A guess, and how many up steps it took.
+fn guess_by<M: UpTables>(
+    maker: &M,
+    alloc: Global,
+    question: &Question<'_>,
+    zero: &Marks,
+    lower: &[u64],
+) -> Result<(Vec<u64>, u64), Fail>
+    requires can { M.can_fill }
+    requires zero { IsZeroSet question.now zero.now }
+    requires many { length lower.now ≡ states question.now }
+    requires units { All (λ v. v ≤ unit) lower.now }
+{
+    question.known();
+    let mut witnesses = Witnesses::none();
+    let guess = guess_with(maker, alloc, &*question, &*zero, &*lower, &mut witnesses)?;
+    Ok((guess, witnesses.up_steps()))
+}
+
 // Teams of several sizes guess what one worker does, by as many up steps.
-fn teams_agree<R: Abort + Threads + Sync>(
+fn teams_agree<R: Threads + Sync>(
     rt: &R,
     alloc: Global,
     question: &Question<'_>,
@@ -26,30 +47,42 @@ fn teams_agree<R: Abort + Threads + Sync>(
     requires units { All (λ v. v ≤ unit) lower.now }
 {
     let zero = zero_set(alloc, question)?;
-    question.known();
-    let mut alone = Witnesses::none();
-    let guess = guess_with(&Alone {}, alloc, &*question, &zero, &*lower, &mut alone)?;
+    let alone = guess_by(&Alone {}, alloc, question, &zero, lower)?;
     for workers in [1, 2, 3, 7] {
-        let team = Team { rt, workers };
-        let mut found = Witnesses::none();
-        let guessed = guess_with(&team, alloc, &*question, &zero, &*lower, &mut found)?;
-        assert_eq!(rt; guessed.as_slice(), guess.as_slice(), "{workers} workers");
-        assert_eq!(rt; found.up_steps(), alone.up_steps(), "{workers} workers");
+        let found = guess_by(&Team { rt, workers }, alloc, question, &zero, lower)?;
+        same(
+            workers,
+            (found.0.as_slice(), found.1),
+            (alone.0.as_slice(), alone.1),
+        )?;
     }
     Ok(())
+}
+
+// They do so over a game of one player, whose goal is this state.
+fn teams_agree_over<R: Threads + Sync>(
+    rt: &R,
+    alloc: Global,
+    game: Game,
+    side: Side,
+    goal: u32,
+    lower: &[u64],
+) -> Result<(), Fail>
+    requires many { length lower.now ≡ length game }
+    requires units { All (λ v. v ≤ unit) lower.now }
+{
+    let question = question_of(alloc, &game, side, goal)?;
+    teams_agree(rt, alloc, &question, lower)
 }
 
 #[test]
 fn teams_guess_what_one_worker_does(rt: HostRuntime) -> Result<(), Fail> {
     let alloc = rt.alloc();
     let game = chain(alloc, 8)?;
-    let sides = all_of(alloc, Side::Max, 8)?;
-    let question = Question::build(&game, sides, only(alloc, 7, 8)?, none_of(alloc, 8)?);
-    teams_agree(&rt, alloc, &question, &[0, 0, 0, 0, 0, 0, 0, UNIT])?;
+    let lower = [0, 0, 0, 0, 0, 0, 0, UNIT];
+    teams_agree_over(&rt, alloc, game, Side::Max, 7, &lower)?;
     let game = four_states(alloc)?;
-    let sides = all_of(alloc, Side::Min, 4)?;
-    let question = Question::build(&game, sides, only(alloc, 2, 4)?, none_of(alloc, 4)?);
-    teams_agree(&rt, alloc, &question, &[0, 0, UNIT, 0])
+    teams_agree_over(&rt, alloc, game, Side::Min, 2, &[0, 0, UNIT, 0])
 }
 
 // A table that is 0 everywhere.
@@ -64,15 +97,35 @@ fn nothing(alloc: Global, count: u32) -> Result<Vec<u64>, AllocError>
     Ok(table)
 }
 
-#[test]
-fn teams_guess_the_same_over_a_drawn_game(rt: HostRuntime) -> Result<(), Fail> {
-    let alloc = rt.alloc();
-    let drawn = draw_game(alloc, 7, 200)?;
-    drawn.known();
-    let question = drawn.question(alloc)?;
+// They do so over the table that is 0 everywhere.
+fn teams_agree_from_nothing<R: Threads + Sync>(
+    rt: &R,
+    alloc: Global,
+    question: &Question<'_>,
+) -> Result<(), Fail> {
     question.known();
     let lower = nothing(alloc, question.game().states())?;
-    teams_agree(&rt, alloc, &question, &lower)
+    teams_agree(rt, alloc, question, &lower)
+}
+
+#[test]
+fn teams_guess_the_same_over_a_drawn_game(rt: HostRuntime) -> Result<(), Fail> {
+    teams_agree_over_drawn(&rt, rt.alloc(), 7, 200)
+}
+
+// They do so over a drawn game.
+fn teams_agree_over_drawn<R: Threads + Sync>(
+    rt: &R,
+    alloc: Global,
+    seed: u32,
+    states: u32,
+) -> Result<(), Fail>
+    requires seed { (1 ≤ seed) × (seed ≤ most_seed) }
+    requires states { (fewest_states ≤ states) × (states ≤ most_states) }
+{
+    let drawn = draw_game(alloc, seed, states)?;
+    let question = drawn.question(alloc)?;
+    teams_agree_from_nothing(rt, alloc, &question)
 }
 
 /// More states than those whose table stays near the processor.
@@ -82,9 +135,6 @@ const MANY: u32 = 300_000;
 fn teams_guess_the_same_over_many_states(rt: HostRuntime) -> Result<(), Fail> {
     let alloc = rt.alloc();
     let game = chain(alloc, MANY)?;
-    let sides = all_of(alloc, Side::Max, MANY)?;
-    let goals = only(alloc, MANY - 1, MANY)?;
-    let question = Question::build(&game, sides, goals, none_of(alloc, MANY)?);
-    let lower = nothing(alloc, MANY)?;
-    teams_agree(&rt, alloc, &question, &lower)
+    let question = question_of(alloc, &game, Side::Max, MANY - 1)?;
+    teams_agree_from_nothing(&rt, alloc, &question)
 }

@@ -1,13 +1,18 @@
 //! Worked traps and lowered tables.
 
-ghost use Rattle.std.specs.Prelude.{◌≡◌, length, IfOk};
+ghost use Rattle.std.specs.Prelude.{◌≡◌, ◌≤◌, length, slice_index, All, IsOk};
+ghost use Rattle.game_model.specs.Limits.{unit};
 ghost use Rattle.game_model.specs.Query.{states};
+ghost use Rattle.game_model.specs.Rounded.{IsInductive};
+ghost use Rattle.inductive_check.specs.Replies.{AreReplies};
 
+use expectations::same;
 use game_model::{Question, Side, UNIT};
 use inductive_check::{check_replies, check_upper};
-use sample_games::{all_of, coin_loop, leaky_ring, none_of, only, ring_of_two, stay_or_coin};
-use std::alloc::{AllocError, Global};
-use std::process::Abort;
+use sample_games::{
+    coin_loop, leaky_ring, question_of, question_with_least, ring_of_two, stay_or_coin,
+};
+use std::alloc::Global;
 use std::test::Fail;
 use trap_sets::{lower_traps, traps};
 
@@ -27,19 +32,37 @@ struct Row<'a> {
     lowered: &'a [u64],
 }
 
-/// The table and the replies pass the checks, before and after the table is lowered.
-fn assert_row(rt: &impl Abort, alloc: Global, question: &Question, row: Row<'_>) -> Result<(), Fail>
+/// The traps and the lowered table of the row are found.
+fn check_row(alloc: Global, question: &Question, row: Row<'_>) -> Result<(), Fail>
     requires replies { length row.replies.now ≡ states question.now }
     requires upper { length row.upper.now ≡ states question.now }
 {
-    check_upper(question, row.upper)?;
-    check_replies(question, row.upper, row.replies)?;
     let sets = traps(alloc, question, row.replies)?;
-    assert_eq!(rt; sets.of.as_slice(), row.traps);
+    same("traps", sets.of.as_slice(), row.traps)?;
+    check_lowered(alloc, question, row)
+}
+
+/// The table and the replies pass the checks, before and after the table is lowered.
+fn check_lowered(alloc: Global, question: &Question, row: Row<'_>) -> Result<(), Fail>
+    requires replies { length row.replies.now ≡ states question.now }
+    requires upper { length row.upper.now ≡ states question.now }
+{
+    check_held(question, row.upper, row.replies)?;
     let table = lower_traps(alloc, question, row.upper, row.replies)?;
-    assert_eq!(rt; table.as_slice(), row.lowered);
-    assert!(rt; check_upper(question, &table).is_ok());
-    assert!(rt; check_replies(question, &table, row.replies).is_ok());
+    same("lowered table", table.as_slice(), row.lowered)?;
+    check_held(question, &table, row.replies)
+}
+
+/// A table and replies pass the checks.
+fn check_held(question: &Question, upper: &[u64], replies: &[Option<u32>]) -> Result<(), Fail>
+    requires upper { length upper.now ≡ states question.now }
+    requires replies { length replies.now ≡ states question.now }
+    ensures units { IsOk result → All (λ v. v ≤ unit) upper.now }
+    ensures inductive { IsOk result → IsInductive question.now (slice_index upper.now) }
+    ensures replies { IsOk result → AreReplies question.now (slice_index upper.now) replies.now }
+{
+    check_upper(question, upper)?;
+    check_replies(question, upper, replies)?;
     Ok(())
 }
 
@@ -47,10 +70,8 @@ fn assert_row(rt: &impl Abort, alloc: Global, question: &Question, row: Row<'_>)
 fn a_coin_loop_traps_at_its_sink(rt: HostRuntime) -> Result<(), Fail> {
     let alloc = rt.alloc();
     let game = coin_loop(alloc)?;
-    let sides = all_of(alloc, Side::Max, 3)?;
-    let question = Question::build(&game, sides, only(alloc, 1, 3)?, none_of(alloc, 3)?);
-    assert_row(
-        &rt,
+    let question = question_of(alloc, &game, Side::Max, 1)?;
+    check_row(
         alloc,
         &question,
         Row {
@@ -66,10 +87,8 @@ fn a_coin_loop_traps_at_its_sink(rt: HostRuntime) -> Result<(), Fail> {
 fn who_may_stay_is_held_to_the_coin(rt: HostRuntime) -> Result<(), Fail> {
     let alloc = rt.alloc();
     let game = stay_or_coin(alloc)?;
-    let sides = all_of(alloc, Side::Max, 4)?;
-    let question = Question::build(&game, sides, only(alloc, 2, 4)?, none_of(alloc, 4)?);
-    assert_row(
-        &rt,
+    let question = question_of(alloc, &game, Side::Max, 2)?;
+    check_row(
         alloc,
         &question,
         Row {
@@ -84,46 +103,32 @@ fn who_may_stay_is_held_to_the_coin(rt: HostRuntime) -> Result<(), Fail> {
 #[test]
 fn the_minimiser_traps_where_its_reply_stays(rt: HostRuntime) -> Result<(), Fail> {
     let alloc = rt.alloc();
-    let game = stay_or_coin(alloc)?;
-    let sides = all_of(alloc, Side::Min, 4)?;
-    let question = Question::build(&game, sides, only(alloc, 2, 4)?, none_of(alloc, 4)?);
-    for (reply, set, entry) in [(0, [1, 0, 0, 2], 0), (1, [0, 0, 0, 1], HIGH)] {
-        assert_row(
-            &rt,
-            alloc,
-            &question,
-            Row {
-                replies: &[Some(reply), Some(0), None, Some(0)],
-                upper: &[HIGH, HIGH, ONE, 0],
-                traps: &set,
-                lowered: &[entry, HIGH, ONE, 0],
-            },
-        )?;
-    }
-    Ok(())
+    check_reply(alloc, 0, &[1, 0, 0, 2], &[0, HIGH, ONE, 0])?;
+    check_reply(alloc, 1, &[0, 0, 0, 1], &[HIGH, HIGH, ONE, 0])
 }
 
-/// The minimiser at state 1, the maximiser at the four others.
-fn least_at_one(alloc: Global) -> Result<Vec<Side>, AllocError>
-    ensures { IfOk result (λ sides. length sides.items ≡ 5) }
-{
-    let mut sides = Vec::new(alloc);
-    sides.push(Side::Max)?;
-    sides.push(Side::Min)?;
-    sides.push(Side::Max)?;
-    sides.push(Side::Max)?;
-    sides.push(Side::Max)?;
-    Ok(sides)
+/// The traps and the lowered table where the minimiser replies with this choice at state 0.
+fn check_reply(alloc: Global, reply: u32, traps: &[u32], lowered: &[u64]) -> Result<(), Fail> {
+    let game = stay_or_coin(alloc)?;
+    let question = question_of(alloc, &game, Side::Min, 2)?;
+    check_row(
+        alloc,
+        &question,
+        Row {
+            replies: &[Some(reply), Some(0), None, Some(0)],
+            upper: &[HIGH, HIGH, ONE, 0],
+            traps,
+            lowered,
+        },
+    )
 }
 
 #[test]
 fn a_ring_of_both_players_is_held_to_its_one_exit(rt: HostRuntime) -> Result<(), Fail> {
     let alloc = rt.alloc();
     let game = ring_of_two(alloc)?;
-    let sides = least_at_one(alloc)?;
-    let question = Question::build(&game, sides, only(alloc, 3, 5)?, none_of(alloc, 5)?);
-    assert_row(
-        &rt,
+    let question = question_with_least(alloc, &game, 1, 3)?;
+    check_row(
         alloc,
         &question,
         Row {
@@ -139,10 +144,9 @@ fn a_ring_of_both_players_is_held_to_its_one_exit(rt: HostRuntime) -> Result<(),
 fn a_ring_with_a_leak_breaks_up(rt: HostRuntime) -> Result<(), Fail> {
     let alloc = rt.alloc();
     let game = leaky_ring(alloc)?;
-    let sides = all_of(alloc, Side::Max, 4)?;
-    let question = Question::build(&game, sides, none_of(alloc, 4)?, none_of(alloc, 4)?);
-    assert_row(
-        &rt,
+    // No state is a goal.
+    let question = question_of(alloc, &game, Side::Max, 4)?;
+    check_row(
         alloc,
         &question,
         Row {

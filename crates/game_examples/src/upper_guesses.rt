@@ -1,20 +1,32 @@
 //! Worked guesses, computed by hand.
 
+ghost use Rattle.std.specs.Prelude.{◌≡◌, ◌≤◌, length, All};
+ghost use Rattle.game_model.specs.Limits.{unit};
+ghost use Rattle.game_model.specs.Query.{states};
+
+use expectations::same;
 use game_model::{Question, Side, UNIT};
-use sample_games::{all_of, chain, coin_loop, four_states, none_of, only};
+use sample_games::{chain, coin_loop, four_states, question_of};
 use std::alloc::Global;
 use std::test::Fail;
 use upper_guess::{Alone, Witnesses, guess, guess_with};
 use zero_sets::zero_set;
 
-/// The guess of the coin loop over this lower value of state 0.
-fn coin_guess(alloc: Global, value: u64) -> Result<Vec<u64>, Fail> {
+/// The guess over this table.
+fn guess_of(alloc: Global, question: &Question<'_>, lower: &[u64]) -> Result<Vec<u64>, Fail>
+    requires many { length lower.now ≡ states question.now }
+    requires units { All (λ v. v ≤ unit) lower.now }
+{
+    let zero = zero_set(alloc, question)?;
+    Ok(guess(alloc, &*question, &zero, &*lower)?)
+}
+
+/// The guess of the coin loop over this lower value of state 0, where the goal is state 1, has this value there.
+fn check_coin_loop(alloc: Global, value: u64, wanted: u64) -> Result<(), Fail> {
     let game = coin_loop(alloc)?;
-    let sides = all_of(alloc, Side::Max, 3)?;
-    let question = Question::build(&game, sides, only(alloc, 1, 3)?, none_of(alloc, 3)?);
-    let zero = zero_set(alloc, &question)?;
-    let lower = [value.min(UNIT), UNIT, 0];
-    Ok(guess(alloc, &question, &zero, &lower)?)
+    let question = question_of(alloc, &game, Side::Max, 1)?;
+    let found = guess_of(alloc, &question, &[value.min(UNIT), UNIT, 0])?;
+    same(value, found.as_slice(), [wanted, UNIT, 0].as_slice())
 }
 
 #[test]
@@ -29,40 +41,26 @@ fn the_coin_loop(rt: HostRuntime) -> Result<(), Fail> {
         (400_000_000_000_000, 540_737_488_355_328),
         (0, 562_949_953_421_312),
     ] {
-        let found = coin_guess(rt.alloc(), value)?;
-        assert_eq!(rt;
-            found.as_slice(),
-            [want, UNIT, 0].as_slice(),
-            "over {value}"
-        );
+        check_coin_loop(rt.alloc(), value, want)?;
     }
     Ok(())
 }
 
 /// The guess of the game of four states over the table that is 0 but at the goal, with one player.
-fn four_guess(alloc: Global, side: Side) -> Result<Vec<u64>, Fail> {
+fn check_four_states(name: &str, alloc: Global, side: Side, wanted: &[u64]) -> Result<(), Fail> {
     let game = four_states(alloc)?;
-    let sides = all_of(alloc, side, 4)?;
-    let question = Question::build(&game, sides, only(alloc, 2, 4)?, none_of(alloc, 4)?);
-    let zero = zero_set(alloc, &question)?;
-    let lower = [0, 0, UNIT, 0];
-    Ok(guess(alloc, &question, &zero, &lower)?)
+    let question = question_of(alloc, &game, side, 2)?;
+    let found = guess_of(alloc, &question, &[0, 0, UNIT, 0])?;
+    same(name, found.as_slice(), wanted)
 }
 
 #[test]
 fn up_steps_alone_reach_the_values_of_four_states(rt: HostRuntime) -> Result<(), Fail> {
-    for (side, first, second) in [
-        (Side::Max, 650_000_000_000_000, 500_000_000_000_000),
-        (Side::Min, 200_000_000_000_000, 200_000_000_000_000),
-    ] {
-        let found = four_guess(rt.alloc(), side)?;
-        assert_eq!(rt;
-            found.as_slice(),
-            [first, second, UNIT, 0].as_slice(),
-            "for {side:?}"
-        );
-    }
-    Ok(())
+    let alloc = rt.alloc();
+    let most = [650_000_000_000_000, 500_000_000_000_000, UNIT, 0];
+    check_four_states("maximiser", alloc, Side::Max, &most)?;
+    let least = [200_000_000_000_000, 200_000_000_000_000, UNIT, 0];
+    check_four_states("minimiser", alloc, Side::Min, &least)
 }
 
 #[test]
@@ -71,17 +69,23 @@ fn a_guess_looks_first_at_the_states_that_refused_the_last_one(
 ) -> Result<(), Fail> {
     let alloc = rt.alloc();
     let game = chain(alloc, 8)?;
-    let sides = all_of(alloc, Side::Max, 8)?;
-    let question = Question::build(&game, sides, only(alloc, 7, 8)?, none_of(alloc, 8)?);
-    let zero = zero_set(alloc, &question)?;
-    let lower = [0, 0, 0, 0, 0, 0, 0, UNIT];
+    let question = question_of(alloc, &game, Side::Max, 7)?;
+    check_steps(alloc, &question, &[0, 0, 0, 0, 0, 0, 0, UNIT])
+}
+
+/// Two guesses over one table of a chain of eight states take 6 up steps, and 1 more.
+fn check_steps(alloc: Global, question: &Question<'_>, lower: &[u64]) -> Result<(), Fail>
+    requires many { length lower.now ≡ states question.now }
+    requires units { All (λ v. v ≤ unit) lower.now }
+{
+    question.known();
+    let zero = zero_set(alloc, question)?;
     let mut witnesses = Witnesses::none();
     // The five tables without an excess are made, and each is refused at another state. These states refuse all others up to
     // the one that has the unit everywhere.
-    let _first = guess_with(&Alone {}, alloc, &question, &zero, &lower, &mut witnesses)?;
-    assert_eq!(rt; witnesses.up_steps(), 6);
+    guess_with(&Alone {}, alloc, &*question, &zero, &*lower, &mut witnesses)?;
+    let first = witnesses.up_steps();
     // Now they refuse the five as well.
-    let _second = guess_with(&Alone {}, alloc, &question, &zero, &lower, &mut witnesses)?;
-    assert_eq!(rt; witnesses.up_steps(), 7);
-    Ok(())
+    guess_with(&Alone {}, alloc, &*question, &zero, &*lower, &mut witnesses)?;
+    same("up steps", (first, witnesses.up_steps()), (6, 7))
 }

@@ -1,54 +1,61 @@
 //! Worked numerators, computed by hand.
 
-use game_model::{Question, Side};
+use expectations::same;
+use game_model::Side;
 use reference_values::{ValueFault, numerators};
-use sample_games::{all_of, coin_loop, four_states, none_of, only};
+use sample_games::{coin_loop, four_states, question_of, question_with_least};
+use std::alloc::Global;
 use std::test::Fail;
+
+/// The numerators of the coin loop after so many steps, where the goal is state 1.
+fn coin_numerators(alloc: Global, steps: u32) -> Result<Result<Vec<u128>, ValueFault>, Fail> {
+    let game = coin_loop(alloc)?;
+    let question = question_of(alloc, &game, Side::Max, 1)?;
+    Ok(numerators(alloc, &question, steps))
+}
+
+fn check_coin_loop(alloc: Global, steps: u32, wanted: &[u128]) -> Result<(), Fail> {
+    let found = coin_numerators(alloc, steps)??;
+    same(steps, found.as_slice(), wanted)
+}
+
+fn check_coin_fault(alloc: Global, steps: u32, wanted: Option<ValueFault>) -> Result<(), Fail> {
+    same(steps, coin_numerators(alloc, steps)?.err(), wanted)
+}
 
 #[test]
 fn the_coin_loop_and_a_power_that_does_not_fit(rt: HostRuntime) -> Result<(), Fail> {
     let alloc = rt.alloc();
-    let game = coin_loop(alloc)?;
-    let sides = all_of(alloc, Side::Max, 3)?;
-    let question = Question::build(&game, sides, only(alloc, 1, 3)?, none_of(alloc, 3)?);
     for (steps, want) in [
         (0, [0, 1, 0]),
         (1, [1, 4, 0]),
         (2, [6, 16, 0]),
         (3, [28, 64, 0]),
     ] {
-        let found = numerators(alloc, &question, steps);
-        assert!(rt;
-            matches!(found, Ok(ref v) if v.as_slice() == want.as_slice()),
-            "after {steps}"
-        );
+        check_coin_loop(alloc, steps, &want)?;
     }
     // The common denominator is 4, and 4 to the 64 is 2 to the 128.
-    let last = numerators(alloc, &question, 63);
-    assert!(rt; last.is_ok());
-    let past = numerators(alloc, &question, 64);
-    assert!(rt; matches!(past, Err(ValueFault::TooLarge)));
-    Ok(())
+    check_coin_fault(alloc, 63, None)?;
+    check_coin_fault(alloc, 64, Some(ValueFault::TooLarge))
+}
+
+/// The numerators of the game of four states and two players after so many steps, where the goal is state 2.
+fn check_four_states(alloc: Global, steps: u32, wanted: &[u128]) -> Result<(), Fail> {
+    let game = four_states(alloc)?;
+    let question = question_with_least(alloc, &game, 1, 2)?;
+    let found = numerators(alloc, &question, steps)?;
+    same(steps, found.as_slice(), wanted)
 }
 
 #[test]
 fn the_game_of_four_states_with_two_players(rt: HostRuntime) -> Result<(), Fail> {
-    let alloc = rt.alloc();
-    let game = four_states(alloc)?;
-    let mut sides = all_of(alloc, Side::Max, 4)?;
-    sides[1] = Side::Min;
-    let question = Question::build(&game, sides, only(alloc, 2, 4)?, none_of(alloc, 4)?);
     // The common denominator is 200.
     for (steps, want) in [
         (0, [0, 0, 1, 0]),
         (1, [130, 40, 200, 0]),
         (2, [26_000, 8_000, 40_000, 0]),
     ] {
-        let found = numerators(alloc, &question, steps);
-        assert!(rt;
-            matches!(found, Ok(ref v) if v.as_slice() == want.as_slice()),
-            "after {steps}"
-        );
+        check_four_states(rt.alloc(), steps, &want)?;
     }
     Ok(())
 }

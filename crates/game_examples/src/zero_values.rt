@@ -1,41 +1,41 @@
 //! Worked zero sets.
 
-use game_model::{Question, Side};
-use sample_games::{all_of, chain, goal_or_sink, none_of, only};
+use expectations::same;
+use game_model::Side;
+use sample_games::{chain, goal_or_sink, question_of, question_with_dead};
+use std::alloc::Global;
 use std::test::Fail;
 use zero_sets::zero_set;
 
 #[test]
 fn the_minimiser_goes_to_the_sink(rt: HostRuntime) -> Result<(), Fail> {
-    let alloc = rt.alloc();
+    check_three("minimiser", rt.alloc(), Side::Min, (true, false, true))?;
+    check_three("maximiser", rt.alloc(), Side::Max, (false, false, true))
+}
+
+/// Where one side chooses between goal and sink, these states have the value 0.
+fn check_three(
+    name: &str,
+    alloc: Global,
+    side: Side,
+    wanted: (bool, bool, bool),
+) -> Result<(), Fail> {
     let game = goal_or_sink(alloc)?;
-    for (side, want) in [
-        (Side::Min, [true, false, true]),
-        (Side::Max, [false, false, true]),
-    ] {
-        let sides = all_of(alloc, side, 3)?;
-        let question = Question::build(&game, sides, only(alloc, 1, 3)?, none_of(alloc, 3)?);
-        let Ok(marks) = zero_set(alloc, &question) else {
-            return Err(Fail::new("no memory"));
-        };
-        for (state, marked) in [(0, want[0]), (1, want[1]), (2, want[2])] {
-            assert_eq!(rt; marks.has(state), marked, "at {state}");
-        }
-    }
-    Ok(())
+    let question = question_of(alloc, &game, side, 1)?;
+    let marks = zero_set(alloc, &question)?;
+    same(name, (marks.has(0), marks.has(1), marks.has(2)), wanted)
 }
 
 #[test]
 fn a_dead_state_cuts_a_chain(rt: HostRuntime) -> Result<(), Fail> {
-    let alloc = rt.alloc();
+    check_cut_chain("minimiser", rt.alloc(), Side::Min)?;
+    check_cut_chain("maximiser", rt.alloc(), Side::Max)
+}
+
+/// Up to the dead state, all 21 have the value 0.
+fn check_cut_chain(name: &str, alloc: Global, side: Side) -> Result<(), Fail> {
     let game = chain(alloc, 40)?;
-    for side in [Side::Min, Side::Max] {
-        let sides = all_of(alloc, side, 40)?;
-        let question = Question::build(&game, sides, only(alloc, 39, 40)?, only(alloc, 20, 40)?);
-        let Ok(marks) = zero_set(alloc, &question) else {
-            return Err(Fail::new("no memory"));
-        };
-        assert_eq!(rt; marks.count(), 21);
-    }
-    Ok(())
+    let question = question_with_dead(alloc, &game, side, 39, 20)?;
+    let marks = zero_set(alloc, &question)?;
+    same(name, marks.count(), 21)
 }

@@ -1,8 +1,8 @@
-//! The lists of a question.
+//! The lists of a question, and questions of one goal.
 
-ghost use Rattle.std.specs.Prelude.{◌≡◌, ℕ, ◌<◌, length, All, slice_index_or, true, false, IfOk};
+ghost use Rattle.std.specs.Prelude.{◌≡◌, ◌≢◌, ℕ, ◌<◌, length, All, slice_index_or, true, false, IfOk};
 
-use game_model::Side;
+use game_model::{Game, Question, Side};
 use std::alloc::{AllocError, Global};
 
 /// One side at all states.
@@ -13,6 +13,16 @@ pub fn all_of(alloc: Global, side: Side, states: u32) -> Result<Vec<Side>, Alloc
     for _state in 0..states {
         sides.push(side)?;
     }
+    Ok(sides)
+}
+
+/// The minimiser at one state, the maximiser at the others.
+fn least_at(alloc: Global, place: u32, states: u32) -> Result<Vec<Side>, AllocError>
+    requires { place < states }
+    ensures { IfOk result (λ sides. length sides.items ≡ states) }
+{
+    let mut sides = all_of(alloc, Side::Max, states)?;
+    sides[place as usize] = Side::Min;
     Ok(sides)
 }
 
@@ -38,4 +48,65 @@ pub fn none_of(alloc: Global, states: u32) -> Result<Vec<bool>, AllocError>
         marks.push(false)?;
     }
     Ok(marks)
+}
+
+/// How likely is this goal reached, where one side chooses at all states? None is dead, and none is a goal where it is
+/// past the last.
+pub fn question_of(
+    alloc: Global,
+    game: &Game,
+    side: Side,
+    goal: u32,
+) -> Result<Question<'_>, AllocError>
+    ensures { IfOk result (λ question. question.game ≡ game.now) }
+{
+    let sides = all_of(alloc, side, game.states())?;
+    question_of_sides(alloc, game, sides, goal)
+}
+
+/// How likely is this goal reached, where these sides choose? None is dead, and none is a goal where it is past the last.
+pub fn question_of_sides(
+    alloc: Global,
+    game: &Game,
+    sides: Vec<Side>,
+    goal: u32,
+) -> Result<Question<'_>, AllocError>
+    requires { length sides.items ≡ length game.now }
+    ensures { IfOk result (λ question. question.game ≡ game.now) }
+{
+    let states = game.states();
+    let goals = only(alloc, goal, states)?;
+    Ok(Question::build(game, sides, goals, none_of(alloc, states)?))
+}
+
+/// How likely is this goal reached, where the minimiser chooses at one state and the maximiser at the others? None is dead.
+pub fn question_with_least(
+    alloc: Global,
+    game: &Game,
+    place: u32,
+    goal: u32,
+) -> Result<Question<'_>, AllocError>
+    requires { place < length game.now }
+    ensures { IfOk result (λ question. question.game ≡ game.now) }
+{
+    let sides = least_at(alloc, place, game.states())?;
+    question_of_sides(alloc, game, sides, goal)
+}
+
+/// How likely is this goal reached, where one side chooses at all states and one state is dead? None is a goal, or dead,
+/// where it is past the last.
+pub fn question_with_dead(
+    alloc: Global,
+    game: &Game,
+    side: Side,
+    goal: u32,
+    dead: u32,
+) -> Result<Question<'_>, AllocError>
+    requires { goal ≢ dead }
+    ensures { IfOk result (λ question. question.game ≡ game.now) }
+{
+    let states = game.states();
+    let sides = all_of(alloc, side, states)?;
+    let goals = only(alloc, goal, states)?;
+    Ok(Question::build(game, sides, goals, only(alloc, dead, states)?))
 }
