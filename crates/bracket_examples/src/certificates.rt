@@ -33,7 +33,8 @@ fn are_accepted<R: Threads + Sync>(
     let upper = check_upper(question, &found.upper);
     let replies = check_replies(question, &found.upper, &found.replies);
     let ranks = check_ranks(question, &found.lower, &found.choices, &found.ranks);
-    same(rounds, (upper, replies, ranks), (Ok(()), Ok(()), Ok(())))
+    let what = format_args!("{rounds} rounds, {workers} workers");
+    same(what, (upper, replies, ranks), (Ok(()), Ok(()), Ok(())))
 }
 
 // The same after few rounds and many.

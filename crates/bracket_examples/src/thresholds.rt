@@ -86,7 +86,7 @@ fn ends_rightly<R: Threads + Sync>(
     Ok(is_early)
 }
 
-// Tries these bounds at a state with these bounds of its value. It gives how many runs ended early.
+// Tries these thresholds at a state whose value has these bounds. It gives how many runs ended early.
 fn early_ends_at<R: Threads + Sync>(
     rt: &R,
     alloc: Global,

@@ -211,7 +211,10 @@ fn try_bracket<R: Threads + Sync>(
     let lines = lines_of_bracket(rt, alloc, question, rounds)?;
     let before = count.accepted;
     try_lines(rt, alloc, question, known, &lines, count)?;
-    are_more("accepted certificates of brackets", count.accepted, before)?;
+    holds(
+        format_args!("accepted, the certificate after {rounds} rounds"),
+        count.accepted > before,
+    )?;
     try_mutants(rt, alloc, question, known, &lines, count)
 }
 

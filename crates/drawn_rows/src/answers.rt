@@ -7,10 +7,7 @@ ghost use Rattle.game_model.specs.Game.{choices_of};
 use crate::drawn_texts::{LABEL_NAMES, ModelFile, PLAYER_NAMES};
 use game_model::Game;
 use game_outside::{FileEnd, MemShelf};
-use label_reader::laws::owners_are_those_that_a_text_denotes;
-use label_reader::{
-    LabFault, Labels, Owners, read_labels, read_labels_from, read_owners, read_owners_from,
-};
+use label_reader::{Labels, Owners, read_labels, read_labels_from, read_owners, read_owners_from};
 use std::alloc::Global;
 use std::test::Fail;
 use text_lines::MOST_BYTES;
@@ -56,23 +53,10 @@ pub fn answer_of_whole(
             Ok(labels) => Ok(accepted(labels_text(alloc, &labels)?)),
             Err(fault) => Ok(refused(format!(in alloc; "{fault:?}")?)),
         },
-        ModelFile::Owners => match owners_of(alloc, text, states) {
+        ModelFile::Owners => match read_owners(alloc, text, states) {
             Ok(owners) => Ok(accepted(owners_text(alloc, &owners, states)?)),
             Err(fault) => Ok(refused(format!(in alloc; "{fault:?}")?)),
         },
-    }
-}
-
-// The owners that a text denotes, of so many states.
-fn owners_of(alloc: Global, text: &[u8], states: u32) -> Result<Owners, LabFault>
-    requires { length text.now ≤ most_bytes }
-    ensures { IfOk result (λ owners. length owners.owners ≡ states) }
-{
-    // A law: this call does nothing.
-    owners_are_those_that_a_text_denotes();
-    match read_owners(alloc, text, states) {
-        Ok(owners) => Ok(owners),
-        Err(fault) => Err(fault),
     }
 }
 

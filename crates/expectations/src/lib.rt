@@ -36,11 +36,11 @@ pub fn holds<D: Display + Drop>(what: D, fact: bool) -> Result<(), Fail>
 }
 
 /// Ok where there are more than so many, so that comparisons over random games show something; else how many there are.
-pub fn are_more(what: &str, count: u32, least: u32) -> Result<(), Fail>
-    ensures { IsOk result ↔ least < count }
+pub fn are_more(what: &str, count: u32, than: u32) -> Result<(), Fail>
+    ensures { IsOk result ↔ than < count }
 {
     holds(
-        format_args!("more than {least} {what}: {count}"),
-        count > least,
+        format_args!("more than {than} {what}: {count}"),
+        count > than,
     )
 }

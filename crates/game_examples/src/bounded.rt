@@ -10,7 +10,8 @@ use expectations::{holds, same};
 use game_model::{Side, UNIT};
 use game_outside::{HoldGate, OpenGate};
 use sample_games::{
-    all_of, coin_loop, four_states, ladder, question_of, question_of_sides, question_with_least,
+    all_of, coin_loop, four_states, ladder, question_of, question_of_sides,
+    question_with_minimiser_at,
 };
 use std::alloc::{AllocError, Global};
 use std::test::Fail;
@@ -103,7 +104,7 @@ fn each_player_takes_its_better_choice(rt: HostRuntime) -> Result<(), Fail> {
 /// One step of the game of four states and two players. Without goals: is state 2 the next one?
 fn one_step<R: Threads + Sync>(rt: &R, alloc: Global) -> Result<Sweep, Fail> {
     let game = four_states(alloc)?;
-    let question = question_with_least(alloc, &game, 1, 4)?;
+    let question = question_with_minimiser_at(alloc, &game, 1, 4)?;
     Ok(bounded(rt, alloc, &question, &[0, 0, UNIT, 0], 1, 4, &OpenGate {})?)
 }
 

@@ -10,7 +10,7 @@ use game_model::{Question, Side, UNIT};
 use game_outside::{Gate, HoldGate, OpenGate};
 use reference_values::numerators;
 use rpatl_syntax::Bound;
-use sample_games::{coin_loop, four_states, question_of, question_with_least};
+use sample_games::{coin_loop, four_states, question_of, question_with_minimiser_at};
 use std::alloc::Global;
 use std::test::Fail;
 use std::thread::Threads;
@@ -91,7 +91,8 @@ fn the_coin_loop_settles_at_round_50(rt: HostRuntime) -> Result<(), Fail> {
     Ok(())
 }
 
-/// After so many rounds at most, these are the base and the bounds of state 0 of the coin loop, and these are the rounds that it took and whether it settled.
+/// After so many rounds at most, these are the base and the bounds of state 0 of the coin loop, and these are the rounds that
+/// it took and whether it settled.
 fn check_coin_loop<R: Threads + Sync>(
     rt: &R,
     alloc: Global,
@@ -159,7 +160,7 @@ fn lottery_bracket<R: Threads + Sync>(rt: &R, alloc: Global, workers: u32) -> Re
     requires few { workers ≤ most_workers }
 {
     let game = four_states(alloc)?;
-    let question = question_with_least(alloc, &game, 1, 2)?;
+    let question = question_with_minimiser_at(alloc, &game, 1, 2)?;
     value_bracket(rt, alloc, &question, 1_000, workers, &OpenGate {})
 }
 
@@ -187,7 +188,7 @@ fn check_missing<R: Threads + Sync>(
     for (base, numerator) in found.base.iter().zip(exact.iter()) {
         let reached = (u128::from(*base) + u128::from(rounds)).saturating_mul(power);
         let value = numerator.saturating_mul(u128::from(UNIT));
-        holds(rounds, reached >= value)?;
+        holds(format_args!("near after {rounds} rounds"), reached >= value)?;
     }
     Ok(())
 }

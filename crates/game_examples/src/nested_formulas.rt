@@ -70,6 +70,7 @@ fn formula_of(alloc: Global, row: &Row) -> Result<Formula, Fail>
     Ok(reaching(Bound::AtLeast(outer), StateFormula::Inner(place)))
 }
 
+// The labels of so many states in a short text.
 fn labels_of(alloc: Global, text: &[u8], states: u32) -> Result<Labels, Fail>
     requires { length text.now ≤ 1000 }
     ensures { IfOk result (λ labels. labels.states ≡ states) }

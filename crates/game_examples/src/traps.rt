@@ -10,7 +10,7 @@ use expectations::same;
 use game_model::{Question, Side, UNIT};
 use inductive_check::{check_replies, check_upper};
 use sample_games::{
-    coin_loop, leaky_ring, question_of, question_with_least, ring_of_two, stay_or_coin,
+    coin_loop, leaky_ring, question_of, question_with_minimiser_at, ring_of_two, stay_or_coin,
 };
 use std::alloc::Global;
 use std::test::Fail;
@@ -127,7 +127,7 @@ fn check_reply(alloc: Global, reply: u32, traps: &[u32], lowered: &[u64]) -> Res
 fn a_ring_of_both_players_is_held_to_its_one_exit(rt: HostRuntime) -> Result<(), Fail> {
     let alloc = rt.alloc();
     let game = ring_of_two(alloc)?;
-    let question = question_with_least(alloc, &game, 1, 3)?;
+    let question = question_with_minimiser_at(alloc, &game, 1, 3)?;
     check_row(
         alloc,
         &question,

@@ -3,7 +3,7 @@
 use expectations::same;
 use game_model::Side;
 use reference_values::{ValueFault, numerators};
-use sample_games::{coin_loop, four_states, question_of, question_with_least};
+use sample_games::{coin_loop, four_states, question_of, question_with_minimiser_at};
 use std::alloc::Global;
 use std::test::Fail;
 
@@ -42,7 +42,7 @@ fn the_coin_loop_and_a_power_that_does_not_fit(rt: HostRuntime) -> Result<(), Fa
 /// The numerators of the game of four states and two players after so many steps, where the goal is state 2.
 fn check_four_states(alloc: Global, steps: u32, wanted: &[u128]) -> Result<(), Fail> {
     let game = four_states(alloc)?;
-    let question = question_with_least(alloc, &game, 1, 2)?;
+    let question = question_with_minimiser_at(alloc, &game, 1, 2)?;
     let found = numerators(alloc, &question, steps)?;
     same(steps, found.as_slice(), wanted)
 }

@@ -1,7 +1,7 @@
 //! What a comparison of many answers to formulas with others inside came upon, so that it shows something.
 
 use crate::values::Exact;
-use expectations::holds;
+use expectations::are_more;
 use std::test::Fail;
 
 /// What was found.
@@ -70,12 +70,4 @@ impl Tally {
         are_more("false", self.no, 1_000)?;
         are_more("values between", self.between, 300)
     }
-}
-
-// There are more than so many.
-fn are_more(what: &str, count: u32, least: u32) -> Result<(), Fail> {
-    holds(
-        format_args!("more than {least} {what}: {count}"),
-        count > least,
-    )
 }

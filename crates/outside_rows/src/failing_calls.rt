@@ -87,8 +87,8 @@ fn with_write_fault<R: Threads + Sync>(
 
 // So many bytes of the text of a case were written before a write failed.
 fn is_front(case: &Case<'_>, ended: &Ended, taken: usize) -> Result<(), Fail> {
-    let is_front = case.text.as_bytes().starts_with(&ended.written);
-    let found = (ended.status, ended.written.len(), is_front);
+    let starts = case.text.as_bytes().starts_with(&ended.written);
+    let found = (ended.status, ended.written.len(), starts);
     same(case.text, found, (Status::WriteFault, taken, true))
 }
 

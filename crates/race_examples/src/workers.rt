@@ -71,7 +71,7 @@ fn two_threads<P: Posing + Send + Sync, R: Threads + Sync>(
 fn are_read(words: &[u64], seen: &[u64]) -> Result<(), Fail> {
     same("entries", (words.len(), seen.len()), (12, 12))?;
     for (state, (word, value)) in words.iter().zip(seen.iter()).enumerate() {
-        holds(state, value_of(*word) >= *value)?;
+        holds(format_args!("read at {state}"), value_of(*word) >= *value)?;
     }
     Ok(())
 }

@@ -80,7 +80,7 @@ pub fn question_of_sides(
 }
 
 /// How likely is this goal reached, where the minimiser chooses at one state and the maximiser at the others? None is dead.
-pub fn question_with_least(
+pub fn question_with_minimiser_at(
     alloc: Global,
     game: &Game,
     place: u32,

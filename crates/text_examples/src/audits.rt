@@ -1,6 +1,6 @@
 //! Worked certificates.
 
-ghost use Rattle.std.specs.Prelude.{◌≡◌, ◌≢◌, length};
+ghost use Rattle.std.specs.Prelude.{◌≢◌};
 
 use certificate_audit::{AuditFault, audit};
 use expectations::same;
@@ -8,7 +8,7 @@ use game_model::{Game, Question, Side};
 use inductive_check::{UpperCause, UpperFault};
 use plan_text::{Plan, PlanCause, PlanFault};
 use rank_certificate::{RankCause, RankFault};
-use sample_games::{all_of, coin_loop, goal_or_sink, only};
+use sample_games::{coin_loop, goal_or_sink, question_with_dead};
 use std::alloc::Global;
 use std::test::Fail;
 use text_lines::MOST_BYTES;
@@ -24,8 +24,8 @@ fn answer(
     Ok(audit(alloc, question, text))
 }
 
-// What the audit of a text says of a game of three states, of which one side has all, state 1 is the goal, and one is
-// dead, or none where it is past the last.
+// What the audit of a text says of a game of which one side has all states, state 1 is the goal, and one is dead, or none
+// where it is past the last.
 fn answer_in(
     alloc: Global,
     game: &Game,
@@ -33,13 +33,9 @@ fn answer_in(
     dead: u32,
     text: &[u8],
 ) -> Result<Result<Plan, AuditFault>, Fail>
-    requires states { length game.now ≡ 3 }
-    requires apart { dead ≢ 1 }
+    requires { 1 ≢ dead }
 {
-    let sides = all_of(alloc, side, 3)?;
-    let goals = only(alloc, 1, 3)?;
-    let deads = only(alloc, dead, 3)?;
-    let question = Question::build(game, sides, goals, deads);
+    let question = question_with_dead(alloc, game, side, 1, dead)?;
     answer(alloc, &question, text)
 }
 

@@ -496,7 +496,8 @@ fn limits_are_kept(rt: HostRuntime) -> Result<(), Fail> {
     for (front, piece, count, back, place, cause) in LIMITS.as_slice() {
         let text = repeated(rt.alloc(), front, piece, *count, back)?;
         let wanted = FormulaFault::new(*place, *cause);
-        same(piece, fault_of(rt.alloc(), text.as_str()), Some(wanted))?;
+        let fault = fault_of(rt.alloc(), text.as_str());
+        same(format_args!("{piece} {count} {back}"), fault, Some(wanted))?;
     }
     Ok(())
 }

@@ -46,7 +46,7 @@ const CLASH: TraCause = TraCause::ActionClash {
     choice: 0,
 };
 
-// Texts whose lines are in another order, each with its fault.
+// Texts whose lines stand in some order, each with its fault.
 const OUT_OF_ORDER: [(&[u8], u32, TraCause); 6] = [
     (b"2 2 3\n0 0 0 0.5 a\n0 0 1 0.5 b\n1 0 1 1 a\n", 3, CLASH),
     (b"2 2 3\n0 0 0 0.5 a\n1 0 1 1 b\n0 0 1 0.5 b\n", 4, CLASH),
