@@ -2,4 +2,3 @@ pub mod Answered
 pub mod Complete
 pub mod Endings
 pub mod Posed
-pub mod Saved
