@@ -3,7 +3,7 @@
 ghost use Rattle.std.specs.Prelude.{◌≡◌, ◌≤◌, ◌↔◌, None, Err, IfOk, IsErrOf, IsTrue, length, true};
 ghost use Rattle.text_lines.specs.Limits.{most_bytes};
 ghost use Rattle.certificate_audit.specs.Accepted.{IsAccepted, IsSoundPlan};
-ghost use Rattle.certificate_audit.specs.Refused.{IsRefused, IsWant};
+ghost use Rattle.certificate_audit.specs.Refused.{IsRefused, IsOutOfMemory};
 ghost use Rattle.certificate_audit.specs.declared.fault.AuditFault.{AuditFault};
 ghost use Rattle.run_refusals.specs.declared.refusal.Refusal.{Refusal};
 ghost use Rattle.asked_files.specs.Asks.{GivenTextWith};
@@ -49,7 +49,7 @@ fn certificate_in(alloc: Global, question: &Question, bytes: &[u8]) -> Result<Pl
     match audit(alloc, question, bytes) {
         Ok(plan) => Ok(plan),
         Err(fault) => {
-            if is_want(fault) {
+            if is_out_of_memory(fault) {
                 Err(End::OutOfMemory)
             } else {
                 Err(End::Refused(Refusal::OfCertificate(fault)))
@@ -59,8 +59,8 @@ fn certificate_in(alloc: Global, question: &Question, bytes: &[u8]) -> Result<Pl
 }
 
 // Whether memory was wanting.
-fn is_want(fault: AuditFault) -> bool
-    ensures { IsTrue result ↔ IsWant fault }
+fn is_out_of_memory(fault: AuditFault) -> bool
+    ensures { IsTrue result ↔ IsOutOfMemory fault }
 {
     match fault {
         AuditFault::Text(fault) => fault.line == 0 && matches!(fault.cause, PlanCause::OutOfMemory),

@@ -12,7 +12,7 @@ use Rattle.game_model.specs.Rounded.{down_step, up_step}
 use Rattle.fixed_bellman.specs.declared.bounds.Bounds.{Bounds}
 use Rattle.fixed_bellman.specs.Bounds.{lowers, uppers, AreUnits}
 use Rattle.bounded_rounds.specs.Steps.{IsSweep}
-use Rattle.bounded_rounds.specs.Parts.{opened, IsTable, IsStretch, IsStepped}
+use Rattle.bounded_rounds.specs.Parts.{opened, IsBoundsTable, IsStretch, IsStepped}
 use Rattle.bounded_rounds.proofs.Stepping.{Agree, steps_from-next, steps_from-rests, steps_from-same}
 
 -- the bounds past the end of a list
@@ -74,8 +74,8 @@ IsStepped-more q table first count next changed new b there h down up units same
     }
 
 -- whole tables
-pub IsTable-step : (q : Query) (table next : List Bounds) (changed : Bool) → length next ≡ states q → IsStepped q table 0 (states q) next changed → IsTable q next
-IsTable-step q table next changed many h = record {
+pub IsBoundsTable-step : (q : Query) (table next : List Bounds) (changed : Bool) → length next ≡ states q → IsStepped q table 0 (states q) next changed → IsBoundsTable q next
+IsBoundsTable-step q table next changed many h = record {
   many = many;
   units = All-from_get_or AreUnits next no_bounds (λ k l. (
     omega (arith, get_or-map (λ (b : Bounds). b.lower) next k no_bounds, h.down.units k (omega (arith, many, l))),
@@ -92,8 +92,8 @@ pub uppers-opened : (opening : List ℕ) → uppers (opened opening) ≡ opening
 uppers-opened [] = refl
 uppers-opened (v ∷ opening) = ap (λ xs. v ∷ xs) (uppers-opened opening)
 
-pub IsTable-opened : (q : Query) (opening : List ℕ) → length opening ≡ states q → All (λ v. v ≤ unit) opening → IsTable q (opened opening)
-IsTable-opened q opening many units = record {
+pub IsBoundsTable-opened : (q : Query) (opening : List ℕ) → length opening ≡ states q → All (λ v. v ≤ unit) opening → IsBoundsTable q (opened opening)
+IsBoundsTable-opened q opening many units = record {
   many = length-map opening (λ (v : ℕ). let b : Bounds = record { lower = v; upper = v } in b) ∙ many;
   units = All-map AreUnits (λ (v : ℕ). let b : Bounds = record { lower = v; upper = v } in b) opening (λ i d l. (units i d l, units i d l));
 }

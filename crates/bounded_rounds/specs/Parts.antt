@@ -11,7 +11,7 @@ abbrev pub opened : List ℕ → List Bounds
 opened opening = map (λ v. record { lower = v; upper = v }) opening
 
 -- two numbers of units for each state
-pub record IsTable (q : Query) (table : List Bounds) : Type 0 where
+pub record IsBoundsTable (q : Query) (table : List Bounds) : Type 0 where
   pub many : length table ≡ states q
   pub units : All AreUnits table
 

@@ -5,7 +5,7 @@ ghost use Rattle.game_model.specs.Query.{states};
 ghost use Rattle.game_model.specs.Limits.{unit};
 ghost use Rattle.fixed_bellman.specs.Bounds.{lowers, uppers, AreUnits};
 ghost use Rattle.bounded_rounds.specs.Limits.{most_steps, most_workers};
-ghost use Rattle.bounded_rounds.specs.Parts.{opened, IsTable, IsStepped};
+ghost use Rattle.bounded_rounds.specs.Parts.{opened, IsBoundsTable, IsStepped};
 ghost use Rattle.bounded_rounds.specs.Steps.{IsSweep};
 
 use crate::fork::step_chunks;
@@ -92,7 +92,7 @@ fn iterate<R: Threads + Sync, G: Gate + Sync>(
     workers: u32,
     gate: &G,
 ) -> Vec<Bounds>
-    requires table { IsTable question.now table.items }
+    requires table { IsBoundsTable question.now table.items }
     requires same { uppers table.items ≡ lowers table.items }
     requires next { length next.items ≡ states question.now }
     requires workers { 1 ≤ workers }
@@ -120,7 +120,7 @@ fn step<R: Threads + Sync, G: Gate + Sync>(
     workers: u32,
     gate: &G,
 ) -> bool
-    requires table { IsTable question.now table.now }
+    requires table { IsBoundsTable question.now table.now }
     requires next { length next.old ≡ states question.now }
     requires workers { 1 ≤ workers }
     ensures { IsStepped question.now table.now 0 (states question.now) next.new result }

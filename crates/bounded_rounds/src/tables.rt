@@ -1,6 +1,6 @@
 //! The table that a step reads.
 
-ghost use Rattle.bounded_rounds.specs.Parts.{IsTable};
+ghost use Rattle.bounded_rounds.specs.Parts.{IsBoundsTable};
 
 use fixed_bellman::Bounds;
 use game_model::Question;
@@ -10,5 +10,5 @@ use game_model::Question;
 pub struct Tables<'a> {
     pub question: &'a Question<'a>,
     pub table: &'a [Bounds],
-    ghost bounds: { IsTable question.now table.now },
+    ghost bounds: { IsBoundsTable question.now table.now },
 }

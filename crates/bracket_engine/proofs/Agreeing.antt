@@ -26,21 +26,21 @@ settled-agree q zero other_zero bound other_bound initial other_initial asked ot
       second.least (slice_index lower) first.opens first.settled s within,
     ))
 
--- and two upper ones where none was kept: the guesses are over the same lower table, and the co-values are both the least
+-- and two upper ones where none was kept: the guesses are over the same lower table, and the swapped values are both the least
 pub settled-upper-agree : (q : Query) (zero : List Bool) (bound other_bound : Bound) (initial other_initial : List ℕ) (asked other_asked : ℕ) (lower upper other_lower other : List ℕ) (rounds other_rounds : ℕ)
     → is_asking bound ≡ true → is_asking other_bound ≡ true
     → IsBracket q zero bound initial asked lower upper rounds true → IsBracket q zero other_bound other_initial other_asked other_lower other other_rounds true → upper ≡ other
 settled-upper-agree q zero bound other_bound initial other_initial asked other_asked lower upper other_lower other rounds other_rounds asks other_asks one two =
-    let first = one.coleast refl in
-    let second = two.coleast refl in
+    let first = one.swapped_least refl in
+    let second = two.swapped_least refl in
     let lowers : lower ≡ other_lower = settled-agree q zero zero bound other_bound initial other_initial asked other_asked lower upper other_lower other rounds other_rounds one two in
-    let guesses : one.guess ≡ two.guess = one-first-guess q zero (slice_index other_lower) one.guess two.guess (subst (λ (l : List ℕ). IsFirstGuess q zero (slice_index l) one.guess) lowers one.guessed) two.guessed in
-    same_lists upper other (one.upper_length ∙ sym two.upper_length) (λ s d inside.
-    let within : s < states q = subst (λ n. s < n) one.upper_length inside in
-    let there : s < length other = subst (λ n. s < n) (sym two.upper_length) within in
-    let alone : slice_index upper s ≡ upper_from (slice_index one.covalues) (slice_index one.guess) s = subst (λ k. slice_index upper s ≡ upper_from (slice_index one.covalues) (with_kept k (slice_index one.guess)) s) (one.none_kept asks) (one.least_upper s within) in
-    let other_alone : slice_index other s ≡ upper_from (slice_index two.covalues) (slice_index two.guess) s = subst (λ k. slice_index other s ≡ upper_from (slice_index two.covalues) (with_kept k (slice_index two.guess)) s) (two.none_kept other_asks) (two.least_upper s within) in
-    let guess : slice_index one.guess s ≡ slice_index two.guess s = ap (λ (l : List ℕ). slice_index l s) guesses in
-    let over = first.least (slice_index two.covalues) second.opens second.settled s within in
-    let under = second.least (slice_index one.covalues) first.opens first.settled s within in
+    let guesses : one.least_upper.guess ≡ two.least_upper.guess = one-first-guess q zero (slice_index other_lower) one.least_upper.guess two.least_upper.guess (subst (λ (l : List ℕ). IsFirstGuess q zero (slice_index l) one.least_upper.guess) lowers one.least_upper.first) two.least_upper.first in
+    same_lists upper other (one.least_upper.table.many ∙ sym two.least_upper.table.many) (λ s d inside.
+    let within : s < states q = subst (λ n. s < n) one.least_upper.table.many inside in
+    let there : s < length other = subst (λ n. s < n) (sym two.least_upper.table.many) within in
+    let alone : slice_index upper s ≡ upper_from (slice_index one.swapped_values) (slice_index one.least_upper.guess) s = subst (λ k. slice_index upper s ≡ upper_from (slice_index one.swapped_values) (with_kept k (slice_index one.least_upper.guess)) s) (one.none_kept asks) (one.least_upper.each s within) in
+    let other_alone : slice_index other s ≡ upper_from (slice_index two.swapped_values) (slice_index two.least_upper.guess) s = subst (λ k. slice_index other s ≡ upper_from (slice_index two.swapped_values) (with_kept k (slice_index two.least_upper.guess)) s) (two.none_kept other_asks) (two.least_upper.each s within) in
+    let guess : slice_index one.least_upper.guess s ≡ slice_index two.least_upper.guess s = ap (λ (l : List ℕ). slice_index l s) guesses in
+    let over = first.least (slice_index two.swapped_values) second.opens second.settled s within in
+    let under = second.least (slice_index one.swapped_values) first.opens first.settled s within in
     omega (arith, get_or_default upper s d 0 inside, get_or_default other s d 0 there, alone, other_alone, guess, over, under))

@@ -17,7 +17,7 @@ use Rattle.game_model.proofs.Marked.{marked-goal}
 use Rattle.game_laws.proofs.Steps.{down_steps-settled}
 use Rattle.game_laws.proofs.Low.{down_steps-below, down_steps-near}
 use Rattle.game_laws.proofs.High.{IsHigh-up_step}
-use Rattle.game_laws.proofs.Near.{co-value-near}
+use Rattle.game_laws.proofs.Near.{swapped-value-near}
 use Rattle.step_core.specs.Word.{value_in, value_at, values_of, picks_of}
 use Rattle.step_core.proofs.Words.{values_of-is, AreSoundWords-goals, AreSoundWords-units}
 use Rattle.upper_guess.specs.Guess.{IsFirstGuess}
@@ -26,7 +26,7 @@ use Rattle.verdicts.specs.Verdict.{is_asking}
 use Rattle.verdicts.proofs.Staying.{settled-on}
 use Rattle.bracket_engine.specs.declared.stopping.SettlingGuess.{SettlingGuess}
 use Rattle.bracket_engine.specs.Stop.{AreSettledAt, upper_from, with_kept, IsSettlingGuess, IsUpper, IsUpperFrom}
-use Rattle.bracket_engine.specs.Bracket.{IsBracket, IsCloseBelow, IsNarrow, IsCoswept, IsLeastSettled}
+use Rattle.bracket_engine.specs.Bracket.{IsBracket, IsCloseBelow, IsNarrow, IsSweptAbove, IsLeastSettled}
 use Rattle.bracket_engine.specs.declared.race.Ended.{Ended}
 use Rattle.marked_rounds.specs.Rounds.{IsRaced}
 use Rattle.bracket_engine.specs.Race.{AreOver}
@@ -97,84 +97,81 @@ IsLeastSettled-run q table rounds posed run settled = record {
 }
 
 -- the tables of two races that are over
-pub record AreTables (q : Query) (zero_set : List Bool) (words cowords lower covalues : List ℕ) (rounds : ℕ) : Type 0 where
+pub record AreTables (q : Query) (zero_set : List Bool) (words swapped_words lower swapped_values : List ℕ) (rounds : ℕ) : Type 0 where
   pub posed : IsQuery q
-  pub coposed : IsQuery (swapped q zero_set)
+  pub swapped_posed : IsQuery (swapped q zero_set)
   pub is_zero_set : IsZeroSet q zero_set
   pub raced : IsRaced q words rounds
-  pub coraced : IsRaced (swapped q zero_set) cowords rounds
+  pub swapped_raced : IsRaced (swapped q zero_set) swapped_words rounds
   pub lower_is : lower ≡ values_of words
-  pub covalues_are : covalues ≡ values_of cowords
+  pub swapped_values_are : swapped_values ≡ values_of swapped_words
 
-module _ (q : Query) (zero_set : List Bool) (words cowords lower covalues : List ℕ) (rounds : ℕ) (h : AreTables q zero_set words cowords lower covalues rounds) where
-  covalue-unit : (s : ℕ) → s < states q → slice_index covalues s ≤ unit
-  covalue-unit s inside = units-raced (swapped q zero_set) cowords covalues rounds h.coraced h.covalues_are s inside
+module _ (q : Query) (zero_set : List Bool) (words swapped_words lower swapped_values : List ℕ) (rounds : ℕ) (h : AreTables q zero_set words swapped_words lower swapped_values rounds) where
+  swapped_value-unit : (s : ℕ) → s < states q → slice_index swapped_values s ≤ unit
+  swapped_value-unit s inside = units-raced (swapped q zero_set) swapped_words swapped_values rounds h.swapped_raced h.swapped_values_are s inside
 
-  pub unlost-inductive : IsInductive q (λ s. unit - slice_index covalues s)
-  unlost-inductive = IsInductive-rest q zero_set covalues (picks_of cowords) h.coraced.sound.ranks (λ s. unit - slice_index covalues s) h.posed h.is_zero_set
-      (subst (λ (l : List ℕ). Ranked (swapped q zero_set) l (picks_of cowords) h.coraced.sound.ranks) (sym h.covalues_are) h.coraced.sound.ranked) (λ s inside. omega (arith, covalue-unit s inside))
+  pub unlost-inductive : IsInductive q (λ s. unit - slice_index swapped_values s)
+  unlost-inductive = IsInductive-rest q zero_set swapped_values (picks_of swapped_words) h.swapped_raced.sound.ranks (λ s. unit - slice_index swapped_values s) h.posed h.is_zero_set
+      (subst (λ (l : List ℕ). Ranked (swapped q zero_set) l (picks_of swapped_words) h.swapped_raced.sound.ranks) (sym h.swapped_values_are) h.swapped_raced.sound.ranked) (λ s inside. omega (arith, swapped_value-unit s inside))
 
-module _ (q : Query) (zero_set : List Bool) (words cowords lower covalues upper : List ℕ) (rounds : ℕ) (kept : Option SettlingGuess) (h : AreTables q zero_set words cowords lower covalues rounds)
-    (over : IsUpperFrom q zero_set (slice_index lower) (slice_index covalues) kept upper) where
-  -- at most the unit less the co-value
-  upper-within : (s : ℕ) → s < states q → slice_index upper s + slice_index covalues s ≤ unit
-  upper-within s inside = omega (arith, over.each s inside, covalue-unit q zero_set words cowords lower covalues rounds h s inside)
+module _ (q : Query) (zero_set : List Bool) (words swapped_words lower swapped_values upper : List ℕ) (rounds : ℕ) (kept : Option SettlingGuess) (h : AreTables q zero_set words swapped_words lower swapped_values rounds)
+    (over : IsUpperFrom q zero_set (slice_index lower) (slice_index swapped_values) kept upper) where
+  -- at most the unit less the swapped value
+  upper-within : (s : ℕ) → s < states q → slice_index upper s + slice_index swapped_values s ≤ unit
+  upper-within s inside = omega (arith, over.each s inside, swapped_value-unit q zero_set words swapped_words lower swapped_values rounds h s inside)
 
   -- tables that are nowhere below the down steps of both questions are narrow
-  IsNarrow-swept : (r : ℕ) → IsBelow q (down_steps q r) (slice_index lower) → IsBelow (swapped q zero_set) (down_steps (swapped q zero_set) r) (slice_index covalues) → IsNarrow q zero_set r (slice_index lower) (slice_index upper)
-  IsNarrow-swept r swept coswept =
+  IsNarrow-swept : (r : ℕ) → IsBelow q (down_steps q r) (slice_index lower) → IsBelow (swapped q zero_set) (down_steps (swapped q zero_set) r) (slice_index swapped_values) → IsNarrow q zero_set r (slice_index lower) (slice_index upper)
+  IsNarrow-swept r swept swept_above =
       let chosen : AreChoicesOf q.game (choices_of q.game) = AreChoicesOf-choices_of q.game h.posed.game in
-      let within : IsCoswept q zero_set r (slice_index upper) = λ s inside. omega (arith, coswept s inside, upper-within s inside) in
+      let within : IsSweptAbove q zero_set r (slice_index upper) = λ s inside. omega (arith, swept_above s inside, upper-within s inside) in
       record {
         swept = swept;
         near = near-down_steps q (slice_index lower) r chosen swept;
-        coswept = within;
-        near_above = λ s inside. co-value-near q zero_set chosen h.posed.sides (marked-goal q zero_set h.is_zero_set) r s (slice_index upper s) inside (omega (arith, within s inside));
+        swept_above = within;
+        near_above = λ s inside. swapped-value-near q zero_set chosen h.posed.sides (marked-goal q zero_set h.is_zero_set) r s (slice_index upper s) inside (omega (arith, within s inside));
       }
 
   module _ (bound : Bound) (initial : List ℕ) (asked : ℕ) (stable : Bool) (inside_all : All (λ s. s < states q) initial)
-      (kept_over : IfSome kept (IsSettlingGuess q zero_set bound initial (slice_index lower) (slice_index covalues))) where
+      (kept_over : IfSome kept (IsSettlingGuess q zero_set bound initial (slice_index lower) (slice_index swapped_values))) where
     -- a guess that was kept settles the threshold, and so do the upper bounds
     settled-kept : (one : Option SettlingGuess) → kept ≡ one → is_some one ≡ true → AreSettledAt bound initial (slice_index lower) (slice_index upper)
     settled-kept None is some = absurd (cc)
     settled-kept (Some one) is some = λ i d within.
-        let settles : IsSettlingGuess q zero_set bound initial (slice_index lower) (slice_index covalues) one = subst (λ k. IfSome k (IsSettlingGuess q zero_set bound initial (slice_index lower) (slice_index covalues))) is kept_over in
+        let settles : IsSettlingGuess q zero_set bound initial (slice_index lower) (slice_index swapped_values) one = subst (λ k. IfSome k (IsSettlingGuess q zero_set bound initial (slice_index lower) (slice_index swapped_values))) is kept_over in
         let s : ℕ = get_or initial i d in
         let there : s < states q = inside_all i d within in
-        let each : slice_index upper s ≡ upper_from (slice_index covalues) (with_kept (Some one) (slice_index over.guess)) s =
-        subst (λ k. slice_index upper s ≡ upper_from (slice_index covalues) (with_kept k (slice_index over.guess)) s) is (over.each s there) in
-        settled-on bound (slice_index lower s) (slice_index lower s) (upper_from (slice_index covalues) (slice_index one.guess.items) s) (slice_index upper s) (le_refl _) (omega (arith, each)) (settles.settles i d within)
+        let each : slice_index upper s ≡ upper_from (slice_index swapped_values) (with_kept (Some one) (slice_index over.guess)) s =
+        subst (λ k. slice_index upper s ≡ upper_from (slice_index swapped_values) (with_kept k (slice_index over.guess)) s) is (over.each s there) in
+        settled-on bound (slice_index lower s) (slice_index lower s) (upper_from (slice_index swapped_values) (slice_index one.guess.items) s) (slice_index upper s) (le_refl _) (omega (arith, each)) (settles.settles i d within)
 
     IsBracket-raced : (is_asking bound ≡ true → kept ≡ None) → rounds ≤ asked → (rounds < asked → (stable ≡ true) ⊎ (is_some kept ≡ true))
-        → (stable ≡ true) ↔ (IsSettled q (slice_index lower) × IsSettled (swapped q zero_set) (slice_index covalues)) → IsBracket q zero_set bound initial asked lower upper rounds stable
+        → (stable ≡ true) ↔ (IsSettled q (slice_index lower) × IsSettled (swapped q zero_set) (slice_index swapped_values)) → IsBracket q zero_set bound initial asked lower upper rounds stable
     IsBracket-raced none few early settled =
         let chosen : AreChoicesOf q.game (choices_of q.game) = AreChoicesOf-choices_of q.game h.posed.game in
         let run : IsRun q (slice_index lower) rounds = IsRun-raced q words lower rounds h.raced h.lower_is in
-        let corun : IsRun (swapped q zero_set) (slice_index covalues) rounds = IsRun-raced (swapped q zero_set) cowords covalues rounds h.coraced h.covalues_are in
-        let narrow : IsNarrow q zero_set rounds (slice_index lower) (slice_index upper) = IsNarrow-swept rounds run.swept corun.swept in
+        let swapped_run : IsRun (swapped q zero_set) (slice_index swapped_values) rounds = IsRun-raced (swapped q zero_set) swapped_words swapped_values rounds h.swapped_raced h.swapped_values_are in
+        let narrow : IsNarrow q zero_set rounds (slice_index lower) (slice_index upper) = IsNarrow-swept rounds run.swept swapped_run.swept in
         let ended : rounds < asked → (stable ≡ true) ⊎ AreSettledAt bound initial (slice_index lower) (slice_index upper) =
         λ less. elim (early less) [ inl is ↦ inl is | inr some ↦ inr (settled-kept kept refl some) ] in
         let rested : stable ≡ true → IsNarrow q zero_set asked (slice_index lower) (slice_index upper) = λ is.
-        IsNarrow-swept asked (swept-settled q (slice_index lower) rounds h.posed run (settled.0 is).0 asked) (swept-settled (swapped q zero_set) (slice_index covalues) rounds h.coposed corun (settled.0 is).1 asked) in
+        IsNarrow-swept asked (swept-settled q (slice_index lower) rounds h.posed run (settled.0 is).0 asked) (swept-settled (swapped q zero_set) (slice_index swapped_values) rounds h.swapped_posed swapped_run (settled.0 is).1 asked) in
         record {
           base_length = length-raced q words lower rounds h.raced h.lower_is;
           base_units = all-units-raced q words lower rounds h.raced h.lower_is;
-          upper_length = over.table.many;
-          upper_units = over.table.units;
-          covalues = covalues;
-          covalue_units = covalue-unit q zero_set words cowords lower covalues rounds h;
-          colow = below-low (swapped q zero_set) (slice_index covalues) corun.horizon (AreChoicesOf-choices_of q.game h.posed.game) corun.top;
-          coswept = corun.swept;
-          cowithin = corun.within;
+          swapped_values = swapped_values;
+          swapped_bounds = record {
+            units = swapped_value-unit q zero_set words swapped_words lower swapped_values rounds h;
+            low = below-low (swapped q zero_set) (slice_index swapped_values) swapped_run.horizon (AreChoicesOf-choices_of q.game h.posed.game) swapped_run.top;
+            swept = swapped_run.swept;
+            within = swapped_run.within;
+          };
           kept = kept;
-          guess = over.guess;
-          guessed = over.first;
-          least_upper = over.each;
+          least_upper = over;
           kept_over = kept_over;
           none_kept = none;
           low = below-low q (slice_index lower) run.horizon chosen run.top;
           high = IsHigh-up_step q (slice_index upper) chosen over.table.inductive;
-          upper_inductive = over.table.inductive;
           few = few;
           within = run.within;
           narrow = narrow;
@@ -185,42 +182,42 @@ module _ (q : Query) (zero_set : List Bool) (words cowords lower covalues upper 
           early = ended;
           settled = settled;
           least = λ is. IsLeastSettled-run q (slice_index lower) rounds h.posed run (settled.0 is).0;
-          coleast = λ is. IsLeastSettled-run (swapped q zero_set) (slice_index covalues) rounds h.coposed corun (settled.0 is).1;
+          swapped_least = λ is. IsLeastSettled-run (swapped q zero_set) (slice_index swapped_values) rounds h.swapped_posed swapped_run (settled.0 is).1;
         }
 
 -- what two races leave that are over
-module _ (q other : Query) (zero_set : List Bool) (bound : Bound) (initial : List ℕ) (asked : ℕ) (words cowords lower covalues : List ℕ) (ended : Ended)
-    (posed : IsQuery q) (coposed : IsQuery other) (is_zero_set : IsZeroSet q zero_set) (same : other ≡ swapped q zero_set)
-    (over : AreOver q other zero_set bound initial asked words cowords ended) (lower_is : lower ≡ values_of words) (covalues_are : covalues ≡ values_of cowords) where
-  pub AreTables-over : AreTables q zero_set words cowords lower covalues ended.rounds
+module _ (q swapped_question : Query) (zero_set : List Bool) (bound : Bound) (initial : List ℕ) (asked : ℕ) (words swapped_words lower swapped_values : List ℕ) (ended : Ended)
+    (posed : IsQuery q) (swapped_posed : IsQuery swapped_question) (is_zero_set : IsZeroSet q zero_set) (same : swapped_question ≡ swapped q zero_set)
+    (over : AreOver q swapped_question zero_set bound initial asked words swapped_words ended) (lower_is : lower ≡ values_of words) (swapped_values_are : swapped_values ≡ values_of swapped_words) where
+  pub AreTables-over : AreTables q zero_set words swapped_words lower swapped_values ended.rounds
   AreTables-over = record {
     posed = posed;
-    coposed = subst IsQuery same coposed;
+    swapped_posed = subst IsQuery same swapped_posed;
     is_zero_set = is_zero_set;
     raced = over.raced;
-    coraced = subst (λ (p : Query). IsRaced p cowords ended.rounds) same over.coraced;
+    swapped_raced = subst (λ (p : Query). IsRaced p swapped_words ended.rounds) same over.swapped_raced;
     lower_is = lower_is;
-    covalues_are = covalues_are;
+    swapped_values_are = swapped_values_are;
   }
 
-  pub rests-over : ended.rests ≡ true → IsSettled q (slice_index lower) × IsSettled other (slice_index covalues)
-  rests-over is = (settled-raced q words lower ended.rounds over.raced lower_is (over.rests is).0, settled-raced other cowords covalues ended.rounds over.coraced covalues_are (over.rests is).1)
+  pub rests-over : ended.rests ≡ true → IsSettled q (slice_index lower) × IsSettled swapped_question (slice_index swapped_values)
+  rests-over is = (settled-raced q words lower ended.rounds over.raced lower_is (over.rests is).0, settled-raced swapped_question swapped_words swapped_values ended.rounds over.swapped_raced swapped_values_are (over.rests is).1)
 
-  pub kept-over : IfSome ended.kept (IsSettlingGuess q zero_set bound initial (slice_index lower) (slice_index covalues))
+  pub kept-over : IfSome ended.kept (IsSettlingGuess q zero_set bound initial (slice_index lower) (slice_index swapped_values))
   kept-over =
-      let first : IfSome ended.kept (IsSettlingGuess q zero_set bound initial (slice_index lower) (value_at cowords)) =
-      subst (λ (t : ℕ → ℕ). IfSome ended.kept (IsSettlingGuess q zero_set bound initial t (value_at cowords))) (sym (ap slice_index lower_is ∙ values_of-is words)) over.kept in
-      subst (λ (t : ℕ → ℕ). IfSome ended.kept (IsSettlingGuess q zero_set bound initial (slice_index lower) t)) (sym (ap slice_index covalues_are ∙ values_of-is cowords)) first
+      let first : IfSome ended.kept (IsSettlingGuess q zero_set bound initial (slice_index lower) (value_at swapped_words)) =
+      subst (λ (t : ℕ → ℕ). IfSome ended.kept (IsSettlingGuess q zero_set bound initial t (value_at swapped_words))) (sym (ap slice_index lower_is ∙ values_of-is words)) over.kept in
+      subst (λ (t : ℕ → ℕ). IfSome ended.kept (IsSettlingGuess q zero_set bound initial (slice_index lower) t)) (sym (ap slice_index swapped_values_are ∙ values_of-is swapped_words)) first
 
-  pub IsBracket-over : (upper : List ℕ) (stable : Bool) → All (λ s. s < states q) initial → IsUpperFrom q zero_set (slice_index lower) (slice_index covalues) ended.kept upper
-      → (stable ≡ true) ↔ (IsSettled q (slice_index lower) × IsSettled other (slice_index covalues)) → IsBracket q zero_set bound initial asked lower upper ended.rounds stable
+  pub IsBracket-over : (upper : List ℕ) (stable : Bool) → All (λ s. s < states q) initial → IsUpperFrom q zero_set (slice_index lower) (slice_index swapped_values) ended.kept upper
+      → (stable ≡ true) ↔ (IsSettled q (slice_index lower) × IsSettled swapped_question (slice_index swapped_values)) → IsBracket q zero_set bound initial asked lower upper ended.rounds stable
   IsBracket-over upper stable inside from settled =
-      IsBracket-raced q zero_set words cowords lower covalues upper ended.rounds ended.kept AreTables-over from bound initial asked stable inside kept-over over.none over.few
+      IsBracket-raced q zero_set words swapped_words lower swapped_values upper ended.rounds ended.kept AreTables-over from bound initial asked stable inside kept-over over.none over.few
       (λ less. elim (over.early less) [ inl is ↦ inl (settled.1 (rests-over is)) | inr some ↦ inr some ])
-      (subst (λ (p : Query). (stable ≡ true) ↔ (IsSettled q (slice_index lower) × IsSettled p (slice_index covalues))) same settled)
+      (subst (λ (p : Query). (stable ≡ true) ↔ (IsSettled q (slice_index lower) × IsSettled p (slice_index swapped_values))) same settled)
 
 -- what was kept is a guess, and inductive
-pub kept-upper : (q : Query) (zero : List Bool) (bound : Bound) (initial : List ℕ) (lower covalue : ℕ → ℕ) (kept : Option SettlingGuess) → IfSome kept (IsSettlingGuess q zero bound initial lower covalue)
+pub kept-upper : (q : Query) (zero : List Bool) (bound : Bound) (initial : List ℕ) (lower swapped_value : ℕ → ℕ) (kept : Option SettlingGuess) → IfSome kept (IsSettlingGuess q zero bound initial lower swapped_value)
     → IfSome kept (λ one. IsFirstGuess q zero (slice_index one.lower.items) one.guess.items × IsUpper q one.guess.items)
-kept-upper q zero bound initial lower covalue None h = tt
-kept-upper q zero bound initial lower covalue (Some one) h = (h.first, h.upper)
+kept-upper q zero bound initial lower swapped_value None h = tt
+kept-upper q zero bound initial lower swapped_value (Some one) h = (h.first, h.upper)

@@ -1,4 +1,4 @@
--- The unit less the co-values is an inductive table.
+-- The unit less the swapped values is an inductive table.
 use Rattle.std.proofs.Common.{◌≡◌, ℕ, ◌+◌, ◌*◌, ◌<◌, ◌≤◌, Bool, true, false, List, length, arith, refl, sym, ap, ◌∙◌, subst, inl, inr}
 use Rattle.std.specs.Prelude.{slice_index, slice_index_or, Option}
 use Rattle.std.specs.Bool.{if◌then◌else◌}
@@ -29,7 +29,7 @@ up_step-dead q table s goal dead = ap (λ mark. if mark then unit else (if is_de
 
 module _ (q : Query) (zero : List Bool) (values : List ℕ) (picks : List (Option ℕ)) (ranks : List ℕ) (table : ℕ → ℕ) (h : IsQuery q) (is_zero : IsZeroSet q zero) (ranked : Ranked (swapped q zero) values picks ranks)
     (whole : (s : ℕ) → s < states q → table s + slice_index values s ≡ unit) where
-  -- a choice whose average of co-values is at least the co-value of its state is held to the rest
+  -- a choice whose average of swapped values is at least the swapped value of its state is held to the rest
   held-rest : (s c : ℕ) → s < states q → c < length (choices_of q.game s) → slice_index values s * (choice_of q.game s c).total ≤ weighted_sum (slice_index values) (choice_of q.game s c).edges → IsHeldAt q table s c
   held-rest s c inside in_range enough =
       let m : Distribution = choice_of q.game s c in
@@ -40,7 +40,7 @@ module _ (q : Query) (zero : List Bool) (values : List ℕ) (picks : List (Optio
       let all : (table s + slice_index values s) * m.total ≡ unit * m.total = ap (λ n. n * m.total) (whole s inside) in
       omega (arith, both, all, enough)
 
-  -- a state with a positive co-value that is free in both questions
+  -- a state with a positive swapped value that is free in both questions
   positive-rest : (s : ℕ) (side : Side) → s < states q → is_goal q s ≡ false → is_dead q s ≡ false → slice_index_or zero s false ≡ false → 0 < slice_index values s → side_at q s ≡ side → up_step q table s ≤ table s
   positive-rest s Max inside goal dead lost positive is =
       let other : side_at (swapped q zero) s ≡ Min = get_or-map other_side q.sides s Max Max (subst (λ n. s < n) (sym h.sides) inside) ∙ ap other_side is in

@@ -41,36 +41,36 @@ IsLeastGuess-both q zero lower kept guess least h first one other lesser = recor
   upper = IsUpper-lesser q guess kept.guess.items least h one other lesser;
 }
 
--- the unit less the co-values, where that is inductive
-rest-at : (covalues unlost : List ℕ) (s : ℕ) → unlost ≡ rests_of covalues → s < length covalues → slice_index unlost s ≡ unit - slice_index covalues s
-rest-at covalues unlost s is inside = ap (λ (l : List ℕ). slice_index l s) is ∙ get_or-map (λ (v : ℕ). unit - v) covalues s 0 0 inside
+-- the unit less the swapped values, where that is inductive
+rest-at : (swapped_values unlost : List ℕ) (s : ℕ) → unlost ≡ rests_of swapped_values → s < length swapped_values → slice_index unlost s ≡ unit - slice_index swapped_values s
+rest-at swapped_values unlost s is inside = ap (λ (l : List ℕ). slice_index l s) is ∙ get_or-map (λ (v : ℕ). unit - v) swapped_values s 0 0 inside
 
-IsUpper-rests : (q : Query) (covalues unlost : List ℕ) → IsQuery q → length covalues ≡ states q → unlost ≡ rests_of covalues → IsInductive q (λ s. unit - slice_index covalues s) → IsUpper q unlost
-IsUpper-rests q covalues unlost h as_many is inductive =
-    let each : (s : ℕ) → s < states q → slice_index unlost s ≡ unit - slice_index covalues s = λ s inside. rest-at covalues unlost s is (subst (λ n. s < n) (sym as_many) inside) in
-    let many : length unlost ≡ states q = ap length is ∙ length-map covalues (λ (v : ℕ). unit - v) ∙ as_many in
+IsUpper-rests : (q : Query) (swapped_values unlost : List ℕ) → IsQuery q → length swapped_values ≡ states q → unlost ≡ rests_of swapped_values → IsInductive q (λ s. unit - slice_index swapped_values s) → IsUpper q unlost
+IsUpper-rests q swapped_values unlost h as_many is inductive =
+    let each : (s : ℕ) → s < states q → slice_index unlost s ≡ unit - slice_index swapped_values s = λ s inside. rest-at swapped_values unlost s is (subst (λ n. s < n) (sym as_many) inside) in
+    let many : length unlost ≡ states q = ap length is ∙ length-map swapped_values (λ (v : ℕ). unit - v) ∙ as_many in
     record {
       many = many;
       units = λ s d inside. omega (arith, get_or_default unlost s d 0 inside, each s (subst (λ n. s < n) many inside));
-      inductive = IsInductive-same q unlost (λ s. unit - slice_index covalues s) h each inductive;
+      inductive = IsInductive-same q unlost (λ s. unit - slice_index swapped_values s) h each inductive;
     }
 
-pub IsUpperFrom-lesser : (q : Query) (zero : List Bool) (lower : ℕ → ℕ) (covalues unlost least upper : List ℕ) (kept : Option SettlingGuess) → IsQuery q → length covalues ≡ states q → unlost ≡ rests_of covalues
-    → IsInductive q (λ s. unit - slice_index covalues s) → IsLeastGuess q zero lower kept least → AreLesser unlost least upper → IsUpperFrom q zero lower (slice_index covalues) kept upper
-IsUpperFrom-lesser q zero lower covalues unlost least upper kept h as_many is inductive guessed lesser =
-    let rests : IsUpper q unlost = IsUpper-rests q covalues unlost h as_many is inductive in
+pub IsUpperFrom-lesser : (q : Query) (zero : List Bool) (lower : ℕ → ℕ) (swapped_values unlost least upper : List ℕ) (kept : Option SettlingGuess) → IsQuery q → length swapped_values ≡ states q → unlost ≡ rests_of swapped_values
+    → IsInductive q (λ s. unit - slice_index swapped_values s) → IsLeastGuess q zero lower kept least → AreLesser unlost least upper → IsUpperFrom q zero lower (slice_index swapped_values) kept upper
+IsUpperFrom-lesser q zero lower swapped_values unlost least upper kept h as_many is inductive guessed lesser =
+    let rests : IsUpper q unlost = IsUpper-rests q swapped_values unlost h as_many is inductive in
     record {
       guess = guessed.guess;
       first = guessed.first;
-      each = λ s inside. omega (arith, lesser.each s (subst (λ n. s < n) (sym rests.many) inside), rest-at covalues unlost s is (subst (λ n. s < n) (sym as_many) inside), guessed.each s inside);
+      each = λ s inside. omega (arith, lesser.each s (subst (λ n. s < n) (sym rests.many) inside), rest-at swapped_values unlost s is (subst (λ n. s < n) (sym as_many) inside), guessed.each s inside);
       table = IsUpper-lesser q unlost least upper h rests guessed.upper lesser;
     }
 
--- what a guess settles stays settled where lower bounds and co-values rise
-pub IsSettlingGuess-raised : (q : Query) (zero : List Bool) (bound : Bound) (initial : List ℕ) (lower higher covalue more : ℕ → ℕ) (kept : Option SettlingGuess) → All (λ s. s < states q) initial
-    → IsBelow q lower higher → IsBelow q covalue more → IfSome kept (IsSettlingGuess q zero bound initial lower covalue) → IfSome kept (IsSettlingGuess q zero bound initial higher more)
-IsSettlingGuess-raised q zero bound initial lower higher covalue more None inside rise corise h = tt
-IsSettlingGuess-raised q zero bound initial lower higher covalue more (Some kept) inside rise corise h = record {
+-- what a guess settles stays settled where lower bounds and swapped values rise
+pub IsSettlingGuess-raised : (q : Query) (zero : List Bool) (bound : Bound) (initial : List ℕ) (lower higher swapped_value more : ℕ → ℕ) (kept : Option SettlingGuess) → All (λ s. s < states q) initial
+    → IsBelow q lower higher → IsBelow q swapped_value more → IfSome kept (IsSettlingGuess q zero bound initial lower swapped_value) → IfSome kept (IsSettlingGuess q zero bound initial higher more)
+IsSettlingGuess-raised q zero bound initial lower higher swapped_value more None inside rise swapped_rise h = tt
+IsSettlingGuess-raised q zero bound initial lower higher swapped_value more (Some kept) inside rise swapped_rise h = record {
   below = λ s there. le_trans (h.below s there) (rise s there);
   first = h.first;
   upper = h.upper;
@@ -78,5 +78,5 @@ IsSettlingGuess-raised q zero bound initial lower higher covalue more (Some kept
       let s : ℕ = get_or initial i d in
       let there : s < states q = inside i d within in
       let guess = slice_index kept.guess.items in
-      settled-on bound (lower s) (higher s) (upper_from covalue guess s) (upper_from more guess s) (rise s there) (omega (arith, corise s there)) (h.settles i d within);
+      settled-on bound (lower s) (higher s) (upper_from swapped_value guess s) (upper_from more guess s) (rise s there) (omega (arith, swapped_rise s there)) (h.settles i d within);
 }

@@ -1,16 +1,15 @@
--- What a run of rounds gives: a sound lower table, the base, and a sound upper table, and how near they are to the values of r steps. The co-values are lower bounds of the swapped question.
+-- What a run of rounds gives: a sound lower table, the base, and a sound upper table, and how near they are to the values of r steps. The swapped values are lower bounds of the swapped question.
 use Rattle.std.specs.Prelude.{◌≡◌, ℕ, ◌+◌, ◌-◌, ◌*◌, ◌^◌, ◌<◌, ◌≤◌, ◌↔◌, ◌⊎◌, Bool, true, List, length, All, map, min, slice_index, Option, None, IfSome}
 use Rattle.game_model.specs.Query.{Query, states}
 use Rattle.game_model.specs.Values.{denominator, numerator}
 use Rattle.game_model.specs.Limits.{unit}
-use Rattle.game_model.specs.Rounded.{down_steps, opening, IsBelow, IsSettled, IsInductive}
+use Rattle.game_model.specs.Rounded.{down_steps, opening, IsBelow, IsSettled}
 use Rattle.game_model.specs.Dual.{open_numerator, swapped}
 use Rattle.game_model.specs.Bounds.{IsLow, IsHigh}
-use Rattle.upper_guess.specs.Guess.{IsFirstGuess}
 use Rattle.rpatl_syntax.specs.declared.formula.Bound.{Bound}
 use Rattle.verdicts.specs.Verdict.{is_asking}
 use Rattle.bracket_engine.specs.declared.stopping.SettlingGuess.{SettlingGuess}
-use Rattle.bracket_engine.specs.Stop.{AreSettledAt, upper_from, with_kept, IsSettlingGuess}
+use Rattle.bracket_engine.specs.Stop.{AreSettledAt, IsSettlingGuess, IsUpperFrom}
 
 -- at most r units below the r-step values
 abbrev pub IsCloseBelow : Query → ℕ → (ℕ → ℕ) → Type 0
@@ -26,8 +25,8 @@ pub record AreLesser (one other table : List ℕ) : Type 0 where
   pub each : (s : ℕ) → s < length one → slice_index table s ≡ min (slice_index one s) (slice_index other s)
 
 -- the unit less the r-fold down step of the swapped question, at most
-abbrev pub IsCoswept : Query → List Bool → ℕ → (ℕ → ℕ) → Type 0
-IsCoswept q zero r table = (s : ℕ) → s < states q → down_steps (swapped q zero) r s + table s ≤ unit
+abbrev pub IsSweptAbove : Query → List Bool → ℕ → (ℕ → ℕ) → Type 0
+IsSweptAbove q zero r table = (s : ℕ) → s < states q → down_steps (swapped q zero) r s + table s ≤ unit
 
 -- at most r units above the values of not being lost after r steps
 abbrev pub IsCloseAbove : Query → List Bool → ℕ → (ℕ → ℕ) → Type 0
@@ -43,8 +42,15 @@ pub record IsLeastSettled (q : Query) (table : ℕ → ℕ) : Type 0 where
 pub record IsNarrow (q : Query) (zero : List Bool) (r : ℕ) (lower upper : ℕ → ℕ) : Type 0 where
   pub swept : IsBelow q (down_steps q r) lower
   pub near : IsCloseBelow q r lower
-  pub coswept : IsCoswept q zero r upper
+  pub swept_above : IsSweptAbove q zero r upper
   pub near_above : IsCloseAbove q zero r upper
+
+-- lower bounds of the swapped question: sound, and between the down steps of the completed rounds and those of all their updates
+pub record AreSwappedValues (q : Query) (zero : List Bool) (rounds : ℕ) (values : List ℕ) : Type 0 where
+  pub units : (s : ℕ) → s < states q → slice_index values s ≤ unit
+  pub low : IsLow (swapped q zero) (slice_index values)
+  pub swept : IsBelow (swapped q zero) (down_steps (swapped q zero) rounds) (slice_index values)
+  pub within : IsBelow (swapped q zero) (slice_index values) (down_steps (swapped q zero) (rounds * states q))
 
 -- a bracket of a question with this zero set, after this many completed rounds of those that were asked for, unless the threshold was settled at the initial states before
 pub record IsBracket (q : Query) (zero : List Bool) (bound : Bound) (initial : List ℕ) (asked : ℕ) (base upper : List ℕ) (rounds : ℕ) (stable : Bool) : Type 0 where
@@ -53,24 +59,14 @@ pub record IsBracket (q : Query) (zero : List Bool) (bound : Bound) (initial : L
   -- the bounds are sound
   pub low : IsLow q (slice_index base)
   pub high : IsHigh q (slice_index upper)
-  pub upper_length : length upper ≡ states q
-  pub upper_units : All (λ v. v ≤ unit) upper
-  -- the co-values are sound lower bounds of the swapped question, between the down steps of the completed rounds and those of all their updates
-  pub covalues : List ℕ
-  pub covalue_units : (s : ℕ) → s < states q → slice_index covalues s ≤ unit
-  pub colow : IsLow (swapped q zero) (slice_index covalues)
-  pub coswept : IsBelow (swapped q zero) (down_steps (swapped q zero) rounds) (slice_index covalues)
-  pub cowithin : IsBelow (swapped q zero) (slice_index covalues) (down_steps (swapped q zero) (rounds * states q))
-  -- the upper table is the least of the unit less the co-values, of the first guess over the base, and of a guess that was kept, if any
+  -- the upper table is inductive, and the least of the unit less the swapped values, of the first guess over the base, and of a guess that was kept, if any
+  pub swapped_values : List ℕ
+  pub swapped_bounds : AreSwappedValues q zero rounds swapped_values
   pub kept : Option SettlingGuess
-  pub guess : List ℕ
-  pub guessed : IsFirstGuess q zero (slice_index base) guess
-  pub least_upper : (s : ℕ) → s < states q → slice_index upper s ≡ upper_from (slice_index covalues) (with_kept kept (slice_index guess)) s
-  -- one that is kept settles the threshold at each initial state, with the base and the co-values
-  pub kept_over : IfSome kept (IsSettlingGuess q zero bound initial (slice_index base) (slice_index covalues))
+  pub least_upper : IsUpperFrom q zero (slice_index base) (slice_index swapped_values) kept upper
+  -- one that is kept settles the threshold at each initial state, with the base and the swapped values
+  pub kept_over : IfSome kept (IsSettlingGuess q zero bound initial (slice_index base) (slice_index swapped_values))
   pub none_kept : is_asking bound ≡ true → kept ≡ None
-  -- no state's up value is above its upper bound
-  pub upper_inductive : IsInductive q (slice_index upper)
   -- the base is within the down steps of all updates of the completed rounds, one a state
   pub few : rounds ≤ asked
   pub within : IsBelow q (slice_index base) (down_steps q (rounds * states q))
@@ -79,7 +75,7 @@ pub record IsBracket (q : Query) (zero : List Bool) (bound : Bound) (initial : L
   pub narrow_asked : AreSettledAt bound initial (slice_index base) (slice_index upper) ⊎ IsNarrow q zero asked (slice_index base) (slice_index upper)
   -- the run ends early only where both tables are settled, or each initial state is
   pub early : rounds < asked → (stable ≡ true) ⊎ AreSettledAt bound initial (slice_index base) (slice_index upper)
-  pub settled : (stable ≡ true) ↔ (IsSettled q (slice_index base) × IsSettled (swapped q zero) (slice_index covalues))
+  pub settled : (stable ≡ true) ↔ (IsSettled q (slice_index base) × IsSettled (swapped q zero) (slice_index swapped_values))
   -- tables that are settled are the least settled ones
   pub least : stable ≡ true → IsLeastSettled q (slice_index base)
-  pub coleast : stable ≡ true → IsLeastSettled (swapped q zero) (slice_index covalues)
+  pub swapped_least : stable ≡ true → IsLeastSettled (swapped q zero) (slice_index swapped_values)

@@ -12,9 +12,9 @@ use Rattle.bracket_engine.specs.declared.stopping.SettlingGuess.{SettlingGuess}
 abbrev pub AreSettledAt : Bound → List ℕ → (ℕ → ℕ) → (ℕ → ℕ) → Type 0
 AreSettledAt bound initial lower upper = All (λ s. is_settling (verdict_of bound (lower s) (upper s)) ≡ true) initial
 
--- the lesser of the unit less a co-value and of a guess
+-- the lesser of the unit less a swapped value and of a guess
 abbrev pub upper_from : (ℕ → ℕ) → (ℕ → ℕ) → ℕ → ℕ
-upper_from covalue guess s = min (unit - covalue s) (guess s)
+upper_from swapped_value guess s = min (unit - swapped_value s) (guess s)
 
 -- a table of values that is inductive
 pub record IsUpper (q : Query) (table : List ℕ) : Type 0 where
@@ -22,12 +22,12 @@ pub record IsUpper (q : Query) (table : List ℕ) : Type 0 where
   pub units : All (λ v. v ≤ unit) table
   pub inductive : IsInductive q (slice_index table)
 
--- a guess over lower bounds that are nowhere above these; with these and the co-values it settles the threshold at the initial states
-pub record IsSettlingGuess (q : Query) (zero : List Bool) (bound : Bound) (initial : List ℕ) (lower covalue : ℕ → ℕ) (kept : SettlingGuess) : Type 0 where
+-- a guess over lower bounds that are nowhere above these; with these and the swapped values it settles the threshold at the initial states
+pub record IsSettlingGuess (q : Query) (zero : List Bool) (bound : Bound) (initial : List ℕ) (lower swapped_value : ℕ → ℕ) (kept : SettlingGuess) : Type 0 where
   pub below : IsBelow q (slice_index kept.lower.items) lower
   pub first : IsFirstGuess q zero (slice_index kept.lower.items) kept.guess.items
   pub upper : IsUpper q kept.guess.items
-  pub settles : AreSettledAt bound initial lower (upper_from covalue (slice_index kept.guess.items))
+  pub settles : AreSettledAt bound initial lower (upper_from swapped_value (slice_index kept.guess.items))
 
 -- a guess, and where another one was kept the lesser of the two
 abbrev pub with_kept : Option SettlingGuess → (ℕ → ℕ) → ℕ → ℕ
@@ -41,9 +41,9 @@ pub record IsLeastGuess (q : Query) (zero : List Bool) (lower : ℕ → ℕ) (ke
   pub each : (s : ℕ) → s < states q → slice_index least s ≡ with_kept kept (slice_index guess) s
   pub upper : IsUpper q least
 
--- the least of the unit less the co-values, of the guess over lower bounds, and of the one that was kept, if any
-pub record IsUpperFrom (q : Query) (zero : List Bool) (lower covalue : ℕ → ℕ) (kept : Option SettlingGuess) (upper : List ℕ) : Type 0 where
+-- the least of the unit less the swapped values, of the guess over lower bounds, and of the one that was kept, if any
+pub record IsUpperFrom (q : Query) (zero : List Bool) (lower swapped_value : ℕ → ℕ) (kept : Option SettlingGuess) (upper : List ℕ) : Type 0 where
   pub guess : List ℕ
   pub first : IsFirstGuess q zero lower guess
-  pub each : (s : ℕ) → s < states q → slice_index upper s ≡ upper_from covalue (with_kept kept (slice_index guess)) s
+  pub each : (s : ℕ) → s < states q → slice_index upper s ≡ upper_from swapped_value (with_kept kept (slice_index guess)) s
   pub table : IsUpper q upper

@@ -3,7 +3,7 @@
 /// A lower and an upper bound in units for each state, choices of the maximiser with ranks that vouch for the lower
 /// bounds, replies of the minimiser that hold the maximiser to the upper bounds, the number of completed
 /// rounds, and whether the tables are settled: no state's down value is above its entry in the base, nor
-/// in the table of co-values, the lower bounds of the swapped question.
+/// in the table of swapped values, the lower bounds of the swapped question.
 #[derive(Drop)]
 pub struct Bracket {
     /// What the rounds reach from below: at most some k-step value, for each state.

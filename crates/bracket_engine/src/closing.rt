@@ -26,22 +26,22 @@ use std::alloc::Global;
 use std::thread::Threads;
 use team_tables::Team;
 
-/// The bracket of two races that are over: the tables, and the strategies for them. The other question and the co-words are
+/// The bracket of two races that are over: the tables, and the strategies for them. The swapped question and the swapped words are
 /// let go once they are read.
 pub fn bracket_of<F: Fn(u64, u64) -> bool, R: Threads + Sync>(
     team: &Team<'_, R>,
     alloc: Global,
     ending: &Ending<'_, F>,
-    other: Question<'_>,
+    swapped_question: Question<'_>,
     predecessors: &Predecessors,
     raced: Raced,
 ) -> Result<Bracket, OutOfMemory>
     requires zero { IsZeroSet ending.now.question.now ending.now.zero.now }
     requires initial { All (λ s. s < states ending.now.question.now) ending.now.initial.now }
-    requires other { other ≡ swapped ending.now.question.now ending.now.zero.now }
-    requires asked { (asked : _) × AreOver ending.now.question.now other ending.now.zero.now (bound_of ending.now.rule.now) ending.now.initial.now asked raced.words raced.cowords raced.ended }
+    requires swapped_question { swapped_question ≡ swapped ending.now.question.now ending.now.zero.now }
+    requires asked { (asked : _) × AreOver ending.now.question.now swapped_question ending.now.zero.now (bound_of ending.now.rule.now) ending.now.initial.now asked raced.words raced.swapped_words raced.ended }
     requires lists { ArePredecessors ending.now.question.now.game predecessors.now }
-    ensures bounds { (asked : _) → AreOver ending.now.question.now other.entry ending.now.zero.now (bound_of ending.now.rule.now) ending.now.initial.now asked raced.words raced.cowords raced.ended
+    ensures bounds { (asked : _) → AreOver ending.now.question.now swapped_question.entry ending.now.zero.now (bound_of ending.now.rule.now) ending.now.initial.now asked raced.words raced.swapped_words raced.ended
         → IfOk result (λ b. IsBracket ending.now.question.now ending.now.zero.now (bound_of ending.now.rule.now) ending.now.initial.now asked b.base.items b.upper.items b.rounds b.stable) }
     ensures lower { IfOk result (λ b. IsLowerTable ending.now.question.now ending.now.zero.now b.base.items b.lower.items b.choices.items b.ranks.items) }
     ensures choices { IfOk result (λ b. AreChoices ending.now.question.now b.lower.items b.choices.items) }
@@ -49,10 +49,10 @@ pub fn bracket_of<F: Fn(u64, u64) -> bool, R: Threads + Sync>(
     ensures replies { IfOk result (λ b. AreRepliesTo ending.now.question.now b.upper.items b.replies.items) }
 {
     ending.question.known();
-    other.known();
+    swapped_question.known();
     let Raced {
         words,
-        cowords,
+        swapped_words,
         ended,
     } = raced;
     let Ended {
@@ -60,11 +60,11 @@ pub fn bracket_of<F: Fn(u64, u64) -> bool, R: Threads + Sync>(
         rests,
         kept,
     } = ended;
-    let covalues = values_of_words(alloc, cowords.as_slice())?;
-    drop(cowords);
+    let swapped_values = values_of_words(alloc, swapped_words.as_slice())?;
+    drop(swapped_words);
     let base = values_of_words(alloc, words.as_slice())?;
-    let stable = is_stable(ending.question, &other, &base, &covalues, rests);
-    drop(other);
+    let stable = is_stable(ending.question, &swapped_question, &base, &swapped_values, rests);
+    drop(swapped_question);
     let (lower, upper) = both_sides(
         team,
         alloc,
@@ -73,7 +73,7 @@ pub fn bracket_of<F: Fn(u64, u64) -> bool, R: Threads + Sync>(
         predecessors,
         words,
         &base,
-        covalues,
+        swapped_values,
         kept,
     )?;
     Ok(Bracket {
@@ -91,17 +91,17 @@ pub fn bracket_of<F: Fn(u64, u64) -> bool, R: Threads + Sync>(
 // Whether both tables are settled. They are where the last round changed nothing on either.
 fn is_stable(
     question: &Question,
-    other: &Question,
+    swapped_question: &Question,
     base: &[u64],
-    covalues: &[u64],
+    swapped_values: &[u64],
     rests: bool,
 ) -> bool
     requires base { length base.now ≡ states question.now }
     requires units { All (λ v. v ≤ unit) base.now }
-    requires covalues { length covalues.now ≡ states other.now }
-    requires counits { All (λ v. v ≤ unit) covalues.now }
-    requires rests { rests ≡ true → IsSettled question.now (slice_index base.now) × IsSettled other.now (slice_index covalues.now) }
-    ensures { (result ≡ true) ↔ (IsSettled question.now (slice_index base.now) × IsSettled other.now (slice_index covalues.now)) }
+    requires swapped_values { length swapped_values.now ≡ states swapped_question.now }
+    requires swapped_units { All (λ v. v ≤ unit) swapped_values.now }
+    requires rests { rests ≡ true → IsSettled question.now (slice_index base.now) × IsSettled swapped_question.now (slice_index swapped_values.now) }
+    ensures { (result ≡ true) ↔ (IsSettled question.now (slice_index base.now) × IsSettled swapped_question.now (slice_index swapped_values.now)) }
 {
-    rests || (settled(question, base) && settled(other, covalues))
+    rests || (settled(question, base) && settled(swapped_question, swapped_values))
 }

@@ -30,7 +30,7 @@ pub struct Raced {
     /// The words of the question.
     pub words: Words,
     /// The words of the swapped question.
-    pub cowords: Words,
+    pub swapped_words: Words,
     /// How the rounds ended.
     pub ended: Ended,
 }
@@ -70,34 +70,34 @@ pub fn race<
     requires zero { IsZeroSet ending.now.question.now ending.now.zero.now }
     requires initial { All (λ s. s < states ending.now.question.now) ending.now.initial.now }
     requires posed { ending.now.question.now ≡ P.posed }
-    requires coposed { swapped.now ≡ C.posed }
+    requires swapped_posed { swapped.now ≡ C.posed }
     requires game { C.posed.game ≡ P.posed.game }
     requires lists { ArePredecessors ending.now.question.now.game predecessors.now }
     requires some { 1 ≤ workers }
     requires few { workers ≤ most_workers }
-    ensures { IfOk result (λ raced. AreOver P.posed C.posed ending.now.zero.now (bound_of ending.now.rule.now) ending.now.initial.now most raced.words raced.cowords raced.ended) }
+    ensures { IfOk result (λ raced. AreOver P.posed C.posed ending.now.zero.now (bound_of ending.now.rule.now) ending.now.initial.now most raced.words raced.swapped_words raced.ended) }
 {
     let question = ending.question;
     question.known();
     let lower = open::<P>(alloc, question)?;
-    let co = open::<C>(alloc, swapped)?;
-    let (lower, co, ended) = run_rounds(
+    let swapped_runner = open::<C>(alloc, swapped)?;
+    let (lower, swapped_runner, ended) = run_rounds(
         rt,
         team,
         alloc,
         ending,
         predecessors,
         lower,
-        co,
+        swapped_runner,
         most,
         workers,
         gate,
     )?;
     let words = close(alloc, lower)?;
-    let cowords = close(alloc, co)?;
+    let swapped_words = close(alloc, swapped_runner)?;
     Ok(Raced {
         words,
-        cowords,
+        swapped_words,
         ended,
     })
 }
@@ -118,7 +118,7 @@ fn run_rounds<
     ending: &Ending<'_, F>,
     predecessors: &Predecessors,
     mut lower: Runner<'q, P>,
-    mut co: Runner<'s, C>,
+    mut swapped_runner: Runner<'s, C>,
     most: u32,
     workers: u32,
     gate: &G,
@@ -129,13 +129,13 @@ fn run_rounds<
     requires posed { ending.now.question.now ≡ P.posed }
     requires game { C.posed.game ≡ P.posed.game }
     requires predecessors { ArePredecessors P.posed.game predecessors.now }
-    requires copredecessors { ArePredecessors C.posed.game predecessors.now }
+    requires swapped_predecessors { ArePredecessors C.posed.game predecessors.now }
     requires lower { IsRacing P.posed 0 lower.pass lower.agenda }
-    requires co { IsRacing C.posed 0 co.pass co.agenda }
+    requires swapped_runner { IsRacing C.posed 0 swapped_runner.pass swapped_runner.agenda }
     requires workers { (1 ≤ workers) × (workers ≤ most_workers) }
     ensures few { IfOk result (λ r. r.2.rounds ≤ most) }
     ensures lower { IfOk result (λ r. IsRacing P.posed r.2.rounds r.0.pass r.0.agenda) }
-    ensures co { IfOk result (λ r. IsRacing C.posed r.2.rounds r.1.pass r.1.agenda) }
+    ensures swapped_runner { IfOk result (λ r. IsRacing C.posed r.2.rounds r.1.pass r.1.agenda) }
     ensures rests { IfOk result (λ r. r.2.rests ≡ true → IsSettled P.posed (read_of r.0.agenda) × IsSettled C.posed (read_of r.1.agenda)) }
     ensures kept { IfOk result (λ r. IfSome r.2.kept (IsSettlingGuess P.posed ending.now.zero.now (bound_of ending.now.rule.now) ending.now.initial.now (read_of r.0.agenda) (read_of r.1.agenda))) }
     ensures none { is_asking (bound_of ending.now.rule.now) ≡ true → IfOk result (λ r. r.2.kept ≡ None) }
@@ -146,23 +146,23 @@ fn run_rounds<
     for turn in 0..most {
         let (next, changed) = one_round(rt, predecessors, lower, workers, gate);
         lower = next;
-        let (next, cochanged) = one_round(rt, predecessors, co, workers, gate);
-        co = next;
+        let (next, swapped_changed) = one_round(rt, predecessors, swapped_runner, workers, gate);
+        swapped_runner = next;
         let rounds = turn + 1;
-        if !changed && !cochanged {
+        if !changed && !swapped_changed {
             let ended = Ended {
                 rounds,
                 rests: true,
                 kept: None,
             };
-            return Ok((lower, co, ended));
+            return Ok((lower, swapped_runner, ended));
         }
         let kept = ending.asked_after(
             team,
             alloc,
             rounds,
             &lower.agenda.read,
-            &co.agenda.read,
+            &swapped_runner.agenda.read,
             &mut witnesses,
         )?;
         if kept.is_some() {
@@ -171,7 +171,7 @@ fn run_rounds<
                 rests: false,
                 kept,
             };
-            return Ok((lower, co, ended));
+            return Ok((lower, swapped_runner, ended));
         }
     }
     let ended = Ended {
@@ -179,5 +179,5 @@ fn run_rounds<
         rests: false,
         kept: None,
     };
-    Ok((lower, co, ended))
+    Ok((lower, swapped_runner, ended))
 }

@@ -31,11 +31,11 @@ use verdicts::StopRule;
 pub const MOST_ROUNDS: u32 = 1_000_000;
 
 /// The bracket after at most this many rounds, each of at most so many workers, who pass the gate before each
-/// state. A round is one on the lower table and then one on the co-values, which are lower bounds of the
+/// state. A round is one on the lower table and then one on the swapped values, which are lower bounds of the
 /// swapped question. The run ends before where both are settled, or where after 1, 2, 4, 8 and so on rounds the lower bounds and
-/// the lesser of a guess over them and of the unit less the co-values settle the rule at each initial state. At the end the
+/// the lesser of a guess over them and of the unit less the swapped values settle the rule at each initial state. At the end the
 /// base is the last lower table, and the lower table is its lower guess: a value that is met in the limit alone, which no
-/// number of rounds reaches, is found by it. The upper table is the least of the unit less the co-values, of the
+/// number of rounds reaches, is found by it. The upper table is the least of the unit less the swapped values, of the
 /// guess over the base and of the one that ended the run. The marks are the question's zero set. The only
 /// error is want of memory.
 pub fn bracket<R: Threads + Sync, F: Fn(u64, u64) -> bool, G: Gate + Sync>(
@@ -104,7 +104,7 @@ pub fn bracket_over<R: Threads + Sync, F: Fn(u64, u64) -> bool, G: Gate + Sync>(
     ensures replies { IfOk result (λ b. AreRepliesTo question.now b.upper.items b.replies.items) }
 {
     question.known();
-    let other = swap(alloc, question, zero)?;
+    let swapped_question = swap(alloc, question, zero)?;
     let ending = Ending {
         question,
         zero,
@@ -120,11 +120,11 @@ pub fn bracket_over<R: Threads + Sync, F: Fn(u64, u64) -> bool, G: Gate + Sync>(
         &team,
         alloc,
         &ending,
-        &other,
+        &swapped_question,
         predecessors,
         rounds,
         workers,
         gate,
     )?;
-    bracket_of(&team, alloc, &ending, other, predecessors, raced)
+    bracket_of(&team, alloc, &ending, swapped_question, predecessors, raced)
 }

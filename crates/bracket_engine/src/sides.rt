@@ -35,7 +35,7 @@ pub fn both_sides<R: Threads + Sync>(
     predecessors: &Predecessors,
     words: Words,
     base: &[u64],
-    covalues: Vec<u64>,
+    swapped_values: Vec<u64>,
     kept: Option<SettlingGuess>,
 ) -> Result<(LowerGuess, UpperSide), OutOfMemory>
     requires zero { IsZeroSet question.now zero.now }
@@ -44,15 +44,15 @@ pub fn both_sides<R: Threads + Sync>(
     requires base { base.now ≡ values_of words }
     requires length { length base.now ≡ states question.now }
     requires units { All (λ v. v ≤ unit) base.now }
-    requires covalues { length covalues.items ≡ states question.now }
-    requires unlost { IsInductive question.now (λ s. unit - slice_index covalues.items s) }
+    requires swapped_values { length swapped_values.items ≡ states question.now }
+    requires unlost { IsInductive question.now (λ s. unit - slice_index swapped_values.items s) }
     requires kept { IfSome kept (λ kept. IsFirstGuess question.now zero.now (slice_index kept.lower.items) kept.guess.items × IsUpper question.now kept.guess.items) }
     ensures lower { IfOk result (λ sides. IsLowerSide question.now zero.now base.now sides.0) }
-    ensures upper { IfOk result (λ sides. IsUpperSide question.now zero.now (slice_index base.now) (slice_index covalues.items) kept sides.1) }
+    ensures upper { IfOk result (λ sides. IsUpperSide question.now zero.now (slice_index base.now) (slice_index swapped_values.items) kept sides.1) }
 {
     if team.workers == 1 {
         let lower = lower_side(alloc, question, zero, predecessors, words, base)?;
-        let upper = upper_side(team, alloc, question, zero, base, covalues, kept)?;
+        let upper = upper_side(team, alloc, question, zero, base, swapped_values, kept)?;
         return Ok((lower, upper));
     }
     let lower = LowerJob {
@@ -73,7 +73,7 @@ pub fn both_sides<R: Threads + Sync>(
         question,
         zero,
         base,
-        covalues,
+        swapped_values,
         kept,
     };
     let (lower, upper) = run_both(team.rt, lower, upper);
@@ -156,7 +156,7 @@ struct UpperJob<'a, R: Threads + Sync> {
     question: &'a Question<'a>,
     zero: &'a Marks,
     base: &'a [u64],
-    covalues: Vec<u64>,
+    swapped_values: Vec<u64>,
     kept: Option<SettlingGuess>,
 }
 
@@ -164,9 +164,9 @@ impl<R: Threads + Sync> Job for UpperJob<'_, R> {
     type Made = Result<UpperSide, OutOfMemory>;
 
     // The team shares what starts threads.
-    ghost can_run = { λ j. IsSync R.row × IsZeroSet j.question.now j.zero.now × (length j.base.now ≡ states j.question.now) × All (λ v. v ≤ unit) j.base.now × (length j.covalues.items ≡ states j.question.now) × IsInductive j.question.now (λ s. unit - slice_index j.covalues.items s) × IfSome j.kept (λ kept. IsFirstGuess j.question.now j.zero.now (slice_index kept.lower.items) kept.guess.items × IsUpper j.question.now kept.guess.items) };
+    ghost can_run = { λ j. IsSync R.row × IsZeroSet j.question.now j.zero.now × (length j.base.now ≡ states j.question.now) × All (λ v. v ≤ unit) j.base.now × (length j.swapped_values.items ≡ states j.question.now) × IsInductive j.question.now (λ s. unit - slice_index j.swapped_values.items s) × IfSome j.kept (λ kept. IsFirstGuess j.question.now j.zero.now (slice_index kept.lower.items) kept.guess.items × IsUpper j.question.now kept.guess.items) };
 
-    ghost gives = { λ j made. IfOk made (λ side. IsUpperSide j.question.now j.zero.now (slice_index j.base.now) (slice_index j.covalues.items) j.kept side) };
+    ghost gives = { λ j made. IfOk made (λ side. IsUpperSide j.question.now j.zero.now (slice_index j.base.now) (slice_index j.swapped_values.items) j.kept side) };
 
     fn run(self) -> Result<UpperSide, OutOfMemory> {
         let UpperJob {
@@ -175,9 +175,9 @@ impl<R: Threads + Sync> Job for UpperJob<'_, R> {
             question,
             zero,
             base,
-            covalues,
+            swapped_values,
             kept,
         } = self;
-        upper_side(team, alloc, question, zero, base, covalues, kept)
+        upper_side(team, alloc, question, zero, base, swapped_values, kept)
     }
 }

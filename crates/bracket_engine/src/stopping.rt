@@ -38,7 +38,7 @@ impl<F: Fn(u64, u64) -> bool> Ending<'_, F> {
     ghost use Rattle.verdicts.specs.Stop.{bound_of, IsStopRule};
     ghost use Rattle.bracket_engine.specs.Stop.{AreSettledAt, upper_from, IsSettlingGuess};
 
-    /// The guess over lower bounds, after 1, 2, 4, 8 and so on rounds, where with the co-values it settles the threshold
+    /// The guess over lower bounds, after 1, 2, 4, 8 and so on rounds, where with the swapped values it settles the threshold
     /// at each initial state. None is made where the bound asks for a value, since no rule could use it. The team fills its
     /// tables.
     pub fn asked_after<R: Threads + Sync>(
@@ -47,7 +47,7 @@ impl<F: Fn(u64, u64) -> bool> Ending<'_, F> {
         alloc: Global,
         rounds: u32,
         lower: &[u64],
-        covalues: &[u64],
+        swapped_values: &[u64],
         witnesses: &mut Witnesses,
     ) -> Result<Option<SettlingGuess>, OutOfMemory>
         requires rule { IsStopRule F.Fn self.now.rule.now }
@@ -55,25 +55,25 @@ impl<F: Fn(u64, u64) -> bool> Ending<'_, F> {
         requires initial { All (λ s. s < states self.now.question.now) self.now.initial.now }
         requires lower { length lower.now ≡ states self.now.question.now }
         requires lower_units { All (λ v. v ≤ unit) lower.now }
-        requires covalues { length covalues.now ≡ states self.now.question.now }
+        requires swapped_values { length swapped_values.now ≡ states self.now.question.now }
         requires witnesses { AreWitnesses self.now.question.now witnesses.old.states }
         ensures witnesses { AreWitnesses self.now.question.now witnesses.new.states }
-        ensures kept { IfOk result (λ found. IfSome found (IsSettlingGuess self.now.question.now self.now.zero.now (bound_of self.now.rule.now) self.now.initial.now (slice_index lower.now) (slice_index covalues.now))) }
+        ensures kept { IfOk result (λ found. IfSome found (IsSettlingGuess self.now.question.now self.now.zero.now (bound_of self.now.rule.now) self.now.initial.now (slice_index lower.now) (slice_index swapped_values.now))) }
         ensures asking { is_asking (bound_of self.now.rule.now) ≡ true → IfOk result (λ found. found ≡ None) }
     {
         if !self.rule.may_settle() || !rounds.is_power_of_two() {
             return Ok(None);
         }
-        self.settling_guess(team, alloc, lower, covalues, witnesses)
+        self.settling_guess(team, alloc, lower, swapped_values, witnesses)
     }
 
-    /// The guess over lower bounds, where with the co-values it settles the threshold at each initial state.
+    /// The guess over lower bounds, where with the swapped values it settles the threshold at each initial state.
     fn settling_guess<R: Threads + Sync>(
         &self,
         team: &Team<'_, R>,
         alloc: Global,
         lower: &[u64],
-        covalues: &[u64],
+        swapped_values: &[u64],
         witnesses: &mut Witnesses,
     ) -> Result<Option<SettlingGuess>, OutOfMemory>
         requires rule { IsStopRule F.Fn self.now.rule.now }
@@ -81,13 +81,13 @@ impl<F: Fn(u64, u64) -> bool> Ending<'_, F> {
         requires initial { All (λ s. s < states self.now.question.now) self.now.initial.now }
         requires lower { length lower.now ≡ states self.now.question.now }
         requires lower_units { All (λ v. v ≤ unit) lower.now }
-        requires covalues { length covalues.now ≡ states self.now.question.now }
+        requires swapped_values { length swapped_values.now ≡ states self.now.question.now }
         requires witnesses { AreWitnesses self.now.question.now witnesses.old.states }
         ensures witnesses { AreWitnesses self.now.question.now witnesses.new.states }
-        ensures kept { IfOk result (λ found. IfSome found (IsSettlingGuess self.now.question.now self.now.zero.now (bound_of self.now.rule.now) self.now.initial.now (slice_index lower.now) (slice_index covalues.now))) }
+        ensures kept { IfOk result (λ found. IfSome found (IsSettlingGuess self.now.question.now self.now.zero.now (bound_of self.now.rule.now) self.now.initial.now (slice_index lower.now) (slice_index swapped_values.now))) }
     {
         let guess = guess_with(team, alloc, self.question, self.zero, lower, witnesses)?;
-        if !self.settles(lower, covalues, &guess) {
+        if !self.settles(lower, swapped_values, &guess) {
             return Ok(None);
         }
         let lower = lower.to_vec(alloc)?;
@@ -95,18 +95,18 @@ impl<F: Fn(u64, u64) -> bool> Ending<'_, F> {
     }
 
     /// Whether the rule says yes at each initial state, to the lower bound and to the lesser of the two upper ones.
-    fn settles(&self, lower: &[u64], covalues: &[u64], guess: &[u64]) -> bool
+    fn settles(&self, lower: &[u64], swapped_values: &[u64], guess: &[u64]) -> bool
         requires rule { IsStopRule F.Fn self.now.rule.now }
         requires initial { All (λ s. s < states self.now.question.now) self.now.initial.now }
         requires lower { length lower.now ≡ states self.now.question.now }
         requires lower_units { All (λ v. v ≤ unit) lower.now }
-        requires covalues { length covalues.now ≡ states self.now.question.now }
+        requires swapped_values { length swapped_values.now ≡ states self.now.question.now }
         requires guess { length guess.now ≡ states self.now.question.now }
-        ensures { (result ≡ true) ↔ AreSettledAt (bound_of self.now.rule.now) self.now.initial.now (slice_index lower.now) (upper_from (slice_index covalues.now) (slice_index guess.now)) }
+        ensures { (result ≡ true) ↔ AreSettledAt (bound_of self.now.rule.now) self.now.initial.now (slice_index lower.now) (upper_from (slice_index swapped_values.now) (slice_index guess.now)) }
     {
         for state in self.initial {
             let place = *state as usize;
-            let upper = UNIT.saturating_sub(covalues[place]).min(guess[place]);
+            let upper = UNIT.saturating_sub(swapped_values[place]).min(guess[place]);
             if !self.rule.asks(lower[place], upper) {
                 return false;
             }

@@ -29,50 +29,50 @@ pub struct UpperSide {
 }
 
 /// The upper table, whose guess is over these lower bounds, and the replies to it. The team fills the tables of the
-/// guess. The co-values are let go once they are read.
+/// guess. The swapped values are let go once they are read.
 pub fn upper_side<R: Threads + Sync>(
     team: &Team<'_, R>,
     alloc: Global,
     question: &Question,
     zero: &Marks,
     lower: &[u64],
-    covalues: Vec<u64>,
+    swapped_values: Vec<u64>,
     kept: Option<SettlingGuess>,
 ) -> Result<UpperSide, OutOfMemory>
     requires zero { IsZeroSet question.now zero.now }
     requires length { length lower.now ≡ states question.now }
     requires units { All (λ v. v ≤ unit) lower.now }
-    requires covalues { length covalues.items ≡ states question.now }
-    requires unlost { IsInductive question.now (λ s. unit - slice_index covalues.items s) }
+    requires swapped_values { length swapped_values.items ≡ states question.now }
+    requires unlost { IsInductive question.now (λ s. unit - slice_index swapped_values.items s) }
     requires kept { IfSome kept (λ kept. IsFirstGuess question.now zero.now (slice_index kept.lower.items) kept.guess.items × IsUpper question.now kept.guess.items) }
-    ensures { IfOk result (λ side. IsUpperSide question.now zero.now (slice_index lower.now) (slice_index covalues.items) kept side) }
+    ensures { IfOk result (λ side. IsUpperSide question.now zero.now (slice_index lower.now) (slice_index swapped_values.items) kept side) }
 {
-    let table = upper_table(team, alloc, question, zero, lower, covalues, kept)?;
+    let table = upper_table(team, alloc, question, zero, lower, swapped_values, kept)?;
     let replies = replies(alloc, question, &table)?;
     Ok(UpperSide { table, replies })
 }
 
-// The least of the unit less the co-values, of the guess over the lower bounds, and of the one that was kept, if any.
+// The least of the unit less the swapped values, of the guess over the lower bounds, and of the one that was kept, if any.
 fn upper_table<R: Threads + Sync>(
     team: &Team<'_, R>,
     alloc: Global,
     question: &Question,
     zero: &Marks,
     lower: &[u64],
-    covalues: Vec<u64>,
+    swapped_values: Vec<u64>,
     kept: Option<SettlingGuess>,
 ) -> Result<Vec<u64>, OutOfMemory>
     requires zero { IsZeroSet question.now zero.now }
     requires length { length lower.now ≡ states question.now }
     requires units { All (λ v. v ≤ unit) lower.now }
-    requires covalues { length covalues.items ≡ states question.now }
-    requires unlost { IsInductive question.now (λ s. unit - slice_index covalues.items s) }
+    requires swapped_values { length swapped_values.items ≡ states question.now }
+    requires unlost { IsInductive question.now (λ s. unit - slice_index swapped_values.items s) }
     requires kept { IfSome kept (λ kept. IsFirstGuess question.now zero.now (slice_index kept.lower.items) kept.guess.items × IsUpper question.now kept.guess.items) }
-    ensures { IfOk result (λ upper. IsUpperFrom question.now zero.now (slice_index lower.now) (slice_index covalues.items) kept upper.items) }
+    ensures { IfOk result (λ upper. IsUpperFrom question.now zero.now (slice_index lower.now) (slice_index swapped_values.items) kept upper.items) }
 {
     question.known();
-    let unlost = rests(alloc, &covalues)?;
-    drop(covalues);
+    let unlost = rests(alloc, &swapped_values)?;
+    drop(swapped_values);
     let guessed = least_guess(team, alloc, question, zero, lower, kept)?;
     lesser(alloc, &unlost, &guessed)
 }

@@ -97,13 +97,13 @@ pub fn value_bracket<R: Threads + Sync>(
     )
 }
 
-// Whether no upper bound is above the unit less the co-value.
-fn are_within(uppers: &[u64], covalues: &[u64]) -> bool {
-    uppers.len() == covalues.len()
+// Whether no upper bound is above the unit less the swapped value.
+fn are_within(uppers: &[u64], swapped_values: &[u64]) -> bool {
+    uppers.len() == swapped_values.len()
         && uppers
             .iter()
-            .zip(covalues.iter())
-            .all(|(upper, covalue)| *upper <= UNIT.saturating_sub(*covalue))
+            .zip(swapped_values.iter())
+            .all(|(upper, swapped_value)| *upper <= UNIT.saturating_sub(*swapped_value))
 }
 
 // Compares the bracket of one worker with the tables of plain sweeps after so many rounds; after two of them the guess too.
@@ -113,7 +113,7 @@ fn agrees_with_the_tables<R: Threads + Sync>(
     question: &Question<'_>,
     zero: &Marks,
     table: &[u64],
-    covalues: &[u64],
+    swapped_values: &[u64],
     asked: u32,
     rounds: u32,
 ) -> Result<(), Fail>
@@ -123,14 +123,14 @@ fn agrees_with_the_tables<R: Threads + Sync>(
     requires asked { asked ≤ most_rounds }
 {
     let found = value_bracket(rt, alloc, question, zero, asked, 1)?;
-    let within = are_within(&found.upper, covalues);
+    let within = are_within(&found.upper, swapped_values);
     same(
         asked,
         (found.base.as_slice(), found.rounds, within),
         (table, rounds, true),
     )?;
     if asked == 2 {
-        return agrees_with_the_plain_guess(alloc, question, zero, table, covalues, &found.upper);
+        return agrees_with_the_plain_guess(alloc, question, zero, table, swapped_values, &found.upper);
     }
     Ok(())
 }
@@ -144,25 +144,25 @@ fn agrees_with_plain_sweeps<R: Threads + Sync>(
     other: &Question<'_>,
     zero: &Marks,
     table: &mut [u64],
-    covalues: &mut [u64],
+    swapped_values: &mut [u64],
 ) -> Result<(), Fail>
     requires zero { IsZeroSet question.now zero.now }
     requires many { length table.old ≡ states question.now }
     requires units { All (λ v. v ≤ unit) table.old }
-    requires comany { length covalues.old ≡ states other.now }
-    requires counits { All (λ v. v ≤ unit) covalues.old }
+    requires swapped_many { length swapped_values.old ≡ states other.now }
+    requires swapped_units { All (λ v. v ≤ unit) swapped_values.old }
 {
     let mut rounds = 0;
     let mut ended = false;
     for asked in 0..12 {
-        agrees_with_the_tables(rt, alloc, question, zero, table, covalues, asked, rounds)?;
+        agrees_with_the_tables(rt, alloc, question, zero, table, swapped_values, asked, rounds)?;
         if rounds < asked {
             return Ok(());
         }
         if !ended {
             let raised = plain_sweep(question, table);
-            let coraised = plain_sweep(other, covalues);
-            ended = !raised && !coraised;
+            let swapped_raised = plain_sweep(other, swapped_values);
+            ended = !raised && !swapped_raised;
             rounds = asked + 1;
         }
     }
@@ -180,7 +180,7 @@ fn agrees<R: Threads + Sync>(
 {
     let other = swap(alloc, question, zero)?;
     let mut table = opening_table(alloc, question).ok_or("no table")?;
-    let mut covalues = opening_table(alloc, &other).ok_or("no table")?;
+    let mut swapped_values = opening_table(alloc, &other).ok_or("no table")?;
     agrees_with_plain_sweeps(
         rt,
         alloc,
@@ -188,7 +188,7 @@ fn agrees<R: Threads + Sync>(
         &other,
         zero,
         table.as_mut_slice(),
-        covalues.as_mut_slice(),
+        swapped_values.as_mut_slice(),
     )
 }
 

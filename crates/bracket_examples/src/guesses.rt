@@ -19,23 +19,23 @@ use std::thread::Threads;
 use upper_guess::{Alone, Witnesses, guess, guess_with};
 use zero_sets::zero_set;
 
-// Compares an upper table with the lesser of a guess and of the unit less the co-values.
-fn are_the_lesser(uppers: &[u64], covalues: &[u64], guess: &[u64]) -> Result<(), Fail> {
-    for ((upper, covalue), entry) in uppers.iter().zip(covalues.iter()).zip(guess.iter()) {
-        let lesser = UNIT.saturating_sub(*covalue).min(*entry);
+// Compares an upper table with the lesser of a guess and of the unit less the swapped values.
+fn are_the_lesser(uppers: &[u64], swapped_values: &[u64], guess: &[u64]) -> Result<(), Fail> {
+    for ((upper, swapped_value), entry) in uppers.iter().zip(swapped_values.iter()).zip(guess.iter()) {
+        let lesser = UNIT.saturating_sub(*swapped_value).min(*entry);
         same("an upper bound", *upper, lesser)?;
     }
     Ok(())
 }
 
 /// Compares the guess over a table with the first of all full tables, and an upper table with the lesser of it and of the
-/// unit less the co-values.
+/// unit less the swapped values.
 pub fn agrees_with_the_plain_guess(
     alloc: Global,
     question: &Question<'_>,
     zero: &Marks,
     table: &[u64],
-    covalues: &[u64],
+    swapped_values: &[u64],
     uppers: &[u64],
 ) -> Result<(), Fail>
     requires zero { IsZeroSet question.now zero.now }
@@ -43,7 +43,7 @@ pub fn agrees_with_the_plain_guess(
     requires units { All (λ v. v ≤ unit) table.now }
 {
     let plain = plain_guess(alloc, question, zero, table).ok_or("no guess")?;
-    are_the_lesser(uppers, covalues, &plain)?;
+    are_the_lesser(uppers, swapped_values, &plain)?;
     let guessed = guess(alloc, &*question, &*zero, &*table)?;
     same("the guess", guessed.as_slice(), plain.as_slice())
 }

@@ -9,7 +9,7 @@ use Rattle.game_model.specs.Ranks.{Ranked}
 use Rattle.inductive_check.specs.declared.upper.UpperFault.{UpperFault}
 use Rattle.inductive_check.specs.declared.upper.UpperCause.{UpperCause}
 use Rattle.inductive_check.specs.declared.upper.UpperCause.TheVariants.{OverOne, Goal, Above, NoReply, Reply}
-use Rattle.inductive_check.specs.Faults.{IsUpperFault, IsRaised}
+use Rattle.inductive_check.specs.Faults.{IsUpperFault, IsNotInductiveAt}
 use Rattle.inductive_check.specs.Replies.{AreReplies, IsFirstWithoutReply}
 use Rattle.inductive_check.proofs.Causes.{upper_fault-one}
 use Rattle.rank_certificate.specs.declared.check.RankFault.{RankFault}
@@ -26,7 +26,7 @@ use Rattle.certificate_audit.specs.Accepted.{Passes}
 use Rattle.certificate_audit.specs.Refused.{IsReplyFault, IsLowerFault, IsFaultOf}
 
 -- an inductive table has no fault
-raised-passes : (q : Query) (upper : List ℕ) (s : ℕ) (cause : UpperCause) → IsInductive q (slice_index upper) → ¬ IsRaised q upper s cause
+raised-passes : (q : Query) (upper : List ℕ) (s : ℕ) (cause : UpperCause) → IsInductive q (slice_index upper) → ¬ IsNotInductiveAt q upper s cause
 raised-passes q upper s cause inductive is = omega (arith, inductive s is.first.inside, is.first.above)
 
 upper-passes : (q : Query) (upper : List ℕ) (s : ℕ) (cause : UpperCause) → All (λ v. v ≤ unit) upper → IsInductive q (slice_index upper) → ¬ IsUpperFault q upper s cause

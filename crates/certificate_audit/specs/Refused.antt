@@ -49,5 +49,5 @@ IsRefused q text (Upper fault) = IsFaulty q text (Upper fault)
 IsRefused q text (Ranks fault) = IsFaulty q text (Ranks fault)
 
 -- memory was wanting
-abbrev pub IsWant : AuditFault → Type 0
-IsWant fault = fault ≡ Text (fault_at 0 OutOfMemory)
+abbrev pub IsOutOfMemory : AuditFault → Type 0
+IsOutOfMemory fault = fault ≡ Text (fault_at 0 OutOfMemory)

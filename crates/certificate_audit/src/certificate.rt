@@ -3,7 +3,7 @@
 ghost use Rattle.std.specs.Prelude.{◌≤◌, ◌⊎◌, length, IfOk, IfErr};
 ghost use Rattle.text_lines.specs.Limits.{most_bytes};
 ghost use Rattle.certificate_audit.specs.Accepted.{IsAccepted, IsSoundPlan};
-ghost use Rattle.certificate_audit.specs.Refused.{IsWant, IsRefused};
+ghost use Rattle.certificate_audit.specs.Refused.{IsOutOfMemory, IsRefused};
 
 use crate::fault::AuditFault;
 use crate::plan::check_plan;
@@ -18,7 +18,7 @@ pub fn audit(alloc: Global, question: &Question, bytes: &[u8]) -> Result<Plan, A
     requires { length bytes.now ≤ most_bytes }
     ensures accepted { IfOk result (λ plan. IsAccepted question.now bytes.now plan) }
     ensures sound { IfOk result (λ plan. IsSoundPlan question.now plan) }
-    ensures refused { IfErr result (λ fault. IsWant fault ⊎ IsRefused question.now bytes.now fault) }
+    ensures refused { IfErr result (λ fault. IsOutOfMemory fault ⊎ IsRefused question.now bytes.now fault) }
 {
     question.known();
     let plan = read_plan(alloc, bytes, question.game().states())?;

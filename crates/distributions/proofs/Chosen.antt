@@ -5,13 +5,13 @@ use Prim.Native.Nat.{◌∣◌}
 use Rattle.std.specs.List.Sorted.{IsPermutation}
 use Rattle.std.proofs.lemmas.List.Sorted.{All-permutation, sum_by-IsPermutation, IsPermutation-map, IsPermutation-sym}
 use Rattle.game_model.specs.declared.game.Edge.{Edge}
-use Rattle.game_model.specs.Game.{Distribution}
+use Rattle.game_model.specs.Game.{Distribution, total_of}
 use Rattle.game_model.proofs.RisingEdges.{IsRising-from, weighty-from, RiseFrom-rising}
 use Rattle.distributions.specs.declared.choice.Part.{Part}
 use Rattle.distributions.specs.declared.choice.ChoiceFault.{ChoiceFault}
 use Rattle.distributions.specs.declared.choice.ChoiceFault.TheVariants.{BadSum}
 use Rattle.distributions.specs.Limits.{tolerance}
-use Rattle.distributions.specs.Parts.{edge_of_part, weighted, total_of, distance, Denotes, denominator_said, gathered, sum_said, choice_over, choice_said}
+use Rattle.distributions.specs.Parts.{edge_of_part, weighted, distance, Denotes, denominator_said, gathered, sum_said, choice_over, choice_said}
 use Rattle.distributions.proofs.Gathering.{gives, gathered-rises, gathered-weights, gathered-only}
 use Rattle.distributions.proofs.Multiples.{AreKept, over, over-is, ge-from, ge-test, common-same, denominator-found, denominator-again, denominator-is}
 use Rattle.distributions.proofs.Grammar.{chosen}

@@ -6,10 +6,10 @@ use Rattle.std.proofs.lemmas.Bool.{cases_Bool, cases_lt, eqb-true}
 use Rattle.std.proofs.lemmas.Bool.Decides.{nat_tests}
 use Rattle.std.proofs.lemmas.List.Sums.{sum_by-cons, sum_by-le}
 use Rattle.game_model.specs.declared.game.Edge.{Edge}
-use Rattle.game_model.specs.Game.{no_edge}
+use Rattle.game_model.specs.Game.{no_edge, weight_to, total_of}
 use Rattle.game_model.specs.Rising.{RiseFrom}
 use Rattle.game_model.proofs.RisingEdges.{RiseFrom-less}
-use Rattle.distributions.specs.Parts.{weight_to, total_of, keep_edge, edges_from, span, gathered}
+use Rattle.distributions.specs.Parts.{keep_edge, edges_from, span, gathered}
 use Rattle.distributions.specs.Merging.{heavier, merged_from, StandFrom}
 
 -- what an edge gives to a destination

@@ -1,8 +1,8 @@
 -- The distribution that the parts of a choice add up to.
-use Rattle.std.specs.Prelude.{◌≡◌, ◌≤◌, ℕ, zero, suc, ◌+◌, ◌-◌, ◌*◌, ◌/◌, ◌==◌, nat_lt, max, List, [], ◌∷◌, map, sum_by, All, Result, Ok, Err, if◌then◌else◌}
+use Rattle.std.specs.Prelude.{◌≡◌, ◌≤◌, ℕ, zero, suc, ◌+◌, ◌-◌, ◌*◌, ◌/◌, ◌==◌, nat_lt, max, List, [], ◌∷◌, map, All, Result, Ok, Err, if◌then◌else◌}
 use Prim.Native.Nat.{◌∣◌}
 use Rattle.game_model.specs.declared.game.Edge.{Edge}
-use Rattle.game_model.specs.Game.{Distribution, IsRising}
+use Rattle.game_model.specs.Game.{Distribution, IsRising, weight_to, total_of}
 use Rattle.distributions.specs.declared.choice.Part.{Part}
 use Rattle.distributions.specs.declared.choice.ChoiceFault.{ChoiceFault}
 use Rattle.distributions.specs.declared.choice.ChoiceFault.TheVariants.{OutOfMemory, TooFine, BadSum}
@@ -15,14 +15,6 @@ edge_of_part common part = record { to = part.to; weight = part.share.num * comm
 
 abbrev pub weighted : ℕ → List Part → List Edge
 weighted common parts = map (λ part. edge_of_part common part) parts
-
--- the weight of a destination: the sum over the edges that lead to it
-abbrev pub weight_to : List Edge → ℕ → ℕ
-weight_to edges to = sum_by (λ e. if e.to == to then e.weight else 0) edges
-
--- the sum of all weights
-abbrev pub total_of : List Edge → ℕ
-total_of edges = sum_by (λ e. e.weight) edges
 
 -- how far two numbers are apart
 abbrev pub distance : ℕ → ℕ → ℕ

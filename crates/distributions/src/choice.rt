@@ -2,11 +2,11 @@
 
 ghost use Rattle.std.specs.Prelude.{◌≡◌, ◌<◌, ◌≤◌, ◌*◌, ◌/◌, ◌^◌, IfOk, All, length};
 ghost use Prim.Native.Nat.{◌∣◌};
-ghost use Rattle.game_model.specs.Game.{IsRising};
+ghost use Rattle.game_model.specs.Game.{IsRising, total_of};
 ghost use Rattle.distributions.specs.Limits.{finest, most_parts, most_value};
 ghost use Rattle.distributions.specs.Fraction.{IsFraction};
 ghost use Rattle.game_outside.specs.Answers.{AnswersOrWants};
-ghost use Rattle.distributions.specs.Parts.{choice_said, denominator_said, edge_of_part, weighted, sum_said, total_of, IsOutOfMemory};
+ghost use Rattle.distributions.specs.Parts.{choice_said, denominator_said, edge_of_part, weighted, sum_said, IsOutOfMemory};
 
 use crate::divisors::{MOST_NARROW, least_common_multiple};
 use crate::fraction::Frac;

@@ -5,9 +5,9 @@ use Rattle.std.proofs.lemmas.Bool.{cases_lt, cases_Bool, eq-eqb}
 use Rattle.std.proofs.lemmas.List.Sums.{sum_by-cons}
 use Rattle.std.proofs.lemmas.List.Elements.{All-nil, All-cons, All-append, All-map}
 use Rattle.game_model.specs.declared.game.Edge.{Edge}
-use Rattle.game_model.specs.Game.{Distribution, destinations}
+use Rattle.game_model.specs.Game.{Distribution, destinations, weight_to}
 use Rattle.drawn_game.specs.Drawings.{next_draw, times}
-use Rattle.drawn_game.specs.Parts.{weight_to, added_up}
+use Rattle.drawn_game.specs.Parts.{added_up}
 use Rattle.drawn_game.specs.Rules.{State, first_part, other_part, drawn_choice, drawn_state, game_of_states, stay, goal_of, sink_of}
 use Rattle.drawn_game.specs.Ends.{LeadsToEnd}
 use Rattle.drawn_game.proofs.Rising.{edges_of, edges_of-some, edges_of-none, none_or_some}

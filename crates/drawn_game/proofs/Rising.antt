@@ -6,10 +6,10 @@ use Rattle.std.proofs.lemmas.Bool.{cases_lt, lt-ltb, le-ltb, eq-eqb, ne_eqb}
 use Rattle.std.proofs.lemmas.List.Elements.{All-nil, All-cons, All-weaker}
 use Rattle.std.proofs.lemmas.List.Sums.{sum_by-cons, sum_by_push}
 use Rattle.game_model.specs.declared.game.Edge.{Edge}
-use Rattle.game_model.specs.Game.{IsRising}
+use Rattle.game_model.specs.Game.{IsRising, weight_to, total_of}
 use Rattle.game_model.specs.Rising.{RiseFrom}
 use Rattle.game_model.proofs.RisingEdges.{RiseFrom-less, IsRising-from, weighty-from}
-use Rattle.drawn_game.specs.Parts.{weight_to, total_of, added_up}
+use Rattle.drawn_game.specs.Parts.{added_up}
 use Rattle.drawn_game.specs.Adding.{with_part}
 use Rattle.drawn_game.proofs.Adding.{with_part-before, with_part-at, with_part-behind, with_part-some, total_of-with_part}
 

@@ -1,20 +1,12 @@
 -- The parts of a choice, which are edges in the order in which they were drawn, and the edges that they add up to.
-use Rattle.std.specs.Prelude.{ℕ, ◌==◌, nat_lt, List, map, sum_by, filter, if◌then◌else◌}
+use Rattle.std.specs.Prelude.{ℕ, nat_lt, List, map, filter}
 use Rattle.std.specs.List.{range_with_len}
 use Rattle.game_model.specs.declared.game.Edge.{Edge}
-use Rattle.game_model.specs.Game.{Distribution}
-
--- the weight of a destination: the sum over the parts that lead there
-abbrev pub weight_to : List Edge → ℕ → ℕ
-weight_to parts to = sum_by (λ part. if part.to == to then part.weight else 0) parts
+use Rattle.game_model.specs.Game.{Distribution, weight_to, total_of}
 
 -- the edges that the parts add up to: one to each of n states that has some weight, by rising number
 unfoldable pub added_up : ℕ → List Edge → List Edge
 added_up n parts = filter (λ e. nat_lt 0 e.weight) (map (λ to. record { to = to; weight = weight_to parts to }) (range_with_len 0 n))
-
--- the sum of all weights
-abbrev pub total_of : List Edge → ℕ
-total_of parts = sum_by (λ part. part.weight) parts
 
 -- the choice of these parts in a game of n states
 abbrev pub choice_of_parts : ℕ → List Edge → Distribution

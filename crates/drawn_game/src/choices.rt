@@ -1,8 +1,8 @@
 //! The choices of a state.
 
 ghost use Rattle.std.specs.Prelude.{◌≡◌, ◌+◌, ◌^◌, ◌<◌, ◌≤◌, IfOk, OnOk};
+ghost use Rattle.game_model.specs.Game.{total_of};
 ghost use Rattle.drawn_game.specs.Limits.{fewest_states};
-ghost use Rattle.drawn_game.specs.Parts.{total_of};
 ghost use Rattle.drawn_game.specs.Adding.{with_part};
 ghost use Rattle.drawn_game.specs.Rules.{drawn_choice};
 

@@ -6,7 +6,7 @@ use Rattle.std.proofs.lemmas.List.{get_or_push, length_push, length-append, leng
 use Rattle.game_model.specs.declared.game.Edge.{Edge}
 use Rattle.game_model.specs.Game.{IsDistribution}
 use Rattle.game_model.specs.Span.{span}
-use Rattle.game_model.specs.Flat.{edge_at, distribution_at, game_at, under_way_at, last_of, IsAscending, IsKept}
+use Rattle.game_model.specs.Flat.{edge_at, distribution_at, game_at, under_way_at, last_of, IsAscending, AreFlatLists}
 use Rattle.game_model.specs.Draft.{Draft, distribution_of, with_choice}
 use Rattle.game_model.specs.Growing.{IsLonger, IsSameBelow, HasHighWords}
 use Rattle.game_model.proofs.Span.{span-more}
@@ -17,7 +17,7 @@ abbrev pub draft_at : List ℕ → List ℕ → List ℕ → List ℕ → List �
 draft_at fc fe totals to low high = record { done = game_at fc fe totals to low high; under_way = under_way_at fc fe totals to low high }
 
 -- nothing that is in use has changed
-module _ (fc fe totals to low high totals' to' low' high' : List ℕ) (h : IsKept fc fe totals to low high)
+module _ (fc fe totals to low high totals' to' low' high' : List ℕ) (h : AreFlatLists fc fe totals to low high)
     (longer_totals : IsLonger (take (length fe - 1) totals) totals') (longer_to : IsLonger (take (last_of fe) to) to') (longer_low : IsLonger (take (last_of fe) low) low') (same_high : IsSameBelow (last_of fe) high high') where
   still_totals : (c : ℕ) → c + 1 < length fe → slice_index totals' c ≡ slice_index totals c
   still_totals c l = taken-at (length fe - 1) totals totals' (omega (arith, h.laid_out.enough)) longer_totals c (omega arith)
@@ -33,8 +33,8 @@ module _ (fc fe totals to low high totals' to' low' high' : List ℕ) (h : IsKep
       ap (λ g. record { done = g; under_way = under_way_at fc fe totals' to' low' high' }) (game-same fc fe totals to low high fe totals' to' low' high' h.laid_out (λ c l. refl) still_totals still_to still_low same_high)
       ∙ ap (λ u. record { done = game_at fc fe totals to low high; under_way = u }) (under_way-same fc fe totals to low high fe totals' to' low' high' h.laid_out (λ c l. refl) still_totals still_to still_low same_high)
 
-  pub still-kept : IsKept fc fe totals' to' low' high'
-  still-kept = record {
+  pub still-flat : AreFlatLists fc fe totals' to' low' high'
+  still-flat = record {
     laid_out = record {
       states = h.laid_out.states;
       choices = h.laid_out.choices;
@@ -47,7 +47,7 @@ module _ (fc fe totals to low high totals' to' low' high' : List ℕ) (h : IsKep
   }
 
 -- one more choice
-module _ (fc fe totals to low high fe' totals' to' low' high' : List ℕ) (edges : List Edge) (h : IsKept fc fe totals to low high)
+module _ (fc fe totals to low high fe' totals' to' low' high' : List ℕ) (edges : List Edge) (h : AreFlatLists fc fe totals to low high)
     (is_fe : fe' ≡ fe ++ (last_of fe + length edges) ∷ []) (is_totals : totals' ≡ take (length fe - 1) totals ++ sum_by (λ e. e.weight) edges ∷ [])
     (is_to : to' ≡ take (last_of fe) to ++ map (λ e. e.to) edges) (is_low : low' ≡ take (last_of fe) low ++ map (λ e. e.weight % 2 ^ 64) edges) (push_high : IsSameBelow (last_of fe) high high') (is_high : HasHighWords (last_of fe) edges high') where
   some : 0 < length fe
@@ -113,8 +113,8 @@ module _ (fc fe totals to low high fe' totals' to' low' high' : List ℕ) (edges
       ∙ ap (λ m. span (distribution_at fe' totals' to' low' high') (last_of fc) (length fe - 1 - last_of fc) ++ m ∷ []) new-choice
       ∙ ap (λ u. u ++ distribution_of edges ∷ []) (under_way-same fc fe totals to low high fe' totals' to' low' high' h.laid_out push_fe push_totals push_to push_low push_high))
 
-  pub pushed-kept : IsDistribution (distribution_of edges) → IsKept fc fe' totals' to' low' high'
-  pushed-kept fine =
+  pub pushed-flat : IsDistribution (distribution_of edges) → AreFlatLists fc fe' totals' to' low' high'
+  pushed-flat fine =
       let last_is : last_of fe' ≡ last_of fe + length edges = ap last_of is_fe ∙ last-push fe (last_of fe + length edges) in
       record {
         laid_out = record {

@@ -5,14 +5,14 @@ use Rattle.std.proofs.lemmas.List.{get_or_push, length_push}
 use Rattle.game_model.specs.Limits.{most_states, most_choices}
 use Rattle.game_model.specs.Game.{Distribution, IsDistribution, IsGame, no_distribution}
 use Rattle.game_model.specs.Span.{span}
-use Rattle.game_model.specs.Flat.{distribution_at, choices_at, game_at, under_way_at, last_of, IsAscending, IsKept}
+use Rattle.game_model.specs.Flat.{distribution_at, choices_at, game_at, under_way_at, last_of, IsAscending, AreFlatLists}
 use Rattle.game_model.specs.Draft.{with_state}
 use Rattle.game_model.proofs.Span.{span-more, span-same}
 use Rattle.game_model.proofs.Same.{last-push, push-below, ascending-push}
 use Rattle.game_model.proofs.Push.{draft_at}
 use Rattle.game_model.proofs.Facts.{choice-inside, choice-is}
 
-module _ (fc fe totals to low high fc' : List ℕ) (h : IsKept fc fe totals to low high) (is : fc' ≡ fc ++ (length fe - 1) ∷ []) where
+module _ (fc fe totals to low high fc' : List ℕ) (h : AreFlatLists fc fe totals to low high) (is : fc' ≡ fc ++ (length fe - 1) ∷ []) where
   length-fc : length fc' ≡ length fc + 1
   length-fc = ap length is ∙ length_push fc (length fe - 1)
 
@@ -22,8 +22,8 @@ module _ (fc fe totals to low high fc' : List ℕ) (h : IsKept fc fe totals to l
   same-fc : (s : ℕ) → s < length fc → slice_index fc' s ≡ slice_index fc s
   same-fc s l = ap (λ xs. slice_index xs s) is ∙ push-below fc (length fe - 1) s l
 
-  pub ended-kept : IsKept fc' fe totals to low high
-  ended-kept =
+  pub ended-flat : AreFlatLists fc' fe totals to low high
+  ended-flat =
       let within : last_of fc < length fe = h.laid_out.state_within in
       record {
         laid_out = record {
@@ -68,7 +68,7 @@ module _ (fc fe totals to low high fc' : List ℕ) (h : IsKept fc fe totals to l
       ∙ ap (λ g. g ++ under_way_at fc fe totals to low high ∷ []) (span-same (choices_at fc' fe totals to low high) (choices_at fc fe totals to low high) 0 (length fc - 1) (λ s from upto. choices-same s (omega arith))))
 
 -- a draft whose states are few, and have choices within, is a game
-pub finished : (fc fe totals to low high : List ℕ) (game : List (List Distribution)) → IsKept fc fe totals to low high → game_at fc fe totals to low high ≡ game
+pub finished : (fc fe totals to low high : List ℕ) (game : List (List Distribution)) → AreFlatLists fc fe totals to low high → game_at fc fe totals to low high ≡ game
     → 0 < length game → length game ≤ most_states → All (λ c. 0 < length c) game → All (λ c. length c ≤ most_choices) game
     → All (λ c. All (λ m. All (λ e. e.to < length game) m.edges) c) game → IsGame (game_at fc fe totals to low high)
 finished fc fe totals to low high game h is some few chosen bounded inside = subst IsGame (sym is) (record {

@@ -1,7 +1,7 @@
 -- A game under way: the states that have ended, and the choices so far of the one that has not.
-use Rattle.std.specs.Prelude.{List, [], ◌∷◌, ◌++◌, sum_by}
+use Rattle.std.specs.Prelude.{List, [], ◌∷◌, ◌++◌}
 use Rattle.game_model.specs.declared.game.Edge.{Edge}
-use Rattle.game_model.specs.Game.{Distribution}
+use Rattle.game_model.specs.Game.{Distribution, total_of}
 
 pub record Draft : Type 0 where
   pub done : List (List Distribution)
@@ -13,7 +13,7 @@ no_states = record { done = []; under_way = [] }
 
 -- the choice with these edges
 abbrev pub distribution_of : List Edge → Distribution
-distribution_of edges = record { total = sum_by (λ e. e.weight) edges; edges = edges }
+distribution_of edges = record { total = total_of edges; edges = edges }
 
 -- a draft between two states
 abbrev pub between : List (List Distribution) → Draft

@@ -50,6 +50,6 @@ pub record IsLaidOut (first_choice first_edge totals to low : List ℕ) : Type 0
   pub low_within : last_of first_edge ≤ length low
 
 -- and each choice is a distribution
-pub record IsKept (first_choice first_edge totals to low high : List ℕ) : Type 0 where
+pub record AreFlatLists (first_choice first_edge totals to low high : List ℕ) : Type 0 where
   pub laid_out : IsLaidOut first_choice first_edge totals to low
   pub distributions : (c : ℕ) → c + 1 < length first_edge → IsDistribution (distribution_at first_edge totals to low high c)

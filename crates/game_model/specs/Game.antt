@@ -1,5 +1,5 @@
 -- What contracts see of a choice and of a game, and the facts that each of them keeps.
-use Rattle.std.specs.Prelude.{◌≡◌, ℕ, ◌-◌, ◌<◌, ◌≤◌, List, [], length, map, sum_by, take, drop, flat_map, All, slice_index, slice_index_or}
+use Rattle.std.specs.Prelude.{◌≡◌, ℕ, ◌-◌, ◌<◌, ◌≤◌, ◌==◌, if◌then◌else◌, List, [], length, map, sum_by, take, drop, flat_map, All, slice_index, slice_index_or}
 use Rattle.game_model.specs.declared.game.Edge.{Edge}
 use Rattle.game_model.specs.Limits.{most_states, most_choices, total_bound}
 
@@ -11,6 +11,14 @@ pub record Distribution : Type 0 where
 abbrev pub destinations : List Edge → List ℕ
 destinations edges = map (λ e. e.to) edges
 
+-- the weight of a destination: the sum over the edges that lead there
+abbrev pub weight_to : List Edge → ℕ → ℕ
+weight_to edges to = sum_by (λ e. if e.to == to then e.weight else 0) edges
+
+-- the sum of all weights
+abbrev pub total_of : List Edge → ℕ
+total_of edges = sum_by (λ e. e.weight) edges
+
 abbrev pub IsRising : List Edge → Type 0
 IsRising edges = (i j : ℕ) → i < j → j < length edges → slice_index (destinations edges) i < slice_index (destinations edges) j
 
@@ -19,7 +27,7 @@ pub record IsDistribution (distribution : Distribution) : Type 0 where
   pub some : 0 < length distribution.edges
   pub rising : IsRising distribution.edges
   pub weights : All (λ e. 1 ≤ e.weight) distribution.edges
-  pub sums : sum_by (λ e. e.weight) distribution.edges ≡ distribution.total
+  pub sums : total_of distribution.edges ≡ distribution.total
   pub small : distribution.total < total_bound
 
 -- the choices of a state

@@ -1,7 +1,7 @@
 -- How the lists behind a game grow, and stay where they are in use.
-use Rattle.std.specs.Prelude.{◌≡◌, ℕ, ◌+◌, ◌-◌, List, [], ◌∷◌, ◌++◌, length, map, take, sum_by, replicate, slice_index, slice_index_or, ◌<◌, ◌/◌, ◌%◌, ◌^◌}
+use Rattle.std.specs.Prelude.{◌≡◌, ℕ, ◌+◌, ◌-◌, List, [], ◌∷◌, ◌++◌, length, map, take, replicate, slice_index, slice_index_or, ◌<◌, ◌/◌, ◌%◌, ◌^◌}
 use Rattle.game_model.specs.declared.game.Edge.{Edge}
-use Rattle.game_model.specs.Game.{no_edge}
+use Rattle.game_model.specs.Game.{no_edge, total_of}
 use Rattle.game_model.specs.Flat.{last_of}
 
 -- ys begins with xs
@@ -23,7 +23,7 @@ IsPadded xs ys = (n : ℕ) × (ys ≡ xs ++ replicate n 0)
 -- the lists behind with the edges of one more choice
 abbrev pub IsPushed : List ℕ → List ℕ → List ℕ → List ℕ → List ℕ → List Edge → List ℕ → List ℕ → List ℕ → List ℕ → List ℕ → Type 0
 IsPushed fe totals to low high edges fe' totals' to' low' high' =
-    (fe' ≡ fe ++ (last_of fe + length edges) ∷ []) × (totals' ≡ take (length fe - 1) totals ++ sum_by (λ e. e.weight) edges ∷ [])
+    (fe' ≡ fe ++ (last_of fe + length edges) ∷ []) × (totals' ≡ take (length fe - 1) totals ++ total_of edges ∷ [])
     × (to' ≡ take (last_of fe) to ++ map (λ e. e.to) edges) × (low' ≡ take (last_of fe) low ++ map (λ e. e.weight % 2 ^ 64) edges)
     × IsSameBelow (last_of fe) high high' × HasHighWords (last_of fe) edges high'
 

@@ -17,3 +17,4 @@ pub mod Bounds
 pub mod Dual
 pub mod Plans
 pub mod Ranks
+pub mod Tables

@@ -1,6 +1,6 @@
 -- What contracts see of a builder.
 use Rattle.game_model.specs.declared.builder.GameBuilder.TheInside.{Inside}
-use Rattle.game_model.specs.Flat.{game_at, under_way_at, IsKept}
+use Rattle.game_model.specs.Flat.{game_at, under_way_at, AreFlatLists}
 use Rattle.game_model.specs.Draft.{Draft}
 
 abbrev pub draft_of : Inside → Draft
@@ -10,4 +10,4 @@ draft_of b = record {
 }
 
 abbrev pub IsBuilder : Inside → Type 0
-IsBuilder b = IsKept b.first_choice.items b.first_edge.items b.totals.items b.to.items b.low.items b.high.items
+IsBuilder b = AreFlatLists b.first_choice.items b.first_edge.items b.totals.items b.to.items b.low.items b.high.items

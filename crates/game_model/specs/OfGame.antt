@@ -7,6 +7,6 @@ use Rattle.game_model.specs.Flat.{game_at, IsLaidOut}
 abbrev pub game_of_flat : Inside → List (List Distribution)
 game_of_flat g = game_at g.first_choice.items g.first_edge.items g.totals.items g.to.items g.low.items g.high.items
 
-pub record IsFlat (g : Inside) : Type 0 where
+pub record IsFlatGame (g : Inside) : Type 0 where
   pub game : IsGame (game_of_flat g)
   pub laid_out : IsLaidOut g.first_choice.items g.first_edge.items g.totals.items g.to.items g.low.items

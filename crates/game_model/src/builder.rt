@@ -1,6 +1,7 @@
 //! A builder of games, choice after choice, and the game of lists of choices.
 
-ghost use Rattle.std.specs.Prelude.{◌≡◌, ◌+◌, ◌-◌, ◌/◌, ◌%◌, ◌^◌, ◌<◌, ◌≤◌, [], ◌∷◌, ◌++◌, length, map, sum_by, All, IfOk, OnErr};
+ghost use Rattle.std.specs.Prelude.{◌≡◌, ◌+◌, ◌-◌, ◌/◌, ◌%◌, ◌^◌, ◌<◌, ◌≤◌, [], ◌∷◌, ◌++◌, length, map, All, IfOk, OnErr};
+ghost use Rattle.game_model.specs.Game.{total_of};
 ghost use Rattle.game_model.specs.Limits.{most_states, most_choices};
 ghost use Rattle.game_model.specs.Flat.{last_of};
 ghost use Rattle.game_model.specs.Draft.{no_states, between, with_choice, with_state};
@@ -170,7 +171,7 @@ fn add_high(
     edges: &[Edge],
 ) -> Result<(), AllocError>
     requires short { length high.old.items ≤ begin }
-    requires total { total ≡ sum_by (λ e. e.weight) edges.now }
+    requires total { total ≡ total_of edges.now }
     ensures below { IsSameBelow begin high.old.items high.new.items }
     ensures ok { IfOk result (λ _. HasHighWords begin edges.now high.new.items) }
 {

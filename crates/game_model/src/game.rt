@@ -2,7 +2,7 @@
 //! distribution over the states. With one side alone they are Markov decision processes (Baier and
 //! Katoen, Principles of Model Checking, 2008, chapter 10).
 
-ghost use Rattle.std.specs.Prelude.{◌≡◌, ◌+◌, ◌-◌, ◌*◌, ◌^◌, ◌<◌, ◌≤◌, List, length, sum_by, All, map};
+ghost use Rattle.std.specs.Prelude.{◌≡◌, ◌+◌, ◌-◌, ◌*◌, ◌^◌, ◌<◌, ◌≤◌, List, length, All, map};
 ghost use Rattle.game_model.specs.Limits.{total_bound};
 
 use crate::row::{Row, part};
@@ -60,15 +60,15 @@ impl Model for Choice {
 }
 
 impl Choice {
-    ghost use Rattle.game_model.specs.Game.{Distribution, IsDistribution, IsRising};
+    ghost use Rattle.game_model.specs.Game.{Distribution, IsDistribution, IsRising, total_of};
 
     /// The choice with these edges, whose total is the sum of their weights.
     pub fn of_edges(edges: Vec<Edge>) -> Choice
         requires some { 0 < length edges.items }
         requires rising { IsRising edges.items }
         requires weights { All (λ e. 1 ≤ e.weight) edges.items }
-        requires small { sum_by (λ e. e.weight) edges.items < total_bound }
-        ensures total { result.total ≡ sum_by (λ e. e.weight) edges.items }
+        requires small { total_of edges.items < total_bound }
+        ensures total { result.total ≡ total_of edges.items }
         ensures edges { result.edges ≡ edges.items }
     {
         let total = edges.iter().map(|edge| edge.weight).sum();
@@ -120,11 +120,11 @@ impl Model for Game {
 
     ghost Value = { List (List Distribution) };
 
-    ghost use Rattle.game_model.specs.OfGame.{game_of_flat, IsFlat};
+    ghost use Rattle.game_model.specs.OfGame.{game_of_flat, IsFlatGame};
 
     ghost view = { game_of_flat };
 
-    ghost invariant = { IsFlat };
+    ghost invariant = { IsFlatGame };
 }
 
 impl Game {

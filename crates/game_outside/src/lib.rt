@@ -34,7 +34,7 @@ pub use hold_gate::HoldGate;
 pub use late_gate::LateGate;
 pub use line_text::LineText;
 pub use memory_shelf::{MemShelf, SteadyShelf};
-pub use memory_sink::{Kept, MemSink, SteadySink};
+pub use memory_sink::{MemSink, Received, SteadySink};
 pub use name::Name;
 pub use shelf::{ReadEnd, Shelf, read_all};
 pub use sink::{Sink, WriteFault, write_all};

@@ -6,10 +6,11 @@ use Rattle.game_model.specs.declared.game.Side.TheVariants.{Max, Min}
 use Rattle.game_model.specs.Query.{Query, is_goal}
 use Rattle.game_model.specs.Limits.{unit}
 use Rattle.game_model.specs.Rounded.{up_step}
+use Rattle.game_model.specs.Tables.{IsFirstOver}
 use Rattle.inductive_check.specs.declared.upper.UpperCause.{UpperCause}
 use Rattle.inductive_check.specs.declared.upper.UpperCause.TheVariants.{OverOne, Goal, Above, NoReply, Reply}
 use Rattle.inductive_check.specs.Held.{IsHeldAt, IsFirstUnheld}
-use Rattle.inductive_check.specs.Faults.{IsFirstOver, IsFirstAbove, IsCauseAt, IsRaised, IsUpperFault}
+use Rattle.inductive_check.specs.Faults.{IsFirstAbove, IsCauseAt, IsNotInductiveAt, IsUpperFault}
 
 -- one number is the first
 first-one : (P : ℕ → Type 0) (s t : ℕ) → ¬ P s → ¬ P t → ((r : ℕ) → r < s → P r) → ((r : ℕ) → r < t → P r) → s ≡ t
@@ -50,16 +51,16 @@ cause-one q table s NoReply (Above c) h k = let side : Max ≡ Min = sym k.1 ∙
 cause-one q table s NoReply NoReply h k = refl
 cause-one q table s NoReply Reply h k = absurd k
 
-raised-one : (q : Query) (upper : List ℕ) (s t : ℕ) (cause other : UpperCause) → IsRaised q upper s cause → IsRaised q upper t other → (s ≡ t) × (cause ≡ other)
+raised-one : (q : Query) (upper : List ℕ) (s t : ℕ) (cause other : UpperCause) → IsNotInductiveAt q upper s cause → IsNotInductiveAt q upper t other → (s ≡ t) × (cause ≡ other)
 raised-one q upper s t cause other h k =
     let same : s ≡ t = above-one q (slice_index upper) s t h.first k.first in
     (same, cause-one q (slice_index upper) t cause other (subst (λ r. IsCauseAt q (slice_index upper) r cause) same h.caused) k.caused)
 
-over-raised : (q : Query) (upper : List ℕ) (s t : ℕ) (cause : UpperCause) → IsFirstOver upper s → IsRaised q upper t cause → ⊥
+over-raised : (q : Query) (upper : List ℕ) (s t : ℕ) (cause : UpperCause) → IsFirstOver upper s → IsNotInductiveAt q upper t cause → ⊥
 over-raised q upper s t cause h k = omega (arith, k.units s 0 h.inside, h.over)
 
 -- a fault is an entry above the unit, or a state that rises
-kind : (q : Query) (upper : List ℕ) (s : ℕ) (cause : UpperCause) → IsUpperFault q upper s cause → ((cause ≡ OverOne) × IsFirstOver upper s) ⊎ IsRaised q upper s cause
+kind : (q : Query) (upper : List ℕ) (s : ℕ) (cause : UpperCause) → IsUpperFault q upper s cause → ((cause ≡ OverOne) × IsFirstOver upper s) ⊎ IsNotInductiveAt q upper s cause
 kind q upper s OverOne h = inl (refl, h)
 kind q upper s Goal h = inr h
 kind q upper s (Above c) h = inr h

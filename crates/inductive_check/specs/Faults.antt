@@ -3,17 +3,12 @@ use Rattle.std.specs.Prelude.{◌≡◌, ℕ, ◌<◌, ◌≤◌, true, List, le
 use Rattle.game_model.specs.declared.game.Side.TheVariants.{Max, Min}
 use Rattle.game_model.specs.Query.{Query, states, is_goal, side_at}
 use Rattle.game_model.specs.Limits.{unit}
+use Rattle.game_model.specs.Tables.{IsFirstOver}
 use Rattle.game_model.specs.Rounded.{up_step}
 use Rattle.fixed_bellman.specs.Given.{IsFree}
 use Rattle.inductive_check.specs.declared.upper.UpperCause.{UpperCause}
 use Rattle.inductive_check.specs.declared.upper.UpperCause.TheVariants.{OverOne, Goal, Above, NoReply, Reply}
 use Rattle.inductive_check.specs.Held.{NoneHeld, IsFirstUnheld}
-
--- the first state whose entry is above the unit
-pub record IsFirstOver (table : List ℕ) (s : ℕ) : Type 0 where
-  pub inside : s < length table
-  pub over : unit < slice_index table s
-  pub before : (t : ℕ) → t < s → slice_index table t ≤ unit
 
 -- the first state whose up step is above its entry
 pub record IsFirstAbove (q : Query) (table : ℕ → ℕ) (s : ℕ) : Type 0 where
@@ -30,7 +25,7 @@ IsCauseAt q table s NoReply = IsFree q s × (side_at q s ≡ Min) × NoneHeld q 
 IsCauseAt q table s Reply = ⊥
 
 -- entries are at most the unit, and this is the first state whose up step is above its entry, and why
-pub record IsRaised (q : Query) (upper : List ℕ) (s : ℕ) (cause : UpperCause) : Type 0 where
+pub record IsNotInductiveAt (q : Query) (upper : List ℕ) (s : ℕ) (cause : UpperCause) : Type 0 where
   pub units : All (λ v. v ≤ unit) upper
   pub first : IsFirstAbove q (slice_index upper) s
   pub caused : IsCauseAt q (slice_index upper) s cause
@@ -38,7 +33,7 @@ pub record IsRaised (q : Query) (upper : List ℕ) (s : ℕ) (cause : UpperCause
 -- the one fault of an upper table: an entry above the unit comes first
 abbrev pub IsUpperFault : Query → List ℕ → ℕ → UpperCause → Type 0
 IsUpperFault q upper s OverOne = IsFirstOver upper s
-IsUpperFault q upper s Goal = IsRaised q upper s Goal
-IsUpperFault q upper s (Above choice) = IsRaised q upper s (Above choice)
-IsUpperFault q upper s NoReply = IsRaised q upper s NoReply
+IsUpperFault q upper s Goal = IsNotInductiveAt q upper s Goal
+IsUpperFault q upper s (Above choice) = IsNotInductiveAt q upper s (Above choice)
+IsUpperFault q upper s NoReply = IsNotInductiveAt q upper s NoReply
 IsUpperFault q upper s Reply = ⊥

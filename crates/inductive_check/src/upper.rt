@@ -5,7 +5,8 @@ ghost use Rattle.game_model.specs.Limits.{unit, most_states};
 ghost use Rattle.game_model.specs.Query.{states};
 ghost use Rattle.game_model.specs.Rounded.{up_step, IsInductive};
 ghost use Rattle.game_model.specs.Bounds.{IsHigh};
-ghost use Rattle.inductive_check.specs.Faults.{IsFirstOver, IsCauseAt, IsUpperFault};
+ghost use Rattle.game_model.specs.Tables.{IsFirstOver};
+ghost use Rattle.inductive_check.specs.Faults.{IsCauseAt, IsUpperFault};
 
 use crate::held::{first_held, first_unheld};
 use game_laws::tables::inductive_is_high;

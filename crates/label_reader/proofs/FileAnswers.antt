@@ -11,7 +11,7 @@ use Rattle.label_reader.specs.Header.{Item}
 use Rattle.label_reader.specs.Lines.{StateLine}
 use Rattle.game_outside.specs.Answers.{AnswersOrWants}
 use Rattle.label_reader.specs.Texts.{said_by, said_by_lines, IsOutOfMemory}
-use Rattle.label_reader.specs.Refused.{is_want, IsWithoutWant}
+use Rattle.label_reader.specs.Refused.{is_out_of_memory, IsWithoutWant}
 
 of_text : (holding : Option Holding) (name : List ℕ) (limit : ℕ) (P Q : List ℕ → Type 0) → ((text : List ℕ) → P text → Q text) → HeldTextWith holding name limit P → HeldTextWith holding name limit Q
 of_text holding name limit P Q step of = record { text = of.text; told = of.told; within = of.within; holds = step of.text of.holds }
@@ -21,14 +21,14 @@ module _ {X : Type 0} (said : List ℕ → Result X LabFault) (Answers : List �
   abbrev Exact : Result X (FileEnd LabFault) → Type 0
   Exact after = ReadsFile (λ text answer. said text ≡ answer) holding name limit after
 
-  refused : (fault : LabFault) (want : Bool) → want ≡ is_want fault.cause → (after : Result X (FileEnd LabFault)) → IsWithoutWant (Err (file.Refused fault)) after
+  refused : (fault : LabFault) (want : Bool) → want ≡ is_out_of_memory fault.cause → (after : Result X (FileEnd LabFault)) → IsWithoutWant (Err (file.Refused fault)) after
       → HeldTextWith holding name limit (λ text. Answers text (Err fault)) → Exact after
   refused fault true is after without of = subst Exact (sym (without.0 (sym is))) tt
   refused fault false is after without of = subst Exact (sym (without.1 (sym is))) (of_text holding name limit _ _ by of)
     where
       by : (text : List ℕ) → Answers text (Err fault) → said text ≡ Err fault
       by text holds = elim (gives text (Err fault) holds) [
-        | inl want ↦ absurd (no (is ∙ ap (λ f. is_want f.cause) want))
+        | inl want ↦ absurd (no (is ∙ ap (λ f. is_out_of_memory f.cause) want))
         | inr said_so ↦ said_so
       ]
         where
@@ -37,7 +37,7 @@ module _ {X : Type 0} (said : List ℕ → Result X LabFault) (Answers : List �
 
   exactly : (read after : Result X (FileEnd LabFault)) → IsWithoutWant read after → ReadsFile Answers holding name limit read → Exact after
   exactly (Ok x) after without of = subst Exact (sym without) (of_text holding name limit _ _ (λ text holds. gives text (Ok x) holds) of)
-  exactly (Err (file.Refused fault)) after without of = refused fault (is_want fault.cause) refl after without of
+  exactly (Err (file.Refused fault)) after without of = refused fault (is_out_of_memory fault.cause) refl after without of
   exactly (Err file.OutOfMemory) after without of = subst Exact (sym without) tt
   exactly (Err file.ReadFault) after without of = subst Exact (sym without) tt
   exactly (Err file.TooLong) after without of = subst Exact (sym without) of

@@ -12,7 +12,7 @@ use Rattle.label_reader.specs.Owners.{Ownership}
 use Rattle.label_reader.specs.Texts.{owners_of, owner_place, ownership}
 use Rattle.label_reader.specs.Denotes.{IsOneOf, LineNames, AreIndices, AreStateLines, DenotesOwners}
 use Rattle.label_reader.proofs.StateLineLaws.{IsIndex-has}
-use Rattle.label_reader.proofs.SetLaws.{among, is_said-Says, LineNames-is_said}
+use Rattle.label_reader.proofs.SetLaws.{among, is_said-LineNames, LineNames-is_said}
 use Rattle.label_reader.proofs.TextLaws.{Agrees, Reads, said_by-found, said_by-again}
 
 -- all that is said is one number
@@ -96,16 +96,16 @@ ownership-denoted text n o read =
       owned = λ s number small says.
           owned_by items (said_of lines s) number (read.agrees s) (LineNames-is_said lines number s says) (says_known n items read.text_is.body lines number s read.text_is.states says)
           ∙ ap (λ k. Some k) (sym (owner_at n items lines s small));
-      others = λ s small none. owner_at n items lines s small ∙ nobody_by items (said_of lines s) (λ number h. none number (is_said-Says lines number s h));
+      others = λ s small none. owner_at n items lines s small ∙ nobody_by items (said_of lines s) (λ number h. none number (is_said-LineNames lines number s h));
     })
 
 denoted-agrees : (text : List ℕ) (n : ℕ) (o : Ownership) (is : DenotesOwners text n o) → Agrees OwnerFile is.lines
-denoted-agrees text n o is = λ s. same_from (said_of is.lines s) (λ a b h g. is.one s a b (is_said-Says is.lines a s h) (is_said-Says is.lines b s g))
+denoted-agrees text n o is = λ s. same_from (said_of is.lines s) (λ a b h g. is.one s a b (is_said-LineNames is.lines a s h) (is_said-LineNames is.lines b s g))
 
 owner_is : (items : List Item) (lines : List StateLine) (s place : ℕ) (said : List ℕ) → said ≡ said_of lines s → ((number : ℕ) → LineNames lines number s → place_of items number ≡ Some place) → (((number : ℕ) → LineNames lines number s → ⊥) → place ≡ 0)
     → owner_place items said ≡ place
 owner_is items lines s place [] e owned others = sym (others (λ number says. let h = ap (λ t. among t number) e ∙ LineNames-is_said lines number s says in cc))
-owner_is items lines s place (x ∷ said) e owned others = ap (λ p. unwrap_or p 0) (owned x (is_said-Says lines x s (sym (ap (λ t. among t x) e) ∙ ap (λ v. v || among said x) (eq-eqb x x refl))))
+owner_is items lines s place (x ∷ said) e owned others = ap (λ p. unwrap_or p 0) (owned x (is_said-LineNames lines x s (sym (ap (λ t. among t x) e) ∙ ap (λ v. v || among said x) (eq-eqb x x refl))))
 
 abbrev owned_as : List (List ℕ) → List ℕ → Ownership
 owned_as players owners = record { players = players; owners = owners }

@@ -28,9 +28,9 @@ any_of (other ∷ numbers) number (inr e) = or_right (eqb other number) (list_an
 abbrev pub among : List ℕ → ℕ → Bool
 among numbers number = list_any (λ other. eqb other number) numbers
 
-pub is_said-Says : (lines : List StateLine) (number s : ℕ) → is_said lines number s ≡ true → LineNames lines number s
-is_said-Says [] number s h = cc
-is_said-Says (line ∷ lines) number s h = by (cases_Bool (eqb line.state s)) (λ e. is_said-Says lines number s e)
+pub is_said-LineNames : (lines : List StateLine) (number s : ℕ) → is_said lines number s ≡ true → LineNames lines number s
+is_said-LineNames [] number s h = cc
+is_said-LineNames (line ∷ lines) number s h = by (cases_Bool (eqb line.state s)) (λ e. is_said-LineNames lines number s e)
   where
     by : (eqb line.state s ≡ true) ⊎ (eqb line.state s ≡ false) → (is_said lines number s ≡ true → LineNames lines number s) → LineNames (line ∷ lines) number s
     by (inl e) rest =
@@ -63,7 +63,7 @@ AreLabels-made n lines (item ∷ items) = (
   record {
     name = refl;
     marks = length-map-range_with_len (is_said lines item.index) 0 n;
-    holds = λ s small. (λ h. is_said-Says lines item.index s (sym (row_at n lines item.index s small) ∙ h), λ h. row_at n lines item.index s small ∙ LineNames-is_said lines item.index s h);
+    holds = λ s small. (λ h. is_said-LineNames lines item.index s (sym (row_at n lines item.index s small) ∙ h), λ h. row_at n lines item.index s small ∙ LineNames-is_said lines item.index s h);
   },
   AreLabels-made n lines items,
 )
@@ -85,7 +85,7 @@ label_is n lines item label is =
     each s h =
         let small : s < n = omega (arith, h, length-map-range_with_len (is_said lines item.index) 0 n) in
         row_at n lines item.index s small
-        ∙ same_truth (is_said lines item.index s) (get_or label.marks s false) (λ e. (is.holds s small).1 (is_said-Says lines item.index s e)) (λ e. LineNames-is_said lines item.index s ((is.holds s small).0 e))
+        ∙ same_truth (is_said lines item.index s) (get_or label.marks s false) (λ e. (is.holds s small).1 (is_said-LineNames lines item.index s e)) (λ e. LineNames-is_said lines item.index s ((is.holds s small).0 e))
 
 pub AreLabels-are : (n : ℕ) (lines : List StateLine) (items : List Item) (labels : List Label) → AreLabels n lines items labels → map (label_from n lines) items ≡ labels
 AreLabels-are n lines [] [] h = refl

@@ -69,8 +69,8 @@ abbrev pub IsOutOfMemory : LabFault → Type 0
 IsOutOfMemory fault = fault ≡ fault_at 0 OutOfMemory
 
 -- the cause is want of memory, whose line is not known yet
-abbrev pub IsWant : LabCause → Type 0
-IsWant cause = cause ≡ OutOfMemory
+abbrev pub IsOutOfMemoryCause : LabCause → Type 0
+IsOutOfMemoryCause cause = cause ≡ OutOfMemory
 
 -- the fault of a header with this cause: want of memory has line 0
 abbrev pub GivesFault : LabCause → LabFault → Type 0

@@ -4,7 +4,7 @@ ghost use Rattle.std.specs.Prelude.{◌≡◌, ◌<◌, ◌≤◌, ◌+◌, ◌+
 ghost use Rattle.text_lines.specs.Text.{fields_of};
 ghost use Rattle.label_reader.specs.Header.{place_in, place_of, has_index, has_name, passes_limit, with_item, item_of, header_of};
 ghost use Rattle.label_reader.specs.Limits.{most_labels, greatest_index};
-ghost use Rattle.label_reader.specs.Texts.{IsWant};
+ghost use Rattle.label_reader.specs.Texts.{IsOutOfMemoryCause};
 ghost use Rattle.game_outside.specs.Answers.{AnswersOrWants};
 
 use crate::faults::LabCause;
@@ -122,7 +122,7 @@ impl Header {
 
     /// One item more, which a field spells, or its first fault.
     pub fn add(self, alloc: Global, kind: FileKind, field: &[u8]) -> Result<Header, LabCause>
-        ensures { AnswersOrWants IsWant (λ items. items) result (with_item kind self (item_of kind field.now)) }
+        ensures { AnswersOrWants IsOutOfMemoryCause (λ items. items) result (with_item kind self (item_of kind field.now)) }
     {
         let Some((index, name)) = read_item(kind, field) else {
             return Err(LabCause::BadHeader);
@@ -142,7 +142,7 @@ impl Header {
 
 /// The items of a header line.
 pub fn read_header(alloc: Global, kind: FileKind, line: &[u8]) -> Result<Header, LabCause>
-    ensures { AnswersOrWants IsWant (λ items. items) result (header_of kind (fields_of line.now)) }
+    ensures { AnswersOrWants IsOutOfMemoryCause (λ items. items) result (header_of kind (fields_of line.now)) }
 {
     if first_field(line).is_none() {
         return Err(LabCause::NoHeader);

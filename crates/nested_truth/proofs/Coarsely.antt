@@ -35,7 +35,7 @@ use Rattle.nested_truth.proofs.Posed.{is_query}
 use Rattle.nested_truth.proofs.Stepped.{IsRounding, IsUnder, down-rounding, up-rounding, steps-rise, marked-units, down_steps-most}
 use Rattle.nested_truth.proofs.Sharper.{IsSharper, test_of, test-more, sharper, nearer}
 use Rattle.nested_truth.proofs.Looked.{IsLookedAt, lower-valuation, upper-valuation, asked-lower, asked-upper}
-use Rattle.nested_truth.proofs.Finer.{stepped-by, down-by, codown-by}
+use Rattle.nested_truth.proofs.Finer.{stepped-by, down-by, swapped_down-by}
 use Rattle.nested_truth.proofs.Widened.{IsBounded, raced, swept, next-swept, not-within}
 
 -- 1. What is shown at a state.
@@ -95,7 +95,7 @@ module _ (m : Model) (game : IsGame m.game) (f : Tree) (kl kr cl cr : Known) (lc
   coarse-upper : (asked : ℕ) (coarse : Band) (zero_set : List Bool) → IsZeroSet (optimistic m f kl kr) zero_set → AreStepped (pessimistic m f cl cr) (optimistic m f cl cr) (states m) asked coarse → (s : ℕ) → s < states m
       → unit - down_steps (swapped (optimistic m f kl kr) zero_set) asked s ≤ slice_index coarse.upper s
   coarse-upper asked coarse zero_set is c s inside =
-      omega (arith, c.upper s inside, codown-by m f kl.possible kr.possible cl.possible cr.possible game lf.possible rf.possible zero_set c.zero is c.is_zero asked s inside)
+      omega (arith, c.upper s inside, swapped_down-by m f kl.possible kr.possible cl.possible cr.possible game lf.possible rf.possible zero_set c.zero is c.is_zero asked s inside)
 
   pub raced-within : (bound : Bound) (starts : List ℕ) (asked : ℕ) (band coarse : Band) (how : How) → AreRaced (pessimistic m f kl kr) (optimistic m f kl kr) bound starts asked band how
       → AreStepped (pessimistic m f cl cr) (optimistic m f cl cr) (states m) asked coarse → (s : ℕ) → s < states m → IsLookedAt bound starts s → IsWithinAt bound coarse band s

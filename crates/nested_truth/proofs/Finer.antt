@@ -76,8 +76,8 @@ module _ (m : Model) (f : Tree) (left right left' right' : ℕ → Bool) (game :
       | inr past ↦ let no : false ≡ true = sym (get_or_past zero' s false (omega (arith, past, is'.as_many))) ∙ marked in absurd (cc)
     ]
 
-    pub codown-by : (r s : ℕ) → s < states m → down_steps (swapped many zero') r s ≤ down_steps (swapped few zero) r s
-    codown-by r s inside =
+    pub swapped_down-by : (r s : ℕ) → s < states m → down_steps (swapped many zero') r s ≤ down_steps (swapped few zero) r s
+    swapped_down-by r s inside =
         let low : Query = swapped many zero' in
         let high : Query = swapped few zero in
         down-of (down_from low (opening low) r s) (down_from high (opening high) r s) (down_steps low r s) (down_steps high r s)

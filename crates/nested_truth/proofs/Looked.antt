@@ -54,9 +54,9 @@ below-above low high top n p some below above =
     le_of_mul-le-mul_left whole some
 
 within-top : (b c top n o r h p : ℕ) → 0 < h → 0 < p → b * h ≤ top * n → n * p ≤ o * h → o + r ≡ p → c * p ≤ top * r → b + c ≤ top
-within-top b c top n o r h p some_h some_p low opened both colow =
+within-top b c top n o r h p some_h some_p low opened both swapped_low =
     let whole : h * p * (b + c) ≤ h * p * top =
-    omega (arith, mul-le-mul_right p low, mul-le-mul_left top opened, mul-le-mul_left h colow, ap (λ x. top * h * x) both) in
+    omega (arith, mul-le-mul_right p low, mul-le-mul_left top opened, mul-le-mul_left h swapped_low, ap (λ x. top * h * x) both) in
     le_of_mul-le-mul_left whole (mul-pos some_h some_p)
 
 module _ (q : Query) (zero : List Bool) (bound : Bound) (starts : List ℕ) (asked : ℕ) (found : Bracket) (posed : IsQuery q) (is_zero : IsZeroSet q zero) (run : IsFound q zero bound starts asked found)
@@ -101,7 +101,7 @@ module _ (q : Query) (zero : List Bool) (bound : Bound) (starts : List ℕ) (ask
         | inl valuation ↦ test-more bound (slice_index found.base.items s) (unit - down_steps (swapped q zero) asked s) (omega (arith, base-rest)) valuation
         | inr fails ↦ let no : false ≡ true = sym fails ∙ passes in absurd (cc)
       ]
-      | inr narrow ↦ test-more bound (slice_index found.upper.items s) (unit - down_steps (swapped q zero) asked s) (omega (arith, narrow.coswept s inside)) passes
+      | inr narrow ↦ test-more bound (slice_index found.upper.items s) (unit - down_steps (swapped q zero) asked s) (omega (arith, narrow.swept_above s inside)) passes
     ]
 
     -- 4. The bounds of a run for a value are no wider than the down steps.
@@ -115,5 +115,5 @@ module _ (q : Query) (zero : List Bool) (bound : Bound) (starts : List ℕ) (ask
     pub asked-upper : is_asking bound ≡ true → slice_index found.upper.items s ≤ unit - down_steps (swapped q zero) asked s
     asked-upper asking = elim run.bounds.narrow_asked [
       | inl settled ↦ absurd (asking-open bound _ _ asking (looked (slice_index found.base.items) (slice_index found.upper.items) settled))
-      | inr narrow ↦ omega (arith, narrow.coswept s inside)
+      | inr narrow ↦ omega (arith, narrow.swept_above s inside)
     ]

@@ -6,7 +6,7 @@ use Rattle.game_model.specs.Values.{denominator, numerator}
 use Rattle.game_model.proofs.Choices.{AreChoicesOf-choices_of}
 use Rattle.rpatl_syntax.specs.declared.formula.PathKind.{PathKind}
 use Rattle.rpatl_syntax.specs.declared.formula.PathKind.TheVariants.{Until, Within, Next, Always}
-use Rattle.rpatl_syntax.specs.Dual.{Keeps, dual_bound, dual_of}
+use Rattle.rpatl_syntax.specs.Dual.{IsMetBy, dual_bound, dual_of}
 use Rattle.rpatl_syntax.specs.Formula.{State, True, False, Label, Not, And, Or, Implies, Inner, Tree}
 use Rattle.formula_sets.specs.Posing.{Model, next_question_of}
 use Rattle.bounded_rounds.specs.Exact.{next_numerator}
@@ -28,8 +28,8 @@ module _ (m : Model) (game : IsGame m.game) (f : Tree) (left right left' right' 
   -- what is true by sides is so by sides that hold at the same states
   true-same : (kind : PathKind) (s : ℕ) → IsTrueBy kind m f left right s → IsTrueBy kind m f left' right' s
   true-same Until s h = subst (λ (q : Query). IsTrueOf q f.bound s) (question-equal m f left right left' right' lefts rights) h
-  true-same (Within k) s h = subst (λ (q : Query). Keeps f.bound (numerator q k s) (denominator m.game ^ k)) (question-equal m f left right left' right' lefts rights) h
-  true-same Next s h = subst (λ n. Keeps f.bound n (denominator m.game)) (next-same m f right right' game rights s) h
+  true-same (Within k) s h = subst (λ (q : Query). IsMetBy f.bound (numerator q k s) (denominator m.game ^ k)) (question-equal m f left right left' right' lefts rights) h
+  true-same Next s h = subst (λ n. IsMetBy f.bound n (denominator m.game)) (next-same m f right right' game rights s) h
   true-same Always s h =
       subst (λ (q : Query). IsTrueOf q (dual_bound f.bound) s)
       (question-equal m (dual_of f) everywhere (λ t. not (right t)) everywhere (λ t. not (right' t)) (λ t inside. refl) (λ t inside. ap not (rights t inside))) h

@@ -13,7 +13,7 @@ use Rattle.rpatl_syntax.specs.declared.formula.Bound.{Bound}
 use Rattle.rpatl_syntax.specs.declared.formula.Bound.TheVariants.{AtLeast, Above, AtMost, Below, AskMax, AskMin}
 use Rattle.rpatl_syntax.specs.declared.formula.PathKind.{PathKind}
 use Rattle.rpatl_syntax.specs.declared.formula.PathKind.TheVariants.{Until, Within, Next, Always}
-use Rattle.rpatl_syntax.specs.Dual.{IsAtMostOne, Keeps, dual_of, dual_bound}
+use Rattle.rpatl_syntax.specs.Dual.{IsAtMostOne, IsMetBy, dual_of, dual_bound}
 use Rattle.rpatl_syntax.specs.Formula.{Tree}
 use Rattle.rpatl_syntax.specs.Spellable.{HasShare}
 use Rattle.formula_sets.specs.Posing.{Model, next_question_of}
@@ -42,10 +42,10 @@ valuation-right No false P iff holds fails = refl
 valuation-right Undecided truth P iff holds fails = tt
 valuation-right Bracket truth P iff holds fails = tt
 
-right-yes : (bound : Bound) (n d : ℕ) (v : Verdict) → IsRight bound n d v → v ≡ Yes → Keeps bound n d
+right-yes : (bound : Bound) (n d : ℕ) (v : Verdict) → IsRight bound n d v → v ≡ Yes → IsMetBy bound n d
 right-yes bound n d v h is = subst (λ (w : Verdict). IsRight bound n d w) is h
 
-right-no : (bound : Bound) (n d : ℕ) (v : Verdict) → IsRight bound n d v → v ≡ No → ¬ Keeps bound n d
+right-no : (bound : Bound) (n d : ℕ) (v : Verdict) → IsRight bound n d v → v ≡ No → ¬ IsMetBy bound n d
 right-no bound n d v h is = subst (λ (w : Verdict). IsRight bound n d w) is h
 
 -- 1. Without a bound on the steps.
@@ -65,10 +65,10 @@ settled-right q bound lower upper s truth sound iff =
 
 -- 2. With one.
 
-between-right : (bound : Bound) (n d lower upper : ℕ) (truth : Bool) → 1 ≤ d → IsBetween d lower upper (unit * n) → (truth ≡ true) ↔ Keeps bound n d → IsRightOf (verdict_of bound lower upper) truth
+between-right : (bound : Bound) (n d lower upper : ℕ) (truth : Bool) → 1 ≤ d → IsBetween d lower upper (unit * n) → (truth ≡ true) ↔ IsMetBy bound n d → IsRightOf (verdict_of bound lower upper) truth
 between-right bound n d lower upper truth some between iff =
     let is = right bound n d lower upper some between.low between.high in
-    valuation-right (verdict_of bound lower upper) truth (Keeps bound n d) iff (right-yes bound n d (verdict_of bound lower upper) is) (right-no bound n d (verdict_of bound lower upper) is)
+    valuation-right (verdict_of bound lower upper) truth (IsMetBy bound n d) iff (right-yes bound n d (verdict_of bound lower upper) is) (right-no bound n d (verdict_of bound lower upper) is)
 
 -- 3. Of every kind.
 

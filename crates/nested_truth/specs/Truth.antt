@@ -5,7 +5,7 @@ use Rattle.game_model.specs.Values.{denominator, numerator}
 use Rattle.label_reader.specs.Labels.{Labelling, holds_at}
 use Rattle.rpatl_syntax.specs.declared.formula.PathKind.{PathKind}
 use Rattle.rpatl_syntax.specs.declared.formula.PathKind.TheVariants.{Until, Within, Next, Always}
-use Rattle.rpatl_syntax.specs.Dual.{Keeps, dual_bound, dual_of}
+use Rattle.rpatl_syntax.specs.Dual.{IsMetBy, dual_bound, dual_of}
 use Rattle.rpatl_syntax.specs.Formula.{State, True, False, Label, Not, And, Or, Implies, Inner, Tree}
 use Rattle.formula_sets.specs.Posing.{Model, at_states, question_with, next_question_of}
 use Rattle.bounded_rounds.specs.Exact.{next_numerator}
@@ -47,8 +47,8 @@ dual_question_by m f right = question_by m (dual_of f) everywhere (λ s. not (ri
 -- the formula, with a path of this kind whose sides hold at these states, is true at a state
 abbrev pub IsTrueBy : PathKind → Model → Tree → (ℕ → Bool) → (ℕ → Bool) → ℕ → Type 0
 IsTrueBy Until m f left right s = IsTrueOf (question_by m f left right) f.bound s
-IsTrueBy (Within k) m f left right s = Keeps f.bound (numerator (question_by m f left right) k s) (denominator m.game ^ k)
-IsTrueBy Next m f left right s = Keeps f.bound (next_numerator (next_question_of m.game m.owners f) right s) (denominator m.game)
+IsTrueBy (Within k) m f left right s = IsMetBy f.bound (numerator (question_by m f left right) k s) (denominator m.game ^ k)
+IsTrueBy Next m f left right s = IsMetBy f.bound (next_numerator (next_question_of m.game m.owners f) right s) (denominator m.game)
 IsTrueBy Always m f left right s = IsTrueOf (dual_question_by m f right) (dual_bound f.bound) s
 
 -- the formula is true at a state, where formulas inside hold as the valuation says

@@ -92,7 +92,7 @@ module _ (here : OpensHere) (wider : OpensWider) (q : Query) (zero : List Bool) 
       let printed = here bound lower upper undecided in
       record {
         printed = printed;
-        swept = wider bound lower upper (down_steps q asked s) (unit - down_steps (swapped q zero) asked s) 1 0 (omega arith) (omega (arith, narrow.swept s inside, above s inside)) (omega (arith, narrow.coswept s inside, below s inside)) printed;
+        swept = wider bound lower upper (down_steps q asked s) (unit - down_steps (swapped q zero) asked s) 1 0 (omega arith) (omega (arith, narrow.swept s inside, above s inside)) (omega (arith, narrow.swept_above s inside, below s inside)) printed;
         near = wider bound lower upper _ _ power asked some (near-over base lower asked power (unit * numerator q asked s) (narrow.near s inside) (above s inside)) (near-under upper (slice_index found.upper.items s) power _ (narrow.near_above s inside) (below s inside)) printed;
       }
 

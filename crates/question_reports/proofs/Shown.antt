@@ -19,10 +19,10 @@ use Rattle.question_reports.proofs.Limits.{IsPrintable}
 -- the one of a bracket
 pub held-found : (q : Query) (zero : List Bool) (bound : Bound) (initial : List ℕ) (asked : ℕ) (found : Bracket) → IsFound q zero bound initial asked found → IsUpperHeld q found.upper.items found.replies.items
 held-found q zero bound initial asked found h = record {
-  as_many = h.bounds.upper_length;
+  as_many = h.bounds.least_upper.table.many;
   replied = h.replies.first.as_many;
-  units = h.bounds.upper_units;
-  inductive = h.bounds.upper_inductive;
+  units = h.bounds.least_upper.table.units;
+  inductive = h.bounds.least_upper.table.inductive;
   high = h.bounds.high;
   good = h.replies.good;
   holds = h.replies.holds;

@@ -8,10 +8,11 @@ use Rattle.game_model.specs.Game.{Distribution, choice_of}
 use Rattle.game_model.specs.Query.{Query, is_goal, is_dead, side_at}
 use Rattle.game_model.specs.Limits.{unit}
 use Rattle.game_model.specs.Ranks.{IsRankedChoice}
+use Rattle.game_model.specs.Tables.{IsFirstOver}
 use Rattle.rank_certificate.specs.declared.check.RankCause.{RankCause}
 use Rattle.rank_certificate.specs.declared.check.RankCause.TheVariants.{Value, Choice, Short, NoStep}
 use Rattle.rank_certificate.specs.Ranking.{IsEnough, IsShort, NeedsRank, HasChoice, IsRankedAt}
-use Rattle.rank_certificate.specs.Faults.{IsFirstOver, IsMisvalued, HasToRank, IsNextToRank, IsLackOf, IsCauseAt, IsFirstUnranked, IsRankFault}
+use Rattle.rank_certificate.specs.Faults.{IsMisvalued, HasToRank, IsNextToRank, IsLackOf, IsCauseAt, IsFirstUnranked, IsRankFault}
 use Rattle.rank_certificate.proofs.States.{given-choice, ranked-given, no_choice-unranked, misvalued-unranked}
 
 -- one number is the first

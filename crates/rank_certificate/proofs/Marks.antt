@@ -5,7 +5,8 @@ use Rattle.std.proofs.Math.Nat.{min-le_right}
 use Rattle.std.proofs.lemmas.Bool.{cases_lt}
 use Rattle.game_model.specs.Query.{Query, IsQuery}
 use Rattle.game_model.specs.Rounded.{down_step}
-use Rattle.rank_certificate.specs.LowerGuess.{lesser_step, IsTable}
+use Rattle.game_model.specs.Tables.{IsTable}
+use Rattle.rank_certificate.specs.LowerGuess.{lesser_step}
 use Rattle.rank_certificate.specs.Marks.{AreQuiet, AreMarkedFor}
 use Rattle.predecessors.proofs.Successors.{step-of-successors}
 

@@ -6,9 +6,10 @@ use Rattle.std.proofs.lemmas.List.{ext_get_or}
 use Rattle.game_model.specs.declared.game.Side.{Side}
 use Rattle.game_model.specs.declared.game.Side.TheVariants.{Max, Min}
 use Rattle.game_model.specs.Query.{Query, states, side_at}
+use Rattle.game_model.specs.Tables.{IsTable}
 use Rattle.rank_certificate.specs.Layers.{AreLayered}
 use Rattle.rank_certificate.specs.Carrying.{IsCarried, IsFirstCarrying, IsChosen, IsChosenAt, IsLayeredPlan}
-use Rattle.rank_certificate.specs.LowerGuess.{excess, raised_table, IsTable, IsFirstAt, IsFirstGuess, IsRaised, IsUnraised, IsLowerGuess}
+use Rattle.rank_certificate.specs.LowerGuess.{excess, raised_table, IsFirstAt, IsFirstGuess, IsRaised, IsUnraised, IsLowerGuess}
 use Rattle.rank_certificate.proofs.Refused.{IsTable-one}
 
 first-least : (q : Query) (value : ℕ → ℕ) (among : ℕ → Type 0) (s c d : ℕ) → IsFirstCarrying q value among s c → IsFirstCarrying q value among s d → c ≤ d

@@ -14,8 +14,9 @@ use Rattle.game_model.proofs.Best.{min-cases}
 use Rattle.game_model.proofs.Choices.{AreChoicesOf, AreChoicesOf-choices_of, denominator-pos}
 use Rattle.game_laws.proofs.Steps.{down_step-le}
 use Rattle.game_model.specs.Bounds.{IsNear}
+use Rattle.game_model.specs.Tables.{IsTable}
 use Rattle.rank_certificate.specs.Carrying.{CanBeRanked, Stands}
-use Rattle.rank_certificate.specs.LowerGuess.{first_raised, lesser_step, raised_table, IsTable, IsRefused}
+use Rattle.rank_certificate.specs.LowerGuess.{first_raised, lesser_step, raised_table, IsRefused}
 use Rattle.rank_certificate.proofs.Standing.{Ranked-stands}
 
 -- tables that agree at the states have one down step

@@ -5,16 +5,11 @@ use Rattle.game_model.specs.declared.game.Side.TheVariants.{Max, Min}
 use Rattle.game_model.specs.Game.{Distribution, choices_of, choice_of}
 use Rattle.game_model.specs.Query.{Query, states, is_goal, is_dead, side_at}
 use Rattle.game_model.specs.Limits.{unit}
+use Rattle.game_model.specs.Tables.{IsFirstOver}
 use Rattle.game_model.specs.Ranks.{IsRankedChoice}
 use Rattle.rank_certificate.specs.declared.check.RankCause.{RankCause}
 use Rattle.rank_certificate.specs.declared.check.RankCause.TheVariants.{Value, Choice, Short, NoStep}
 use Rattle.rank_certificate.specs.Ranking.{IsEnough, IsShort, LeadsOnward, NeedsRank, HasChoice, IsRankedAt}
-
--- the first state whose entry is above the unit
-pub record IsFirstOver (values : List ℕ) (s : ℕ) : Type 0 where
-  pub inside : s < length values
-  pub over : unit < slice_index values s
-  pub before : (t : ℕ) → t < s → slice_index values t ≤ unit
 
 -- a goal whose value is not the unit, or a dead state whose value is not 0
 abbrev pub IsMisvalued : Query → (ℕ → ℕ) → ℕ → Type 0

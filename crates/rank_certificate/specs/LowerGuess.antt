@@ -2,6 +2,7 @@
 use Rattle.std.specs.Prelude.{◌≡◌, ℕ, zero, suc, ◌+◌, ◌<◌, ◌≤◌, ◌⊎◌, Bool, false, List, length, slice_index, slice_index_or, All, Option, if◌then◌else◌, min}
 use Rattle.game_model.specs.Query.{Query, states, is_goal}
 use Rattle.game_model.specs.Limits.{unit}
+use Rattle.game_model.specs.Tables.{IsTable}
 use Rattle.game_model.specs.Rounded.{down_step}
 use Rattle.rank_certificate.specs.Layers.{AreLayered}
 use Rattle.rank_certificate.specs.Carrying.{CanBeRanked, IsLayeredPlan}
@@ -31,12 +32,6 @@ lesser_step q table s = min (table s) (down_step q table s)
 unfoldable pub raised_table : Query → List Bool → (ℕ → ℕ) → ℕ → ℕ → ℕ → ℕ
 raised_table q marks base e zero s = first_raised q marks base e s
 raised_table q marks base e (suc j) s = lesser_step q (raised_table q marks base e j) s
-
--- the list has these entries, each at most the unit
-pub record IsTable (q : Query) (entries : ℕ → ℕ) (table : List ℕ) : Type 0 where
-  pub many : length table ≡ states q
-  pub each : (s : ℕ) → s < states q → slice_index table s ≡ entries s
-  pub units : All (λ v. v ≤ unit) table
 
 -- no choices and ranks make these entries ranked
 abbrev pub IsRefused : Query → (ℕ → ℕ) → Type 0

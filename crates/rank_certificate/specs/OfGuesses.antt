@@ -1,6 +1,7 @@
 -- The definitions, at what the guesses of one excess are made from.
 use Rattle.std.specs.Prelude.{ℕ, List, slice_index}
-use Rattle.rank_certificate.specs.LowerGuess.{first_raised, raised_table, IsRefused, AreRefused, IsTable, IsFirstAt}
+use Rattle.game_model.specs.Tables.{IsTable}
+use Rattle.rank_certificate.specs.LowerGuess.{first_raised, raised_table, IsRefused, AreRefused, IsFirstAt}
 use Rattle.rank_certificate.specs.declared.guesses.Guesses.{Guesses}
 
 -- the entry of a state before any step down

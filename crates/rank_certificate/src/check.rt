@@ -5,8 +5,9 @@ ghost use Rattle.game_model.specs.declared.game.Side.TheVariants.{Max, Min};
 ghost use Rattle.game_model.specs.Limits.{unit, most_states};
 ghost use Rattle.game_model.specs.Query.{states, side_at};
 ghost use Rattle.game_model.specs.Ranks.{Ranked, ReachesUnder};
+ghost use Rattle.game_model.specs.Tables.{IsFirstOver};
 ghost use Rattle.rank_certificate.specs.Ranking.{NeedsRank, IsRankedAt};
-ghost use Rattle.rank_certificate.specs.Faults.{IsFirstOver, IsCauseAt, IsRankFault};
+ghost use Rattle.rank_certificate.specs.Faults.{IsCauseAt, IsRankFault};
 
 use crate::choice::check_choice;
 use crate::laws::ranks_reach;

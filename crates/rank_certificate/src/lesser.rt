@@ -4,7 +4,8 @@ ghost use Rattle.std.specs.Prelude.{◌≡◌, ℕ, ◌<◌, ◌≤◌, ◌↔�
 ghost use Rattle.game_model.specs.Query.{states};
 ghost use Rattle.game_model.specs.Limits.{unit};
 ghost use Rattle.predecessors.specs.Lists.{ArePredecessors};
-ghost use Rattle.rank_certificate.specs.LowerGuess.{lesser_step, IsTable};
+ghost use Rattle.game_model.specs.Tables.{IsTable};
+ghost use Rattle.rank_certificate.specs.LowerGuess.{lesser_step};
 ghost use Rattle.rank_certificate.specs.Marks.{AreQuiet, AreMarkedFor};
 
 use fixed_bellman::down_state;

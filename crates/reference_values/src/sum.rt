@@ -1,7 +1,7 @@
 //! The exact value of a choice.
 
-ghost use Rattle.std.specs.Prelude.{◌≡◌, ◌*◌, ◌^◌, ◌<◌, ◌≤◌, length, slice_index, sum_by, All};
-ghost use Rattle.game_model.specs.Game.{choices_of, choice_of};
+ghost use Rattle.std.specs.Prelude.{◌≡◌, ◌*◌, ◌^◌, ◌<◌, ◌≤◌, length, slice_index, All};
+ghost use Rattle.game_model.specs.Game.{choices_of, choice_of, total_of};
 ghost use Rattle.game_model.specs.Query.{states};
 ghost use Rattle.game_model.specs.Values.{weighted_sum, denominator};
 ghost use Rattle.reference_values.specs.Numerators.{exact_value};
@@ -38,9 +38,9 @@ fn weighted_sum_of(game: &Game, state: u32, choice: u32, table: &[u128], power: 
     requires choice { choice < length (choices_of game.now state) }
     requires length { length table.now ≡ length game.now }
     requires below { All (λ n. n ≤ power) table.now }
-    requires fits { sum_by (λ e. e.weight) (choice_of game.now state choice).edges * power < 2 ^ 128 }
+    requires fits { total_of (choice_of game.now state choice).edges * power < 2 ^ 128 }
     ensures value { result ≡ weighted_sum (slice_index table.now) (choice_of game.now state choice).edges }
-    ensures whole { result ≤ sum_by (λ e. e.weight) (choice_of game.now state choice).edges * power }
+    ensures whole { result ≤ total_of (choice_of game.now state choice).edges * power }
 {
     game.known();
     let mut sum: u128 = 0;

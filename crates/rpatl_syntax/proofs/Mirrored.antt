@@ -3,7 +3,7 @@ use Rattle.std.proofs.Common.{◌≡◌, ◌<◌, ◌≤◌, ◌+◌, ◌-◌, �
 use Rattle.distributions.specs.Fraction.{Fraction, rest_of}
 use Rattle.rpatl_syntax.specs.declared.formula.Bound.{Bound}
 use Rattle.rpatl_syntax.specs.declared.formula.Bound.TheVariants.{AtLeast, Above, AtMost, Below, AskMax, AskMin}
-use Rattle.rpatl_syntax.specs.Dual.{dual_bound, IsAtMostOne, Keeps}
+use Rattle.rpatl_syntax.specs.Dual.{dual_bound, IsAtMostOne, IsMetBy}
 use Rattle.rpatl_syntax.specs.Formula.{Tree}
 use Rattle.rpatl_syntax.specs.Rules.{IsBound, Denotes}
 
@@ -42,21 +42,21 @@ split P n whole a den small share h =
     let Q : ℕ → Type 0 = λ w. P w den in
     subst Q whole_is (subst (P (n + (whole - n))) den_is h)
 
-pub rest-keeps : (bound : Bound) (n whole : ℕ) → IsAtMostOne bound → n ≤ whole → Keeps (dual_bound bound) (whole - n) whole ↔ Keeps bound n whole
-rest-keeps (AtLeast p) n whole share small =
+pub rest-meets : (bound : Bound) (n whole : ℕ) → IsAtMostOne bound → n ≤ whole → IsMetBy (dual_bound bound) (whole - n) whole ↔ IsMetBy bound n whole
+rest-meets (AtLeast p) n whole share small =
     let P : ℕ → ℕ → Type 0 = λ w d. ((whole - n) * d ≤ (p.den - p.num) * w) ↔ (p.num * w ≤ n * d) in
     split P n whole p.num p.den small share (at_most n (whole - n) p.num (p.den - p.num))
-rest-keeps (Above p) n whole share small =
+rest-meets (Above p) n whole share small =
     let P : ℕ → ℕ → Type 0 = λ w d. ((whole - n) * d < (p.den - p.num) * w) ↔ (p.num * w < n * d) in
     split P n whole p.num p.den small share (below n (whole - n) p.num (p.den - p.num))
-rest-keeps (AtMost p) n whole share small =
+rest-meets (AtMost p) n whole share small =
     let P : ℕ → ℕ → Type 0 = λ w d. ((p.den - p.num) * w ≤ (whole - n) * d) ↔ (n * d ≤ p.num * w) in
     split P n whole p.num p.den small share (at_least n (whole - n) p.num (p.den - p.num))
-rest-keeps (Below p) n whole share small =
+rest-meets (Below p) n whole share small =
     let P : ℕ → ℕ → Type 0 = λ w d. ((p.den - p.num) * w < (whole - n) * d) ↔ (n * d < p.num * w) in
     split P n whole p.num p.den small share (above n (whole - n) p.num (p.den - p.num))
-rest-keeps AskMax n whole share small = (λ h. h, λ h. h)
-rest-keeps AskMin n whole share small = (λ h. h, λ h. h)
+rest-meets AskMax n whole share small = (λ h. h, λ h. h)
+rest-meets AskMin n whole share small = (λ h. h, λ h. h)
 
 bound-small : (ts : List (List ℕ)) (bound : Bound) → IsBound ts bound → IsAtMostOne bound
 bound-small ts (AtLeast p) is = is.2.small

@@ -17,13 +17,13 @@ IsAtMostOne AskMax = Unit {0}
 IsAtMostOne AskMin = Unit {0}
 
 -- n parts of a whole keep the bound; a question for a value has none to keep
-abbrev pub Keeps : Bound → ℕ → ℕ → Type 0
-Keeps (AtLeast p) n whole = p.num * whole ≤ n * p.den
-Keeps (Above p) n whole = p.num * whole < n * p.den
-Keeps (AtMost p) n whole = n * p.den ≤ p.num * whole
-Keeps (Below p) n whole = n * p.den < p.num * whole
-Keeps AskMax n whole = Unit {0}
-Keeps AskMin n whole = Unit {0}
+abbrev pub IsMetBy : Bound → ℕ → ℕ → Type 0
+IsMetBy (AtLeast p) n whole = p.num * whole ≤ n * p.den
+IsMetBy (Above p) n whole = p.num * whole < n * p.den
+IsMetBy (AtMost p) n whole = n * p.den ≤ p.num * whole
+IsMetBy (Below p) n whole = n * p.den < p.num * whole
+IsMetBy AskMax n whole = Unit {0}
+IsMetBy AskMin n whole = Unit {0}
 
 -- the bound that 1 less a probability keeps where the probability keeps this one
 abbrev pub dual_bound : Bound → Bound

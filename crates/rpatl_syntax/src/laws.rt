@@ -1,7 +1,7 @@
 //! Laws of formulas and their tokens. Each function does nothing; its contract is the law.
 ghost use Rattle.std.specs.Prelude.{◌≡◌, ◌≤◌, ◌-◌, ◌++◌, ◌↔◌, ℕ, List, None, Ok, length};
 ghost use Rattle.rpatl_syntax.specs.declared.formula.Bound.{Bound};
-ghost use Rattle.rpatl_syntax.specs.Dual.{dual_bound, IsAtMostOne, Keeps};
+ghost use Rattle.rpatl_syntax.specs.Dual.{dual_bound, IsAtMostOne, IsMetBy};
 ghost use Rattle.rpatl_syntax.specs.Formula.{Tree, formulas_inside};
 ghost use Rattle.rpatl_syntax.specs.Grammar.{formula_said};
 ghost use Rattle.rpatl_syntax.specs.Laws.{AreTokens, AreAlike, IsBlank, StandsAt, spellings_of, cause_of};
@@ -75,8 +75,8 @@ pub fn thresholds_are_at_most_one()
 {}
 
 /// What is left of a whole keeps the dual of a bound exactly where the part that was taken keeps the bound.
-pub fn rests_keep_duals()
-    ensures { (bound : Bound) (n whole : ℕ) → IsAtMostOne bound → n ≤ whole → Keeps (dual_bound bound) (whole - n) whole ↔ Keeps bound n whole }
+pub fn rests_meet_duals()
+    ensures { (bound : Bound) (n whole : ℕ) → IsAtMostOne bound → n ≤ whole → IsMetBy (dual_bound bound) (whole - n) whole ↔ IsMetBy bound n whole }
 {}
 
 /// The dual of the dual of a bound is the bound.

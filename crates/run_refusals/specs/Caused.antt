@@ -1,20 +1,20 @@
 -- Refusals that are no want of memory.
 use Rattle.std.specs.Prelude.{◌≡◌, ◌≢◌, false}
-use Rattle.tra_reader.specs.FileEnds.{is_want}
+use Rattle.tra_reader.specs.FileEnds.{is_out_of_memory}
 use Rattle.label_reader.specs.declared.faults.LabCause.TheVariants as lab
 use Rattle.rpatl_syntax.specs.declared.fault.FormulaCause.TheVariants as formula
 use Rattle.formula_sets.specs.declared.fault.PoseFault.TheVariants as question
-use Rattle.certificate_audit.specs.Refused.{IsWant}
+use Rattle.certificate_audit.specs.Refused.{IsOutOfMemory}
 use Rattle.run_refusals.specs.declared.refusal.Refusal.{Refusal}
 use Rattle.run_refusals.specs.declared.refusal.Refusal.TheVariants.{OfTra, OfLab, OfOwn, OfFormula, OfQuestion, WrongKind, OfCertificate, TooLong}
 
 -- a text, a formula or a question is at fault, and not memory
 abbrev pub IsCaused : Refusal → Type 0
-IsCaused (OfTra fault) = is_want fault.cause ≡ false
+IsCaused (OfTra fault) = is_out_of_memory fault.cause ≡ false
 IsCaused (OfLab fault) = fault.cause ≢ lab.OutOfMemory
 IsCaused (OfOwn fault) = fault.cause ≢ lab.OutOfMemory
 IsCaused (OfFormula fault) = fault.cause ≢ formula.OutOfMemory
 IsCaused (OfQuestion fault) = fault ≢ question.OutOfMemory
 IsCaused WrongKind = Unit {0}
-IsCaused (OfCertificate fault) = ¬ IsWant fault
+IsCaused (OfCertificate fault) = ¬ IsOutOfMemory fault
 IsCaused (TooLong text) = Unit {0}

@@ -12,7 +12,7 @@ use Rattle.game_outside.specs.Answers.{AnswersOrWants}
 use Rattle.tra_reader.specs.Faults.{IsOutOfMemory}
 use Rattle.tra_reader.specs.Reading.{IsAnswer}
 use Rattle.tra_reader.specs.Ordered.{text_fault}
-use Rattle.tra_reader.specs.FileEnds.{is_want, without_want_of, in_order_of}
+use Rattle.tra_reader.specs.FileEnds.{is_out_of_memory, without_want_of, in_order_of}
 
 of_text : (holding : Option Holding) (name : List ℕ) (limit : ℕ) (P Q : List ℕ → Type 0) → ((text : List ℕ) → P text → Q text) → HeldTextWith holding name limit P → HeldTextWith holding name limit Q
 of_text holding name limit P Q step of = record { text = of.text; told = of.told; within = of.within; holds = step of.text of.holds }
@@ -30,14 +30,14 @@ module _ (holding : Option Holding) (name : List ℕ) (limit : ℕ) where
     abbrev Exact : Result (List (List Distribution)) (FileEnd TraFault) → Type 0
     Exact after = ReadsFile (λ text answer. said text ≡ answer) holding name limit after
 
-    refused : (fault : TraFault) (want : Bool) → want ≡ is_want fault.cause → HeldTextWith holding name limit (λ text. AnswersOrWants {X = List (List Distribution)} IsOutOfMemory (λ g. g) (Err fault) (said text))
+    refused : (fault : TraFault) (want : Bool) → want ≡ is_out_of_memory fault.cause → HeldTextWith holding name limit (λ text. AnswersOrWants {X = List (List Distribution)} IsOutOfMemory (λ g. g) (Err fault) (said text))
         → Exact (if want then Err file.OutOfMemory else Err (file.Refused fault))
     refused fault true is of = tt
     refused fault false is of = of_text holding name limit _ _ by of
       where
         by : (text : List ℕ) → AnswersOrWants {X = List (List Distribution)} IsOutOfMemory (λ g. g) (Err fault) (said text) → said text ≡ Err fault
         by text holds = elim holds [
-          | inl want ↦ absurd (no (is ∙ ap (λ f. is_want f.cause) want))
+          | inl want ↦ absurd (no (is ∙ ap (λ f. is_out_of_memory f.cause) want))
           | inr said_so ↦ said_so
         ]
           where
@@ -47,7 +47,7 @@ module _ (holding : Option Holding) (name : List ℕ) (limit : ℕ) where
     -- want of memory refuses no text, so what is left is exact
     pub reads_exactly : (read : Result (List (List Distribution)) (FileEnd TraFault)) → ReadsFile (λ text answer. AnswersOrWants IsOutOfMemory (λ g. g) answer (said text)) holding name limit read → Exact (without_want_of read)
     reads_exactly (Ok game) of = of
-    reads_exactly (Err (file.Refused fault)) of = refused fault (is_want fault.cause) refl of
+    reads_exactly (Err (file.Refused fault)) of = refused fault (is_out_of_memory fault.cause) refl of
     reads_exactly (Err file.OutOfMemory) of = tt
     reads_exactly (Err file.ReadFault) of = tt
     reads_exactly (Err file.TooLong) of = of

@@ -4,8 +4,8 @@ use Rattle.std.proofs.lemmas.Bool.{eq-eqb}
 use Rattle.std.proofs.lemmas.List.Sums.{sum_by-cons}
 use Rattle.std.specs.List.{All}
 use Rattle.game_model.specs.declared.game.Edge.{Edge}
-use Rattle.game_model.specs.Game.{Distribution}
-use Rattle.distributions.specs.Parts.{Denotes, weighted, weight_to}
+use Rattle.game_model.specs.Game.{Distribution, weight_to}
+use Rattle.distributions.specs.Parts.{Denotes, weighted}
 use Rattle.tra_reader.specs.declared.line.Transition.{Transition}
 use Rattle.tra_reader.specs.Choices.{part_of}
 use Rattle.tra_reader.specs.Answers.{LeadsInside}

@@ -12,7 +12,7 @@ use Rattle.tra_reader.specs.Text.{transitions}
 use Rattle.tra_reader.specs.Order.{has, transition_place}
 use Rattle.tra_reader.specs.Answers.{row_place, action_at}
 use Rattle.tra_reader.specs.GrowingGames.{Growing, HoldsInOrder, place_under_way}
-use Rattle.tra_reader.specs.Kept.{KeepsAction, Compares}
+use Rattle.tra_reader.specs.ActionUnderWay.{IsActionUnderWay, ComparesAction}
 use Rattle.tra_reader.proofs.Decisions.{below_ne}
 use Rattle.tra_reader.proofs.Noting.{noted_stays, newly_noted}
 
@@ -34,7 +34,7 @@ abbrev compared : Row → Option (List ℕ) → Bool
 compared row o = option_map_or (λ first. not (bytes_eq first row.action)) o false
 
 -- a row of the choice under way
-pub same_choice : (rows : List Row) (row : Row) (place : ℕ) (kept : List ℕ) (clash : Bool) → row_place row ≡ place → action_at rows place ≡ Some kept → clash ≡ not (bytes_eq kept row.action) → Compares kept rows row clash
+pub same_choice : (rows : List Row) (row : Row) (place : ℕ) (kept : List ℕ) (clash : Bool) → row_place row ≡ place → action_at rows place ≡ Some kept → clash ≡ not (bytes_eq kept row.action) → ComparesAction kept rows row clash
 same_choice rows row place kept clash at noted is =
     let here : action_at rows (row_place row) ≡ Some kept = ap (λ p. action_at rows p) at ∙ noted in
     record {
@@ -43,18 +43,18 @@ same_choice rows row place kept clash at noted is =
     }
 
 -- a row of a choice that no row before it has
-new_choice : (rows : List Row) (row : Row) (kept : List ℕ) → kept ≡ row.action → action_at rows (row_place row) ≡ None → Compares kept rows row false
+new_choice : (rows : List Row) (row : Row) (kept : List ℕ) → kept ≡ row.action → action_at rows (row_place row) ≡ None → ComparesAction kept rows row false
 new_choice rows row kept is none = record {
   is = sym (ap (λ o. compared row o) none);
   first = newly_noted rows row (row_place row) none ∙ ap (λ b. cond b (Some row.action) (action_at rows (row_place row))) (eq-eqb (row_place row) (row_place row) refl) ∙ ap (λ a. Some a) (sym is);
 }
 
 -- a row behind the choice under way
-pub later_choice : (game : Growing) (n : ℕ) (rows : List Row) (row : Row) (kept : List ℕ) → HoldsInOrder game n (transitions rows) → place_under_way game < row_place row → kept ≡ row.action → Compares kept rows row false
+pub later_choice : (game : Growing) (n : ℕ) (rows : List Row) (row : Row) (kept : List ℕ) → HoldsInOrder game n (transitions rows) → place_under_way game < row_place row → kept ≡ row.action → ComparesAction kept rows row false
 later_choice game n rows row kept holds above is = new_choice rows row kept is (none_above rows (place_under_way game) (row_place row) holds.upto above)
 
 -- the first row
-pub first_choice : (game : Growing) (n : ℕ) (rows : List Row) (row : Row) (kept : List ℕ) → HoldsInOrder game n (transitions rows) → game.parts ≡ [] → kept ≡ row.action → Compares kept rows row false
+pub first_choice : (game : Growing) (n : ℕ) (rows : List Row) (row : Row) (kept : List ℕ) → HoldsInOrder game n (transitions rows) → game.parts ≡ [] → kept ≡ row.action → ComparesAction kept rows row false
 first_choice game n rows row kept holds none is = new_choice rows row kept is (ap (λ rs. action_at rs (row_place row)) (no_rows rows (holds.none none)))
 
 -- the choice under way is that of the last transition
@@ -68,8 +68,8 @@ at_last game n before last holds = by_parts game.parts refl
         ap transition_place (same_from_push before ends.before last ends.last ends.are).1 ∙ ends.there
 
 -- the action that is kept is that of the choice under way from now on
-pub keeps_further : (game : Growing) (n : ℕ) (rows : List Row) (row : Row) (kept : List ℕ) (clash : Bool) → HoldsInOrder game n (transitions rows ++ row.transition ∷ []) → Compares kept rows row clash → KeepsAction game kept (rows ++ row ∷ [])
-keeps_further game n rows row kept clash holds compares begun = ap (λ p. action_at (rows ++ row ∷ []) p) (sym (at_last game n (transitions rows) row.transition holds)) ∙ compares.first
+pub under_way_further : (game : Growing) (n : ℕ) (rows : List Row) (row : Row) (kept : List ℕ) (clash : Bool) → HoldsInOrder game n (transitions rows ++ row.transition ∷ []) → ComparesAction kept rows row clash → IsActionUnderWay game kept (rows ++ row ∷ [])
+under_way_further game n rows row kept clash holds compares begun = ap (λ p. action_at (rows ++ row ∷ []) p) (sym (at_last game n (transitions rows) row.transition holds)) ∙ compares.first
 
 pub no_parts : {X : Type 0} (parts : List X) (begun : Bool) → begun ≡ false → IsTrue begun ↔ (0 < length parts) → parts ≡ []
 no_parts [] begun off is = refl

@@ -17,13 +17,13 @@ abbrev pub any_header : AnyRows → Header
 any_header held = held.header
 
 -- these rows of n states are held: their transitions, and the first action of each choice
-pub record AreKept (n : ℕ) (kept : List Transition) (actions : LineActions) (rows : List Row) : Type 0 where
+pub record AreHeld (n : ℕ) (kept : List Transition) (actions : LineActions) (rows : List Row) : Type 0 where
   pub transitions : transitions rows ≡ kept
   pub within : All (λ row. IsWithin n row.transition) rows
   pub notes : NotesLines actions rows
 
 abbrev pub HoldsAny : AnyRows → List Row → Type 0
-HoldsAny held rows = AreKept held.header.states held.transitions.items held.actions rows
+HoldsAny held rows = AreHeld held.header.states held.transitions.items held.actions rows
 
 abbrev pub AnyRight : Option AnyRows → ℕ → List (List ℕ) → Result (List (List Distribution)) TraFault → Type 0
 AnyRight = IsRight any_header HoldsAny (λ fault. Some fault)

@@ -10,22 +10,22 @@ use Rattle.tra_reader.specs.declared.halt.Halt.{Halt}
 use Rattle.tra_reader.specs.declared.halt.Halt.TheVariants as halt
 
 -- memory was wanting, for the whole or for a choice
-abbrev pub is_want : TraCause → Bool
-is_want OutOfMemory = true
-is_want (Choice state k choice.OutOfMemory) = true
-is_want cause = false
+abbrev pub is_out_of_memory : TraCause → Bool
+is_out_of_memory OutOfMemory = true
+is_out_of_memory (Choice state k choice.OutOfMemory) = true
+is_out_of_memory cause = false
 
 -- no refusal is for want of memory
 abbrev pub RefusesCaused : {X : Type 0} → Result X (FileEnd TraFault) → Type 0
 RefusesCaused (Ok x) = Unit {0}
-RefusesCaused (Err (file.Refused fault)) = is_want fault.cause ≡ false
+RefusesCaused (Err (file.Refused fault)) = is_out_of_memory fault.cause ≡ false
 RefusesCaused (Err file.OutOfMemory) = Unit {0}
 RefusesCaused (Err file.ReadFault) = Unit {0}
 RefusesCaused (Err file.TooLong) = Unit {0}
 
 -- the same answer, but want of memory in place of a refusal for it
 abbrev pub without_want_of : {X : Type 0} → Result X (FileEnd TraFault) → Result X (FileEnd TraFault)
-without_want_of (Err (file.Refused fault)) = if is_want fault.cause then Err file.OutOfMemory else Err (file.Refused fault)
+without_want_of (Err (file.Refused fault)) = if is_out_of_memory fault.cause then Err file.OutOfMemory else Err (file.Refused fault)
 without_want_of (Ok x) = Ok x
 without_want_of (Err file.OutOfMemory) = Err file.OutOfMemory
 without_want_of (Err file.ReadFault) = Err file.ReadFault

@@ -10,6 +10,6 @@ pub mod GrowingGames
 pub mod OfGrowing
 pub mod Reading
 pub mod Noted
-pub mod Kept
+pub mod ActionUnderWay
 pub mod Ordered
 pub mod AnyOrder

@@ -10,7 +10,7 @@ use Rattle.tra_reader.specs.declared.ordered.OrderedRows.{OrderedRows}
 use Rattle.tra_reader.specs.Lines.{Row}
 use Rattle.tra_reader.specs.Text.{transitions}
 use Rattle.tra_reader.specs.Order.{IsWithin}
-use Rattle.tra_reader.specs.Kept.{KeepsAction}
+use Rattle.tra_reader.specs.ActionUnderWay.{IsActionUnderWay}
 use Rattle.tra_reader.specs.GrowingGames.{Growing, HoldsInOrder}
 use Rattle.tra_reader.specs.Reading.{IsRight, Begins, TakesLine, RefusesLine, AddsRow, RefusesRow, Finishes}
 
@@ -27,7 +27,7 @@ pub record AreInOrder (n read : ℕ) (game : Growing) (action : List ℕ) (rows 
   pub holds : HoldsInOrder game n (transitions rows)
   pub within : All (λ row. IsWithin n row.transition) rows
   pub count : length rows ≡ read
-  pub keeps : KeepsAction game action rows
+  pub action : IsActionUnderWay game action rows
 
 abbrev pub HoldsOrdered : OrderedRows → List Row → Type 0
 HoldsOrdered held rows = AreInOrder held.header.states held.read held.game held.action.items rows

@@ -8,7 +8,7 @@ ghost use Rattle.tra_reader.specs.Faults.{IsOutOfMemory};
 ghost use Rattle.tra_reader.specs.Text.{game_of};
 ghost use Rattle.tra_reader.specs.Reading.{IsAnswer};
 ghost use Rattle.tra_reader.specs.Ordered.{text_fault};
-ghost use Rattle.tra_reader.specs.FileEnds.{RefusesCaused, is_want, in_order_of, without_want_of};
+ghost use Rattle.tra_reader.specs.FileEnds.{RefusesCaused, is_out_of_memory, in_order_of, without_want_of};
 
 use crate::any_order::AnyLines;
 use crate::fault::{TraCause, TraFault};
@@ -92,7 +92,7 @@ fn without_want(read: Result<Game, FileEnd<TraFault>>) -> Result<Game, FileEnd<T
 {
     match read {
         Err(FileEnd::Refused(fault)) => {
-            if is_want(&fault.cause) {
+            if is_out_of_memory(&fault.cause) {
                 Err(FileEnd::OutOfMemory)
             } else {
                 Err(FileEnd::Refused(fault))
@@ -104,8 +104,8 @@ fn without_want(read: Result<Game, FileEnd<TraFault>>) -> Result<Game, FileEnd<T
 }
 
 // Whether memory was wanting, for the whole or for a choice.
-fn is_want(cause: &TraCause) -> bool
-    ensures { result ≡ is_want cause.now }
+fn is_out_of_memory(cause: &TraCause) -> bool
+    ensures { result ≡ is_out_of_memory cause.now }
 {
     match cause {
         TraCause::OutOfMemory => true,

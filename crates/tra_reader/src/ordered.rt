@@ -7,7 +7,7 @@ ghost use Rattle.tra_reader.specs.Lines.{Row};
 ghost use Rattle.tra_reader.specs.Text.{transitions};
 ghost use Rattle.tra_reader.specs.Answers.{IsAccepted, row_place};
 ghost use Rattle.tra_reader.specs.GrowingGames.{HoldsInOrder, place_under_way};
-ghost use Rattle.tra_reader.specs.Kept.{KeepsAction, Compares};
+ghost use Rattle.tra_reader.specs.ActionUnderWay.{IsActionUnderWay, ComparesAction};
 
 use crate::body::{blank_between, check_count, first_line, no_header, read_row};
 use crate::fault::TraFault;
@@ -156,8 +156,8 @@ fn compare(
     action: &[u8],
 ) -> Result<bool, AllocError>
     requires { place_under_way game.now ≤ place }
-    ensures { IfOk result (λ clash. (n : ℕ) (rows : List Row) (row : Row) → row_place row ≡ place → row.action ≡ action.now → HoldsInOrder game.now n (transitions rows) → KeepsAction game.now kept.old.items rows
-        → Compares kept.new.items rows row clash) }
+    ensures { IfOk result (λ clash. (n : ℕ) (rows : List Row) (row : Row) → row_place row ≡ place → row.action ≡ action.now → HoldsInOrder game.now n (transitions rows) → IsActionUnderWay game.now kept.old.items rows
+        → ComparesAction kept.new.items rows row clash) }
 {
     if game.has_begun() && place == game.place() {
         return Ok(kept.as_slice() != action);

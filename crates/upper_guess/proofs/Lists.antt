@@ -3,7 +3,8 @@ use Rattle.std.proofs.Common.{◌≡◌, ℕ, suc, ◌+◌, ◌<◌, ◌≤◌, 
 use Rattle.std.specs.Prelude.{slice_index}
 use Rattle.game_model.specs.Query.{Query, IsQuery, states}
 use Rattle.game_model.specs.Rounded.{up_step, IsInductive}
-use Rattle.upper_guess.specs.Guess.{first_guess, guess_table, IsRefused, IsTable}
+use Rattle.game_model.specs.Tables.{IsTable}
+use Rattle.upper_guess.specs.Guess.{first_guess, guess_table, IsRefused}
 use Rattle.upper_guess.proofs.Steps.{up_step-same}
 
 -- the first table

@@ -4,7 +4,8 @@ use Rattle.std.proofs.lemmas.Bool.{cases_lt}
 use Rattle.std.proofs.lemmas.List.{ext_get_or}
 use Rattle.game_model.specs.Query.{Query, states}
 use Rattle.game_model.specs.Rounded.{IsInductive}
-use Rattle.upper_guess.specs.Guess.{excess, guess_table, IsRefused, IsTable, IsFirstAt, IsFirstGuess}
+use Rattle.game_model.specs.Tables.{IsTable}
+use Rattle.upper_guess.specs.Guess.{excess, guess_table, IsRefused, IsFirstAt, IsFirstGuess}
 
 -- no table is both refused and accepted
 not-both : (q : Query) (table : ℕ → ℕ) → IsRefused q table → IsInductive q table → ⊥

@@ -2,6 +2,7 @@
 use Rattle.std.specs.Prelude.{◌≡◌, ℕ, zero, suc, ◌+◌, ◌-◌, ◌/◌, ◌^◌, ◌<◌, ◌≤◌, Bool, false, List, length, slice_index, slice_index_or, All, if◌then◌else◌, min}
 use Rattle.game_model.specs.Query.{Query, states, is_goal}
 use Rattle.game_model.specs.Limits.{unit}
+use Rattle.game_model.specs.Tables.{IsTable}
 use Rattle.game_model.specs.Rounded.{up_step, IsInductive}
 
 -- the excesses 0, 1, 2, 4, .., by their places
@@ -32,12 +33,6 @@ IsRefused q table = (s : ℕ) × (s < states q) × (table s < up_step q table s)
 -- each table of one excess is refused
 abbrev pub AreRefused : Query → List Bool → (ℕ → ℕ) → ℕ → Type 0
 AreRefused q marks lower e = (j : ℕ) → j ≤ most_steps → IsRefused q (guess_table q marks lower e j)
-
--- the list has these entries, each at most the unit
-pub record IsTable (q : Query) (entries : ℕ → ℕ) (table : List ℕ) : Type 0 where
-  pub many : length table ≡ states q
-  pub each : (s : ℕ) → s < states q → slice_index table s ≡ entries s
-  pub units : All (λ v. v ≤ unit) table
 
 -- the state rises from one table to the next, and no state rises more
 pub record RisesMost (q : Query) (table next : ℕ → ℕ) (s : ℕ) : Type 0 where

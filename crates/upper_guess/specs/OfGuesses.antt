@@ -6,7 +6,8 @@ use Rattle.game_model.specs.Query.{side_at}
 use Rattle.game_model.specs.Values.{optimum}
 use Rattle.game_model.specs.Rounded.{up_value}
 use Rattle.fixed_bellman.specs.Sums.{IsSumBetween}
-use Rattle.upper_guess.specs.Guess.{first_guess, guess_table, IsRefused, AreRefused, IsTable, IsFirstAt, IsCounted}
+use Rattle.game_model.specs.Tables.{IsTable}
+use Rattle.upper_guess.specs.Guess.{first_guess, guess_table, IsRefused, AreRefused, IsFirstAt, IsCounted}
 use Rattle.upper_guess.specs.declared.guesses.Guesses.{Guesses}
 
 -- the entry of a state before any up step

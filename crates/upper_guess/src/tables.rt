@@ -4,7 +4,8 @@ ghost use Rattle.std.specs.Prelude.{◌≡◌, ◌≤◌, length, slice_index, A
 ghost use Rattle.game_model.specs.Query.{states};
 ghost use Rattle.game_model.specs.Limits.{unit};
 ghost use Rattle.game_model.specs.Rounded.{up_step, IsBelow};
-ghost use Rattle.upper_guess.specs.Guess.{IsTable, RisesMost};
+ghost use Rattle.game_model.specs.Tables.{IsTable};
+ghost use Rattle.upper_guess.specs.Guess.{RisesMost};
 ghost use Rattle.upper_guess.specs.Parts.{IsFilled};
 
 use crate::part::fill_part;

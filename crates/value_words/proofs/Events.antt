@@ -19,13 +19,13 @@ use Rattle.step_core.proofs.Kept.{after-keeps, after-within}
 use Rattle.fixed_bellman.specs.Given.{IsGivenBy}
 use Rattle.value_words.specs.declared.rule.Sight.{Sight}
 use Rattle.value_words.specs.Shown.{Shared, Seated, view_shown, shown, all_won, IsPassOf, IsEvent}
-use Rattle.value_words.specs.Rule.{halved, copied, joined, spent, AreParts, Kept, saw, Loaded, WonOrLost}
+use Rattle.value_words.specs.Rule.{halved, copied, joined, spent, AreParts, MeetsRule, saw, Loaded, WonOrLost}
 use Rattle.value_words.specs.Steps.{IsOffer, after_split, after_join}
 use Rattle.value_words.proofs.Parts.{sum-set}
 
 -- an event keeps the rule, where the passes share the parts
-pub event-keeps : (q : Query) (s later : Shared) (event : Event) → Kept q s → IsEvent q s later event → AreParts later.views → Kept q later
-event-keeps q s later event k e shares = record {
+pub event-meets : (q : Query) (s later : Shared) (event : Event) → MeetsRule q s → IsEvent q s later event → AreParts later.views → MeetsRule q later
+event-meets q s later event k e shares = record {
   world = subst IsWorld (sym e.effect) (after-keeps (shown q s) event k.world e.lawful);
   within = subst (λ n. IsBelow q (value_at later.words) (down_steps q n)) (sym e.won)
       (subst (λ (c : Configuration). IsBelow q (value_at c.words) (down_steps q (all_won s + wins event))) (sym e.effect) (after-within (shown q s) event (all_won s) k.world e.lawful k.within));
@@ -52,7 +52,7 @@ module _ (q : Query) (s : Shared) (id : ℕ) (v : Sight) (p : IsPassOf s id v) w
   live-shown = ap (λ (o : Option (List ℕ)). is_some o) view-shown
 
   -- what it has seen, while the rule is kept
-  pub pass-sees : Kept q s → Sees q s.words v.seen
+  pub pass-sees : MeetsRule q s → Sees q s.words v.seen
   pass-sees k = k.world.views id v.seen view-shown
 
 -- the pass has seen a word
@@ -89,7 +89,7 @@ module _ (q : Query) (s : Shared) (id slots state : ℕ) (m n : Seated) (act : A
   }
 
   module _ (from to : ℕ) (offer : IsOffer q m.0.seen state from to) (told : WonOrLost (step slots state from to none) m found n) where
-    pub won-event : Kept q s → found ≡ from → IsEvent q s (stepped s state to id m.1 n.0 act) (Won id state from to)
+    pub won-event : MeetsRule q s → found ≡ from → IsEvent q s (stepped s state to id m.1 n.0 act) (Won id state from to)
     won-event k hit = record {
       lawful = record {
         live = live-shown q s id m.0 p;

@@ -16,10 +16,10 @@ use Rattle.step_core.proofs.Sights.{value_at-here, value_at-else, value_at-rises
 use Rattle.step_core.proofs.Words.{AreSoundWords-units}
 use Rattle.value_words.specs.declared.rule.Sight.{Sight}
 use Rattle.value_words.specs.Shown.{Shared, Seated, IsPassOf}
-use Rattle.value_words.specs.Rule.{all_parts, opening_sight, halved, copied, joined, spent, Kept, saw, Loaded, WonOrLost}
+use Rattle.value_words.specs.Rule.{all_parts, opening_sight, halved, copied, joined, spent, MeetsRule, saw, Loaded, WonOrLost}
 use Rattle.value_words.specs.Steps.{IsOffer, after_split, after_join}
 use Rattle.value_words.proofs.Parts.{parts-same, parts-alone, parts-split, parts-join, parts-opening}
-use Rattle.value_words.proofs.Events.{event-keeps, pass-sees, load-event, won-event, lost-event, split-event, join-event}
+use Rattle.value_words.proofs.Events.{event-meets, pass-sees, load-event, won-event, lost-event, split-event, join-event}
 
 -- what was seen is no greater than what is found
 pub found-rises : (seen : List ℕ) (i found : ℕ) → (found ≡ get_or seen i 0) ⊎ (value_in (get_or seen i 0) < value_in found) → value_at seen i ≤ value_in found
@@ -29,16 +29,16 @@ found-rises seen i found h = elim h [
 ]
 
 -- a load may be made
-pub load-allowed : (q : Query) (slots id : ℕ) (m : Seated) (i : ℕ) → m.0.live ≡ true → i < states q → Allows (Kept q) slots id m i (λ n. n) (Loaded (step slots i 0 0 none) m)
+pub load-allowed : (q : Query) (slots id : ℕ) (m : Seated) (i : ℕ) → m.0.live ≡ true → i < states q → Allows (MeetsRule q) slots id m i (λ n. n) (Loaded (step slots i 0 0 none) m)
 load-allowed q slots id m i live inside s k many at small =
     let p : IsPassOf s id m.0 = record { there = at; live = live } in
     let n : Seated = saw m i (get_or s.words i 0) m.0.won in
     let told : Loaded (step slots i 0 0 none) m (get_or s.words i 0) n = (refl, (pass-sees q s id m.0 p k).each i, AreSoundWords-units q s.words k.world.words i inside) in
-    (n.0, keeps, tt, event-keeps q s _ _ k (load-event q s id slots i m n keeps p inside told) (parts-same s.views k.parts id m.0 at n.0 live refl), told)
+    (n.0, keeps, tt, event-meets q s _ _ k (load-event q s id slots i m n keeps p inside told) (parts-same s.views k.parts id m.0 at n.0 live refl), told)
 
 -- an exchange may be made
 module _ (q : Query) (slots id : ℕ) (m : Seated) (i from to : ℕ) (live : m.0.live ≡ true) (offer : IsOffer q m.0.seen i from to) (units : value_in to ≤ unit) where
-  module _ (s : Shared) (k : Kept q s) (p : IsPassOf s id m.0) where
+  module _ (s : Shared) (k : MeetsRule q s) (p : IsPassOf s id m.0) where
     abbrev found : ℕ
     found = get_or s.words i 0
 
@@ -57,40 +57,40 @@ module _ (q : Query) (slots id : ℕ) (m : Seated) (i from to : ℕ) (live : m.0
           (found, m.0.won, refl, found-rises m.0.seen i found each, AreSoundWords-units q s.words k.world.words i offer.inside),
         )
 
-  pub exchange-allowed : Allows (Kept q) slots id m i (λ n. either (eqb n from) to n) (WonOrLost (step slots i from to none) m)
+  pub exchange-allowed : Allows (MeetsRule q) slots id m i (λ n. either (eqb n from) to n) (WonOrLost (step slots i from to none) m)
   exchange-allowed s k many at small =
       let p : IsPassOf s id m.0 = record { there = at; live = live } in
       let word = get_or s.words i 0 in
       exchanged word from to
-      (λ (x : ℕ). (w : Sight) × (a : Act (Unit {0})) × Valid s.homes m.1 a × Kept q (stepped s i x id m.1 w a) × WonOrLost (step slots i from to none) m word (w, carried_after m.1 a))
+      (λ (x : ℕ). (w : Sight) × (a : Act (Unit {0})) × Valid s.homes m.1 a × MeetsRule q (stepped s i x id m.1 w a) × WonOrLost (step slots i from to none) m word (w, carried_after m.1 a))
       (λ (hit : word ≡ from).
       let told = told-won s k p hit in
-      ((saw m i to (m.0.won + 1)).0, keeps, tt, event-keeps q s _ _ k (won-event q s id slots i m (saw m i to (m.0.won + 1)) keeps p from to offer told k hit) (parts-same s.views k.parts id m.0 at (saw m i to (m.0.won + 1)).0 live refl), told))
+      ((saw m i to (m.0.won + 1)).0, keeps, tt, event-meets q s _ _ k (won-event q s id slots i m (saw m i to (m.0.won + 1)) keeps p from to offer told k hit) (parts-same s.views k.parts id m.0 at (saw m i to (m.0.won + 1)).0 live refl), told))
       (λ (miss : word ≢ from).
       let told = told-lost s k p miss in
-      ((saw m i word m.0.won).0, keeps, tt, event-keeps q s _ _ k (lost-event q s id slots i m (saw m i word m.0.won) keeps p from to offer told miss) (parts-same s.views k.parts id m.0 at (saw m i word m.0.won).0 live refl), told))
+      ((saw m i word m.0.won).0, keeps, tt, event-meets q s _ _ k (lost-event q s id slots i m (saw m i word m.0.won) keeps p from to offer told miss) (parts-same s.views k.parts id m.0 at (saw m i word m.0.won).0 live refl), told))
 
 -- a split
-pub split-allowed : (q : Query) (id : ℕ) (v : Sight) → v.live ≡ true → Splits (Kept q) id v (halved v) (copied v)
-split-allowed q id v live s k at = event-keeps q s (after_split s id v) (Split id) k (split-event q s id v (record { there = at; live = live })) (parts-split s.views k.parts id v at live)
+pub split-allowed : (q : Query) (id : ℕ) (v : Sight) → v.live ≡ true → Splits (MeetsRule q) id v (halved v) (copied v)
+split-allowed q id v live s k at = event-meets q s (after_split s id v) (Split id) k (split-event q s id v (record { there = at; live = live })) (parts-split s.views k.parts id v at live)
 
 -- a join
-pub join-allowed : (q : Query) (id : ℕ) (v : Sight) (other : ℕ) (w : Sight) → v.live ≡ true → w.live ≡ true → Joins (Kept q) id v other w (joined v w) spent
+pub join-allowed : (q : Query) (id : ℕ) (v : Sight) (other : ℕ) (w : Sight) → v.live ≡ true → w.live ≡ true → Joins (MeetsRule q) id v other w (joined v w) spent
 join-allowed q id v other w live live' s k at apart there =
     elim (at_set s.views id other (joined v w) w there) [
       | inl same ↦ absurd (apart same.0)
       | inr own ↦
-          event-keeps q s (after_join s id v other w) (Join id other) k
+          event-meets q s (after_join s id v other w) (Join id other) k
           (join-event q s id other v w (record { there = at; live = live }) (record { there = own.1; live = live' }) (λ same. apart (sym same)))
           (parts-join s.views k.parts id v at live other w there)
     ]
 
 -- the opening table
-pub opening-kept : (q : Query) (xs : List (Unit {0})) → IsQuery q → Kept q (opening (opening_words q) xs (opening_sight q))
-opening-kept q xs h = record { world = opening-keeps q h; within = opening-within q; parts = parts-opening (opening_sight q) refl }
+pub opening-meets : (q : Query) (xs : List (Unit {0})) → IsQuery q → MeetsRule q (opening (opening_words q) xs (opening_sight q))
+opening-meets q xs h = record { world = opening-keeps q h; within = opening-within q; parts = parts-opening (opening_sight q) refl }
 
 -- the words at the end
-module _ (q : Query) (id : ℕ) (v : Sight) (words : List ℕ) (xs : List (Unit {0})) (final : Final (Seen (Kept q) id v) words xs) where
+module _ (q : Query) (id : ℕ) (v : Sight) (words : List ℕ) (xs : List (Unit {0})) (final : Final (Seen (MeetsRule q) id v) words xs) where
   pub closed-sees : v.live ≡ true → Sees q words v.seen
   closed-sees live = subst (λ (l : List ℕ). Sees q l v.seen) final.2 (pass-sees q final.0 id v (record { there = final.1.1; live = live }) final.1.0)
 

@@ -49,7 +49,7 @@ pub record AreParts (views : List Sight) : Type 0 where
   pub idle : sum_by (λ v. v.parts) views ≡ all_parts → (id : ℕ) (v : Sight) → get_elem? views id ≡ some v → v.parts ≡ 0 → v ≡ spent
 
 -- the table shows a configuration that meets the invariant of the core, and its words are within as many down steps as exchanges were won
-pub record Kept (q : Query) (s : Shared) : Type 0 where
+pub record MeetsRule (q : Query) (s : Shared) : Type 0 where
   pub world : IsWorld (shown q s)
   pub within : IsBelow q (value_at s.words) (down_steps q (all_won s))
   pub parts : AreParts s.views

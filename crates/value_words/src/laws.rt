@@ -11,7 +11,7 @@ ghost use Rattle.step_core.specs.Word.{opening_words};
 ghost use Rattle.step_core.specs.Configuration.{opening_configuration};
 ghost use Rattle.value_words.specs.declared.rule.Sight.{Sight};
 ghost use Rattle.value_words.specs.Shown.{Shared, Seated, shown, IsPassOf, IsEvent};
-ghost use Rattle.value_words.specs.Rule.{opening_sight, Kept, Loaded, WonOrLost};
+ghost use Rattle.value_words.specs.Rule.{opening_sight, MeetsRule, Loaded, WonOrLost};
 ghost use Rattle.value_words.specs.Steps.{IsOffer, after_split, after_join};
 
 /// A table opens as the core does.
@@ -28,7 +28,7 @@ pub fn loads_are_events()
 
 /// An exchange that finds the word that its pass has seen is the event `Won`.
 pub fn won_exchanges_are_events()
-    ensures { (q : Query) (s : Shared) (id slots state from to : ℕ) (m n : Seated) (act : Act (Unit {0})) → Kept q s → IsPassOf s id m.0 → IsOffer q m.0.seen state from to
+    ensures { (q : Query) (s : Shared) (id slots state from to : ℕ) (m n : Seated) (act : Act (Unit {0})) → MeetsRule q s → IsPassOf s id m.0 → IsOffer q m.0.seen state from to
         → slice_index s.words state ≡ from → WonOrLost (step slots state from to none) m (slice_index s.words state) n
         → IsEvent q s (stepped s state to id m.1 n.0 act) (Won id state from to) }
 {}

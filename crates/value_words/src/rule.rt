@@ -32,9 +32,9 @@ pub struct Rising<P: Posing> {
 }
 
 impl<P: Posing> TableRule<(), Sight, ()> for Rising<P> {
-    ghost use Rattle.value_words.specs.Rule.{Kept, opening_sight};
+    ghost use Rattle.value_words.specs.Rule.{MeetsRule, opening_sight};
 
-    ghost holds = { λ _. Kept P.posed };
+    ghost holds = { λ _. MeetsRule P.posed };
 
     ghost first = { λ _. opening_sight P.posed };
 }

@@ -6,7 +6,7 @@ use Rattle.std.proofs.Math.Nat.{mul-le-mul_right, le_of_mul-le-mul_left, lt_of_m
 use Rattle.game_model.specs.Limits.{unit}
 use Rattle.rpatl_syntax.specs.declared.formula.Bound.{Bound}
 use Rattle.rpatl_syntax.specs.declared.formula.Bound.TheVariants.{AtLeast, Above, AtMost, Below, AskMax, AskMin}
-use Rattle.rpatl_syntax.specs.Dual.{Keeps}
+use Rattle.rpatl_syntax.specs.Dual.{IsMetBy}
 use Rattle.verdicts.specs.Exact.{IsRight}
 use Rattle.verdicts.specs.Verdict.{verdict_by, verdict_of}
 
@@ -35,7 +35,7 @@ not_reached u a b h n d some high bound =
     lt_of_mul-lt-mul_left u whole
 
 -- what two tests say of a fraction is right, where each of them is
-right_by : (bound : Bound) (n d : ℕ) (holds fails : Bool) → (holds ≡ true → Keeps bound n d) → (fails ≡ true → ¬ Keeps bound n d) → IsRight bound n d (verdict_by holds fails)
+right_by : (bound : Bound) (n d : ℕ) (holds fails : Bool) → (holds ≡ true → IsMetBy bound n d) → (fails ≡ true → ¬ IsMetBy bound n d) → IsRight bound n d (verdict_by holds fails)
 right_by bound n d true fails if_holds if_fails = if_holds refl
 right_by bound n d false true if_holds if_fails = if_fails refl
 right_by bound n d false false if_holds if_fails = tt

@@ -1,13 +1,13 @@
 -- What a verdict says of a probability that is a fraction.
 use Rattle.std.specs.Prelude.{ℕ}
 use Rattle.rpatl_syntax.specs.declared.formula.Bound.{Bound}
-use Rattle.rpatl_syntax.specs.Dual.{Keeps}
+use Rattle.rpatl_syntax.specs.Dual.{IsMetBy}
 use Rattle.verdicts.specs.declared.verdict.Verdict.{Verdict}
 use Rattle.verdicts.specs.declared.verdict.Verdict.TheVariants.{Yes, No, Undecided, Bracket}
 
 -- n/d keeps the bound where it says yes, and does not where it says no
 abbrev pub IsRight : Bound → ℕ → ℕ → Verdict → Type 0
-IsRight bound n d Yes = Keeps bound n d
-IsRight bound n d No = ¬ Keeps bound n d
+IsRight bound n d Yes = IsMetBy bound n d
+IsRight bound n d No = ¬ IsMetBy bound n d
 IsRight bound n d Undecided = Unit {0}
 IsRight bound n d Bracket = Unit {0}

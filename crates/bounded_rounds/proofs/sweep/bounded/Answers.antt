@@ -3,13 +3,13 @@ use Rattle.std.specs.Prelude.{slice_index, All}
 use Rattle.game_model.specs.Limits.{unit}
 use Rattle.fixed_bellman.specs.declared.bounds.Bounds.{Bounds}
 use Rattle.fixed_bellman.specs.Bounds.{lowers, uppers}
-use Rattle.bounded_rounds.specs.Parts.{IsTable}
+use Rattle.bounded_rounds.specs.Parts.{IsBoundsTable}
 use Rattle.bounded_rounds.specs.Steps.{IsSweep}
-use Rattle.bounded_rounds.proofs.Parts.{IsTable-opened, lowers-opened, uppers-opened, lowers-units, uppers-units}
+use Rattle.bounded_rounds.proofs.Parts.{IsBoundsTable-opened, lowers-opened, uppers-opened, lowers-units, uppers-units}
 use Rattle.bounded_rounds.proofs.sweep.bounded.Goals as goal
 
 pub iterate-table-requires-clause-table : goal.iterate-table-requires-clause-table
-iterate-table-requires-clause-table g c _ _ = subst (λ (t : List Bounds). IsTable c.args.question.now t) (sym c.in_ok-first.ensures) (IsTable-opened c.args.question.now c.args.opening.now c.requires.opening c.requires.units)
+iterate-table-requires-clause-table g c _ _ = subst (λ (t : List Bounds). IsBoundsTable c.args.question.now t) (sym c.in_ok-first.ensures) (IsBoundsTable-opened c.args.question.now c.args.opening.now c.requires.opening c.requires.units)
 
 pub iterate-table-requires-clause-same : goal.iterate-table-requires-clause-same
 iterate-table-requires-clause-same g c _ _ =

@@ -5,7 +5,7 @@ use Rattle.fixed_bellman.specs.Bounds.{lowers}
 use Rattle.game_model.specs.Query.{states}
 use Rattle.bounded_rounds.specs.Parts.{IsStepped}
 use Rattle.bounded_rounds.specs.Steps.{steps_from}
-use Rattle.bounded_rounds.proofs.Parts.{IsSweep-next, IsSweep-rests, IsTable-step}
+use Rattle.bounded_rounds.proofs.Parts.{IsSweep-next, IsSweep-rests, IsBoundsTable-step}
 use Rattle.bounded_rounds.proofs.sweep.iterate.Goals as goal
 
 pub loop-done-init : goal.loop-done-init
@@ -40,7 +40,7 @@ loop-done-preserved g c =
     let back = take_at next (drop (length next) c.loop-done.next.items) c.loop-done.next.len (omega (arith, many, h.next, c.loop-done.next.ok)) in
     rw (c.swap.ensures.x_after, c.swap.ensures.y_after, back) record {
       sweep = IsSweep-next q (slice_index (lowers c.args.table.items)) c.loop-done._done c.loop-done.table.items next c.step.result c.known.ensures h.sweep many stepped;
-      table = IsTable-step q c.loop-done.table.items next c.step.result many stepped;
+      table = IsBoundsTable-step q c.loop-done.table.items next c.step.result many stepped;
       next = h.table.many;
       used = c.busy_workers-used.ensures.some;
     }

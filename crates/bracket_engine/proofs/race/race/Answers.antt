@@ -15,17 +15,17 @@ returns g c =
     let ended = c.in_ok-lower-2.ended in
     let rounds = c.in_ok-lower-2.ensures in
     let read = read_of c.in_ok-lower-2.lower.agenda in
-    let coread = read_of c.in_ok-lower-2.co.agenda in
+    let swapped_read = read_of c.in_ok-lower-2.swapped_runner.agenda in
     let one : IsClosed q c.in_ok-words.words ended.rounds read = c.in_ok-words.ensures ended.rounds rounds.lower in
-    let two : IsClosed g.C.Posing.posed c.in_ok-cowords.cowords ended.rounds coread = c.in_ok-cowords.ensures ended.rounds rounds.co in
+    let two : IsClosed g.C.Posing.posed c.in_ok-swapped_words.swapped_words ended.rounds swapped_read = c.in_ok-swapped_words.ensures ended.rounds rounds.swapped_runner in
     let inside : All (λ s. s < states q) c.args.ending.now.initial.now = subst (λ (p : Query). All (λ s. s < states p) c.args.ending.now.initial.now) c.requires.posed c.requires.initial in
-    let corise : IsBelow q coread (value_at c.in_ok-cowords.cowords) = λ s there. two.below s (subst (λ n. s < n) (sym (ap length c.requires.game)) there) in
+    let swapped_rise : IsBelow q swapped_read (value_at c.in_ok-swapped_words.swapped_words) = λ s there. two.below s (subst (λ n. s < n) (sym (ap length c.requires.game)) there) in
     record {
       raced = one.raced;
-      coraced = two.raced;
+      swapped_raced = two.raced;
       few = rounds.few;
       rests = λ is. (one.settled (rounds.rests is).0, two.settled (rounds.rests is).1);
-      kept = IsSettlingGuess-raised q c.args.ending.now.zero.now (bound_of c.args.ending.now.rule.now) c.args.ending.now.initial.now read (value_at c.in_ok-words.words) coread (value_at c.in_ok-cowords.cowords) ended.kept inside one.below corise rounds.kept;
+      kept = IsSettlingGuess-raised q c.args.ending.now.zero.now (bound_of c.args.ending.now.rule.now) c.args.ending.now.initial.now read (value_at c.in_ok-words.words) swapped_read (value_at c.in_ok-swapped_words.swapped_words) ended.kept inside one.below swapped_rise rounds.kept;
       none = rounds.none;
       early = rounds.early;
     }

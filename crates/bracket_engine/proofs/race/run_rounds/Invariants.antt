@@ -5,6 +5,6 @@ use Rattle.bracket_engine.proofs.race.run_rounds.Given as goal
 abbrev pub invariant-loop-turn : goal.invariant-loop-turn
 invariant-loop-turn g l = record {
   lower : IsRacing g.P.Posing.posed l.turn l.lower.pass l.lower.agenda;
-  co : IsRacing g.C.Posing.posed l.turn l.co.pass l.co.agenda;
+  swapped_runner : IsRacing g.C.Posing.posed l.turn l.swapped_runner.pass l.swapped_runner.agenda;
   witnesses : AreWitnesses g.P.Posing.posed l.witnesses.states;
 }

@@ -7,12 +7,12 @@ use Rattle.bracket_engine.proofs.upper.upper_table.Goals as goal
 
 pub returns : goal.returns
 returns g c =
-    let covalues : List ℕ = c.args.covalues.items in
+    let swapped_values : List ℕ = c.args.swapped_values.items in
     let unlost : List ℕ = c.in_ok-unlost.unlost.items in
     let guessed : List ℕ = c.in_ok-guessed.guessed.items in
-    let rests : unlost ≡ rests_of covalues = subst (λ (l : List ℕ). unlost ≡ rests_of l) c.deref.ensures.value c.in_ok-unlost.ensures in
+    let rests : unlost ≡ rests_of swapped_values = subst (λ (l : List ℕ). unlost ≡ rests_of l) c.deref.ensures.value c.in_ok-unlost.ensures in
     IfOk-weaker c.lesser.result _ _ (λ upper lesser.
     let first : AreLesser unlost c.deref-3.result.now upper.items = subst (λ (l : List ℕ). AreLesser l c.deref-3.result.now upper.items) c.deref-2.ensures.value lesser in
     let both : AreLesser unlost guessed upper.items = subst (λ (l : List ℕ). AreLesser unlost l upper.items) c.deref-3.ensures.value first in
-    IsUpperFrom-lesser c.args.question.now c.args.zero.now (slice_index c.args.lower.now) covalues unlost guessed upper.items c.args.kept
-    c.known.ensures c.requires.covalues rests c.requires.unlost c.in_ok-guessed.ensures both) c.lesser.ensures
+    IsUpperFrom-lesser c.args.question.now c.args.zero.now (slice_index c.args.lower.now) swapped_values unlost guessed upper.items c.args.kept
+    c.known.ensures c.requires.swapped_values rests c.requires.unlost c.in_ok-guessed.ensures both) c.lesser.ensures

@@ -6,5 +6,5 @@ use Rattle.bracket_examples.proofs.brackets.agrees_with_plain_sweeps.Given as go
 abbrev pub invariant-loop-asked : goal.invariant-loop-asked
 invariant-loop-asked g l = record {
   units : All (λ v. v ≤ unit) l.table;
-  counits : All (λ v. v ≤ unit) l.covalues;
+  swapped_units : All (λ v. v ≤ unit) l.swapped_values;
 }

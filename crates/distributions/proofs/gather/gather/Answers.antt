@@ -1,8 +1,7 @@
 use Rattle.std.proofs.Common.{◌≡◌, ◌∙◌, ◌≤◌, List, sym, ap, subst, rules, arith, zero-add}
 use Rattle.std.specs.Prelude.{All}
 use Rattle.game_model.specs.declared.game.Edge.{Edge}
-use Rattle.game_model.specs.Game.{IsRising, no_edge}
-use Rattle.distributions.specs.Parts.{total_of}
+use Rattle.game_model.specs.Game.{IsRising, no_edge, total_of}
 use Rattle.distributions.specs.Merging.{merged_from}
 use Rattle.game_model.specs.Rising.{RiseFrom}
 use Rattle.distributions.proofs.Gathering.{gathered-only, merged-rises, merged-gathered, merged-total}

@@ -1,6 +1,5 @@
 use Rattle.std.proofs.Common.{◌≡◌, ◌≤◌, ◌+◌, ◌++◌, drop}
-use Rattle.game_model.specs.Game.{no_edge}
-use Rattle.distributions.specs.Parts.{total_of}
+use Rattle.game_model.specs.Game.{no_edge, total_of}
 use Rattle.distributions.specs.Merging.{merged_from}
 use Rattle.distributions.proofs.gather.merge.Given as goal
 

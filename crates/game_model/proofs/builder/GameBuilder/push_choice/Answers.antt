@@ -1,9 +1,9 @@
 use Rattle.std.proofs.Common.{◌≡◌, ap, sym, ◌∙◌, subst}
 use Rattle.game_model.specs.Game.{Distribution, IsDistribution}
-use Rattle.game_model.specs.Flat.{IsKept}
+use Rattle.game_model.specs.Flat.{AreFlatLists}
 use Rattle.game_model.specs.Draft.{distribution_of, with_choice}
 use Rattle.game_model.proofs.Longer.{either, if_ok-more, on_err-more}
-use Rattle.game_model.proofs.Push.{draft_at, still-kept, still-draft, pushed-kept, pushed-draft}
+use Rattle.game_model.proofs.Push.{draft_at, still-flat, still-draft, pushed-flat, pushed-draft}
 use Rattle.game_model.proofs.builder.GameBuilder.push_choice.Goals as goal
 
 -- a distribution is that of its edges
@@ -14,9 +14,9 @@ pub invariant_of-self : goal.invariant_of-self
 invariant_of-self c =
     let fine : IsDistribution (distribution_of c.args.choice.now.edges) = subst IsDistribution (sym (of-edges c.args.choice.now c.known.ensures)) c.known.ensures in
     either c.add_choice.result _ _ _ c.add_choice.ensures.ok c.add_choice.ensures.err
-    (λ p. pushed-kept _ _ _ _ _ _ _ _ _ _ _ c.args.choice.now.edges c.self.invariant p.0 p.1 p.2 p.3 p.4 p.5 fine)
-    (λ p. subst (λ fe. IsKept c.self.inside.first_choice.items fe c.add_choice.new.totals.items c.add_choice.new.to.items c.add_choice.new.low.items c.add_choice.new.high.items) (sym p.0)
-    (still-kept _ _ _ _ _ _ _ _ _ _ c.self.invariant p.1 p.2 p.3 p.4))
+    (λ p. pushed-flat _ _ _ _ _ _ _ _ _ _ _ c.args.choice.now.edges c.self.invariant p.0 p.1 p.2 p.3 p.4 p.5 fine)
+    (λ p. subst (λ fe. AreFlatLists c.self.inside.first_choice.items fe c.add_choice.new.totals.items c.add_choice.new.to.items c.add_choice.new.low.items c.add_choice.new.high.items) (sym p.0)
+    (still-flat _ _ _ _ _ _ _ _ _ _ c.self.invariant p.1 p.2 p.3 p.4))
 
 pub returns-clause-ok : goal.returns-clause-ok
 returns-clause-ok c = if_ok-more c.add_choice.result _ _ c.add_choice.ensures.ok

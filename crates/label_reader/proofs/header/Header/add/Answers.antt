@@ -3,7 +3,7 @@ use Rattle.std.specs.Option.{option_map}
 use Rattle.label_reader.specs.declared.faults.LabCause.{LabCause}
 use Rattle.label_reader.specs.declared.faults.LabCause.TheVariants.{OutOfMemory}
 use Rattle.label_reader.specs.Header.{Item, item_of, saturated_item}
-use Rattle.label_reader.specs.Texts.{IsWant}
+use Rattle.label_reader.specs.Texts.{IsOutOfMemoryCause}
 use Rattle.game_outside.specs.Answers.{AnswersOrWants}
 use Rattle.label_reader.proofs.HeaderSteps.{with_item-saturated, is_over, is_double_index, is_double_name, is_added}
 use Rattle.label_reader.proofs.header.Header.add.Goals as goal
@@ -11,7 +11,7 @@ use Rattle.label_reader.proofs.header.Header.add.Goals as goal
 abbrev named : ℕ → List ℕ → Item
 named index name = record { index = index; name = name }
 
-gives_added : (r : Result (List Item) LabCause) (said : Result (List Item) LabCause) (items : List Item) → MatchResult r (λ h. h ≡ items) (λ cause. cause ≡ OutOfMemory) → said ≡ Ok items → AnswersOrWants IsWant (λ x. x) r said
+gives_added : (r : Result (List Item) LabCause) (said : Result (List Item) LabCause) (items : List Item) → MatchResult r (λ h. h ≡ items) (λ cause. cause ≡ OutOfMemory) → said ≡ Ok items → AnswersOrWants IsOutOfMemoryCause (λ x. x) r said
 gives_added (Ok h) said items m s = cc
 gives_added (Err cause) said items m s = inl m
 

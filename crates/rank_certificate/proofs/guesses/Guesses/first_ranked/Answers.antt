@@ -4,7 +4,8 @@ use Rattle.std.specs.Prelude.{slice_index}
 use Rattle.std.proofs.lemmas.Bool.{both_ways}
 use Rattle.std.proofs.lemmas.List.{take_at}
 use Rattle.game_model.specs.Query.{states}
-use Rattle.rank_certificate.specs.LowerGuess.{IsTable, lesser_step}
+use Rattle.game_model.specs.Tables.{IsTable}
+use Rattle.rank_certificate.specs.LowerGuess.{lesser_step}
 use Rattle.rank_certificate.specs.Marks.{AreQuiet, AreMarkedFor}
 use Rattle.rank_certificate.specs.OfGuesses.{entry_of, IsRefusedOf}
 use Rattle.rank_certificate.proofs.Refused.{IsTable-next, same-stands, changed-refused}

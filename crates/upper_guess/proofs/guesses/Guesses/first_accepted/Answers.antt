@@ -6,8 +6,9 @@ use Rattle.std.proofs.Math.ListN.{length-set}
 use Rattle.std.proofs.lemmas.List.Elements.{All-set}
 use Rattle.game_model.specs.Query.{Query, states}
 use Rattle.game_model.specs.Rounded.{up_step, IsBelow}
+use Rattle.game_model.specs.Tables.{IsTable}
 use Rattle.upper_guess.specs.declared.guesses.Guesses.{Guesses}
-use Rattle.upper_guess.specs.Guess.{IsTable, RisesMost, AreWitnesses, RoseBy}
+use Rattle.upper_guess.specs.Guess.{RisesMost, AreWitnesses, RoseBy}
 use Rattle.upper_guess.specs.OfGuesses.{entry_of, IsTableOf, IsRefusedOf}
 use Rattle.upper_guess.proofs.Counting.{rose-checked}
 use Rattle.upper_guess.proofs.Lists.{IsTable-next, not-raised, is-raised}

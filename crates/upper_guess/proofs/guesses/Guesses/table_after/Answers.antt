@@ -1,7 +1,8 @@
 use Rattle.std.proofs.Common.{ℕ, ◌+◌, ◌-◌, arith, sym, subst}
 use Rattle.std.specs.Prelude.{slice_index}
 use Rattle.game_model.specs.Rounded.{up_step}
-use Rattle.upper_guess.specs.Guess.{IsTable, RoseBy}
+use Rattle.game_model.specs.Tables.{IsTable}
+use Rattle.upper_guess.specs.Guess.{RoseBy}
 use Rattle.upper_guess.proofs.Counting.{rose-next}
 use Rattle.upper_guess.proofs.Lists.{IsTable-next}
 use Rattle.upper_guess.proofs.guesses.Guesses.table_after.Goals as goal

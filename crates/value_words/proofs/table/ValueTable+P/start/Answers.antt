@@ -5,8 +5,8 @@ use Rattle.step_core.specs.Word.{value_at, opening_words}
 use Rattle.step_core.proofs.Words.{AreSoundWords-goals, AreSoundWords-units, AreSoundWords-opening}
 use Rattle.atomic_table.specs.Table.{Me, opening}
 use Rattle.value_words.specs.declared.rule.Sight.{Sight}
-use Rattle.value_words.specs.Rule.{Kept, opening_sight}
-use Rattle.value_words.proofs.Moves.{opening-kept}
+use Rattle.value_words.specs.Rule.{MeetsRule, opening_sight}
+use Rattle.value_words.proofs.Moves.{opening-meets}
 use Rattle.value_words.proofs.table.ValueTable+P.start.Goals as goal
 
 pub of_words-requires : goal.of_words-requires
@@ -14,7 +14,7 @@ of_words-requires g c =
     let q = g.P.Posing.posed in
     let h : IsQuery q = subst IsQuery c.requires c.known.ensures in
     let same : opening_words q ≡ c.as_slice.result.now = ap opening_words (sym c.requires) ∙ sym c.in_ok-words.ensures ∙ sym c.as_slice.ensures.value in
-    subst (λ words. Kept q (opening words [] (opening_sight q))) same (opening-kept q [] h)
+    subst (λ words. MeetsRule q (opening words [] (opening_sight q))) same (opening-meets q [] h)
 
 -- a pass that has seen the opening words
 opened : (q : Query) (m : Me (Unit {0}) Sight) → IsQuery q → m ≡ (opening_sight q, [])

@@ -5,10 +5,10 @@ use Rattle.tra_reader.specs.Lines.{Row}
 use Rattle.tra_reader.specs.Answers.{row_place, action_at, clashes_at}
 
 -- where a choice is under way, this is the action of its first row
-abbrev pub KeepsAction : Growing → List ℕ → List Row → Type 0
-KeepsAction game kept rows = 0 < length game.parts → action_at rows (place_under_way game) ≡ Some kept
+abbrev pub IsActionUnderWay : Growing → List ℕ → List Row → Type 0
+IsActionUnderWay game action rows = 0 < length game.parts → action_at rows (place_under_way game) ≡ Some action
 
 -- whether the row clashes with those before it; and this is the first action of its choice
-pub record Compares (kept : List ℕ) (rows : List Row) (row : Row) (clash : Bool) : Type 0 where
+pub record ComparesAction (action : List ℕ) (rows : List Row) (row : Row) (clash : Bool) : Type 0 where
   pub is : clash ≡ clashes_at rows row
-  pub first : action_at (rows ++ row ∷ []) (row_place row) ≡ Some kept
+  pub first : action_at (rows ++ row ∷ []) (row_place row) ≡ Some action
