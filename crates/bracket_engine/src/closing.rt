@@ -63,7 +63,13 @@ pub fn bracket_of<F: Fn(u64, u64) -> bool, R: Threads + Sync>(
     let swapped_values = values_of_words(alloc, swapped_words.as_slice())?;
     drop(swapped_words);
     let base = values_of_words(alloc, words.as_slice())?;
-    let stable = is_stable(ending.question, &swapped_question, &base, &swapped_values, rests);
+    let stable = is_stable(
+        ending.question,
+        &swapped_question,
+        &base,
+        &swapped_values,
+        rests,
+    );
     drop(swapped_question);
     let (lower, upper) = both_sides(
         team,

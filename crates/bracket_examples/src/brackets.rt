@@ -103,7 +103,7 @@ fn are_within(uppers: &[u64], swapped_values: &[u64]) -> bool {
         && uppers
             .iter()
             .zip(swapped_values.iter())
-            .all(|(upper, swapped_value)| *upper <= UNIT.saturating_sub(*swapped_value))
+            .all(|(upper, value)| *upper <= UNIT.saturating_sub(*value))
 }
 
 // Compares the bracket of one worker with the tables of plain sweeps after so many rounds; after two of them the guess too.
@@ -130,7 +130,14 @@ fn agrees_with_the_tables<R: Threads + Sync>(
         (table, rounds, true),
     )?;
     if asked == 2 {
-        return agrees_with_the_plain_guess(alloc, question, zero, table, swapped_values, &found.upper);
+        return agrees_with_the_plain_guess(
+            alloc,
+            question,
+            zero,
+            table,
+            swapped_values,
+            &found.upper,
+        );
     }
     Ok(())
 }
@@ -155,7 +162,16 @@ fn agrees_with_plain_sweeps<R: Threads + Sync>(
     let mut rounds = 0;
     let mut ended = false;
     for asked in 0..12 {
-        agrees_with_the_tables(rt, alloc, question, zero, table, swapped_values, asked, rounds)?;
+        agrees_with_the_tables(
+            rt,
+            alloc,
+            question,
+            zero,
+            table,
+            swapped_values,
+            asked,
+            rounds,
+        )?;
         if rounds < asked {
             return Ok(());
         }

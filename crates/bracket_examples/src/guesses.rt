@@ -21,7 +21,11 @@ use zero_sets::zero_set;
 
 // Compares an upper table with the lesser of a guess and of the unit less the swapped values.
 fn are_the_lesser(uppers: &[u64], swapped_values: &[u64], guess: &[u64]) -> Result<(), Fail> {
-    for ((upper, swapped_value), entry) in uppers.iter().zip(swapped_values.iter()).zip(guess.iter()) {
+    for ((upper, swapped_value), entry) in uppers
+        .iter()
+        .zip(swapped_values.iter())
+        .zip(guess.iter())
+    {
         let lesser = UNIT.saturating_sub(*swapped_value).min(*entry);
         same("an upper bound", *upper, lesser)?;
     }

@@ -9,7 +9,7 @@ use Rattle.rpatl_syntax.specs.declared.formula.Bound.{Bound}
 use Rattle.rpatl_syntax.specs.declared.formula.Bound.TheVariants.{AtLeast, Above, AtMost, Below, AskMax, AskMin}
 use Rattle.rpatl_syntax.specs.Formula.{State, True, False, Label, Not, And, Or, Implies, Inner}
 
--- the side of a coalition: it tries to keep the bound, or to reach what is asked
+-- the side of a coalition: it tries to meet the bound, or to reach what is asked
 abbrev pub coalition_side : Bound → Side
 coalition_side (AtLeast p) = Max
 coalition_side (Above p) = Max
@@ -18,7 +18,7 @@ coalition_side (Below p) = Min
 coalition_side AskMax = Max
 coalition_side AskMin = Min
 
--- the side of all states where no coalition is named: a bound has to be kept whatever is chosen
+-- the side of all states where no coalition is named: a bound has to be met whatever is chosen
 abbrev pub common_side : Bound → Side
 common_side (AtLeast p) = Min
 common_side (Above p) = Min

@@ -11,7 +11,7 @@
 //!
 //! With `U` and `F` a goal is a state where the right side holds, and a dead state one where neither side holds. A coalition
 //! maximises under `>=`, `>` and `Pmax`, and minimises under `<=`, `<` and `Pmin`, against all others. Where no coalition
-//! is named, all states are one side's: the one that keeps a bound only if every choice keeps it, or the one that is asked.
+//! is named, all states are one side's: the one that meets a bound only if every choice meets it, or the one that is asked.
 //! A formula with `G` poses no question itself: its dual does.
 #![tactic(auto)]
 

@@ -67,7 +67,7 @@ pub fn share_of(asked: Asked) -> Option<Share> {
     }
 }
 
-/// Whether a value that compares so with its threshold keeps a bound.
+/// Whether a value that compares so with its threshold meets a bound.
 pub fn is_kept(asked: Asked, compared: Ordering) -> bool {
     match asked {
         Asked::AtLeast(_) => compared != Ordering::Less,
@@ -86,7 +86,7 @@ fn is_maximised(head: Head, is_second: bool) -> bool {
     );
     let is_asked = matches!(head.asked, Asked::Most | Asked::Least);
     match head.coalition {
-        // A threshold without a coalition is to be kept against every strategy.
+        // A threshold without a coalition is to be met against every strategy.
         Coalition::Unnamed => is_wanted == is_asked,
         Coalition::First => is_wanted != is_second,
         Coalition::Second => is_wanted == is_second,
@@ -193,7 +193,7 @@ impl<'g> Seen<'g> {
         }
     }
 
-    // Where the values of a path keep the bound.
+    // Where the values of a path meet the bound.
     fn kept(
         &self,
         alloc: Global,

@@ -16,7 +16,7 @@ IsAtMostOne (Below p) = p.num ≤ p.den
 IsAtMostOne AskMax = Unit {0}
 IsAtMostOne AskMin = Unit {0}
 
--- n parts of a whole keep the bound; a question for a value has none to keep
+-- the bound is met by n parts of a whole; a question for a value has none to meet
 abbrev pub IsMetBy : Bound → ℕ → ℕ → Type 0
 IsMetBy (AtLeast p) n whole = p.num * whole ≤ n * p.den
 IsMetBy (Above p) n whole = p.num * whole < n * p.den
@@ -25,7 +25,7 @@ IsMetBy (Below p) n whole = n * p.den < p.num * whole
 IsMetBy AskMax n whole = Unit {0}
 IsMetBy AskMin n whole = Unit {0}
 
--- the bound that 1 less a probability keeps where the probability keeps this one
+-- the bound that 1 less a probability meets where the probability meets this one
 abbrev pub dual_bound : Bound → Bound
 dual_bound (AtLeast p) = AtMost (rest_of p)
 dual_bound (Above p) = Below (rest_of p)

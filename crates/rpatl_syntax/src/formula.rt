@@ -27,7 +27,7 @@ pub enum StateFormula {
     Inner(Box<Formula>),
 }
 
-/// What is asked of the probability: that it keeps a threshold, or its greatest or least value.
+/// What is asked of the probability: that it meets a threshold, or its greatest or least value.
 #[derive(Clone, Copy, Debug, PartialEq, Eq)]
 pub enum Bound {
     /// `P>=p`

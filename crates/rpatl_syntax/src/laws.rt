@@ -74,7 +74,7 @@ pub fn thresholds_are_at_most_one()
     ensures { (text : List ℕ) (tree : Tree) → Denotes text tree → IsAtMostOne tree.bound }
 {}
 
-/// What is left of a whole keeps the dual of a bound exactly where the part that was taken keeps the bound.
+/// What is left of a whole meets the dual of a bound exactly where the part that was taken meets the bound.
 pub fn rests_meet_duals()
     ensures { (bound : Bound) (n whole : ℕ) → IsAtMostOne bound → n ≤ whole → IsMetBy (dual_bound bound) (whole - n) whole ↔ IsMetBy bound n whole }
 {}

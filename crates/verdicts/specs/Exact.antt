@@ -5,7 +5,7 @@ use Rattle.rpatl_syntax.specs.Dual.{IsMetBy}
 use Rattle.verdicts.specs.declared.verdict.Verdict.{Verdict}
 use Rattle.verdicts.specs.declared.verdict.Verdict.TheVariants.{Yes, No, Undecided, Bracket}
 
--- n/d keeps the bound where it says yes, and does not where it says no
+-- n/d meets the bound where it says yes, and does not where it says no
 abbrev pub IsRight : Bound → ℕ → ℕ → Verdict → Type 0
 IsRight bound n d Yes = IsMetBy bound n d
 IsRight bound n d No = ¬ IsMetBy bound n d

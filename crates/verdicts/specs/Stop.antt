@@ -16,7 +16,7 @@ pub record IsRuleOf {F : Type 0} (calls : Calls F) (bound : Bound) (rule : F) : 
   pub answers : (lower upper : ℕ) (answer : Bool) → lower ≤ unit → upper ≤ unit → calls.post rule (lower, (upper, tt)) answer
       → answer ≡ is_settling (verdict_of bound lower upper)
 
--- the bound that a rule keeps
+-- the bound of a rule
 abbrev pub bound_of : {F : Type 0} → StopRule F → Bound
 bound_of stop = stop.bound
 
