@@ -8,7 +8,7 @@ use Rattle.game_model.specs.declared.game.Edge.{Edge}
 use Rattle.game_model.specs.Game.{Distribution, destinations, weight_to}
 use Rattle.drawn_game.specs.Drawings.{next_draw, times}
 use Rattle.drawn_game.specs.Parts.{added_up}
-use Rattle.drawn_game.specs.Rules.{State, first_part, other_part, drawn_choice, drawn_state, game_of_states, stay, goal_of, sink_of}
+use Rattle.drawn_game.specs.Rules.{DrawnState, first_part, other_part, drawn_choice, drawn_state, game_of_states, stay, goal_of, sink_of}
 use Rattle.drawn_game.specs.Ends.{LeadsToEnd}
 use Rattle.drawn_game.proofs.Rising.{edges_of, edges_of-some, edges_of-none, none_or_some}
 use Rattle.drawn_game.proofs.Repeating.{All-times}
@@ -74,8 +74,8 @@ game-ends n seed h =
     let states = (times (n - 2) (drawn_state n) seed).value in
     let P : List Distribution → Type 0 = λ choices. All (LeadsToEnd n) choices in
     let only : (m : Distribution) → LeadsToEnd n m → P (m ∷ []) = λ m ends. All-cons (LeadsToEnd n) m [] ends (All-nil (LeadsToEnd n)) in
-    All-append P (map (λ (s : State). s.choices) states) ((stay (goal_of n) ∷ []) ∷ (stay (sink_of n) ∷ []) ∷ [])
-    (All-map P (λ (s : State). s.choices) states
-    (All-times (λ (s : State). P s.choices) (drawn_state n) (λ x. All-times (LeadsToEnd n) (drawn_choice n) (drawn_choice-ends n h) (1 + next_draw (next_draw x) % 3) (next_draw (next_draw x))) (n - 2) seed))
+    All-append P (map (λ (s : DrawnState). s.choices) states) ((stay (goal_of n) ∷ []) ∷ (stay (sink_of n) ∷ []) ∷ [])
+    (All-map P (λ (s : DrawnState). s.choices) states
+    (All-times (λ (s : DrawnState). P s.choices) (drawn_state n) (λ x. All-times (LeadsToEnd n) (drawn_choice n) (drawn_choice-ends n h) (1 + next_draw (next_draw x) % 3) (next_draw (next_draw x))) (n - 2) seed))
     (All-cons P (stay (goal_of n) ∷ []) ((stay (sink_of n) ∷ []) ∷ []) (only (stay (goal_of n)) (stay-ends n (goal_of n) (inl refl)))
     (All-cons P (stay (sink_of n) ∷ []) [] (only (stay (sink_of n)) (stay-ends n (sink_of n) (inr refl))) (All-nil P)))

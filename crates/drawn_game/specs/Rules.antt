@@ -41,7 +41,7 @@ drawn_choice n = do
   done (choice_of_parts n (first ∷ others))
 
 -- a state: who chooses there, and the choices
-pub record State : Type 0 where
+pub record DrawnState : Type 0 where
   pub side : Side
   pub choices : List Distribution
 
@@ -50,7 +50,7 @@ abbrev pub side_of : ℕ → Side
 side_of x = if x % 2 == 0 then Max else Min
 
 -- a state has 1 to 3 choices
-abbrev pub drawn_state : ℕ → Drawing State
+abbrev pub drawn_state : ℕ → Drawing DrawnState
 drawn_state n = do
   x ← draw
   y ← draw
@@ -63,7 +63,7 @@ pub record SidedGame : Type 0 where
   pub sides : List Side
 
 -- the states that were drawn, then the goal and the sink, which are of Max
-abbrev pub game_of_states : ℕ → List State → SidedGame
+abbrev pub game_of_states : ℕ → List DrawnState → SidedGame
 game_of_states n states = record {
   game = map (λ s. s.choices) states ++ (stay (goal_of n) ∷ []) ∷ (stay (sink_of n) ∷ []) ∷ [];
   sides = map (λ s. s.side) states ++ Max ∷ Max ∷ [];

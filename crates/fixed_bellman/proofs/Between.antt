@@ -9,11 +9,11 @@ use Rattle.game_model.specs.declared.game.Side.TheVariants.{Max, Min}
 use Rattle.game_model.specs.Game.{Distribution, choices_of, choice_of, no_distribution}
 use Rattle.game_model.specs.Query.{Query, IsQuery, states, side_at}
 use Rattle.game_model.specs.Values.{optimum, weighted_sum}
-use Rattle.game_model.specs.Rounded.{down_value, up_value, down_step, DownChoice}
+use Rattle.game_model.specs.Rounded.{down_value, down_step, DownChoice}
 use Rattle.game_model.proofs.Best.{optimum-below, optimum-each, optimum-most}
 use Rattle.game_laws.proofs.Steps.{down_value-le}
 use Rattle.fixed_bellman.specs.declared.quotient.Quotient.{Quotient}
-use Rattle.fixed_bellman.specs.Quotients.{rounded_down, rounded_up, IsBetween}
+use Rattle.fixed_bellman.specs.Quotients.{rounded_down, IsBetween}
 use Rattle.fixed_bellman.specs.Given.{IsFree, IsStepAbove}
 use Rattle.fixed_bellman.proofs.Tables.{free_step, choice_fits, IsGivenBy-below}
 
@@ -28,17 +28,6 @@ module _ (r : Quotient) (old new : ℕ → ℕ) (m : Distribution) (h : IsBetwee
 
   pub down-high : rounded_down r ≤ down_value new m
   down-high = subst (λ n. rounded_down r ≤ weighted_sum new m.edges / n) h.total (div-rises r.sum (weighted_sum new m.edges) r.total r.positive h.high)
-
--- between a table and itself
-module _ (r : Quotient) (v : ℕ → ℕ) (m : Distribution) (h : IsBetween r v v m) where
-  sum-is : r.sum ≡ weighted_sum v m.edges
-  sum-is = omega (arith, h.low, h.high)
-
-  pub down-exact : rounded_down r ≡ down_value v m
-  down-exact = ap (λ n. n / r.total) sum-is ∙ ap (λ n. weighted_sum v m.edges / n) h.total
-
-  pub up-exact : rounded_up r ≡ up_value v m
-  up-exact = ap (λ n. (n + (r.total - 1)) / r.total) sum-is ∙ ap (λ n. (weighted_sum v m.edges + (n - 1)) / n) h.total
 
 -- what a test that fails says
 pub not-less : (x y : ℕ) → (x < y → IsTrue false) → y ≤ x

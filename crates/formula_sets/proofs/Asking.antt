@@ -15,7 +15,7 @@ use Rattle.rpatl_syntax.specs.Formula.{Tree}
 use Rattle.formula_sets.specs.declared.fault.PoseFault.{PoseFault}
 use Rattle.formula_sets.specs.Truth.{holds, unknown_label}
 use Rattle.formula_sets.specs.Sides.{side_of, unknown_player}
-use Rattle.formula_sets.specs.Posing.{Posing, IsSetUp, Poses, init, formula_labels, formula_players, is_lost, at_states, question_with, question_of, some_state, known_with, initial_said, made_of, pose_said}
+use Rattle.formula_sets.specs.Posing.{Posing, IsSetUp, Poses, init, formula_labels, formula_players, neither_holds, at_states, question_with, question_of, some_state, known_with, initial_said, made_of, pose_said}
 
 -- 1. What is said at each state.
 
@@ -25,12 +25,12 @@ at_states-at value n s d h = get_or-map-range_with_len value 0 n s s d h (omega 
 pub length-at_states : {X : Type 0} (value : ℕ → X) (n : ℕ) → length (at_states value n) ≡ n
 length-at_states value n = length-map-range_with_len value 0 n
 
-pub goals-apart : (l : Labelling) (f : Tree) (n s : ℕ) → slice_index_or (at_states (holds l f.right) n) s false ≡ true → slice_index_or (at_states (is_lost l f) n) s false ≡ false
+pub goals-apart : (l : Labelling) (f : Tree) (n s : ℕ) → slice_index_or (at_states (holds l f.right) n) s false ≡ true → slice_index_or (at_states (neither_holds l f) n) s false ≡ false
 goals-apart l f n s goal = elim (cases_lt s n) [
   | inl h ↦
       let holding : holds l f.right s ≡ true = sym (at_states-at (holds l f.right) n s false h) ∙ goal in
-      at_states-at (is_lost l f) n s false h ∙ ap (λ v. not v && not (holds l f.left s)) holding
-  | inr h ↦ get_or-eq_default (at_states (is_lost l f) n) false (omega (arith, length-at_states (is_lost l f) n))
+      at_states-at (neither_holds l f) n s false h ∙ ap (λ v. not v && not (holds l f.left s)) holding
+  | inr h ↦ get_or-eq_default (at_states (neither_holds l f) n) false (omega (arith, length-at_states (neither_holds l f) n))
 ]
 
 -- one state more
@@ -148,9 +148,9 @@ module _ (game : List (List Distribution)) (l : Labelling) (o : Ownership) (f : 
       let made = made-found l o f posing (initial_said l o f) p refl is in
       let P : Posing → Type 0 = λ x. Poses game l o f x in
       subst P made.1 (record {
-        set_up = set_up (at_states (holds l f.right) n) (at_states (is_lost l f) n) made.0 (length-at_states (holds l f.right) n) (length-at_states (is_lost l f) n) made.2;
+        set_up = set_up (at_states (holds l f.right) n) (at_states (neither_holds l f) n) made.0 (length-at_states (holds l f.right) n) (length-at_states (neither_holds l f) n) made.2;
         goals = λ s h. at_states-at (holds l f.right) n s false h;
-        deads = λ s h. at_states-at (is_lost l f) n s false h;
+        deads = λ s h. at_states-at (neither_holds l f) n s false h;
       })
 
   pub pose-again : (p : Posing) → Poses game l o f p → pose_said game l o f ≡ Ok p
@@ -158,7 +158,7 @@ module _ (game : List (List Distribution)) (l : Labelling) (o : Ownership) (f : 
   pose-again p h =
       let n = length game in
       let goals = fill_by_all (holds l f.right) p.question.goals n false h.set_up.goal_count h.goals in
-      let deads = fill_by_all (is_lost l f) p.question.deads n false h.set_up.dead_count h.deads in
-      let same = question-same p.question p.initial (at_states (holds l f.right) n) (at_states (is_lost l f) n) h.set_up goals deads in
+      let deads = fill_by_all (neither_holds l f) p.question.deads n false h.set_up.dead_count h.deads in
+      let same = question-same p.question p.initial (at_states (holds l f.right) n) (at_states (neither_holds l f) n) h.set_up goals deads in
       let whole : Query → Result Posing PoseFault = λ q. Ok (record { question = q; initial = p.initial }) in
       ap (made_of posing) (initial-again l o f p.initial (is_begun p.question p.initial h.set_up)) ∙ ap whole same

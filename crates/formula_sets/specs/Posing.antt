@@ -51,8 +51,8 @@ abbrev pub formula_players : Tree → List (List ℕ)
 formula_players f = members_of f.coalition ++ (players_in f.left ++ players_in f.right)
 
 -- neither side holds at the state
-abbrev pub is_lost : Labelling → Tree → ℕ → Bool
-is_lost l f s = not (holds l f.right s) && not (holds l f.left s)
+abbrev pub neither_holds : Labelling → Tree → ℕ → Bool
+neither_holds l f s = not (holds l f.right s) && not (holds l f.left s)
 
 -- where the right side holds, probability 1, in units
 abbrev pub opening_at : Labelling → Tree → ℕ → ℕ
@@ -75,7 +75,7 @@ pub record IsSetUp (game : List (List Distribution)) (l : Labelling) (o : Owners
 pub record Poses (game : List (List Distribution)) (l : Labelling) (o : Ownership) (f : Tree) (p : Posing) : Type 0 where
   pub set_up : IsSetUp game l o f p.question p.initial
   pub goals : (s : ℕ) → s < length game → is_goal p.question s ≡ holds l f.right s
-  pub deads : (s : ℕ) → s < length game → is_dead p.question s ≡ is_lost l f s
+  pub deads : (s : ℕ) → s < length game → is_dead p.question s ≡ neither_holds l f s
 
 -- with `X`: no marks, and an opening table
 pub record PosesNext (game : List (List Distribution)) (l : Labelling) (o : Ownership) (f : Tree) (p : NextPosing) : Type 0 where
@@ -96,7 +96,7 @@ abbrev pub question_with : List (List Distribution) → Ownership → Tree → L
 question_with game o f goals deads = record { game = game; sides = at_states (side_of f.coalition f.bound o) (length game); goals = goals; deads = deads }
 
 abbrev pub question_of : List (List Distribution) → Labelling → Ownership → Tree → Query
-question_of game l o f = question_with game o f (at_states (holds l f.right) (length game)) (at_states (is_lost l f) (length game))
+question_of game l o f = question_with game o f (at_states (holds l f.right) (length game)) (at_states (neither_holds l f) (length game))
 
 abbrev pub unmarked : ℕ → List Bool
 unmarked states = at_states (λ s. false) states

@@ -6,7 +6,7 @@ ghost use Rattle.rpatl_syntax.specs.Formula.{IsFlat, state_of, tree_of};
 ghost use Rattle.formula_sets.specs.Truth.{holds};
 ghost use Rattle.formula_sets.specs.Sides.{side_of};
 ghost use Rattle.game_outside.specs.Answers.{AnswersOrWants};
-ghost use Rattle.formula_sets.specs.Posing.{IsUntil, at_states, is_lost, question_of, initial_said, pose_said, IsOutOfMemory};
+ghost use Rattle.formula_sets.specs.Posing.{IsUntil, at_states, neither_holds, question_of, initial_said, pose_said, IsOutOfMemory};
 ghost use Rattle.formula_sets.specs.Seen.{posing_of};
 
 use crate::fault::PoseFault;
@@ -76,7 +76,7 @@ fn deads_of(
 ) -> Result<Vec<bool>, AllocError>
     requires states { labels.now.states ≡ states }
     requires goals { goals.now ≡ at_states (holds labels.now (state_of formula.now.right)) states }
-    ensures { IfOk result (λ v. v.items ≡ at_states (is_lost labels.now (tree_of formula.now)) states) }
+    ensures { IfOk result (λ v. v.items ≡ at_states (neither_holds labels.now (tree_of formula.now)) states) }
 {
     let mut deads = Vec::with_capacity(alloc, states as usize)?;
     for state in 0..states {

@@ -5,10 +5,10 @@ use Rattle.std.proofs.lemmas.List.{get_or_push, length_push}
 use Rattle.game_model.specs.Limits.{most_states, most_choices}
 use Rattle.game_model.specs.Game.{Distribution, IsDistribution, IsGame, no_distribution}
 use Rattle.game_model.specs.Span.{span}
-use Rattle.game_model.specs.Flat.{distribution_at, choices_at, game_at, under_way_at, last_of, IsAscending, AreFlatLists}
+use Rattle.game_model.specs.Flat.{distribution_at, choices_at, game_at, under_way_at, last_of, AreFlatLists}
 use Rattle.game_model.specs.Draft.{with_state}
 use Rattle.game_model.proofs.Span.{span-more, span-same}
-use Rattle.game_model.proofs.Same.{last-push, push-below, ascending-push}
+use Rattle.game_model.proofs.Same.{last-push, push-below}
 use Rattle.game_model.proofs.Push.{draft_at}
 use Rattle.game_model.proofs.Facts.{choice-inside, choice-is}
 
@@ -21,21 +21,6 @@ module _ (fc fe totals to low high fc' : List ℕ) (h : AreFlatLists fc fe total
 
   same-fc : (s : ℕ) → s < length fc → slice_index fc' s ≡ slice_index fc s
   same-fc s l = ap (λ xs. slice_index xs s) is ∙ push-below fc (length fe - 1) s l
-
-  pub ended-flat : AreFlatLists fc' fe totals to low high
-  ended-flat =
-      let within : last_of fc < length fe = h.laid_out.state_within in
-      record {
-        laid_out = record {
-          states = subst IsAscending (sym is) (ascending-push fc (length fe - 1) h.laid_out.states (omega arith));
-          choices = h.laid_out.choices;
-          enough = h.laid_out.enough;
-          state_within = omega (arith, last-fc, within);
-          to_within = h.laid_out.to_within;
-          low_within = h.laid_out.low_within;
-        };
-        distributions = h.distributions;
-      }
 
   choices-same : (s : ℕ) → s + 1 < length fc → choices_at fc' fe totals to low high s ≡ choices_at fc fe totals to low high s
   choices-same s l =

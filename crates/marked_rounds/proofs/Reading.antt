@@ -1,5 +1,5 @@
 -- States are looked at again, one after another.
-use Rattle.std.proofs.Common.{◌≡◌, ℕ, ◌+◌, ◌<◌, ◌≤◌, false, ◌∙◌, slice_index_or}
+use Rattle.std.proofs.Common.{◌≡◌, ℕ, ◌<◌, ◌≤◌, false, slice_index_or}
 use Rattle.marked_rounds.specs.declared.agenda.Agenda.{Agenda}
 use Rattle.marked_rounds.specs.Agenda.{read_of, IsStateRead}
 

@@ -12,14 +12,14 @@ use Rattle.rpatl_syntax.specs.declared.formula.Bound.{Bound}
 use Rattle.rpatl_syntax.specs.declared.formula.PathKind.{PathKind}
 use Rattle.rpatl_syntax.specs.declared.formula.PathKind.TheVariants.{Until, Always}
 use Rattle.rpatl_syntax.specs.Dual.{dual_bound, dual_of}
-use Rattle.rpatl_syntax.specs.Formula.{State, Tree, formulas_in}
+use Rattle.rpatl_syntax.specs.Formula.{State, Tree, formulas_in, inner_of}
 use Rattle.rpatl_syntax.specs.Limits.{longest}
 use Rattle.rpatl_syntax.specs.Spellable.{IsSpellable}
 use Rattle.bracket_engine.specs.Bracket.{rests_of}
 use Rattle.verdicts.specs.declared.report.How.{How}
 use Rattle.nested_truth.specs.declared.judging.Judged.{Judged}
 use Rattle.formula_sets.specs.Posing.{Model}
-use Rattle.nested_truth.specs.Truth.{Valuation, IsTruth, states, holds, everywhere, inside_of}
+use Rattle.nested_truth.specs.Truth.{Valuation, IsTruth, states, holds, everywhere}
 use Rattle.nested_truth.specs.Bands.{Band, Known, known, exactly, negated, judgement, undecided_at}
 use Rattle.nested_truth.specs.Runs.{AreFoundBy, AreRaced, pessimistic, optimistic, mirrored}
 use Rattle.nested_truth.specs.Nested.{IsNested}
@@ -108,7 +108,7 @@ module _ (m : Model) (game : IsGame m.game) (asked : ℕ) (f : Tree) (left right
       (alike-back (states m) (known m.labels f.right i.bands) (seen right.sets) i.alike) starts asked band how f.kind found
 
   pub judged-inside : (result : Judged) (here : ℕ) → starts ≡ range_with_len 0 (states m) → length result.sets.sure.items ≡ states m → AreAlike (states m) (judgement f.bound band) (seen result.sets)
-      → here ≡ undecided_at f.bound band (states m) → result.inner ≡ left.inner + right.inner + 1 → result.undecided ≡ here + (left.undecided + right.undecided) → IsJudged m asked (inside_of f) result
+      → here ≡ undecided_at f.bound band (states m) → result.inner ≡ left.inner + right.inner + 1 → result.undecided ≡ here + (left.undecided + right.undecided) → IsJudged m asked (inner_of f) result
   judged-inside result here all many alike here_is inner undecided = record {
     bands = (band, h.bands, i.bands);
     found = ((how, subst (λ (from : List ℕ). AreFoundBy f.kind m f (known m.labels f.left h.bands) (known m.labels f.right i.bands) from asked band how) all found-known), h.found, i.found);

@@ -14,10 +14,6 @@ use Rattle.verdicts.specs.Truth.{IsTrueOf}
 abbrev pub states : Model → ℕ
 states m = length m.game
 
--- the formula, as a formula inside a state formula
-abbrev pub inside_of : Tree → State
-inside_of f = Inner f.coalition f.bound f.kind f.left f.right
-
 -- where each formula is said to be true
 abbrev pub Valuation : Type 0
 Valuation = Tree → ℕ → Bool

@@ -2,10 +2,9 @@
 
 ghost use Rattle.std.specs.Prelude.{◌≤◌, IfOk, if◌then◌else◌};
 ghost use Rattle.predecessors.specs.Lists.{ArePredecessors};
-ghost use Rattle.rpatl_syntax.specs.Formula.{True, False, Label, formulas_in, state_of, tree_of};
+ghost use Rattle.rpatl_syntax.specs.Formula.{True, False, Label, formulas_in, inner_of, state_of, tree_of};
 ghost use Rattle.rpatl_syntax.specs.Limits.{longest};
 ghost use Rattle.rpatl_syntax.specs.Spellable.{HasParts};
-ghost use Rattle.nested_truth.specs.Truth.{inside_of};
 ghost use Rattle.nested_truth.specs.Seen.{IsJudged, model_of};
 
 use crate::judging::{Judged, judged_by};
@@ -66,9 +65,9 @@ fn judge_inside<R: Threads + Sync, G: Gate + Sync>(
     gate: &G,
 ) -> Result<Judged, OutOfMemory>
     requires lists { ArePredecessors setting.game.now setting.predecessors.now }
-    requires few { formulas_in (inside_of (tree_of formula.now)) ≤ longest }
-    requires parts { HasParts (inside_of (tree_of formula.now)) }
-    ensures { IfOk result (IsJudged (model_of setting.entry) setting.entry.rounds (inside_of (tree_of formula.now))) }
+    requires few { formulas_in (inner_of (tree_of formula.now)) ≤ longest }
+    requires parts { HasParts (inner_of (tree_of formula.now)) }
+    ensures { IfOk result (IsJudged (model_of setting.entry) setting.entry.rounds (inner_of (tree_of formula.now))) }
 {
     setting.game.known();
     let left = judge(rt, alloc, setting, &formula.left, gate)?;

@@ -13,15 +13,6 @@ use Rattle.rank_certificate.proofs.Looked.{Looks-many, Looks-kept, Looks-apart, 
 use Rattle.rank_certificate.proofs.Carried.{Carries-more, next-whole}
 
 module _ (q : Query) (value : ℕ → ℕ) (level hand : ℕ) where
-  pub Follows-none : (ranks choices : List (Option ℕ)) (order : List ℕ) → Follows q value level hand [] ranks choices order ranks choices order
-  Follows-none ranks choices order = record {
-    many = refl;
-    as_many = refl;
-    kept = λ s left. left;
-    grown = λ begin old h. h;
-    apart = λ begin old h s c none equal. absurd (omega (arith, none.1));
-  }
-
   pub Follows-then : (part : List Move) (m : Move) (ranks choices : List (Option ℕ)) (order : List ℕ) (ranks' choices' : List (Option ℕ)) (order' : List ℕ) (ranks'' choices'' : List (Option ℕ)) (order'' : List ℕ)
       → Follows q value level hand part ranks choices order ranks' choices' order' → Follows q value level hand (m ∷ []) ranks' choices' order' ranks'' choices'' order''
       → Follows q value level hand (part ++ m ∷ []) ranks choices order ranks'' choices'' order''

@@ -5,10 +5,10 @@ use Rattle.rpatl_syntax.specs.declared.fault.FormulaCause.TheVariants.{Unexpecte
 use Rattle.rpatl_syntax.specs.declared.levels.Level.{Level}
 use Rattle.rpatl_syntax.specs.declared.levels.Level.TheVariants.{Implication, Disjunction, Conjunction}
 use Rattle.rpatl_syntax.specs.Fault.{◌>>=◌}
-use Rattle.rpatl_syntax.specs.Formula.{State, True, False, Label, Not, And, Or, Implies, Path, Tree}
+use Rattle.rpatl_syntax.specs.Formula.{State, True, False, Label, Not, And, Or, Implies, Path, Tree, inner_of}
 use Rattle.rpatl_syntax.specs.Levels.{operand_of}
 use Rattle.rpatl_syntax.specs.Tokens.{Tokens, Then, Token, count_of}
-use Rattle.rpatl_syntax.specs.Grammar.{Reading, next, behind, is, is_quoted, unquoted, begins_formula, fails, plain, opens, coalition, inner_bound, tree_with, inner_of, inner, sides, bracketed, path, unary, follows, where_next, further, joined, both, either, implied, negated, closed, inside_of, nested}
+use Rattle.rpatl_syntax.specs.Grammar.{Reading, next, behind, is, is_quoted, unquoted, begins_formula, fails, plain, opens, coalition, inner_bound, tree_with, inner, sides, bracketed, path, unary, follows, where_next, further, joined, both, either, implied, negated, closed, inside_of, nested}
 use Rattle.rpatl_syntax.specs.Rules.{between, IsCoalition, IsState, IsEither, IsBoth, IsUnary, IsPath, plain_state, implies, plain_either, or, plain_both, and, negation, brackets, everywhere, nowhere, label, inside}
 use Rattle.rpatl_syntax.proofs.Spans.{Spans, Found, same_read, read, spans_append, spans_count, chosen, bind_ok, next_ok, behind_ok, follows_ok, same_bytes}
 use Rattle.rpatl_syntax.proofs.CoalitionsFound.{coalition_found}

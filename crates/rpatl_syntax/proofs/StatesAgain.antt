@@ -4,9 +4,9 @@ use Rattle.std.specs.Prelude.{codes}
 use Rattle.rpatl_syntax.specs.declared.formula.PathKind.{PathKind}
 use Rattle.rpatl_syntax.specs.declared.formula.PathKind.TheVariants.{Until, Within, Next, Always}
 use Rattle.rpatl_syntax.specs.Fault.{◌>>=◌}
-use Rattle.rpatl_syntax.specs.Formula.{State, True, False, Label, And, Or, Implies, Path, Tree}
+use Rattle.rpatl_syntax.specs.Formula.{State, True, False, Label, And, Or, Implies, Path, Tree, inner_of}
 use Rattle.rpatl_syntax.specs.Tokens.{Tokens, Then}
-use Rattle.rpatl_syntax.specs.Grammar.{behind, is_quoted, unquoted, inner_bound, tree_with, inner_of, inner, sides, path, unary, follows, both, either, implied, negated, closed, nested}
+use Rattle.rpatl_syntax.specs.Grammar.{behind, is_quoted, unquoted, inner_bound, tree_with, inner, sides, path, unary, follows, both, either, implied, negated, closed, nested}
 use Rattle.rpatl_syntax.specs.Rules.{formula_of, IsCoalition, IsBound, Compares, IsState, IsEither, IsBoth, IsUnary, IsPath, plain_state, implies, plain_either, or, plain_both, and, negation, brackets, everywhere, nowhere, label, inside, reach, reach_within, until, until_within, next as next_path, always}
 use Rattle.rpatl_syntax.proofs.Spans.{Spans, spans_split, spans_count}
 use Rattle.rpatl_syntax.proofs.Joining.{Stands, begun, went_on, ended}

@@ -50,6 +50,10 @@ state_of (Inner' p team bound kind left right) = Inner (option_map names_of team
 abbrev pub tree_of : Formula → Tree
 tree_of f = record { coalition = option_map names_of f.coalition; bound = f.bound; kind = f.kind; left = state_of f.left; right = state_of f.right }
 
+-- the formula, as a formula inside a state formula
+abbrev pub inner_of : Tree → State
+inner_of f = Inner f.coalition f.bound f.kind f.left f.right
+
 -- no formula stands inside
 abbrev pub is_flat : State → Bool
 is_flat True = true

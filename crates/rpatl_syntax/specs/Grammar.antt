@@ -12,7 +12,7 @@ use Rattle.rpatl_syntax.specs.declared.formula.Bound.TheVariants.{AtLeast, Above
 use Rattle.rpatl_syntax.specs.declared.formula.PathKind.{PathKind}
 use Rattle.rpatl_syntax.specs.declared.formula.PathKind.TheVariants.{Until, Within, Next, Always}
 use Rattle.rpatl_syntax.specs.Fault.{fault_at, ◌>>=◌}
-use Rattle.rpatl_syntax.specs.Formula.{State, True, False, Label, Not, And, Or, Implies, Inner, Path, Tree}
+use Rattle.rpatl_syntax.specs.Formula.{State, True, False, Label, Not, And, Or, Implies, Path, Tree, inner_of}
 use Rattle.rpatl_syntax.specs.Limits.{longest, most_nested, most_steps}
 use Rattle.text_lines.specs.Text.{is_digit, number_of}
 use Rattle.rpatl_syntax.specs.Tokens.{Tokens, Finish, Broken, Then, Token, tokens_of, count_of, begins_word}
@@ -198,9 +198,6 @@ sides inside ts = next ts >>= λ token. if is token (codes "[") then inside.path
 -- a formula of its parts
 abbrev pub tree_with : Option (List (List ℕ)) → Bound → Path → Tree
 tree_with team asks p = record { coalition = team; bound = asks; kind = p.kind; left = p.left; right = p.right }
-
-abbrev pub inner_of : Tree → State
-inner_of f = Inner f.coalition f.bound f.kind f.left f.right
 
 abbrev pub inner : Inside → Reading State
 inner inside ts = do

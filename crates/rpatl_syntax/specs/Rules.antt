@@ -7,11 +7,11 @@ use Rattle.rpatl_syntax.specs.declared.formula.Bound.{Bound}
 use Rattle.rpatl_syntax.specs.declared.formula.Bound.TheVariants.{AtLeast, Above, AtMost, Below, AskMax, AskMin}
 use Rattle.rpatl_syntax.specs.declared.formula.PathKind.{PathKind}
 use Rattle.rpatl_syntax.specs.declared.formula.PathKind.TheVariants.{Until, Within, Next, Always}
-use Rattle.rpatl_syntax.specs.Formula.{State, True, False, Label, Not, And, Or, Implies, Tree}
+use Rattle.rpatl_syntax.specs.Formula.{State, True, False, Label, Not, And, Or, Implies, Tree, inner_of}
 use Rattle.rpatl_syntax.specs.Limits.{longest, most_nested, most_steps}
 use Rattle.rpatl_syntax.specs.TokenRules.{AreCut}
 use Rattle.text_lines.specs.Text.{number_of}
-use Rattle.rpatl_syntax.specs.Grammar.{is_word, is_number, is_quoted, unquoted, inner_of}
+use Rattle.rpatl_syntax.specs.Grammar.{is_word, is_number, is_quoted, unquoted}
 
 -- a token between two others
 abbrev pub between : List (List ℕ) → List ℕ → List (List ℕ) → List (List ℕ)

@@ -54,8 +54,3 @@ module _ (Holds : List (List ℕ) → Type 0) where
   blank_refused count line lines positive some refused (blank ∷ blanks) are many =
       subst Holds (sym (kept blank (significant (blanks ++ line ∷ lines)) (some_counts blanks line lines some)))
       (refused blank (significant (blanks ++ line ∷ lines)) are.0)
-
-  pub line_counts : (line : List ℕ) (lines : List (List ℕ)) → fields_of line ≢ []
-      → Holds (line ∷ significant lines) → BehindBlanks 0 (line ∷ lines) Holds
-  line_counts line lines some holds [] are many = subst Holds (sym (counted line (significant lines) some)) holds
-  line_counts line lines some holds (blank ∷ blanks) are many = absurd (omega (arith, many))

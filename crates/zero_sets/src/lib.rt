@@ -1,7 +1,8 @@
 //! The states of value 0: those from which the minimiser keeps the maximiser from the goals for ever, with
 //! probability 1 (Prob0 of Baier and Katoen 2008, chapter 10, for two players).
 //!
-//! [`zero_set`] gives them. [`zero_set_over`] does so over lists of predecessors that the caller has.
+//! [`zero_set`] gives them. [`zero_set_over`] does so over lists of predecessors that the caller has. [`meets`] and
+//! [`first_unmet`] say which choices have a successor in a set of states.
 //!
 //! It is the complement of the positive attractor of the goals (attractors: Grädel, Thomas and Wilke,
 //! Automata, Logics, and Infinite Games, 2002, chapter 2), which grows from the goals backward. Each member
@@ -19,6 +20,8 @@ ghost use Rattle.predecessors.specs.Lists.{ArePredecessors};
 mod attractor;
 mod growth;
 mod membership;
+
+pub use membership::{first_unmet, meets};
 
 use attractor::attractor_of;
 use game_model::{Marks, Question};

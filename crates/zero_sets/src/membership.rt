@@ -43,7 +43,7 @@ pub fn some_meets(question: &Question, set: &[bool], state: u32) -> bool
 }
 
 /// Whether some successor of the choice is in the set.
-fn meets(question: &Question, set: &[bool], state: u32, choice: u32) -> bool
+pub fn meets(question: &Question, set: &[bool], state: u32, choice: u32) -> bool
     requires state { state < states question.now }
     requires choice { choice < length (choices_of question.now.game state) }
     requires many { length set.now ≡ states question.now }

@@ -1,4 +1,4 @@
-use Rattle.std.proofs.Common.{◌≡◌, ◌≤◌, length}
+use Rattle.std.proofs.Common.{◌≤◌}
 use Rattle.std.specs.Prelude.{All}
 use Rattle.game_model.specs.Limits.{unit}
 use Rattle.bracket_examples.proofs.brackets.agrees_with_plain_sweeps.Given as goal

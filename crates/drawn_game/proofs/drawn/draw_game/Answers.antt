@@ -6,7 +6,7 @@ use Rattle.game_model.specs.Limits.{most_choices}
 use Rattle.game_model.specs.Game.{Distribution}
 use Rattle.game_model.specs.Draft.{Draft, between}
 use Rattle.drawn_game.specs.Drawings.{times}
-use Rattle.drawn_game.specs.Rules.{State, SidedGame, drawn_state, drawn_game, game_of_states}
+use Rattle.drawn_game.specs.Rules.{DrawnState, SidedGame, drawn_state, drawn_game, game_of_states}
 use Rattle.drawn_game.proofs.Repeating.{last-times_more}
 use Rattle.drawn_game.proofs.Games.{AreChoices, AreOfGame, drawn-choices, ended, sides_ended, map-times_more}
 use Rattle.drawn_game.proofs.drawn.draw_game.Goals as goal
@@ -25,11 +25,11 @@ loop-state-preserved c =
       last = last ∙ ap (λ x. (drawn_state n x).last) at.last ∙ sym (last-times_more (drawn_state n) k c.args.seed);
       built = built
           ∙ ap (λ (b : Draft). between (b.done ++ (drawn_state n c.loop-state.draws).value.choices ∷ [])) at.built
-          ∙ ap (λ (game : List (List Distribution)). between game) (sym (map-times_more (λ (s : State). s.choices) n k c.args.seed c.loop-state.draws at.last));
+          ∙ ap (λ (game : List (List Distribution)). between game) (sym (map-times_more (λ (s : DrawnState). s.choices) n k c.args.seed c.loop-state.draws at.last));
       sides = pushed
           ∙ ap (λ (s : Side). c.loop-state.sides.items ++ s ∷ []) side
           ∙ ap (λ (ss : List Side). ss ++ (drawn_state n c.loop-state.draws).value.side ∷ []) at.sides
-          ∙ sym (map-times_more (λ (s : State). s.side) n k c.args.seed c.loop-state.draws at.last);
+          ∙ sym (map-times_more (λ (s : DrawnState). s.side) n k c.args.seed c.loop-state.draws at.last);
     }
 
 -- what the builder holds at the end

@@ -4,7 +4,7 @@ use Rattle.game_model.specs.declared.game.Side.{Side}
 use Rattle.rpatl_syntax.specs.Formula.{state_of, tree_of}
 use Rattle.formula_sets.specs.Truth.{holds}
 use Rattle.formula_sets.specs.Sides.{side_of}
-use Rattle.formula_sets.specs.Posing.{is_lost}
+use Rattle.formula_sets.specs.Posing.{neither_holds}
 use Rattle.formula_sets.proofs.Asking.{length-at_states, goals-apart}
 use Rattle.formula_sets.proofs.question.question_in.Goals as goal
 
@@ -21,7 +21,7 @@ build-requires-clause-goal c =
 pub build-requires-clause-dead : goal.build-requires-clause-dead
 build-requires-clause-dead c =
     ap (λ (xs : List Bool). length xs) c.in_ok-deads.ensures
-    ∙ length-at_states (is_lost c.args.labels.now (tree_of c.args.formula.now)) c.states-states.result ∙ c.states-states.ensures
+    ∙ length-at_states (neither_holds c.args.labels.now (tree_of c.args.formula.now)) c.states-states.result ∙ c.states-states.ensures
 
 pub build-requires-clause-apart : goal.build-requires-clause-apart
 build-requires-clause-apart c = λ s goal.
