@@ -11,7 +11,7 @@ use Rattle.certificate_audit.specs.Accepted.{IsAccepted}
 use Rattle.verdicts.specs.declared.report.How.TheVariants.{Rounds}
 use Rattle.command_words.specs.Words.{Check}
 use Rattle.run_answers.specs.declared.status.Status.{Status}
-use Rattle.run_answers.specs.Printed.{line_by, output_of}
+use Rattle.run_answers.specs.Printed.{line_for, output_of}
 use Rattle.asked_files.specs.declared.problem.Paths.TheVariants.{Unbounded}
 use Rattle.asked_files.specs.Problems.{Problem, OfUntil, OfWithin, OfNext, OfAlways, OfNested, PosesProblem, posing_in, takes, takes_formula}
 use Rattle.rpatl_syntax.specs.Dual.{answered}
@@ -32,7 +32,7 @@ pub report-accepted : AreReadBack → AreCertificates → (q : Query) (initial :
 report-accepted read_back certificates q initial f check text status planned parts r =
     let how = Rounds r.found.rounds in
     let entries = entries_of r.plan in
-    let lines = map (line_by f how r.plan.lower.items r.plan.upper.items) initial in
+    let lines = map (line_for f how r.plan.lower.items r.plan.upper.items) initial in
     let written = subst (λ (p : Bool). text ≡ output_text (output_of p f how initial r.plan)) planned r.written in
     let limits = subst (λ (p : Bool). IsInLimits (output_of p f how initial r.plan)) planned r.limits in
     let said = read-behind read_back lines (answered f) entries limits.lines parts limits.entries.0 limits.entries.1 in

@@ -15,31 +15,31 @@ use Rattle.verdicts.specs.Open.{LeavesOpen}
 use Rattle.verdicts.specs.declared.report.How.TheVariants.{Audited}
 use Rattle.verdicts.specs.declared.verdict.Verdict.TheVariants.{Undecided}
 use Rattle.run_answers.specs.declared.status.Status.{Status}
-use Rattle.run_answers.specs.Printed.{is_mirrored, verdict_by, line_by, status_of}
+use Rattle.run_answers.specs.Printed.{is_mirrored, verdict_for, line_for, status_of}
 use Rattle.question_reports.specs.Audits.{IsAudited}
 use Rattle.rpatl_syntax.specs.Dual.{answered}
 use Rattle.question_reports.proofs.Limits.{plan-units, printed-units}
 
 module _ (q : Query) (posed : IsQuery q) (f : Tree) (plan : Plan) (lists : HasStates plan (states q)) (passes : Passes q plan) where
-  line-in_range : (s : ℕ) → s < states q → IsLine (line_by f Audited plan.lower.items plan.upper.items s)
+  line-in_range : (s : ℕ) → s < states q → IsLine (line_for f Audited plan.lower.items plan.upper.items s)
   line-in_range s within = record {
     state = omega (arith, within, posed.game.few);
     count = tt;
     values = let units = plan-units q plan lists passes s within in printed-units (is_mirrored f.kind) _ _ units.0 units.1;
   }
 
-  pub lines-in_range : (initial : List ℕ) → All (λ s. s < states q) initial → All IsLine (map (line_by f Audited plan.lower.items plan.upper.items) initial)
-  lines-in_range initial inside = All-map IsLine (line_by f Audited plan.lower.items plan.upper.items) initial (All-weaker (λ s. s < states q) (λ s. IsLine (line_by f Audited plan.lower.items plan.upper.items s)) line-in_range initial inside)
+  pub lines-in_range : (initial : List ℕ) → All (λ s. s < states q) initial → All IsLine (map (line_for f Audited plan.lower.items plan.upper.items) initial)
+  lines-in_range initial inside = All-map IsLine (line_for f Audited plan.lower.items plan.upper.items) initial (All-weaker (λ s. s < states q) (λ s. IsLine (line_for f Audited plan.lower.items plan.upper.items s)) line-in_range initial inside)
 
 pub audited : {X E : Type 0} (text : X → List ℕ) (ends : X → Status) (q : Query) (initial : List ℕ) (f : Tree) (plan : Plan)
-    → IsSoundPlan q plan
+    → All (λ s. s < states q) initial → IsSoundPlan q plan
     → All (λ s. Reaches q (slice_index plan.lower.items s) unit s) initial
-    → All IsLine (map (line_by f Audited plan.lower.items plan.upper.items) initial)
-    → All (λ s. VerdictIsRight q (answered f).bound s (verdict_by f plan.lower.items plan.upper.items s)) initial
-    → All (λ s. verdict_by f plan.lower.items plan.upper.items s ≡ Undecided → LeavesOpen (answered f).bound (slice_index plan.lower.items s) (slice_index plan.upper.items s) 1 0) initial
+    → All IsLine (map (line_for f Audited plan.lower.items plan.upper.items) initial)
+    → All (λ s. VerdictIsRight q (answered f).bound s (verdict_for f plan.lower.items plan.upper.items s)) initial
+    → All (λ s. verdict_for f plan.lower.items plan.upper.items s ≡ Undecided → LeavesOpen (answered f).bound (slice_index plan.lower.items s) (slice_index plan.upper.items s) 1 0) initial
     → (result : Result X E)
-    → IfOk result (λ answer. text answer ≡ report (map (line_by f Audited plan.lower.items plan.upper.items) initial))
-    → IfOk result (λ answer. ends answer ≡ status_of (map (verdict_by f plan.lower.items plan.upper.items) initial))
+    → IfOk result (λ answer. text answer ≡ report (map (line_for f Audited plan.lower.items plan.upper.items) initial))
+    → IfOk result (λ answer. ends answer ≡ status_of (map (verdict_for f plan.lower.items plan.upper.items) initial))
     → IfOk result (λ answer. IsAudited q initial f plan (text answer) (ends answer))
-audited text ends q initial f plan sound reached lines told left_open (Ok answer) written ended = record { sound = sound; reached = reached; written = written; lines = lines; ends = ended; right = told; left_open = left_open }
-audited text ends q initial f plan sound reached lines told left_open (Err error) written ended = tt
+audited text ends q initial f plan inside sound reached lines told left_open (Ok answer) written ended = record { inside = inside; sound = sound; reached = reached; written = written; lines = lines; ends = ended; right = told; left_open = left_open }
+audited text ends q initial f plan inside sound reached lines told left_open (Err error) written ended = tt

@@ -21,7 +21,7 @@ use Rattle.verdicts.specs.Report.{IsLine}
 use Rattle.verdicts.specs.declared.report.How.TheVariants.{Rounds}
 use Rattle.bracket_engine.specs.Choices.{AreChoices}
 use Rattle.run_answers.specs.Outputs.{AreEntriesInLimits, IsInLimits}
-use Rattle.run_answers.specs.Printed.{is_mirrored, printed_lower, printed_upper, line_by, certificate_of, output_of}
+use Rattle.run_answers.specs.Printed.{is_mirrored, printed_lower, printed_upper, line_for, certificate_of, output_of}
 
 -- 1. Choices.
 
@@ -99,7 +99,7 @@ module _ (q : Query) (plan : Plan) (initial : List ℕ) (rounds : ℕ) (h : IsPr
     reply = reply-small q h.posed s within h.table _ (h.replies.each s within);
   }
 
-  line-in_range : (f : Tree) (s : ℕ) → s < states q → IsLine (line_by f (Rounds rounds) plan.lower.items plan.upper.items s)
+  line-in_range : (f : Tree) (s : ℕ) → s < states q → IsLine (line_for f (Rounds rounds) plan.lower.items plan.upper.items s)
   line-in_range f s within = record {
     state = omega (arith, within, h.posed.game.few);
     count = omega (arith, few);
@@ -118,7 +118,7 @@ module _ (q : Query) (plan : Plan) (initial : List ℕ) (rounds : ℕ) (h : IsPr
 
   pub printed-in_limits : (asked : Bool) (formula : Tree) → IsInLimits (output_of asked formula (Rounds rounds) initial plan)
   printed-in_limits asked formula = record {
-    lines = All-map IsLine (line_by formula (Rounds rounds) plan.lower.items plan.upper.items) initial
-        (All-weaker (λ s. s < states q) (λ s. IsLine (line_by formula (Rounds rounds) plan.lower.items plan.upper.items s)) (line-in_range formula) initial inside);
+    lines = All-map IsLine (line_for formula (Rounds rounds) plan.lower.items plan.upper.items) initial
+        (All-weaker (λ s. s < states q) (λ s. IsLine (line_for formula (Rounds rounds) plan.lower.items plan.upper.items s)) (line-in_range formula) initial inside);
     entries = entries-in_limits asked formula;
   }

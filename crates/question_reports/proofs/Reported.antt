@@ -29,7 +29,7 @@ use Rattle.run_answers.specs.declared.status.Status.{Status}
 use Rattle.rpatl_syntax.specs.declared.formula.PathKind.{PathKind}
 use Rattle.rpatl_syntax.specs.declared.formula.PathKind.TheVariants.{Until, Within, Next, Always}
 use Rattle.rpatl_syntax.specs.Dual.{IsAtMostOne, dual_bound, answered_by, answered}
-use Rattle.run_answers.specs.Printed.{is_mirrored, verdict_as, verdict_by, status_of, output_of}
+use Rattle.run_answers.specs.Printed.{is_mirrored, printed_verdict, verdict_for, status_of, output_of}
 use Rattle.bracket_engine.specs.Found.{IsFound}
 use Rattle.question_reports.specs.Reports.{IsShown, IsLeftOpen, IsBracketReport}
 use Rattle.run_answers.specs.Outputs.{output_text, IsInLimits}
@@ -52,10 +52,10 @@ all-told q bound verdict initial if_yes if_no inside =
 abbrev pub Mirrors : Type 0
 Mirrors = (bound : Bound) (lower upper : ℕ) → IsAtMostOne bound → lower ≤ unit → upper ≤ unit → verdict_of bound (unit - upper) (unit - lower) ≡ verdict_of (dual_bound bound) lower upper
 
-pub verdict-answered : Mirrors → (f : Tree) → IsAtMostOne f.bound → (lower upper : ℕ) → lower ≤ unit → upper ≤ unit → verdict_as (is_mirrored f.kind) f.bound lower upper ≡ verdict_of (answered f).bound lower upper
+pub verdict-answered : Mirrors → (f : Tree) → IsAtMostOne f.bound → (lower upper : ℕ) → lower ≤ unit → upper ≤ unit → printed_verdict (is_mirrored f.kind) f.bound lower upper ≡ verdict_of (answered f).bound lower upper
 verdict-answered mirrors f share lower upper low high = by f.kind
   where
-    by : (kind : PathKind) → verdict_as (is_mirrored kind) f.bound lower upper ≡ verdict_of (answered_by kind f).bound lower upper
+    by : (kind : PathKind) → printed_verdict (is_mirrored kind) f.bound lower upper ≡ verdict_of (answered_by kind f).bound lower upper
     by Until = refl
     by (Within steps) = refl
     by Next = refl
@@ -64,8 +64,8 @@ verdict-answered mirrors f share lower upper low high = by f.kind
 -- 2. What is undecided is left open.
 
 -- what the bounds of a plan say
-abbrev pub verdict_at : Bound → Plan → ℕ → Verdict
-verdict_at bound plan s = verdict_of bound (slice_index plan.lower.items s) (slice_index plan.upper.items s)
+abbrev pub plan_verdict : Bound → Plan → ℕ → Verdict
+plan_verdict bound plan s = verdict_of bound (slice_index plan.lower.items s) (slice_index plan.upper.items s)
 
 -- the laws of undecided thresholds
 abbrev pub OpensHere : Type 0
@@ -83,7 +83,7 @@ near-under u v p x near below = omega (arith, near, mul-le-mul_right p below)
 module _ (here : OpensHere) (wider : OpensWider) (q : Query) (zero : List Bool) (bound : Bound) (initial : List ℕ) (asked : ℕ) (found : Bracket) (plan : Plan)
     (above : IsBelow q (slice_index found.base.items) (slice_index plan.lower.items)) (below : IsBelow q (slice_index plan.upper.items) (slice_index found.upper.items)) where
   narrow-open : 1 ≤ denominator q.game ^ asked → IsNarrow q zero asked (slice_index found.base.items) (slice_index found.upper.items)
-      → (s : ℕ) → s < states q → verdict_at bound plan s ≡ Undecided → IsLeftOpen q zero bound asked plan s
+      → (s : ℕ) → s < states q → plan_verdict bound plan s ≡ Undecided → IsLeftOpen q zero bound asked plan s
   narrow-open some narrow s inside undecided =
       let base = slice_index found.base.items s in
       let lower = slice_index plan.lower.items s in
@@ -97,24 +97,25 @@ module _ (here : OpensHere) (wider : OpensWider) (q : Query) (zero : List Bool) 
       }
 
   pub all-left_open : 1 ≤ denominator q.game ^ asked → IsBracket q zero bound initial asked found.base.items found.upper.items found.rounds found.stable → All (λ s. s < states q) initial
-      → All (λ s. verdict_at bound plan s ≡ Undecided → IsLeftOpen q zero bound asked plan s) initial
+      → All (λ s. plan_verdict bound plan s ≡ Undecided → IsLeftOpen q zero bound asked plan s) initial
   all-left_open some bounds inside = elim bounds.narrow_asked [
-    | inl settled ↦ All-weaker (λ s. is_settling (verdict_at bound plan s) ≡ true) Q (λ s is undecided. let same : is_settling (verdict_at bound plan s) ≡ is_settling Undecided = ap is_settling undecided in absurd (cc (same, is))) initial (settled-over settled inside)
+    | inl settled ↦ All-weaker (λ s. is_settling (plan_verdict bound plan s) ≡ true) Q (λ s is undecided. let same : is_settling (plan_verdict bound plan s) ≡ is_settling Undecided = ap is_settling undecided in absurd (cc (same, is))) initial (settled-over settled inside)
     | inr narrow ↦ All-weaker (λ s. s < states q) Q (λ s within. narrow-open some narrow s within) initial inside
   ]
     where
-      settled-over : AreSettledAt bound initial (slice_index found.base.items) (slice_index found.upper.items) → All (λ s. s < states q) initial → All (λ s. is_settling (verdict_at bound plan s) ≡ true) initial
+      settled-over : AreSettledAt bound initial (slice_index found.base.items) (slice_index found.upper.items) → All (λ s. s < states q) initial → All (λ s. is_settling (plan_verdict bound plan s) ≡ true) initial
       settled-over settled within = λ i d there.
           let s = slice_index_or initial i d in
           settled-on bound (slice_index found.base.items s) (slice_index plan.lower.items s) (slice_index found.upper.items s) (slice_index plan.upper.items s) (above s (within i d there)) (below s (within i d there)) (settled i d there)
 
       Q : ℕ → Type 0
-      Q s = verdict_at bound plan s ≡ Undecided → IsLeftOpen q zero bound asked plan s
+      Q s = plan_verdict bound plan s ≡ Undecided → IsLeftOpen q zero bound asked plan s
 
 -- 3. The whole answer.
 
 -- what is known of a question before its answer is written
 pub record IsReady (q : Query) (initial : List ℕ) (f : Tree) (check : Check) (zero : List Bool) (found : Bracket) (plan : Plan) : Type 0 where
+  pub inside : All (λ s. s < states q) initial
   pub is_zero : IsZeroSet q zero
   pub is_found : IsFound q zero (answered f).bound initial check.rounds found
   pub shown : IsShown q check.traps found plan
@@ -123,16 +124,17 @@ pub record IsReady (q : Query) (initial : List ℕ) (f : Tree) (check : Check) (
   pub sound : IsSoundPlan q plan
   pub passes : Passes q plan
   pub limits : IsInLimits (output_of check.plan f (Rounds found.rounds) initial plan)
-  pub right : All (λ s. VerdictIsRight q (answered f).bound s (verdict_by f plan.lower.items plan.upper.items s)) initial
-  pub left_open : All (λ s. verdict_by f plan.lower.items plan.upper.items s ≡ Undecided → IsLeftOpen q zero (answered f).bound check.rounds plan s) initial
+  pub right : All (λ s. VerdictIsRight q (answered f).bound s (verdict_for f plan.lower.items plan.upper.items s)) initial
+  pub left_open : All (λ s. verdict_for f plan.lower.items plan.upper.items s ≡ Undecided → IsLeftOpen q zero (answered f).bound check.rounds plan s) initial
 
 pub reported : {X E : Type 0} (text : X → List ℕ) (ends : X → Status) (q : Query) (initial : List ℕ) (f : Tree) (check : Check) (zero : List Bool) (found : Bracket) (plan : Plan)
     → IsReady q initial f check zero found plan
     → (result : Result X E)
     → IfOk result (λ answer. text answer ≡ output_text (output_of check.plan f (Rounds found.rounds) initial plan))
-    → IfOk result (λ answer. ends answer ≡ status_of (map (verdict_by f plan.lower.items plan.upper.items) initial))
+    → IfOk result (λ answer. ends answer ≡ status_of (map (verdict_for f plan.lower.items plan.upper.items) initial))
     → IfOk result (λ answer. IsBracketReport q initial f check (text answer) (ends answer))
 reported text ends q initial f check zero found plan ready (Ok answer) written ended = record {
+  inside = ready.inside;
   zero = zero;
   is_zero = ready.is_zero;
   found = found;

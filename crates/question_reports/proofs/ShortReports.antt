@@ -18,7 +18,7 @@ use Rattle.formula_sets.specs.Posing.{Model}
 use Rattle.command_words.specs.Words.{Check}
 use Rattle.run_answers.specs.declared.status.Status.{Status}
 use Rattle.run_answers.specs.Outputs.{certificate_part, AreEntriesInLimits}
-use Rattle.run_answers.specs.Printed.{line_at, line_by, certificate_of}
+use Rattle.run_answers.specs.Printed.{line_over, line_for, certificate_of}
 use Rattle.rpatl_syntax.specs.Dual.{answered}
 use Rattle.question_reports.specs.Reports.{IsBracketReport}
 use Rattle.question_reports.specs.Sweeps.{IsSweepReport}
@@ -46,20 +46,20 @@ lines-short initial line few are = omega (arith, few, length-map initial line, r
 pub report-text-short : (q : Query) (initial : List ℕ) (f : Tree) (check : Check) (text : List ℕ) (status : Status) → length initial ≤ most_states → length (spelling (answered f)) ≤ most_spelled
     → IsBracketReport q initial f check text status → length text ≤ most_bytes
 report-text-short q initial f check text status few small r =
-    let lines = map (line_by f (Rounds r.found.rounds) r.plan.lower.items r.plan.upper.items) initial in
+    let lines = map (line_for f (Rounds r.found.rounds) r.plan.lower.items r.plan.upper.items) initial in
     let part = certificate_part (certificate_of check.plan f r.plan) in
     omega (
       arith,
       ap (λ (t : List ℕ). length t) r.written,
       length-append (report lines) part,
-      lines-short initial (line_by f (Rounds r.found.rounds) r.plan.lower.items r.plan.upper.items) few r.limits.lines,
+      lines-short initial (line_for f (Rounds r.found.rounds) r.plan.lower.items r.plan.upper.items) few r.limits.lines,
       part-short check.plan f r.plan small r.limits.entries,
     )
 
 pub sweep-text-short : (q : Query) (opening : ℕ → ℕ) (steps : ℕ) (numerators : ℕ → ℕ) (initial : List ℕ) (f : Tree) (text : List ℕ) (status : Status) → length initial ≤ most_states
     → IsSweepReport q opening steps numerators initial f text status → length text ≤ most_bytes
 sweep-text-short q opening steps numerators initial f text status few r =
-    omega (arith, ap (λ (t : List ℕ). length t) r.written, lines-short initial (line_at false f.bound (Steps steps) r.lower r.upper) few r.lines)
+    omega (arith, ap (λ (t : List ℕ). length t) r.written, lines-short initial (line_over false f.bound (Steps steps) r.lower r.upper) few r.lines)
 
 -- the line about the formulas inside
 inside-short : (inner undecided : ℕ) → inner < 2 ^ 32 → undecided < 2 ^ 32 → length (inside_text inner undecided) ≤ 38
@@ -69,11 +69,11 @@ inside-short inner undecided one other =
 
 pub nested-text-short : (m : Model) (initial : List ℕ) (f : Tree) (asked : ℕ) (text : List ℕ) (status : Status) → length initial ≤ most_states → IsNestedReport m initial f asked text status → length text ≤ most_bytes
 nested-text-short m initial f asked text status few r =
-    let lines = map (line_at false f.bound r.how r.band.lower r.band.upper) initial in
+    let lines = map (line_over false f.bound r.how r.band.lower r.band.upper) initial in
     omega (
       arith,
       ap (λ (t : List ℕ). length t) r.written,
       length-append (inside_text r.inner r.undecided) (report lines),
       inside-short r.inner r.undecided r.counts.0 r.counts.1,
-      lines-short initial (line_at false f.bound r.how r.band.lower r.band.upper) few r.lines,
+      lines-short initial (line_over false f.bound r.how r.band.lower r.band.upper) few r.lines,
     )

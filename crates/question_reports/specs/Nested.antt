@@ -1,5 +1,5 @@
 -- The answer to a formula with others inside.
-use Rattle.std.specs.Prelude.{◌≡◌, ◌<◌, ◌≤◌, ◌^◌, ◌++◌, ℕ, false, List, map, codes, All, Ok}
+use Rattle.std.specs.Prelude.{◌≡◌, ◌<◌, ◌≤◌, ◌^◌, ◌++◌, ℕ, false, List, length, map, codes, All, Ok}
 use Rattle.rpatl_syntax.specs.Formula.{Tree, formulas_inside, tree_of}
 use Rattle.rpatl_syntax.specs.Limits.{longest}
 use Rattle.rpatl_syntax.specs.Spellable.{IsSpellable}
@@ -11,7 +11,7 @@ use Rattle.verdicts.specs.Report.{IsLine, report}
 use Rattle.verdicts.specs.declared.report.How.{How}
 use Rattle.asked_files.specs.declared.model.Loaded.{Loaded}
 use Rattle.asked_files.specs.Posed.{HasSizes}
-use Rattle.run_answers.specs.Printed.{line_at, verdict_at, status_of}
+use Rattle.run_answers.specs.Printed.{line_over, verdict_over, status_of}
 use Rattle.run_answers.specs.declared.status.Status.{Status}
 
 -- the line `inner I undecided U`: so many formulas stand inside, and so many pairs of one and a state are left undecided
@@ -20,15 +20,16 @@ inside_text inner undecided = numbered (codes "inner ") inner ++ (numbered (code
 
 -- The text and the status are the answer: the line about the formulas inside, and a report of bounds that are sound for the exact question. True is true and False is false. The bounds of a `G` are mirrored already.
 pub record IsNestedReport (m : Model) (initial : List ℕ) (f : Tree) (asked : ℕ) (text : List ℕ) (status : Status) : Type 0 where
+  pub inside : All (λ s. s < length m.game) initial
   pub band : Band
   pub how : How
   pub inner : ℕ
   pub undecided : ℕ
   pub nested : IsNested m f initial asked band how inner undecided
-  pub written : text ≡ inside_text inner undecided ++ report (map (line_at false f.bound how band.lower band.upper) initial)
-  pub lines : All IsLine (map (line_at false f.bound how band.lower band.upper) initial)
+  pub written : text ≡ inside_text inner undecided ++ report (map (line_over false f.bound how band.lower band.upper) initial)
+  pub lines : All IsLine (map (line_over false f.bound how band.lower band.upper) initial)
   pub counts : (inner < 2 ^ 32) × (undecided < 2 ^ 32)
-  pub ends : status ≡ status_of (map (verdict_at false f.bound band.lower band.upper) initial)
+  pub ends : status ≡ status_of (map (verdict_over false f.bound band.lower band.upper) initial)
 
 -- what was loaded poses the problem of these initial states
 pub record IsAnswerable (loaded : Loaded) (initial : List ℕ) : Type 0 where

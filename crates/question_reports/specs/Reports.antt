@@ -1,5 +1,5 @@
 -- The answer to a question: a report of its initial states, and its certificate where that is asked for.
-use Rattle.std.specs.Prelude.{◌≡◌, ℕ, ◌-◌, ◌*◌, ◌^◌, ◌≤◌, Bool, true, false, List, length, map, slice_index, Option, All}
+use Rattle.std.specs.Prelude.{◌≡◌, ℕ, ◌-◌, ◌*◌, ◌^◌, ◌<◌, ◌≤◌, Bool, true, false, List, length, map, slice_index, Option, All}
 use Rattle.game_model.specs.Limits.{unit}
 use Rattle.game_model.specs.Query.{Query, states}
 use Rattle.game_model.specs.Values.{denominator, numerator}
@@ -22,7 +22,7 @@ use Rattle.trap_sets.specs.Lowered.{IsLoweredTable}
 use Rattle.rpatl_syntax.specs.Dual.{answered}
 use Rattle.command_words.specs.Words.{Check}
 use Rattle.run_answers.specs.Outputs.{output_text, IsInLimits}
-use Rattle.run_answers.specs.Printed.{verdict_by, output_of, status_of}
+use Rattle.run_answers.specs.Printed.{verdict_for, output_of, status_of}
 use Rattle.run_answers.specs.declared.status.Status.{Status}
 
 -- 1. What is printed of what was found.
@@ -61,6 +61,7 @@ pub record IsLeftOpen (q : Query) (zero : List Bool) (bound : Bound) (asked : �
 
 -- the text and the status are the answer to a question: they are those of a bracket after at most the asked rounds. Of `G` the question is that of its dual, and the bounds are mirrored when they are printed.
 pub record IsBracketReport (q : Query) (initial : List ℕ) (f : Tree) (check : Check) (text : List ℕ) (status : Status) : Type 0 where
+  pub inside : All (λ s. s < states q) initial
   pub zero : List Bool
   pub is_zero : IsZeroSet q zero
   pub found : Bracket
@@ -77,8 +78,8 @@ pub record IsBracketReport (q : Query) (initial : List ℕ) (f : Tree) (check : 
   pub passes : Passes q plan
   pub written : text ≡ output_text (output_of check.plan f (Rounds found.rounds) initial plan)
   pub limits : IsInLimits (output_of check.plan f (Rounds found.rounds) initial plan)
-  pub ends : status ≡ status_of (map (verdict_by f plan.lower.items plan.upper.items) initial)
+  pub ends : status ≡ status_of (map (verdict_for f plan.lower.items plan.upper.items) initial)
   -- True is true and False is false
-  pub right : All (λ s. VerdictIsRight q (answered f).bound s (verdict_by f plan.lower.items plan.upper.items s)) initial
+  pub right : All (λ s. VerdictIsRight q (answered f).bound s (verdict_for f plan.lower.items plan.upper.items s)) initial
   -- Undecided is said only where no bracket that the asked rounds promise settles the threshold; of `G` that of the dual
-  pub left_open : All (λ s. verdict_by f plan.lower.items plan.upper.items s ≡ Undecided → IsLeftOpen q zero (answered f).bound check.rounds plan s) initial
+  pub left_open : All (λ s. verdict_for f plan.lower.items plan.upper.items s ≡ Undecided → IsLeftOpen q zero (answered f).bound check.rounds plan s) initial

@@ -1,5 +1,5 @@
 -- The answer to a problem with a bound on the steps: exactly so many are made.
-use Rattle.std.specs.Prelude.{◌≡◌, ◌≤◌, ◌==◌, ◌*◌, ◌^◌, ℕ, Bool, false, List, length, map, slice_index, All}
+use Rattle.std.specs.Prelude.{◌≡◌, ◌<◌, ◌≤◌, ◌==◌, ◌*◌, ◌^◌, ℕ, Bool, false, List, length, map, slice_index, All}
 use Rattle.game_model.specs.Limits.{unit}
 use Rattle.game_model.specs.Query.{Query, states}
 use Rattle.game_model.specs.Values.{denominator}
@@ -9,21 +9,22 @@ use Rattle.bounded_rounds.specs.Steps.{IsSweep}
 use Rattle.verdicts.specs.Exact.{IsRight}
 use Rattle.verdicts.specs.Report.{IsLine, report}
 use Rattle.verdicts.specs.declared.report.How.TheVariants.{Steps}
-use Rattle.run_answers.specs.Printed.{line_at, verdict_at, status_of}
+use Rattle.run_answers.specs.Printed.{line_over, verdict_over, status_of}
 use Rattle.run_answers.specs.declared.status.Status.{Status}
 
 -- The text and the status are the answer on values of so many steps from an opening table: these numerators over that power of the denominator. The bounds are the rounded steps of the table.
 pub record IsSweepReport (q : Query) (opening : ℕ → ℕ) (steps : ℕ) (numerators : ℕ → ℕ) (initial : List ℕ) (f : Tree) (text : List ℕ) (status : Status) : Type 0 where
+  pub inside : All (λ s. s < states q) initial
   pub lower : List ℕ
   pub upper : List ℕ
   pub sweep : IsSweep q opening steps lower upper
   -- the value lies between the bounds, and at most as many units as steps from each
   pub bracketed : All (λ s. IsBracketed steps (denominator q.game ^ steps) (slice_index lower s) (slice_index upper s) (unit * numerators s)) initial
-  pub written : text ≡ report (map (line_at false f.bound (Steps steps) lower upper) initial)
-  pub lines : All IsLine (map (line_at false f.bound (Steps steps) lower upper) initial)
-  pub ends : status ≡ status_of (map (verdict_at false f.bound lower upper) initial)
+  pub written : text ≡ report (map (line_over false f.bound (Steps steps) lower upper) initial)
+  pub lines : All IsLine (map (line_over false f.bound (Steps steps) lower upper) initial)
+  pub ends : status ≡ status_of (map (verdict_over false f.bound lower upper) initial)
   -- True is true and False is false
-  pub right : All (λ s. IsRight f.bound (numerators s) (denominator q.game ^ steps) (verdict_at false f.bound lower upper s)) initial
+  pub right : All (λ s. IsRight f.bound (numerators s) (denominator q.game ^ steps) (verdict_over false f.bound lower upper s)) initial
 
 -- the states to which an opening table gives the unit
 abbrev pub opens : List ℕ → ℕ → Bool

@@ -7,7 +7,7 @@ ghost use Rattle.game_model.specs.Limits.{unit};
 ghost use Rattle.verdicts.specs.Report.{HasCount, report};
 ghost use Rattle.command_words.specs.Words.{AreInRange, check_of};
 ghost use Rattle.question_reports.specs.Nested.{IsAnswerable, IsNestedReport, inside_text};
-ghost use Rattle.run_answers.specs.Printed.{line_at, status_of, verdict_at};
+ghost use Rattle.run_answers.specs.Printed.{line_over, status_of, verdict_over};
 ghost use Rattle.run_answers.specs.Status.{IsAnswer};
 
 use asked_files::Loaded;
@@ -67,8 +67,8 @@ fn written(alloc: Global, loaded: &Loaded, found: &Nested) -> Result<Answer, Out
     requires as_many { length found.now.upper.items ≡ length found.now.lower.items }
     requires lower { All (λ v. v ≤ unit) found.now.lower.items }
     requires upper { All (λ v. v ≤ unit) found.now.upper.items }
-    ensures text { IfOk result (λ answer. answer.text.items ≡ inside_text found.now.inner found.now.undecided ++ report (map (line_at false loaded.now.formula.bound found.now.how found.now.lower.items found.now.upper.items) found.now.initial.items)) }
-    ensures status { IfOk result (λ answer. answer.status ≡ status_of (map (verdict_at false loaded.now.formula.bound found.now.lower.items found.now.upper.items) found.now.initial.items)) }
+    ensures text { IfOk result (λ answer. answer.text.items ≡ inside_text found.now.inner found.now.undecided ++ report (map (line_over false loaded.now.formula.bound found.now.how found.now.lower.items found.now.upper.items) found.now.initial.items)) }
+    ensures status { IfOk result (λ answer. answer.status ≡ status_of (map (verdict_over false loaded.now.formula.bound found.now.lower.items found.now.upper.items) found.now.initial.items)) }
     ensures answer { IfOk result (λ answer. IsAnswer answer.status) }
 {
     let line = inside_line(alloc, found.inner, found.undecided)?;

@@ -9,7 +9,7 @@ ghost use Rattle.rpatl_syntax.specs.Dual.{IsAtMostOne, answered as answered_of};
 ghost use Rattle.rpatl_syntax.specs.Formula.{tree_of};
 ghost use Rattle.plan_text.specs.Entries.{HasStates, greatest_rank};
 ghost use Rattle.command_words.specs.Words.{AreInRange, check_of};
-ghost use Rattle.run_answers.specs.Printed.{certificate_of, output_of, status_of, verdict_by};
+ghost use Rattle.run_answers.specs.Printed.{certificate_of, output_of, status_of, verdict_for};
 ghost use Rattle.question_reports.specs.Reports.{IsBracketReport, IsShown, IsUpperHeld, IsUpperShown};
 ghost use Rattle.run_answers.specs.Outputs.{certificate_part, output_text};
 ghost use Rattle.run_answers.specs.Status.{IsAnswer};
@@ -156,7 +156,7 @@ fn make_answer(
     ensures ranks { All (λ r. r ≤ greatest_rank) plan.now.ranks.items }
     ensures text { IfOk result (λ answer. answer.text.items ≡ output_text (output_of asked (tree_of formulas.entry.spelled.now) how initial.now plan.now)) }
     ensures answer { IfOk result (λ answer. IsAnswer answer.status) }
-    ensures status { IfOk result (λ answer. answer.status ≡ status_of (map (verdict_by (tree_of formulas.entry.spelled.now) plan.now.lower.items plan.now.upper.items) initial.now)) }
+    ensures status { IfOk result (λ answer. answer.status ≡ status_of (map (verdict_for (tree_of formulas.entry.spelled.now) plan.now.lower.items plan.now.upper.items) initial.now)) }
 {
     known_ranks(&plan.ranks);
     let mut answer = report_of(

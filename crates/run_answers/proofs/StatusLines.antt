@@ -20,6 +20,6 @@ status-lines lines b u is_b is_u =
     ap (λ x. if x then SomeFalse else (if u then SomeUndecided else Fine)) of_b ∙ ap (λ x. if list_any is_no (map (λ line. line.verdict) lines) then SomeFalse else (if x then SomeUndecided else Fine)) of_u
 
 -- the verdicts of lines
-pub verdicts-lines : (line_at : ℕ → ReportLine) (initial : List ℕ) (lines : List ReportLine) → lines ≡ map line_at initial → status_of (map (λ line. line.verdict) lines) ≡ status_of (map (λ s. (line_at s).verdict) initial)
-verdicts-lines line_at initial lines are =
-    ap (λ (ls : List ReportLine). status_of (map (λ line. line.verdict) ls)) are ∙ ap status_of (map-map (λ (line : ReportLine). line.verdict) line_at initial)
+pub verdicts-lines : (line_over : ℕ → ReportLine) (initial : List ℕ) (lines : List ReportLine) → lines ≡ map line_over initial → status_of (map (λ line. line.verdict) lines) ≡ status_of (map (λ s. (line_over s).verdict) initial)
+verdicts-lines line_over initial lines are =
+    ap (λ (ls : List ReportLine). status_of (map (λ line. line.verdict) ls)) are ∙ ap status_of (map-map (λ (line : ReportLine). line.verdict) line_over initial)

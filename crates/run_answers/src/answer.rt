@@ -4,7 +4,7 @@ ghost use Rattle.std.specs.Prelude.{◌≡◌, ◌≤◌, ◌<◌, All, IfOk, le
 ghost use Rattle.std.specs.List.{list_any};
 ghost use Rattle.game_model.specs.Limits.{unit};
 ghost use Rattle.verdicts.specs.Report.{HasValues, report};
-ghost use Rattle.run_answers.specs.Printed.{is_mirrored, line_as, line_at, status_of, verdict_at};
+ghost use Rattle.run_answers.specs.Printed.{is_mirrored, printed_line, line_over, status_of, verdict_over};
 ghost use Rattle.verdicts.specs.Verdict.{is_no, is_undecided};
 ghost use Rattle.run_answers.specs.Status.{IsAnswer};
 
@@ -39,8 +39,8 @@ pub fn report_of(
     requires as_many { length upper.now ≡ length lower.now }
     requires lower { All (λ v. v ≤ unit) lower.now }
     requires upper { All (λ v. v ≤ unit) upper.now }
-    ensures text { IfOk result (λ answer. answer.text.items ≡ report (map (line_at mirrored bound.now how lower.now upper.now) states.now)) }
-    ensures status { IfOk result (λ answer. answer.status ≡ status_of (map (verdict_at mirrored bound.now lower.now upper.now) states.now)) }
+    ensures text { IfOk result (λ answer. answer.text.items ≡ report (map (line_over mirrored bound.now how lower.now upper.now) states.now)) }
+    ensures status { IfOk result (λ answer. answer.status ≡ status_of (map (verdict_over mirrored bound.now lower.now upper.now) states.now)) }
     ensures answer { IfOk result (λ answer. IsAnswer answer.status) }
 {
     let lines = lines_of(alloc, mirrored, bound, how, lower, upper, states)?;
@@ -75,19 +75,19 @@ fn lines_of(
     requires as_many { length upper.now ≡ length lower.now }
     requires lower { All (λ v. v ≤ unit) lower.now }
     requires upper { All (λ v. v ≤ unit) upper.now }
-    ensures lines { IfOk result (λ lines. lines.items ≡ map (line_at mirrored bound.now how lower.now upper.now) states.now) }
+    ensures lines { IfOk result (λ lines. lines.items ≡ map (line_over mirrored bound.now how lower.now upper.now) states.now) }
     ensures values { IfOk result (λ lines. All HasValues lines.items) }
 {
     let mut lines = Vec::with_capacity(alloc, states.len())?;
     for state in states {
         let place = *state as usize;
-        lines.push(line_as(mirrored, bound, how, *state, lower[place], upper[place]))?;
+        lines.push(printed_line(mirrored, bound, how, *state, lower[place], upper[place]))?;
     }
     Ok(lines)
 }
 
 // The line of a state with these bounds.
-fn line_as(
+fn printed_line(
     mirrored: bool,
     bound: &Bound,
     how: How,
@@ -97,7 +97,7 @@ fn line_as(
 ) -> ReportLine
     requires lower { lower ≤ unit }
     requires upper { upper ≤ unit }
-    ensures line { result ≡ line_as mirrored bound.now how state lower upper }
+    ensures line { result ≡ printed_line mirrored bound.now how state lower upper }
     ensures values { HasValues result }
 {
     let (lower, upper) = if mirrored {

@@ -2,7 +2,7 @@
 use Rattle.std.proofs.Common.{◌≡◌, ◌<◌, ◌≤◌, ◌∙◌, All, inl, inr, ℕ, Bool, true, List, Option, Some, None, Result, Ok, Err, ap, subst, arith}
 use Rattle.std.specs.Prelude.{IfOk, IsErrOf}
 use Rattle.text_lines.specs.Limits.{most_bytes}
-use Rattle.game_outside.specs.Outside.{Holding}
+use Rattle.game_outside.specs.Outside.{Holding, KeepsShelf}
 use Rattle.game_model.specs.Query.{states}
 use Rattle.command_words.specs.Words.{Asked, Check, Audit, Command, OfCheck, OfAudit, OfSure, AreCommand}
 use Rattle.run_refusals.specs.declared.refusal.Refusal.{Refusal}
@@ -109,6 +109,7 @@ module _ {S : Type 0} {held : S → Option Holding} {steady : S → Bool} {fault
     steadily = λ is calm. asks.lacks (held old) (steadily (same_end end ReadFault is) calm);
     takes = λ reads. same_takes end (took new) leaves.takes;
     untouched = λ none. absurd (none asks.reads);
+    kept = leaves.kept;
   }
 
   -- behind what was loaded nothing is asked of the shelf
@@ -125,6 +126,7 @@ module _ {S : Type 0} {held : S → Option Holding} {steady : S → Bool} {fault
         steadily = λ is. absurd (read is);
         takes = λ reads. record { most = omega (arith, small); too_long = λ long. absurd (short long); only_too_long = λ above. absurd (omega (arith, small, above)) };
         untouched = λ none. absurd (none asks.reads);
+        kept = leaves.kept;
       }
 
   -- where the problem was not posed
@@ -146,12 +148,15 @@ module _ {S : Type 0} {held : S → Option Holding} {steady : S → Bool} {fault
 -- 4. The certificate behind the question.
 
 module _ {S X : Type 0} {held : S → Option Holding} {steady : S → Bool} {faults took : S → ℕ} {old middle new : S} {x : X} (leaves : LoadingLeaves held steady faults took old middle (Ok x)) where
+  kept_behind : {now : S} → KeepsShelf (held middle) (held now) (steady middle) (steady now) (faults middle) (faults now) → KeepsShelf (held old) (held now) (steady old) (steady now) (faults old) (faults now)
+  kept_behind rest = record { held = rest.held ∙ leaves.kept.held; steady = rest.steady ∙ leaves.kept.steady; later = omega (arith, leaves.kept.later, rest.later) }
+
   -- more is loaded
   pub more_loaded : {Y : Type 0} {y : Y} → LoadingLeaves held steady faults took middle new (Ok y) → LoadingLeaves held steady faults took old new (Ok y)
   more_loaded rest = record {
     read_fault = λ fails. absurd (cc (fails));
     takes = rest.takes;
-    kept = record { held = rest.kept.held ∙ leaves.kept.held; steady = rest.kept.steady ∙ leaves.kept.steady; later = omega (arith, leaves.kept.later, rest.kept.later) };
+    kept = kept_behind rest.kept;
   }
 
   -- where it was not loaded
@@ -175,4 +180,5 @@ module _ {S X : Type 0} {held : S → Option Holding} {steady : S → Bool} {fau
         (subst (λ (h : Option Holding). IfKnown h (λ held. held audit.certificate ≡ None)) leaves.kept.held (steadily (same_end end ReadFault is) (leaves.kept.steady ∙ calm)));
     takes = λ reads. same_takes end (took new) rest.takes;
     untouched = λ none. absurd (none tt);
+    kept = kept_behind rest.kept;
   }

@@ -69,6 +69,7 @@ module _ {S : Type 0} {held : S → Option Holding} {steady : S → Bool} {fault
   pub asks_shelf : (made : Result Answer End) (status : Status) → IsAnswered held steady faults took command old new made → (status ≡ ReadFault → made ≡ Err end.ReadFault) → AsksShelf held steady faults took words old new status
   asks_shelf made status is unread = record {
     untouched = λ none. is.untouched (none command denoted);
+    kept = is.kept;
     taken = elim (reads_or_not command) [
       | inl reads ↦ inr ((is.takes reads).most)
       | inr none ↦ inl (ap took (is.untouched none))

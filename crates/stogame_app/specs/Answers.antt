@@ -1,6 +1,6 @@
 -- What is made for a command: an answer, or why there is none.
 use Rattle.std.specs.Prelude.{◌≡◌, ℕ, List, Bool, true, Option, Result, Err, IfOk, IsErrOf}
-use Rattle.game_outside.specs.Outside.{Holding, Rose}
+use Rattle.game_outside.specs.Outside.{Holding, Rose, KeepsShelf}
 use Rattle.command_words.specs.Words.{Command, AreCommand}
 use Rattle.run_refusals.specs.declared.refusal.Refusal.{Refusal}
 use Rattle.asked_files.specs.declared.load.End.{End}
@@ -26,3 +26,5 @@ pub record IsAnswered {S : Type 0} (held : S → Option Holding) (steady : S →
   -- how much is taken of the last text
   pub takes : ReadsFiles command → Takes result (took new)
   pub untouched : ¬ ReadsFiles command → new ≡ old
+  -- what is held, and whether it is steady, stay, and the count of faults does not fall
+  pub kept : KeepsShelf (held old) (held new) (steady old) (steady new) (faults old) (faults new)

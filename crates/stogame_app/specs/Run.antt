@@ -2,7 +2,7 @@
 use Rattle.std.specs.Prelude.{◌≡◌, ◌<◌, ◌≤◌, ◌+◌, ◌⊎◌, ℕ, Bool, true, List, Option, Result, Ok, Err}
 use Rattle.text_lines.specs.Limits.{most_bytes}
 use Rattle.game_outside.specs.Limits.{piece_size}
-use Rattle.game_outside.specs.Outside.{Holding, Rose, GrowsBy, GrowsByPrefix}
+use Rattle.game_outside.specs.Outside.{Holding, Rose, KeepsShelf, GrowsBy, GrowsByPrefix}
 use Rattle.command_words.specs.Words.{Command, AreCommand, AreNoCommand}
 use Rattle.run_refusals.specs.declared.refusal.Text.{Text}
 use Rattle.run_refusals.specs.declared.refusal.Refusal.{Refusal}
@@ -105,6 +105,8 @@ pub record IsMissingOfWords (words : List (List ℕ)) (holding : Option Holding)
 pub record AsksShelf {S : Type 0} (held : S → Option Holding) (steady : S → Bool) (faults took : S → ℕ) (words : List (List ℕ)) (old new : S) (status : Status) : Type 0 where
   -- where no file is needed, it is not asked
   pub untouched : NeedNoFile words → new ≡ old
+  -- what is held, and whether it is steady, stay, and the count of faults does not fall
+  pub kept : KeepsShelf (held old) (held new) (steady old) (steady new) (faults old) (faults new)
   pub taken : (took new ≡ took old) ⊎ (took new ≤ most_bytes + piece_size)
   -- a fault of reading is answered only where the count rose, and over a steady shelf only where a text is not held
   pub read_fault : status ≡ ReadFault → Rose (faults old) (faults new)
