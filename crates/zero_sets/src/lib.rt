@@ -21,11 +21,10 @@ mod attractor;
 mod growth;
 mod membership;
 
-pub use membership::{first_unmet, meets};
-
 use attractor::attractor_of;
 use game_model::{Marks, Question};
 use game_outside::OutOfMemory;
+pub use membership::{first_unmet, meets};
 use predecessors::Predecessors;
 use std::alloc::Global;
 
