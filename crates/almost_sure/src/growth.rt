@@ -9,7 +9,8 @@ ghost use Rattle.almost_sure.specs.Drawing.{AreLeaving, IsInner};
 ghost use Rattle.almost_sure.specs.Growing.{HasDeads, IsGrowth};
 
 use crate::leaving::leaving_choices;
-use crate::membership::{first_unserved, number_of};
+use crate::membership::first_unserved;
+use choice_flags::ChoiceFlags;
 use game_model::{Question, Side};
 use game_outside::OutOfMemory;
 use predecessors::{Move, Predecessors};
@@ -52,7 +53,7 @@ fn go_back(
     question: &Question,
     predecessors: &Predecessors,
     gone: &[bool],
-    leaving: &[bool],
+    leaving: &ChoiceFlags,
     place: usize,
     growth: &mut Growth,
 ) -> Result<(), OutOfMemory>
@@ -108,7 +109,7 @@ impl Growth {
         &mut self,
         question: &Question,
         gone: &[bool],
-        leaving: &[bool],
+        leaving: &ChoiceFlags,
         step: Move,
     ) -> Result<(), OutOfMemory>
         requires members { length self.old.members.items ≡ states question.now }
@@ -123,8 +124,10 @@ impl Growth {
     {
         question.known();
         let state = step.state as usize;
-        let place = number_of(question.game(), step.state, step.choice);
-        if self.members[state] || gone[state] || leaving[place] {
+        if self.members[state]
+            || gone[state]
+            || leaving.has(question.game(), step.state, step.choice)
+        {
             return Ok(());
         }
         match question.side(step.state) {

@@ -12,6 +12,5 @@ pub mod Trimming
 pub mod Pairs
 pub mod Settling
 pub mod Opening
-pub mod Flagging
 pub mod Numbering
 pub mod Trapping

@@ -2,7 +2,6 @@ pub mod Ends
 pub mod Exits
 pub mod Lowered
 pub mod Parts
-pub mod Flags
 pub mod OfInner
 pub mod Searching
 pub mod Trimming

@@ -1,13 +1,13 @@
 //! The inner choices of a round, found once.
 
-ghost use Rattle.std.specs.Prelude.{◌≡◌, ◌+◌, ◌<◌, length, OnOk};
-ghost use Rattle.game_model.specs.Game.{choices_of, choices_below};
+ghost use Rattle.std.specs.Prelude.{◌≡◌, ◌<◌, length};
+ghost use Rattle.game_model.specs.Game.{choices_of};
 ghost use Rattle.game_model.specs.Query.{states};
-ghost use Rattle.trap_sets.specs.Flags.{number, AreFlags, AreFlagsBefore};
+ghost use Rattle.choice_flags.specs.Flags.{AreFlags};
 ghost use Rattle.trap_sets.specs.Parts.{IsInner};
 
 use crate::cut::Cut;
-use game_model::Game;
+use choice_flags::ChoiceFlags;
 use game_outside::OutOfMemory;
 use std::alloc::Global;
 
@@ -16,9 +16,9 @@ use std::alloc::Global;
 pub struct Inner<'a> {
     pub cut: Cut<'a>,
     pub part: &'a [u32],
-    flags: Vec<bool>,
+    flags: ChoiceFlags,
     ghost parted: { length part.now ≡ states cut.question.now },
-    ghost flagged: { AreFlags cut.question.now.game (IsInner cut.question.now cut.replies.now part.now) flags.items },
+    ghost flagged: { AreFlags cut.question.now.game (IsInner cut.question.now cut.replies.now part.now) flags },
 }
 
 impl<'a> Inner<'a> {
@@ -31,12 +31,9 @@ impl<'a> Inner<'a> {
         ensures cut { IfOk result (λ inner. inner.cut ≡ cut.now) }
         ensures part { IfOk result (λ inner. inner.part.now ≡ part.now) }
     {
-        let game = cut.question.game();
-        let choices = game.choices_below(game.states());
-        let mut flags = Vec::with_capacity(alloc, choices as usize)?;
-        for state in 0..game.states() {
-            push_state(cut, part, state, &mut flags)?;
-        }
+        let flags = ChoiceFlags::of_game(alloc, cut.question.game(), |state, choice| {
+            cut.is_inner(part, state, choice)
+        })?;
         Ok(Inner {
             cut: *cut,
             part,
@@ -50,34 +47,6 @@ impl<'a> Inner<'a> {
         requires choice { choice < length (choices_of self.now.cut.question.now.game state) }
         ensures { IsTrue result ↔ IsInnerOf self.now state choice }
     {
-        self.flags[number_of(self.cut.question.game(), state, choice)]
+        self.flags.has(self.cut.question.game(), state, choice)
     }
-}
-
-/// The flags of the choices of a state.
-fn push_state(
-    cut: &Cut<'_>,
-    part: &[u32],
-    state: u32,
-    flags: &mut Vec<bool>,
-) -> Result<(), OutOfMemory>
-    requires state { state < states cut.now.question.now }
-    requires part { length part.now ≡ states cut.now.question.now }
-    requires before { AreFlagsBefore cut.now.question.now.game (IsInner cut.now.question.now cut.now.replies.now part.now) state 0 flags.old.items }
-    ensures { OnOk result (AreFlagsBefore cut.now.question.now.game (IsInner cut.now.question.now cut.now.replies.now part.now) (state + 1) 0 flags.new.items) }
-{
-    for choice in 0..cut.question.game().choices_of(state) {
-        flags.push(cut.is_inner(part, state, choice))?;
-    }
-    Ok(())
-}
-
-/// The number of a choice among all choices of the game.
-fn number_of(game: &Game, state: u32, choice: u32) -> usize
-    requires state { state < length game.now }
-    requires choice { choice < length (choices_of game.now state) }
-    ensures value { result ≡ number game.now state choice }
-    ensures within { result < choices_below game.now (length game.now) }
-{
-    game.choices_below(state) as usize + choice as usize
 }
