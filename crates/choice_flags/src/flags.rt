@@ -53,7 +53,7 @@ impl ChoiceFlags {
     }
 }
 
-/// The flags of the choices of a state.
+// The flags of the choices of a state.
 fn push_state<F: Fn(u32, u32) -> bool>(
     game: &Game,
     holds: &F,
@@ -71,8 +71,8 @@ fn push_state<F: Fn(u32, u32) -> bool>(
     Ok(())
 }
 
-/// The number of a choice among all choices of the game.
-pub fn number_of(game: &Game, state: u32, choice: u32) -> usize
+// The number of a choice among all choices of the game.
+fn number_of(game: &Game, state: u32, choice: u32) -> usize
     requires state { state < length game.now }
     requires choice { choice < length (choices_of game.now state) }
     ensures value { result ≡ number game.now state choice }
