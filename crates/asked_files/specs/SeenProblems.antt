@@ -34,13 +34,13 @@ IsOfKind kind (Next posed) = kind ≡ kind_of.Next
 IsOfKind kind (Always posed dual) = kind ≡ kind_of.Always
 IsOfKind kind (Nested loaded initial) = Unit {0}
 
--- the goals of a question are reached, without a bound on the steps
-abbrev pub IsReached : Posed → Type 0
-IsReached (Until posed) = Unit {0}
-IsReached (Within posed steps) = ⊥
-IsReached (Next posed) = ⊥
-IsReached (Always posed dual) = Unit {0}
-IsReached (Nested loaded initial) = ⊥
+-- goals are to be reached without a bound on the steps: of `G` those of its dual
+abbrev pub IsUnbounded : Posed → Type 0
+IsUnbounded (Until posed) = Unit {0}
+IsUnbounded (Within posed steps) = ⊥
+IsUnbounded (Next posed) = ⊥
+IsUnbounded (Always posed dual) = Unit {0}
+IsUnbounded (Nested loaded initial) = ⊥
 
 -- a formula stands inside
 abbrev pub IsNested : Posed → Type 0

@@ -13,7 +13,7 @@ ghost use Rattle.asked_files.specs.Said.{Refuses, read_said};
 ghost use Rattle.asked_files.specs.Loading.{LoadingLeaves, Loads, IsTooLong, ReadsNothing, RefusesCaused};
 ghost use Rattle.asked_files.specs.Posed.{HasSizes, any_posed, formula_read, nested_posed, posed, posed_by, reading_of};
 ghost use Rattle.asked_files.specs.Problems.{initial_of, states_of};
-ghost use Rattle.asked_files.specs.SeenProblems.{HasDual, IsNested, IsOfKind, IsOfLoaded, IsReached, problem_of};
+ghost use Rattle.asked_files.specs.SeenProblems.{HasDual, IsNested, IsOfKind, IsOfLoaded, IsUnbounded, problem_of};
 ghost use Rattle.asked_files.specs.Questions.{LacksText, Reads, ReadsAs};
 
 use crate::load::{End, load_game, load_labels, load_owners};
@@ -93,7 +93,7 @@ pub fn pose_loaded(alloc: Global, loaded: &Loaded, paths: Paths) -> Result<Probl
     ensures dual { IfOk result (HasDual (tree_of loaded.now.formula)) }
     ensures same { IfOk result (IsOfLoaded loaded.now) }
     ensures inside { IfOk result (λ it. All (λ s. s < states_of (problem_of it)) (initial_of (problem_of it))) }
-    ensures reached { IfOk result (λ it. paths ≢ Paths.Any → IsReached it) }
+    ensures reached { IfOk result (λ it. paths ≢ Paths.Any → IsUnbounded it) }
     ensures nothing { ReadsNothing result }
 {
     let flat = is_flat(&loaded.formula);

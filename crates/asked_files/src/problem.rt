@@ -25,11 +25,11 @@ impl<'g> Problem<'g> {
     ghost use Rattle.std.specs.Prelude.{Some};
     ghost use Rattle.formula_sets.specs.Seen.{posing_of};
     ghost use Rattle.asked_files.specs.Problems.{posing_in};
-    ghost use Rattle.asked_files.specs.SeenProblems.{IsReached, problem_of};
+    ghost use Rattle.asked_files.specs.SeenProblems.{IsUnbounded, problem_of};
 
     /// The question whose goals are reached, without a bound on the steps: of `G` that of its dual.
     pub fn reached(&self) -> &Posed<'g>
-        requires { IsReached self.now }
+        requires { IsUnbounded self.now }
         ensures { posing_in (problem_of self.now) ≡ Some (posing_of result.now) }
     {
         match self {

@@ -23,7 +23,7 @@ use Rattle.run_answers.specs.declared.answer.Answer.{Answer}
 use Rattle.run_answers.specs.Status.{IsAnswer}
 use Rattle.stogame_app.specs.Commands.{IsMissing, ReadsFiles, RefusesIt, check_paths}
 use Rattle.stogame_app.specs.Reports.{IsReportOfWords}
-use Rattle.stogame_app.specs.Answers.{IsAnswered}
+use Rattle.stogame_app.specs.Answers.{IsAnswered, IsMadeOf}
 
 -- 1. An end is the same of another answer.
 
@@ -95,6 +95,41 @@ audit_asks audit = record {
   lacks = λ holding lacks. where_told holding (λ held. reading_said (sources_of held audit.asked) audit.asked ≡ NotHeld) (λ held. IsMissing held (OfAudit audit)) (λ held missing. inl missing) lacks;
 }
 
+-- what is made of what was read
+module _ {command : Command} {asked : Asked} {paths : Paths} {reading : Reading} (asks : AsksQuestion command asked paths) where
+  -- where the problem was not posed
+  pub unposed : {Y : Type 0} {end : End} (view : Y → Problem) → Loads view (Err end) (posed paths reading) → ReadsNothing {X = Y} (Err end) → IsMadeOf command asked reading (Err end)
+  unposed {Y} {end} view loads nothing = record {
+    answered = λ holding words taken reads denoted short. tt;
+    status = tt;
+    refused = λ holding refusal reads is. asks.refuses holding refusal (reads.refuses paths refusal (is_refused view (posed paths reading) end refusal (same_end end (Refused refusal) is) loads));
+    nothing = record {
+      read = λ is. nothing.read (same_end end ReadFault is);
+      caused = same_caused Y Answer end nothing.caused;
+      short = λ long. nothing.short (long.0, same_end end (Refused (TooLong long.0)) long.1);
+    };
+  }
+
+-- where memory was wanting
+pub want_made : {command : Command} {asked : Asked} {reading : Reading} → IsMadeOf command asked reading (Err OutOfMemory)
+want_made = record {
+  answered = λ holding words taken reads denoted short. tt;
+  status = tt;
+  refused = λ holding refusal reads is. absurd (cc (is));
+  nothing = record { read = λ is. cc (is); caused = tt; short = λ long. cc (long.1) };
+}
+
+-- where there is a report
+pub report_made : {command : Command} {asked : Asked} {reading : Reading} (answer : Answer)
+    → ((holding : Option Holding) (words : List (List ℕ)) (taken : ℕ) → Reads holding asked reading → AreCommand words command → taken ≤ most_bytes → IsReportOfWords words holding taken answer.text.items answer.status) → IsAnswer answer.status
+    → IsMadeOf command asked reading (Ok answer)
+report_made answer report status = record {
+  answered = report;
+  status = status;
+  refused = λ holding refusal reads is. absurd (cc (is));
+  nothing = record { read = λ is. cc (is); caused = tt; short = λ long. cc (long.1) };
+}
+
 module _ {S : Type 0} {held : S → Option Holding} {steady : S → Bool} {faults took : S → ℕ} {command : Command} {asked : Asked} {paths : Paths} {old new : S} (asks : AsksQuestion command asked paths) where
   -- where a text was not loaded
   pub unloaded : {X : Type 0} {end : End} → ((refusal : Refusal) → ◌≡◌ {A = Result X End} (Err end) (Err (Refused refusal)) → ReadsAs (held old) asked (Refuses refusal))
@@ -129,12 +164,11 @@ module _ {S : Type 0} {held : S → Option Holding} {steady : S → Bool} {fault
         kept = leaves.kept;
       }
 
-  -- where the problem was not posed
-  pub unposed : {X Y : Type 0} {x : X} {end : End} {reading : Reading} (view : Y → Problem) → LoadingLeaves held steady faults took old new (Ok x) → Reads (held old) asked reading → Loads view (Err end) (posed paths reading)
-      → ReadsNothing {X = Y} (Err end) → IsAnswered held steady faults took command old new (Err end)
-  unposed {X} {Y} {x} {end} {reading} view leaves reads loads nothing =
-      behind leaves (Err end) (λ words denoted. tt) tt (λ refusal is. asks.refuses (held old) refusal (reads.refuses paths refusal (is_refused view (posed paths reading) end refusal (same_end end (Refused refusal) is) loads)))
-      (same_caused Y Answer end nothing.caused) (λ is. nothing.read (same_end end ReadFault is)) (λ long. nothing.short (long.0, same_end end (Refused (TooLong long.0)) long.1))
+  -- so what is made of it is the answer
+  pub answered_by : {X : Type 0} {x : X} {reading : Reading} {result : Result Answer End} → LoadingLeaves held steady faults took old new (Ok x) → Reads (held old) asked reading → IsMadeOf command asked reading result → IsAnswered held steady faults took command old new result
+  answered_by {X} {x} {reading} {result} leaves reads made =
+      behind leaves result (λ words denoted. made.answered (held old) words (took new) reads denoted (answer_small x (took new) leaves.takes)) made.status
+      (λ refusal is. made.refused (held old) refusal reads is) made.nothing.caused made.nothing.read made.nothing.short
 
   -- where memory was wanting
   pub wanting : {X : Type 0} {x : X} → LoadingLeaves held steady faults took old new (Ok x) → IsAnswered held steady faults took command old new (Err OutOfMemory)

@@ -1,16 +1,27 @@
 -- What is made for a command: an answer, or why there is none.
-use Rattle.std.specs.Prelude.{◌≡◌, ℕ, List, Bool, true, Option, Result, Err, IfOk, IsErrOf}
+use Rattle.std.specs.Prelude.{◌≡◌, ◌≤◌, ℕ, List, Bool, true, Option, Result, Err, IfOk, IsErrOf}
+use Rattle.text_lines.specs.Limits.{most_bytes}
 use Rattle.game_outside.specs.Outside.{Holding, Rose, KeepsShelf}
-use Rattle.command_words.specs.Words.{Command, AreCommand}
+use Rattle.command_words.specs.Words.{Asked, Command, AreCommand}
 use Rattle.run_refusals.specs.declared.refusal.Refusal.{Refusal}
 use Rattle.asked_files.specs.declared.load.End.{End}
 use Rattle.asked_files.specs.declared.load.End.TheVariants.{ReadFault, Refused}
-use Rattle.asked_files.specs.Loading.{RefusesCaused, Takes}
+use Rattle.asked_files.specs.Loading.{ReadsNothing, RefusesCaused, Takes}
+use Rattle.asked_files.specs.Posed.{Reading}
+use Rattle.asked_files.specs.Questions.{Reads}
 use Rattle.asked_files.specs.Sources.{IfKnown}
 use Rattle.run_answers.specs.declared.answer.Answer.{Answer}
 use Rattle.run_answers.specs.Status.{IsAnswer}
 use Rattle.stogame_app.specs.Commands.{IsMissing, ReadsFiles, RefusesIt}
 use Rattle.stogame_app.specs.Reports.{IsReportOfWords}
+
+-- What is made for a command of what was read, where nothing more is asked of a shelf: its report and its status, or its first refusal.
+pub record IsMadeOf (command : Command) (asked : Asked) (reading : Reading) (result : Result Answer End) : Type 0 where
+  pub answered : (holding : Option Holding) (words : List (List ℕ)) (taken : ℕ) → Reads holding asked reading → AreCommand words command → taken ≤ most_bytes
+      → IfOk result (λ answer. IsReportOfWords words holding taken answer.text.items answer.status)
+  pub status : IfOk result (λ answer. IsAnswer answer.status)
+  pub refused : (holding : Option Holding) (refusal : Refusal) → Reads holding asked reading → result ≡ Err (Refused refusal) → RefusesIt holding command refusal
+  pub nothing : ReadsNothing result
 
 -- The answer to a command, and what making it does to a shelf.
 pub record IsAnswered {S : Type 0} (held : S → Option Holding) (steady : S → Bool) (faults took : S → ℕ) (command : Command) (old new : S) (result : Result Answer End) : Type 0 where

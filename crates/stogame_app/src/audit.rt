@@ -1,9 +1,14 @@
 //! The answer of `audit`: a certificate of any origin is checked for a question.
 
+ghost use Rattle.std.specs.Prelude.{Ok};
+ghost use Rattle.rpatl_syntax.specs.Dual.{IsAtMostOne};
 ghost use Rattle.command_words.specs.Words.{OfAudit, audit_of};
+ghost use Rattle.asked_files.specs.Loading.{LoadingLeaves};
+ghost use Rattle.asked_files.specs.Posed.{HasSizes, reading_of};
+ghost use Rattle.asked_files.specs.Questions.{Reads};
 ghost use Rattle.stogame_app.specs.Answers.{IsAnswered};
 
-use asked_files::{End, Paths, load_certificate, load_model, pose_loaded};
+use asked_files::{End, Loaded, Paths, load_certificate, load_model, pose_loaded};
 use command_words::AuditWords;
 use game_outside::Shelf;
 use question_reports::audit_report;
@@ -19,7 +24,22 @@ pub fn answer_audit<H: Shelf>(
     ensures { IsAnswered H.held H.steady H.faults H.taken (OfAudit (audit_of audit.now)) shelf.old shelf.new result }
 {
     let loaded = load_model(alloc, shelf, &audit.asked)?;
-    let problem = pose_loaded(alloc, &loaded, Paths::Unbounded)?;
+    audit_loaded(alloc, &loaded, audit, shelf)
+}
+
+// The report on what was loaded, from the certificate that is read behind it.
+fn audit_loaded<H: Shelf>(
+    alloc: Global,
+    loaded: &Loaded,
+    audit: &AuditWords<'_>,
+    shelf: &mut H,
+) -> Result<Answer, End>
+    requires sizes { HasSizes loaded.now.game loaded.now.labels loaded.now.owners }
+    requires share { IsAtMostOne loaded.now.formula.bound }
+    ensures { (before : H) → Reads (H.held before) (audit_of audit.now).asked (reading_of loaded.now) → LoadingLeaves H.held H.steady H.faults H.taken before shelf.old (Ok loaded.now)
+        → IsAnswered H.held H.steady H.faults H.taken (OfAudit (audit_of audit.now)) before shelf.new result }
+{
+    let problem = pose_loaded(alloc, loaded, Paths::Unbounded)?;
     let posed = problem.reached();
     let plan = load_certificate(alloc, shelf, &posed.question, audit.certificate)?;
     match audit_report(

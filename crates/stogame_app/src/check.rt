@@ -6,15 +6,17 @@ ghost use Rattle.rpatl_syntax.specs.Dual.{IsAtMostOne};
 ghost use Rattle.rpatl_syntax.specs.Formula.{tree_of};
 ghost use Rattle.rpatl_syntax.specs.Spellable.{HasKind};
 ghost use Rattle.command_words.specs.Words.{AreInRange, OfCheck, check_of};
+ghost use Rattle.asked_files.specs.Posed.{HasSizes, reading_of};
 ghost use Rattle.asked_files.specs.Problems.{initial_of, states_of};
+ghost use Rattle.asked_files.specs.Questions.{Reads};
 ghost use Rattle.asked_files.specs.SeenProblems.{HasDual, IsOfKind, problem_of};
 ghost use Rattle.run_answers.specs.Status.{IsAnswer};
-ghost use Rattle.stogame_app.specs.Answers.{IsAnswered};
+ghost use Rattle.stogame_app.specs.Answers.{IsAnswered, IsMadeOf};
 ghost use Rattle.stogame_app.specs.Commands.{check_paths};
 ghost use Rattle.stogame_app.specs.Posed.{IsReportable};
 ghost use Rattle.stogame_app.specs.Reports.{Checks, IsReportOfWords};
 
-use asked_files::{End, Paths, Problem, load_model, pose_loaded};
+use asked_files::{End, Loaded, Paths, Problem, load_model, pose_loaded};
 use command_words::CheckWords;
 use game_outside::{Gate, OutOfMemory, Shelf};
 use question_reports::{bracket_report, nested_report, next_report, within_report};
@@ -35,11 +37,28 @@ pub fn answer_check<R: Threads + Sync, H: Shelf, G: Gate + Sync>(
     requires { AreInRange (check_of check.now) }
     ensures { IsAnswered H.held H.steady H.faults H.taken (OfCheck (check_of check.now)) shelf.old shelf.new result }
 {
+    let loaded = load_model(alloc, shelf, &check.asked)?;
+    check_loaded(rt, alloc, &loaded, check, gate)
+}
+
+// The report on what was loaded. It does not hold the model: what a function holds is proved to be let go wherever it may leave.
+fn check_loaded<R: Threads + Sync, G: Gate + Sync>(
+    rt: &R,
+    alloc: Global,
+    loaded: &Loaded,
+    check: &CheckWords<'_>,
+    gate: &G,
+) -> Result<Answer, End>
+    requires in_range { AreInRange (check_of check.now) }
+    requires sizes { HasSizes loaded.now.game loaded.now.labels loaded.now.owners }
+    requires share { IsAtMostOne loaded.now.formula.bound }
+    requires read { (holding : Option Holding) × Reads holding (check_of check.now).asked (reading_of loaded.now) }
+    ensures { IsMadeOf (OfCheck (check_of check.now)) (check_of check.now).asked (reading_of loaded.now) result }
+{
     // Two laws: these calls do nothing.
     formulas_of_texts_are_spellable();
     formulas_inside_are_few();
-    let loaded = load_model(alloc, shelf, &check.asked)?;
-    let problem = pose_loaded(alloc, &loaded, check_paths(check))?;
+    let problem = pose_loaded(alloc, loaded, check_paths(check))?;
     match report_on(rt, alloc, &problem, &loaded.formula, check, gate) {
         Ok(answer) => Ok(answer),
         Err(_) => Err(End::OutOfMemory),

@@ -1,12 +1,14 @@
 //! The answer of `sure`: the states from which a goal is reached almost surely.
 
 ghost use Rattle.std.specs.Prelude.{◌≡◌};
+ghost use Rattle.rpatl_syntax.specs.Dual.{IsAtMostOne};
 ghost use Rattle.command_words.specs.Words.{OfSure, asked_of_words};
+ghost use Rattle.asked_files.specs.Posed.{HasSizes, reading_of};
 ghost use Rattle.stogame_app.specs.Status.{sure_status};
 ghost use Rattle.run_answers.specs.Status.{IsAnswer};
-ghost use Rattle.stogame_app.specs.Answers.{IsAnswered};
+ghost use Rattle.stogame_app.specs.Answers.{IsAnswered, IsMadeOf};
 
-use asked_files::{End, Paths, load_model, pose_loaded};
+use asked_files::{End, Loaded, Paths, load_model, pose_loaded};
 use command_words::AskedWords;
 use game_outside::Shelf;
 use run_answers::{Answer, Status};
@@ -22,7 +24,16 @@ pub fn answer_sure<H: Shelf>(
     ensures { IsAnswered H.held H.steady H.faults H.taken (OfSure (asked_of_words asked.now)) shelf.old shelf.new result }
 {
     let loaded = load_model(alloc, shelf, asked)?;
-    let problem = pose_loaded(alloc, &loaded, Paths::Reaching)?;
+    sure_of_loaded(alloc, &loaded, asked)
+}
+
+// The report on what was loaded.
+fn sure_of_loaded(alloc: Global, loaded: &Loaded, asked: &AskedWords<'_>) -> Result<Answer, End>
+    requires sizes { HasSizes loaded.now.game loaded.now.labels loaded.now.owners }
+    requires share { IsAtMostOne loaded.now.formula.bound }
+    ensures { IsMadeOf (OfSure (asked_of_words asked.now)) (asked_of_words asked.now) (reading_of loaded.now) result }
+{
+    let problem = pose_loaded(alloc, loaded, Paths::Reaching)?;
     let posed = problem.reached();
     match sure_report(alloc, &posed.question, &posed.initial) {
         Ok(report) => Ok(Answer {
