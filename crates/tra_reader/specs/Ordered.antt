@@ -27,7 +27,7 @@ pub record AreInOrder (n read : ℕ) (game : Growing) (action : List ℕ) (rows 
   pub holds : HoldsInOrder game n (transitions rows)
   pub within : All (λ row. IsWithin n row.transition) rows
   pub count : length rows ≡ read
-  pub action : IsActionUnderWay game action rows
+  pub first : IsActionUnderWay game action rows
 
 abbrev pub HoldsOrdered : OrderedRows → List Row → Type 0
 HoldsOrdered held rows = AreInOrder held.header.states held.read held.game held.action.items rows

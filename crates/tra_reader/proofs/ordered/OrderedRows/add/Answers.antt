@@ -17,7 +17,7 @@ returns-then-branch-clause-fault c = λ rows holds told is.
     let row : Row = record { transition = c.args.transition.now; action = c.args.action.now } in
     let n = c.args.self.now.header.states in
     let at : row_place row ≡ c.place-place.result = search rules in
-    let compares = c.in_ok-compare.ensures n rows row at refl holds.holds holds.action in
+    let compares = c.in_ok-compare.ensures n rows row at refl holds.holds holds.first in
     let same : told ≡ c.of_clash.result = cc in
     inr (clashes_is n rows row holds.within c.requires.within.choice_in ∙ sym compares.is ∙ c.if-branch.true, same ∙ c.of_clash.ensures)
 
@@ -28,7 +28,7 @@ returns-clause-ok c =
     let at : row_place row ≡ c.place-place.result = search rules in (
       refl,
       λ rows holds.
-          let compares = c.in_ok-compare.ensures n rows row at refl holds.holds holds.action in
+          let compares = c.in_ok-compare.ensures n rows row at refl holds.holds holds.first in
           let P : List Transition → Type 0 = λ ts. HoldsInOrder c.add.new.self n ts in
           let further = c.in_ok-add.ensures.holds n (transitions rows) holds.holds in (
             clashes_is n rows row holds.within c.requires.within.choice_in ∙ sym compares.is ∙ c.if-branch.false,
@@ -36,7 +36,7 @@ returns-clause-ok c =
               holds = subst P (sym (transitions_push rows row)) further;
               within = All-push (λ (r : Row). IsWithin n r.transition) rows row holds.within c.requires.within;
               count = length_push rows row ∙ ap (λ k. k + 1) holds.count;
-              action = under_way_further c.add.new.self n rows row c.compare.new.kept.items c.in_ok-compare.field-0 further compares;
+              first = under_way_further c.add.new.self n rows row c.compare.new.kept.items c.in_ok-compare.field-0 further compares;
             },
           ),
     )
