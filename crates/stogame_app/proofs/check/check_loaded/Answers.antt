@@ -16,11 +16,11 @@ pub report_on-requires-clause-reportable : goal.report_on-requires-clause-report
 report_on-requires-clause-reportable g c =
     let reads = c.requires.read.1 in
     let a = (reads.asks (check_paths (check_of c.args.check.now)) (problem_of c.in_ok-problem.problem) (rw c.check_paths.ensures at c.in_ok-problem.ensures.says)).asks in
-    reportable a.game a.labels a.owners a.formula c.args.loaded.now c.in_ok-problem.problem a.poses c.in_ok-problem.ensures.same c.requires.sizes
+    λ κs live. reportable a.game a.labels a.owners a.formula c.args.loaded.now c.in_ok-problem.problem a.poses c.in_ok-problem.ensures.same c.requires.sizes
     (c.formulas_of_texts_are_spellable.ensures _ _ reads.spelled) (c.formulas_inside_are_few.ensures _ _ reads.spelled)
 
 pub report_on-requires-clause-steps : goal.report_on-requires-clause-steps
-report_on-requires-clause-steps g c = (c.formulas_of_texts_are_spellable.ensures _ _ c.requires.read.1.spelled).kind
+report_on-requires-clause-steps g c = λ κs live. (c.formulas_of_texts_are_spellable.ensures _ _ c.requires.read.1.spelled).kind
 
 pub returns-in-Ok : goal.returns-in-Ok
 returns-in-Ok g c =
