@@ -181,16 +181,18 @@ module _ {S : Type 0} {held : S → Option Holding} {steady : S → Bool} {fault
 
 -- 4. The certificate behind the question.
 
-module _ {S X : Type 0} {held : S → Option Holding} {steady : S → Bool} {faults took : S → ℕ} {old middle new : S} {x : X} (leaves : LoadingLeaves held steady faults took old middle (Ok x)) where
-  kept_behind : (now : S) → KeepsShelf (held middle) (held now) (steady middle) (steady now) (faults middle) (faults now) → KeepsShelf (held old) (held now) (steady old) (steady now) (faults old) (faults now)
-  kept_behind now rest = record { held = rest.held ∙ leaves.kept.held; steady = rest.steady ∙ leaves.kept.steady; later = omega (arith, leaves.kept.later, rest.later) }
+-- what two calls keep, one behind the other
+keeps-then : {held held' held'' : Option Holding} {steady steady' steady'' : Bool} {faults faults' faults'' : ℕ} → KeepsShelf held held' steady steady' faults faults' → KeepsShelf held' held'' steady' steady'' faults' faults''
+    → KeepsShelf held held'' steady steady'' faults faults''
+keeps-then first second = record { held = second.held ∙ first.held; steady = second.steady ∙ first.steady; later = omega (arith, first.later, second.later) }
 
+module _ {S X : Type 0} {held : S → Option Holding} {steady : S → Bool} {faults took : S → ℕ} {old middle new : S} {x : X} (leaves : LoadingLeaves held steady faults took old middle (Ok x)) where
   -- more is loaded
   pub more_loaded : {Y : Type 0} {y : Y} → LoadingLeaves held steady faults took middle new (Ok y) → LoadingLeaves held steady faults took old new (Ok y)
   more_loaded rest = record {
     read_fault = λ fails. absurd (cc (fails));
     takes = rest.takes;
-    kept = kept_behind new rest.kept;
+    kept = keeps-then leaves.kept rest.kept;
   }
 
   -- where it was not loaded
@@ -214,5 +216,5 @@ module _ {S X : Type 0} {held : S → Option Holding} {steady : S → Bool} {fau
         (subst (λ (h : Option Holding). IfKnown h (λ held. held audit.certificate ≡ None)) leaves.kept.held (steadily (same_end end ReadFault is) (leaves.kept.steady ∙ calm)));
     takes = λ reads. same_takes end (took new) rest.takes;
     untouched = λ none. absurd (none tt);
-    kept = kept_behind new rest.kept;
+    kept = keeps-then leaves.kept rest.kept;
   }
