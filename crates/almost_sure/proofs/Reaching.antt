@@ -9,7 +9,7 @@ use Rattle.game_model.specs.Query.{Query, IsQuery, states}
 use Rattle.game_model.specs.Values.{denominator, numerator}
 use Rattle.game_model.proofs.Choices.{denominator-pos}
 use Rattle.almost_sure.specs.Values.{IsAlmostSure, IsAway, AreAlmostSure}
-use Rattle.almost_sure.specs.Drawing.{ComesNearer}
+use Rattle.almost_sure.proofs.Nearer.{ComesNearer}
 use Rattle.game_laws.proofs.Powers.{horizon_of, pow-horizon_of, pow-far}
 
 first-round : (d a n : ℕ) → d ^ 0 ≤ n + a ^ 0

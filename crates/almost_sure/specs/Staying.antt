@@ -1,0 +1,13 @@
+-- What stays in the outer set, where some states are gone.
+use Rattle.std.specs.Prelude.{◌≡◌, Bool, false, List, slice_index_or}
+use Rattle.game_model.specs.Game.{Distribution, choice_of}
+use Rattle.attractors.specs.Attractor.{Limits, meets}
+use Rattle.choice_flags.specs.Flags.{AreAnswers}
+
+-- the states that are gone are left out, and the choices of which some successor is gone
+abbrev pub staying : List Bool → Limits
+staying gone = record { gone = λ s. slice_index_or gone s false; barred = meets gone }
+
+-- for each choice whether some successor is gone
+abbrev pub AreLeaving : List (List Distribution) → List Bool → List Bool → Type 0
+AreLeaving game gone leaving = AreAnswers game (λ s c b. b ≡ meets gone (choice_of game s c)) leaving

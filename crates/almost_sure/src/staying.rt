@@ -1,0 +1,64 @@
+//! What stays in the outer set, and the inner set that grows in it.
+
+ghost use Rattle.std.specs.Prelude.{◌≡◌, length, IfOk};
+ghost use Rattle.game_model.specs.Query.{states};
+ghost use Rattle.predecessors.specs.Lists.{ArePredecessors};
+ghost use Rattle.attractors.specs.Attractor.{IsAttractor};
+ghost use Rattle.almost_sure.specs.Staying.{staying, AreLeaving};
+
+use attractors::{Subgame, attractor_of, meets};
+use choice_flags::ChoiceFlags;
+use game_model::Question;
+use game_outside::OutOfMemory;
+use predecessors::Predecessors;
+use std::alloc::Global;
+
+/// The states that are not gone, and the choices that lead to none that is.
+#[derive(Drop)]
+struct Staying<'a> {
+    gone: &'a [bool],
+    leaving: ChoiceFlags,
+}
+
+impl Subgame for Staying<'_> {
+    ghost fits = { λ it q. (length it.gone.now ≡ states q) × AreLeaving q.game it.gone.now it.leaving };
+
+    ghost limits = { λ it _. staying it.gone.now };
+
+    fn is_gone(&self, _question: &Question, state: u32) -> bool {
+        self.gone[state as usize]
+    }
+
+    fn bars(&self, question: &Question, state: u32, choice: u32) -> bool {
+        self.leaving.has(question.game(), state, choice)
+    }
+}
+
+/// The inner set where these states are gone: it grows backward from the goals, by choices that stay in the outer set.
+pub fn inner_set(
+    alloc: Global,
+    question: &Question,
+    predecessors: &Predecessors,
+    gone: &[bool],
+) -> Result<Vec<bool>, OutOfMemory>
+    requires lists { ArePredecessors question.now.game predecessors.now }
+    requires many { length gone.now ≡ states question.now }
+    ensures { IfOk result (λ set. IsAttractor question.now (staying gone.now) set.items) }
+{
+    let leaving = leaving_choices(alloc, question, gone)?;
+    attractor_of(alloc, question, predecessors, &Staying { gone, leaving })
+}
+
+/// For each choice whether some successor is among these states.
+fn leaving_choices(
+    alloc: Global,
+    question: &Question,
+    gone: &[bool],
+) -> Result<ChoiceFlags, OutOfMemory>
+    requires { length gone.now ≡ states question.now }
+    ensures { IfOk result (λ leaving. AreLeaving question.now.game gone.now leaving) }
+{
+    ChoiceFlags::of_game(alloc, question.game(), |state, choice| {
+        meets(question, gone, state, choice)
+    })
+}

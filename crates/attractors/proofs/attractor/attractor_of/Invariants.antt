@@ -1,0 +1,14 @@
+use Rattle.std.proofs.Common.{◌≤◌, ◌-◌, length, take}
+use Rattle.game_model.specs.Query.{states}
+use Rattle.attractors.specs.Growing.{moves_into, IsGrowth}
+use Rattle.attractors.proofs.attractor.attractor_of.Given as goal
+
+-- the moves to the members so far were followed
+abbrev pub invariant-loop-place : goal.invariant-loop-place
+invariant-loop-place g l = record {
+  within : l.place ≤ length l.growth.order.items;
+  grown : IsGrowth l.question (g.S.Subgame.limits l.subgame l.question) (moves_into l.predecessors (take l.place l.growth.order.items)) l.growth.members.items l.growth.awaited.items l.growth.order.items;
+}
+
+abbrev pub decreases-loop-place : goal.decreases-loop-place
+decreases-loop-place g l = states l.question - l.place

@@ -1,0 +1,142 @@
+//! A set of states that grows backward from the goals.
+
+ghost use Rattle.std.specs.Prelude.{◌≡◌, ◌≢◌, ℕ, ◌+◌, ◌<◌, List, [], ◌∷◌, ◌++◌, false, length, slice_index, slice_index_or, IfOk, OnOk};
+ghost use Rattle.game_model.specs.Growing.{IsLonger};
+ghost use Rattle.game_model.specs.Query.{states};
+ghost use Rattle.attractors.specs.Attractor.{Limits};
+ghost use Rattle.attractors.specs.Growing.{LeadsIn, IsGrowth, IsLarger, IsTested};
+
+use crate::membership::{first_unserved, some_serves};
+use crate::subgame::Subgame;
+use game_model::{Question, Side};
+use game_outside::OutOfMemory;
+use predecessors::Move;
+use std::alloc::Global;
+
+/// The members; for each state of the minimiser that is none the first choice that is barred, or not known to have a
+/// member among its successors; and the members in the order in which they joined.
+#[derive(Drop)]
+pub struct Growth {
+    pub members: Vec<bool>,
+    pub awaited: Vec<u32>,
+    pub order: Vec<u32>,
+}
+
+impl Growth {
+    /// The goals alone.
+    pub fn of_goals(alloc: Global, question: &Question) -> Result<Growth, OutOfMemory>
+        ensures { IfOk result (λ g. (limits : Limits) → IsGrowth question.now limits [] g.members.items g.awaited.items g.order.items) }
+    {
+        question.known();
+        let states = question.game().states();
+        let awaited = vec![in alloc; 0u32; states as usize]?;
+        let mut members = Vec::with_capacity(alloc, states as usize)?;
+        let mut order = Vec::with_capacity(alloc, states as usize)?;
+        for state in 0..states {
+            let goal = question.is_goal(state);
+            members.push(goal)?;
+            if goal {
+                order.push(state)?;
+            }
+        }
+        Ok(Growth {
+            members,
+            awaited,
+            order,
+        })
+    }
+
+    /// Follows a move that leads to a member, where its state is not gone and its choice not barred. A state of the
+    /// maximiser joins by it; one of the minimiser joins where it waited for this choice, and each later one serves.
+    pub fn follow<S: Subgame>(
+        &mut self,
+        question: &Question,
+        subgame: &S,
+        step: Move,
+    ) -> Result<(), OutOfMemory>
+        requires fits { S.fits subgame.now question.now }
+        requires members { length self.old.members.items ≡ states question.now }
+        requires awaited { length self.old.awaited.items ≡ states question.now }
+        requires leads { LeadsIn question.now.game self.old.members.items step }
+        ensures longer { OnOk result (IsLonger self.old.order.items self.new.order.items) }
+        ensures grows { OnOk result ((followed : List Move) → IsGrowth question.now (S.limits subgame.now question.now) followed self.old.members.items self.old.awaited.items self.old.order.items
+            → IsGrowth question.now (S.limits subgame.now question.now) (followed ++ step ∷ []) self.new.members.items self.new.awaited.items self.new.order.items) }
+    {
+        question.known();
+        let state = step.state as usize;
+        if self.members[state]
+            || subgame.is_gone(question, step.state)
+            || subgame.bars(question, step.state, step.choice)
+        {
+            return Ok(());
+        }
+        match question.side(step.state) {
+            Side::Max => {}
+            Side::Min => {
+                if self.awaited[state] != step.choice {
+                    return Ok(());
+                }
+                let next = first_unserved(
+                    question,
+                    subgame,
+                    &self.members,
+                    step.state,
+                    step.choice + 1,
+                );
+                if next < question.game().choices_of(step.state) {
+                    self.awaited[state] = next;
+                    return Ok(());
+                }
+            }
+        }
+        self.members[state] = true;
+        self.order.push(step.state)?;
+        Ok(())
+    }
+
+    /// Tests a state that is no member: it joins where the members draw it in.
+    pub fn test<S: Subgame>(
+        &mut self,
+        question: &Question,
+        subgame: &S,
+        state: u32,
+    ) -> Result<(), OutOfMemory>
+        requires fits { S.fits subgame.now question.now }
+        requires state { state < states question.now }
+        requires grown { IsGrowth question.now (S.limits subgame.now question.now) [] self.old.members.items self.old.awaited.items self.old.order.items }
+        ensures longer { OnOk result (IsLonger self.old.order.items self.new.order.items) }
+        ensures grows { OnOk result (IsGrowth question.now (S.limits subgame.now question.now) [] self.new.members.items self.new.awaited.items self.new.order.items) }
+        ensures larger { OnOk result (IsLarger self.old.members.items self.new.members.items) }
+        ensures others { OnOk result ((s : ℕ) → s ≢ state → slice_index self.new.awaited.items s ≡ slice_index self.old.awaited.items s) }
+        ensures tested { OnOk result (slice_index_or self.new.members.items state false ≡ false → (S.limits subgame.now question.now).gone state ≡ false → IsTested question.now (S.limits subgame.now question.now) self.old.members.items self.new.awaited.items state) }
+    {
+        question.known();
+        let place = state as usize;
+        if self.members[place] || subgame.is_gone(question, state) {
+            return Ok(());
+        }
+        match question.side(state) {
+            Side::Max => {
+                if !some_serves(question, subgame, &self.members, state) {
+                    return Ok(());
+                }
+            }
+            Side::Min => {
+                let next = first_unserved(
+                    question,
+                    subgame,
+                    &self.members,
+                    state,
+                    self.awaited[place],
+                );
+                if next < question.game().choices_of(state) {
+                    self.awaited[place] = next;
+                    return Ok(());
+                }
+            }
+        }
+        self.members[place] = true;
+        self.order.push(state)?;
+        Ok(())
+    }
+}
