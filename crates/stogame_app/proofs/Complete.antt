@@ -23,7 +23,7 @@ use Rattle.asked_files.specs.Questions.{PosesIt, RefusesQuestion, RefusesCertifi
 use Rattle.run_answers.specs.declared.status.Status.{Status}
 use Rattle.run_answers.specs.declared.status.Status.TheVariants.{Fine, SomeFalse, SomeUndecided, Usage, ModelRefused, ReadFault, WriteFault, OutOfMemory, CertificateRefused}
 use Rattle.run_answers.specs.Status.{IsAnswer}
-use Rattle.stogame_app.specs.Commands.{IsAcceptedOf, IsMissing, RefusesBehind, RefusesIt, check_paths}
+use Rattle.stogame_app.specs.Commands.{IsAcceptedOf, IsAcceptedFrom, IsMissing, ReadsFiles, RefusesBehind, RefusesIt, check_paths}
 use Rattle.stogame_app.specs.Run.{AsksShelf, IsAcceptedOfWords, IsEnding, IsMissingOfWords, IsReadable, RefusesWords}
 
 -- 1. A question, and a certificate.
@@ -86,11 +86,11 @@ accepted_not_refused apart q source plan (OfFormula fault) accepted refused = re
 accepted_not_refused apart q source plan (OfQuestion fault) accepted refused = refused
 accepted_not_refused apart q source plan WrongKind accepted refused = refused
 
-command_not_refused : AreAsked → AreApart → (holding : Option Holding) (held : Holding) (command : Command) (refusal : Refusal) → holding ≡ Some held → IsAcceptedOf held command → RefusesIt holding command refusal → ⊥
-command_not_refused are apart holding held (OfMake make) refusal _ accepted refused = absurd refused
-command_not_refused are apart holding held (OfCheck check) refusal told accepted refused = asked_not_refused are holding held check.asked (check_paths check) accepted.0 refusal told accepted.1 refused
-command_not_refused are apart holding held (OfSure asked) refusal told accepted refused = asked_not_refused are holding held asked Reaching accepted.0 refusal told accepted.1 refused
-command_not_refused are apart holding held (OfAudit audit) refusal told accepted refused = elim refused [
+question_not_refused : AreAsked → AreApart → (holding : Option Holding) (held : Holding) (command : Command) (refusal : Refusal) → holding ≡ Some held → IsAcceptedOf held command → RefusesIt holding command refusal → ⊥
+question_not_refused are apart holding held (OfMake make) refusal _ accepted refused = absurd refused
+question_not_refused are apart holding held (OfCheck check) refusal told accepted refused = asked_not_refused are holding held check.asked (check_paths check) accepted.0 refusal told accepted.1 refused
+question_not_refused are apart holding held (OfSure asked) refusal told accepted refused = asked_not_refused are holding held asked Reaching accepted.0 refusal told accepted.1 refused
+question_not_refused are apart holding held (OfAudit audit) refusal told accepted refused = elim refused [
   | inl question ↦ asked_not_refused are holding held audit.asked Unbounded accepted.0 refusal told accepted.3 question
   | inr behind ↦ by_behind (subst (λ (h : Option Holding). RefusesBehind h audit refusal) told behind)
 ]
@@ -106,6 +106,13 @@ command_not_refused are apart holding held (OfAudit audit) refusal told accepted
         let Q : Option (List ℕ) → Type 0 = λ source. RefusesCertificate question source refusal in
         let so : RefusesCertificate question (held audit.certificate) refusal = subst Q c.told (subst P posing c.is_so) in
         accepted_not_refused apart question (held audit.certificate) accepted.2 refusal accepted.5 so
+
+-- a command is not refused that reads no file, or whose texts are held and accepted
+command_not_refused : AreAsked → AreApart → (holding : Option Holding) (command : Command) (refusal : Refusal) → IsAcceptedFrom holding command → RefusesIt holding command refusal → ⊥
+command_not_refused are apart holding (OfMake make) refusal accepted refused = absurd refused
+command_not_refused are apart holding (OfCheck check) refusal accepted refused = let a = accepted tt in question_not_refused are apart holding a.0 (OfCheck check) refusal a.1 a.2 refused
+command_not_refused are apart holding (OfSure asked) refusal accepted refused = let a = accepted tt in question_not_refused are apart holding a.0 (OfSure asked) refusal a.1 a.2 refused
+command_not_refused are apart holding (OfAudit audit) refusal accepted refused = let a = accepted tt in question_not_refused are apart holding a.0 (OfAudit audit) refusal a.1 a.2 refused
 
 command_is_held : AreAsked → (holding : Option Holding) (held : Holding) (command : Command) → holding ≡ Some held → IsAcceptedOf held command → IfKnown holding (λ h. IsMissing h command) → ⊥
 command_is_held are None held command told accepted missing = cc (told)
@@ -129,33 +136,36 @@ command_is_held are (Some other) held command told accepted missing = of_held co
 abbrev pub AreOneCommand : Type 0
 AreOneCommand = (words : List (List ℕ)) (command other : Command) → AreCommand words command → AreCommand words other → command ≡ other
 
-module _ (are : AreAsked) (apart : AreApart) (one : AreOneCommand) {words : List (List ℕ)} {holding : Option Holding} (held : Holding) (told : holding ≡ Some held) (accepted : IsAcceptedOfWords words held) where
-  -- what is accepted of the command that other facts speak of
-  accepted_of : (command : Command) → AreCommand words command → IsAcceptedOf held command
-  accepted_of command denoted = subst (λ (k : Command). IsAcceptedOf held k) (one words accepted.command command accepted.denoted denoted) accepted.accepted
+module _ (are : AreAsked) (apart : AreApart) (one : AreOneCommand) {words : List (List ℕ)} {holding : Option Holding} (accepted : IsAcceptedOfWords words holding) where
+  -- a command that other facts speak of is the one that is accepted
+  is_accepted : (command : Command) → AreCommand words command → accepted.command ≡ command
+  is_accepted command denoted = one words accepted.command command accepted.denoted denoted
 
   not_refused : {taken : ℕ} (refusal : Refusal) → RefusesWords words holding taken refusal → ⊥
-  not_refused refusal refused = command_not_refused are apart holding held refused.command refusal told (accepted_of refused.command refused.denoted) refused.said
+  not_refused refusal refused =
+      command_not_refused are apart holding accepted.command refusal accepted.accepted (subst (λ (k : Command). RefusesIt holding k refusal) (sym (is_accepted refused.command refused.denoted)) refused.said)
 
-  not_missing : IsMissingOfWords words holding → ⊥
-  not_missing missing = command_is_held are holding held missing.command told (accepted_of missing.command missing.denoted) missing.missing
+  not_missing : ReadsFiles accepted.command → IsMissingOfWords words holding → ⊥
+  not_missing reads missing =
+      let held = accepted.accepted reads in
+      command_is_held are holding held.0 accepted.command held.1 held.2 (subst (λ (k : Command). IfKnown holding (λ h. IsMissing h k)) (sym (is_accepted missing.command missing.denoted)) missing.missing)
 
   -- what is left where the others are ruled out
-  pub completed : (taken : ℕ) (old new : Option (List ℕ)) (status : Status) → IsEnding words holding taken old new status → (status ≡ ReadFault → ⊥) → (status ≡ WriteFault → ⊥) → IsAnswer status ⊎ (status ≡ OutOfMemory)
+  pub completed : (taken : ℕ) (old new : Option (List ℕ)) (status : Status) → IsEnding words holding taken old new status → (ReadsFiles accepted.command → status ≡ ReadFault → ⊥) → (status ≡ WriteFault → ⊥) → IsAnswer status ⊎ (status ≡ OutOfMemory)
   completed taken old new Fine ends read write = inl tt
   completed taken old new SomeFalse ends read write = inl tt
   completed taken old new SomeUndecided ends read write = inl tt
   completed taken old new Usage ends read write = absurd (ends.is.no_command accepted.command accepted.denoted)
   completed taken old new ModelRefused ends read write = absurd (not_refused ends.is.refusal ends.is.refused)
   completed taken old new CertificateRefused ends read write = absurd (not_refused ends.is.refusal ends.is.refused)
-  completed taken old new ReadFault ends read write = absurd (read refl)
+  completed taken old new ReadFault ends read write = absurd (read (subst ReadsFiles (sym (is_accepted ends.0.command ends.0.denoted)) ends.0.reads) refl)
   completed taken old new WriteFault ends read write = absurd (write refl)
   completed taken old new OutOfMemory ends read write = inr refl
 
   -- a text that is held and accepted is read, unless the shelf fails
   pub is_read : {S : Type 0} {of : S → Option Holding} {steady : S → Bool} {faults took : S → ℕ} {old new : S} {status : Status} → AsksShelf of steady faults took words old new status → of old ≡ holding
-      → IsReadable steady faults old new → status ≡ ReadFault → ⊥
-  is_read shelf same calm is = elim calm [
-    | inl steady ↦ not_missing (subst (λ (h : Option Holding). IsMissingOfWords words h) same (shelf.steadily is steady))
+      → IsReadable steady faults old new → ReadsFiles accepted.command → status ≡ ReadFault → ⊥
+  is_read shelf same calm reads is = elim calm [
+    | inl steady ↦ not_missing reads (subst (λ (h : Option Holding). IsMissingOfWords words h) same (shelf.steadily is steady))
     | inr still ↦ still (shelf.read_fault is)
   ]

@@ -67,3 +67,7 @@ IsAcceptedOf held (OfAudit audit) = (problem : Problem) × (posing : Posing) × 
     × Asks Unbounded (sources_of held audit.asked) audit.asked problem × (posing_in problem ≡ Some posing) × GivenTextWith (held audit.certificate) (λ text. IsAccepted posing.question text plan)
 IsAcceptedOf held (OfMake make) = Unit {0}
 IsAcceptedOf held (OfSure asked) = (problem : Problem) × Asks Reaching (sources_of held asked) asked problem
+
+-- where the command reads files, it is told what is held, and all that it needs is held and accepted
+abbrev pub IsAcceptedFrom : Option Holding → Command → Type 0
+IsAcceptedFrom holding command = ReadsFiles command → (held : Holding) × (holding ≡ Some held) × IsAcceptedOf held command

@@ -17,7 +17,7 @@ use Rattle.run_answers.specs.declared.answer.Answer.{Answer}
 use Rattle.run_answers.specs.declared.status.Status.{Status}
 use Rattle.run_answers.specs.declared.status.Status.TheVariants.{Fine, SomeFalse, SomeUndecided, Usage, ModelRefused, ReadFault, WriteFault, OutOfMemory, CertificateRefused}
 use Rattle.stogame_app.specs.Status.{refused_status}
-use Rattle.stogame_app.specs.Commands.{IsAcceptedOf, IsMissing, ReadsFiles, RefusesIt}
+use Rattle.stogame_app.specs.Commands.{IsAcceptedFrom, IsMissing, ReadsFiles, RefusesIt}
 use Rattle.stogame_app.specs.Reports.{IsReportOfWords}
 
 -- 1. What is written.
@@ -121,8 +121,8 @@ AnswersWords words holding taken (Err end.OutOfMemory) = Unit {0}
 AnswersWords words holding taken (Err end.ReadFault) = IsUnreadOfWords words taken
 AnswersWords words holding taken (Err (end.Refused refusal)) = RefusesWords words holding taken refusal
 
--- the words denote a command, and all that it needs is held and accepted
-pub record IsAcceptedOfWords (words : List (List ℕ)) (held : Holding) : Type 0 where
+-- the words denote a command that is accepted of what is held
+pub record IsAcceptedOfWords (words : List (List ℕ)) (holding : Option Holding) : Type 0 where
   pub command : Command
   pub denoted : AreCommand words command
-  pub accepted : IsAcceptedOf held command
+  pub accepted : IsAcceptedFrom holding command
