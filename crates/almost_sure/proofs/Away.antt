@@ -19,13 +19,13 @@ use Rattle.game_model.proofs.Choices.{IsChoiceOf, AreChoicesOf-choices_of, IsCho
 use Rattle.game_model.proofs.Best.{optimum-below}
 use Rattle.game_model.proofs.Rises.{numerator_of-most}
 use Rattle.game_laws.proofs.Positive.{optimum-affine, quotient-pos}
-use Rattle.attractors.specs.Attractor.{meets, serves, draws, is_drawn, IsAttractor}
+use Rattle.attractors.specs.Attractor.{meets, serves, attracts, is_attracted, IsAttractor}
 use Rattle.attractors.proofs.Tests.{any-none, all-place}
 use Rattle.attractors.proofs.Meeting.{meets-successor}
 use Rattle.attractors.proofs.Serving.{serves-not}
 use Rattle.attractors.proofs.Grown.{Grew-goals}
 use Rattle.almost_sure.specs.Values.{IsAway}
-use Rattle.almost_sure.specs.Staying.{staying}
+use Rattle.almost_sure.specs.Barred.{gone_barred}
 use Rattle.almost_sure.proofs.Powers.{pow-suc_left, pow-suc_both, pow-more}
 
 further : (n E p b d : ℕ) → 0 < d → n * E + p ≤ b → n * (E * d) + p ≤ b * d
@@ -176,8 +176,8 @@ IsAway-dead q e s posed other dead (suc k) =
 -- a choice that does not serve
 choice-left : (q : Query) (gone set : List Bool) (e k : ℕ) (m : Distribution) → IsQuery q → IsChoiceOf q.game m → ((t : ℕ) → t < states q → slice_index_or gone t false ≡ true → IsAway q e t)
     → ((t : ℕ) → t < states q → slice_index_or set t false ≡ false → slice_index_or gone t false ≡ false → numerator q k t * denominator q.game ^ suc e + denominator q.game ^ k ≤ denominator q.game ^ (suc e + k))
-    → serves (staying gone) set m ≡ false → IsFar q e k m
-choice-left q gone set e k m posed fits away left fails = elim (serves-not (staying gone) set m fails) [
+    → serves (gone_barred gone) set m ≡ false → IsFar q e k m
+choice-left q gone set e k m posed fits away left fails = elim (serves-not (gone_barred gone) set m fails) [
   | inl leads ↦ far-by-one q gone e k m posed fits away leads
   | inr unmet ↦
       far-by-all q e k m fits
@@ -189,18 +189,18 @@ choice-left q gone set e k m posed fits away left fails = elim (serves-not (stay
       m.edges (AllByRecursion-both (λ (d : Edge). d.to < length q.game) (λ (d : Edge). slice_index_or set d.to false ≡ false) m.edges fits.inside (any-none (λ (d : Edge). slice_index_or set d.to false) m.edges unmet)))
 ]
 
-any-fails : (gone set : List Bool) (choices : List Distribution) (c : ℕ) → c < length choices → list_any (serves (staying gone) set) choices ≡ false → serves (staying gone) set (get_or choices c no_distribution) ≡ false
-any-fails gone set choices c l fails = AllByRecursion-at (λ m. serves (staying gone) set m ≡ false) choices c no_distribution l (any-none (serves (staying gone) set) choices fails)
+any-fails : (gone set : List Bool) (choices : List Distribution) (c : ℕ) → c < length choices → list_any (serves (gone_barred gone) set) choices ≡ false → serves (gone_barred gone) set (get_or choices c no_distribution) ≡ false
+any-fails gone set choices c l fails = AllByRecursion-at (λ m. serves (gone_barred gone) set m ≡ false) choices c no_distribution l (any-none (serves (gone_barred gone) set) choices fails)
 
 side-left : (q : Query) (gone set : List Bool) (e k s : ℕ) → IsQuery q → s < states q → ((t : ℕ) → t < states q → slice_index_or gone t false ≡ true → IsAway q e t)
     → ((t : ℕ) → t < states q → slice_index_or set t false ≡ false → slice_index_or gone t false ≡ false → numerator q k t * denominator q.game ^ suc e + denominator q.game ^ k ≤ denominator q.game ^ (suc e + k))
-    → is_drawn q (staying gone) set s ≡ false → SideIsFar q e k s
+    → is_attracted q (gone_barred gone) set s ≡ false → SideIsFar q e k s
 side-left q gone set e k s posed inside away left fails = record {
   greatest = λ is_side c l. choice-left q gone set e k (choice_of q.game s c) posed (IsChoiceOf-choice_of q.game s c posed.game inside l) away left
-      (any-fails gone set (choices_of q.game s) c l (sym (ap (λ side. draws side (staying gone) set (choices_of q.game s)) is_side) ∙ fails));
+      (any-fails gone set (choices_of q.game s) c l (sym (ap (λ side. attracts side (gone_barred gone) set (choices_of q.game s)) is_side) ∙ fails));
   least = λ is_side.
-      let one : (c : ℕ) × (c < length (choices_of q.game s)) × (serves (staying gone) set (choice_of q.game s c) ≡ false) =
-      all-place (serves (staying gone) set) (choices_of q.game s) no_distribution (sym (ap (λ side. draws side (staying gone) set (choices_of q.game s)) is_side) ∙ fails) in
+      let one : (c : ℕ) × (c < length (choices_of q.game s)) × (serves (gone_barred gone) set (choice_of q.game s c) ≡ false) =
+      all-place (serves (gone_barred gone) set) (choices_of q.game s) no_distribution (sym (ap (λ side. attracts side (gone_barred gone) set (choices_of q.game s)) is_side) ∙ fails) in
       (one.0, one.1, choice-left q gone set e k (choice_of q.game s one.0) posed (IsChoiceOf-choice_of q.game s one.0 posed.game inside one.1) away left one.2);
 }
 
@@ -209,9 +209,9 @@ lacks true member h out = let is : member ≡ true = h refl in absurd (cc)
 lacks false member h out = refl
 
 -- states that an inner set leaves are away by one more
-pub inner-away : (q : Query) (gone set : List Bool) (e : ℕ) → IsQuery q → IsAttractor q (staying gone) set → ((t : ℕ) → t < states q → slice_index_or gone t false ≡ true → IsAway q e t)
+pub inner-away : (q : Query) (gone set : List Bool) (e : ℕ) → IsQuery q → IsAttractor q (gone_barred gone) set → ((t : ℕ) → t < states q → slice_index_or gone t false ≡ true → IsAway q e t)
     → (k s : ℕ) → s < states q → slice_index_or set s false ≡ false → slice_index_or gone s false ≡ false → numerator q k s * denominator q.game ^ suc e + denominator q.game ^ k ≤ denominator q.game ^ (suc e + k)
-inner-away q gone set e posed inner away zero s inside out within = away-opening q (suc e) s posed (lacks (is_goal q s) (slice_index_or set s false) (Grew-goals q (staying gone) set inner.grew s inside) out)
+inner-away q gone set e posed inner away zero s inside out within = away-opening q (suc e) s posed (lacks (is_goal q s) (slice_index_or set s false) (Grew-goals q (gone_barred gone) set inner.grew s inside) out)
 inner-away q gone set e posed inner away (suc k) s inside out within =
-    away-step q e k s posed inside (lacks (is_goal q s) (slice_index_or set s false) (Grew-goals q (staying gone) set inner.grew s inside) out)
+    away-step q e k s posed inside (lacks (is_goal q s) (slice_index_or set s false) (Grew-goals q (gone_barred gone) set inner.grew s inside) out)
     (λ alive. side-left q gone set e k s posed inside away (λ t lt out' within'. inner-away q gone set e posed inner away k t lt out' within') (inner.closed s inside out within))

@@ -18,11 +18,11 @@ use Rattle.game_model.proofs.Choices.{IsChoiceOf, AreChoicesOf, AreChoicesOf-cho
 use Rattle.game_model.proofs.Best.{optimum-each}
 use Rattle.game_model.proofs.Rises.{numerator_of-rises, numerator_of-goal}
 use Rattle.game_laws.proofs.Positive.{optimum-affine, quotient-pos}
-use Rattle.attractors.specs.Attractor.{meets, serves, draws, is_drawn, AreGoals, Grew, from_goals, with_state}
+use Rattle.attractors.specs.Attractor.{meets, serves, attracts, is_attracted, AreGoals, Grew, from_goals, with_state}
 use Rattle.attractors.proofs.Tests.{any-place, any-none, all-each}
 use Rattle.attractors.proofs.Meeting.{meets-successor}
 use Rattle.attractors.proofs.Serving.{serves-both}
-use Rattle.almost_sure.specs.Staying.{staying}
+use Rattle.almost_sure.specs.Barred.{gone_barred}
 
 -- Where the states that are not gone miss the goals with a probability of at most g over the k-th power of the denominator,
 -- each member misses them so many steps later with one that is smaller by a fixed share.
@@ -66,9 +66,9 @@ scaled-nearer r w d x p g h same some sums = rw (← same) (omega (arith, mul-le
 -- a choice that serves
 choice-nearer : (q : Query) (gone set : List Bool) (v : ℕ → ℕ) (p h g : ℕ) (m : Distribution) → 0 < denominator q.game → IsChoiceOf q.game m
     → ((t : ℕ) → t < states q → slice_index_or gone t false ≡ false → p ≤ v t + h) → ((t : ℕ) → t < states q → slice_index_or set t false ≡ true → p + g ≤ v t + h)
-    → serves (staying gone) set m ≡ true → denominator q.game * p + g ≤ denominator q.game / m.total * weighted_sum v m.edges + denominator q.game * h
+    → serves (gone_barred gone) set m ≡ true → denominator q.game * p + g ≤ denominator q.game / m.total * weighted_sum v m.edges + denominator q.game * h
 choice-nearer q gone set v p h g m positive fits outer inner serve =
-    let both : (meets gone m ≡ false) × (meets set m ≡ true) = serves-both (staying gone) set m serve in
+    let both : (meets gone m ≡ false) × (meets set m ≡ true) = serves-both (gone_barred gone) set m serve in
     let one : (i : ℕ) × (i < length m.edges) × (slice_index_or set (get_or m.edges i no_edge).to false ≡ true) = meets-successor set m both.1 in
     let edges : AllByRecursion (λ (e : Edge). (1 ≤ e.weight) × (p ≤ v e.to + h)) m.edges =
     AllByRecursion-both (λ (e : Edge). 1 ≤ e.weight) (λ (e : Edge). p ≤ v e.to + h) m.edges fits.weights
@@ -79,13 +79,13 @@ choice-nearer q gone set v p h g m positive fits outer inner serve =
     subst (λ w. w * p + g ≤ weighted_sum v m.edges + w * h) fits.sums (weighted_sum-nearer v p h g m.edges one.0 edges one.1 there) in
     scaled-nearer (denominator q.game / m.total) m.total (denominator q.game) (weighted_sum v m.edges) p g h fits.divides (quotient-pos (denominator q.game) m.total fits.divides positive) sums
 
--- a side that is drawn in
+-- a side that is attracted
 side-nearer : (q : Query) (gone set : List Bool) (v : ℕ → ℕ) (p h g s : ℕ) (side : Side) → side_at q s ≡ side → 0 < denominator q.game → AreChoicesOf q.game (choices_of q.game) → s < states q
     → ((t : ℕ) → t < states q → slice_index_or gone t false ≡ false → p ≤ v t + h) → ((t : ℕ) → t < states q → slice_index_or set t false ≡ true → p + g ≤ v t + h)
-    → draws side (staying gone) set (choices_of q.game s) ≡ true → denominator q.game * p + g ≤ optimum (side_at q s) (λ m. denominator q.game / m.total * weighted_sum v m.edges) (choices_of q.game s) + denominator q.game * h
+    → attracts side (gone_barred gone) set (choices_of q.game s) ≡ true → denominator q.game * p + g ≤ optimum (side_at q s) (λ m. denominator q.game / m.total * weighted_sum v m.edges) (choices_of q.game s) + denominator q.game * h
 side-nearer q gone set v p h g s Max is_side positive chosen inside outer inner drawn =
     let f : Distribution → ℕ = λ m. denominator q.game / m.total * weighted_sum v m.edges in
-    let one : (c : ℕ) × (c < length (choices_of q.game s)) × (serves (staying gone) set (choice_of q.game s c) ≡ true) = any-place (serves (staying gone) set) (choices_of q.game s) no_distribution drawn in
+    let one : (c : ℕ) × (c < length (choices_of q.game s)) × (serves (gone_barred gone) set (choice_of q.game s c) ≡ true) = any-place (serves (gone_barred gone) set) (choices_of q.game s) no_distribution drawn in
     let here : denominator q.game * p + g ≤ f (choice_of q.game s one.0) + denominator q.game * h =
     choice-nearer q gone set v p h g (choice_of q.game s one.0) positive (AllByRecursion-at (IsChoiceOf q.game) (choices_of q.game s) one.0 no_distribution one.1 (chosen.each s)) outer inner one.2 in
     let most : f (choice_of q.game s one.0) ≤ optimum Max f (choices_of q.game s) = optimum-each f (choices_of q.game s) one.0 no_distribution one.1 in
@@ -94,8 +94,8 @@ side-nearer q gone set v p h g s Min is_side positive chosen inside outer inner 
     let f : Distribution → ℕ = λ m. denominator q.game / m.total * weighted_sum v m.edges in
     let all : denominator q.game * p + g + 0 * optimum (side_at q s) f (choices_of q.game s) ≤ 1 * optimum (side_at q s) f (choices_of q.game s) + denominator q.game * h =
     optimum-affine (side_at q s) f f (denominator q.game * p + g) 0 1 (denominator q.game * h) (choices_of q.game s) (chosen.some s inside)
-    (AllByRecursion-weaker (λ m. IsChoiceOf q.game m × (serves (staying gone) set m ≡ true)) _ (λ m fact. omega (arith, choice-nearer q gone set v p h g m positive fact.0 outer inner fact.1)) (choices_of q.game s)
-    (AllByRecursion-both (IsChoiceOf q.game) (λ m. serves (staying gone) set m ≡ true) (choices_of q.game s) (chosen.each s) (all-each (serves (staying gone) set) (choices_of q.game s) drawn))) in
+    (AllByRecursion-weaker (λ m. IsChoiceOf q.game m × (serves (gone_barred gone) set m ≡ true)) _ (λ m fact. omega (arith, choice-nearer q gone set v p h g m positive fact.0 outer inner fact.1)) (choices_of q.game s)
+    (AllByRecursion-both (IsChoiceOf q.game) (λ m. serves (gone_barred gone) set m ≡ true) (choices_of q.game s) (chosen.each s) (all-each (serves (gone_barred gone) set) (choices_of q.game s) drawn))) in
     omega (arith, all)
 
 marked-nearer : (goal dead : Bool) (top x a b : ℕ) → dead ≡ false → a ≤ top + b → a ≤ x + b → a ≤ (if goal then top else (if dead then 0 else x)) + b
@@ -103,14 +103,14 @@ marked-nearer true dead top x a b alive h k = h
 marked-nearer false true top x a b alive h k = absurd (cc)
 marked-nearer false false top x a b alive h k = k
 
--- a state that is drawn in comes nearer in one more step
-drawn-nearer : (q : Query) (gone set : List Bool) (k n g s : ℕ) → IsQuery q → s < states q → is_dead q s ≡ false
+-- a state that is attracted comes nearer in one more step
+attracted-nearer : (q : Query) (gone set : List Bool) (k n g s : ℕ) → IsQuery q → s < states q → is_dead q s ≡ false
     → ((t : ℕ) → t < states q → slice_index_or gone t false ≡ false → denominator q.game ^ (k + n) ≤ numerator q (k + n) t + g * denominator q.game ^ n)
     → ((t : ℕ) → t < states q → slice_index_or set t false ≡ true → denominator q.game ^ (k + n) + g ≤ numerator q (k + n) t + g * denominator q.game ^ n)
-    → is_drawn q (staying gone) set s ≡ true
+    → is_attracted q (gone_barred gone) set s ≡ true
     → denominator q.game ^ suc (k + n) + g ≤ numerator q (suc (k + n)) s + g * denominator q.game ^ suc n
 unfolding numerator_of
-drawn-nearer q gone set k n g s posed inside alive outer inner drawn =
+attracted-nearer q gone set k n g s posed inside alive outer inner drawn =
     let D : ℕ = denominator q.game in
     let positive : 0 < D = denominator-pos q.game posed.game in
     let side : D * D ^ (k + n) + g ≤ optimum (side_at q s) (λ m. D / m.total * weighted_sum (numerator q (k + n)) m.edges) (choices_of q.game s) + D * (g * D ^ n) =
@@ -127,8 +127,8 @@ later-nearer q k n g s positive h =
     rw (pow-suc D (k + n), pow-suc D n)
     (omega (arith, mul-le-mul_right D h, mul-le-mul_left g positive, numerator_of-rises q (choices_of q.game) (k + n) s))
 
--- a state joins that is drawn in
-ComesNearer-add : (q : Query) (gone members : List Bool) (i : ℕ) → IsQuery q → i < states q → is_dead q i ≡ false → ComesNearer q gone members → is_drawn q (staying gone) members i ≡ true
+-- a state joins that is attracted
+ComesNearer-add : (q : Query) (gone members : List Bool) (i : ℕ) → IsQuery q → i < states q → is_dead q i ≡ false → ComesNearer q gone members → is_attracted q (gone_barred gone) members i ≡ true
     → ComesNearer q gone (set members i true)
 ComesNearer-add q gone members i posed here alive near drawn = record {
   horizon = suc near.horizon;
@@ -139,7 +139,7 @@ ComesNearer-add q gone members i posed here alive near drawn = record {
       let body : D ^ suc (k + n) + g ≤ numerator q (suc (k + n)) s + g * D ^ suc n = elim (cases_eq s i) [
         | inl same ↦
             subst (λ t. D ^ suc (k + n) + g ≤ numerator q (suc (k + n)) t + g * D ^ suc n) (sym same)
-            (drawn-nearer q gone members k n g i posed here alive (λ t within out. misses-later q k g n t (outer t within out)) inner drawn)
+            (attracted-nearer q gone members k n g i posed here alive (λ t within out. misses-later q k g n t (outer t within out)) inner drawn)
         | inr other ↦ later-nearer q k n g s (denominator-pos q.game posed.game) (inner s inside (sym (get_or-set_other members i s true false other) ∙ member))
       ] in
       subst (λ j. D ^ j + g ≤ numerator q j s + g * D ^ suc n) (sym (add-suc k n)) body;
@@ -162,7 +162,7 @@ alive-within true gone h within = let is : gone ≡ true = h refl in absurd (cc)
 alive-within false gone h within = refl
 
 -- so a set that grew comes nearer
-pub ComesNearer-grown : (q : Query) (gone set : List Bool) → IsQuery q → ((s : ℕ) → s < states q → is_dead q s ≡ true → slice_index_or gone s false ≡ true) → Grew q (staying gone) set → ComesNearer q gone set
+pub ComesNearer-grown : (q : Query) (gone set : List Bool) → IsQuery q → ((s : ℕ) → s < states q → is_dead q s ≡ true → slice_index_or gone s false ≡ true) → Grew q (gone_barred gone) set → ComesNearer q gone set
 ComesNearer-grown q gone _ posed deads (from_goals members goals) = ComesNearer-goals q gone members goals
 ComesNearer-grown q gone _ posed deads (with_state members s grew inside within drawn) =
     ComesNearer-add q gone members s posed inside (alive-within (is_dead q s) (slice_index_or gone s false) (deads s inside) within) (ComesNearer-grown q gone members posed deads grew) drawn

@@ -12,14 +12,14 @@ use Rattle.game_model.proofs.Longer.{longer-at, longer-length}
 use Rattle.predecessors.specs.declared.lists.Move.{Move}
 use Rattle.predecessors.specs.Moves.{move, LeadsTo}
 use Rattle.predecessors.specs.Lists.{ArePredecessors}
-use Rattle.attractors.specs.Attractor.{Limits, meets, is_drawn, AreGoals, from_goals, IsAttractor}
+use Rattle.attractors.specs.Attractor.{Barred, meets, is_attracted, AreGoals, from_goals, IsAttractor}
 use Rattle.attractors.specs.Growing.{moves_into, LeadsIn, IsOrder, IsLeft, IsGrowth}
 use Rattle.attractors.proofs.Meeting.{meets-successor, destination-at}
 use Rattle.attractors.proofs.Serving.{serves-both, unserved-by, left-by-none, left-by-one}
 
 -- the goals alone have grown from no move
-pub IsGrowth-goals : (q : Query) (limits : Limits) (members : List Bool) (awaited order : List ℕ) → IsQuery q → AreGoals q members → IsOrder members order → awaited ≡ replicate (states q) 0 → IsGrowth q limits [] members awaited order
-IsGrowth-goals q limits members awaited order posed goals ordered first = record {
+pub IsGrowth-goals : (q : Query) (barred : Barred) (members : List Bool) (awaited order : List ℕ) → IsQuery q → AreGoals q members → IsOrder members order → awaited ≡ replicate (states q) 0 → IsGrowth q barred [] members awaited order
+IsGrowth-goals q barred members awaited order posed goals ordered first = record {
   many = goals.many;
   as_many = ap length first ∙ length-replicate (states q) 0;
   ordered = ordered;
@@ -46,33 +46,33 @@ Contains-moves_into lists (t ∷ order) u m (suc k, l, same) listed =
     Contains-append_right (slice_index_or lists t []) (moves_into lists order) m (Contains-moves_into lists order u m (k, omega arith, same) listed)
 
 -- a choice that meets the members has been followed, once all moves to members have
-all-followed : (q : Query) (limits : Limits) (lists : List (List Move)) (members : List Bool) (awaited order : List ℕ) (s c : ℕ) → IsQuery q → ArePredecessors q.game lists → IsGrowth q limits (moves_into lists order) members awaited order
+all-followed : (q : Query) (barred : Barred) (lists : List (List Move)) (members : List Bool) (awaited order : List ℕ) (s c : ℕ) → IsQuery q → ArePredecessors q.game lists → IsGrowth q barred (moves_into lists order) members awaited order
     → s < states q → c < length (choices_of q.game s) → meets members (choice_of q.game s c) ≡ true → Contains (moves_into lists order) (move s c)
-all-followed q limits lists members awaited order s c posed are h ls lc meet =
+all-followed q barred lists members awaited order s c posed are h ls lc meet =
     let one : (k : ℕ) × (k < length (choice_of q.game s c).edges) × (slice_index_or members (get_or (choice_of q.game s c).edges k no_edge).to false ≡ true) = meets-successor members (choice_of q.game s c) meet in
     let u : ℕ = (get_or (choice_of q.game s c).edges one.0 no_edge).to in
     let inside : u < length q.game = posed.game.inside s c ls lc one.0 no_edge one.1 in
     let leads : LeadsTo q.game s c u = record { state = ls; choice = lc; successor = destination-at (choice_of q.game s c) one.0 one.1 } in
     Contains-moves_into lists order u (move s c) (h.ordered.listed u (omega (arith, inside, h.many)) one.2) ((are.exact s c u inside).1 leads)
 
--- and then the side of a state that is left is not drawn in
-side-left : (q : Query) (limits : Limits) (lists : List (List Move)) (members : List Bool) (awaited order : List ℕ) (s : ℕ) (side : Side) → side_at q s ≡ side → IsQuery q → ArePredecessors q.game lists → IsGrowth q limits (moves_into lists order) members awaited order
-    → s < states q → IsLeft q limits (moves_into lists order) members awaited s → is_drawn q limits members s ≡ false
-side-left q limits lists members awaited order s Max is_side posed are h l left =
-    left-by-none q limits members s is_side (λ c lc serve.
-    let both : (limits.barred (choice_of q.game s c) ≡ false) × (meets members (choice_of q.game s c) ≡ true) = serves-both limits members (choice_of q.game s c) serve in
-    left.greatest is_side c lc both.0 (all-followed q limits lists members awaited order s c posed are h l lc both.1))
-side-left q limits lists members awaited order s Min is_side posed are h l left =
-    left-by-one q limits members s (slice_index awaited s) is_side (left.least is_side).inside
-    (unserved-by limits members (choice_of q.game s (slice_index awaited s))
-    (λ free meet. (left.least is_side).still free (all-followed q limits lists members awaited order s (slice_index awaited s) posed are h l (left.least is_side).inside meet)))
+-- and then the side of a state that is left is not attracted
+side-left : (q : Query) (barred : Barred) (lists : List (List Move)) (members : List Bool) (awaited order : List ℕ) (s : ℕ) (side : Side) → side_at q s ≡ side → IsQuery q → ArePredecessors q.game lists → IsGrowth q barred (moves_into lists order) members awaited order
+    → s < states q → IsLeft q barred (moves_into lists order) members awaited s → is_attracted q barred members s ≡ false
+side-left q barred lists members awaited order s Max is_side posed are h l left =
+    left-by-none q barred members s is_side (λ c lc serve.
+    let both : (barred.choices (choice_of q.game s c) ≡ false) × (meets members (choice_of q.game s c) ≡ true) = serves-both barred members (choice_of q.game s c) serve in
+    left.greatest is_side c lc both.0 (all-followed q barred lists members awaited order s c posed are h l lc both.1))
+side-left q barred lists members awaited order s Min is_side posed are h l left =
+    left-by-one q barred members s (slice_index awaited s) is_side (left.least is_side).inside
+    (unserved-by barred members (choice_of q.game s (slice_index awaited s))
+    (λ free meet. (left.least is_side).still free (all-followed q barred lists members awaited order s (slice_index awaited s) posed are h l (left.least is_side).inside meet)))
 
 -- and no other state is
-pub IsAttractor-grown : (q : Query) (limits : Limits) (lists : List (List Move)) (members : List Bool) (awaited order : List ℕ) → IsQuery q → ArePredecessors q.game lists → IsGrowth q limits (moves_into lists order) members awaited order → IsAttractor q limits members
-IsAttractor-grown q limits lists members awaited order posed are h = record {
+pub IsAttractor-grown : (q : Query) (barred : Barred) (lists : List (List Move)) (members : List Bool) (awaited order : List ℕ) → IsQuery q → ArePredecessors q.game lists → IsGrowth q barred (moves_into lists order) members awaited order → IsAttractor q barred members
+IsAttractor-grown q barred lists members awaited order posed are h = record {
   many = h.many;
   grew = h.grew;
-  closed = λ s l out within. side-left q limits lists members awaited order s (side_at q s) refl posed are h l (h.left s l out within);
+  closed = λ s l out within. side-left q barred lists members awaited order s (side_at q s) refl posed are h l (h.left s l out within);
 }
 
 -- a move in the list of a member leads to it

@@ -6,3 +6,4 @@ pub mod Grown
 pub mod Following
 pub mod Closing
 pub mod Testing
+pub mod Least

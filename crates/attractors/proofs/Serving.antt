@@ -1,4 +1,4 @@
--- Choices that serve, and states that are drawn in.
+-- Choices that serve, and states that are attracted.
 use Rattle.std.proofs.Common.{◌≡◌, ◌⊎◌, ℕ, ◌<◌, Bool, true, false, List, length, get_or, refl, ap, ◌∙◌, inl, inr, not}
 use Rattle.std.proofs.lemmas.Bool.{cases_Bool}
 use Rattle.std.specs.Prelude.{◌&&◌}
@@ -8,7 +8,7 @@ use Rattle.game_model.specs.declared.game.Side.TheVariants.{Max, Min}
 use Rattle.game_model.specs.Game.{Distribution, no_distribution, choices_of, choice_of}
 use Rattle.game_model.specs.Query.{Query, side_at}
 use Rattle.attractors.proofs.Tests.{any-place, all-place}
-use Rattle.attractors.specs.Attractor.{Limits, meets, serves, draws, is_drawn}
+use Rattle.attractors.specs.Attractor.{Barred, meets, serves, attracts, is_attracted}
 
 served : (a b : Bool) → (not a && b) ≡ true → (a ≡ false) × (b ≡ true)
 served true b h = absurd (cc)
@@ -28,48 +28,48 @@ unserve false true h = absurd (h refl refl)
 unserve false false h = refl
 
 -- what a choice that serves, or does not, says of its successors
-pub serves-both : (limits : Limits) (set : List Bool) (m : Distribution) → serves limits set m ≡ true → (limits.barred m ≡ false) × (meets set m ≡ true)
-serves-both limits set m h = served (limits.barred m) (meets set m) h
+pub serves-both : (barred : Barred) (set : List Bool) (m : Distribution) → serves barred set m ≡ true → (barred.choices m ≡ false) × (meets set m ≡ true)
+serves-both barred set m h = served (barred.choices m) (meets set m) h
 
-pub serves-by : (limits : Limits) (set : List Bool) (m : Distribution) → limits.barred m ≡ false → meets set m ≡ true → serves limits set m ≡ true
-serves-by limits set m h k = serve (limits.barred m) (meets set m) h k
+pub serves-by : (barred : Barred) (set : List Bool) (m : Distribution) → barred.choices m ≡ false → meets set m ≡ true → serves barred set m ≡ true
+serves-by barred set m h k = serve (barred.choices m) (meets set m) h k
 
-pub serves-not : (limits : Limits) (set : List Bool) (m : Distribution) → serves limits set m ≡ false → (limits.barred m ≡ true) ⊎ (meets set m ≡ false)
-serves-not limits set m h = unserved (limits.barred m) (meets set m) h
+pub serves-not : (barred : Barred) (set : List Bool) (m : Distribution) → serves barred set m ≡ false → (barred.choices m ≡ true) ⊎ (meets set m ≡ false)
+serves-not barred set m h = unserved (barred.choices m) (meets set m) h
 
-pub unserved-by : (limits : Limits) (set : List Bool) (m : Distribution) → (limits.barred m ≡ false → meets set m ≡ true → ⊥) → serves limits set m ≡ false
-unserved-by limits set m h = unserve (limits.barred m) (meets set m) h
+pub unserved-by : (barred : Barred) (set : List Bool) (m : Distribution) → (barred.choices m ≡ false → meets set m ≡ true → ⊥) → serves barred set m ≡ false
+unserved-by barred set m h = unserve (barred.choices m) (meets set m) h
 
--- a state of the maximiser is drawn in by one choice, and one of the minimiser by all
-pub draws-one : (q : Query) (limits : Limits) (set : List Bool) (s c : ℕ) → side_at q s ≡ Max → c < length (choices_of q.game s) → serves limits set (choice_of q.game s c) ≡ true → is_drawn q limits set s ≡ true
-draws-one q limits set s c is_side l serve = ap (λ side. draws side limits set (choices_of q.game s)) is_side ∙ list_any_at (serves limits set) (choices_of q.game s) c no_distribution l serve
+-- a state of the maximiser is attracted by one choice, and one of the minimiser by all
+pub attracts-one : (q : Query) (barred : Barred) (set : List Bool) (s c : ℕ) → side_at q s ≡ Max → c < length (choices_of q.game s) → serves barred set (choice_of q.game s c) ≡ true → is_attracted q barred set s ≡ true
+attracts-one q barred set s c is_side l serve = ap (λ side. attracts side barred set (choices_of q.game s)) is_side ∙ list_any_at (serves barred set) (choices_of q.game s) c no_distribution l serve
 
-all-serve : (limits : Limits) (set : List Bool) (choices : List Distribution) → ((c : ℕ) → c < length choices → serves limits set (get_or choices c no_distribution) ≡ true) → list_all (serves limits set) choices ≡ true
-all-serve limits set choices each = elim (cases_Bool (list_all (serves limits set) choices)) [
+all-serve : (barred : Barred) (set : List Bool) (choices : List Distribution) → ((c : ℕ) → c < length choices → serves barred set (get_or choices c no_distribution) ≡ true) → list_all (serves barred set) choices ≡ true
+all-serve barred set choices each = elim (cases_Bool (list_all (serves barred set) choices)) [
   | inl holds ↦ holds
   | inr fails ↦
-      let one : (c : ℕ) × (c < length choices) × (serves limits set (get_or choices c no_distribution) ≡ false) = all-place (serves limits set) choices no_distribution fails in
-      let serve : serves limits set (get_or choices one.0 no_distribution) ≡ true = each one.0 one.1 in
-      let other : serves limits set (get_or choices one.0 no_distribution) ≡ false = one.2 in
+      let one : (c : ℕ) × (c < length choices) × (serves barred set (get_or choices c no_distribution) ≡ false) = all-place (serves barred set) choices no_distribution fails in
+      let serve : serves barred set (get_or choices one.0 no_distribution) ≡ true = each one.0 one.1 in
+      let other : serves barred set (get_or choices one.0 no_distribution) ≡ false = one.2 in
       absurd (cc)
 ]
 
-pub draws-all : (q : Query) (limits : Limits) (set : List Bool) (s : ℕ) → side_at q s ≡ Min → ((c : ℕ) → c < length (choices_of q.game s) → serves limits set (choice_of q.game s c) ≡ true) → is_drawn q limits set s ≡ true
-draws-all q limits set s is_side each = ap (λ side. draws side limits set (choices_of q.game s)) is_side ∙ all-serve limits set (choices_of q.game s) each
+pub attracts-all : (q : Query) (barred : Barred) (set : List Bool) (s : ℕ) → side_at q s ≡ Min → ((c : ℕ) → c < length (choices_of q.game s) → serves barred set (choice_of q.game s c) ≡ true) → is_attracted q barred set s ≡ true
+attracts-all q barred set s is_side each = ap (λ side. attracts side barred set (choices_of q.game s)) is_side ∙ all-serve barred set (choices_of q.game s) each
 
 -- and is left where no choice does so, or one does not
-none-serve : (limits : Limits) (set : List Bool) (choices : List Distribution) → ((c : ℕ) → c < length choices → serves limits set (get_or choices c no_distribution) ≡ true → ⊥) → list_any (serves limits set) choices ≡ false
-none-serve limits set choices none = elim (cases_Bool (list_any (serves limits set) choices)) [
-  | inl holds ↦ let one : (c : ℕ) × (c < length choices) × (serves limits set (get_or choices c no_distribution) ≡ true) = any-place (serves limits set) choices no_distribution holds in absurd (none one.0 one.1 one.2)
+none-serve : (barred : Barred) (set : List Bool) (choices : List Distribution) → ((c : ℕ) → c < length choices → serves barred set (get_or choices c no_distribution) ≡ true → ⊥) → list_any (serves barred set) choices ≡ false
+none-serve barred set choices none = elim (cases_Bool (list_any (serves barred set) choices)) [
+  | inl holds ↦ let one : (c : ℕ) × (c < length choices) × (serves barred set (get_or choices c no_distribution) ≡ true) = any-place (serves barred set) choices no_distribution holds in absurd (none one.0 one.1 one.2)
   | inr fails ↦ fails
 ]
 
-pub left-by-none : (q : Query) (limits : Limits) (set : List Bool) (s : ℕ) → side_at q s ≡ Max → ((c : ℕ) → c < length (choices_of q.game s) → serves limits set (choice_of q.game s c) ≡ true → ⊥) → is_drawn q limits set s ≡ false
-left-by-none q limits set s is_side none = ap (λ side. draws side limits set (choices_of q.game s)) is_side ∙ none-serve limits set (choices_of q.game s) none
+pub left-by-none : (q : Query) (barred : Barred) (set : List Bool) (s : ℕ) → side_at q s ≡ Max → ((c : ℕ) → c < length (choices_of q.game s) → serves barred set (choice_of q.game s c) ≡ true → ⊥) → is_attracted q barred set s ≡ false
+left-by-none q barred set s is_side none = ap (λ side. attracts side barred set (choices_of q.game s)) is_side ∙ none-serve barred set (choices_of q.game s) none
 
-pub left-by-one : (q : Query) (limits : Limits) (set : List Bool) (s c : ℕ) → side_at q s ≡ Min → c < length (choices_of q.game s) → serves limits set (choice_of q.game s c) ≡ false → is_drawn q limits set s ≡ false
-left-by-one q limits set s c is_side l fails = ap (λ side. draws side limits set (choices_of q.game s)) is_side ∙ list_all_at (serves limits set) (choices_of q.game s) c no_distribution l fails
+pub left-by-one : (q : Query) (barred : Barred) (set : List Bool) (s c : ℕ) → side_at q s ≡ Min → c < length (choices_of q.game s) → serves barred set (choice_of q.game s c) ≡ false → is_attracted q barred set s ≡ false
+left-by-one q barred set s c is_side l fails = ap (λ side. attracts side barred set (choices_of q.game s)) is_side ∙ list_all_at (serves barred set) (choices_of q.game s) c no_distribution l fails
 
--- a state of the maximiser is drawn in by some choice
-pub draws-some : (q : Query) (limits : Limits) (set : List Bool) (s : ℕ) → side_at q s ≡ Max → list_any (serves limits set) (choices_of q.game s) ≡ true → is_drawn q limits set s ≡ true
-draws-some q limits set s is_side some = ap (λ side. draws side limits set (choices_of q.game s)) is_side ∙ some
+-- a state of the maximiser is attracted by some choice
+pub attracts-some : (q : Query) (barred : Barred) (set : List Bool) (s : ℕ) → side_at q s ≡ Max → list_any (serves barred set) (choices_of q.game s) ≡ true → is_attracted q barred set s ≡ true
+attracts-some q barred set s is_side some = ap (λ side. attracts side barred set (choices_of q.game s)) is_side ∙ some

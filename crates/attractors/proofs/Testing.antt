@@ -10,46 +10,46 @@ use Rattle.game_model.specs.Query.{Query, states}
 use Rattle.predecessors.specs.declared.lists.Move.{Move}
 use Rattle.predecessors.specs.Moves.{move, LeadsTo}
 use Rattle.predecessors.specs.Lists.{ArePredecessors}
-use Rattle.attractors.specs.Attractor.{Limits, meets, serves}
+use Rattle.attractors.specs.Attractor.{Barred, meets, serves}
 use Rattle.attractors.specs.Growing.{moves_into, IsOrder, IsGrowth, IsLarger, IsTested, AreTested}
 use Rattle.attractors.proofs.Meeting.{meets-at, meets-more}
 use Rattle.attractors.proofs.Serving.{serves-by}
 use Rattle.attractors.proofs.Following.{serves-more}
 
-smaller-fails : (q : Query) (limits : Limits) (set more : List Bool) (s c : ℕ) → IsLarger set more → serves limits more (choice_of q.game s c) ≡ false → serves limits set (choice_of q.game s c) ≡ false
-smaller-fails q limits set more s c larger fails = elim (cases_Bool (serves limits set (choice_of q.game s c))) [
-  | inl serve ↦ let too : serves limits more (choice_of q.game s c) ≡ true = serves-more limits set more q s c larger serve in absurd (cc)
+smaller-fails : (q : Query) (barred : Barred) (set more : List Bool) (s c : ℕ) → IsLarger set more → serves barred more (choice_of q.game s c) ≡ false → serves barred set (choice_of q.game s c) ≡ false
+smaller-fails q barred set more s c larger fails = elim (cases_Bool (serves barred set (choice_of q.game s c))) [
+  | inl serve ↦ let too : serves barred more (choice_of q.game s c) ≡ true = serves-more barred set more q s c larger serve in absurd (cc)
   | inr not_ ↦ not_
 ]
 
--- a state that a set does not draw in is not drawn in by a smaller one
-IsTested-smaller : (q : Query) (limits : Limits) (set more : List Bool) (awaited : List ℕ) (s : ℕ) → IsLarger set more → IsTested q limits more awaited s → IsTested q limits set awaited s
-IsTested-smaller q limits set more awaited s larger h = record {
-  greatest = λ is_side c lc. smaller-fails q limits set more s c larger (h.greatest is_side c lc);
-  least = λ is_side. smaller-fails q limits set more s (slice_index awaited s) larger (h.least is_side);
+-- a state that a set does not attract is not attracted by a smaller one
+IsTested-smaller : (q : Query) (barred : Barred) (set more : List Bool) (awaited : List ℕ) (s : ℕ) → IsLarger set more → IsTested q barred more awaited s → IsTested q barred set awaited s
+IsTested-smaller q barred set more awaited s larger h = record {
+  greatest = λ is_side c lc. smaller-fails q barred set more s c larger (h.greatest is_side c lc);
+  least = λ is_side. smaller-fails q barred set more s (slice_index awaited s) larger (h.least is_side);
 }
 
 -- what the state waits for is all that counts
-IsTested-in : (q : Query) (limits : Limits) (set : List Bool) (awaited awaited' : List ℕ) (s : ℕ) → slice_index awaited' s ≡ slice_index awaited s → IsTested q limits set awaited s → IsTested q limits set awaited' s
-IsTested-in q limits set awaited awaited' s same h = record {
+IsTested-in : (q : Query) (barred : Barred) (set : List Bool) (awaited awaited' : List ℕ) (s : ℕ) → slice_index awaited' s ≡ slice_index awaited s → IsTested q barred set awaited s → IsTested q barred set awaited' s
+IsTested-in q barred set awaited awaited' s same h = record {
   greatest = h.greatest;
-  least = λ is_side. subst (λ c. serves limits set (choice_of q.game s c) ≡ false) (sym same) (h.least is_side);
+  least = λ is_side. subst (λ c. serves barred set (choice_of q.game s c) ≡ false) (sym same) (h.least is_side);
 }
 
 -- a state tested before the next one was
-pub AreTested-more : (q : Query) (limits : Limits) (old members members' : List Bool) (awaited awaited' : List ℕ) (t : ℕ) → IsLarger old members → IsLarger members members'
-    → AreTested q limits old members awaited t → ((s : ℕ) → s ≢ t → slice_index awaited' s ≡ slice_index awaited s)
-    → (slice_index_or members' t false ≡ false → limits.gone t ≡ false → IsTested q limits members awaited' t) → AreTested q limits old members' awaited' (t + 1)
-AreTested-more q limits old members members' awaited awaited' t larger grown before others here s l out within = elim (cases_eq s t) [
+pub AreTested-more : (q : Query) (barred : Barred) (old members members' : List Bool) (awaited awaited' : List ℕ) (t : ℕ) → IsLarger old members → IsLarger members members'
+    → AreTested q barred old members awaited t → ((s : ℕ) → s ≢ t → slice_index awaited' s ≡ slice_index awaited s)
+    → (slice_index_or members' t false ≡ false → barred.states t ≡ false → IsTested q barred members awaited' t) → AreTested q barred old members' awaited' (t + 1)
+AreTested-more q barred old members members' awaited awaited' t larger grown before others here s l out within = elim (cases_eq s t) [
   | inl same ↦
-      subst (λ u. slice_index_or members' u false ≡ false → limits.gone u ≡ false → IsTested q limits old awaited' u) (sym same)
-      (λ out' within'. IsTested-smaller q limits old members awaited' t larger (here out' within')) out within
+      subst (λ u. slice_index_or members' u false ≡ false → barred.states u ≡ false → IsTested q barred old awaited' u) (sym same)
+      (λ out' within'. IsTested-smaller q barred old members awaited' t larger (here out' within')) out within
   | inr other ↦
       let was_out : slice_index_or members s false ≡ false = elim (cases_Bool (slice_index_or members s false)) [
         | inl member ↦ let still : slice_index_or members' s false ≡ true = grown s member in absurd (cc)
         | inr left ↦ left
       ] in
-      IsTested-in q limits old awaited awaited' s (others s other) (before s (omega arith) was_out within)
+      IsTested-in q barred old awaited awaited' s (others s other) (before s (omega arith) was_out within)
 ]
 
 -- a move in these lists is in one of them
@@ -73,9 +73,9 @@ move-meets q lists set order s c are many ordered among =
     meets-at set (choice_of q.game s c) one.0 leads.successor member
 
 -- where each state that is left was tested, the moves to the tested set may count as followed
-pub IsGrowth-tested : (q : Query) (limits : Limits) (lists : List (List Move)) (old members : List Bool) (awaited order order' : List ℕ) → ArePredecessors q.game lists → length old ≡ states q → IsOrder old order → IsLarger old members
-    → AreTested q limits old members awaited (states q) → IsGrowth q limits [] members awaited order' → IsGrowth q limits (moves_into lists order) members awaited order'
-IsGrowth-tested q limits lists old members awaited order order' are many ordered larger tested h = record {
+pub IsGrowth-tested : (q : Query) (barred : Barred) (lists : List (List Move)) (old members : List Bool) (awaited order order' : List ℕ) → ArePredecessors q.game lists → length old ≡ states q → IsOrder old order → IsLarger old members
+    → AreTested q barred old members awaited (states q) → IsGrowth q barred [] members awaited order' → IsGrowth q barred (moves_into lists order) members awaited order'
+IsGrowth-tested q barred lists old members awaited order order' are many ordered larger tested h = record {
   many = h.many;
   as_many = h.as_many;
   ordered = h.ordered;
@@ -83,16 +83,16 @@ IsGrowth-tested q limits lists old members awaited order order' are many ordered
   leads = λ s c among. meets-more old members (choice_of q.game s c) larger (move-meets q lists old order s c are many ordered among);
   left = λ s l out within. record {
     greatest = λ is_side c lc free among.
-        let serve : serves limits old (choice_of q.game s c) ≡ true = serves-by limits old (choice_of q.game s c) free (move-meets q lists old order s c are many ordered among) in
-        let fails : serves limits old (choice_of q.game s c) ≡ false = (tested s l out within).greatest is_side c lc in
+        let serve : serves barred old (choice_of q.game s c) ≡ true = serves-by barred old (choice_of q.game s c) free (move-meets q lists old order s c are many ordered among) in
+        let fails : serves barred old (choice_of q.game s c) ≡ false = (tested s l out within).greatest is_side c lc in
         cc;
     least = λ is_side. record {
       inside = ((h.left s l out within).least is_side).inside;
       before = ((h.left s l out within).least is_side).before;
       still = λ free among.
           let c : ℕ = slice_index awaited s in
-          let serve : serves limits old (choice_of q.game s c) ≡ true = serves-by limits old (choice_of q.game s c) free (move-meets q lists old order s c are many ordered among) in
-          let fails : serves limits old (choice_of q.game s c) ≡ false = (tested s l out within).least is_side in
+          let serve : serves barred old (choice_of q.game s c) ≡ true = serves-by barred old (choice_of q.game s c) free (move-meets q lists old order s c are many ordered among) in
+          let fails : serves barred old (choice_of q.game s c) ≡ false = (tested s l out within).least is_side in
           cc;
     };
   };

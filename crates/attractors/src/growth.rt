@@ -3,18 +3,18 @@
 ghost use Rattle.std.specs.Prelude.{◌≡◌, ◌≢◌, ℕ, ◌+◌, ◌<◌, List, [], ◌∷◌, ◌++◌, false, length, slice_index, slice_index_or, IfOk, OnOk};
 ghost use Rattle.game_model.specs.Growing.{IsLonger};
 ghost use Rattle.game_model.specs.Query.{states};
-ghost use Rattle.attractors.specs.Attractor.{Limits};
+ghost use Rattle.attractors.specs.Attractor.{Barred};
 ghost use Rattle.attractors.specs.Growing.{LeadsIn, IsGrowth, IsLarger, IsTested};
 
+use crate::bars::Bars;
 use crate::membership::{first_unserved, some_serves};
-use crate::subgame::Subgame;
 use game_model::{Question, Side};
 use game_outside::OutOfMemory;
 use predecessors::Move;
 use std::alloc::Global;
 
-/// The members; for each state of the minimiser that is none the first choice that is barred, or not known to have a
-/// member among its successors; and the members in the order in which they joined.
+/// The members; for each state of the minimiser that is neither member nor barred the first choice that is not known to
+/// serve; and the members in the order in which they joined.
 #[derive(Drop)]
 pub struct Growth {
     pub members: Vec<bool>,
@@ -25,7 +25,7 @@ pub struct Growth {
 impl Growth {
     /// The goals alone.
     pub fn of_goals(alloc: Global, question: &Question) -> Result<Growth, OutOfMemory>
-        ensures { IfOk result (λ g. (limits : Limits) → IsGrowth question.now limits [] g.members.items g.awaited.items g.order.items) }
+        ensures { IfOk result (λ g. (barred : Barred) → IsGrowth question.now barred [] g.members.items g.awaited.items g.order.items) }
     {
         question.known();
         let states = question.game().states();
@@ -46,27 +46,27 @@ impl Growth {
         })
     }
 
-    /// Follows a move that leads to a member, where its state is not gone and its choice not barred. A state of the
+    /// Follows a move that leads to a member, where neither its state nor its choice is barred. A state of the
     /// maximiser joins by it; one of the minimiser joins where it waited for this choice, and each later one serves.
-    pub fn follow<S: Subgame>(
+    pub fn follow<S: Bars>(
         &mut self,
         question: &Question,
-        subgame: &S,
+        bars: &S,
         step: Move,
     ) -> Result<(), OutOfMemory>
-        requires fits { S.fits subgame.now question.now }
+        requires fits { S.fits bars.now question.now }
         requires members { length self.old.members.items ≡ states question.now }
         requires awaited { length self.old.awaited.items ≡ states question.now }
         requires leads { LeadsIn question.now.game self.old.members.items step }
         ensures longer { OnOk result (IsLonger self.old.order.items self.new.order.items) }
-        ensures grows { OnOk result ((followed : List Move) → IsGrowth question.now (S.limits subgame.now question.now) followed self.old.members.items self.old.awaited.items self.old.order.items
-            → IsGrowth question.now (S.limits subgame.now question.now) (followed ++ step ∷ []) self.new.members.items self.new.awaited.items self.new.order.items) }
+        ensures grows { OnOk result ((followed : List Move) → IsGrowth question.now (S.barred bars.now question.now) followed self.old.members.items self.old.awaited.items self.old.order.items
+            → IsGrowth question.now (S.barred bars.now question.now) (followed ++ step ∷ []) self.new.members.items self.new.awaited.items self.new.order.items) }
     {
         question.known();
         let state = step.state as usize;
         if self.members[state]
-            || subgame.is_gone(question, step.state)
-            || subgame.bars(question, step.state, step.choice)
+            || bars.bars_state(question, step.state)
+            || bars.bars_choice(question, step.state, step.choice)
         {
             return Ok(());
         }
@@ -78,7 +78,7 @@ impl Growth {
                 }
                 let next = first_unserved(
                     question,
-                    subgame,
+                    bars,
                     &self.members,
                     step.state,
                     step.choice + 1,
@@ -94,37 +94,37 @@ impl Growth {
         Ok(())
     }
 
-    /// Tests a state that is no member: it joins where the members draw it in.
-    pub fn test<S: Subgame>(
+    /// Tests a state that is no member: it joins where the members attract it.
+    pub fn test<S: Bars>(
         &mut self,
         question: &Question,
-        subgame: &S,
+        bars: &S,
         state: u32,
     ) -> Result<(), OutOfMemory>
-        requires fits { S.fits subgame.now question.now }
+        requires fits { S.fits bars.now question.now }
         requires state { state < states question.now }
-        requires grown { IsGrowth question.now (S.limits subgame.now question.now) [] self.old.members.items self.old.awaited.items self.old.order.items }
+        requires grown { IsGrowth question.now (S.barred bars.now question.now) [] self.old.members.items self.old.awaited.items self.old.order.items }
         ensures longer { OnOk result (IsLonger self.old.order.items self.new.order.items) }
-        ensures grows { OnOk result (IsGrowth question.now (S.limits subgame.now question.now) [] self.new.members.items self.new.awaited.items self.new.order.items) }
+        ensures grows { OnOk result (IsGrowth question.now (S.barred bars.now question.now) [] self.new.members.items self.new.awaited.items self.new.order.items) }
         ensures larger { OnOk result (IsLarger self.old.members.items self.new.members.items) }
         ensures others { OnOk result ((s : ℕ) → s ≢ state → slice_index self.new.awaited.items s ≡ slice_index self.old.awaited.items s) }
-        ensures tested { OnOk result (slice_index_or self.new.members.items state false ≡ false → (S.limits subgame.now question.now).gone state ≡ false → IsTested question.now (S.limits subgame.now question.now) self.old.members.items self.new.awaited.items state) }
+        ensures tested { OnOk result (slice_index_or self.new.members.items state false ≡ false → (S.barred bars.now question.now).states state ≡ false → IsTested question.now (S.barred bars.now question.now) self.old.members.items self.new.awaited.items state) }
     {
         question.known();
         let place = state as usize;
-        if self.members[place] || subgame.is_gone(question, state) {
+        if self.members[place] || bars.bars_state(question, state) {
             return Ok(());
         }
         match question.side(state) {
             Side::Max => {
-                if !some_serves(question, subgame, &self.members, state) {
+                if !some_serves(question, bars, &self.members, state) {
                     return Ok(());
                 }
             }
             Side::Min => {
                 let next = first_unserved(
                     question,
-                    subgame,
+                    bars,
                     &self.members,
                     state,
                     self.awaited[place],

@@ -6,31 +6,31 @@ ghost use Rattle.game_model.specs.Game.{choices_of, choice_of};
 ghost use Rattle.game_model.specs.Query.{states};
 ghost use Rattle.attractors.specs.Attractor.{meets, serves};
 
-use crate::subgame::Subgame;
+use crate::bars::Bars;
 use game_model::Question;
 use std::alloc::{AllocError, Global};
 
 /// The first choice of a state, from this one on, that is barred or has no successor in the set; the number of choices
 /// where there is none.
-pub fn first_unserved<S: Subgame>(
+pub fn first_unserved<S: Bars>(
     question: &Question,
-    subgame: &S,
+    bars: &S,
     set: &[bool],
     state: u32,
     from: u32,
 ) -> u32
-    requires fits { S.fits subgame.now question.now }
+    requires fits { S.fits bars.now question.now }
     requires state { state < states question.now }
     requires from { from ≤ length (choices_of question.now.game state) }
     requires many { length set.now ≡ states question.now }
     ensures from { from ≤ result }
     ensures within { result ≤ length (choices_of question.now.game state) }
-    ensures before { (c : ℕ) → from ≤ c → c < result → serves (S.limits subgame.now question.now) set.now (choice_of question.now.game state c) ≡ true }
-    ensures first { result < length (choices_of question.now.game state) → serves (S.limits subgame.now question.now) set.now (choice_of question.now.game state result) ≡ false }
+    ensures before { (c : ℕ) → from ≤ c → c < result → serves (S.barred bars.now question.now) set.now (choice_of question.now.game state c) ≡ true }
+    ensures first { result < length (choices_of question.now.game state) → serves (S.barred bars.now question.now) set.now (choice_of question.now.game state result) ≡ false }
 {
     let count = question.game().choices_of(state);
     for choice in from..count {
-        if !serves(question, subgame, set, state, choice) {
+        if !serves(question, bars, set, state, choice) {
             return choice;
         }
     }
@@ -38,14 +38,14 @@ pub fn first_unserved<S: Subgame>(
 }
 
 /// Whether some choice of a state serves.
-pub fn some_serves<S: Subgame>(question: &Question, subgame: &S, set: &[bool], state: u32) -> bool
-    requires fits { S.fits subgame.now question.now }
+pub fn some_serves<S: Bars>(question: &Question, bars: &S, set: &[bool], state: u32) -> bool
+    requires fits { S.fits bars.now question.now }
     requires state { state < states question.now }
     requires many { length set.now ≡ states question.now }
-    ensures { result ≡ list_any (serves (S.limits subgame.now question.now) set.now) (choices_of question.now.game state) }
+    ensures { result ≡ list_any (serves (S.barred bars.now question.now) set.now) (choices_of question.now.game state) }
 {
     for choice in 0..question.game().choices_of(state) {
-        if serves(question, subgame, set, state, choice) {
+        if serves(question, bars, set, state, choice) {
             return true;
         }
     }
@@ -53,20 +53,14 @@ pub fn some_serves<S: Subgame>(question: &Question, subgame: &S, set: &[bool], s
 }
 
 /// Whether the choice is not barred and has a successor in the set.
-pub fn serves<S: Subgame>(
-    question: &Question,
-    subgame: &S,
-    set: &[bool],
-    state: u32,
-    choice: u32,
-) -> bool
-    requires fits { S.fits subgame.now question.now }
+pub fn serves<S: Bars>(question: &Question, bars: &S, set: &[bool], state: u32, choice: u32) -> bool
+    requires fits { S.fits bars.now question.now }
     requires state { state < states question.now }
     requires choice { choice < length (choices_of question.now.game state) }
     requires many { length set.now ≡ states question.now }
-    ensures { result ≡ serves (S.limits subgame.now question.now) set.now (choice_of question.now.game state choice) }
+    ensures { result ≡ serves (S.barred bars.now question.now) set.now (choice_of question.now.game state choice) }
 {
-    !subgame.bars(question, state, choice) && meets(question, set, state, choice)
+    !bars.bars_choice(question, state, choice) && meets(question, set, state, choice)
 }
 
 /// Whether some successor of the choice is in the set.

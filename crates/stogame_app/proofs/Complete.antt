@@ -164,8 +164,11 @@ module _ (are : AreAsked) (apart : AreApart) (one : AreOneCommand) {words : List
 
   -- a text that is held and accepted is read, unless the shelf fails
   pub is_read : {S : Type 0} {of : S → Option Holding} {steady : S → Bool} {faults took : S → ℕ} {old new : S} {status : Status} → AsksShelf of steady faults took words old new status → of old ≡ holding
-      → IsReadable steady faults old new → ReadsFiles accepted.command → status ≡ ReadFault → ⊥
+      → IsReadable steady faults words old new → ReadsFiles accepted.command → status ≡ ReadFault → ⊥
   is_read shelf same calm reads is = elim calm [
-    | inl steady ↦ not_missing reads (subst (λ (h : Option Holding). IsMissingOfWords words h) same (shelf.steadily is steady))
-    | inr still ↦ still (shelf.read_fault is)
+    | inl none ↦ none accepted.command accepted.denoted reads
+    | inr readable ↦ elim readable [
+      | inl steady ↦ not_missing reads (subst (λ (h : Option Holding). IsMissingOfWords words h) same (shelf.steadily is steady))
+      | inr still ↦ still (shelf.read_fault is)
+    ]
   ]

@@ -25,7 +25,7 @@ use Rattle.sure_report.specs.Sure.{IsSure}
 use Rattle.stogame_app.specs.Status.{sure_status}
 use Rattle.stogame_app.specs.Commands.{check_paths}
 
--- the words denote this command, and spell this formula; there are texts, those that are held where this is told, that pose this problem with them; and no more than the limit was taken of the last one
+-- the words denote this command, and spell this formula, which is so the one that poses the problem; there are texts, those that are held where this is told, that pose this problem with them; and no more than the limit was taken of the last one
 pub record WordsPose (words : List (List ℕ)) (holding : Option Holding) (taken : ℕ) (command : Command) (asked : Asked) (paths : Paths) (problem : Problem) (formula : Tree) : Type 0 where
   pub denoted : AreCommand words command
   pub posed : PosesIt holding asked paths problem

@@ -87,13 +87,13 @@ IsEnding words holding taken old new OutOfMemory = new ≡ old
 
 -- 3. What it asks of the shelf.
 
--- a shelf can be read: it is steady, or no fault of it arose
-abbrev pub IsReadable : {S : Type 0} → (S → Bool) → (S → ℕ) → S → S → Type 0
-IsReadable steady faults old new = (steady old ≡ true) ⊎ (¬ Rose (faults old) (faults new))
-
 -- the words denote no command that reads files
 abbrev pub NeedNoFile : List (List ℕ) → Type 0
 NeedNoFile words = (command : Command) → AreCommand words command → ¬ ReadsFiles command
+
+-- the words need no file, or the shelf can be read: it is steady, or no fault of it arose
+abbrev pub IsReadable : {S : Type 0} → (S → Bool) → (S → ℕ) → List (List ℕ) → S → S → Type 0
+IsReadable steady faults words old new = NeedNoFile words ⊎ ((steady old ≡ true) ⊎ (¬ Rose (faults old) (faults new)))
 
 -- the words denote a command, and where the holding is told, a text that it needs is not held
 pub record IsMissingOfWords (words : List (List ℕ)) (holding : Option Holding) : Type 0 where

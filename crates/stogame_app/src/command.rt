@@ -55,7 +55,7 @@ pub fn run<R: Threads + Sync, H: Shelf, K: Sink, G: Gate + Sync>(
 
     // It does not give up by itself: where what the words need is held and accepted, the shelf can be read, and no fault of
     // writing arose, it answers, or lacks memory.
-    ensures complete { IsAcceptedOfWords (map string_bytes words.now) (H.held shelf.old) → IsReadable H.steady H.faults shelf.old shelf.new
+    ensures complete { IsAcceptedOfWords (map string_bytes words.now) (H.held shelf.old) → IsReadable H.steady H.faults (map string_bytes words.now) shelf.old shelf.new
         → ¬ Rose (K.faults out.old) (K.faults out.new) → IsAnswer result ⊎ (result ≡ Status.OutOfMemory) }
 {
     match read_words(alloc, words) {

@@ -18,7 +18,7 @@ use Rattle.game_model.proofs.Choices.{IsChoiceOf, AreChoicesOf, AreChoicesOf-cho
 use Rattle.game_model.proofs.Best.{optimum-most, optimum-below, optimum-each, weighted_sum-most}
 use Rattle.game_model.proofs.Rises.{numerator_of-rises}
 use Rattle.game_laws.proofs.Positive.{optimum-positive, marked-at-least, scaled-pos}
-use Rattle.attractors.specs.Attractor.{meets, draws, is_drawn, living, Grew, from_goals, with_state, IsAttractor}
+use Rattle.attractors.specs.Attractor.{meets, attracts, is_attracted, dead_barred, Grew, from_goals, with_state, IsAttractor}
 use Rattle.attractors.proofs.Tests.{any-place, any-none, all-each, all-place}
 use Rattle.attractors.proofs.Grown.{Grew-goals}
 
@@ -35,9 +35,9 @@ choice-positive q set k m positive fits reached h =
     scaled-pos q.game m (numerator q k) one.0 positive fits one.1
     (reached (get_or m.edges one.0 no_edge).to (AllByRecursion-at (λ (e : Edge). e.to < length q.game) m.edges one.0 no_edge one.1 fits.inside) one.2)
 
--- and so is the optimum of a side that is drawn
+-- and so is the optimum of a side that is attracted
 side-positive : (q : Query) (s k : ℕ) (set : List Bool) (side : Side) → side_at q s ≡ side → AreChoicesOf q.game (choices_of q.game) → 0 < denominator q.game → s < states q
-    → ((t : ℕ) → t < states q → slice_index_or set t false ≡ true → 1 ≤ numerator q k t) → draws side (living q) set (choices_of q.game s) ≡ true
+    → ((t : ℕ) → t < states q → slice_index_or set t false ≡ true → 1 ≤ numerator q k t) → attracts side (dead_barred q) set (choices_of q.game s) ≡ true
     → 1 ≤ optimum (side_at q s) (λ m. denominator q.game / m.total * weighted_sum (numerator q k) m.edges) (choices_of q.game s)
 side-positive q s k set Max is_side chosen positive inside reached h =
     let f : Distribution → ℕ = λ m. denominator q.game / m.total * weighted_sum (numerator q k) m.edges in
@@ -51,10 +51,10 @@ side-positive q s k set Min is_side chosen positive inside reached h =
     (AllByRecursion-weaker (λ m. IsChoiceOf q.game m × (meets set m ≡ true)) _ (λ m fact. choice-positive q set k m positive fact.0 reached fact.1) (choices_of q.game s)
     (AllByRecursion-both (IsChoiceOf q.game) (λ m. meets set m ≡ true) (choices_of q.game s) (chosen.each s) (all-each (meets set) (choices_of q.game s) h)))
 
--- a state that is drawn in has a positive value one step later
-drawn-positive : (q : Query) (set : List Bool) (k s : ℕ) → IsQuery q → s < states q → ((t : ℕ) → t < states q → slice_index_or set t false ≡ true → 1 ≤ numerator q k t) → is_dead q s ≡ false → is_drawn q (living q) set s ≡ true → 1 ≤ numerator q (suc k) s
+-- a state that is attracted has a positive value one step later
+attracted-positive : (q : Query) (set : List Bool) (k s : ℕ) → IsQuery q → s < states q → ((t : ℕ) → t < states q → slice_index_or set t false ≡ true → 1 ≤ numerator q k t) → is_dead q s ≡ false → is_attracted q (dead_barred q) set s ≡ true → 1 ≤ numerator q (suc k) s
 unfolding numerator_of
-drawn-positive q set k s posed inside reached alive drawn =
+attracted-positive q set k s posed inside reached alive drawn =
     marked-at-least (is_goal q s) (is_dead q s) (denominator q.game ^ suc k) (optimum (side_at q s) (λ m. denominator q.game / m.total * weighted_sum (numerator q k) m.edges) (choices_of q.game s))
     (one-le-pow (suc k) (denominator q.game) (denominator-pos q.game posed.game)) alive
     (λ no_goal. side-positive q s k set (side_at q s) refl (AreChoicesOf-choices_of q.game posed.game) (denominator-pos q.game posed.game) inside reached drawn)
@@ -65,12 +65,12 @@ later-positive q k s posed h =
     let product : 1 ≤ denominator q.game * numerator q k s = one-le-mul (denominator-pos q.game posed.game) h in
     omega (arith, product, numerator_of-rises q (choices_of q.game) k s)
 
--- a set stays reached when a state joins that it draws in
-IsReached-add : (q : Query) (set : List Bool) (i : ℕ) → IsQuery q → i < states q → IsReached q set → is_dead q i ≡ false → is_drawn q (living q) set i ≡ true → IsReached q (slice_set set i true)
+-- a set stays reached when a state joins that it attracts
+IsReached-add : (q : Query) (set : List Bool) (i : ℕ) → IsQuery q → i < states q → IsReached q set → is_dead q i ≡ false → is_attracted q (dead_barred q) set i ≡ true → IsReached q (slice_set set i true)
 IsReached-add q set i posed here reached alive drawn = record {
   horizon = suc reached.horizon;
   positive = λ s inside member. elim (cases_eq s i) [
-    | inl same ↦ subst (λ t. 1 ≤ numerator q (suc reached.horizon) t) (sym same) (drawn-positive q set reached.horizon i posed here reached.positive alive drawn)
+    | inl same ↦ subst (λ t. 1 ≤ numerator q (suc reached.horizon) t) (sym same) (attracted-positive q set reached.horizon i posed here reached.positive alive drawn)
     | inr other ↦ later-positive q reached.horizon s posed (reached.positive s inside (sym (get_or-set_other set i s true false other) ∙ member))
   ];
 }
@@ -80,7 +80,7 @@ goal-positive true h = omega arith
 goal-positive false h = absurd (cc)
 
 -- so a set that grew is reached
-IsReached-grown : (q : Query) (set : List Bool) → IsQuery q → Grew q (living q) set → IsReached q set
+IsReached-grown : (q : Query) (set : List Bool) → IsQuery q → Grew q (dead_barred q) set → IsReached q set
 unfolding numerator_of
 IsReached-grown q _ posed (from_goals set goals) = record { horizon = 0; positive = λ s inside member. goal-positive (is_goal q s) (sym (goals.each s inside) ∙ member) }
 IsReached-grown q _ posed (with_state set s grew inside alive drawn) = IsReached-add q set s posed inside (IsReached-grown q set posed grew) alive drawn
@@ -101,9 +101,9 @@ choice-none q set k m fits none h =
     weighted_sum-none (numerator q k) m.edges (AllByRecursion-weaker (λ (e : Edge). (e.to < length q.game) × (slice_index_or set e.to false ≡ false)) _ (λ e facts. none e.to facts.0 facts.1) m.edges edges) in
     rw nothing (omega arith)
 
--- the optimum of a side that is not drawn is 0
+-- the optimum of a side that is not attracted is 0
 side-none : (q : Query) (s k : ℕ) (set : List Bool) (side : Side) → AreChoicesOf q.game (choices_of q.game) → ((t : ℕ) → t < states q → slice_index_or set t false ≡ false → numerator q k t ≡ 0)
-    → draws side (living q) set (choices_of q.game s) ≡ false → optimum side (λ m. denominator q.game / m.total * weighted_sum (numerator q k) m.edges) (choices_of q.game s) ≡ 0
+    → attracts side (dead_barred q) set (choices_of q.game s) ≡ false → optimum side (λ m. denominator q.game / m.total * weighted_sum (numerator q k) m.edges) (choices_of q.game s) ≡ 0
 side-none q s k set Max chosen none h =
     let f : Distribution → ℕ = λ m. denominator q.game / m.total * weighted_sum (numerator q k) m.edges in
     let each : AllByRecursion (λ m. f m ≤ 0) (choices_of q.game s) =
@@ -124,9 +124,9 @@ step-none true dead top x h k = absurd (cc)
 step-none false true top x h k = refl
 step-none false false top x h k = k refl
 
--- outside a set that has the goals and draws in no more every k-step value is 0
+-- outside a set that has the goals and attracts no more every k-step value is 0
 closed-none : (q : Query) (set : List Bool) → AreChoicesOf q.game (choices_of q.game) → ((s : ℕ) → s < states q → slice_index_or set s false ≡ false → is_goal q s ≡ false)
-    → ((s : ℕ) → s < states q → slice_index_or set s false ≡ false → is_dead q s ≡ false → is_drawn q (living q) set s ≡ false) → (k s : ℕ) → s < states q → slice_index_or set s false ≡ false → numerator q k s ≡ 0
+    → ((s : ℕ) → s < states q → slice_index_or set s false ≡ false → is_dead q s ≡ false → is_attracted q (dead_barred q) set s ≡ false) → (k s : ℕ) → s < states q → slice_index_or set s false ≡ false → numerator q k s ≡ 0
 unfolding numerator_of
 closed-none q set chosen others closed zero s inside out = opening-none (is_goal q s) (others s inside out)
 closed-none q set chosen others closed (suc k) s inside out =
@@ -146,10 +146,10 @@ not-false true h = refl
 not-false false h = absurd (cc)
 
 -- the complement of the attractor is the zero set
-pub IsZeroSet-complement : (q : Query) (set : List Bool) → IsQuery q → IsAttractor q (living q) set → IsZeroSet q (map not set)
+pub IsZeroSet-complement : (q : Query) (set : List Bool) → IsQuery q → IsAttractor q (dead_barred q) set → IsZeroSet q (map not set)
 IsZeroSet-complement q set posed attractor =
     let reached : IsReached q set = IsReached-grown q set posed attractor.grew in
-    let others : (s : ℕ) → s < states q → slice_index_or set s false ≡ false → is_goal q s ≡ false = λ s inside out. not-goal (is_goal q s) (slice_index_or set s false) (Grew-goals q (living q) set attractor.grew s inside) out in
+    let others : (s : ℕ) → s < states q → slice_index_or set s false ≡ false → is_goal q s ≡ false = λ s inside out. not-goal (is_goal q s) (slice_index_or set s false) (Grew-goals q (dead_barred q) set attractor.grew s inside) out in
     let at : (s : ℕ) → s < states q → slice_index_or (map not set) s false ≡ not (slice_index_or set s false) = λ s inside. get_or-map not set s false false (omega (arith, attractor.many)) in
     record {
       as_many = length-map set not ∙ attractor.many;

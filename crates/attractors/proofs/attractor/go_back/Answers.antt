@@ -17,7 +17,7 @@ loop-step-preserved g c = record {
   longer = longer-more _ _ _ c.loop-step.invariant.longer c.in_ok-follow.ensures.longer;
   grown =
       let before : List Move = moves_into c.args.predecessors.now (take c.args.place c.args.growth.now.order.items) in
-      subst (λ (followed : List Move). IsGrowth c.args.question.now (g.S.Subgame.limits c.args.subgame.now c.args.question.now) followed c.follow.new.self.members.items c.follow.new.self.awaited.items c.follow.new.self.order.items)
+      subst (λ (followed : List Move). IsGrowth c.args.question.now (g.S.Bars.barred c.args.bars.now c.args.question.now) followed c.follow.new.self.members.items c.follow.new.self.awaited.items c.follow.new.self.order.items)
       (take-one before c.of_state-step-items.result.now c.loop-step.step-index _ c.loop-step-test.true)
       (c.in_ok-follow.ensures.grows (before ++ take c.loop-step.step-index c.of_state-step-items.result.now) c.loop-step.invariant.grown);
 }

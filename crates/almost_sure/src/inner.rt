@@ -1,35 +1,35 @@
-//! What stays in the outer set, and the inner set that grows in it.
+//! The inner set, which grows in the outer one.
 
 ghost use Rattle.std.specs.Prelude.{◌≡◌, length, IfOk};
 ghost use Rattle.game_model.specs.Query.{states};
 ghost use Rattle.predecessors.specs.Lists.{ArePredecessors};
 ghost use Rattle.attractors.specs.Attractor.{IsAttractor};
-ghost use Rattle.almost_sure.specs.Staying.{staying, AreLeaving};
+ghost use Rattle.almost_sure.specs.Barred.{gone_barred, AreLeaving};
 
-use attractors::{Subgame, attractor_of, meets};
+use attractors::{Bars, attractor_of, meets};
 use choice_flags::ChoiceFlags;
 use game_model::Question;
 use game_outside::OutOfMemory;
 use predecessors::Predecessors;
 use std::alloc::Global;
 
-/// The states that are not gone, and the choices that lead to none that is.
+/// Bars the states that are gone, and the choices that lead to one.
 #[derive(Drop)]
-struct Staying<'a> {
+struct BarsGone<'a> {
     gone: &'a [bool],
     leaving: ChoiceFlags,
 }
 
-impl Subgame for Staying<'_> {
+impl Bars for BarsGone<'_> {
     ghost fits = { λ it q. (length it.gone.now ≡ states q) × AreLeaving q.game it.gone.now it.leaving };
 
-    ghost limits = { λ it _. staying it.gone.now };
+    ghost barred = { λ it _. gone_barred it.gone.now };
 
-    fn is_gone(&self, _question: &Question, state: u32) -> bool {
+    fn bars_state(&self, _question: &Question, state: u32) -> bool {
         self.gone[state as usize]
     }
 
-    fn bars(&self, question: &Question, state: u32, choice: u32) -> bool {
+    fn bars_choice(&self, question: &Question, state: u32, choice: u32) -> bool {
         self.leaving.has(question.game(), state, choice)
     }
 }
@@ -43,10 +43,10 @@ pub fn inner_set(
 ) -> Result<Vec<bool>, OutOfMemory>
     requires lists { ArePredecessors question.now.game predecessors.now }
     requires many { length gone.now ≡ states question.now }
-    ensures { IfOk result (λ set. IsAttractor question.now (staying gone.now) set.items) }
+    ensures { IfOk result (λ set. IsAttractor question.now (gone_barred gone.now) set.items) }
 {
     let leaving = leaving_choices(alloc, question, gone)?;
-    attractor_of(alloc, question, predecessors, &Staying { gone, leaving })
+    attractor_of(alloc, question, predecessors, &BarsGone { gone, leaving })
 }
 
 /// For each choice whether some successor is among these states.

@@ -1,12 +1,12 @@
--- What stays in the outer set, where some states are gone.
+-- What is barred from the inner set, where some states are gone.
 use Rattle.std.specs.Prelude.{◌≡◌, Bool, false, List, slice_index_or}
 use Rattle.game_model.specs.Game.{Distribution, choice_of}
-use Rattle.attractors.specs.Attractor.{Limits, meets}
+use Rattle.attractors.specs.Attractor.{Barred, meets}
 use Rattle.choice_flags.specs.Flags.{AreAnswers}
 
--- the states that are gone are left out, and the choices of which some successor is gone
-abbrev pub staying : List Bool → Limits
-staying gone = record { gone = λ s. slice_index_or gone s false; barred = meets gone }
+-- the states that are gone, and the choices of which some successor is gone
+abbrev pub gone_barred : List Bool → Barred
+gone_barred gone = record { states = λ s. slice_index_or gone s false; choices = meets gone }
 
 -- for each choice whether some successor is gone
 abbrev pub AreLeaving : List (List Distribution) → List Bool → List Bool → Type 0

@@ -1,7 +1,7 @@
 use Rattle.std.proofs.Common.{rules}
 use Rattle.std.proofs.lemmas.Result.{IfOk-weaker}
 use Rattle.choice_flags.proofs.Answers.{AreAnswers-say}
-use Rattle.almost_sure.proofs.staying.leaving_choices.Goals as goal
+use Rattle.almost_sure.proofs.inner.leaving_choices.Goals as goal
 
 pub returns : goal.returns
 returns c = IfOk-weaker c.of_game.result _ _ (λ flags answered. AreAnswers-say c.args.question.now.game c.game.result.now _ _ flags c.game.ensures answered (λ s choice b inside within answer. search rules)) c.of_game.ensures

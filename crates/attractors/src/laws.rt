@@ -1,0 +1,17 @@
+//! Laws of attractors. Each function does nothing: its contract is the law.
+
+ghost use Rattle.std.specs.Prelude.{◌≡◌, ℕ, ◌<◌, Bool, List, true, false, slice_index_or};
+ghost use Rattle.game_model.specs.Query.{Query, states, is_goal};
+ghost use Rattle.attractors.specs.Attractor.{Barred, IsClosed, IsAttractor};
+ghost use Rattle.attractors.specs.Growing.{IsLarger};
+
+/// An attractor is the least set that has the goals and attracts no other state that is not barred.
+pub fn attractors_are_least()
+    ensures { (q : Query) (barred : Barred) (set other : List Bool) → IsAttractor q barred set → IsClosed q barred other
+        → ((s : ℕ) → s < states q → is_goal q s ≡ true → slice_index_or other s false ≡ true) → IsLarger set other }
+{}
+
+/// So there is only one.
+pub fn attractors_are_one()
+    ensures { (q : Query) (barred : Barred) (set other : List Bool) → IsAttractor q barred set → IsAttractor q barred other → set ≡ other }
+{}
