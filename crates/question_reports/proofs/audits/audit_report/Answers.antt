@@ -4,6 +4,7 @@ use Rattle.std.proofs.lemmas.List.Elements.{All-weaker}
 use Rattle.game_model.specs.Limits.{unit}
 use Rattle.game_model.specs.Query.{states}
 use Rattle.game_model.specs.Bounds.{Reaches}
+use Rattle.strategies.proofs.Plans.{against-reached}
 use Rattle.rpatl_syntax.specs.Formula.{tree_of}
 use Rattle.verdicts.specs.Open.{LeavesOpen}
 use Rattle.verdicts.specs.declared.verdict.Verdict.TheVariants.{Undecided}
@@ -24,7 +25,7 @@ returns-clause-audited c =
     let upper = plan.upper.items in
     let initial = c.args.initial.now in
     let sound = c.requires.sound in
-    let reached : (s : ℕ) → s < states q → Reaches q (slice_index lower s) unit s = λ s within. c.planned_values_are_reached.ensures q plan.choices.items (slice_index lower) s sound.reached within in
+    let reached : (s : ℕ) → s < states q → Reaches q (slice_index lower s) unit s = against-reached q plan.choices.items (slice_index lower) c.known.ensures sound.reached in
     let agree : (s : ℕ) → s < states q → verdict_for f lower upper s ≡ plan_verdict bound plan s = λ s within.
     let units = plan-units q plan c.requires.lists c.requires.passes s within in verdict-answered c.mirrored_verdicts_are_those_of_the_dual.ensures f c.requires.share (slice_index lower s) (slice_index upper s) units.0 units.1 in
     audited (λ answer. answer.text.items) (λ answer. answer.status) q initial f plan c.requires.inside sound

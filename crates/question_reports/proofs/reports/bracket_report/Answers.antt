@@ -7,6 +7,7 @@ use Rattle.distributions.proofs.Powers.{pow-pos}
 use Rattle.game_model.specs.Values.{denominator}
 use Rattle.game_model.proofs.Choices.{denominator-pos}
 use Rattle.rpatl_syntax.specs.declared.formula.Bound.{Bound}
+use Rattle.strategies.proofs.Plans.{against-reached}
 use Rattle.rpatl_syntax.specs.Formula.{Tree, tree_of}
 use Rattle.command_words.specs.Words.{check_of}
 use Rattle.rpatl_syntax.specs.Dual.{answered}
@@ -41,9 +42,9 @@ returns-clause-report g c =
     let held = c.in_ok-plan.ensures.held in
     let lists = shown-lists q zero bound initial asked check.traps found plan is_found shown held in
     let passes = shown-passes q zero bound initial asked check.traps found plan is_found shown held in
-    let sound = shown-sound q zero bound initial asked check.traps found plan is_found shown held in
+    let sound = shown-sound q zero bound initial asked check.traps found plan is_found shown held c.known.ensures in
     let some : 1 ≤ denominator q.game ^ asked = pow-pos (denominator q.game) asked (denominator-pos q.game c.known.ensures.game) in
-    let reached : (s : ℕ) → s < states q → Reaches q (slice_index lower s) unit s = λ s within. c.planned_values_are_reached.ensures q plan.choices.items (slice_index lower) s sound.reached within in
+    let reached : (s : ℕ) → s < states q → Reaches q (slice_index lower s) unit s = against-reached q plan.choices.items (slice_index lower) c.known.ensures sound.reached in
     let agree : (s : ℕ) → s < states q → verdict_for f lower upper s ≡ plan_verdict bound plan s = λ s within.
     let units = plan-units q plan lists passes s within in verdict-answered c.mirrored_verdicts_are_those_of_the_dual.ensures f c.requires.share (slice_index lower s) (slice_index upper s) units.0 units.1 in
     let left_open = all-left_open c.undecided_thresholds_are_left_open.ensures.here c.undecided_thresholds_are_left_open.ensures.wider q zero bound initial asked found plan

@@ -1,0 +1,4 @@
+//! How fast brackets close where plays come to an end.
+#![tactic(auto)]
+
+pub mod laws;

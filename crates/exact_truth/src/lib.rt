@@ -1,0 +1,4 @@
+//! Formulas inside have a truth.
+#![tactic(auto)]
+
+pub mod laws;

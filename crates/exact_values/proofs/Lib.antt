@@ -1,0 +1,11 @@
+pub mod Sums
+pub mod Descent
+pub mod Arena
+pub mod Layers
+pub mod Splits
+pub mod Chains
+pub mod Values
+pub mod Plans
+pub mod Holding
+pub mod Bracketing
+pub mod Deciding

@@ -1,0 +1,3 @@
+pub mod Strategies
+pub mod Plays
+pub mod Stopping
