@@ -27,7 +27,7 @@ module _ (q : Query) (posed : IsQuery q) where
   values-near : (v : HasValues q) (m : ℕ) → 1 ≤ m → (k : ℕ) × ((s : ℕ) → s < states q → m * v.value s * denominator q.game ^ k ≤ v.top * (m * numerator q k s + denominator q.game ^ k))
   values-near v = over-near v.top q v.plan v.value posed v.reached
 
-  values-high : (v : HasValues q) (k s : ℕ) → s < states q → v.top * numerator q k s ≤ v.value s * denominator q.game ^ k
+  pub values-high : (v : HasValues q) (k s : ℕ) → s < states q → v.top * numerator q k s ≤ v.value s * denominator q.game ^ k
   values-high v = over-high v.top q v.replies v.value posed v.held
 
   D-pos : (k : ℕ) → 0 < denominator q.game ^ k

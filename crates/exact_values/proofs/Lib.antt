@@ -9,3 +9,4 @@ pub mod Plans
 pub mod Holding
 pub mod Bracketing
 pub mod Deciding
+pub mod Zeros
