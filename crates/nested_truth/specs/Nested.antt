@@ -18,15 +18,18 @@ pub record IsNested (m : Model) (f : Tree) (starts : List ℕ) (asked : ℕ) (ba
   pub found : AreFoundBy f.kind m f (known m.labels f.left left) (known m.labels f.right right) starts asked band how
   pub inner_are : inner ≡ formulas_inside f
   pub undecided_are : undecided ≡ undecided_in f.left left (states m) + undecided_in f.right right (states m)
+  -- the truth of every formula at each state
+  pub truth : Valuation
+  pub is_truth : IsTruth m truth
   -- where a side surely holds it does, and where it holds it possibly does
-  pub left_around : (valuation : Valuation) → IsTruth m valuation → IsAround m (holds m.labels valuation f.left) (known m.labels f.left left)
-  pub right_around : (valuation : Valuation) → IsTruth m valuation → IsAround m (holds m.labels valuation f.right) (known m.labels f.right right)
+  pub left_around : IsAround m (holds m.labels truth f.left) (known m.labels f.left left)
+  pub right_around : IsAround m (holds m.labels truth f.right) (known m.labels f.right right)
   -- the bounds are sound, and True is true and False is false
-  pub sound : (valuation : Valuation) → IsTruth m valuation → AreSoundBy f.kind m f (holds m.labels valuation f.left) (holds m.labels valuation f.right) band
-  pub right_of : (valuation : Valuation) → IsTruth m valuation → (s : ℕ) → s < states m → IsRightOf (verdict_at f.bound band s) (valuation f s)
+  pub sound : AreSoundBy f.kind m f (holds m.labels truth f.left) (holds m.labels truth f.right) band
+  pub right_of : (s : ℕ) → s < states m → IsRightOf (verdict_at f.bound band s) (truth f s)
   -- a formula inside is undecided only where it is by coarse bounds, of so many rounded steps and no run; so is the formula where its run looks, and a value that it asks for lies within coarse bounds there
   pub left_within : (coarse : Bands f.left) → AreCoarse m asked f.left coarse → AreOpenWithin (states m) f.left left coarse
   pub right_within : (coarse : Bands f.right) → AreCoarse m asked f.right coarse → AreOpenWithin (states m) f.right right coarse
   pub within : (coarse_left : Bands f.left) (coarse_right : Bands f.right) (coarse : Band) → IsCoarse m f asked coarse_left coarse_right coarse → AreWithin f.bound starts band coarse
   -- where nothing inside is left undecided, the bounds are those of one run on the exact question
-  pub exact : (valuation : Valuation) → IsTruth m valuation → undecided ≡ 0 → AreFoundBy f.kind m f (exactly (holds m.labels valuation f.left)) (exactly (holds m.labels valuation f.right)) starts asked band how
+  pub exact : undecided ≡ 0 → AreFoundBy f.kind m f (exactly (holds m.labels truth f.left)) (exactly (holds m.labels truth f.right)) starts asked band how

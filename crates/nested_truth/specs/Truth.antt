@@ -51,6 +51,6 @@ IsTrueBy Always m f left right s = IsTrueOf (dual_question_by m f right) (dual_b
 abbrev pub IsTrue : Model → Valuation → Tree → ℕ → Type 0
 IsTrue m valuation f s = IsTrueBy f.kind m f (holds m.labels valuation f.left) (holds m.labels valuation f.right) s
 
--- The valuation is the truth: each formula is true in it at exactly the states where it is. There is at most one such.
+-- The valuation is the truth: each formula is true in it at exactly the states where it is. There is one such.
 abbrev pub IsTruth : Model → Valuation → Type 0
 IsTruth m valuation = (f : Tree) (s : ℕ) → s < states m → (valuation f s ≡ true) ↔ IsTrue m valuation f s

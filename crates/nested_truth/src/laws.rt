@@ -8,14 +8,28 @@ ghost use Rattle.rpatl_syntax.specs.Formula.{State, Tree};
 ghost use Rattle.rpatl_syntax.specs.Spellable.{HasParts, HasShare};
 ghost use Rattle.verdicts.specs.declared.report.How.{How};
 ghost use Rattle.formula_sets.specs.Posing.{Model};
-ghost use Rattle.nested_truth.specs.Truth.{IsTruth, Valuation, states};
-ghost use Rattle.nested_truth.specs.Bands.{Band, Bands, known, undecided_in};
+ghost use Rattle.nested_truth.specs.Truth.{IsTruth, Valuation, holds, states};
+ghost use Rattle.nested_truth.specs.Bands.{Band, Bands, known, surely, possibly, undecided_in};
 ghost use Rattle.nested_truth.specs.Runs.{AreFound, AreFoundBy};
 ghost use Rattle.nested_truth.specs.Coarse.{AreCoarse, AreOpenWithin, AreWithin, IsCoarse, IsFiner};
+
+/// Each model has a truth: a valuation in which each formula is true at exactly the states where it is.
+pub fn there_is_a_truth()
+    ensures { (m : Model) → IsGame m.game → (truth : Valuation) × IsTruth m truth }
+{}
 
 /// There is at most one truth: two valuations that are true of every formula say the same at all states.
 pub fn there_is_one_truth()
     ensures { (m : Model) (valuation other : Valuation) → IsGame m.game → IsTruth m valuation → IsTruth m other → (f : Tree) (s : ℕ) → s < states m → valuation f s ≡ other f s }
+{}
+
+/// Where no pair of a formula inside a state formula and a state is undecided, the bounds of the formulas inside say what is
+/// true: the state formula surely holds exactly where it holds in the truth, and possibly holds exactly there.
+pub fn what_is_decided_is_the_truth()
+    ensures sure { (m : Model) (truth : Valuation) (asked : ℕ) (x : State) (found : Bands x) → IsGame m.game → IsTruth m truth → HasParts x → AreFound m asked x found → undecided_in x found (states m) ≡ 0
+        → (s : ℕ) → s < states m → surely m.labels x found s ≡ holds m.labels truth x s }
+    ensures possible { (m : Model) (truth : Valuation) (asked : ℕ) (x : State) (found : Bands x) → IsGame m.game → IsTruth m truth → HasParts x → AreFound m asked x found → undecided_in x found (states m) ≡ 0
+        → (s : ℕ) → s < states m → possibly m.labels x found s ≡ holds m.labels truth x s }
 {}
 
 /// More goals and fewer dead states give no smaller values.
@@ -23,6 +37,12 @@ pub fn more_goals_give_no_smaller_values()
     ensures { (q : Query) (more fewer : List Bool) → IsQuery q → ((s : ℕ) → is_goal q s ≡ true → is_goal (record q { goals = more; deads = fewer }) s ≡ true)
         → ((s : ℕ) → is_dead (record q { goals = more; deads = fewer }) s ≡ true → is_dead q s ≡ true)
         → (k s : ℕ) → numerator q k s ≤ numerator (record q { goals = more; deads = fewer }) k s }
+{}
+
+/// There are coarse bounds: of the formulas inside every state formula, and of every formula, after every number of rounds.
+pub fn there_are_coarse_bounds()
+    ensures inside { (m : Model) (x : State) (asked : ℕ) → IsGame m.game → (bands : Bands x) × AreCoarse m asked x bands }
+    ensures outermost { (m : Model) (f : Tree) (asked : ℕ) → IsGame m.game → (left : Bands f.left) × (right : Bands f.right) × (band : Band) × IsCoarse m f asked left right band }
 {}
 
 /// Where a state formula surely holds or surely fails by coarse bounds of the formulas inside, it does by those that runs of as

@@ -1,4 +1,0 @@
-//! Formulas inside have a truth.
-#![tactic(auto)]
-
-pub mod laws;
