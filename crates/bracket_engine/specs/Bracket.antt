@@ -9,7 +9,7 @@ use Rattle.game_model.specs.Bounds.{IsLow, IsHigh}
 use Rattle.rpatl_syntax.specs.declared.formula.Bound.{Bound}
 use Rattle.verdicts.specs.Verdict.{is_asking}
 use Rattle.bracket_engine.specs.declared.stopping.SettlingGuess.{SettlingGuess}
-use Rattle.bracket_engine.specs.Stop.{AreSettledAt, IsSettlingGuess, IsUpperFrom}
+use Rattle.bracket_engine.specs.Stop.{AreSettledAt, EndsWhereSettled, IsSettlingGuess, IsUpperFrom}
 
 -- at most r units below the r-step values
 abbrev pub IsCloseBelow : Query → ℕ → (ℕ → ℕ) → Type 0
@@ -75,6 +75,8 @@ pub record IsBracket (q : Query) (zero : List Bool) (bound : Bound) (initial : L
   pub narrow_asked : AreSettledAt bound initial (slice_index base) (slice_index upper) ⊎ IsNarrow q zero asked (slice_index base) (slice_index upper)
   -- the run ends early only where both tables are settled, or each initial state is
   pub early : rounds < asked → (stable ≡ true) ⊎ AreSettledAt bound initial (slice_index base) (slice_index upper)
+  -- and it does so in time
+  pub in_time : EndsWhereSettled q (swapped q zero) bound initial rounds
   pub settled : (stable ≡ true) ↔ (IsSettled q (slice_index base) × IsSettled (swapped q zero) (slice_index swapped_values))
   -- tables that are settled are the least settled ones
   pub least : stable ≡ true → IsLeastSettled q (slice_index base)

@@ -1,16 +1,22 @@
 -- What may end a run before its rounds: a guess that settles the threshold at the initial states.
-use Rattle.std.specs.Prelude.{◌≡◌, ℕ, ◌-◌, ◌<◌, ◌≤◌, Bool, true, List, length, All, Option, Some, None, min, slice_index}
+use Rattle.std.specs.Prelude.{◌≡◌, ℕ, ◌-◌, ◌<◌, ◌≤◌, Bool, true, false, List, length, All, Option, Some, None, min, slice_index}
+use Rattle.std.specs.Int.{is_power_of_two}
 use Rattle.game_model.specs.Limits.{unit}
 use Rattle.game_model.specs.Query.{Query, states}
-use Rattle.game_model.specs.Rounded.{IsBelow, IsInductive}
+use Rattle.game_model.specs.Rounded.{down_steps, IsBelow, IsInductive}
 use Rattle.rpatl_syntax.specs.declared.formula.Bound.{Bound}
-use Rattle.verdicts.specs.Verdict.{verdict_of, is_settling}
+use Rattle.verdicts.specs.Verdict.{verdict_of, is_settling, is_asking}
 use Rattle.upper_guess.specs.Guess.{IsFirstGuess}
 use Rattle.bracket_engine.specs.declared.stopping.SettlingGuess.{SettlingGuess}
 
 -- lower and upper bounds settle the threshold at each of these states
 abbrev pub AreSettledAt : Bound → List ℕ → (ℕ → ℕ) → (ℕ → ℕ) → Type 0
 AreSettledAt bound initial lower upper = All (λ s. is_settling (verdict_of bound (lower s) (upper s)) ≡ true) initial
+
+-- A run of so many rounds goes on no longer than it has to: where it sets a threshold it is over by the first of the rounds 1, 2, 4, 8 and so on after which as many down steps of its question and of the swapped one settle that at each of these states.
+abbrev pub EndsWhereSettled : Query → Query → Bound → List ℕ → ℕ → Type 0
+EndsWhereSettled q swapped_question bound initial rounds =
+    is_asking bound ≡ false → (r : ℕ) → is_power_of_two r ≡ true → AreSettledAt bound initial (down_steps q r) (λ s. unit - down_steps swapped_question r s) → rounds ≤ r
 
 -- the lesser of the unit less a swapped value and of a guess
 abbrev pub upper_from : (ℕ → ℕ) → (ℕ → ℕ) → ℕ → ℕ

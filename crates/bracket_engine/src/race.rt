@@ -11,7 +11,7 @@ ghost use Rattle.game_model.specs.Dual.{IsZeroSet};
 ghost use Rattle.marked_rounds.specs.Agenda.{read_of};
 ghost use Rattle.marked_rounds.specs.Rounds.{IsRacing};
 ghost use Rattle.bracket_engine.specs.Race.{AreOver};
-ghost use Rattle.bracket_engine.specs.Stop.{IsSettlingGuess};
+ghost use Rattle.bracket_engine.specs.Stop.{EndsWhereSettled, IsSettlingGuess};
 
 use crate::stopping::{Ending, SettlingGuess};
 use game_model::Question;
@@ -140,6 +140,7 @@ fn run_rounds<
     ensures kept { IfOk result (λ r. IfSome r.2.kept (IsSettlingGuess P.posed ending.now.zero.now (bound_of ending.now.rule.now) ending.now.initial.now (read_of r.0.agenda) (read_of r.1.agenda))) }
     ensures none { is_asking (bound_of ending.now.rule.now) ≡ true → IfOk result (λ r. r.2.kept ≡ None) }
     ensures early { IfOk result (λ r. r.2.rounds < most → (r.2.rests ≡ true) ⊎ (is_some r.2.kept ≡ true)) }
+    ensures in_time { IfOk result (λ r. EndsWhereSettled P.posed C.posed (bound_of ending.now.rule.now) ending.now.initial.now r.2.rounds) }
 {
     ending.question.known();
     let mut witnesses = Witnesses::none();
