@@ -17,23 +17,26 @@ use Rattle.rpatl_syntax.specs.Limits.{longest}
 use Rattle.rpatl_syntax.specs.Spellable.{IsSpellable}
 use Rattle.bracket_engine.specs.Bracket.{rests_of}
 use Rattle.verdicts.specs.declared.report.How.{How}
+use Rattle.verdicts.specs.declared.verdict.Verdict.TheVariants.{Undecided}
 use Rattle.nested_truth.specs.declared.judging.Judged.{Judged}
 use Rattle.formula_sets.specs.Posing.{Model}
 use Rattle.nested_truth.specs.Truth.{Valuation, IsTruth, states, holds, everywhere}
 use Rattle.nested_truth.specs.Bands.{Band, Known, known, exactly, negated, judgement, undecided_at, undecided_in, verdict_at}
 use Rattle.nested_truth.specs.Runs.{AreFoundBy, AreRaced, pessimistic, optimistic, mirrored}
+use Rattle.nested_truth.specs.Open.{IsOpenBy}
 use Rattle.nested_truth.specs.Nested.{IsNested}
 use Rattle.nested_truth.specs.Seen.{AreAlike, IsBand, IsJudged, seen}
 use Rattle.nested_truth.specs.Sound.{IsAround, IsRightOf, AreSoundBy}
 use Rattle.nested_truth.proofs.Parts.{alike-back}
 use Rattle.nested_truth.proofs.Counted.{undecided-few, undecided-pairs}
 use Rattle.nested_truth.proofs.Widened.{sound-by}
-use Rattle.nested_truth.proofs.Valuation.{right-by}
+use Rattle.nested_truth.proofs.Valuation.{right-by, small-share}
 use Rattle.nested_truth.proofs.Around.{around}
 use Rattle.nested_truth.proofs.Inside.{open-within, outermost}
 use Rattle.nested_truth.proofs.Exactly.{both-same, found-same}
 use Rattle.nested_truth.proofs.Decided.{decided-truth}
 use Rattle.nested_truth.proofs.Existing.{truth-of}
+use Rattle.nested_truth.proofs.Opened.{all-opened}
 
 -- 1. `G`.
 
@@ -153,6 +156,11 @@ module _ (m : Model) (game : IsGame m.game) (asked : ℕ) (f : Tree) (left right
         (decided-truth m game truth is-truth asked f.right i.bands spellable.right.parts i.found (omega (arith, none)))
         starts asked band how f.kind found-known
 
+    -- and what is undecided is left open
+    open-truth : All (λ s. s < states m) starts → undecided_in f.left h.bands (states m) + undecided_in f.right i.bands (states m) ≡ 0
+        → All (λ s. verdict_at f.bound band s ≡ Undecided → IsOpenBy f.kind m f (holds m.labels truth f.left) (holds m.labels truth f.right) asked band s) starts
+    open-truth inside none = all-opened m game f (small-share f.bound spellable.share) (holds m.labels truth f.left) (holds m.labels truth f.right) starts asked band how inside (exact-truth none)
+
     pub nested-of : All (λ s. s < states m) starts → (inner undecided : ℕ) → inner ≡ left.inner + right.inner → undecided ≡ left.undecided + right.undecided → IsNested m f starts asked band how inner undecided
     nested-of inside inner undecided inner_is undecided_is = record {
       left = h.bands;
@@ -172,4 +180,5 @@ module _ (m : Model) (game : IsGame m.game) (asked : ℕ) (f : Tree) (left right
       right_within = λ coarse c. open-within m game asked f.right i.bands coarse spellable.right.parts i.found c;
       within = λ cl cr coarse c. outermost m game asked f starts h.bands cl i.bands cr band coarse how spellable.share spellable.left.parts spellable.right.parts inside h.found i.found found-known c;
       exact = λ none. exact-truth (omega (arith, none, undecided_is, h.undecided_are, i.undecided_are));
+      left_open = λ none. open-truth inside (omega (arith, none, undecided_is, h.undecided_are, i.undecided_are));
     }

@@ -18,6 +18,7 @@ pub mod Coarsely
 pub mod Inside
 pub mod Existing
 pub mod Decided
+pub mod Opened
 pub mod CoarseBounds
 pub mod Answered
 pub mod Unique

@@ -1,12 +1,14 @@
 -- The answer to a formula with formulas inside.
-use Rattle.std.specs.Prelude.{◌≡◌, ◌<◌, ◌+◌, ℕ, List}
+use Rattle.std.specs.Prelude.{◌≡◌, ◌<◌, ◌+◌, ℕ, List, All}
 use Rattle.rpatl_syntax.specs.Formula.{Tree, formulas_inside}
 use Rattle.verdicts.specs.declared.report.How.{How}
+use Rattle.verdicts.specs.declared.verdict.Verdict.TheVariants.{Undecided}
 use Rattle.formula_sets.specs.Posing.{Model}
 use Rattle.nested_truth.specs.Truth.{Valuation, IsTruth, states, holds}
 use Rattle.nested_truth.specs.Bands.{Band, Bands, known, exactly, verdict_at, undecided_in}
 use Rattle.nested_truth.specs.Runs.{AreFound, AreFoundBy}
 use Rattle.nested_truth.specs.Coarse.{AreCoarse, AreOpenWithin, AreWithin, IsCoarse}
+use Rattle.nested_truth.specs.Open.{IsOpenBy}
 use Rattle.nested_truth.specs.Sound.{IsAround, AreSoundBy, IsRightOf}
 
 -- The bounds of the formula, found with those of the formulas inside, and how many of these there are and how many pairs of one and a state are left undecided. `starts` are the states where the outermost run looks whether its threshold is settled.
@@ -33,3 +35,5 @@ pub record IsNested (m : Model) (f : Tree) (starts : List ℕ) (asked : ℕ) (ba
   pub within : (coarse_left : Bands f.left) (coarse_right : Bands f.right) (coarse : Band) → IsCoarse m f asked coarse_left coarse_right coarse → AreWithin f.bound starts band coarse
   -- where nothing inside is left undecided, the bounds are those of one run on the exact question
   pub exact : undecided ≡ 0 → AreFoundBy f.kind m f (exactly (holds m.labels truth f.left)) (exactly (holds m.labels truth f.right)) starts asked band how
+  -- and the formula is undecided at a state where its run looks only if its threshold is left open there
+  pub left_open : undecided ≡ 0 → All (λ s. verdict_at f.bound band s ≡ Undecided → IsOpenBy f.kind m f (holds m.labels truth f.left) (holds m.labels truth f.right) asked band s) starts
