@@ -19,7 +19,7 @@ use Rattle.verdicts.specs.declared.verdict.Verdict.TheVariants.{Yes, No, Undecid
 use Rattle.verdicts.specs.Verdict.{verdict_of, is_settling}
 use Rattle.verdicts.specs.Truth.{IsTrueOf, IsFalseOf, VerdictIsRight}
 use Rattle.verdicts.specs.declared.report.How.TheVariants.{Rounds}
-use Rattle.verdicts.specs.Open.{LeavesOpen}
+use Rattle.verdicts.specs.Open.{LeavesOpen, IsLeftOpen}
 use Rattle.verdicts.proofs.Staying.{settled-on}
 use Rattle.bracket_engine.specs.declared.bounds.Bracket.{Bracket}
 use Rattle.bracket_engine.specs.Bracket.{IsBracket, IsNarrow}
@@ -31,7 +31,7 @@ use Rattle.rpatl_syntax.specs.declared.formula.PathKind.TheVariants.{Until, With
 use Rattle.rpatl_syntax.specs.Dual.{IsAtMostOne, dual_bound, answered_by, answered}
 use Rattle.run_answers.specs.Printed.{is_mirrored, printed_verdict, verdict_for, status_of, output_of}
 use Rattle.bracket_engine.specs.Found.{IsFound}
-use Rattle.question_reports.specs.Reports.{IsShown, IsLeftOpen, IsBracketReport}
+use Rattle.question_reports.specs.Reports.{IsShown, IsBracketReport}
 use Rattle.run_answers.specs.Outputs.{output_text, IsInLimits}
 
 -- 1. What verdicts say is so.
@@ -83,7 +83,7 @@ near-under u v p x near below = omega (arith, near, mul-le-mul_right p below)
 module _ (here : OpensHere) (wider : OpensWider) (q : Query) (zero : List Bool) (bound : Bound) (initial : List ℕ) (asked : ℕ) (found : Bracket) (plan : Plan)
     (above : IsBelow q (slice_index found.base.items) (slice_index plan.lower.items)) (below : IsBelow q (slice_index plan.upper.items) (slice_index found.upper.items)) where
   narrow-open : 1 ≤ denominator q.game ^ asked → IsNarrow q zero asked (slice_index found.base.items) (slice_index found.upper.items)
-      → (s : ℕ) → s < states q → plan_verdict bound plan s ≡ Undecided → IsLeftOpen q zero bound asked plan s
+      → (s : ℕ) → s < states q → plan_verdict bound plan s ≡ Undecided → IsLeftOpen q zero bound asked (slice_index plan.lower.items) (slice_index plan.upper.items) s
   narrow-open some narrow s inside undecided =
       let base = slice_index found.base.items s in
       let lower = slice_index plan.lower.items s in
@@ -97,7 +97,7 @@ module _ (here : OpensHere) (wider : OpensWider) (q : Query) (zero : List Bool) 
       }
 
   pub all-left_open : 1 ≤ denominator q.game ^ asked → IsBracket q zero bound initial asked found.base.items found.upper.items found.rounds found.stable → All (λ s. s < states q) initial
-      → All (λ s. plan_verdict bound plan s ≡ Undecided → IsLeftOpen q zero bound asked plan s) initial
+      → All (λ s. plan_verdict bound plan s ≡ Undecided → IsLeftOpen q zero bound asked (slice_index plan.lower.items) (slice_index plan.upper.items) s) initial
   all-left_open some bounds inside = elim bounds.narrow_asked [
     | inl settled ↦ All-weaker (λ s. is_settling (plan_verdict bound plan s) ≡ true) Q (λ s is undecided. let same : is_settling (plan_verdict bound plan s) ≡ is_settling Undecided = ap is_settling undecided in absurd (cc (same, is))) initial (settled-over settled inside)
     | inr narrow ↦ All-weaker (λ s. s < states q) Q (λ s within. narrow-open some narrow s within) initial inside
@@ -109,7 +109,7 @@ module _ (here : OpensHere) (wider : OpensWider) (q : Query) (zero : List Bool) 
           settled-on bound (slice_index found.base.items s) (slice_index plan.lower.items s) (slice_index found.upper.items s) (slice_index plan.upper.items s) (above s (within i d there)) (below s (within i d there)) (settled i d there)
 
       Q : ℕ → Type 0
-      Q s = plan_verdict bound plan s ≡ Undecided → IsLeftOpen q zero bound asked plan s
+      Q s = plan_verdict bound plan s ≡ Undecided → IsLeftOpen q zero bound asked (slice_index plan.lower.items) (slice_index plan.upper.items) s
 
 -- 3. The whole answer.
 
@@ -125,7 +125,7 @@ pub record IsReady (q : Query) (initial : List ℕ) (f : Tree) (check : Check) (
   pub passes : Passes q plan
   pub limits : IsInLimits (output_of check.plan f (Rounds found.rounds) initial plan)
   pub right : All (λ s. VerdictIsRight q (answered f).bound s (verdict_for f plan.lower.items plan.upper.items s)) initial
-  pub left_open : All (λ s. verdict_for f plan.lower.items plan.upper.items s ≡ Undecided → IsLeftOpen q zero (answered f).bound check.rounds plan s) initial
+  pub left_open : All (λ s. verdict_for f plan.lower.items plan.upper.items s ≡ Undecided → IsLeftOpen q zero (answered f).bound check.rounds (slice_index plan.lower.items) (slice_index plan.upper.items) s) initial
 
 pub reported : {X E : Type 0} (text : X → List ℕ) (ends : X → Status) (q : Query) (initial : List ℕ) (f : Tree) (check : Check) (zero : List Bool) (found : Bracket) (plan : Plan)
     → IsReady q initial f check zero found plan

@@ -1,11 +1,10 @@
 -- The answer to a question: a report of its initial states, and its certificate where that is asked for.
-use Rattle.std.specs.Prelude.{◌≡◌, ℕ, ◌-◌, ◌*◌, ◌^◌, ◌<◌, ◌≤◌, Bool, true, false, List, length, map, slice_index, Option, All}
+use Rattle.std.specs.Prelude.{◌≡◌, ℕ, ◌<◌, ◌≤◌, Bool, true, false, List, length, map, slice_index, Option, All}
 use Rattle.game_model.specs.Limits.{unit}
 use Rattle.game_model.specs.Query.{Query, states}
-use Rattle.game_model.specs.Values.{denominator, numerator}
-use Rattle.game_model.specs.Rounded.{down_steps, IsBelow, IsInductive}
+use Rattle.game_model.specs.Rounded.{IsBelow, IsInductive}
 use Rattle.game_model.specs.Bounds.{IsNear, IsHigh}
-use Rattle.game_model.specs.Dual.{IsZeroSet, open_numerator, swapped}
+use Rattle.game_model.specs.Dual.{IsZeroSet}
 use Rattle.inductive_check.specs.Replies.{AreReplies, HoldsUnder}
 use Rattle.rpatl_syntax.specs.declared.formula.Bound.{Bound}
 use Rattle.rpatl_syntax.specs.Formula.{Tree}
@@ -13,7 +12,7 @@ use Rattle.plan_text.specs.declared.plan.Plan.{Plan}
 use Rattle.plan_text.specs.Entries.{HasStates}
 use Rattle.certificate_audit.specs.Accepted.{Passes, IsSoundPlan}
 use Rattle.verdicts.specs.Truth.{VerdictIsRight}
-use Rattle.verdicts.specs.Open.{LeavesOpen}
+use Rattle.verdicts.specs.Open.{IsLeftOpen}
 use Rattle.verdicts.specs.declared.report.How.TheVariants.{Rounds}
 use Rattle.verdicts.specs.declared.verdict.Verdict.TheVariants.{Undecided}
 use Rattle.bracket_engine.specs.declared.bounds.Bracket.{Bracket}
@@ -51,12 +50,6 @@ pub record IsShown (q : Query) (traps : Bool) (found : Bracket) (plan : Plan) : 
   pub upper : IsUpperShown q traps found.replies.items found.upper.items plan.upper.items
   pub below : IsBelow q (slice_index plan.upper.items) (slice_index found.upper.items)
 
--- the threshold is left open at a state by the bounds of the plan, by the down steps of as many rounds as were asked for, and by the values of as many steps, with a unit for each round
-pub record IsLeftOpen (q : Query) (zero : List Bool) (bound : Bound) (asked : ℕ) (plan : Plan) (s : ℕ) : Type 0 where
-  pub printed : LeavesOpen bound (slice_index plan.lower.items s) (slice_index plan.upper.items s) 1 0
-  pub swept : LeavesOpen bound (down_steps q asked s) (unit - down_steps (swapped q zero) asked s) 1 0
-  pub near : LeavesOpen bound (unit * numerator q asked s) (unit * open_numerator q zero asked s) (denominator q.game ^ asked) asked
-
 -- 2. The answer.
 
 -- the text and the status are the answer to a question: they are those of a bracket after at most the asked rounds. Of `G` the question is that of its dual, and the bounds are mirrored when they are printed.
@@ -82,4 +75,4 @@ pub record IsBracketReport (q : Query) (initial : List ℕ) (f : Tree) (check : 
   -- True is true and False is false
   pub right : All (λ s. VerdictIsRight q (answered f).bound s (verdict_for f plan.lower.items plan.upper.items s)) initial
   -- Undecided is said only where no bracket that the asked rounds promise settles the threshold; of `G` that of the dual
-  pub left_open : All (λ s. verdict_for f plan.lower.items plan.upper.items s ≡ Undecided → IsLeftOpen q zero (answered f).bound check.rounds plan s) initial
+  pub left_open : All (λ s. verdict_for f plan.lower.items plan.upper.items s ≡ Undecided → IsLeftOpen q zero (answered f).bound check.rounds (slice_index plan.lower.items) (slice_index plan.upper.items) s) initial
