@@ -1,5 +1,5 @@
 -- There are coarse bounds, of every formula inside and of the formula.
-use Rattle.std.proofs.Common.{◌≡◌, ◌-◌, ◌<◌, ℕ, Bool, List, refl}
+use Rattle.std.proofs.Common.{◌-◌, ℕ, Bool, List, refl}
 use Rattle.game_model.specs.Game.{IsGame}
 use Rattle.game_model.specs.Limits.{unit}
 use Rattle.game_model.specs.Query.{Query, IsQuery}
@@ -13,7 +13,6 @@ use Rattle.rpatl_syntax.specs.Formula.{State, True, False, Label, Not, And, Or, 
 use Rattle.formula_sets.specs.Posing.{Model, at_states, next_question_of}
 use Rattle.formula_sets.proofs.Asking.{at_states-at, length-at_states}
 use Rattle.bounded_rounds.specs.Steps.{IsSweep, down_from, up_from}
-use Rattle.verdicts.specs.declared.report.How.{How}
 use Rattle.verdicts.specs.declared.report.How.TheVariants.{Steps}
 use Rattle.exact_values.proofs.Zeros.{questions-have_zero_sets}
 use Rattle.nested_truth.specs.Truth.{states, everywhere}

@@ -1,5 +1,5 @@
 -- Where no formula inside is undecided, what surely holds is what holds in the truth.
-use Rattle.std.proofs.Common.{◌≡◌, ◌<◌, ℕ}
+use Rattle.std.proofs.Common.{◌≡◌, ℕ}
 use Rattle.game_model.specs.Game.{IsGame}
 use Rattle.rpatl_syntax.specs.Formula.{State}
 use Rattle.rpatl_syntax.specs.Spellable.{HasParts}

@@ -1,5 +1,5 @@
 -- Where nothing inside is undecided, what is undecided is left open.
-use Rattle.std.proofs.Common.{◌≡◌, ◌∙◌, ◌<◌, ◌≤◌, ◌+◌, ◌-◌, ◌*◌, ◌^◌, inl, inr, ℕ, Bool, true, false, not, List, length, get_or, arith, sym, ap, subst, refl, le_refl, le_trans}
+use Rattle.std.proofs.Common.{◌≡◌, ◌∙◌, ◌<◌, ◌≤◌, ◌+◌, ◌-◌, ◌*◌, ◌^◌, inl, inr, ℕ, Bool, true, false, not, List, length, get_or, arith, sym, ap, subst, refl, le_refl}
 use Rattle.std.specs.Prelude.{slice_index, All}
 use Rattle.std.proofs.Math.Nat.{mul-le-mul_right, one-le-pow}
 use Rattle.std.proofs.lemmas.List.{length-map}
@@ -8,7 +8,7 @@ use Rattle.game_model.specs.Limits.{unit}
 use Rattle.game_model.specs.Query.{Query, IsQuery}
 use Rattle.game_model.specs.Values.{denominator, numerator}
 use Rattle.game_model.specs.Rounded.{down_steps, opening}
-use Rattle.game_model.specs.Dual.{IsZeroSet, open_numerator, swapped}
+use Rattle.game_model.specs.Dual.{open_numerator, swapped}
 use Rattle.game_model.proofs.Choices.{denominator-pos}
 use Rattle.rpatl_syntax.specs.declared.formula.Bound.{Bound}
 use Rattle.rpatl_syntax.specs.declared.formula.PathKind.{PathKind}
@@ -23,13 +23,12 @@ use Rattle.bracket_engine.specs.declared.bounds.Bracket.{Bracket}
 use Rattle.bracket_engine.specs.Bracket.{IsNarrow, rests_of}
 use Rattle.bracket_engine.specs.Found.{IsFound}
 use Rattle.verdicts.specs.declared.report.How.{How}
-use Rattle.verdicts.specs.declared.verdict.Verdict.{Verdict}
 use Rattle.verdicts.specs.declared.verdict.Verdict.TheVariants.{Undecided}
 use Rattle.verdicts.specs.Open.{LeavesOpen, IsLeftOpen, IsLeftOpenBy}
 use Rattle.verdicts.specs.Verdict.{verdict_of, is_settling}
 use Rattle.verdicts.proofs.Opening.{open-here, open-wider}
 use Rattle.verdicts.proofs.Staying.{settled-on}
-use Rattle.nested_truth.specs.Truth.{states, everywhere, question_by, dual_question_by}
+use Rattle.nested_truth.specs.Truth.{states, everywhere, question_by}
 use Rattle.nested_truth.specs.Bands.{Band, exactly, negated, verdict_at}
 use Rattle.nested_truth.specs.Runs.{AreRaced, AreSwept, AreFoundBy, mirrored, units_at}
 use Rattle.nested_truth.specs.Open.{IsRunOpen, IsOpenBy}
