@@ -4,7 +4,7 @@ use Rattle.std.specs.List.{range_with_len}
 use Rattle.game_model.specs.Game.{choice_of}
 use Rattle.game_model.specs.Query.{Query, is_goal, is_dead, side_at}
 use Rattle.game_model.specs.Values.{denominator}
-use Rattle.strategies.specs.Strategies.{Turn, Strategy, of_side, reach}
+use Rattle.strategies.specs.Strategies.{Turn, Strategy, of_side, reach, avoid}
 
 -- a play: the states that it comes through, the first one first, and in how many ways it comes about
 pub record Play : Type 0 where
@@ -32,7 +32,12 @@ is_won q (s ∷ later) = is_goal q s || (not (is_dead q s) && is_won q later)
 abbrev pub ways_won : Query → List Play → ℕ
 ways_won q all = sum_by (λ play. if is_won q play.through then play.ways else 0) all
 
--- of all the ways in which k turns can go, as many are won as `reach` says
+-- in how many they are not
+abbrev pub ways_lost : Query → List Play → ℕ
+ways_lost q all = sum_by (λ play. if is_won q play.through then 0 else play.ways) all
+
+-- of all the ways in which k turns can go, as many are won as `reach` says, and as many are not as `avoid` says
 pub record AreWays (q : Query) (faces : ℕ) (greatest least : Strategy) (k s : ℕ) : Type 0 where
   pub all : sum_by (λ play. play.ways) (plays q faces greatest least k [] s) ≡ (faces * denominator q.game) ^ k
   pub won : ways_won q (plays q faces greatest least k [] s) ≡ reach q faces greatest least k [] s
+  pub lost : ways_lost q (plays q faces greatest least k [] s) ≡ avoid q faces greatest least k s
