@@ -13,8 +13,15 @@ sub-mul a b c = mul_comm (a - b) c ∙ mul-sub c a b ∙ ap (λ x. x - c * b) (m
 avoids-sums : (a b c : ℕ) → b ≤ c → a - c ≤ a - b
 avoids-sums a b c h = omega (arith, h)
 
-avoids-factors : (u t p r : ℕ) → u * r ≤ t * p → (u - t) * p ≤ u * (p - r)
+pub avoids-factors : (u t p r : ℕ) → u * r ≤ t * p → (u - t) * p ≤ u * (p - r)
 avoids-factors u t p r held = rw (sub-mul u t p, mul-sub u p r) (avoids-sums (u * p) (u * r) (t * p) held)
+
+-- and the other way round
+rest-sums : (a b c : ℕ) → c ≤ b → a - b ≤ a - c
+rest-sums a b c h = omega (arith, h)
+
+pub rest-factors : (u t p r : ℕ) → t * p ≤ u * r → u * (p - r) ≤ (u - t) * p
+rest-factors u t p r reached = rw (sub-mul u t p, mul-sub u p r) (rest-sums (u * p) (u * r) (t * p) reached)
 
 avoided-sums : (a b c e : ℕ) → c ≤ b + e → a - b ≤ a - c + e
 avoided-sums a b c e h = omega (arith, h)
