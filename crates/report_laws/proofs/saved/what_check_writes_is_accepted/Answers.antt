@@ -1,8 +1,8 @@
 use Rattle.std.proofs.Common.{length}
 use Rattle.run_answers.proofs.Passing.{AreReadBack}
 use Rattle.question_reports.proofs.Accepting.{AreCertificates}
-use Rattle.saved_reports.proofs.Saved.{AreSpellable, saved-accepted}
-use Rattle.saved_reports.proofs.what_check_writes_is_accepted.Goals as goal
+use Rattle.report_laws.proofs.Saved.{AreSpellable, saved-accepted}
+use Rattle.report_laws.proofs.saved.what_check_writes_is_accepted.Goals as goal
 
 pub returns : goal.returns
 returns c =

@@ -1,6 +1,4 @@
-//! Laws of what `check` writes, where it is saved and read again: it is no longer than a text may be, and an audit of the same
-//! question accepts it. Each function does nothing; its contract is the law.
-#![tactic(auto)]
+//! What `check` writes, where it is saved and read again.
 
 ghost use Rattle.std.specs.Prelude.{◌≡◌, ◌≤◌, ℕ, List, length, true, Option, Some};
 ghost use Rattle.text_lines.specs.Limits.{most_bytes};
