@@ -1,8 +1,8 @@
 -- What a plan holds or reaches, said of avoiding goals.
-use Rattle.std.proofs.Common.{◌≡◌, ℕ, ◌+◌, ◌-◌, ◌*◌, ◌^◌, ◌<◌, ◌≤◌, List, [], arith, ap, ◌∙◌, Option}
+use Rattle.std.proofs.Common.{◌≡◌, ℕ, ◌+◌, ◌-◌, ◌*◌, ◌^◌, ◌≤◌, List, [], arith, ap, ◌∙◌, Option}
 use Rattle.std.proofs.Math.Nat.{mul_comm, mul-sub}
 use Rattle.game_model.specs.Limits.{unit}
-use Rattle.game_model.specs.Query.{Query, states}
+use Rattle.game_model.specs.Query.{Query}
 use Rattle.game_model.specs.Values.{denominator}
 use Rattle.strategies.specs.Strategies.{reach, by_plan, HoldsAgainstAll, ReachesAgainstAll, AvoidsAgainstAll, IsAvoidedAgainstAll}
 

@@ -1,5 +1,5 @@
 -- However both play, a play is over as often as what is undecided leaves.
-use Rattle.std.proofs.Common.{◌≡◌, ℕ, zero, suc, ◌+◌, ◌*◌, ◌^◌, ◌<◌, ◌≤◌, Bool, true, false, List, [], ◌∷◌, length, map, get_or, sum_by, arith, refl, ap, subst}
+use Rattle.std.proofs.Common.{◌≡◌, ℕ, zero, suc, ◌+◌, ◌*◌, ◌^◌, ◌<◌, ◌≤◌, Bool, true, false, List, [], ◌∷◌, length, sum_by, arith, refl, ap}
 use Rattle.std.specs.Prelude.{slice_index_or}
 use Rattle.std.specs.List.{range_with_len}
 use Rattle.std.specs.Bool.{if◌then◌else◌}
@@ -14,7 +14,7 @@ use Rattle.game_model.proofs.Best.{optimum-each}
 use Rattle.game_model.proofs.Choices.{IsChoiceOf, IsChoiceOf-choice_of}
 use Rattle.strategies.specs.Strategies.{Turn, Strategy, IsStrategyOf, of_side, worth, reach}
 use Rattle.strategies.specs.Stopping.{is_over, undecided, ending}
-use Rattle.strategies.proofs.Turns.{pow-product, worth-le, of_side-inside}
+use Rattle.strategies.proofs.Turns.{worth-le, of_side-inside}
 use Rattle.strategies.proofs.Ways.{worth-constant}
 use Rattle.strategies.proofs.Stopping.{worth-sum}
 

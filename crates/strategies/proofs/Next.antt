@@ -1,6 +1,5 @@
 -- The best choice for the next state.
-use Rattle.std.proofs.Common.{◌≡◌, ℕ, ◌*◌, ◌<◌, ◌≤◌, Bool, List, [], length, sum_by, arith, refl, subst, sym}
-use Rattle.std.specs.List.{range_with_len}
+use Rattle.std.proofs.Common.{◌≡◌, ℕ, ◌<◌, ◌≤◌, Bool, [], arith, refl}
 use Rattle.std.specs.Bool.{if◌then◌else◌}
 use Rattle.game_model.specs.declared.game.Side.{Side}
 use Rattle.game_model.specs.declared.game.Side.TheVariants.{Max, Min}
@@ -9,7 +8,7 @@ use Rattle.game_model.specs.Query.{Query, IsQuery, states, side_at}
 use Rattle.game_model.specs.Values.{optimum}
 use Rattle.game_model.proofs.Best.{optimum-each, optimum-below}
 use Rattle.strategies.specs.Strategies.{Strategy, IsStrategyOf, of_side, worth}
-use Rattle.strategies.specs.Next.{ways_next, AreBestNext}
+use Rattle.strategies.specs.Next.{AreBestNext}
 use Rattle.strategies.proofs.Turns.{faces-least, faces-most}
 use Rattle.strategies.proofs.Best.{optimum-some}
 use Rattle.strategies.proofs.Ways.{next-ways}
