@@ -98,8 +98,8 @@ pub printed-short : AreOneCommand → AreSpellable → (words : List (List ℕ))
     → IsReportOfWords words holding taken text status → length text ≤ most_bytes
 printed-short one spellable words holding taken check text status denoted (of_until other p f asks report) = let few = check-few spellable other (OfUntil p) f asks in report-text-short p.question p.initial f other text status few.states few.spelled report
 printed-short one spellable words holding taken check text status denoted (of_always other p f asks report) = let few = check-few spellable other (OfAlways p) f asks in report-text-short p.question p.initial f other text status few.states few.spelled report
-printed-short one spellable words holding taken check text status denoted (of_within other steps p f asks report) = let few = check-few spellable other (OfWithin steps p) f asks in sweep-text-short _ _ _ _ p.initial f text status few.states report
-printed-short one spellable words holding taken check text status denoted (of_next other p f asks report) = let few = check-few spellable other (OfNext p) f asks in sweep-text-short _ _ _ _ p.initial f text status few.states report
+printed-short one spellable words holding taken check text status denoted (of_within other steps p f asks report) = let few = check-few spellable other (OfWithin steps p) f asks in sweep-text-short _ _ _ _ p.initial f text status few.states report.report
+printed-short one spellable words holding taken check text status denoted (of_next other p f asks report) = let few = check-few spellable other (OfNext p) f asks in sweep-text-short _ _ _ _ p.initial f text status few.states report.report
 printed-short one spellable words holding taken check text status denoted (of_nested other model initial f asks report) = let few = check-few spellable other (OfNested model initial) f asks in nested-text-short model initial f other.rounds text status few.states report
 printed-short one spellable words holding taken check text status denoted (of_audit audit problem p f asks reached audited) = absurd (same_check one words check (OfAudit audit) denoted asks.denoted)
 printed-short one spellable words holding taken check text status denoted (of_sure asked problem p f all asks reached sure ends) = absurd (same_check one words check (OfSure asked) denoted asks.denoted)
