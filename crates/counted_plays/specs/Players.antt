@@ -6,11 +6,6 @@ use Rattle.strategies.specs.Strategies.{Turn, Strategy}
 abbrev pub first_choice : Strategy
 first_choice past s throw = 0
 
--- the maximiser is always careful
-abbrev pub careful : Strategy
-careful past zero throw = 1
-careful past (suc s) throw = 0
-
 -- the minimiser is always harsh
 abbrev pub harsh : Strategy
 harsh past s throw = 1
@@ -27,20 +22,8 @@ abbrev pub answering : Strategy
 answering [] s throw = 0
 answering (turn ∷ past) s throw = min turn.choice 1
 
--- with a die: the maximiser is bold where the die shows 0, else careful
+-- with memory and a die: at the first turn of the play the maximiser is bold where the die shows 0, else careful; later it is bold
 abbrev pub tossing : Strategy
-tossing past (suc s) throw = 0
-tossing past zero throw = min throw 1
-
--- with a die and memory: the maximiser throws the die the first time, and later does the same again
-abbrev pub tossing_once : Strategy
-tossing_once past (suc s) throw = 0
-tossing_once [] zero throw = min throw 1
-tossing_once (reply ∷ []) zero throw = min throw 1
-tossing_once (reply ∷ turn ∷ past) zero throw = min turn.choice 1
-
--- with a die and memory: the maximiser throws the die at the first turn of the play, and is bold ever after
-abbrev pub tossing_first : Strategy
-tossing_first (turn ∷ past) s throw = 0
-tossing_first [] (suc s) throw = 0
-tossing_first [] zero throw = min throw 1
+tossing (turn ∷ past) s throw = 0
+tossing [] (suc s) throw = 0
+tossing [] zero throw = min throw 1

@@ -9,16 +9,13 @@ ghost use Rattle.strategies.specs.Plays.{plays};
 ghost use Rattle.strategies.specs.Strategies.{IsStrategyOf, reach};
 ghost use Rattle.counted_plays.specs.Counted.{one_throw};
 ghost use Rattle.counted_plays.specs.Games.{give_and_take};
-ghost use Rattle.counted_plays.specs.Players.{first_choice, careful, harsh, alternating, answering, tossing, tossing_once, tossing_first};
+ghost use Rattle.counted_plays.specs.Players.{first_choice, harsh, alternating, answering, tossing};
 
 /// Each takes a choice that exists, whatever has been played: the first one in every game, the others in that of give and take.
 pub fn players_have_strategies()
     ensures first_choice { (q : Query) (side : Side) → IsQuery q → IsStrategyOf q side first_choice }
-    ensures careful { IsStrategyOf give_and_take Max careful }
     ensures alternating { IsStrategyOf give_and_take Max alternating }
     ensures tossing { IsStrategyOf give_and_take Max tossing }
-    ensures tossing_once { IsStrategyOf give_and_take Max tossing_once }
-    ensures tossing_first { IsStrategyOf give_and_take Max tossing_first }
     ensures harsh { IsStrategyOf give_and_take Min harsh }
     ensures answering { IsStrategyOf give_and_take Min answering }
 {}
@@ -26,6 +23,7 @@ pub fn players_have_strategies()
 /// The maximiser is careful, then bold, and so on; the minimiser answers a careful choice harshly and a bold one mildly.
 /// Within 2 turns nothing is won. Half the time it is lost at the second turn, else the third wins half the time: 1/4, 16 of 64.
 /// The fourth turn leads back, so the next three win a quarter of the last quarter: 5/16, 5120 of 16384, within 7.
+#[tactic(auto, unfolding(strategies::specs::Strategies::reach))]
 pub fn memory_is_counted()
     ensures two { reach give_and_take 1 alternating answering 2 [] 0 ≡ 0 }
     ensures three { reach give_and_take 1 alternating answering 3 [] 0 ≡ 16 }
@@ -35,15 +33,13 @@ pub fn memory_is_counted()
 
 /// A die of two faces, against the harsh minimiser: three turns go in 8 * 8 * 8 = 512 ways.
 /// To be bold wins at the first turn or, by half of half, at the third: 1/2 + 1/4 * 1/2 = 5/8, 320 ways, which is the value
-/// within three turns, 40/64. To be careful wins at none.
-/// Who throws the die once and keeps to it has their average, 5/16, 160 ways. Who throws it at each turn wins at the first
-/// by 1/4, and the other 3/4 lead through the minimiser's half to a third turn that wins by 1/4 (1/4 + 3/4 * 1/2 * 1/4):
-/// 11/32, 176 ways.
+/// within three turns, 40/64. To be careful first wins at the third turn alone: 1/2 * 1/2 = 1/4, 128 ways. The die that
+/// decides between them wins their average: 7/16, 224 ways.
+#[tactic(auto, unfolding(strategies::specs::Strategies::reach, strategies::specs::Plays::plays, game_model::specs::Values::numerator_of))]
 pub fn dice_are_counted()
     ensures turn { plays give_and_take 2 tossing harsh 1 [] 0 ≡ one_throw }
     ensures best { numerator give_and_take 3 0 ≡ 40 }
     ensures bold { reach give_and_take 2 first_choice harsh 3 [] 0 ≡ 320 }
-    ensures careful { reach give_and_take 2 careful harsh 3 [] 0 ≡ 0 }
-    ensures once { reach give_and_take 2 tossing_once harsh 3 [] 0 ≡ 160 }
-    ensures each { reach give_and_take 2 tossing harsh 3 [] 0 ≡ 176 }
+    ensures careful { reach give_and_take 2 alternating harsh 3 [] 0 ≡ 128 }
+    ensures tossing { reach give_and_take 2 tossing harsh 3 [] 0 ≡ 224 }
 {}

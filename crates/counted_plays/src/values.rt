@@ -8,7 +8,7 @@ ghost use Rattle.game_model.specs.Values.{denominator, numerator};
 ghost use Rattle.strategies.specs.Strategies.{reach, HoldsOver, ReachesOver};
 ghost use Rattle.exact_values.specs.Exact.{HasValues};
 ghost use Rattle.counted_plays.specs.Games.{give_and_take, lingering};
-ghost use Rattle.counted_plays.specs.Players.{first_choice, harsh, tossing_first};
+ghost use Rattle.counted_plays.specs.Players.{first_choice, harsh, tossing};
 ghost use Rattle.counted_plays.specs.Counted.{bold_plan, harsh_plan, thirds};
 
 use exact_values::laws::{bounds_lie_on_either_side, values_decide_thresholds};
@@ -26,7 +26,7 @@ pub fn values_are_thirds()
 /// Memory and dice do not help there: who throws a die of two faces at the first turn, and is bold ever after, wins at most
 /// half of the plays within any number of turns, 1/2 * 2/3 + 1/2 * 1/3.
 pub fn memory_and_dice_reach_less()
-    ensures { (k : ℕ) → 2 * reach give_and_take 2 tossing_first harsh k [] 0 ≤ 8 ^ k }
+    ensures { (k : ℕ) → 2 * reach give_and_take 2 tossing harsh k [] 0 ≤ 8 ^ k }
 {}
 
 /// Who lingers may stay for ever, and is never won. Who tries is won within k turns by 1 less a half to the k: the value is 1,

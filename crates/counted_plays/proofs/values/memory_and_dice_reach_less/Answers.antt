@@ -2,12 +2,12 @@ use Rattle.std.proofs.Common.{◌≡◌, ℕ, zero, suc, ◌*◌, ◌^◌, ◌�
 use Rattle.std.proofs.Math.Nat.{pow-suc}
 use Rattle.strategies.specs.Strategies.{Turn, reach}
 use Rattle.counted_plays.specs.Games.{give_and_take}
-use Rattle.counted_plays.specs.Players.{harsh, tossing_first}
+use Rattle.counted_plays.specs.Players.{harsh, tossing}
 use Rattle.counted_plays.proofs.values.memory_and_dice_reach_less.Goals as goal
 
 -- what is reached within k turns
 abbrev reached : ℕ → List Turn → ℕ → ℕ
-reached k past s = reach give_and_take 2 tossing_first harsh k past s
+reached k past s = reach give_and_take 2 tossing harsh k past s
 
 abbrev turn : ℕ → ℕ → ℕ → Turn
 turn s throw choice = record { state = s; throw = throw; choice = choice }
