@@ -1,6 +1,7 @@
 -- A game whose lists pass a test, state by state, is a question.
-use Rattle.std.proofs.Common.{◌≡◌, ℕ, zero, suc, ◌<◌, ◌≤◌, true, false, List, [], length, get_or, sym, refl, rules}
+use Rattle.std.proofs.Common.{◌≡◌, ℕ, zero, suc, ◌<◌, ◌≤◌, Bool, true, false, List, [], ◌∷◌, length, get_or, sym, refl, rules}
 use Rattle.std.specs.List.{AllByRecursion}
+use Rattle.std.specs.Prelude.{slice_index_or}
 use Rattle.game_model.specs.declared.game.Edge.{Edge}
 use Rattle.game_model.specs.Limits.{total_bound, most_states, most_choices}
 use Rattle.game_model.specs.Game.{Distribution, IsDistribution, total_of, choices_of, no_distribution}
@@ -42,14 +43,16 @@ posed q h apart =
       apart = apart;
     }
 
+none-dead : (deads : List Bool) → AllByRecursion (λ dead. dead ≡ false) deads → (s : ℕ) → slice_index_or deads s false ≡ false
+none-dead [] h s = refl
+none-dead (dead ∷ deads) h zero = h.0
+none-dead (dead ∷ deads) h (suc s) = none-dead deads h.1 s
+
 pub posed_coin : IsQuery coin_loop
-posed_coin = posed coin_loop (search rules) apart
-  where
-    apart : (s : ℕ) → is_goal coin_loop s ≡ true → is_dead coin_loop s ≡ false
-    apart zero h = refl
-    apart (suc zero) h = refl
-    apart (suc (suc zero)) h = refl
-    apart (suc (suc (suc s))) h = refl
+posed_coin = posed coin_loop (search rules) (λ s goal. none-dead coin_loop.deads (search rules) s)
+
+pub posed_lingering : IsQuery lingering
+posed_lingering = posed lingering (search rules) (λ s goal. none-dead lingering.deads (search rules) s)
 
 pub posed_give : IsQuery give_and_take
 posed_give = posed give_and_take (search rules) apart
@@ -60,11 +63,3 @@ posed_give = posed give_and_take (search rules) apart
     apart (suc (suc zero)) h = refl
     apart (suc (suc (suc zero))) h = sym h
     apart (suc (suc (suc (suc s)))) h = refl
-
-pub posed_lingering : IsQuery lingering
-posed_lingering = posed lingering (search rules) apart
-  where
-    apart : (s : ℕ) → is_goal lingering s ≡ true → is_dead lingering s ≡ false
-    apart zero h = refl
-    apart (suc zero) h = refl
-    apart (suc (suc s)) h = refl

@@ -1,6 +1,6 @@
 -- Strategies, most of them for the game of give and take, where the players move by turns. The last turn stands first in the past: behind it is the one before.
-use Rattle.std.specs.Prelude.{ℕ, zero, suc, ◌-◌, [], ◌∷◌, min}
-use Rattle.strategies.specs.Strategies.{Turn, Strategy}
+use Rattle.std.specs.Prelude.{zero, suc, ◌-◌, [], ◌∷◌, min}
+use Rattle.strategies.specs.Strategies.{Strategy}
 
 -- always the first choice: in the game of give and take the maximiser is bold, the minimiser mild
 abbrev pub first_choice : Strategy

@@ -5,9 +5,9 @@ ghost use Rattle.game_model.specs.declared.game.Side.{Side};
 ghost use Rattle.game_model.specs.declared.game.Side.TheVariants.{Max, Min};
 ghost use Rattle.game_model.specs.Query.{Query, IsQuery};
 ghost use Rattle.game_model.specs.Values.{numerator};
-ghost use Rattle.strategies.specs.Plays.{plays};
-ghost use Rattle.strategies.specs.Strategies.{IsStrategyOf, reach};
-ghost use Rattle.counted_plays.specs.Counted.{one_throw};
+ghost use Rattle.strategies.specs.Plays.{plays, ways_won};
+ghost use Rattle.strategies.specs.Strategies.{IsStrategyOf, reach, avoid};
+ghost use Rattle.counted_plays.specs.Counted.{three_answered, one_throw};
 ghost use Rattle.counted_plays.specs.Games.{give_and_take};
 ghost use Rattle.counted_plays.specs.Players.{first_choice, harsh, alternating, answering, tossing};
 
@@ -21,13 +21,15 @@ pub fn players_have_strategies()
 {}
 
 /// The maximiser is careful, then bold, and so on; the minimiser answers a careful choice harshly and a bold one mildly.
-/// Within 2 turns nothing is won. Half the time it is lost at the second turn, else the third wins half the time: 1/4, 16 of 64.
-/// The fourth turn leads back, so the next three win a quarter of the last quarter: 5/16, 5120 of 16384, within 7.
-#[tactic(auto, unfolding(strategies::specs::Strategies::reach))]
+/// Three turns go in 4 * 4 * 4 = 64 ways. Half of them are lost at the second turn, where the state is dead, though the third
+/// comes to a goal; of the others the third wins half: 1/4, 16 ways, and 48 avoid it.
+/// The fourth turn leads back, so the next three win a quarter of the last quarter: 5/16, 5120 of 16384, within seven.
+#[tactic(auto, unfolding(strategies::specs::Strategies::reach, strategies::specs::Plays::plays))]
 pub fn memory_is_counted()
-    ensures two { reach give_and_take 1 alternating answering 2 [] 0 ≡ 0 }
+    ensures all { plays give_and_take 1 alternating answering 3 [] 0 ≡ three_answered }
+    ensures won { ways_won give_and_take three_answered ≡ 16 }
     ensures three { reach give_and_take 1 alternating answering 3 [] 0 ≡ 16 }
-    ensures six { reach give_and_take 1 alternating answering 6 [] 0 ≡ 1024 }
+    ensures avoided { avoid give_and_take 1 alternating answering 3 0 ≡ 48 }
     ensures seven { reach give_and_take 1 alternating answering 7 [] 0 ≡ 5120 }
 {}
 

@@ -29,8 +29,8 @@ pub fn memory_and_dice_reach_less()
     ensures { (k : ℕ) → 2 * reach give_and_take 2 tossing harsh k [] 0 ≤ 8 ^ k }
 {}
 
-/// Who lingers may stay for ever, and is never won. Who tries is won within k turns by 1 less a half to the k: the value is 1,
-/// and no horizon reaches it.
+/// Who stays at state 0 for ever never comes to the goal; who tries does within k turns with the probability 1 - 1/2^k, the best
+/// there is: the value is 1, and no horizon reaches it.
 pub fn no_horizon_reaches_the_value()
     ensures never { (k : ℕ) → reach lingering 1 first_choice first_choice k [] 0 ≡ 0 }
     ensures all { denominator lingering.game ≡ 2 }

@@ -1,10 +1,10 @@
 //! The games, and the ways in which the coin loop goes.
 
-ghost use Rattle.std.specs.Prelude.{◌≡◌, ℕ, ◌*◌, ◌^◌, true, false, [], ◌∷◌};
+ghost use Rattle.std.specs.Prelude.{◌≡◌, ℕ, ◌*◌, ◌^◌, []};
 ghost use Rattle.game_model.specs.Query.{IsQuery};
 ghost use Rattle.game_model.specs.Values.{denominator};
 ghost use Rattle.strategies.specs.Strategies.{reach, avoid};
-ghost use Rattle.strategies.specs.Plays.{plays, is_won, ways_won, ways_lost};
+ghost use Rattle.strategies.specs.Plays.{plays, ways_won, ways_lost};
 ghost use Rattle.strategies.specs.Next.{ways_next, AreBestNext};
 ghost use Rattle.strategies.specs.Stopping.{undecided, ending, IsStopping};
 ghost use Rattle.counted_plays.specs.Games.{coin_loop, give_and_take, lingering};
@@ -30,13 +30,8 @@ pub fn three_turns_are_counted()
     ensures avoided { avoid coin_loop 1 first_choice first_choice 3 0 ≡ 36 }
 {}
 
-/// A play is won that comes through a goal, unless it comes through a dead state before, and whatever comes behind.
-pub fn plays_are_won()
-    ensures behind { is_won give_and_take (0 ∷ 1 ∷ 3 ∷ 2 ∷ []) ≡ false }
-    ensures before { is_won give_and_take (0 ∷ 2 ∷ 2 ∷ 2 ∷ []) ≡ true }
-{}
-
-/// One turn of the coin loop goes in 4 ways, of which 2 stay at state 0 and 1 is won; and this 1 is all that both sides can be sure of.
+/// One turn of the coin loop goes in 4 ways, of which 2 stay at state 0 and 1 comes to state 1; and that 1 is what both sides
+/// can be sure of.
 #[tactic(auto, unfolding(strategies::specs::Plays::plays))]
 pub fn the_next_state_is_counted()
     ensures stays { ways_next coin_loop (only 0) 1 first_choice first_choice 0 ≡ 2 }
@@ -44,7 +39,7 @@ pub fn the_next_state_is_counted()
     ensures sure { (parts : ℕ → ℕ) → AreBestNext coin_loop (only 1) parts → parts 0 ≡ 1 }
 {}
 
-/// Each turn of the coin loop ends with the probability 1/2, so 8 of the 64 ways of three turns are undecided, and 56 are over.
+/// Each turn of the coin loop ends the play with the probability 1/2, so 8 of the 64 ways of three turns are undecided, and 56 are over.
 #[tactic(auto, unfolding(strategies::specs::Strategies::reach, strategies::specs::Stopping::undecided))]
 pub fn the_coin_loop_stops()
     ensures undecided { undecided coin_loop coin_lost 3 0 ≡ 8 }
