@@ -12,23 +12,16 @@ reached k past s = reach give_and_take 2 tossing harsh k past s
 abbrev turn : ℕ → ℕ → ℕ → Turn
 turn s throw choice = record { state = s; throw = throw; choice = choice }
 
-won : (k : ℕ) (past : List Turn) → reached k past 2 ≡ 8 ^ k
-unfolding reach
-won zero past = refl
-won (suc k) past = refl
-
-lost : (k : ℕ) (past : List Turn) → reached k past 3 ≡ 0
-unfolding reach
-lost zero past = refl
-lost (suc k) past = refl
-
 -- after the first turn at most the values
-later : (k : ℕ) (before : Turn) (past : List Turn) → (3 * reached k (before ∷ past) 0 ≤ 2 * 8 ^ k) × (3 * reached k (before ∷ past) 1 ≤ 8 ^ k)
+later : (k : ℕ) (last : Turn) (past : List Turn)
+    → (3 * reached k (last ∷ past) 0 ≤ 2 * 8 ^ k) × (3 * reached k (last ∷ past) 1 ≤ 8 ^ k) × (reached k (last ∷ past) 2 ≡ 8 ^ k) × (reached k (last ∷ past) 3 ≡ 0)
 unfolding reach
-later zero before past = (omega arith, omega arith)
-later (suc k) before past = (
-  omega (arith, (later k (turn 0 0 0) (before ∷ past)).1, (later k (turn 0 1 0) (before ∷ past)).1, won k (turn 0 0 0 ∷ before ∷ past), won k (turn 0 1 0 ∷ before ∷ past), pow-suc 8 k),
-  omega (arith, (later k (turn 1 0 1) (before ∷ past)).0, (later k (turn 1 1 1) (before ∷ past)).0, lost k (turn 1 0 1 ∷ before ∷ past), lost k (turn 1 1 1 ∷ before ∷ past), pow-suc 8 k),
+later zero last past = (omega arith, omega arith, refl, refl)
+later (suc k) last past = (
+  omega (arith, later k (turn 0 0 0) (last ∷ past), later k (turn 0 1 0) (last ∷ past), pow-suc 8 k),
+  omega (arith, later k (turn 1 0 1) (last ∷ past), later k (turn 1 1 1) (last ∷ past), pow-suc 8 k),
+  refl,
+  refl,
 )
 
 pub returns : goal.returns
@@ -37,4 +30,4 @@ returns c = at
   where
     at : (k : ℕ) → 2 * reached k [] 0 ≤ 8 ^ k
     at zero = omega arith
-    at (suc k) = omega (arith, (later k (turn 0 0 0) []).1, (later k (turn 0 1 1) []).1, won k (turn 0 0 0 ∷ []), pow-suc 8 k)
+    at (suc k) = omega (arith, later k (turn 0 0 0) [], later k (turn 0 1 1) [], pow-suc 8 k)
