@@ -15,7 +15,7 @@ pub record Play : Type 0 where
 abbrev pub begun_at : ℕ → ℕ → Play → Play
 begun_at s ways play = record { through = s ∷ play.through; ways = ways * play.ways }
 
--- all plays of k turns. A turn has as many ways as faces times denominator: each throw of the die and each of the equal parts of the choice, of which an edge has its share.
+-- all plays of k turns, one for each throw and edge of each turn, so the same states may stand more than once. A turn has as many ways as faces times denominator: each throw of the die and each of the equal parts of the choice, of which an edge has its share.
 unfoldable pub plays : Query → ℕ → Strategy → Strategy → ℕ → List Turn → ℕ → List Play
 plays q faces greatest least zero past s = record { through = s ∷ []; ways = 1 } ∷ []
 plays q faces greatest least (suc k) past s =

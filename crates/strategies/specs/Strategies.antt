@@ -19,7 +19,7 @@ pub record Turn : Type 0 where
 abbrev pub Strategy : Type 0
 Strategy = List Turn → ℕ → ℕ → ℕ
 
--- it takes a choice that exists at each state of its side
+-- it takes a choice that exists at each state of its side, after whatever turns and at whatever throw
 abbrev pub IsStrategyOf : Query → Side → Strategy → Type 0
 IsStrategyOf q side strategy = (past : List Turn) (s throw : ℕ) → s < states q → side_at q s ≡ side → strategy past s throw < length (choices_of q.game s)
 
@@ -61,7 +61,7 @@ HoldsAgainstAll q plan table = HoldsOver unit q plan table
 abbrev pub ReachesAgainstAll : Query → List (Option ℕ) → (ℕ → ℕ) → Type 0
 ReachesAgainstAll q plan table = ReachesOver unit q plan table
 
--- the probability of reaching no goal within k steps
+-- the probability of not winning within k steps: of reaching no goal, or one behind a dead state alone
 abbrev pub avoid : Query → ℕ → Strategy → Strategy → ℕ → ℕ → ℕ
 avoid q faces greatest least k s = (faces * denominator q.game) ^ k - reach q faces greatest least k [] s
 

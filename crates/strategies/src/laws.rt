@@ -75,7 +75,9 @@ pub fn plans_bound_values()
 {}
 
 /// However both play, with memory and dice, a play is over within k steps with at least the probability that `undecided` leaves.
+/// That it is over is a question of its own.
 pub fn plays_end()
-    ensures { (q : Query) (lost : List Bool) (faces k s : ℕ) (greatest least : Strategy) → IsQuery q → IsStrategyOf q Max greatest → IsStrategyOf q Min least → s < states q →
+    ensures posed { (q : Query) (lost : List Bool) → IsQuery q → IsQuery (ending q lost) }
+    ensures over { (q : Query) (lost : List Bool) (faces k s : ℕ) (greatest least : Strategy) → IsQuery q → IsStrategyOf q Max greatest → IsStrategyOf q Min least → s < states q →
         (faces * denominator q.game) ^ k ≤ reach (ending q lost) faces greatest least k [] s + faces ^ k * undecided q lost k s }
 {}
