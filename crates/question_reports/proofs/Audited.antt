@@ -15,7 +15,7 @@ use Rattle.run_answers.specs.declared.status.Status.{Status}
 use Rattle.run_answers.specs.Printed.{is_mirrored, verdict_for, line_for, status_of}
 use Rattle.question_reports.specs.Audits.{IsAudited}
 use Rattle.rpatl_syntax.specs.Dual.{answered}
-use Rattle.question_reports.proofs.Valued.{keeps-away, values, all-valued}
+use Rattle.question_reports.proofs.Valued.{told}
 use Rattle.question_reports.proofs.Limits.{plan-units, printed-units}
 
 module _ (q : Query) (posed : IsQuery q) (f : Tree) (plan : Plan) (lists : HasStates plan (states q)) (passes : Passes q plan) where
@@ -38,14 +38,9 @@ pub audited : {X E : Type 0} (text : X → List ℕ) (ends : X → Status) (q : 
     → IfOk result (λ answer. ends answer ≡ status_of (map (verdict_for f plan.lower.items plan.upper.items) initial))
     → IfOk result (λ answer. IsAudited q initial f plan (text answer) (ends answer))
 audited text ends q posed initial f plan inside sound lines left_open (Ok answer) written ended = record {
-  inside = inside;
-  sound = sound;
-  keeps_away = λ mirrored. keeps-away q plan sound;
-  values = values q posed f plan sound;
-  valued = all-valued q posed f plan sound initial inside;
+  told = told q posed f plan sound initial _ inside ended;
   written = written;
   lines = lines;
-  ends = ended;
   left_open = left_open;
 }
 audited text ends q posed initial f plan inside sound lines left_open (Err error) written ended = tt

@@ -30,7 +30,7 @@ use Rattle.rpatl_syntax.specs.Dual.{IsAtMostOne, dual_bound, answered_by, answer
 use Rattle.run_answers.specs.Printed.{is_mirrored, printed_verdict, verdict_for, status_of, output_of}
 use Rattle.bracket_engine.specs.Found.{IsFound}
 use Rattle.question_reports.specs.Reports.{IsShown, IsLeftOpen, IsBracketReport}
-use Rattle.question_reports.proofs.Valued.{keeps-away, values, all-valued}
+use Rattle.question_reports.proofs.Valued.{told}
 use Rattle.run_answers.specs.Outputs.{output_text, IsInLimits}
 
 -- 1. Verdicts of `G` and of its dual.
@@ -121,7 +121,6 @@ pub reported : {X E : Type 0} (text : X → List ℕ) (ends : X → Status) (q :
     → IfOk result (λ answer. IsBracketReport q initial f check (text answer) (ends answer))
 reported text ends q initial f check zero found plan ready (Ok answer) written ended = record {
   posed = ready.posed;
-  inside = ready.inside;
   zero = zero;
   is_zero = ready.is_zero;
   found = found;
@@ -129,14 +128,10 @@ reported text ends q initial f check zero found plan ready (Ok answer) written e
   plan = plan;
   shown = ready.shown;
   lists = ready.lists;
-  sound = ready.sound;
-  keeps_away = λ mirrored. keeps-away q plan ready.sound;
-  values = values q ready.posed f plan ready.sound;
-  valued = all-valued q ready.posed f plan ready.sound initial ready.inside;
+  told = told q ready.posed f plan ready.sound initial _ ready.inside ended;
   passes = ready.passes;
   written = written;
   limits = ready.limits;
-  ends = ended;
   left_open = ready.left_open;
 }
 reported text ends q initial f check zero found plan ready (Err error) written ended = tt

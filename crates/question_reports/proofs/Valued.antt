@@ -1,5 +1,5 @@
 -- What is printed of a plan that is sound lies on either side of the values.
-use Rattle.std.proofs.Common.{ℕ, ◌+◌, ◌-◌, ◌*◌, ◌<◌, ◌≤◌, Bool, true, false, List}
+use Rattle.std.proofs.Common.{◌≡◌, ℕ, ◌+◌, ◌-◌, ◌*◌, ◌<◌, ◌≤◌, Bool, true, false, List, map}
 use Rattle.std.specs.Prelude.{All, slice_index, if◌then◌else◌}
 use Rattle.std.proofs.lemmas.List.Elements.{All-weaker}
 use Rattle.game_model.specs.Limits.{unit}
@@ -13,8 +13,9 @@ use Rattle.rpatl_syntax.specs.Formula.{Tree}
 use Rattle.plan_text.specs.declared.plan.Plan.{Plan}
 use Rattle.certificate_audit.specs.Accepted.{IsSoundPlan}
 use Rattle.verdicts.proofs.Fractions.{right}
-use Rattle.run_answers.specs.Printed.{is_mirrored, printed_lower, printed_upper}
-use Rattle.question_reports.specs.Valued.{asked_value, IsPrintedOf, KeepsAway}
+use Rattle.run_answers.specs.Printed.{is_mirrored, printed_lower, printed_upper, verdict_for, status_of}
+use Rattle.run_answers.specs.declared.status.Status.{Status}
+use Rattle.question_reports.specs.Valued.{asked_value, IsPrintedOf, KeepsAway, IsTold}
 
 printed-below : (mirrored : Bool) (l u top v : ℕ) → l * top ≤ unit * v → unit * v ≤ u * top → printed_lower mirrored l u * top ≤ unit * (if mirrored then top - v else v)
 printed-below true l u top v low high = avoids-factors unit u top v high
@@ -45,3 +46,13 @@ module _ (q : Query) (posed : IsQuery q) (f : Tree) (plan : Plan) (sound : IsSou
 
   pub all-valued : (initial : List ℕ) → All (λ s. s < states q) initial → All (IsPrintedOf values f plan.lower.items plan.upper.items) initial
   all-valued initial inside = All-weaker (λ s. s < states q) (IsPrintedOf values f plan.lower.items plan.upper.items) at-state initial inside
+
+  pub told : (initial : List ℕ) (status : Status) → All (λ s. s < states q) initial → status ≡ status_of (map (verdict_for f plan.lower.items plan.upper.items) initial) → IsTold q initial f plan status
+  told initial status inside ended = record {
+    inside = inside;
+    sound = sound;
+    keeps_away = λ mirrored. keeps-away q plan sound;
+    values = values;
+    valued = all-valued initial inside;
+    ends = ended;
+  }

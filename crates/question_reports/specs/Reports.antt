@@ -6,13 +6,12 @@ use Rattle.game_model.specs.Values.{denominator, numerator}
 use Rattle.game_model.specs.Rounded.{down_steps, IsBelow, IsInductive}
 use Rattle.game_model.specs.Bounds.{IsHigh}
 use Rattle.game_model.specs.Dual.{IsZeroSet, open_numerator, swapped}
-use Rattle.exact_values.specs.Exact.{HasValues}
 use Rattle.inductive_check.specs.Replies.{AreReplies, HoldsUnder}
 use Rattle.rpatl_syntax.specs.declared.formula.Bound.{Bound}
 use Rattle.rpatl_syntax.specs.Formula.{Tree}
 use Rattle.plan_text.specs.declared.plan.Plan.{Plan}
 use Rattle.plan_text.specs.Entries.{HasStates}
-use Rattle.certificate_audit.specs.Accepted.{Passes, IsSoundPlan}
+use Rattle.certificate_audit.specs.Accepted.{Passes}
 use Rattle.verdicts.specs.Open.{LeavesOpen}
 use Rattle.verdicts.specs.declared.report.How.TheVariants.{Rounds}
 use Rattle.verdicts.specs.declared.verdict.Verdict.TheVariants.{Undecided}
@@ -22,9 +21,9 @@ use Rattle.trap_sets.specs.Lowered.{IsLoweredTable}
 use Rattle.rpatl_syntax.specs.Dual.{answered}
 use Rattle.command_words.specs.Words.{Check}
 use Rattle.run_answers.specs.Outputs.{output_text, IsInLimits}
-use Rattle.run_answers.specs.Printed.{is_mirrored, verdict_for, output_of, status_of}
+use Rattle.run_answers.specs.Printed.{verdict_for, output_of}
 use Rattle.run_answers.specs.declared.status.Status.{Status}
-use Rattle.question_reports.specs.Valued.{IsPrintedOf, KeepsAway}
+use Rattle.question_reports.specs.Valued.{IsTold}
 
 -- 1. What is printed of what was found.
 
@@ -63,7 +62,6 @@ pub record IsLeftOpen (q : Query) (zero : List Bool) (bound : Bound) (asked : �
 -- the text and the status are the answer to a question: they are those of a bracket after at most the asked rounds. Of `G` the question is that of its dual, and the bounds are mirrored when they are printed.
 pub record IsBracketReport (q : Query) (initial : List ℕ) (f : Tree) (check : Check) (text : List ℕ) (status : Status) : Type 0 where
   pub posed : IsQuery q
-  pub inside : All (λ s. s < states q) initial
   pub zero : List Bool
   pub is_zero : IsZeroSet q zero
   pub found : Bracket
@@ -71,15 +69,9 @@ pub record IsBracketReport (q : Query) (initial : List ℕ) (f : Tree) (check : 
   pub plan : Plan
   pub shown : IsShown q check.traps found plan
   pub lists : HasStates plan (states q)
-  -- the minimiser's choices hold every strategy of the maximiser to the upper bounds, and the maximiser's reach the lower ones, less any 1/m, against every strategy of the minimiser
-  pub sound : IsSoundPlan q plan
-  pub keeps_away : is_mirrored f.kind ≡ true → KeepsAway q plan
-  -- the question has values; at each initial state that which is asked for lies between the printed bounds, and True is true and False is false of it
-  pub values : HasValues q
-  pub valued : All (IsPrintedOf values f plan.lower.items plan.upper.items) initial
+  pub told : IsTold q initial f plan status
   pub passes : Passes q plan
   pub written : text ≡ output_text (output_of check.plan f (Rounds found.rounds) initial plan)
   pub limits : IsInLimits (output_of check.plan f (Rounds found.rounds) initial plan)
-  pub ends : status ≡ status_of (map (verdict_for f plan.lower.items plan.upper.items) initial)
   -- Undecided is said only where no bracket that the asked rounds promise settles the threshold; of `G` that of the dual
   pub left_open : All (λ s. verdict_for f plan.lower.items plan.upper.items s ≡ Undecided → IsLeftOpen q zero (answered f).bound check.rounds plan s) initial
