@@ -192,7 +192,7 @@ choice-left q gone set e k m posed fits away left fails = elim (serves-not (gone
 any-fails : (gone set : List Bool) (choices : List Distribution) (c : ℕ) → c < length choices → list_any (serves (gone_barred gone) set) choices ≡ false → serves (gone_barred gone) set (get_or choices c no_distribution) ≡ false
 any-fails gone set choices c l fails = AllByRecursion-at (λ m. serves (gone_barred gone) set m ≡ false) choices c no_distribution l (any-none (serves (gone_barred gone) set) choices fails)
 
-pub side-left : (q : Query) (gone set : List Bool) (e k s : ℕ) → IsQuery q → s < states q → ((t : ℕ) → t < states q → slice_index_or gone t false ≡ true → IsAway q e t)
+side-left : (q : Query) (gone set : List Bool) (e k s : ℕ) → IsQuery q → s < states q → ((t : ℕ) → t < states q → slice_index_or gone t false ≡ true → IsAway q e t)
     → ((t : ℕ) → t < states q → slice_index_or set t false ≡ false → slice_index_or gone t false ≡ false → numerator q k t * denominator q.game ^ suc e + denominator q.game ^ k ≤ denominator q.game ^ (suc e + k))
     → is_attracted q (gone_barred gone) set s ≡ false → SideIsFar q e k s
 side-left q gone set e k s posed inside away left fails = record {

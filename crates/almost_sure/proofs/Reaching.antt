@@ -49,7 +49,7 @@ IsAlmostSure-within q gone set posed near all s inside within = λ m some.
     let far : m * a ^ j ≤ D ^ k = subst (λ x. m * a ^ j ≤ x) (ap (λ b. b ^ j) base ∙ sym (pow-horizon_of D n j)) (pow-far a m) in
     (k, last-round m (D ^ k) (numerator q k s) (a ^ j) (rounds q gone set near a base all j s inside within) far)
 
-pub both-ways : (E n p : ℕ) → 1 ≤ p → n * E + p ≤ E * p → (E + 1) * p ≤ (E + 1) * n + p → ⊥
+both-ways : (E n p : ℕ) → 1 ≤ p → n * E + p ≤ E * p → (E + 1) * p ≤ (E + 1) * n + p → ⊥
 both-ways E n p some away near =
     let whole : p ≤ n = omega (arith, away, near) in
     omega (arith, some, away, mul-le-mul_left E whole)

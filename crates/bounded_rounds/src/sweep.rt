@@ -71,8 +71,7 @@ fn open(alloc: Global, opening: &[u64]) -> Result<Vec<Bounds>, AllocError>
         .collect(alloc)
 }
 
-/// The lower bounds, or the upper ones.
-/// The bounds as a lower and an upper table.
+// The bounds as a lower and an upper table.
 fn parted(alloc: Global, table: &[Bounds]) -> Result<Sweep, AllocError>
     ensures lower { IfOk result (λ sweep. sweep.lower.items ≡ lowers table.now) }
     ensures upper { IfOk result (λ sweep. sweep.upper.items ≡ uppers table.now) }

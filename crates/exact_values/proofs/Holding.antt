@@ -1,20 +1,18 @@
 -- What the minimiser holds with exact values.
-use Rattle.std.proofs.Common.{◌≡◌, ℕ, zero, suc, ◌+◌, ◌*◌, ◌/◌, ◌^◌, ◌<◌, ◌≤◌, ◌⊎◌, Bool, true, false, List, [], ◌∷◌, length, sum, sum_by, arith, refl, sym, ap, subst, inl, inr}
-use Rattle.std.specs.Prelude.{slice_index}
+use Rattle.std.proofs.Common.{◌≡◌, ℕ, zero, suc, ◌*◌, ◌/◌, ◌^◌, ◌<◌, ◌≤◌, Bool, true, false, List, [], ◌∷◌, length, sum_by, arith, refl, sym, ap, subst}
 use Rattle.std.specs.List.{range_with_len}
 use Rattle.std.specs.Bool.{if◌then◌else◌}
-use Rattle.std.proofs.lemmas.Bool.{cases_lt}
 use Rattle.std.proofs.lemmas.List.FromFn.{length-range_with_len}
 use Rattle.std.proofs.lemmas.List.Sums.{sum_by-cons}
-use Rattle.std.proofs.Math.Nat.{mul-le-mul_left, mul-le-mul_right, le_of_mul-le-mul_left, pow-suc, pow-zero, one-le-pow}
+use Rattle.std.proofs.Math.Nat.{mul-le-mul_left, pow-suc, pow-zero}
 use Rattle.game_model.specs.declared.game.Side.{Side}
 use Rattle.game_model.specs.declared.game.Side.TheVariants.{Max, Min}
 use Rattle.game_model.specs.Game.{Distribution, no_distribution, choices_of, choice_of}
 use Rattle.game_model.specs.Query.{Query, IsQuery, states, is_goal, is_dead, side_at}
-use Rattle.game_model.specs.Values.{weighted_sum, denominator, numerator}
+use Rattle.game_model.specs.Values.{weighted_sum, denominator}
 use Rattle.game_model.specs.Plans.{planned_place}
 use Rattle.game_model.proofs.Each.{AllByRecursion-at}
-use Rattle.game_model.proofs.Choices.{IsChoiceOf, IsChoiceOf-choice_of, denominator-pos}
+use Rattle.game_model.proofs.Choices.{IsChoiceOf, IsChoiceOf-choice_of}
 use Rattle.game_laws.proofs.Planned.{planned_place-given}
 use Rattle.strategies.specs.Strategies.{Turn, Strategy, IsStrategyOf, of_side, worth, reach, by_plan}
 use Rattle.strategies.proofs.Turns.{worth-le, of_side-inside}
@@ -22,7 +20,7 @@ use Rattle.strategies.proofs.Plans.{by_plan-inside}
 use Rattle.exact_values.specs.Exact.{HasValues}
 use Rattle.exact_values.proofs.Descent.{Held}
 use Rattle.exact_values.proofs.Arena.{Free, SolvedAt, Exact}
-use Rattle.exact_values.proofs.Plans.{exact-of, answering, reply-at, replies, plan, ranks, certified, reached}
+use Rattle.exact_values.proofs.Plans.{exact-of, answering, reply-at, replies, plan, reached}
 
 sums-most : (t : ℕ) (f : ℕ → ℕ) (most : ℕ) (xs : List ℕ) → ((x : ℕ) → t * f x ≤ most) → t * sum_by f xs ≤ length xs * most
 sums-most t f most [] h = omega arith

@@ -1,6 +1,7 @@
 pub mod Sums
 pub mod Descent
 pub mod Arena
+pub mod Decided
 pub mod Layers
 pub mod Splits
 pub mod Chains

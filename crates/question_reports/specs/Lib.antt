@@ -2,3 +2,4 @@ pub mod Audits
 pub mod Nested
 pub mod Reports
 pub mod Sweeps
+pub mod Valued

@@ -2,9 +2,12 @@
 use Rattle.std.specs.Prelude.{◌≡◌, ◌<◌, ◌≤◌, ◌==◌, ◌*◌, ◌^◌, ℕ, Bool, false, List, length, map, slice_index, All}
 use Rattle.game_model.specs.Limits.{unit}
 use Rattle.game_model.specs.Query.{Query, states}
-use Rattle.game_model.specs.Values.{denominator}
+use Rattle.game_model.specs.Values.{denominator, numerator}
+use Rattle.game_model.specs.Rounded.{opening}
+use Rattle.strategies.specs.Strategies.{AreBest}
+use Rattle.strategies.specs.Next.{AreBestNext}
 use Rattle.rpatl_syntax.specs.Formula.{Tree}
-use Rattle.bounded_rounds.specs.Exact.{IsBracketed, IsNext}
+use Rattle.bounded_rounds.specs.Exact.{IsBracketed, IsNext, next_numerator}
 use Rattle.bounded_rounds.specs.Steps.{IsSweep}
 use Rattle.verdicts.specs.Exact.{IsRight}
 use Rattle.verdicts.specs.Report.{IsLine, report}
@@ -26,6 +29,11 @@ pub record IsSweepReport (q : Query) (opening : ℕ → ℕ) (steps : ℕ) (nume
   -- True is true and False is false
   pub right : All (λ s. IsRight f.bound (numerators s) (denominator q.game ^ steps) (verdict_over false f.bound lower upper s)) initial
 
+-- of `F<=k` and `U<=k`: the values within so many steps, which are what both sides can be sure of by strategies with memory and dice
+pub record IsWithinReport (q : Query) (steps : ℕ) (initial : List ℕ) (f : Tree) (text : List ℕ) (status : Status) : Type 0 where
+  pub report : IsSweepReport q (opening q) steps (numerator q steps) initial f text status
+  pub best : AreBest q steps
+
 -- the states to which an opening table gives the unit
 abbrev pub opens : List ℕ → ℕ → Bool
 opens opening s = slice_index opening s == unit
@@ -35,3 +43,8 @@ pub record IsOpening (q : Query) (opening : List ℕ) : Type 0 where
   pub many : length opening ≡ states q
   pub units : All (λ v. v ≤ unit) opening
   pub next : IsNext q (slice_index opening) (opens opening)
+
+-- of `X`: the probabilities of the next state, which are what both sides can be sure of
+pub record IsNextReport (q : Query) (table : List ℕ) (initial : List ℕ) (f : Tree) (text : List ℕ) (status : Status) : Type 0 where
+  pub report : IsSweepReport q (slice_index table) 1 (next_numerator q (opens table)) initial f text status
+  pub best : AreBestNext q (opens table) (next_numerator q (opens table))

@@ -27,9 +27,7 @@ use std::alloc::Global;
 use std::thread::Threads;
 use trap_sets::lower_traps_over;
 use verdicts::How;
-use verdicts::laws::{
-    mirrored_verdicts_are_those_of_the_dual, undecided_thresholds_are_left_open, verdicts_are_true,
-};
+use verdicts::laws::{mirrored_verdicts_are_those_of_the_dual, undecided_thresholds_are_left_open};
 
 // A formula as the words spell it, and the one whose question is answered: of `G` the dual, else the same.
 #[derive(Clone, Copy)]
@@ -71,9 +69,8 @@ pub fn bracket_report<R: Threads + Sync, G: Gate + Sync>(
         check.workers,
         gate,
     )?;
-    // What a question keeps, and three laws: these calls do nothing.
+    // What a question keeps, and two laws: these calls do nothing.
     question.known();
-    verdicts_are_true();
     undecided_thresholds_are_left_open();
     mirrored_verdicts_are_those_of_the_dual();
     let found = bracketed.bracket;

@@ -3,14 +3,12 @@
 ghost use Rattle.std.specs.Prelude.{◌≡◌, ◌*◌, ◌<◌, ◌≤◌, ℕ, All, IfOk, false, length, slice_index};
 ghost use Rattle.game_model.specs.Limits.{unit};
 ghost use Rattle.game_model.specs.Query.{states};
-ghost use Rattle.game_model.specs.Rounded.{opening};
-ghost use Rattle.game_model.specs.Values.{numerator};
 ghost use Rattle.rpatl_syntax.specs.Formula.{tree_of};
-ghost use Rattle.bounded_rounds.specs.Exact.{exact_from, next_numerator};
+ghost use Rattle.bounded_rounds.specs.Exact.{exact_from};
 ghost use Rattle.bounded_rounds.specs.Limits.{most_steps, most_workers};
 ghost use Rattle.bounded_rounds.specs.Steps.{IsSweep};
 ghost use Rattle.run_answers.specs.Status.{IsAnswer};
-ghost use Rattle.question_reports.specs.Sweeps.{IsOpening, IsSweepReport, opens};
+ghost use Rattle.question_reports.specs.Sweeps.{IsNextReport, IsOpening, IsSweepReport, IsWithinReport};
 
 use bounded_rounds::laws::{
     exact_values_are_k_step_values, one_step_is_the_next_value, rounded_steps_bracket_exact_values,
@@ -39,7 +37,7 @@ pub fn within_report<R: Threads + Sync, G: Gate + Sync>(
     requires inside { All (λ s. s < states posed.now.question) posed.now.initial.items }
     requires steps { steps ≤ most_steps }
     requires workers { (1 ≤ workers) × (workers ≤ most_workers) }
-    ensures report { IfOk result (λ answer. IsSweepReport posed.now.question (opening posed.now.question) steps (numerator posed.now.question steps) posed.now.initial.items (tree_of formula.now) answer.text.items answer.status) }
+    ensures report { IfOk result (λ answer. IsWithinReport posed.now.question steps posed.now.initial.items (tree_of formula.now) answer.text.items answer.status) }
     ensures answer { IfOk result (λ answer. IsAnswer answer.status) }
 {
     // What a question keeps, and a law: these calls do nothing.
@@ -69,7 +67,7 @@ pub fn next_report<R: Threads + Sync, G: Gate + Sync>(
     requires inside { All (λ s. s < states posed.now.question) posed.now.initial.items }
     requires opening { IsOpening posed.now.question posed.now.opening.items }
     requires workers { (1 ≤ workers) × (workers ≤ most_workers) }
-    ensures report { IfOk result (λ answer. IsSweepReport posed.now.question (slice_index posed.now.opening.items) 1 (next_numerator posed.now.question (opens posed.now.opening.items)) posed.now.initial.items (tree_of formula.now) answer.text.items answer.status) }
+    ensures report { IfOk result (λ answer. IsNextReport posed.now.question posed.now.opening.items posed.now.initial.items (tree_of formula.now) answer.text.items answer.status) }
     ensures answer { IfOk result (λ answer. IsAnswer answer.status) }
 {
     // What a question keeps, and a law: these calls do nothing.

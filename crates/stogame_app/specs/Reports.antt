@@ -1,10 +1,7 @@
 -- What is reported to words, by the command that they denote and the paths of its formula.
-use Rattle.std.specs.Prelude.{◌≡◌, ◌≤◌, ℕ, Bool, List, Option, Some, slice_index}
+use Rattle.std.specs.Prelude.{◌≡◌, ◌≤◌, ℕ, Bool, List, Option, Some}
 use Rattle.text_lines.specs.Limits.{most_bytes}
 use Rattle.game_outside.specs.Outside.{Holding}
-use Rattle.game_model.specs.Rounded.{opening}
-use Rattle.game_model.specs.Values.{numerator}
-use Rattle.bounded_rounds.specs.Exact.{next_numerator}
 use Rattle.rpatl_syntax.specs.Formula.{Tree}
 use Rattle.rpatl_syntax.specs.Rules.{Denotes}
 use Rattle.formula_sets.specs.Posing.{Model, Posing, NextPosing}
@@ -17,7 +14,7 @@ use Rattle.asked_files.specs.Asks.{GivenTextWith}
 use Rattle.asked_files.specs.Questions.{PosesIt}
 use Rattle.run_answers.specs.declared.status.Status.{Status}
 use Rattle.question_reports.specs.Reports.{IsBracketReport}
-use Rattle.question_reports.specs.Sweeps.{IsSweepReport, opens}
+use Rattle.question_reports.specs.Sweeps.{IsWithinReport, IsNextReport}
 use Rattle.question_reports.specs.Nested.{IsNestedReport}
 use Rattle.question_reports.specs.Audits.{IsAudit}
 use Rattle.drawn_report.specs.Made.{IsMade}
@@ -46,10 +43,10 @@ pub data IsReportOfWords (words : List (List ℕ)) (holding : Option Holding) (t
       → IsBracketReport p.question p.initial f check text status → IsReportOfWords words holding taken text status
   -- `check` of `F<=k` and `U<=k`: bounds of the values of exactly so many steps
   of_within : (check : Check) (steps : ℕ) (p : Posing) (f : Tree) → Checks words holding taken check (OfWithin steps p) f
-      → IsSweepReport p.question (opening p.question) steps (numerator p.question steps) p.initial f text status → IsReportOfWords words holding taken text status
+      → IsWithinReport p.question steps p.initial f text status → IsReportOfWords words holding taken text status
   -- `check` of `X`: bounds of the values of the next step
   of_next : (check : Check) (p : NextPosing) (f : Tree) → Checks words holding taken check (OfNext p) f
-      → IsSweepReport p.question (slice_index p.opening) 1 (next_numerator p.question (opens p.opening)) p.initial f text status → IsReportOfWords words holding taken text status
+      → IsNextReport p.question p.opening p.initial f text status → IsReportOfWords words holding taken text status
   -- `check` of a formula with others inside: bounds that are sound for the exact question
   of_nested : (check : Check) (model : Model) (initial : List ℕ) (f : Tree) → Checks words holding taken check (OfNested model initial) f
       → IsNestedReport model initial f check.rounds text status → IsReportOfWords words holding taken text status

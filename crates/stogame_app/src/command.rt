@@ -27,15 +27,16 @@ use std::thread::Threads;
 /// Reads the words and the texts that they name. `check` computes a bracket of the question that they pose, and writes one line
 /// for each initial state, rising, and the certificate where the words ask for it; `audit` writes these lines from a certificate
 /// of any origin that the question accepts, and computes no bracket; `sure` lists the states from which a goal is reached almost
-/// surely, whose k-step values come within any 1/m of 1; `make` writes one line about the bracket of a game that a seed draws.
-/// With `check` and `audit`, `F` and `U`, k-step values come within any 1/m of each printed lower bound, or are above it, and each
-/// upper bound is at least every one; with `--traps` it is lowered to the best exits of traps. The minimiser's choices of the
-/// certificate hold every opponent to the upper bounds, and the maximiser's reach the lower ones, less any 1/m, within some
-/// horizon; True and False are printed exactly where the bounds settle the threshold, and are then true and false, whatever the
-/// schedule of the workers, who pass a gate before states. Of `G` all this is so of its dual, and 1 less its bounds is printed.
-/// With `F<=k`, `U<=k` and `X` exactly so many steps are made, and the k-step value, or the next one, lies between the bounds.
-/// With formulas inside a first line counts them and what their bounds leave undecided; the bounds are sound, and True and
-/// False right, for the exact question, in which each formula inside holds where it is true.
+/// surely; `make` writes one line about the bracket of a game that a seed draws.
+/// With `check` and `audit`, `F` and `U`, the value of the question lies between the printed bounds; with `--traps` the upper one
+/// is lowered to the best exits of traps. The minimiser's choices of the certificate hold every strategy of the maximiser, with
+/// memory and dice, to the upper bounds, and the maximiser's reach the lower ones, less any 1/m, within some number of steps
+/// against every strategy of the minimiser. True and False are printed exactly where the bounds settle the threshold, and are then
+/// true and false of the value, whatever the schedule of the workers, who pass a gate before states. Of `G` all this is so of its
+/// dual, and 1 less its bounds is printed. With `F<=k`, `U<=k` and `X` exactly so many steps are made, and what both sides can be
+/// sure of within them, or next, lies between the bounds. With formulas inside a first line counts them and what their bounds
+/// leave undecided; the bounds are sound, and True and False right, for the exact question, in which each formula inside holds
+/// where it is true.
 /// What is not accepted is refused by one line that names the cause and its place. The whole output is made in memory first and
 /// written once.
 pub fn run<R: Threads + Sync, H: Shelf, K: Sink, G: Gate + Sync>(

@@ -1,10 +1,10 @@
 -- However both play, a play is over as often as what is undecided leaves.
-use Rattle.std.proofs.Common.{◌≡◌, ℕ, zero, suc, ◌+◌, ◌*◌, ◌^◌, ◌<◌, ◌≤◌, Bool, true, false, List, [], ◌∷◌, length, map, get_or, sum_by, arith, refl, ap, subst}
+use Rattle.std.proofs.Common.{map, ◌≡◌, ℕ, zero, suc, ◌+◌, ◌*◌, ◌^◌, ◌<◌, ◌≤◌, Bool, true, false, List, [], ◌∷◌, length, sum_by, arith, refl, ap}
 use Rattle.std.specs.Prelude.{slice_index_or}
 use Rattle.std.specs.List.{range_with_len}
 use Rattle.std.specs.Bool.{if◌then◌else◌}
 use Rattle.std.proofs.Math.Nat.{mul-le-mul_left, pow-suc, pow-zero}
-use Rattle.std.proofs.lemmas.List.FromFn.{length-range_with_len, get_or-map-range_with_len}
+use Rattle.std.proofs.lemmas.List.FromFn.{length-range_with_len, length-map-range_with_len, get_or-map-range_with_len}
 use Rattle.std.proofs.lemmas.List.Sums.{sum_by-cons}
 use Rattle.game_model.specs.declared.game.Side.TheVariants.{Max, Min}
 use Rattle.game_model.specs.Game.{Distribution, choices_of, choice_of, no_distribution}
@@ -14,17 +14,13 @@ use Rattle.game_model.proofs.Best.{optimum-each}
 use Rattle.game_model.proofs.Choices.{IsChoiceOf, IsChoiceOf-choice_of}
 use Rattle.strategies.specs.Strategies.{Turn, Strategy, IsStrategyOf, of_side, worth, reach}
 use Rattle.strategies.specs.Stopping.{is_over, undecided, ending}
-use Rattle.strategies.proofs.Turns.{pow-product, worth-le, of_side-inside}
+use Rattle.strategies.proofs.Turns.{worth-le, of_side-inside}
 use Rattle.strategies.proofs.Ways.{worth-constant}
 use Rattle.strategies.proofs.Stopping.{worth-sum}
 
 sums-plus : (f : ℕ → ℕ) (c b : ℕ) (xs : List ℕ) → ((x : ℕ) → c ≤ f x + b) → length xs * c ≤ sum_by f xs + length xs * b
 sums-plus f c b [] h = omega arith
 sums-plus f c b (x ∷ xs) h = rw (sum_by-cons f x xs) (omega (arith, sums-plus f c b xs h, h x))
-
-none-dead : (s : ℕ) → slice_index_or {A = Bool} [] s false ≡ false
-none-dead zero = refl
-none-dead (suc s) = refl
 
 opens : (goal over : Bool) (p r : ℕ) → goal ≡ over → p ≡ 1 → r ≡ 1 → p ≤ (if goal then 1 else 0) + r * (if over then 0 else 1)
 opens true true p r same one two = let at : p ≤ 1 + r * 0 = omega (arith, one) in at
@@ -41,6 +37,9 @@ turns false false false p r x y same alive h = h
 module _ (q : Query) (posed : IsQuery q) (lost : List Bool) (faces : ℕ) (greatest least : Strategy) (up : IsStrategyOf q Max greatest) (down : IsStrategyOf q Min least) where
   over-at : (s : ℕ) → s < states q → is_goal (ending q lost) s ≡ is_over q lost s
   over-at s inside = get_or-map-range_with_len (is_over q lost) 0 (states q) s s false inside (omega arith)
+
+  none-dead : (s : ℕ) → s < states q → is_dead (ending q lost) s ≡ false
+  none-dead s inside = get_or-map-range_with_len (λ s. false) 0 (states q) s s false inside (omega arith)
 
   pub ended : (k : ℕ) (past : List Turn) (s : ℕ) → s < states q → (faces * denominator q.game) ^ k ≤ reach (ending q lost) faces greatest least k past s + faces ^ k * undecided q lost k s
   unfolding reach undecided
@@ -66,5 +65,20 @@ module _ (q : Query) (posed : IsQuery q) (lost : List Bool) (faces : ℕ) (great
       sums-plus _ (denominator q.game * (faces * denominator q.game) ^ k) (faces ^ k * best) (range_with_len 0 faces) each in
       let one : length (range_with_len 0 faces) * (denominator q.game * (faces * denominator q.game) ^ k) ≡ faces * (denominator q.game * (faces * denominator q.game) ^ k) = ap (λ n. n * (denominator q.game * (faces * denominator q.game) ^ k)) (length-range_with_len 0 faces) in
       let two : length (range_with_len 0 faces) * (faces ^ k * best) ≡ faces * (faces ^ k * best) = ap (λ n. n * (faces ^ k * best)) (length-range_with_len 0 faces) in
-      turns (is_goal (ending q lost) s) (is_over q lost s) (is_dead (ending q lost) s) ((faces * denominator q.game) ^ suc k) (faces ^ suc k) _ best (over-at s inside) (none-dead s)
+      turns (is_goal (ending q lost) s) (is_over q lost s) (is_dead (ending q lost) s) ((faces * denominator q.game) ^ suc k) (faces ^ suc k) _ best (over-at s inside) (none-dead s inside)
       (rw (pow-suc (faces * denominator q.game) k, pow-suc faces k) (omega (arith, all, one, two)))
+
+-- and it is a question
+pub ending-posed : (q : Query) (lost : List Bool) → IsQuery q → IsQuery (ending q lost)
+ending-posed q lost posed = record {
+  game = posed.game;
+  sides = posed.sides;
+  goals = length-map-range_with_len (is_over q lost) 0 (states q);
+  deads = length-map-range_with_len (λ s. false) 0 (states q);
+  apart = λ s goal. all-false (range_with_len 0 (states q)) s;
+}
+  where
+    all-false : (xs : List ℕ) (s : ℕ) → slice_index_or (map (λ x. false) xs) s false ≡ false
+    all-false [] s = refl
+    all-false (x ∷ xs) zero = refl
+    all-false (x ∷ xs) (suc s) = all-false xs s

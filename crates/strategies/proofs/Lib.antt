@@ -6,3 +6,5 @@ pub mod Ways
 pub mod Rises
 pub mod Stopping
 pub mod Ending
+pub mod Next
+pub mod Avoiding

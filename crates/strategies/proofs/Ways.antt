@@ -13,7 +13,8 @@ use Rattle.game_model.specs.Query.{Query, IsQuery, states, is_goal, is_dead, sid
 use Rattle.game_model.specs.Values.{weighted_sum, denominator}
 use Rattle.game_model.proofs.Choices.{IsChoiceOf, IsChoiceOf-choice_of}
 use Rattle.strategies.specs.Strategies.{Turn, Strategy, IsStrategyOf, of_side, worth, reach}
-use Rattle.strategies.specs.Plays.{Play, begun_at, plays, is_won, AreWays}
+use Rattle.strategies.specs.Plays.{Play, begun_at, plays, is_won, ways_won, ways_lost, AreWays}
+use Rattle.strategies.specs.Next.{comes_next, ways_next}
 use Rattle.strategies.proofs.Turns.{worth-le, of_side-inside}
 
 -- a sum over pieces
@@ -94,6 +95,18 @@ zero-times n = omega arith
 times-one : (n : ℕ) → n ≡ n * 1
 times-one n = omega arith
 
+-- each play is won or not
+won-or-lost : (q : Query) (all : List Play) → ways_won q all + ways_lost q all ≡ sum_by (λ (play : Play). play.ways) all
+won-or-lost q [] = refl
+won-or-lost q (play ∷ all) =
+    rw (
+      sum_by-cons (λ (p : Play). if is_won q p.through then p.ways else 0) play all,
+      sum_by-cons (λ (p : Play). if is_won q p.through then 0 else p.ways) play all,
+      sum_by-cons (λ (p : Play). p.ways) play all,
+      ← won-or-lost q all,
+    )
+    (elim (is_won q play.through) as (λ won. (if won then play.ways else 0) + ways_won q all + ((if won then 0 else play.ways) + ways_lost q all) ≡ play.ways + (ways_won q all + ways_lost q all)) [ true ↦ omega arith | false ↦ omega arith ])
+
 module _ (q : Query) (posed : IsQuery q) (faces : ℕ) (greatest least : Strategy) (up : IsStrategyOf q Max greatest) (down : IsStrategyOf q Min least) where
   abbrev turn_at : List Turn → ℕ → ℕ → Turn
   turn_at past s throw = record { state = s; throw = throw; choice = of_side (side_at q s) greatest least past s throw }
@@ -154,10 +167,31 @@ module _ (q : Query) (posed : IsQuery q) (faces : ℕ) (greatest least : Strateg
             ]
       ]
 
+  -- plays of one turn, by the state that comes next
+  pub next-ways : (holds : ℕ → Bool) (s : ℕ) → s < states q
+      → ways_next q holds faces greatest least s ≡ sum_by (λ throw. worth q (λ t. if holds t then 1 else 0) (choice_at [] s throw)) (range_with_len 0 faces)
+  unfolding plays
+  next-ways holds s inside =
+      sum-same (λ (play : Play). if comes_next holds play.through then play.ways else 0) (λ (play : Play). play.ways * (if comes_next holds play.through then 1 else 0)) (plays q faces greatest least 1 [] s) (λ play. if-ways (comes_next holds play.through) play.ways)
+      ∙ total-turn (λ through. if comes_next holds through then 1 else 0) 0 [] s
+      ∙ sum-same _ _ (range_with_len 0 faces) (λ throw.
+      worth-same q (λ t. total (λ through. if comes_next holds (s ∷ through) then 1 else 0) 0 (turn_at [] s throw ∷ []) t) (λ t. if holds t then 1 else 0) (choice_at [] s throw) (fits [] s throw inside)
+      (λ t within. at_once (turn_at [] s throw ∷ []) t))
+    where
+      at_once : (past : List Turn) (t : ℕ) → total (λ through. if comes_next holds (s ∷ through) then 1 else 0) 0 past t ≡ (if holds t then 1 else 0)
+      at_once past t = elim (holds t) as (λ h. 0 + 1 * (if h then 1 else 0) ≡ (if h then 1 else 0)) [ true ↦ refl | false ↦ refl ]
+
   pub ways-are : (k s : ℕ) → s < states q → AreWays q faces greatest least k s
   ways-are k s inside = record {
     all = sum-same (λ (play : Play). play.ways) (λ (play : Play). play.ways * 1) (plays q faces greatest least k [] s) (λ play. times-one play.ways)
         ∙ total-constant 1 k [] s inside ∙ one-times ((faces * denominator q.game) ^ k);
     won = sum-same (λ (play : Play). if is_won q play.through then play.ways else 0) (λ (play : Play). play.ways * (if is_won q play.through then 1 else 0)) (plays q faces greatest least k [] s) (λ play. if-ways (is_won q play.through) play.ways)
         ∙ total-won k [] s inside;
+    lost =
+        let all : sum_by (λ (play : Play). play.ways) (plays q faces greatest least k [] s) ≡ (faces * denominator q.game) ^ k =
+        sum-same (λ (play : Play). play.ways) (λ (play : Play). play.ways * 1) (plays q faces greatest least k [] s) (λ play. times-one play.ways) ∙ total-constant 1 k [] s inside ∙ one-times ((faces * denominator q.game) ^ k) in
+        let won : ways_won q (plays q faces greatest least k [] s) ≡ reach q faces greatest least k [] s =
+        sum-same (λ (play : Play). if is_won q play.through then play.ways else 0) (λ (play : Play). play.ways * (if is_won q play.through then 1 else 0)) (plays q faces greatest least k [] s) (λ play. if-ways (is_won q play.through) play.ways)
+        ∙ total-won k [] s inside in
+        omega (arith, all, won, won-or-lost q (plays q faces greatest least k [] s));
   }

@@ -1,3 +1,4 @@
 pub mod Strategies
 pub mod Plays
+pub mod Next
 pub mod Stopping

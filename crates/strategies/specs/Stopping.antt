@@ -20,7 +20,7 @@ undecided q lost (suc k) s = if is_over q lost s then 0 else optimum Max (worth 
 
 -- the question whether a play is over: what ends it is a goal
 abbrev pub ending : Query → List Bool → Query
-ending q lost = record { game = q.game; sides = q.sides; goals = map (is_over q lost) (range_with_len 0 (states q)); deads = [] }
+ending q lost = record { game = q.game; sides = q.sides; goals = map (is_over q lost) (range_with_len 0 (states q)); deads = map (λ s. false) (range_with_len 0 (states q)) }
 
 -- from every state, however both play, the play is over within n steps with a positive probability
 abbrev pub IsStopping : Query → List Bool → ℕ → Type 0

@@ -1,5 +1,5 @@
 -- Strategies with memory and dice, and with which probability the play of two of them reaches a goal.
-use Rattle.std.specs.Prelude.{ℕ, zero, suc, ◌+◌, ◌*◌, ◌/◌, ◌^◌, ◌<◌, ◌≤◌, ◌≡◌, List, [], ◌∷◌, length, sum_by, if◌then◌else◌, Option}
+use Rattle.std.specs.Prelude.{ℕ, zero, suc, ◌+◌, ◌-◌, ◌*◌, ◌/◌, ◌^◌, ◌<◌, ◌≤◌, ◌≡◌, List, [], ◌∷◌, length, sum_by, if◌then◌else◌, Option}
 use Rattle.std.specs.List.{range_with_len}
 use Rattle.game_model.specs.declared.game.Side.{Side}
 use Rattle.game_model.specs.declared.game.Side.TheVariants.{Max, Min}
@@ -19,7 +19,7 @@ pub record Turn : Type 0 where
 abbrev pub Strategy : Type 0
 Strategy = List Turn → ℕ → ℕ → ℕ
 
--- it takes a choice that exists at each state of its side
+-- it takes a choice that exists at each state of its side, after whatever turns and at whatever throw
 abbrev pub IsStrategyOf : Query → Side → Strategy → Type 0
 IsStrategyOf q side strategy = (past : List Turn) (s throw : ℕ) → s < states q → side_at q s ≡ side → strategy past s throw < length (choices_of q.game s)
 
@@ -60,6 +60,20 @@ HoldsAgainstAll q plan table = HoldsOver unit q plan table
 
 abbrev pub ReachesAgainstAll : Query → List (Option ℕ) → (ℕ → ℕ) → Type 0
 ReachesAgainstAll q plan table = ReachesOver unit q plan table
+
+-- the probability of not winning within k steps: of reaching no goal, or one behind a dead state alone
+abbrev pub avoid : Query → ℕ → Strategy → Strategy → ℕ → ℕ → ℕ
+avoid q faces greatest least k s = (faces * denominator q.game) ^ k - reach q faces greatest least k [] s
+
+-- with the minimiser's plan goals are avoided with at least the probability of the table, however many steps are made and whatever the maximiser does
+abbrev pub AvoidsAgainstAll : Query → List (Option ℕ) → (ℕ → ℕ) → Type 0
+AvoidsAgainstAll q plan table = (faces k s : ℕ) (opponent : Strategy) → IsStrategyOf q Max opponent → s < states q →
+    table s * (faces * denominator q.game) ^ k ≤ unit * avoid q faces opponent (by_plan q plan) k s
+
+-- with the maximiser's plan they are avoided with at most that of the table and any 1/m, within some number of steps and whatever the minimiser does
+abbrev pub IsAvoidedAgainstAll : Query → List (Option ℕ) → (ℕ → ℕ) → Type 0
+IsAvoidedAgainstAll q plan table = (m : ℕ) → 1 ≤ m → (k : ℕ) × ((faces s : ℕ) (opponent : Strategy) → IsStrategyOf q Min opponent → s < states q →
+    unit * m * avoid q faces (by_plan q plan) opponent k s ≤ (m * table s + unit) * (faces * denominator q.game) ^ k)
 
 -- the k-step values are what the maximiser can be sure of, and what the minimiser can hold it to, whatever the other does
 pub record AreBest (q : Query) (k : ℕ) : Type 0 where

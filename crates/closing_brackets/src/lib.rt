@@ -1,4 +1,0 @@
-//! How fast brackets close where plays come to an end.
-#![tactic(auto)]
-
-pub mod laws;

@@ -1,0 +1,3 @@
+mod Saved
+pub mod Closing
+pub mod Horizons
