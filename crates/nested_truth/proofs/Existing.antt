@@ -1,5 +1,5 @@
 -- There is a truth: each formula is judged by the exact values of its question.
-use Rattle.std.proofs.Common.{◌≡◌, ◌∙◌, ◌<◌, ◌≤◌, ◌^◌, ◌*◌, ◌⊎◌, ℕ, Bool, true, false, not, ◌&&◌, ◌||◌, arith, sym, ap, subst, refl, inl, inr}
+use Rattle.std.proofs.Common.{◌≡◌, ◌∙◌, ◌<◌, ◌^◌, ◌*◌, ℕ, Bool, true, false, not, ◌&&◌, ◌||◌, arith, sym, ap, subst, refl, inl, inr}
 use mathlib.Core.Path.{fun_ext}
 use Rattle.std.proofs.lemmas.Bool.{cases_lt}
 use Rattle.game_model.specs.Game.{IsGame}
@@ -18,20 +18,8 @@ use Rattle.bounded_rounds.specs.Exact.{next_numerator}
 use Rattle.verdicts.specs.Truth.{IsTrueOf}
 use Rattle.nested_truth.specs.Truth.{Valuation, IsTruth, IsTrueBy, states, holds, everywhere, question_by, dual_question_by}
 use Rattle.nested_truth.proofs.Posed.{is_query}
+use Rattle.exact_values.proofs.Decided.{Decided, dec-not, dec-lt, dec-le}
 use Rattle.exact_values.proofs.Deciding.{reaches-decided, exceeds-decided}
-
-abbrev Decided : Type 0 → Type 0
-Decided A = A ⊎ (A → ⊥)
-
-dec-not : (A : Type 0) → Decided A → Decided (A → ⊥)
-dec-not A (inl a) = inr (λ h. h a)
-dec-not A (inr a) = inl a
-
-dec-lt : (a b : ℕ) → Decided (a < b)
-dec-lt a b = elim (cases_lt a b) [ inl h ↦ inl h | inr h ↦ inr (λ k. omega (arith, h, k)) ]
-
-dec-le : (a b : ℕ) → Decided (a ≤ b)
-dec-le a b = elim (cases_lt b a) [ inl h ↦ inr (λ k. omega (arith, h, k)) | inr h ↦ inl h ]
 
 dec-of : (q : Query) (bound : Bound) (s : ℕ) → IsQuery q → s < query.states q → Decided (IsTrueOf q bound s)
 dec-of q (AtLeast p) s posed inside = reaches-decided q p.num p.den s posed inside
