@@ -53,7 +53,7 @@ read_next : List ℕ → ℕ
 read_next text = get_or text 2 0
 
 how-one : (a b : How) (r s : List ℕ) → HasCount a → HasCount b → how_text a ++ 32 ∷ r ≡ how_text b ++ 32 ∷ s → (a ≡ b) × (r ≡ s)
-unfolding read_how, read_next
+unfolding read_how read_next
 how-one (Rounds m) (Rounds n) r s hm hn e =
     let parts = number-one m n r s (omega arith) (omega arith) (append_cancel_left (codes " rounds ") (decimal m ++ 32 ∷ r) (decimal n ++ 32 ∷ s) e) in
     (ap (λ k. Rounds k) parts.0, parts.1)
