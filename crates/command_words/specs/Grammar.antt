@@ -1,5 +1,5 @@
--- The words behind `check`, `audit`, `make` and `sure`, as `clap` reads them: `TRA LAB FORMULA [--own FILE] [--rounds R] [--workers W] [--plan] [--traps]`,
--- `TRA LAB FORMULA CERT [--own FILE]`, `SEED STATES [--rounds R] [--workers W]` and `TRA LAB FORMULA [--own FILE]`.
+-- The words behind `check`, `audit`, `solve`, `make` and `sure`, as `clap` reads them: `TRA LAB FORMULA [--own FILE] [--rounds R] [--workers W] [--plan] [--traps]`,
+-- `TRA LAB FORMULA CERT [--own FILE]`, `TRA LAB FORMULA [--own FILE] [--values FILE] [--plan]`, `SEED STATES [--rounds R] [--workers W]` and `TRA LAB FORMULA [--own FILE]`.
 use Rattle.std.specs.Prelude.{◌≡◌, ℕ, List, [], codes, pos, true, Option, Some}
 use Rattle.clap.specs.Words.{App, IsParsedFrom, Rule, Text, app_of, fault_of, first_of, first_value, found_of, matches_of, new_app, new_rule, rows_of, with_rule}
 use Rattle.clap.specs.declared.builder.ArgAction.TheVariants.{SetTrue}
@@ -42,6 +42,9 @@ check_app = with_rule (with_rule (with_run_limits (asked_app (codes "check"))) (
 
 abbrev pub audit_app : App
 audit_app = with_rule (asked_app (codes "audit")) (positional (codes "certificate"))
+
+abbrev pub solve_app : App
+solve_app = with_rule (with_rule (asked_app (codes "solve")) (option (codes "values"))) (flag (codes "plan"))
 
 abbrev pub sure_app : App
 sure_app = asked_app (codes "sure")

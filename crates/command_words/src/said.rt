@@ -2,10 +2,10 @@
 
 ghost use Rattle.std.specs.Prelude.{◌≡◌, ◌≤◌, ◌^◌, ◌↔◌, ℕ, List, Some, IsTrue, MatchOption, codes, option_map};
 ghost use Rattle.command_words.specs.Grammar.{value_in};
-ghost use Rattle.command_words.specs.Words.{Asked, Check, Audit, Make, IsOwnerFile, IsNumber, NamesFile, GivesNumber, AreRunLimits, AreInRange, IsMakeInRange, SayAsked, SayRunLimits, SayCheck, SayAudit, SayMake, asked_of_words, check_of, audit_of, make_of};
+ghost use Rattle.command_words.specs.Words.{Asked, Check, Audit, Solve, Make, IsNamedWhereGiven, IsNumber, NamesFile, GivesNumber, AreRunLimits, AreInRange, IsMakeInRange, SayAsked, SayRunLimits, SayCheck, SayAudit, SaySolve, SayMake, asked_of_words, check_of, audit_of, solve_of, make_of};
 
 use crate::limits::{DEFAULT_ROUNDS, DEFAULT_WORKERS};
-use crate::words::{AskedWords, AuditWords, CheckWords, MakeWords};
+use crate::words::{AskedWords, AuditWords, CheckWords, MakeWords, SolveWords};
 use clap::ArgMatches;
 
 // How far a run goes.
@@ -39,6 +39,21 @@ pub fn audit_words<'a>(matches: &ArgMatches<'a>) -> Option<AuditWords<'a>>
     })
 }
 
+/// What the values say of `solve`, or none where they say no command.
+pub fn solve_words<'a>(matches: &ArgMatches<'a>) -> Option<SolveWords<'a>>
+    ensures { MatchOption result ((solve : Solve) → SaySolve (value_in matches.now) solve → ⊥) (λ solve. SaySolve (value_in matches.now) (solve_of solve)) }
+{
+    let values = matches.get_str("values");
+    if !is_named_where_given(values) {
+        return None;
+    }
+    Some(SolveWords {
+        asked: asked_words(matches)?,
+        values,
+        plan: is_given(matches.get_str("plan")),
+    })
+}
+
 /// What the values say of `make`, or none where they say no command.
 pub fn make_words<'a>(matches: &ArgMatches<'a>) -> Option<MakeWords>
     ensures { MatchOption result ((make : Make) → SayMake (value_in matches.now) make → IsMakeInRange make → ⊥) (λ make. SayMake (value_in matches.now) (make_of make)) }
@@ -57,7 +72,7 @@ pub fn asked_words<'a>(matches: &ArgMatches<'a>) -> Option<AskedWords<'a>>
     ensures { MatchOption result ((asked : Asked) → SayAsked (value_in matches.now) asked → ⊥) (λ asked. SayAsked (value_in matches.now) (asked_of_words asked)) }
 {
     let own = matches.get_str("own");
-    if !is_owner_file(own) {
+    if !is_named_where_given(own) {
         return None;
     }
     Some(AskedWords {
@@ -88,11 +103,11 @@ fn file_word(word: Option<&str>) -> Option<&str>
     }
 }
 
-// Whether an owner file that is given has a name.
-fn is_owner_file(own: Option<&str>) -> bool
-    ensures { IsTrue result ↔ IsOwnerFile (option_map (λ w. w.now) own.entry) }
+// Whether a file that is given has a name.
+fn is_named_where_given(word: Option<&str>) -> bool
+    ensures { IsTrue result ↔ IsNamedWhereGiven (option_map (λ w. w.now) word.entry) }
 {
-    match own {
+    match word {
         Some(file) => !file.is_empty(),
         None => true,
     }

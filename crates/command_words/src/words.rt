@@ -4,10 +4,10 @@ ghost use Rattle.std.specs.Prelude.{◌≡◌, ◌∷◌, [], IfOk, MatchOption,
 ghost use Rattle.std.specs.String.{string_bytes};
 ghost use Rattle.clap.specs.Words.{app_of, fault_of, is_simple_and_free};
 ghost use Rattle.command_words.specs.Grammar.{FindsIn};
-ghost use Rattle.command_words.specs.Words.{Asked, Check, Audit, Make, AreCheckWords, AreAuditWords, AreMakeWords, AreSureWords, AreCommand, AreNoCommand, asked_of_words, check_of, audit_of, make_of, command_of};
+ghost use Rattle.command_words.specs.Words.{Asked, Check, Audit, Solve, Make, AreCheckWords, AreAuditWords, AreSolveWords, AreMakeWords, AreSureWords, AreCommand, AreNoCommand, asked_of_words, check_of, audit_of, solve_of, make_of, command_of};
 
-use crate::grammar::{audit_command, check_command, make_command, sure_command};
-use crate::said::{asked_words, audit_words, check_words, make_words};
+use crate::grammar::{audit_command, check_command, make_command, solve_command, sure_command};
+use crate::said::{asked_words, audit_words, check_words, make_words, solve_words};
 use clap::error::ErrorKind;
 use clap::{ArgMatches, Command};
 use game_outside::OutOfMemory;
@@ -50,6 +50,17 @@ pub struct AuditWords<'a> {
     pub certificate: &'a str,
 }
 
+/// The words of `solve`: `TRA LAB FORMULA [--own FILE] [--values FILE] [--plan]`.
+#[derive(Clone, Copy, Debug)]
+pub struct SolveWords<'a> {
+    /// The question.
+    pub asked: AskedWords<'a>,
+    /// The name of the file of values to begin with.
+    pub values: Option<&'a str>,
+    /// Whether the certificate is to be written.
+    pub plan: bool,
+}
+
 /// The words of `make`: `SEED STATES [--rounds R] [--workers W]`.
 #[derive(Clone, Copy, Debug)]
 pub struct MakeWords {
@@ -70,6 +81,8 @@ pub enum CommandWords<'a> {
     Check(CheckWords<'a>),
     /// `audit`.
     Audit(AuditWords<'a>),
+    /// `solve`.
+    Solve(SolveWords<'a>),
     /// `make`.
     Make(MakeWords),
     /// `sure`.
@@ -97,6 +110,7 @@ fn read_command<'a>(
     match name {
         "check" => Ok(read_check(alloc, words)?.map(CommandWords::Check)),
         "audit" => Ok(read_audit(alloc, words)?.map(CommandWords::Audit)),
+        "solve" => Ok(read_solve(alloc, words)?.map(CommandWords::Solve)),
         "make" => match read_make(alloc, words)? {
             Some(make) => Ok(Some(CommandWords::Make(make))),
             None => Ok(None),
@@ -122,6 +136,16 @@ fn read_audit(alloc: Global, words: &[String]) -> Result<Option<AuditWords<'_>>,
 {
     match taken(audit_command(alloc)?, words)? {
         Some(matches) => Ok(audit_words(&matches)),
+        None => Ok(None),
+    }
+}
+
+// What the words behind `solve` say, or none where they denote no command.
+fn read_solve(alloc: Global, words: &[String]) -> Result<Option<SolveWords<'_>>, OutOfMemory>
+    ensures { IfOk result (λ read. MatchOption read ((solve : Solve) → AreSolveWords (map string_bytes words.now) solve → ⊥) (λ solve. AreSolveWords (map string_bytes words.now) (solve_of solve))) }
+{
+    match taken(solve_command(alloc)?, words)? {
+        Some(matches) => Ok(solve_words(&matches)),
         None => Ok(None),
     }
 }
