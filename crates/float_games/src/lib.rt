@@ -3,7 +3,8 @@
 //! A [`FloatGame`] is the local game of a component: nodes, which a side owns, and choices, which lead to nodes with
 //! shares of probability and give what the rest of the game gives where they leave. It lies in flat lists and is made from
 //! a [`Draft`]. [`FloatGame::sweep`] updates all values in place by the best choices (Gauss and Seidel), and exchanges
-//! choices of a policy; [`FloatGame::sweep_policy`] follows a policy; [`FloatGame::improve`] exchanges choices alone.
+//! choices of a policy; [`FloatGame::sweep_policy`] follows a policy; [`FloatGame::improve`] exchanges choices alone; [`FloatGame::sweep_rounded`] takes rounded steps over
+//! whole units, for a lower or an upper [`Bound`].
 //!
 //! A [`Chain`] is what is left of a game under a policy, one choice a node: its passes, its residuals, and the [`Band`]
 //! that its edges stay in.
@@ -16,11 +17,13 @@
 mod chain;
 mod draft;
 mod game;
+mod rounded;
 mod sweeps;
 
 pub use chain::{Band, Chain};
 pub use draft::Draft;
 pub use game::FloatGame;
+pub use rounded::{Bound, Rounded, ceil_of, floor_of};
 pub use sweeps::{Swept, bounded};
 
 /// Probability 1, in units.
