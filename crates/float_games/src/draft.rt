@@ -2,7 +2,7 @@
 
 ghost use Rattle.std.specs.Prelude.{◌≡◌, IfOk};
 
-use crate::game::{FloatGame, Lists};
+use crate::game::{FloatGame, Lists, NO_MARK};
 use game_outside::OutOfMemory;
 use std::alloc::Global;
 
@@ -41,6 +41,7 @@ impl Draft {
                 share: Vec::with_capacity(alloc, edges)?,
                 gives: Vec::with_capacity(alloc, choices)?,
                 leaves: Vec::with_capacity(alloc, choices)?,
+                marks: Vec::with_capacity(alloc, choices)?,
                 maximises: Vec::with_capacity(alloc, nodes)?,
             },
             begin: 0,
@@ -73,9 +74,9 @@ impl Draft {
         self.given += weight * value;
     }
 
-    /// Ends the choice under way: weights become shares. One that leads nowhere but to its own node is left out; the
-    /// answer is whether it is in.
-    pub fn end_choice(&mut self) -> Result<bool, OutOfMemory> {
+    /// Ends the choice under way: weights become shares. By its mark who made the game knows it again, as by its place among
+    /// the choices of its state. One that leads nowhere but to its own node is left out; the answer is whether it is in.
+    pub fn end_choice(&mut self, mark: u32) -> Result<bool, OutOfMemory> {
         let total = self.total;
         let is_in = 0.0 < total;
         if is_in {
@@ -85,6 +86,7 @@ impl Draft {
             }
             self.lists.gives.push(self.given / total)?;
             self.lists.leaves.push(self.left / total)?;
+            self.lists.marks.push(mark)?;
             self.lists
                 .edge_starts
                 .push(number_of(self.lists.to.len())?)?;
@@ -96,11 +98,12 @@ impl Draft {
         Ok(is_in)
     }
 
-    /// Ends the node under way, which this side owns. One without a choice leaves with the value 0.
+    /// Ends the node under way, which this side owns. One without a choice gets one that leaves with the value 0 and has no
+    /// mark.
     pub fn end_node(&mut self, maximises: bool) -> Result<(), OutOfMemory> {
         if self.lists.choice_starts.last().copied() == Some(number_of(self.choices())?) {
             self.add_exit(1.0, 0.0);
-            let _is_in = self.end_choice()?;
+            let _is_in = self.end_choice(NO_MARK)?;
         }
         let end = number_of(self.choices())?;
         self.lists.choice_starts.push(end)?;

@@ -7,7 +7,8 @@ use std::alloc::Global;
 
 /// A game of nodes, choices and edges, in flat lists: the choices of a node are those from its entry in `choice_starts` up
 /// to the next one, and the edges of a choice those from its entry in `edge_starts` up to the next one. A choice gives so
-/// many units where it leaves, and leaves with this share of probability; its edges have the rest.
+/// many units where it leaves, and leaves with this share of probability; its edges have the rest. Its mark says whose choice it
+/// is.
 #[derive(Drop)]
 pub struct FloatGame {
     pub(crate) choice_starts: Vec<u32>,
@@ -16,6 +17,7 @@ pub struct FloatGame {
     pub(crate) share: Vec<f64>,
     pub(crate) gives: Vec<f64>,
     pub(crate) leaves: Vec<f64>,
+    pub(crate) marks: Vec<u32>,
     pub(crate) maximises: Vec<bool>,
     pub(crate) both: bool,
     ghost few: { vec_len maximises < 2 ^ 31 },
@@ -24,6 +26,7 @@ pub struct FloatGame {
     ghost choices: { EachIndex choice_starts.items (λ k. slice_index choice_starts.items k ≤ vec_len gives) },
     ghost starts: { vec_len edge_starts ≡ vec_len gives + 1 },
     ghost left: { vec_len leaves ≡ vec_len gives },
+    ghost marked: { vec_len marks ≡ vec_len gives },
     ghost edges: { EachIndex edge_starts.items (λ k. slice_index edge_starts.items k ≤ vec_len to) },
     ghost shares: { vec_len share ≡ vec_len to },
     ghost inside: { EachIndex to.items (λ k. slice_index to.items k < vec_len maximises) },
@@ -38,8 +41,12 @@ pub(crate) struct Lists {
     pub share: Vec<f64>,
     pub gives: Vec<f64>,
     pub leaves: Vec<f64>,
+    pub marks: Vec<u32>,
     pub maximises: Vec<bool>,
 }
+
+/// The mark of a choice that has none.
+pub const NO_MARK: u32 = 4_294_967_295;
 
 /// The most nodes, and one more.
 const FEW: usize = 2_147_483_648;
@@ -63,7 +70,10 @@ impl FloatGame {
         if lists.edge_starts.len().checked_sub(1) != Some(choices) {
             return None;
         }
-        if lists.leaves.len() != choices || lists.share.len() != edges {
+        if lists.leaves.len() != choices || lists.marks.len() != choices {
+            return None;
+        }
+        if lists.share.len() != edges {
             return None;
         }
         if !are_at_most(&lists.choice_starts, choices) || !are_at_most(&lists.edge_starts, edges) {
@@ -80,6 +90,7 @@ impl FloatGame {
             share: lists.share,
             gives: lists.gives,
             leaves: lists.leaves,
+            marks: lists.marks,
             maximises: lists.maximises,
             both,
         })
@@ -101,6 +112,11 @@ impl FloatGame {
     /// How many edges there are.
     pub fn edges(&self) -> usize {
         self.to.len()
+    }
+
+    /// The mark of a choice; [`NO_MARK`] where it is none of the game, or was put in for a node that had none.
+    pub fn mark(&self, choice: u32) -> u32 {
+        self.marks.get(choice as usize).copied().unwrap_or(NO_MARK)
     }
 
     /// Whether both sides own nodes.

@@ -22,7 +22,7 @@ mod sweeps;
 
 pub use chain::{Band, Chain};
 pub use draft::Draft;
-pub use game::FloatGame;
+pub use game::{FloatGame, NO_MARK};
 pub use rounded::{Bound, Rounded, ceil_of, floor_of};
 pub use sweeps::{Swept, bounded};
 
