@@ -8,12 +8,13 @@ ghost use Rattle.round_workers.specs.Share.{most_workers};
 use bounded_rounds::{MOST_STEPS, Sweep, bounded, bounded_values};
 use expectations::{holds, same};
 use game_model::{Side, UNIT};
-use game_outside::{HoldGate, OpenGate};
+use game_outside::{Gate, HoldGate, OpenGate};
 use sample_games::{
-    all_of, coin_loop, four_states, ladder, question_of, question_of_sides,
+    all_of, chain, coin_loop, four_states, ladder, question_of, question_of_sides,
     question_with_minimiser_at,
 };
 use std::alloc::{AllocError, Global};
+use std::sync::atomic::{AtomicU32, Ordering};
 use std::test::Fail;
 use std::thread::Threads;
 
@@ -88,6 +89,65 @@ fn two_steps<R: Threads + Sync>(rt: &R, alloc: Global, gate: &HoldGate) -> Resul
     let game = coin_loop(alloc)?;
     let question = question_of(alloc, &game, Side::Max, 1)?;
     Ok(bounded(rt, alloc, &question, &[0, UNIT, 0], 2, 2, gate)?)
+}
+
+// Counts how often each of three workers passes it.
+#[derive(Drop)]
+struct TeamGate {
+    passed: [AtomicU32; 3],
+}
+
+impl TeamGate {
+    fn new() -> TeamGate {
+        TeamGate {
+            passed: [AtomicU32::new(0), AtomicU32::new(0), AtomicU32::new(0)],
+        }
+    }
+
+    // How often each worker passed it.
+    fn counts(&self) -> [u32; 3] {
+        let [first, second, third] = &self.passed;
+        [
+            first.load(Ordering::SeqCst),
+            second.load(Ordering::SeqCst),
+            third.load(Ordering::SeqCst),
+        ]
+    }
+}
+
+impl Gate for TeamGate {
+    fn arrive(&self, worker: u32, _state: u32) {
+        if let Some(passed) = self.passed.get(worker as usize) {
+            let _before = passed.fetch_add(1, Ordering::SeqCst);
+        }
+    }
+}
+
+/// So many states that each of three workers has 50,000 edges, with which a later step takes another worker.
+const MANY: u32 = 150_000;
+
+// Steps of three workers over a chain of many states.
+fn steps_of_a_team<R: Threads + Sync>(
+    rt: &R,
+    alloc: Global,
+    steps: u32,
+    gate: &TeamGate,
+) -> Result<Sweep, Fail>
+    requires { steps ≤ most_steps }
+{
+    let game = chain(alloc, MANY)?;
+    let question = question_of(alloc, &game, Side::Max, MANY - 1)?;
+    Ok(bounded_values(rt, alloc, &question, steps, 3, gate)?)
+}
+
+#[test]
+fn all_workers_make_each_step_over_many_states(rt: HostRuntime) -> Result<(), Fail> {
+    for steps in [1, 2, 5] {
+        let gate = TeamGate::new();
+        let _sweep = steps_of_a_team(&rt, rt.alloc(), steps, &gate)?;
+        same(steps, gate.counts(), [steps * 50_000; 3])?;
+    }
+    Ok(())
 }
 
 #[test]
