@@ -91,63 +91,42 @@ fn two_steps<R: Threads + Sync>(rt: &R, alloc: Global, gate: &HoldGate) -> Resul
     Ok(bounded(rt, alloc, &question, &[0, UNIT, 0], 2, 2, gate)?)
 }
 
-// Counts how often each of three workers passes it.
+// Counts how often each of two workers passes it.
 #[derive(Drop)]
-struct TeamGate {
-    passed: [AtomicU32; 3],
+struct PairGate {
+    first: AtomicU32,
+    second: AtomicU32,
 }
 
-impl TeamGate {
-    fn new() -> TeamGate {
-        TeamGate {
-            passed: [AtomicU32::new(0), AtomicU32::new(0), AtomicU32::new(0)],
-        }
-    }
-
-    // How often each worker passed it.
-    fn counts(&self) -> [u32; 3] {
-        let [first, second, third] = &self.passed;
-        [
-            first.load(Ordering::SeqCst),
-            second.load(Ordering::SeqCst),
-            third.load(Ordering::SeqCst),
-        ]
-    }
-}
-
-impl Gate for TeamGate {
+impl Gate for PairGate {
     fn arrive(&self, worker: u32, _state: u32) {
-        if let Some(passed) = self.passed.get(worker as usize) {
-            let _before = passed.fetch_add(1, Ordering::SeqCst);
-        }
+        let passed = if worker == 0 { &self.first } else { &self.second };
+        let _before = passed.fetch_add(1, Ordering::SeqCst);
     }
 }
 
-/// So many states that each of three workers has 50,000 edges, with which a later step takes another worker.
-const MANY: u32 = 150_000;
+/// As many edges as make one more worker worth its thread; a chain has one for each state.
+const MANY: u32 = 50_000;
 
-// Steps of three workers over a chain of many states.
-fn steps_of_a_team<R: Threads + Sync>(
-    rt: &R,
-    alloc: Global,
-    steps: u32,
-    gate: &TeamGate,
-) -> Result<Sweep, Fail>
-    requires { steps ≤ most_steps }
-{
+// Three steps of two workers over a chain of many states.
+fn three_steps<R: Threads + Sync>(rt: &R, alloc: Global, gate: &PairGate) -> Result<Sweep, Fail> {
     let game = chain(alloc, MANY)?;
     let question = question_of(alloc, &game, Side::Max, MANY - 1)?;
-    Ok(bounded_values(rt, alloc, &question, steps, 3, gate)?)
+    Ok(bounded_values(rt, alloc, &question, 3, 2, gate)?)
 }
 
 #[test]
-fn all_workers_make_each_step_over_many_states(rt: HostRuntime) -> Result<(), Fail> {
-    for steps in [1, 2, 5] {
-        let gate = TeamGate::new();
-        let _sweep = steps_of_a_team(&rt, rt.alloc(), steps, &gate)?;
-        same(steps, gate.counts(), [steps * 50_000; 3])?;
-    }
-    Ok(())
+fn later_steps_over_many_states_have_all_workers(rt: HostRuntime) -> Result<(), Fail> {
+    let gate = PairGate {
+        first: AtomicU32::new(0),
+        second: AtomicU32::new(0),
+    };
+    let _sweep = three_steps(&rt, rt.alloc(), &gate)?;
+    let passed = (
+        gate.first.load(Ordering::SeqCst),
+        gate.second.load(Ordering::SeqCst),
+    );
+    same("first and second", passed, (3 * MANY / 2, 3 * MANY / 2))
 }
 
 #[test]
