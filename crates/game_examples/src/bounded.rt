@@ -100,7 +100,11 @@ struct PairGate {
 
 impl Gate for PairGate {
     fn arrive(&self, worker: u32, _state: u32) {
-        let passed = if worker == 0 { &self.first } else { &self.second };
+        let passed = if worker == 0 {
+            &self.first
+        } else {
+            &self.second
+        };
         let _before = passed.fetch_add(1, Ordering::SeqCst);
     }
 }

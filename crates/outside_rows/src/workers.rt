@@ -188,7 +188,11 @@ fn runs_inside_end_where_their_threshold_is_settled_at_all_states(
     rt: HostRuntime,
 ) -> Result<(), Fail> {
     for (inside, rounds) in SETTLED {
-        same(inside, inner_passes(&rt, rt.alloc(), inside)?, [2 * rounds; 3])?;
+        same(
+            inside,
+            inner_passes(&rt, rt.alloc(), inside)?,
+            [2 * rounds; 3],
+        )?;
     }
     Ok(())
 }
