@@ -1,31 +1,21 @@
 //! Tables of bounds that a solver finds, in floating point, for the checks of `solved_plans` to accept or to refuse.
 //!
-//! Of values nothing is promised, and nothing needs to be: [`find_bounds`] is safe and ends.
+//! [`find_bounds`] goes over the components of a question in the order of play. Where a state has the value 1 or 0 the graph
+//! alone says so. A component of one state takes an exact step; the values of a larger one are found by sweeps and strategy
+//! iteration over its local game, and rounded to entries that hold. For upper values the minimiser's replies are fixed, and each
+//! end component that is left to the maximiser is one node (de Alfaro 1997); the replies are then improved over what was found.
+//!
+//! Of values nothing is promised, and nothing needs to be: every function here is safe and ends, and there is no random number
+//! and no clock, so the same question gives the same tables on every machine.
 #![tactic(auto)]
 
-ghost use Rattle.predecessors.specs.Lists.{ArePredecessors};
+mod approach;
+mod bounds;
+mod frame;
+mod groups;
+mod lower;
+mod replies;
+mod upper;
+mod weights;
 
-use game_model::Question;
-use game_outside::OutOfMemory;
-use predecessors::Predecessors;
-use solved_plans::Candidates;
-use std::alloc::Global;
-
-/// What a solver takes for lower and upper bounds of a question, over the predecessors in its game. Values to begin with, one
-/// for each state, are hints alone. The only error is want of memory.
-pub fn find_bounds(
-    alloc: Global,
-    question: &Question,
-    predecessors: &Predecessors,
-    hints: Option<&[f64]>,
-) -> Result<Candidates, OutOfMemory>
-    requires { ArePredecessors question.now.game predecessors.now }
-{
-    let _ = question;
-    let _ = predecessors;
-    let _ = hints;
-    Ok(Candidates {
-        lower: Vec::new(alloc),
-        upper: Vec::new(alloc),
-    })
-}
+pub use bounds::find_bounds;
