@@ -10,6 +10,8 @@ mod all_workers;
 #[cfg(test)]
 mod audit_faults;
 #[cfg(test)]
+mod commands;
+#[cfg(test)]
 mod damaged;
 #[cfg(test)]
 mod failing_calls;

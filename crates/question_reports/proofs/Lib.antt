@@ -10,3 +10,4 @@ pub mod Shown
 pub mod Swept
 pub mod Valued
 pub mod NextValues
+pub mod SolvedPlans

@@ -3,3 +3,4 @@ pub mod Nested
 pub mod Reports
 pub mod Sweeps
 pub mod Valued
+pub mod Solved

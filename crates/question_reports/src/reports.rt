@@ -31,9 +31,9 @@ use verdicts::laws::{mirrored_verdicts_are_those_of_the_dual, undecided_threshol
 
 // A formula as the words spell it, and the one whose question is answered: of `G` the dual, else the same.
 #[derive(Clone, Copy)]
-struct Formulas<'a> {
-    spelled: &'a Formula,
-    answered: &'a Formula,
+pub struct Formulas<'a> {
+    pub spelled: &'a Formula,
+    pub answered: &'a Formula,
 }
 
 /// One line for each initial state, with the bounds after at most the asked rounds and what they say of the formula's bound;
@@ -134,7 +134,7 @@ fn shown_upper(
 }
 
 // The lines and the status of a plan, and its certificate where it is asked for.
-fn make_answer(
+pub fn make_answer(
     alloc: Global,
     plan: &Plan,
     how: How,

@@ -1,3 +1,4 @@
 mod Saved
+mod Solving
 pub mod Closing
 pub mod Horizons

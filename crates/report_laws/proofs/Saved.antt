@@ -17,7 +17,7 @@ use Rattle.rpatl_syntax.specs.Spellable.{IsSpellable}
 use Rattle.rpatl_syntax.specs.Spelling.{spelling}
 use Rattle.formula_sets.specs.Posing.{Posing, init}
 use Rattle.formula_sets.proofs.Asking.{initial-found}
-use Rattle.command_words.specs.Words.{Asked, Check, Audit, Command, OfCheck, OfAudit, OfMake, OfSure, AreCommand}
+use Rattle.command_words.specs.Words.{Asked, Check, Audit, Command, OfCheck, OfAudit, OfSolve, OfMake, OfSure, AreCommand}
 use Rattle.run_answers.specs.declared.status.Status.{Status}
 use Rattle.asked_files.specs.Asks.{Asks}
 use Rattle.asked_files.specs.declared.problem.Paths.{Paths}
@@ -26,7 +26,7 @@ use Rattle.asked_files.specs.Problems.{Problem, OfUntil, OfWithin, OfNext, OfAlw
 use Rattle.rpatl_syntax.specs.Dual.{answered}
 use Rattle.asked_files.specs.Sources.{Sources, sources_of}
 use Rattle.stogame_app.specs.Commands.{IsAcceptedOf, check_paths}
-use Rattle.stogame_app.specs.Reports.{Checks, IsReportOfWords, of_until, of_always, of_within, of_next, of_nested, of_audit, of_sure, of_make}
+use Rattle.stogame_app.specs.Reports.{Checks, IsReportOfWords, of_until, of_always, of_within, of_next, of_nested, of_audit, of_solve, of_sure, of_make}
 use Rattle.stogame_app.proofs.Complete.{AreOneCommand}
 use Rattle.run_answers.proofs.Passing.{AreReadBack}
 use Rattle.run_answers.proofs.PlainParts.{spellable-plain, answered-plain}
@@ -63,7 +63,7 @@ problem-starts game labels owners f (OfNext p) (flat, of, poses) = poses.set_up.
 problem-starts game labels owners f (OfAlways p) (flat, of, poses) = poses.set_up.starts
 problem-starts game labels owners f (OfNested m initial) (nested, of, said) = (initial-found labels owners f initial said).starts
 
-initial-few : (paths : Paths) (sources : Sources) (asked : Asked) (problem : Problem) → Asks paths sources asked problem → length (initial_of problem) ≤ most_states
+pub initial-few : (paths : Paths) (sources : Sources) (asked : Asked) (problem : Problem) → Asks paths sources asked problem → length (initial_of problem) ≤ most_states
 initial-few paths sources asked problem asks =
     omega (arith, ap (λ (states : List ℕ). length states) (problem-starts asks.game asks.labels asks.owners asks.formula problem asks.poses), labelled-few asks.lab.text (length asks.game) asks.labels init asks.lab.is_so, game-few asks.tra.text asks.game asks.tra.is_so)
 
@@ -71,6 +71,7 @@ initial-few paths sources asked problem asks =
 abbrev IsCheck : Command → Type 0
 IsCheck (OfCheck check) = Unit {0}
 IsCheck (OfAudit audit) = ⊥
+IsCheck (OfSolve solve) = ⊥
 IsCheck (OfMake make) = ⊥
 IsCheck (OfSure asked) = ⊥
 
@@ -84,9 +85,9 @@ abbrev pub AreSpellable : Type 0
 AreSpellable = (text : List ℕ) (formula : Tree) → Denotes text formula → IsSpellable formula
 
 -- there are few initial states, and the formula is short
-record AreFew (problem : Problem) (f : Tree) : Type 0 where
-  states : length (initial_of problem) ≤ most_states
-  spelled : length (spelling (answered f)) ≤ most_spelled
+pub record AreFew (problem : Problem) (f : Tree) : Type 0 where
+  pub states : length (initial_of problem) ≤ most_states
+  pub spelled : length (spelling (answered f)) ≤ most_spelled
 
 check-few : AreSpellable → {words : List (List ℕ)} {holding : Option Holding} {taken : ℕ} (check : Check) (problem : Problem) (f : Tree) → Checks words holding taken check problem f → AreFew problem f
 check-few spellable check problem f asks = record {
@@ -102,6 +103,7 @@ printed-short one spellable words holding taken check text status denoted (of_wi
 printed-short one spellable words holding taken check text status denoted (of_next other p f asks report) = let few = check-few spellable other (OfNext p) f asks in sweep-text-short _ _ _ _ p.initial f text status few.states report.report
 printed-short one spellable words holding taken check text status denoted (of_nested other model initial f asks report) = let few = check-few spellable other (OfNested model initial) f asks in nested-text-short model initial f other.rounds text status few.states report
 printed-short one spellable words holding taken check text status denoted (of_audit audit problem p f asks reached audited) = absurd (same_check one words check (OfAudit audit) denoted asks.denoted)
+printed-short one spellable words holding taken check text status denoted (of_solve solve problem p f asks reached given solved) = absurd (same_check one words check (OfSolve solve) denoted asks.denoted)
 printed-short one spellable words holding taken check text status denoted (of_sure asked problem p f all asks reached sure ends) = absurd (same_check one words check (OfSure asked) denoted asks.denoted)
 printed-short one spellable words holding taken check text status denoted (of_make make other made) = absurd (same_check one words check (OfMake make) denoted other)
 
@@ -118,7 +120,7 @@ record IsSaved (held later : Holding) (check : Check) (audit : Audit) (text : Li
   alike : sources_of later check.asked ≡ sources_of held check.asked
   given : later audit.certificate ≡ Some text
 
-not_some : (p : Option Posing) → p ≡ None → IsSome p → ⊥
+pub not_some : (p : Option Posing) → p ≡ None → IsSome p → ⊥
 not_some p none some = let is : IsSome {T = Posing} None = subst (λ (o : Option Posing). IsSome o) none some in cc (is)
 
 module _ (read_back : AreReadBack) (certificates : AreCertificates) (one : AreOneCommand) (spellable : AreSpellable) (words : List (List ℕ)) (held later : Holding) (taken : ℕ) (audit : Audit) (text : List ℕ) (status : Status) where
@@ -165,6 +167,7 @@ module _ (read_back : AreReadBack) (certificates : AreCertificates) (one : AreOn
   by_report check denoted saved (of_next other p f asks report) = absurd (no-certificate other (OfNext p) f refl (of_other check other denoted asks.denoted saved) asks)
   by_report check denoted saved (of_nested other model initial f asks report) = absurd (no-certificate other (OfNested model initial) f refl (of_other check other denoted asks.denoted saved) asks)
   by_report check denoted saved (of_audit other problem p f asks reached audited) = absurd (same_check one words check (OfAudit other) denoted asks.denoted)
+  by_report check denoted saved (of_solve solve problem p f asks reached given solved) = absurd (same_check one words check (OfSolve solve) denoted asks.denoted)
   by_report check denoted saved (of_sure asked problem p f all asks reached sure ends) = absurd (same_check one words check (OfSure asked) denoted asks.denoted)
   by_report check denoted saved (of_make make other made) = absurd (same_check one words check (OfMake make) denoted other)
 

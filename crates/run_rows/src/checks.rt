@@ -1,6 +1,6 @@
 //! What is expected of rows: what they write, and how they end.
 
-use crate::rows::{Row, add_words, ends, files, runs, words};
+use crate::rows::{Row, ends, files, runs, sure_words};
 use game_outside::{OpenGate, SteadyShelf};
 use std::alloc::Global;
 use std::fmt::{Display, InlineText};
@@ -82,10 +82,7 @@ pub fn sure_writes<R: Threads + Sync>(
     text: &str,
     status: Status,
 ) -> Result<(), Fail> {
-    let mut owned = words(alloc, &["sure", "m.tra", "m.lab", row.formula])?;
-    if row.own.is_some() {
-        add_words(alloc, &mut owned, &["--own", "m.own"])?;
-    }
+    let owned = sure_words(alloc, row)?;
     let mut shelf = SteadyShelf::new(files(alloc, row)?);
     let (ended, written) = ends(rt, alloc, &owned, &mut shelf, &OpenGate {})?;
     let formula = row.formula;

@@ -29,5 +29,5 @@ pub use models::{
 };
 pub use rows::{
     ONE_WORKER, Row, add_words, ends, file, file_of_bytes, files, plain_row, push_times, row_words,
-    runs, with_file, words,
+    runs, sure_words, with_file, words,
 };

@@ -104,6 +104,15 @@ pub fn row_words(alloc: Global, row: Row<'_>) -> Result<Vec<String>, Fail> {
     Ok(owned)
 }
 
+/// The words that ask a row for its almost-sure states.
+pub fn sure_words(alloc: Global, row: Row<'_>) -> Result<Vec<String>, Fail> {
+    let mut owned = words(alloc, &["sure", "m.tra", "m.lab", row.formula])?;
+    if row.own.is_some() {
+        add_words(alloc, &mut owned, &["--own", "m.own"])?;
+    }
+    Ok(owned)
+}
+
 /// How a row ends over a shelf and a sink that never fail, and what it writes.
 pub fn runs<R: Threads + Sync, G: Gate + Sync>(
     rt: &R,

@@ -2,21 +2,23 @@
 use Rattle.std.specs.Prelude.{◌≡◌, ◌≤◌, ℕ, Bool, List, Option, Some}
 use Rattle.text_lines.specs.Limits.{most_bytes}
 use Rattle.game_outside.specs.Outside.{Holding}
+use Rattle.game_model.specs.Query.{states}
 use Rattle.rpatl_syntax.specs.Formula.{Tree}
 use Rattle.rpatl_syntax.specs.Rules.{Denotes}
 use Rattle.formula_sets.specs.Posing.{Model, Posing, NextPosing}
-use Rattle.command_words.specs.Words.{Asked, Check, Audit, Make, Command, OfCheck, OfAudit, OfMake, OfSure, AreCommand}
+use Rattle.command_words.specs.Words.{Asked, Check, Audit, Solve, Make, Command, OfCheck, OfAudit, OfSolve, OfMake, OfSure, AreCommand}
 use Rattle.asked_files.specs.declared.problem.Paths.{Paths}
 use Rattle.asked_files.specs.declared.problem.Paths.TheVariants.{Unbounded, Reaching}
 use Rattle.asked_files.specs.Problems.{Problem, OfUntil, OfWithin, OfNext, OfAlways, OfNested, posing_in}
 use Rattle.asked_files.specs.Sources.{SourceWith}
 use Rattle.asked_files.specs.Asks.{GivenTextWith}
-use Rattle.asked_files.specs.Questions.{PosesIt}
+use Rattle.asked_files.specs.Questions.{PosesIt, GivesValues}
 use Rattle.run_answers.specs.declared.status.Status.{Status}
 use Rattle.question_reports.specs.Reports.{IsBracketReport}
 use Rattle.question_reports.specs.Sweeps.{IsWithinReport, IsNextReport}
 use Rattle.question_reports.specs.Nested.{IsNestedReport}
 use Rattle.question_reports.specs.Audits.{IsAudit}
+use Rattle.question_reports.specs.Solved.{IsSolved}
 use Rattle.drawn_report.specs.Made.{IsMade}
 use Rattle.sure_report.specs.Sure.{IsSure}
 use Rattle.stogame_app.specs.Status.{sure_status}
@@ -53,6 +55,9 @@ pub data IsReportOfWords (words : List (List ℕ)) (holding : Option Holding) (t
   -- `audit`: the numbers of a certificate that the question accepts, from the text under its name
   of_audit : (audit : Audit) (problem : Problem) (p : Posing) (f : Tree) → WordsPose words holding taken (OfAudit audit) audit.asked Unbounded problem f → posing_in problem ≡ Some p
       → SourceWith holding audit.certificate (λ source. GivenTextWith source (λ bytes. IsAudit p.question p.initial f bytes text status)) → IsReportOfWords words holding taken text status
+  -- `solve`: a plan that tables of a solver led to; where a file of values to begin with is named, its text has no fault
+  of_solve : (solve : Solve) (problem : Problem) (p : Posing) (f : Tree) → WordsPose words holding taken (OfSolve solve) solve.asked Unbounded problem f → posing_in problem ≡ Some p
+      → GivesValues holding solve.values (states p.question) → IsSolved p.question p.initial f solve.plan text status → IsReportOfWords words holding taken text status
   -- `sure`: the states that are almost sure of the question
   of_sure : (asked : Asked) (problem : Problem) (p : Posing) (f : Tree) (all : Bool) → WordsPose words holding taken (OfSure asked) asked Reaching problem f → posing_in problem ≡ Some p
       → IsSure p.question p.initial text all → status ≡ sure_status all → IsReportOfWords words holding taken text status

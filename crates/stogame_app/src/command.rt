@@ -13,6 +13,7 @@ use crate::audit::answer_audit;
 use crate::check::answer_check;
 use crate::ends::{end_run, end_with_usage};
 use crate::make::answer_make;
+use crate::solve::answer_solve;
 use crate::sure::answer_sure;
 use asked_files::End;
 use asked_files::laws::questions_are_what_is_asked;
@@ -26,9 +27,10 @@ use std::thread::Threads;
 
 /// Reads the words and the texts that they name. `check` computes a bracket of the question that they pose, and writes one line
 /// for each initial state, rising, and the certificate where the words ask for it; `audit` writes these lines from a certificate
-/// of any origin that the question accepts, and computes no bracket; `sure` lists the states from which a goal is reached almost
+/// of any origin that the question accepts, and computes no bracket; `solve` from tables that a solver finds, where they pass the
+/// checks of an audit; `sure` lists the states from which a goal is reached almost
 /// surely; `make` writes one line about the bracket of a game that a seed draws.
-/// With `check` and `audit`, `F` and `U`, the value of the question lies between the printed bounds; with `--traps` the upper one
+/// With `check`, `audit` and `solve`, `F` and `U`, the value of the question lies between the printed bounds; with `--traps` the upper one
 /// is lowered to the best exits of traps. The minimiser's choices of the certificate hold every strategy of the maximiser, with
 /// memory and dice, to the upper bounds, and the maximiser's reach the lower ones, less any 1/m, within some number of steps
 /// against every strategy of the minimiser. True and False are printed exactly where the bounds settle the threshold, and are then
@@ -87,6 +89,7 @@ fn answer<R: Threads + Sync, H: Shelf, G: Gate + Sync>(
     match command {
         CommandWords::Check(check) => answer_check(rt, alloc, check, shelf, gate),
         CommandWords::Audit(audit) => answer_audit(alloc, audit, shelf),
+        CommandWords::Solve(solve) => answer_solve(alloc, solve, shelf),
         CommandWords::Make(make) => answer_make(rt, alloc, make, gate),
         CommandWords::Sure(asked) => answer_sure(alloc, asked, shelf),
     }

@@ -14,6 +14,7 @@ mod command;
 mod ends;
 pub mod laws;
 mod make;
+mod solve;
 mod sure;
 
 pub use command::run;

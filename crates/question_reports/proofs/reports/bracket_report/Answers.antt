@@ -10,6 +10,7 @@ use Rattle.command_words.specs.Words.{check_of}
 use Rattle.rpatl_syntax.specs.Dual.{answered}
 use Rattle.run_answers.specs.Printed.{verdict_for}
 use Rattle.bracket_engine.specs.Found.{IsFound}
+use Rattle.verdicts.specs.declared.report.How.TheVariants.{Rounds}
 use Rattle.question_reports.proofs.Limits.{plan-units, printed-in_limits}
 use Rattle.question_reports.proofs.Reported.{all-left_open, reported, verdict-answered, plan_verdict}
 use Rattle.question_reports.proofs.Shown.{held-found, shown-lists, shown-passes, shown-sound, shown-above, shown-printable}
@@ -54,6 +55,6 @@ returns-clause-report g c =
       lists = lists;
       sound = sound;
       passes = passes;
-      limits = printed-in_limits q plan initial found.rounds (shown-printable q zero bound initial asked check.traps found plan is_found shown held c.known.ensures c.make_answer.ensures.ranks) (omega (arith, is_found.bounds.few, c.requires.in_range.few_rounds)) c.requires.inside check.plan f;
+      limits = printed-in_limits q plan initial (Rounds found.rounds) (shown-printable q zero bound initial asked check.traps found plan is_found shown held c.known.ensures c.make_answer.ensures.ranks) (omega (arith, is_found.bounds.few, c.requires.in_range.few_rounds)) c.requires.inside check.plan f;
       left_open = λ i d there undecided. left_open i d there (sym (agree _ (c.requires.inside i d there)) ∙ undecided);
     }) c.make_answer.result (rw c.deref-initial.ensures.value at c.make_answer.ensures.text) (rw c.deref-initial.ensures.value at c.make_answer.ensures.status)
