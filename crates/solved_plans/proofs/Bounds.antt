@@ -17,7 +17,7 @@ use Rattle.rank_certificate.specs.Carrying.{CanBeRanked}
 use Rattle.almost_sure.specs.Values.{IsAlmostSure, AreAlmostSure}
 use Rattle.solved_plans.specs.Bounds.{lower_bound, upper_bound, HasRankedTable, IsLowerOf, IsUpperOf}
 use Rattle.solved_plans.specs.Plans.{IsNever}
-use Rattle.solved_plans.proofs.Entries.{lower-sure, lower-unsure, lower-zero, lower-none, upper-zero, upper-some, upper-none}
+use Rattle.solved_plans.proofs.Entries.{lower-sure, lower-unsure, lower-zero, lower-none, upper-zero, upper-sure, upper-some, upper-none}
 use Rattle.solved_plans.proofs.SurePlans.{sure-plan}
 
 -- 1. Sets.
@@ -34,7 +34,7 @@ never-marked q zero s h inside never = elim (cases_Bool (slice_index_or zero s f
   | inr unmarked ↦ (let some : (k : ℕ) × (1 ≤ numerator q k s) = h.unmarked s inside unmarked in absurd (omega (arith, some.1, never some.0)))
 ]
 
--- 2. Lower tables.
+-- 2. What the sets decide.
 
 module _ (q : Query) (posed : IsQuery q) (sure zero : List Bool) (almost : AreAlmostSure q sure) (none : IsZeroSet q zero) where
   table-sure : (c lower : List ℕ) → IsTable q (lower_bound sure zero c) lower → (s : ℕ) → s < states q → (slice_index lower s ≡ unit) ↔ IsAlmostSure q s
@@ -59,6 +59,17 @@ module _ (q : Query) (posed : IsQuery q) (sure zero : List Bool) (almost : AreAl
   pub lower-never : (c lower : List ℕ) → IsLowerOf q sure zero c lower → (s : ℕ) → s < states q → IsNever q s → slice_index lower s ≡ 0
   lower-never c lower (inl table) = table-zero c lower table
   lower-never c lower (inr weakest) = table-zero [] lower weakest.0
+
+  -- an upper table has the unit at almost-sure states
+  table-unit : (c upper : List ℕ) → IsTable q (upper_bound sure zero c) upper → (s : ℕ) → s < states q → IsAlmostSure q s → slice_index upper s ≡ unit
+  table-unit c upper table s inside is = elim (cases_Bool (slice_index_or zero s false)) [
+    | inl marked ↦ absurd (never-unsure q s posed (none.marked s inside marked) is)
+    | inr unmarked ↦ table.each s inside ∙ upper-sure (slice_index_or zero s false) (slice_index_or sure s false) (slice_index_or c s unit) unmarked ((almost.exact s inside).1 is)
+  ]
+
+  pub upper-unit : (c upper : List ℕ) → IsUpperOf q sure zero c upper → (s : ℕ) → s < states q → IsAlmostSure q s → slice_index upper s ≡ unit
+  upper-unit c upper (inl table) = table-unit c upper table
+  upper-unit c upper (inr weakest) = table-unit [] upper weakest.0
 
 -- choices and ranks vouch for the one of no entry
 pub no-entry-ranked : (q : Query) (sure zero : List Bool) (lower : List ℕ) → IsQuery q → AreAlmostSure q sure → IsTable q (lower_bound sure zero []) lower → CanBeRanked q lower

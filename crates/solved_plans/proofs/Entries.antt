@@ -27,6 +27,11 @@ pub upper-zero : (zero sure : Bool) (x : ℕ) → zero ≡ true → ◌≡◌ {A
 upper-zero true sure x h = refl
 upper-zero false sure x h = absurd (cc)
 
+pub upper-sure : (zero sure : Bool) (x : ℕ) → zero ≡ false → sure ≡ true → (if zero then 0 else (if sure then unit else max 1 (min x unit))) ≡ unit
+upper-sure true sure x h k = absurd (cc)
+upper-sure false true x h k = refl
+upper-sure false false x h k = absurd (cc)
+
 pub upper-some : (zero sure : Bool) (x : ℕ) → zero ≡ false → 1 ≤ (if zero then 0 else (if sure then unit else max 1 (min x unit)))
 upper-some true sure x h = absurd (cc)
 upper-some false true x h = let at : 1 ≤ unit = omega arith in at

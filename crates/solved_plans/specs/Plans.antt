@@ -6,9 +6,10 @@ use Rattle.game_model.specs.Limits.{unit}
 use Rattle.almost_sure.specs.Values.{IsAlmostSure}
 use Rattle.plan_text.specs.declared.plan.Plan.{Plan}
 
--- the lower bound is 1 exactly at the almost-sure states
-abbrev pub IsSureExactly : Query → Plan → Type 0
-IsSureExactly q plan = (s : ℕ) → s < states q → (slice_index plan.lower.items s ≡ unit) ↔ IsAlmostSure q s
+-- the lower bound is 1 exactly at the almost-sure states, and so is the upper one there
+pub record IsSureExactly (q : Query) (plan : Plan) : Type 0 where
+  pub lower : (s : ℕ) → s < states q → (slice_index plan.lower.items s ≡ unit) ↔ IsAlmostSure q s
+  pub upper : (s : ℕ) → s < states q → IsAlmostSure q s → slice_index plan.upper.items s ≡ unit
 
 -- every k-step value of the state is 0
 abbrev pub IsNever : Query → ℕ → Type 0

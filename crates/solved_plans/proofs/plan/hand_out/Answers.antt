@@ -2,7 +2,7 @@ use Rattle.std.proofs.Common.{List, ℕ, subst}
 use Rattle.certificate_audit.proofs.Soundness.{sound}
 use Rattle.game_model.specs.Query.{states}
 use Rattle.solved_plans.specs.Bounds.{counted, IsLowerOf, IsUpperOf}
-use Rattle.solved_plans.proofs.Bounds.{lower-exactly, lower-never, upper-exactly}
+use Rattle.solved_plans.proofs.Bounds.{lower-exactly, lower-never, upper-unit, upper-exactly}
 use Rattle.solved_plans.proofs.plan.hand_out.Goals as goal
 
 pub returns-clause-sound : goal.returns-clause-sound
@@ -14,7 +14,10 @@ returns-clause-sound c = sound c.args.question.now _ c.known.ensures (record {
 })
 
 pub returns-clause-sure : goal.returns-clause-sure
-returns-clause-sure c = lower-exactly c.args.question.now c.known.ensures c.in_ok-sure.sure c.in_ok-zero.zero c.in_ok-sure.ensures.values c.in_ok-zero.ensures _ _ c.in_ok-reached.ensures.values
+returns-clause-sure c = record {
+  lower = lower-exactly c.args.question.now c.known.ensures c.in_ok-sure.sure c.in_ok-zero.zero c.in_ok-sure.ensures.values c.in_ok-zero.ensures _ _ c.in_ok-reached.ensures.values;
+  upper = upper-unit c.args.question.now c.known.ensures c.in_ok-sure.sure c.in_ok-zero.zero c.in_ok-sure.ensures.values c.in_ok-zero.ensures _ _ c.in_ok-held.ensures.values;
+}
 
 pub returns-clause-zero : goal.returns-clause-zero
 returns-clause-zero c = record {
