@@ -38,22 +38,19 @@ class Asked(explicit.Parser):
         return explicit.sides_of(explicit.Formula(self.coalition_names, bound, self.left, self.right), owners)
 
     def words(self):
-        """The question as a sentence."""
-        if self.coalition_names is None:
-            who = "under every strategy" if self.threshold else "over all strategies"
-        else:
-            who = f"whatever the others do, by {self.team()}"
-        if not self.threshold:
-            most = "greatest" if self.bound_sign == "Pmax" else "least"
-            made = "that there is" if self.coalition_names is None else "that can be made sure of"
-            return f"What is the {most} probability {made}, {who}, that {self.path_words()}?"
-        bound = f"{SIGNS[self.bound_sign]} {Fraction(self.threshold)}"
-        if self.coalition_names is None:
-            return f"Is the probability {bound}, {who}, that {self.path_words()}?"
-        return f"Can it be made sure, {who}, that the probability is {bound} that {self.path_words()}?"
-
-    def team(self):
-        return "the players " + ", ".join(self.coalition_names) if self.coalition_names else "nobody"
+        """The question as a sentence. For nobody's coalition all strategies are the others'."""
+        path, team = self.path_words(), ", ".join(self.coalition_names or ())
+        most = self.bound_sign == "Pmax"
+        if self.threshold:
+            bound = f"{SIGNS[self.bound_sign]} {Fraction(self.threshold)}"
+            if team:
+                return f"Can {team}, whatever the others do, make sure that the probability is {bound} that {path}?"
+            return f"Is the probability {bound}, under every strategy, that {path}?"
+        if team:
+            kind = "greatest" if most else "least"
+            return f"What is the {kind} probability that {team} can bring about, whatever the others do, that {path}?"
+        kind = "greatest" if most == (self.coalition_names is None) else "least"
+        return f"What is the {kind} probability, over all strategies, that {path}?"
 
     def path_words(self):
         if self.always:

@@ -4,6 +4,7 @@ import os
 import shutil
 import subprocess
 import sys
+import tempfile
 from collections import namedtuple
 from pathlib import Path
 
@@ -62,3 +63,28 @@ def first_line(ended):
     """What a run said: its first line, whichever way it came."""
     lines = (ended.errors + ended.output).splitlines()
     return lines[0] if lines else f"ended with status {ended.status} and no word"
+
+
+def asked_by_certify(question):
+    """The lines of an audit of `certify`'s certificate; of `check` where it makes none, as with a bound on the steps."""
+    made = by_certify(question)
+    if made.status:
+        return run(program(), "check", *question)
+    with tempfile.TemporaryDirectory() as room:
+        name = Path(room, "certificate")
+        name.write_text(made.output, encoding="ascii")
+        return audited(question, name)
+
+
+def asked_by_traps(question):
+    """The lines of `check --traps`; of `check` where the formula takes no traps."""
+    ended = run(program(), "check", *question, "--traps")
+    return run(program(), "check", *question) if ended.output.endswith("WrongKind\n") else ended
+
+
+# how a question may be answered, by name: each gives a run whose output is a report
+ASKERS = {
+    "check": lambda question: run(program(), "check", *question),
+    "traps": asked_by_traps,
+    "certify": asked_by_certify,
+}
