@@ -12,6 +12,7 @@ from fractions import Fraction
 OPPOSITES = {">=": "<=", ">": "<", "<=": ">=", "<": ">"}
 FAILS = {">=": "<", ">": "<=", "<=": ">", "<": ">="}
 COMPARED = ("=", "!=", "<", "<=", ">", ">=")
+PATHS = ("F", "G", "X", "U", "W", "R")
 FILTERS = {"min", "max", "forall", "exists", "range"}
 
 TOKEN = re.compile(
@@ -247,7 +248,7 @@ class Rewriter:
     def refuse_formula_of_paths(self):
         if self.ahead("||"):
             raise NoSpelling("a conditional probability")
-        if self.ahead("F", "G", "X", "U", "W", "R"):
+        if self.ahead(*PATHS):
             raise NoSpelling(f"'{self.take()}': a path inside a path is LTL")
 
     def steps(self):
@@ -321,6 +322,8 @@ class Rewriter:
     def comparison(self):
         """A variable compared with a value, or one that is true: a label of its own."""
         kind, text = self.tokens.pop(0)
+        if text in PATHS:
+            raise NoSpelling(f"'{text}' inside a state formula is LTL")
         if kind != "word":
             raise NoSpelling(f"'{text or 'the end'}' in place of a state formula")
         atom = Atom(text, "=", "true")
