@@ -15,7 +15,8 @@ loaded = lru_cache(maxsize=None)(load)
 def call_tool(name, *words):
     """Runs a tool that ends by `ended`, and gives its status, output and errors."""
     output, errors = io.StringIO(), io.StringIO()
-    with mock.patch.object(sys, "argv", [name, *map(str, words)]), contextlib.redirect_stdout(output), contextlib.redirect_stderr(errors):
+    asked = mock.patch.object(sys, "argv", [name, *map(str, words)])
+    with asked, contextlib.redirect_stdout(output), contextlib.redirect_stderr(errors):
         try:
             ended(name, loaded(name).main)
         except SystemExit as end:

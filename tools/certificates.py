@@ -57,8 +57,8 @@ def entries_of(name, formula, first, lines):
 
 def entry_form(decimals):
     """A line of a state: its number, lower bound, choice, rank, upper bound and reply."""
-    value, choice = rb"([0-9]\.[0-9]{%d})" % decimals, rb"(-|[0-9]+)"
-    return re.compile(rb"[ \t]*([0-9]+)" + b"".join(rb"[ \t]+" + part for part in (value, choice, rb"([0-9]+)", value, choice)) + rb"\s*\Z")
+    value, number, choice = rb"([0-9]\.[0-9]{%d})" % decimals, rb"([0-9]+)", rb"(-|[0-9]+)"
+    return re.compile(rb"[ \t]*" + rb"[ \t]+".join([number, value, choice, number, value, choice]) + rb"\s*\Z")
 
 
 def add_entry(found, number, line, decimals):
@@ -85,7 +85,7 @@ def decimal(units):
 
 
 def movers_of(certificate, maximises):
-    """Who moves at each state: by the sides of the formula where they are known, else by whose choice is named; None where none is."""
+    """Who moves at each state: by the sides of the formula where they are known, else by whose choice is named, or None."""
     if maximises is not None:
         return [MAXIMISER if side else MINIMISER for side in maximises]
     movers = []

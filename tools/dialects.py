@@ -32,10 +32,12 @@ NOT_HERE = {
     "multi": "several objectives",
     "C": "cumulative rewards",
     "I": "instantaneous rewards",
+    "label": "a label made of an expression",
+    "formula": "an expression with a name",
 }
 
 Rewritten = namedtuple("Rewritten", "formula negated mirrored")
-Rewritten.__doc__ = "A formula of `stogame`; whether its True is the property's False, and its bounds are 1 less those of the property."
+Rewritten.__doc__ = "A formula of `stogame`; whether its True is the property's False, and its bounds 1 less the property's."
 
 Atom = namedtuple("Atom", "variable sign value")
 Atom.__doc__ = "A comparison of a variable with a value, as both are written."
