@@ -1,4 +1,4 @@
-"""What the tests of the ways out share: a certificate of a question for each small model of the gallery."""
+"""What the tests of the ways out share: certificates of the questions about the small models of the gallery."""
 
 import sys
 from functools import lru_cache
@@ -30,21 +30,29 @@ class Certified:
 
 
 @lru_cache(maxsize=None)
-def certified_models():
-    """One question of each small model, that of the fewest words among those with a certificate."""
+def certified_questions():
+    """All questions of `check` that a certificate may be of, in the order of the models."""
     sys.path.insert(0, str(GALLERY.parent))
     from families import instances
 
     found = []
     for name, module, sizes in instances("small"):
-        asked = [one for one in module.questions(*sizes) if one.command == "check" and one.path == "F" and not one.inside()]
-        question = next(one for one in asked if one.steps is None)
-        own = GALLERY / f"{name}.own"
-        words = [*(str(GALLERY / f"{name}.{ending}") for ending in ("tra", "lab")), question.formula()]
-        words += ["--own", str(own)] if own.exists() else []
-        _, text, _ = run(program(), "check", *words, "--plan", "--workers", "1", "--rounds", ROUNDS)
-        found.append(Certified(name, words, text, module.model(*sizes), question))
+        model, own = module.model(*sizes), GALLERY / f"{name}.own"
+        for question in module.questions(*sizes):
+            if question.command == "check" and question.path != "X" and question.steps is None and not question.inside():
+                words = [*(str(GALLERY / f"{name}.{ending}") for ending in ("tra", "lab")), question.formula()]
+                words += ["--own", str(own)] if own.exists() else []
+                _, text, _ = run(program(), "check", *words, "--plan", "--workers", "1", "--rounds", ROUNDS)
+                found.append(Certified(name, words, text, model, question))
     return found
+
+
+def certified_models():
+    """The first of these questions about each model."""
+    first = {}
+    for one in certified_questions():
+        first.setdefault(one.name, one)
+    return list(first.values())
 
 
 def starts_of(name):

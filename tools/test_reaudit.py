@@ -5,14 +5,16 @@ import io
 import random
 import re
 import unittest
-from pathlib import Path
+from functools import lru_cache
+from unittest import mock
 
-from certified_models import certified_models
+from certified_models import certified_models, certified_questions
 from trials import TOOLS, InFolder, load, needs_program, program, run, run_tool
 
 CHANGED = 1000
 MOST_STATES = 400
 reaudit = load("reaudit")
+read_game = lru_cache(maxsize=None)(reaudit.read_game)
 
 GAME = (
     "4 6 9\n0 0 1 1\n0 1 2 0.65\n0 1 3 0.35\n1 0 2 1/2\n1 0 3 5e-1\n1 1 2 0.2\n1 1 3 0.8\n2 0 2 1\n3 0 3 1\n",
@@ -99,6 +101,12 @@ class Worked(InFolder):
             self.assertFalse(found and found[1] in others, line)
 
 
+def question_of(one):
+    """A question as the second audit reads it; a game is read once for all that is asked of it."""
+    with mock.patch.object(reaudit, "read_game", read_game):
+        return reaudit.Question(*one.words[:3], one.words[4] if len(one.words) > 3 else None)
+
+
 def judged(question, text, path):
     """What the second audit writes of a certificate for a question that was read."""
     path.write_text(text, encoding="latin-1")
@@ -157,15 +165,14 @@ class Alike(InFolder):
         return output
 
     def test_certificates_of_the_gallery(self):
-        for one in certified_models():
-            with self.subTest(model=one.name):
-                question = reaudit.Question(*one.words[:3], one.words[4] if len(one.words) > 3 else None)
-                self.assertIn(" audited ", self.compare(one, question, one.text))
+        for one in certified_questions():
+            with self.subTest(model=one.name, formula=one.words[2]):
+                self.assertIn(" audited ", self.compare(one, question_of(one), one.text))
 
     def test_changed_ones(self):
         draw = random.Random(17)
         few = [one for one in certified_models() if one.states() <= MOST_STATES]
-        questions = [reaudit.Question(*one.words[:3], one.words[4] if len(one.words) > 3 else None) for one in few]
+        questions = [question_of(one) for one in few]
         accepted = 0
         for number in range(CHANGED):
             place = number % len(few)
