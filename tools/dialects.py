@@ -24,6 +24,22 @@ TOKEN = re.compile(
     re.VERBOSE | re.ASCII,
 )
 
+# the words that signs are in plain names of labels, as `s_eq_7_and_d_eq_1`
+SIGN_WORDS = {
+    "<=>": "iff",
+    "=>": "implies",
+    "!=": "ne",
+    "<=": "le",
+    ">=": "ge",
+    "=": "eq",
+    "<": "lt",
+    ">": "gt",
+    "&": "and",
+    "|": "or",
+    "!": "not",
+    "-": "minus",
+}
+
 NOT_HERE = {
     "R": "rewards",
     "Rmin": "rewards",
@@ -47,18 +63,18 @@ class NoSpelling(Exception):
     """Why a property has no spelling here."""
 
 
-Surroundings = namedtuple("Surroundings", "constants players is_chain")
-Surroundings.__doc__ = """What a property is read with: the texts of constants by name, the names of all players, and whether the
-model is a Markov chain."""
+Surroundings = namedtuple("Surroundings", "constants players labels is_chain")
+Surroundings.__doc__ = """What a property is read with: the texts of constants by name, the names of all players and labels, and whether
+the model is a Markov chain."""
 
 
 class Rewriter:
     """Rewrites a property by recursive descent. The comparisons of variables that it names are in `atoms`, by their label."""
 
     def __init__(self, text, around):
-        self.text, self.around, self.atoms = text, around, {}
-        self.end = 0
+        self.around, self.atoms = around, {}
         self.tokens = list(self.cut(text))
+        self.all_tokens = list(self.tokens)
 
     def cut(self, text):
         place = 0
@@ -147,7 +163,7 @@ class Rewriter:
         if not self.ahead(path):
             raise NoSpelling(f"{word} [ .. ] of another path than {path}: paths of probability 0 count for it")
         self.take(path)
-        state = self.state()
+        state = self.operand()
         self.take("]")
         bound = "P>=1 [ G" if word == "A" else "P<=0 [ F"
         return Rewritten(f"{bound} {state} ]", word == "E", False)
@@ -225,12 +241,12 @@ class Rewriter:
         """A path as it is written here, and whether it is the one that is avoided."""
         if self.ahead("F", "G", "X"):
             return self.unary_path(self.take())
-        left = self.state()
+        left = self.operand()
         if not self.ahead("U", "W", "R"):
             self.refuse_formula_of_paths()
         word = self.take("U", "W", "R")
         steps = self.steps()
-        right = self.state()
+        right = self.operand()
         if word == "U":
             return f"{left} U{steps} {right}", False
         if steps:
@@ -243,7 +259,7 @@ class Rewriter:
         steps = self.steps() if word != "X" else ""
         if self.ahead("F", "G", "X"):
             raise NoSpelling(f"{word} {self.take()} ..: a path inside a path is LTL")
-        state = self.state()
+        state = self.operand()
         self.refuse_formula_of_paths()
         return (f"F{steps} !{state}", True) if word == "G" and steps else (f"{word}{steps} {state}", False)
 
@@ -273,6 +289,16 @@ class Rewriter:
         return f"<={steps}"
 
     # State formulas; each gives a text that binds as tightly as a label
+
+    def operand(self):
+        """A state formula of a path; over variables it is the label of its plain name, where there is one."""
+        start, atoms = len(self.tokens), dict(self.atoms)
+        state = self.state()
+        label = plain_name(self.all_tokens[-start : -len(self.tokens)])
+        if self.atoms == atoms or label not in self.around.labels:
+            return state
+        self.atoms = atoms
+        return f'"{label}"'
 
     def state(self):
         """`c ? a : b`, which binds weakest."""
@@ -343,6 +369,11 @@ class Rewriter:
         if kind not in ("word", "number"):
             raise NoSpelling(f"'{text or 'the end'}' in place of a value")
         return sign + self.around.constants.get(text, text)
+
+
+def plain_name(tokens):
+    """The plain name of an expression: its words and numbers, with its signs as words, joined by `_`."""
+    return "_".join(part for _, text in tokens for part in re.findall("[A-Za-z0-9]+", SIGN_WORDS.get(text, text)))
 
 
 def spelt_bound(word, sign, threshold, dual):

@@ -9,8 +9,8 @@ from dialects import NoSpelling, Surroundings, rewritten
 from trials import SAMPLES, TOOLS, InFolder, needs_program, program
 
 EXAMPLES = TOOLS.parent / "examples"
-CHAIN = Surroundings({"N": "5", "p": "0.9"}, ["p0"], True)
-GAME = Surroundings({}, ["p1", "anna"], False)
+CHAIN = Surroundings({"N": "5", "p": "0.9"}, ["p0"], {"a", "s_eq_7_and_done"}, True)
+GAME = Surroundings({}, ["p1", "anna"], {"a"}, False)
 
 # a property of a Markov chain, and the formula here, marked where its True is False or its bounds are 1 less
 REWRITTEN = [
@@ -47,6 +47,7 @@ REWRITTEN = [
     ("P>=p [ F s=7 & d!=-1 ]", 'P>=0.9 [ F ("s=7" & "d!=-1") ]', ""),
     ("P=? [ F !done ]", 'Pmax=? [ F !"done=true" ]', ""),
     ("P=? [ F s<N ]", 'Pmax=? [ F "s<5" ]', ""),
+    ("P=? [ (s=7)&done U !(s=7 & done) ]", 'Pmax=? [ "s_eq_7_and_done" U !("s=7" & "done=true") ]', ""),
 ]
 
 # a property, and a part of why it has no spelling
