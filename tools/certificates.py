@@ -42,7 +42,7 @@ def entries_of(name, formula, first, lines):
     head = lines[first - 1].split()
     if len(head) != 3 or head[1] not in DECIMALS or not head[2].isdigit():
         raise Refusal(name, first, f"{shown(lines[first - 1].strip())} is no 'certificate 2 N' and no 'certificate 1 N'")
-    states = int(head[2])
+    states = whole(head[2])
     found = Certificate(name, formula, first, int(head[1]), array("q"), [], array("q"), array("q"), [])
     form = entry_form(DECIMALS[head[1]])
     for number, line in enumerate(lines[first:], first + 1):
@@ -63,17 +63,23 @@ def entry_form(decimals):
 
 def add_entry(found, number, line, decimals):
     state = len(found.ranks)
-    if not line or int(line[1]) != state:
+    if not line or whole(line[1]) != state:
         raise Refusal(found.name, number, f"no line of state {state}: number, lower bound, choice, rank, upper bound, reply")
     lower, upper = (int(line[place].replace(b".", b"")) * 10 ** (15 - decimals) for place in (2, 5))
-    choice, reply = (None if line[place] == b"-" else int(line[place]) for place in (3, 6))
-    if max(lower, upper) > UNIT or max(choice or 0, reply or 0) > GREATEST_CHOICE or int(line[4]) > GREATEST_RANK:
+    choice, reply = (None if line[place] == b"-" else whole(line[place]) for place in (3, 6))
+    rank = whole(line[4])
+    if max(lower, upper) > UNIT or max(choice or 0, reply or 0) > GREATEST_CHOICE or rank > GREATEST_RANK:
         raise Refusal(found.name, number, f"a number of state {state} is above its limit")
     found.lower.append(lower)
     found.choices.append(choice)
-    found.ranks.append(int(line[4]))
+    found.ranks.append(rank)
     found.upper.append(upper)
     found.replies.append(reply)
+
+
+def whole(digits):
+    """A whole number; one of more than forty digits stands for those above every limit."""
+    return int(digits.lstrip(b"0")[:40] or b"0")
 
 
 def line_of(certificate, state):

@@ -398,4 +398,7 @@ def spelt(number):
 def rewritten(text, around):
     """A property as it is written here, and the comparisons that are its labels; NoSpelling says why there is none."""
     rewriter = Rewriter(text, around)
-    return rewriter.whole(), rewriter.atoms
+    try:
+        return rewriter.whole(), rewriter.atoms
+    except RecursionError:
+        raise NoSpelling("too many brackets, one in another") from None

@@ -11,6 +11,10 @@ def ended(name, work):
     if hasattr(signal, "SIGPIPE"):
         signal.signal(signal.SIGPIPE, signal.SIG_DFL)
     try:
-        sys.exit(work())
+        status = work()
+        sys.stdout.flush()
     except Refusal as refusal:
-        sys.exit(f"{name}: {refusal}")
+        status = f"{name}: {refusal}"
+    except OSError as error:
+        status = f"{name}: {error.filename or 'output'}: {error.strerror}"
+    sys.exit(status)

@@ -71,6 +71,7 @@ REFUSED = [
     ('E [ G "a" ]', "paths of probability 0 count"),
     ('filter(print, P=? [ F "a" ], "init")', "look at --plan"),
     ('filter(max, P=? [ F "a" ], "b")', "mark them by the label init"),
+    ("P=? [ F " + "(" * 3000 + '"a"' + ")" * 3000 + " ]", "too many brackets"),
     ('label "done" = s=7', "a label made of an expression (label): there is none here"),
     ("P=? [ F x+1>3 ]", "variables are compared with single values"),
     ('[[1]] Pmax=? [ F "a" ]', "[[..]] with a value"),

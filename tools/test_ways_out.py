@@ -63,6 +63,7 @@ REFUSED = [
     ("table", CERTIFICATE.replace("\n3 0", "\n4 0"), [], "line 6: no line of state 3: number, lower bound, choice, rank, upper bound, reply"),
     ("table", CERTIFICATE.replace("0.650000000000000 1 1", "0.65 1 1"), [], "line 3: no line of state 0: number, lower bound, choice, rank, upper bound, reply"),
     ("table", CERTIFICATE.replace("650000000000000 1 1", "650000000000000 16384 1"), [], "line 3: a number of state 0 is above its limit"),
+    ("table", CERTIFICATE.replace(" 1 1 0.65", " 1 " + "9" * 5000 + " 0.65"), [], "line 3: a number of state 0 is above its limit"),
     ("table", CERTIFICATE + "4\n", [], "line 7: more behind the line of the last state, 3"),
     ("table", "\n".join(CERTIFICATE.split("\n")[:4]), [], "lines of 2 states; the first line states 4"),
     ("table", CERTIFICATE.replace(" 1 1 0.65", " 2 1 0.65"), ["--tra", NAMED[0]], "line 3: state 0 has 2 choices, counted from 0, and no choice 2"),
@@ -192,6 +193,8 @@ class Small(InFolder):
         self.write("long", "certificate 2 20000\n" + "".join(f"{state} 0.000000000000000 - 0 0.000000000000000 -\n" for state in range(20000)))
         ended = run("bash", "-c", f"{sys.executable} {TOOLS / 'table'} {self.folder / 'long'} --csv | head -n 1")
         self.assertEqual(ended[1:], ("state,lower,upper,mover,choice,rank\n", ""))
+        ended = run("bash", "-c", f"{sys.executable} {TOOLS / 'table'} {self.cert} >/dev/full")
+        self.assertEqual(ended, (1, "", "table: output: No space left on device\n"))
 
 
 @needs_program
