@@ -179,10 +179,12 @@ class Files(InFolder):
                 self.assertEqual((rows[0][5], rows[1][5], ended), (verdict, "True", status))
 
     def test_by_others(self):
+        """With a bound on the steps `check` answers. Within one step player 1 keeps off the goal by passing, and reaches it by throwing."""
+        throws, passes = (["0", bound, bound, "True"] for bound in ("0.650000000000000", "0.000000000000000"))
+        text = '<<1>> P>=0.65 [ F "goal" ]\n<<1>> P>=0.65 [ F<=1 "goal" ]\n<<1>> P<1 [ F<=1 "goal" ]\n'
         for asker in ("traps", "certify"):
             with self.subTest(asker=asker):
-                rows, status = self.rows('<<1>> P>=0.65 [ F "goal" ]\n<<1>> P<1 [ F<=1 "goal" ]\n', "--by", asker)
-                self.assertEqual((rows, status), ([["0", "0.650000000000000", "0.650000000000000", "True"]] * 2, 0))
+                self.assertEqual(self.rows(text, "--by", asker), ([throws, throws, passes], 0))
 
     def test_refusals(self):
         for text, cause in NO_FILE:
