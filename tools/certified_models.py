@@ -1,7 +1,7 @@
 """What the tests of the ways out share: certificates of the questions about the small models of the gallery."""
 
 import sys
-from functools import lru_cache
+from functools import cached_property, lru_cache
 
 from explicit import read_transitions
 from trials import TOOLS, program, run
@@ -11,14 +11,27 @@ ROUNDS = "300"
 
 
 class Certified:
-    """A model, the words of a question, its certificate as text, and its entries as plain lists of fields."""
+    """A question about a model; with the text of its certificate, made where it is asked for, and its entries as fields."""
 
-    def __init__(self, name, words, text, model, question):
-        self.name, self.words, self.text, self.model, self.question = name, words, text, model, question
-        lines = text.splitlines()
-        self.start = next(number for number, line in enumerate(lines) if line.startswith("certificate "))
-        self.entries = [line.split() for line in lines[self.start + 1 :]]
-        self.formula = lines[self.start - 1].split(" ", 1)[1]
+    def __init__(self, name, words, model, question):
+        self.name, self.words, self.model, self.question = name, words, model, question
+
+    @cached_property
+    def text(self):
+        return run(program(), "check", *self.words, "--plan", "--workers", "1", "--rounds", ROUNDS)[1]
+
+    @cached_property
+    def start(self):
+        """The place of the certificate among the lines."""
+        return next(number for number, line in enumerate(self.text.splitlines()) if line.startswith("certificate "))
+
+    @property
+    def entries(self):
+        return [line.split() for line in self.text.splitlines()[self.start + 1 :]]
+
+    @property
+    def formula(self):
+        return self.text.splitlines()[self.start - 1].split(" ", 1)[1]
 
     def files(self):
         """The words of a tool that takes the files by name."""
@@ -26,7 +39,7 @@ class Certified:
         return ["--tra", tra, "--lab", lab, *own]
 
     def states(self):
-        return len(self.entries)
+        return len(self.model)
 
 
 @lru_cache(maxsize=None)
@@ -41,9 +54,7 @@ def certified_questions():
         for question in module.questions(*sizes):
             if question.command == "check" and question.path != "X" and question.steps is None and not question.inside():
                 words = [*(str(GALLERY / f"{name}.{ending}") for ending in ("tra", "lab")), question.formula()]
-                words += ["--own", str(own)] if own.exists() else []
-                _, text, _ = run(program(), "check", *words, "--plan", "--workers", "1", "--rounds", ROUNDS)
-                found.append(Certified(name, words, text, model, question))
+                found.append(Certified(name, words + (["--own", str(own)] if own.exists() else []), model, question))
     return found
 
 

@@ -4,12 +4,13 @@ import contextlib
 import io
 import random
 import re
+import sys
 import unittest
 from functools import lru_cache
 from unittest import mock
 
 from certified_models import certified_models, certified_questions
-from trials import TOOLS, InFolder, load, needs_program, program, run, run_tool
+from trials import TOOLS, InFolder, load, needs_program, program, run
 
 CHANGED = 1000
 MOST_STATES = 400
@@ -50,6 +51,15 @@ WORKED = [
 ]
 
 
+def call(*words):
+    """Runs the tool in this process, and gives its status, output and errors."""
+    output, errors = io.StringIO(), io.StringIO()
+    asked = mock.patch.object(sys, "argv", ["reaudit", *words])
+    with asked, contextlib.redirect_stdout(output), contextlib.redirect_stderr(errors):
+        status = reaudit.main()
+    return status, output.getvalue(), errors.getvalue()
+
+
 class Worked(InFolder):
     """Worked by hand over the game of two players."""
 
@@ -62,7 +72,7 @@ class Worked(InFolder):
             with self.subTest(formula=formula, entry=entry):
                 entries = [*ENTRIES[:place], entry, *ENTRIES[place + 1 :]]
                 self.write("certificate", "certificate 2 4\n" + "\n".join(entries) + "\n")
-                _, output, errors = run_tool("reaudit", *self.words(formula))
+                _, output, errors = call(*self.words(formula))
                 self.assertEqual((output, errors), (line + "\n", ""))
 
     def test_a_rank_that_does_not_fall(self):
@@ -76,7 +86,7 @@ class Worked(InFolder):
             with self.subTest(line=line):
                 text = f"certificate 1 2\n0 {first} 1.000000000000 -\n1 {second} - 0 1.000000000000 -\n"
                 words[2:] = ['Pmax=? [ F "goal" ]', str(self.write("certificate", text))]
-                self.assertEqual(run_tool("reaudit", *words)[1], line + "\n")
+                self.assertEqual(call(*words)[1], line + "\n")
 
     def test_faults_name_file_and_line(self):
         self.write("certificate", "certificate 2 4\n" + "\n".join(ENTRIES) + "\n")
@@ -84,12 +94,12 @@ class Worked(InFolder):
         for place, name, text, line in ((0, "m.tra", "4 6 9\n0 0 x 1\n", 2), (1, "m.lab", '0="init"\n0: 7\n', 2), (1, "m.lab", "x\n", 1)):
             with self.subTest(name=name, text=text):
                 changed = [*words[:place], str(self.write("changed", text)), *words[place + 1 :]]
-                status, output, errors = run_tool("reaudit", *changed)
+                status, output, errors = call(*changed)
                 self.assertEqual((status, output), (4, ""))
                 self.assertEqual(errors, f"reaudit: {changed[place]}: line {line}: not in the form of such a text\n")
         for formula in ('P>=0.5 [ F "gaol" ]', 'P>=0.5 [ X "goal" ]', 'P>=0.5 [ F<=3 "goal" ]', '<<p3>> Pmax=? [ F "goal" ]', 'Pmax=? [ F ("goal" ]', ""):
             with self.subTest(formula=formula):
-                status, output, errors = run_tool("reaudit", *self.words(formula))
+                status, output, errors = call(*self.words(formula))
                 self.assertEqual((status, output, errors), (4, "", "reaudit: formula: line 1: not in the form of such a text\n"))
 
     def test_short_and_alone(self):
