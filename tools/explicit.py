@@ -127,6 +127,15 @@ def write_beside(name, pieces):
     return temporary
 
 
+def write_output(data):
+    """Writes bytes to standard output, without a buffer that would fail at the end."""
+    try:
+        while data:
+            data = data[os.write(1, data) :]
+    except OSError as error:
+        raise Refusal("standard output", None, f"can't be written: {error.strerror}") from error
+
+
 def header_line(names):
     """The first line of a label or owner file, in which these names have the indices 0, 1 and so on."""
     return " ".join(f'{index}="{name.decode("ascii")}"' for index, name in enumerate(names)) + "\n"

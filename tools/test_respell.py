@@ -117,6 +117,11 @@ class Commands(InFolder):
         none = self.folder / "none"
         self.assertEqual(run_tool("respell", none), (1, "", f"respell: {none}: can't be read: No such file or directory\n"))
 
+    def test_no_room(self):
+        name = self.write("m.tra", "1 1\n0 0 1\n")
+        command = f"'{sys.executable}' '{TOOLS / 'respell'}' '{name}' > /dev/full"
+        self.assertEqual(run("bash", "-c", command), (1, "", "respell: standard output: can't be written: No space left on device\n"))
+
     def test_nobody_reads_on(self):
         lines = "0 0 0 1\n" * 50_000
         name = self.write("m.tra", f"1 1 50000\n{lines}")
