@@ -32,6 +32,25 @@ MADE = [
     ("2 2 2\n0 7 0 1 1\n1 8 0 0 1 a\n", {"column": True}, '0="p7" 1="p8"\n0: 0\n1: 1\n'),
 ]
 
+# a sample of rows, and its transitions
+ROWS = {
+    "documented_link_rows.tra": "4 5 7\n0 0 2 0.1 fast\n0 0 3 0.9 fast\n0 1 1 1 safe\n1 0 2 0.05 send\n1 0 3 0.95 send\n"
+    "2 0 2 1 stay\n3 0 3 1 stay\n",
+    "documented_coin_rows.tra": "3 5\n0 0 0.5\n0 1 0.25\n0 2 0.25\n1 1 1\n2 2 1\n",
+}
+
+# rows, the line that is refused and the cause
+REFUSED_ROWS = [
+    ("1 1 1\n0 1:0 a b\n", 2, "no state with its PROBABILITY:SUCCESSOR .."),
+    ("2 2 3\n0 1:0\n1 0.5:0 x 0.5:1\n", 3, "no state with its PROBABILITY:SUCCESSOR .."),
+    ("2 2 2\n0 1:0\n0 go\n", 3, "no state with its PROBABILITY:SUCCESSOR .."),
+    ("2 2 2\n0 1:0\n0:1 1:0\n", 3, "no state with its PROBABILITY:SUCCESSOR .."),
+    ("2 2\n0 1:0\n0 1:1\n", 3, "a second row of state 0 of a chain"),
+    ("2 2 3\n0 1:0\n1 1:1\n", None, "2 rows and 2 moves; the header states 2 and 3"),
+    ("2 1 2\n0 1:0\n1 1:1\n", None, "2 rows and 2 moves; the header states 1 and 2"),
+    ("2 3\n0 1:0\n1 1:1\n", None, "2 moves; the header states 3"),
+]
+
 # a text, options, the line that is refused and the cause
 REFUSED = [
     ("(turn,x)\n0:(1,0)\n", {}, None, "a list of states says who owns them only by a variable"),
@@ -59,7 +78,7 @@ class OwnerFiles(InFolder):
         """What is told of the files that were not used, and what was written."""
         told = io.StringIO()
         with contextlib.redirect_stderr(told):
-            load("from_prism").convert(words(self.folder / "out", *files, **options))
+            load("owners").convert(words(self.folder / "out", *files, **options))
         return told.getvalue(), self.written()
 
     def test_texts(self):
@@ -79,6 +98,35 @@ class OwnerFiles(InFolder):
                 self.assertEqual(told, "")
                 self.assertEqual(written["out.own"], owners)
                 self.assertEqual(written.get("out.tra"), PLAIN_GAME if sample is GAME else None)
+
+    def test_rows(self):
+        for name, transitions in ROWS.items():
+            with self.subTest(name):
+                self.setUp()
+                told, written = self.convert(SAMPLES / name)
+                self.assertEqual(told, f"owners: no file says who owns the states; {self.folder}/out.tra alone is written\n")
+                self.assertEqual(written, {"out.tra": transitions})
+
+    def test_rows_with_owners(self):
+        told, written = self.convert(SAMPLES / "documented_link_rows.tra", PLAYERS)
+        self.assertEqual(told, "")
+        self.assertEqual(written, {"out.tra": ROWS["documented_link_rows.tra"], "out.own": OWNERS_BY_NAME})
+
+    def test_faults_of_rows(self):
+        for text, line, cause in REFUSED_ROWS:
+            with self.subTest(text):
+                name = self.write("in", text)
+                place = name if line is None else f"{name}: line {line}"
+                with contextlib.redirect_stderr(io.StringIO()) as told, self.assertRaises(Refusal):
+                    load("owners").convert(words(self.folder / "out", name))
+                self.assertEqual(told.getvalue(), f"owners: not used: {place}: {cause}\n")
+                self.assertEqual(list(self.written()), ["in"])
+
+    def test_transitions_twice(self):
+        with self.assertRaises(Refusal) as caught:
+            self.convert(GAME, SAMPLES / "documented_link_rows.tra")
+        self.assertEqual(caught.exception.cause, f"transitions, which {GAME} has already")
+        self.assertEqual(self.written(), {})
 
     def test_the_first_that_can_be_used(self):
         told, written = self.convert(STATES, PLAYERS)
@@ -103,17 +151,20 @@ class OwnerFiles(InFolder):
                 name = self.write("in", text)
                 place = name if line is None else f"{name}: line {line}"
                 with contextlib.redirect_stderr(io.StringIO()) as told, self.assertRaises(Refusal):
-                    load("from_prism").convert(words(self.folder / "out", name, **options))
-                self.assertIn(f"from_prism: not used: {place}: {cause}", told.getvalue())
+                    load("owners").convert(words(self.folder / "out", name, **options))
+                self.assertIn(f"owners: not used: {place}: {cause}", told.getvalue())
                 self.assertEqual(list(self.written()), ["in"])
 
     def test_status(self):
         name = self.write("in", "hello\n")
-        status, output, errors = run_tool("from_prism", self.folder / "out", name)
+        status, output, errors = run_tool("owners", self.folder / "out", name)
         self.assertEqual((status, output), (1, ""))
         self.assertEqual(errors.count("\n"), 2)
         self.assertTrue(errors.endswith("no file says who owns the states; nothing is written\n"))
-        status, _, errors = run_tool("from_prism", self.folder / "out", STATES, "--turn", "turn", "--names", "1=anna")
+        status, output, errors = run_tool("owners", "--help")
+        self.assertEqual((status, errors), (0, ""))
+        self.assertIn("owners OUT FILE", output)
+        status, _, errors = run_tool("owners", self.folder / "out", STATES, "--turn", "turn", "--names", "1=anna")
         self.assertEqual((status, errors), (0, ""))
         self.assertEqual(self.written()["out.own"], '0="anna" 1="turn2"\n0: 0\n1: 1\n2: 0\n3: 1\n')
 
