@@ -18,6 +18,19 @@ FAMILIES = (
     "wind",
     "stall",
     "truel",
+    "brp",
+    "egl",
+    "crowds_runs",
+    "herman",
+    "leader",
+    "csma",
+    "wlan",
+    "zeroconf_reset",
+    "dice",
+    "observer",
+    "hallway",
+    "charlton",
+    "microgrid",
 )
 SIZES = ("small", "large")
 

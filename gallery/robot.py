@@ -18,6 +18,7 @@ with 3/8.
 import random
 from fractions import Fraction
 
+from known import Known
 from model import Model, write_from_words
 from question import BACKWARD, ONLY_PLAYER, Inside, Question, sure
 
@@ -69,6 +70,10 @@ def questions(side, seed):
     way = Question("P>=3/4" if side <= FEW else "P>=3/8", "goal", coalition=(ONLY_PLAYER,))
     yield Question("Pmax=?", "goal", safe=Inside(way))
     yield Question("Pmax=?", Inside(way), path="G")
+
+
+def known_as(side, seed):
+    return Known()
 
 
 if __name__ == "__main__":
