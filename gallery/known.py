@@ -45,6 +45,6 @@ def same_or_size(name, sizes, counts, asked):
 
 
 def agrees(value, published):
-    """Whether a value is the published one, up to a unit of its last digit."""
-    last = Decimal(published).as_tuple().exponent
-    return abs(value - Fraction(published)) < Fraction(10) ** last or value == Fraction(published)
+    """Whether a value is the published one, whose last digit may be rounded or cut off."""
+    unit = Fraction(10) ** Decimal(published).as_tuple().exponent
+    return -unit / 2 <= value - Fraction(published) < unit
