@@ -26,6 +26,7 @@ FAMILIES = (
     "csma",
     "wlan",
     "zeroconf_reset",
+    "firewire_abst",
     "dice",
     "observer",
     "hallway",
