@@ -53,7 +53,10 @@ def model(blocks):
         "accident": lambda state: state == ("accident",),
         "jammed": lambda state: state[:2] == ("hazard", "jam"),
     }
-    owner = lambda state: "environment" if state[0] == "road" else "car"
+
+    def owner(state):
+        return "environment" if state[0] == "road" else "car"
+
     return Model(("at", (0, 0)), rule, labels, ["car", "environment"], owner)
 
 

@@ -14,7 +14,8 @@ bounds.
 
 Value: the source has that all processes end with heads with at least (RANGE - 1) / (2 RANGE), whatever the scheduler
 does, and that they all end with 1. How low a scheduler can bring the heads is computed in fractions. For four processes
-these are the fractions of one scheduler, found by value iteration, whose values in floating point they are up to 10^-15.
+these are the fractions of one scheduler, found by value iteration, whose values in floating point they are up to
+10^-15.
 """
 
 from fractions import Fraction

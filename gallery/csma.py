@@ -56,13 +56,15 @@ def model(stations, most):
     labels = {
         "all_heard": lambda state: all(station.doing == "sent" for station in state[1]),
         "one_heard": lambda state: any(station.doing == "sent" for station in state[1]),
-        "worst_collision": lambda state: state[0].messages == "garbled" and any(is_worst(one, most) for one in state[1]),
+        "worst_collision": lambda state: is_worst_collision(*state, most),
     }
     return Model((Cable(), (Station(),) * stations), rule, labels)
 
 
-def is_worst(station, most):
-    return station.doing == "sends" and station.collisions == most
+def is_worst_collision(cable, row, most):
+    """Whether one collides now that has collided as often as is counted."""
+    worst = any(station.doing == "sends" and station.collisions == most for station in row)
+    return cable.messages == "garbled" and worst
 
 
 def collided(station, most):

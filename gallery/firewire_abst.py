@@ -34,7 +34,13 @@ COUNTS = {(3,): (611, 718), (36,): (776, 1411)}
 PUBLISHED = {(3, 200): "0.5", (3, 400): "0.78125", (3, 600): "0.931640625"}
 
 # what the second node may draw behind the first, and who drew what: s is short, l is long, - has not tossed
-TOSSES = {"--": [("s-", "l-"), ("-s", "-l")], "s-": [("ss", "sl")], "-s": [("ss", "ls")], "-l": [("sl", "ll")], "l-": [("ls", "ll")]}
+TOSSES = {
+    "--": [("s-", "l-"), ("-s", "-l")],
+    "s-": [("ss", "sl")],
+    "-s": [("ss", "ls")],
+    "-l": [("sl", "ll")],
+    "l-": [("ls", "ll")],
+}
 
 
 def model(delay, deadline):

@@ -3,10 +3,11 @@
 
     hallway.py ROWS COLUMNS NAME
 
-Source: K. Chatterjee, J.-P. Katoen, M. Weininger and T. Winkler, Stochastic games with lexicographic reachability-safety
-objectives, CAV 2020, 'Hallway', after the hallways of the planning literature. Rebuilt from its description: a robot
-whose moves succeed with some probability, a human who wanders partly at random and partly as an opponent has it, and a
-robot that is damaged with 0.01, whose moves succeed less often then. The grid and the other numbers are our choice.
+Source: K. Chatterjee, J.-P. Katoen, M. Weininger and T. Winkler, Stochastic games with lexicographic
+reachability-safety objectives, CAV 2020, 'Hallway', after the hallways of the planning literature. Rebuilt from its
+description: a robot whose moves succeed with some probability, a human who wanders partly at random and partly as an
+opponent has it, and a robot that is damaged with 0.01, whose moves succeed less often then. The grid and the other
+numbers are our choice.
 
 State: the fields of both, whether the robot is damaged, and who moves. The robot begins in one corner and the human in
 the far one. The robot moves to a neighbouring field with 0.8, damaged with 0.4, or else stays; with 0.01 of a move it

@@ -3,10 +3,10 @@
 
     microgrid.py HOUSEHOLDS LIMIT HOURS NAME
 
-Source: H. Hildmann and F. Saffre, Influence of variable supply and load flexibility on demand-side management, EEM 2011;
-as a game: T. Chen, V. Forejt, M. Kwiatkowska, D. Parker and A. Simaitis, Automatic verification of competitive
-stochastic systems, Formal Methods in System Design 43, 2013. Rebuilt from its description in the form of a
-reachability question: there it is of costs. The numbers are our choice.
+Source: H. Hildmann and F. Saffre, Influence of variable supply and load flexibility on demand-side management, EEM
+2011; as a game: T. Chen, V. Forejt, M. Kwiatkowska, D. Parker and A. Simaitis, Automatic verification of competitive
+stochastic systems, Formal Methods in System Design 43, 2013. Rebuilt from its description in the form of a reachability
+question: there it is of costs. The numbers are our choice.
 
 State: the hour, whose turn it is, whose load still runs, the power of the hour so far, and whether the one on turn has
 a load. In each of HOURS hours one household after the other gets a load with 1/2, where none of its own runs; it runs

@@ -3,16 +3,16 @@
 
     observer.py SIDE SIGHT NAME
 
-Source: K. Chatterjee, J.-P. Katoen, M. Weininger and T. Winkler, Stochastic games with lexicographic reachability-safety
-objectives, CAV 2020, 'Avoid the observer'. Rebuilt from its description: the intruder has to avoid the observer, to
-leave the grid, and may search for a precious item at each field, which it finds with 0.1; the observer sees it within a
-certain distance, and walks at random where it does not. The ways in and out, the other numbers and that the intruder
-may stumble are our choice.
+Source: K. Chatterjee, J.-P. Katoen, M. Weininger and T. Winkler, Stochastic games with lexicographic
+reachability-safety objectives, CAV 2020, 'Avoid the observer'. Rebuilt from its description: the intruder has to avoid
+the observer, to leave the grid, and may search for a precious item at each field, which it finds with 0.1; the observer
+sees it within a certain distance, and walks at random where it does not. The ways in and out, the other numbers and
+that the intruder may stumble are our choice.
 
 State: the fields of both, whether the item was found, and whose turn it is. The intruder begins in one corner, and the
-way out is the far one; it takes one step, which succeeds with 0.9, or stays and searches. The observer begins in the corner to the right of the
-intruder's. Where the intruder is at most SIGHT steps away it takes the step that it chooses, or stays, else one of its
-steps at random. Both on one field is an end, and so is the way out.
+way out is the far one; it takes one step, which succeeds with 0.9, or stays and searches. The observer begins in the
+corner to the right of the intruder's. Where the intruder is at most SIGHT steps away it takes the step that it chooses,
+or stays, else one of its steps at random. Both on one field is an end, and so is the way out.
 
 Value: computed in fractions by strategy iteration for both players.
 """

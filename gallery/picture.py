@@ -1,4 +1,4 @@
-"""A picture of curves and points over two axes, as an SVG of 720 pixels that follows a reader's light or dark screen."""
+"""A picture of curves and points over two axes, as an SVG of 720 pixels, in colours for light and for dark screens."""
 
 from dataclasses import dataclass
 from math import log10
@@ -89,7 +89,8 @@ class Picture:
     def line(self, places, colour, width, dashes=""):
         joined = " ".join(f"{x:.1f},{y:.1f}" for x, y in places)
         dashed = f' stroke-dasharray="{dashes}"' if dashes else ""
-        self.parts.append(f'<polyline points="{joined}" fill="none" stroke-width="{width}"{dashed} {painted("stroke", colour)}/>')
+        stroke = f'stroke-width="{width}"{dashed} {painted("stroke", colour)}'
+        self.parts.append(f'<polyline points="{joined}" fill="none" {stroke}/>')
 
     def next_legend(self, name):
         """Writes a name at the next place of the legend, and says where its sign stands."""

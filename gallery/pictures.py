@@ -1,5 +1,5 @@
 #!/usr/bin/env python3
-"""Draws for three models the proved bounds beside plain value iteration, and for many models what `tools/measure` measured.
+"""Draws proved bounds beside plain value iteration for three models, and for many what `tools/measure` measured.
 
     gallery/pictures.py [bounds | times]
 

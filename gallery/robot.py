@@ -11,8 +11,8 @@ way with 0.1 each; at the border it stays where it is. It begins in one corner, 
 in five is a pit, drawn from the seed, which it never leaves; next to the first field there is none.
 
 Value: computed in fractions by strategy iteration, and backward where there is a deadline. The goal is 2 (SIDE - 1)
-steps away. With a formula inside the robot keeps to fields from which it can still reach the goal with 3/4, or on a large grid
-with 3/8.
+steps away. With a formula inside the robot keeps to fields from which it can still reach the goal with 3/4, or on a
+large grid with 3/8.
 """
 
 import random

@@ -81,7 +81,7 @@ def is_used(state):
 
 
 def network_steps(network, host):
-    """A message that waits goes on its way or is lost; one of the host that arrives is answered where it is meant so."""
+    """A message that waits goes on its way or is lost; one of the host that arrives is answered."""
 
     def goes(doing, under_way, **left):
         after = network._replace(**left)
@@ -145,7 +145,8 @@ def sending(host, probes):
     """The host behind a message of its own: a probe, an answer, or one of the two that tell of its address."""
     if host.must_answer:
         return host._replace(must_answer=False)
-    if host.clock == PAUSE and (host.doing == "probes" and host.probes < probes or host.doing == "tells" and host.probes < 1):
+    most = {"probes": probes, "tells": 1}.get(host.doing, 0)
+    if host.clock == PAUSE and host.probes < most:
         return host._replace(clock=0, probes=host.probes + 1)
     if host.clock == PAUSE and host.doing == "tells":
         return host._replace(doing="has it", clock=0, since_defence=0, probes=0)
