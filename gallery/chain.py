@@ -77,9 +77,8 @@ def questions_of_chance(length, chance):
 
 
 def known_as(length, chance=HALF):
-    if chance != HALF:
-        return Known(f"`haddad-monmege` {length}-{chance}: `target`", kind=ENCODING)
-    return Known("`haddad-monmege`", kind=ENCODING)
+    instance = f" {length}-{chance}" if (length, chance) == (20, "0.7") else ""
+    return Known(f"`haddad-monmege`{instance}: `target`", kind=ENCODING)
 
 
 if __name__ == "__main__":

@@ -76,7 +76,7 @@ def questions(deadline):
 
 
 def known_as(deadline):
-    return Known(f"`firewire_dl` 36-{deadline}: `deadline`" if deadline else "`firewire`: `elected`", kind=OTHER)
+    return Known("`firewire_dl`: `deadline`" if deadline else "`firewire`: `elected`", kind=OTHER)
 
 
 if __name__ == "__main__":

@@ -105,7 +105,8 @@ def questions(bundle, restorations):
 
 
 def known_as(bundle, restorations):
-    return Known(f"`nand` {bundle}-{restorations}: `reliable`", kind=ENCODING)
+    instance = " 20-1" if (bundle, restorations) == (20, 1) else ""
+    return Known(f"`nand`{instance}: `reliable`", kind=ENCODING)
 
 
 if __name__ == "__main__":

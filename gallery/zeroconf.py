@@ -75,7 +75,7 @@ def questions_of_danger(probes, used, value):
 
 
 def known_as(probes, hosts):
-    return Known(f"`zeroconf` {hosts}-{probes}", kind=OTHER)
+    return Known("`zeroconf`", kind=OTHER)
 
 
 if __name__ == "__main__":
