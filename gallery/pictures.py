@@ -72,7 +72,7 @@ def draw_chain():
     draw_sides(picture, bounds(model, question, 6))
     pairs, rounds = plain(model, question)
     picture.curve("plain value iteration, until 10⁻⁶", pairs, "ink", "2 3")
-    picture.dot(*pairs[-1], f"stops at {pairs[-1][1]:.6f} after {rounds:,} rounds", below=True)
+    picture.dot(*pairs[-1], f"stops at {pairs[-1][1]:.6f} after {rounds:,} rounds", anchor="end")
     finish(picture, "chain")
 
 
