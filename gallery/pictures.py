@@ -97,13 +97,13 @@ def draw_coin():
 def draw_stall():
     model, question = stall.model(40), Question("Pmax=?", "won", coalition=("max",))
     title = "The game in which both players may stall, STAKE 40; the value is 0.5"
-    picture = Picture(title, logarithmic(WORK, 2, 7), quarters())
+    picture = Picture(title, logarithmic(WORK, 4, 7), quarters())
     draw_sides(picture, bounds(model, question, 5))
     lowered = [(work, upper) for work, _, upper in bounds(model, question, 5, ("--traps",))]
     picture.curve("upper bound with --traps, proved", lowered, "orange", "7 4")
-    pairs, rounds = plain(model, question)
+    pairs, _ = plain(model, question)
     picture.curve("plain value iteration, until 10⁻⁶", pairs, "ink", "2 3")
-    picture.dot(*pairs[-1], f"stops at {pairs[-1][1]:.6f} after {rounds:,} rounds", anchor="end", below=True)
+    picture.dot(*pairs[-1], f"stops at {pairs[-1][1]:.6f}", below=True)
     finish(picture, "stall")
 
 
