@@ -84,13 +84,13 @@ def draw_coin():
     model, question = coin.model(2, 8), Question("Pmin=?", "heads")
     exact = exact_values(model, question)[0]
     title = "The shared coin, 2 processes, RANGE 8"
-    picture = Picture(title, logarithmic(WORK, 3, 8), logarithmic("width, or distance from the value", -15, 0, 3))
+    picture = Picture(title, logarithmic(WORK, 5, 8), logarithmic("width, or distance from the value", -15, 0, 3))
     widths = [(work, max(upper - lower, LEAST_WIDTH)) for work, lower, upper in bounds(model, question, 5)]
     picture.curve("width of the proved bracket", widths, "blue")
     pairs, rounds = plain(model, question)
     distances = [(work, abs(Fraction(value) - exact)) for work, value in pairs]
     picture.curve("plain value iteration, its distance", distances, "ink", "2 3")
-    picture.dot(*distances[-1], f"stops after {rounds:,} rounds, {float(distances[-1][1]):.1e} away")
+    picture.dot(*distances[-1], f"stops after {rounds:,} rounds", anchor="end", below=True)
     finish(picture, "coin")
 
 
