@@ -93,7 +93,12 @@ impl Approach {
         if let Some(followed) = self.followed.get_mut(number) {
             *followed = true;
         }
-        let left = self.awaited.get(state).copied().unwrap_or(0).saturating_sub(1);
+        let left = self
+            .awaited
+            .get(state)
+            .copied()
+            .unwrap_or(0)
+            .saturating_sub(1);
         if let Some(awaited) = self.awaited.get_mut(state) {
             *awaited = left;
         }

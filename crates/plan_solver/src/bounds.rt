@@ -86,7 +86,15 @@ fn lower_table(
     let mut planned = vec![in alloc; 0u32; frame.question.game().states() as usize]?;
     for component in 0..frame.components.count() {
         if is_open_component(frame, component) {
-            lower_component(alloc, frame, component, toward, &mut table, &mut planned, replies)?;
+            lower_component(
+                alloc,
+                frame,
+                component,
+                toward,
+                &mut table,
+                &mut planned,
+                replies,
+            )?;
         }
     }
     Ok(table)
@@ -127,7 +135,14 @@ fn upper_turn(
     ensures table { length table.new ≡ length table.old }
     ensures replies { length replies.new ≡ length replies.old }
 {
-    let groups = end_components(alloc, frame.question, frame.sure, frame.zero, replies, order)?;
+    let groups = end_components(
+        alloc,
+        frame.question,
+        frame.sure,
+        frame.zero,
+        replies,
+        order,
+    )?;
     for component in 0..frame.components.count() {
         if is_open_component(frame, component) {
             upper_component(alloc, frame, component, &groups, start, table, replies)?;
@@ -141,7 +156,8 @@ fn is_open_component(frame: &Frame<'_, '_>, component: u32) -> bool
     requires { component + 1 < length frame.now.components.now.starts }
 {
     match frame.components.members(component).first().copied() {
-        Some(state) => state < frame.question.game().states() && is_open(frame.sure, frame.zero, state),
+        Some(state) => state < frame.question.game().states()
+            && is_open(frame.sure, frame.zero, state),
         None => false,
     }
 }

@@ -24,7 +24,9 @@ pub fn improve_replies(frame: &Frame<'_, '_>, upper: &UnitTable, replies: &mut [
         if frame.question.side(state) == Side::Min && is_open(frame.sure, frame.zero, state) {
             let own = nearest_u64_to_f64(upper.get(state));
             let best = best_reply(frame, upper, state);
-            if best.value < own - GAIN && replies.get(state as usize).copied() != Some(best.choice) {
+            if best.value < own - GAIN
+                && replies.get(state as usize).copied() != Some(best.choice)
+            {
                 note(replies, state, best.choice);
                 is_better = true;
             }

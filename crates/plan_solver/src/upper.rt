@@ -105,9 +105,7 @@ fn lead_of(groups: &Components, state: u32) -> u32
 
 /// What stands for a state in a list over the members of its component.
 fn node_of(frame: &Frame<'_, '_>, component: u32, list: &[u32], state: u32) -> u32 {
-    if state < frame.question.game().states()
-        && frame.components.component_of(state) == component
-    {
+    if state < frame.question.game().states() && frame.components.component_of(state) == component {
         let place = frame.components.place_of(state) as usize;
         list.get(place).copied().unwrap_or(0)
     } else {
@@ -157,7 +155,9 @@ fn local_game(
     let mut draft = Draft::new(alloc, members.len(), members.len(), members.len())?;
     for state in members {
         if lead_of(groups, *state) == *state {
-            add_group(frame, component, groups, nodes, upper, replies, *state, &mut draft)?;
+            add_group(
+                frame, component, groups, nodes, upper, replies, *state, &mut draft,
+            )?;
         }
     }
     Ok(draft.finish())

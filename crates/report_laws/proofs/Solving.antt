@@ -70,7 +70,7 @@ module _ (read_back : AreReadBack) (certificates : AreCertificates) (one : AreOn
     p,
     solved.plan,
     subst (λ (asked : Asked). Asks Unbounded (sources_of later asked) asked problem) (sym same)
-    (subst (λ (sources : Sources). Asks Unbounded sources solve.asked problem) (asks.posed.told ∙ sym alike) asks.posed.asks),
+        (subst (λ (sources : Sources). Asks Unbounded sources solve.asked problem) (asks.posed.told ∙ sym alike) asks.posed.asks),
     reached,
     record {
       text = text;
