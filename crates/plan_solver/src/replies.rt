@@ -47,6 +47,7 @@ fn best_reply(frame: &Frame<'_, '_>, upper: &UnitTable, state: u32) -> Reply
     requires state { state < states frame.now.question.now }
     requires upper { length upper.now ≡ states frame.now.question.now }
 {
+    frame.question.known();
     let mut best = Reply {
         choice: 0,
         value: value_of(frame, upper, state, 0),

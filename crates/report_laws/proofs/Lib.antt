@@ -1,4 +1,4 @@
-mod Saved
+mod Saving
 mod Solving
-pub mod Closing
-pub mod Horizons
+pub mod Closeness
+pub mod Plans

@@ -1,5 +1,5 @@
 -- What `solve` writes is no longer than a text may be that is read, and an audit of the same question accepts it.
-use Rattle.std.proofs.Common.{◌≡◌, ◌∙◌, ◌≤◌, ℕ, Bool, true, List, length, Option, Some, refl, sym, ap, subst}
+use Rattle.std.proofs.Common.{◌≡◌, ◌∙◌, ◌≤◌, ℕ, true, List, length, Option, Some, refl, sym, ap, subst}
 use Rattle.text_lines.specs.Limits.{most_bytes}
 use Rattle.game_outside.specs.Outside.{Holding}
 use Rattle.game_model.specs.Limits.{most_states}
@@ -20,7 +20,7 @@ use Rattle.run_answers.proofs.ShortSpellings.{spelling-short}
 use Rattle.question_reports.specs.Solved.{IsSolved}
 use Rattle.question_reports.proofs.ShortReports.{solved-text-short}
 use Rattle.question_reports.proofs.Accepting.{AreCertificates, solved-accepted}
-use Rattle.report_laws.proofs.Saved.{AreFew, AreSpellable, initial-few}
+use Rattle.report_laws.proofs.Saving.{AreFew, AreSpellable, initial-few}
 
 -- words that denote a `solve` denote no other command
 abbrev OneSolve : Solve → Command → Type 0

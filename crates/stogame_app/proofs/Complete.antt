@@ -8,7 +8,7 @@ use Rattle.plan_text.specs.declared.plan.Plan.{Plan}
 use Rattle.certificate_audit.specs.declared.fault.AuditFault.{AuditFault}
 use Rattle.certificate_audit.specs.Accepted.{IsAccepted}
 use Rattle.certificate_audit.specs.Refused.{IsRefused}
-use Rattle.command_words.specs.Words.{Asked, Solve, Command, OfCheck, OfAudit, OfSolve, OfMake, OfSure, AreCommand}
+use Rattle.command_words.specs.Words.{Asked, Command, OfCheck, OfAudit, OfSolve, OfMake, OfSure, AreCommand}
 use Rattle.run_refusals.specs.declared.refusal.Text.TheVariants.{Tra, Lab, Own, Cert, Values}
 use Rattle.run_refusals.specs.declared.refusal.Refusal.{Refusal}
 use Rattle.run_refusals.specs.declared.refusal.Refusal.TheVariants.{OfTra, OfLab, OfOwn, OfFormula, OfQuestion, WrongKind, OfCertificate, OfValues, TooLong}

@@ -1,6 +1,6 @@
 use Rattle.std.specs.Prelude.{slice_index}
 use Rattle.strategies.proofs.Stopping.{closes}
-use Rattle.report_laws.proofs.Closing.{printed-close}
+use Rattle.report_laws.proofs.Closeness.{printed-close}
 use Rattle.report_laws.proofs.closing.printed_brackets_close.Goals as goal
 
 pub returns : goal.returns

@@ -1,6 +1,6 @@
 use Rattle.std.specs.Prelude.{slice_index}
 use Rattle.strategies.proofs.Plans.{against-near, against-reached}
-use Rattle.report_laws.proofs.Horizons.{is-told}
+use Rattle.report_laws.proofs.Plans.{is-told}
 use Rattle.report_laws.proofs.horizons.sound_plans_bound_every_horizon.Goals as goal
 
 pub returns-clause-near : goal.returns-clause-near

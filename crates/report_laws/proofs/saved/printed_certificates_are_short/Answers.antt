@@ -1,4 +1,4 @@
-use Rattle.report_laws.proofs.Saved.{printed-short}
+use Rattle.report_laws.proofs.Saving.{printed-short}
 use Rattle.report_laws.proofs.saved.printed_certificates_are_short.Goals as goal
 
 pub returns : goal.returns

@@ -1,7 +1,7 @@
 use Rattle.std.proofs.Common.{length}
 use Rattle.run_answers.proofs.Passing.{AreReadBack}
 use Rattle.question_reports.proofs.Accepting.{AreCertificates}
-use Rattle.report_laws.proofs.Saved.{AreSpellable, saved-accepted}
+use Rattle.report_laws.proofs.Saving.{AreSpellable, saved-accepted}
 use Rattle.report_laws.proofs.saved.what_check_writes_is_accepted.Goals as goal
 
 pub returns : goal.returns

@@ -1,9 +1,9 @@
 -- Printed bounds are as near as the completed rounds make them.
-use Rattle.std.proofs.Common.{ℕ, ◌+◌, ◌*◌, ◌^◌, ◌<◌, ◌≤◌, List, arith}
+use Rattle.std.proofs.Common.{ℕ, ◌+◌, ◌*◌, ◌^◌, ◌≤◌, List, arith}
 use Rattle.std.specs.Prelude.{slice_index}
 use Rattle.std.proofs.Math.Nat.{mul-le-mul_right}
 use Rattle.game_model.specs.Limits.{unit}
-use Rattle.game_model.specs.Query.{Query, states}
+use Rattle.game_model.specs.Query.{Query}
 use Rattle.game_model.specs.Values.{denominator, numerator}
 use Rattle.game_model.specs.Dual.{open_numerator}
 use Rattle.game_model.specs.Rounded.{IsBelow}
