@@ -2,15 +2,15 @@
 
 ghost use Rattle.std.specs.Prelude.{◌<◌, IfOk};
 
-use command_words::{CheckWords, CommandWords, read_words};
+use command_words::{CheckWords, CommandWords, SolveWords, read_words};
 use expectations::same;
 use formula_sets::is_flat;
 use rpatl_syntax::{Formula, PathKind, read_formula};
 use run_rows::{
     AUDIT_OF_LOOP_OR_COIN, AUDIT_OF_TWO_PLAYERS, CHECK_OF_AGREEMENT, CHECK_OF_COIN_LOOP,
-    COIN_LOOP_OUT_OF_ORDER, COIN_LOOP_REPORT, Case, Command, DRAWN_GAME, MOST_OF_AGREEMENT,
-    MOST_OF_COIN_LOOP, MOST_OF_LOOP_OR_COIN, NO_COMMAND, OTHER_VERSION, PLAN_OF_LOOP_OR_COIN,
-    PLAN_OF_TWO_PLAYERS, Row, STATE_OUT_OF_RANGE,
+    COIN_LOOP_OUT_OF_ORDER, COIN_LOOP_REPORT, Case, Command, DRAWN_GAME, FIRST_OF_TWO_PLAYERS,
+    MOST_OF_AGREEMENT, MOST_OF_COIN_LOOP, MOST_OF_LOOP_OR_COIN, NO_COMMAND, OTHER_VERSION,
+    PLAN_OF_LOOP_OR_COIN, PLAN_OF_TWO_PLAYERS, Row, STATE_OUT_OF_RANGE,
 };
 use std::alloc::Global;
 use std::test::Fail;
@@ -18,7 +18,7 @@ use stogame_app::Status;
 
 /// Cases with the names of the texts that each begins where no call fails, a space behind each name. Of each kind of command
 /// there is one at least: `each_kind_of_command_has_a_case` fails where one is missing.
-pub const COMMANDS: [(Case<'static>, &str); 18] = [
+pub const COMMANDS: [(Case<'static>, &str); 22] = [
     (CHECK_OF_COIN_LOOP, "m.tra m.lab "),
     (COIN_LOOP_OUT_OF_ORDER, "m.tra m.tra m.lab "),
     (CHECK_OF_AGREEMENT, "m.tra m.lab m.own "),
@@ -33,6 +33,10 @@ pub const COMMANDS: [(Case<'static>, &str); 18] = [
     (AUDIT_OF_LOOP_OR_COIN, "m.tra m.lab c "),
     (AUDIT_OF_TWO_PLAYERS, "m.tra m.lab m.own c "),
     (OTHER_VERSION, "m.tra m.lab c "),
+    (SOLUTION_OF_COIN_LOOP, "m.tra m.lab "),
+    (SOLUTION_FROM_VALUES, "m.tra m.lab v "),
+    (VALUES_TOO_FEW, "m.tra m.lab v "),
+    (SOLVED_PLAN_OF_TWO_PLAYERS, "m.tra m.lab m.own v "),
     (SURE_OF_COIN_LOOP, "m.tra m.lab "),
     (SURE_OF_AGREEMENT, "m.tra m.lab m.own "),
     (DRAWN_GAME, ""),
@@ -84,6 +88,44 @@ const TRAPS_OF_LOOP_OR_COIN: Case<'static> = Case {
     status: Status::Fine,
 };
 
+// The coin loop, asked for the most by words that `solve` takes.
+const UNSOLVED: Row<'static> = Row {
+    numbers: &[],
+    ..MOST_OF_COIN_LOOP
+};
+
+const SOLUTION: &str = "state 0 lower 0.500000000000000 upper 0.500000000000000 solved Bracket\n";
+
+const SOLUTION_OF_COIN_LOOP: Case<'static> = Case {
+    command: Command::Solve(UNSOLVED, None),
+    text: SOLUTION,
+    status: Status::Fine,
+};
+
+const SOLUTION_FROM_VALUES: Case<'static> = Case {
+    command: Command::Solve(UNSOLVED, Some("0.3\n1\n0\n")),
+    text: SOLUTION,
+    status: Status::Fine,
+};
+
+const VALUES_TOO_FEW: Case<'static> = Case {
+    command: Command::Solve(UNSOLVED, Some("0.5\n1\n")),
+    text: "refused values line 0 LineCount\n",
+    status: Status::ModelRefused,
+};
+
+const SOLVED_PLAN_OF_TWO_PLAYERS: Case<'static> = Case {
+    command: Command::Solve(
+        Row {
+            numbers: &["--plan"],
+            ..FIRST_OF_TWO_PLAYERS
+        },
+        Some("2=1\n"),
+    ),
+    text: "state 0 lower 0.650000000000000 upper 0.650000000000000 solved True\nformula <<p1>> P>=3/5 [ F \"goal\" ]\ncertificate 2 4\n0 0.650000000000000 1 1 0.650000000000000 -\n1 0.200000000000000 - 1 0.200000000000000 1\n2 1.000000000000000 - 0 1.000000000000000 -\n3 0.000000000000000 - 0 0.000000000000000 -\n",
+    status: Status::Fine,
+};
+
 const SURE_OF_COIN_LOOP: Case<'static> = Case {
     command: Command::Sure(MOST_OF_COIN_LOOP),
     text: "sure 1 of 3\n1\n",
@@ -97,17 +139,36 @@ const SURE_OF_AGREEMENT: Case<'static> = Case {
 };
 
 /// How many kinds of commands there are.
-const KINDS: usize = 11;
+const KINDS: usize = 14;
 
 // The kind of a command. One that is added later does not compile until it is given a number here.
 fn kind_of(alloc: Global, command: &CommandWords<'_>) -> Result<usize, Fail>
-    ensures { IfOk result (λ kind. kind < 10) }
+    ensures { IfOk result (λ kind. kind < 13) }
 {
     match command {
         CommandWords::Check(check) => kind_of_check(alloc, check),
         CommandWords::Audit(_) => Ok(7),
-        CommandWords::Make(_) => Ok(8),
-        CommandWords::Sure(_) => Ok(9),
+        CommandWords::Solve(solve) => Ok(kind_of_solve(solve)),
+        CommandWords::Make(_) => Ok(11),
+        CommandWords::Sure(_) => Ok(12),
+    }
+}
+
+// The kind of a `solve`, by its options.
+fn kind_of_solve(solve: &SolveWords<'_>) -> usize
+    ensures { result < 11 }
+{
+    let SolveWords {
+        asked: _,
+        values,
+        plan,
+    } = *solve;
+    if plan {
+        return 8;
+    }
+    match values {
+        Some(_) => 9,
+        None => 10,
     }
 }
 
@@ -151,12 +212,12 @@ fn kind_of_formula(formula: &Formula) -> usize
 
 // The kind of what a case asks; words that denote no command are the last.
 fn kind_of_case(alloc: Global, case: &Case<'_>) -> Result<usize, Fail>
-    ensures { IfOk result (λ kind. kind < 11) }
+    ensures { IfOk result (λ kind. kind < 14) }
 {
     let words = case.command.words(alloc)?;
     match read_words(alloc, &words) {
         Ok(Some(command)) => kind_of(alloc, &command),
-        Ok(None) => Ok(10),
+        Ok(None) => Ok(13),
         Err(_) => Err(Fail::new("no memory")),
     }
 }

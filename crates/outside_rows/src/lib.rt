@@ -18,6 +18,8 @@ mod failing_calls;
 #[cfg(test)]
 mod hostile_files;
 #[cfg(test)]
+mod hostile_values;
+#[cfg(test)]
 mod late_workers;
 #[cfg(test)]
 mod long_texts;
