@@ -18,7 +18,7 @@ use stogame_app::Status;
 
 /// Cases with the names of the texts that each begins where no call fails, a space behind each name. Of each kind of command
 /// there is one at least: `each_kind_of_command_has_a_case` fails where one is missing.
-pub const COMMANDS: [(Case<'static>, &str); 18] = [
+pub const COMMANDS: [(Case<'static>, &str); 20] = [
     (CHECK_OF_COIN_LOOP, "m.tra m.lab "),
     (COIN_LOOP_OUT_OF_ORDER, "m.tra m.tra m.lab "),
     (CHECK_OF_AGREEMENT, "m.tra m.lab m.own "),
@@ -33,6 +33,8 @@ pub const COMMANDS: [(Case<'static>, &str); 18] = [
     (AUDIT_OF_LOOP_OR_COIN, "m.tra m.lab c "),
     (AUDIT_OF_TWO_PLAYERS, "m.tra m.lab m.own c "),
     (OTHER_VERSION, "m.tra m.lab c "),
+    (SOLUTION_OF_LOOP_OR_COIN, "m.tra m.lab v "),
+    (VALUES_TOO_FEW, "m.tra m.lab v "),
     (SURE_OF_COIN_LOOP, "m.tra m.lab "),
     (SURE_OF_AGREEMENT, "m.tra m.lab m.own "),
     (DRAWN_GAME, ""),
@@ -84,6 +86,18 @@ const TRAPS_OF_LOOP_OR_COIN: Case<'static> = Case {
     status: Status::Fine,
 };
 
+const SOLUTION_OF_LOOP_OR_COIN: Case<'static> = Case {
+    command: Command::Solve(MOST_OF_LOOP_OR_COIN, "0.5\n1\n0\n"),
+    text: "state 0 lower 0.500000000000000 upper 0.500000000000000 solved Bracket\n",
+    status: Status::Fine,
+};
+
+const VALUES_TOO_FEW: Case<'static> = Case {
+    command: Command::Solve(MOST_OF_LOOP_OR_COIN, "0.5\n1\n"),
+    text: "refused",
+    status: Status::ModelRefused,
+};
+
 const SURE_OF_COIN_LOOP: Case<'static> = Case {
     command: Command::Sure(MOST_OF_COIN_LOOP),
     text: "sure 1 of 3\n1\n",
@@ -97,17 +111,18 @@ const SURE_OF_AGREEMENT: Case<'static> = Case {
 };
 
 /// How many kinds of commands there are.
-const KINDS: usize = 11;
+const KINDS: usize = 12;
 
 // The kind of a command. One that is added later does not compile until it is given a number here.
 fn kind_of(alloc: Global, command: &CommandWords<'_>) -> Result<usize, Fail>
-    ensures { IfOk result (λ kind. kind < 10) }
+    ensures { IfOk result (λ kind. kind < 11) }
 {
     match command {
         CommandWords::Check(check) => kind_of_check(alloc, check),
         CommandWords::Audit(_) => Ok(7),
-        CommandWords::Make(_) => Ok(8),
-        CommandWords::Sure(_) => Ok(9),
+        CommandWords::Solve(_) => Ok(8),
+        CommandWords::Make(_) => Ok(9),
+        CommandWords::Sure(_) => Ok(10),
     }
 }
 
@@ -151,12 +166,12 @@ fn kind_of_formula(formula: &Formula) -> usize
 
 // The kind of what a case asks; words that denote no command are the last.
 fn kind_of_case(alloc: Global, case: &Case<'_>) -> Result<usize, Fail>
-    ensures { IfOk result (λ kind. kind < 11) }
+    ensures { IfOk result (λ kind. kind < 12) }
 {
     let words = case.command.words(alloc)?;
     match read_words(alloc, &words) {
         Ok(Some(command)) => kind_of(alloc, &command),
-        Ok(None) => Ok(10),
+        Ok(None) => Ok(11),
         Err(_) => Err(Fail::new("no memory")),
     }
 }

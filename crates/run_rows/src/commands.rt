@@ -4,7 +4,7 @@ ghost use Rattle.std.specs.Prelude.{◌<◌};
 
 use crate::audits::{CERTIFICATE, audit_words};
 use crate::checks::comes_to;
-use crate::rows::{Row, file, files, row_words, sure_words, words};
+use crate::rows::{Row, add_words, file, files, row_words, sure_words, words};
 use game_outside::{HeldFile, MemShelf, MemSink, OpenGate};
 use std::alloc::Global;
 use std::test::Fail;
@@ -14,12 +14,16 @@ use stogame_app::{Status, run};
 /// How many bytes the sink takes at once.
 pub const STEP: usize = 7;
 
-/// The check of a row, the audit of a certificate for its model and its formula, its almost-sure states, or words that name
-/// no file.
+// The name of the file of values.
+const VALUES: &str = "v";
+
+/// The check of a row, the audit of a certificate for its model and its formula, its solution from values to begin with, its
+/// almost-sure states, or words that name no file.
 #[derive(Clone, Copy)]
 pub enum Command<'a> {
     Check(Row<'a>),
     Audit(Row<'a>, &'a str),
+    Solve(Row<'a>, &'a str),
     Sure(Row<'a>),
     Words(&'a [&'a str]),
 }
@@ -30,6 +34,7 @@ impl<'a> Command<'a> {
         match self {
             Command::Check(row) => row_words(alloc, row),
             Command::Audit(row, _) => audit_words(alloc, row),
+            Command::Solve(row, _) => solve_words(alloc, row),
             Command::Sure(row) => sure_words(alloc, row),
             Command::Words(given) => words(alloc, given),
         }
@@ -39,14 +44,35 @@ impl<'a> Command<'a> {
     pub fn files(self, alloc: Global) -> Result<Vec<HeldFile>, Fail> {
         match self {
             Command::Check(row) | Command::Sure(row) => files(alloc, row),
-            Command::Audit(row, certificate) => {
-                let mut held = files(alloc, row)?;
-                held.push(file(alloc, CERTIFICATE, certificate)?)?;
-                Ok(held)
-            }
+            Command::Audit(row, certificate) => files_with(alloc, row, CERTIFICATE, certificate),
+            Command::Solve(row, values) => files_with(alloc, row, VALUES, values),
             Command::Words(_) => Ok(Vec::new(alloc)),
         }
     }
+}
+
+// The files of a row, and one more.
+fn files_with(
+    alloc: Global,
+    row: Row<'_>,
+    name: &str,
+    text: &str,
+) -> Result<Vec<HeldFile>, Fail> {
+    let mut held = files(alloc, row)?;
+    held.push(file(alloc, name, text)?)?;
+    Ok(held)
+}
+
+// The words that solve a row, from the file of values.
+fn solve_words(alloc: Global, row: Row<'_>) -> Result<Vec<String>, Fail> {
+    let mut owned = words(
+        alloc,
+        &["solve", "m.tra", "m.lab", row.formula, "--values", VALUES],
+    )?;
+    if row.own.is_some() {
+        add_words(alloc, &mut owned, &["--own", "m.own"])?;
+    }
+    Ok(owned)
 }
 
 /// A shelf with pieces of at most so many bytes, and the calls of the shelf and of the sink that fail.
