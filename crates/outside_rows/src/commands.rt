@@ -94,7 +94,7 @@ const SOLUTION_OF_LOOP_OR_COIN: Case<'static> = Case {
 
 const VALUES_TOO_FEW: Case<'static> = Case {
     command: Command::Solve(MOST_OF_LOOP_OR_COIN, "0.5\n1\n"),
-    text: "refused",
+    text: "refused values line 0 LineCount\n",
     status: Status::ModelRefused,
 };
 
