@@ -116,11 +116,11 @@ const RUNS: [(&str, u32); 13] = [
 ];
 
 // The last of so many workers passes the gate before each of its states as often as all states are updated, and none behind.
-fn all_pass<R: Threads + Sync>(
+fn all_pass<'a, R: Threads + Sync>(
     rt: &R,
     alloc: Global,
-    team: (&str, u32, u32),
-    run: (&str, u32),
+    team: (&'a str, u32, u32),
+    run: (&'a str, u32),
 ) -> Result<(), Fail> {
     let (asked, workers, states) = team;
     let (formula, times) = run;

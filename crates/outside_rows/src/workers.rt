@@ -104,11 +104,11 @@ fn coin_loop<'a>(numbers: &'a [&'a str]) -> Row<'a> {
 }
 
 // How often the gate is passed before each state of the coin loop, and how often by the worker of another.
-fn passes<R: Threads + Sync>(
+fn passes<'a, R: Threads + Sync>(
     rt: &R,
     alloc: Global,
-    formula: &str,
-    rounds: &str,
+    formula: &'a str,
+    rounds: &'a str,
 ) -> Result<([u32; 3], u32), Fail> {
     let gate = CountGate::new();
     let row = Row {

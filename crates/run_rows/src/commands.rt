@@ -52,12 +52,7 @@ impl<'a> Command<'a> {
 }
 
 // The files of a row, and one more.
-fn files_with(
-    alloc: Global,
-    row: Row<'_>,
-    name: &str,
-    text: &str,
-) -> Result<Vec<HeldFile>, Fail> {
+fn files_with(alloc: Global, row: Row<'_>, name: &str, text: &str) -> Result<Vec<HeldFile>, Fail> {
     let mut held = files(alloc, row)?;
     held.push(file(alloc, name, text)?)?;
     Ok(held)

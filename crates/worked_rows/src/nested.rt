@@ -131,11 +131,11 @@ fn names_inside_are_looked_up(rt: HostRuntime) -> Result<(), Fail> {
 }
 
 // How the coin loop ends with a formula and so many workers, and what it writes.
-fn nested_by<R: Threads + Sync, G: Gate + Sync>(
+fn nested_by<'a, R: Threads + Sync, G: Gate + Sync>(
     rt: &R,
     alloc: Global,
-    formula: &str,
-    workers: &str,
+    formula: &'a str,
+    workers: &'a str,
     gate: &G,
 ) -> Result<(Status, Vec<u8>), Fail> {
     let row = Row {
