@@ -93,6 +93,15 @@ const CHAIN: Row<'static> = Row {
     numbers: &[],
 };
 
+// The chain with a formula and these numbers.
+fn chain<'a>(formula: &'a str, numbers: &'a [&'a str]) -> Row<'a> {
+    Row {
+        formula,
+        numbers,
+        ..CHAIN
+    }
+}
+
 /// How many workers share the chain, and how many of its states the last of them has.
 const TEAMS: [(&str, u32, u32); 4] = [("1", 1, 15), ("3", 3, 5), ("5", 5, 3), ("8", 8, 1)];
 
@@ -125,12 +134,8 @@ fn all_pass<R: Threads + Sync>(
     let (asked, workers, states) = team;
     let (formula, times) = run;
     let gate = LastGate::before(workers);
-    let row = Row {
-        formula,
-        numbers: &["--rounds", "1", "--workers", asked],
-        ..CHAIN
-    };
-    let (ended, _written) = runs(rt, alloc, row, &gate)?;
+    let numbers = ["--rounds", "1", "--workers", asked];
+    let (ended, _written) = runs(rt, alloc, chain(formula, &numbers), &gate)?;
     same(
         format_args!("{asked} workers, {formula}"),
         (ended, gate.counts()),

@@ -103,6 +103,14 @@ fn coin_loop<'a>(numbers: &'a [&'a str]) -> Row<'a> {
     }
 }
 
+// The coin loop with another formula and these numbers.
+fn coin_loop_with<'a>(formula: &'a str, numbers: &'a [&'a str]) -> Row<'a> {
+    Row {
+        formula,
+        ..coin_loop(numbers)
+    }
+}
+
 // How often the gate is passed before each state of the coin loop, and how often by the worker of another.
 fn passes<R: Threads + Sync>(
     rt: &R,
@@ -111,11 +119,8 @@ fn passes<R: Threads + Sync>(
     rounds: &str,
 ) -> Result<([u32; 3], u32), Fail> {
     let gate = CountGate::new();
-    let row = Row {
-        formula,
-        numbers: &["--rounds", rounds, "--workers", "3"],
-        ..MOST_OF_COIN_LOOP
-    };
+    let numbers = ["--rounds", rounds, "--workers", "3"];
+    let row = coin_loop_with(formula, &numbers);
     let (_ended, _written) = runs(rt, alloc, row, &gate)?;
     Ok((gate.counts(), gate.strays()))
 }

@@ -130,6 +130,14 @@ fn names_inside_are_looked_up(rt: HostRuntime) -> Result<(), Fail> {
     Ok(())
 }
 
+// The coin loop with a formula and these numbers.
+fn coin_loop_with<'a>(formula: &'a str, numbers: &'a [&'a str]) -> Row<'a> {
+    Row {
+        numbers,
+        ..coin_loop(formula)
+    }
+}
+
 // How the coin loop ends with a formula and so many workers, and what it writes.
 fn nested_by<R: Threads + Sync, G: Gate + Sync>(
     rt: &R,
@@ -138,11 +146,8 @@ fn nested_by<R: Threads + Sync, G: Gate + Sync>(
     workers: &str,
     gate: &G,
 ) -> Result<(Status, Vec<u8>), Fail> {
-    let row = Row {
-        numbers: &["--workers", workers],
-        ..coin_loop(formula)
-    };
-    runs(rt, alloc, row, gate)
+    let numbers = ["--workers", workers];
+    runs(rt, alloc, coin_loop_with(formula, &numbers), gate)
 }
 
 #[test]
