@@ -36,6 +36,7 @@ pub fn improve_replies(frame: &Frame<'_, '_>, upper: &UnitTable, replies: &mut [
 }
 
 /// A choice and what it gives.
+#[derive(Clone, Copy)]
 struct Reply {
     choice: u32,
     value: f64,
