@@ -29,11 +29,11 @@ def run(*words):
     return Ended(ended.returncode, ended.stdout, ended.stderr)
 
 
-def by_check(*options):
-    """Certificates of `check`, which are behind its report."""
+def by_plan(command, *options):
+    """Certificates of a command, which are behind its report."""
 
     def made(question):
-        return run(program(), "check", *question, "--workers", "1", "--plan", *options)
+        return run(program(), command, *question, "--plan", *options)
 
     return made
 
@@ -43,7 +43,12 @@ def by_certify(question):
 
 
 # how a certificate may be made, by name: each of the words of a question gives a run whose output is a certificate file
-MAKERS = {"check": by_check(), "traps": by_check("--traps"), "certify": by_certify}
+MAKERS = {
+    "check": by_plan("check", "--workers", "1"),
+    "traps": by_plan("check", "--workers", "1", "--traps"),
+    "solve": by_plan("solve"),
+    "certify": by_certify,
+}
 
 
 def certificate_by(maker, question):
@@ -76,15 +81,20 @@ def asked_by_certify(question):
         return audited(question, name)
 
 
-def asked_by_traps(question):
-    """The lines of `check --traps`; of `check` where the formula takes no traps."""
-    ended = run(program(), "check", *question, "--traps")
-    return run(program(), "check", *question) if ended.output.endswith("WrongKind\n") else ended
+def asked_by(command, *options):
+    """The lines of a command; of `check` where it does not take the formula."""
+
+    def asked(question):
+        ended = run(program(), command, *question, *options)
+        return run(program(), "check", *question) if ended.output.endswith("WrongKind\n") else ended
+
+    return asked
 
 
 # how a question may be answered, by name: each gives a run whose output is a report
 ASKERS = {
     "check": lambda question: run(program(), "check", *question),
-    "traps": asked_by_traps,
+    "traps": asked_by("check", "--traps"),
+    "solve": asked_by("solve"),
     "certify": asked_by_certify,
 }
