@@ -7,6 +7,8 @@ mod brackets;
 #[cfg(test)]
 mod certificates;
 #[cfg(test)]
+mod closing;
+#[cfg(test)]
 mod guesses;
 #[cfg(test)]
 mod known;
