@@ -139,7 +139,7 @@ fn all_pass<R: Threads + Sync>(
     same(
         format_args!("{asked} workers, {formula}"),
         (ended, gate.counts()),
-        (Status::Fine, (states * times, 0)),
+        (Status::Fine, (states.wrapping_mul(times), 0)),
     )
 }
 
