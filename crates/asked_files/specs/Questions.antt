@@ -19,7 +19,8 @@ use Rattle.asked_files.specs.Asks.{GivenTextWith, Asks}
 
 -- 1. The problem.
 
--- there are texts, which are those that are held where this is told, that ask this problem with the words, of a command that takes such paths
+-- there are texts, which are those that are held where this is told, that ask this problem with the words, of a command
+-- that takes such paths
 pub record PosesIt (holding : Option Holding) (asked : Asked) (paths : Paths) (problem : Problem) : Type 0 where
   pub sources : Sources
   pub told : AreSources holding asked sources
@@ -43,12 +44,15 @@ pub record ReadsAs (holding : Option Holding) (asked : Asked) (said : Said Readi
   pub told : AreSources holding asked sources
   pub says : reading_said sources asked ≡ said
 
--- They say this reading. Its formula is the one that the words spell; the problem that it poses to a command is the one that is asked, and where it poses none, so is the refusal.
+-- They say this reading. Its formula is the one that the words spell; the problem that it poses to a command is the one
+-- that is asked, and where it poses none, so is the refusal.
 pub record Reads (holding : Option Holding) (asked : Asked) (reading : Reading) : Type 0 where
   pub said : ReadsAs holding asked (Denoted reading)
   pub spelled : Denotes asked.formula reading.formula
-  pub asks : (paths : Paths) (problem : Problem) → posed paths reading ≡ Denoted problem → PosesIt holding asked paths problem
-  pub refuses : (paths : Paths) (refusal : Refusal) → posed paths reading ≡ Refuses refusal → RefusesQuestion holding asked paths refusal
+  pub asks : (paths : Paths) (problem : Problem) → posed paths reading ≡ Denoted problem
+      → PosesIt holding asked paths problem
+  pub refuses : (paths : Paths) (refusal : Refusal) → posed paths reading ≡ Refuses refusal
+      → RefusesQuestion holding asked paths refusal
 
 -- 3. The certificate of an audit.
 
@@ -64,10 +68,12 @@ RefusesCertificate q source refusal = ⊥
 
 -- 4. Values to begin with.
 
--- where a file of values is named, there is a text, which is the one that is held where this is told, and it has no fault for so many states
+-- where a file of values is named, there is a text, which is the one that is held where this is told, and it has no
+-- fault for so many states
 abbrev pub GivesValues : Option Holding → Option (List ℕ) → ℕ → Type 0
 GivesValues holding None states = Unit {0}
-GivesValues holding (Some name) states = SourceWith holding name (λ source. GivenTextWith source (λ text. fault_of states text ≡ None))
+GivesValues holding (Some name) states =
+    SourceWith holding name (λ source. GivenTextWith source (λ text. fault_of states text ≡ None))
 
 -- why a text is refused as values of so many states: it is too long, or this is its first fault
 abbrev pub RefusesValuesText : ℕ → Option (List ℕ) → Refusal → Type 0
@@ -78,7 +84,8 @@ RefusesValuesText states source refusal = ⊥
 -- a file of values is named, and its text is refused for this
 abbrev pub RefusesValues : Option Holding → Option (List ℕ) → ℕ → Refusal → Type 0
 RefusesValues holding None states refusal = ⊥
-RefusesValues holding (Some name) states refusal = SourceWith holding name (λ source. RefusesValuesText states source refusal)
+RefusesValues holding (Some name) states refusal =
+    SourceWith holding name (λ source. RefusesValuesText states source refusal)
 
 -- a file of values is named, and where the holding is told, it lacks its text
 abbrev pub LacksValues : Option Holding → Option (List ℕ) → Type 0

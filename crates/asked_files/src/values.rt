@@ -16,7 +16,8 @@ use run_refusals::{Refusal, Text};
 use std::alloc::Global;
 use values_reader::{ValuesEnd, read_values};
 
-/// The values of a file, one for each of so many states, where a file is named. Where none is, nothing is asked of the shelf.
+/// The values of a file, one for each of so many states, where a file is named. Where none is, nothing is asked of the
+/// shelf.
 pub fn load_values<H: Shelf>(
     alloc: Global,
     shelf: &mut H,
@@ -24,13 +25,16 @@ pub fn load_values<H: Shelf>(
     states: u32,
 ) -> Result<Option<Vec<f64>>, End>
     requires { H.taken shelf.old ≤ most_bytes }
-    ensures accepted { IfOk result (λ read. GivesValues (H.held shelf.old) (option_map (λ file. file.now) name.entry) states) }
+    ensures accepted { IfOk result (λ read. GivesValues (H.held shelf.old)
+        (option_map (λ file. file.now) name.entry) states) }
     ensures named { IfOk result (λ read. is_some read ≡ is_some name.entry) }
     ensures sizes { IfOk result (λ read. IfSome read (λ values. length values.items ≡ states)) }
-    ensures refused { (refusal : Refusal) → result ≡ Err (End.Refused refusal) → RefusesValues (H.held shelf.old) (option_map (λ file. file.now) name.entry) states refusal }
+    ensures refused { (refusal : Refusal) → result ≡ Err (End.Refused refusal)
+        → RefusesValues (H.held shelf.old) (option_map (λ file. file.now) name.entry) states refusal }
     ensures unasked { name.entry ≡ None → shelf.new ≡ shelf.old }
     ensures shelf { LoadingLeaves H.held H.steady H.faults H.taken shelf.old shelf.new result }
-    ensures steadily { IsErrOf result End.ReadFault → H.steady shelf.old ≡ true → LacksValues (H.held shelf.old) (option_map (λ file. file.now) name.entry) }
+    ensures steadily { IsErrOf result End.ReadFault → H.steady shelf.old ≡ true
+        → LacksValues (H.held shelf.old) (option_map (λ file. file.now) name.entry) }
     ensures caused { RefusesCaused result }
 {
     match name {
@@ -51,9 +55,11 @@ fn load_values_file<H: Shelf>(
 ) -> Result<Vec<f64>, End>
     ensures accepted { IfOk result (λ values. GivesValues (H.held shelf.old) (Some name.now) states) }
     ensures sizes { IfOk result (λ values. length values.items ≡ states) }
-    ensures refused { (refusal : Refusal) → result ≡ Err (End.Refused refusal) → RefusesValues (H.held shelf.old) (Some name.now) states refusal }
+    ensures refused { (refusal : Refusal) → result ≡ Err (End.Refused refusal)
+        → RefusesValues (H.held shelf.old) (Some name.now) states refusal }
     ensures shelf { LoadingLeaves H.held H.steady H.faults H.taken shelf.old shelf.new result }
-    ensures steadily { IsErrOf result End.ReadFault → H.steady shelf.old ≡ true → LacksValues (H.held shelf.old) (Some name.now) }
+    ensures steadily { IsErrOf result End.ReadFault → H.steady shelf.old ≡ true
+        → LacksValues (H.held shelf.old) (Some name.now) }
     ensures caused { RefusesCaused result }
 {
     let bytes = load_text(alloc, shelf, Text::Values, name)?;
@@ -64,7 +70,8 @@ fn values_in(alloc: Global, bytes: &[u8], states: u32) -> Result<Vec<f64>, End>
     requires { length bytes.now ≤ most_bytes }
     ensures accepted { IfOk result (λ values. fault_of states bytes.now ≡ None) }
     ensures sizes { IfOk result (λ values. length values.items ≡ states) }
-    ensures refused { (refusal : Refusal) → result ≡ Err (End.Refused refusal) → (fault : ValuesFault) × (refusal ≡ Refusal.OfValues fault) × (fault_of states bytes.now ≡ Some fault) }
+    ensures refused { (refusal : Refusal) → result ≡ Err (End.Refused refusal)
+        → (fault : ValuesFault) × (refusal ≡ Refusal.OfValues fault) × (fault_of states bytes.now ≡ Some fault) }
     ensures read { IsErrOf result End.ReadFault → ⊥ }
     ensures caused { RefusesCaused result }
     ensures short { IsTooLong result → ⊥ }

@@ -2,7 +2,8 @@
 
 ghost use Rattle.std.specs.Prelude.{◌≡◌, ◌+◌, ◌*◌, ◌^◌, ◌<◌, ◌≤◌, length};
 
-/// The shape of a band: row `i` has the columns from `i - back` on, each at `column + back - i` in its row of `width` cells.
+/// The shape of a band: row `i` has the columns from `i - back` on, each at `column + back - i` in its row of `width`
+/// cells.
 #[derive(Clone, Copy)]
 pub struct Shape {
     pub rows: usize,
@@ -73,8 +74,8 @@ fn add_scaled(target: &mut [f64], source: &[f64], factor: f64)
     }
 }
 
-/// Takes all rows out, from the last to the first. What leaves each row, for rows before it or for good, is put in a list;
-/// behind the diagonal stands then by what factor a row was added to another.
+/// Takes all rows out, from the last to the first. What leaves each row, for rows before it or for good, is put in a
+/// list; behind the diagonal stands then by what factor a row was added to another.
 pub fn eliminate(shape: Shape, cells: &mut [f64], leaks: &mut [f64], outs: &mut [f64])
     requires cells { length cells.old ≡ shape.rows * shape.width }
     requires leaks { length leaks.old ≡ shape.rows }

@@ -1,4 +1,5 @@
-//! Measured widths of brackets, beside what is proved of them: where plays come to an end they close as fast as they promise.
+//! Measured widths of brackets, beside what is proved of them: where plays come to an end they close as fast as they
+//! promise.
 
 use crate::brackets::value_bracket;
 use expectations::same;

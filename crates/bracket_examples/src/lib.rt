@@ -1,5 +1,5 @@
-//! Tests of brackets and of what is made of them, beside their clauses, over random and structured games: of thresholds,
-//! guesses and certificates.
+//! Tests of brackets and of what is made of them, beside their clauses, over random and structured games: of
+//! thresholds, guesses and certificates.
 #![tactic(auto)]
 
 #[cfg(test)]

@@ -28,7 +28,8 @@ pub record IsAccepted (q : Query) (text : List ℕ) (plan : Plan) : Type 0 where
   pub read : IsSaid q text plan
   pub passes : Passes q plan
 
--- what a plan vouches for: its upper table is above every k-step value, its replies hold every strategy of the maximiser to it, and its choices reach its lower table, less any 1/m, against every strategy of the minimiser
+-- what a plan vouches for: its upper table is above every k-step value, its replies hold every strategy of the
+-- maximiser to it, and its choices reach its lower table, less any 1/m, against every strategy of the minimiser
 pub record IsSoundPlan (q : Query) (plan : Plan) : Type 0 where
   pub high : IsHigh q (slice_index plan.upper.items)
   pub held : HoldsAgainstAll q plan.replies.items (slice_index plan.upper.items)

@@ -140,8 +140,10 @@ pub record SayMake (value : Text → Option Text) (make : Make) : Type 0 where
 
 -- What words denote.
 
--- the words behind `check` denote this: `clap` has no fault to find in them, and the values that it gives them say it. So
--- options may stand anywhere, each once at most, with the value in the next word or behind `=`; behind `--` no word is an
+-- the words behind `check` denote this: `clap` has no fault to find in them, and the values that it gives them say it.
+-- So
+-- options may stand anywhere, each once at most, with the value in the next word or behind `=`; behind `--` no word is
+-- an
 -- option; three words are left; and each number is one of 32 bits, in its range
 pub record AreCheckWords (words : List Text) (check : Check) : Type 0 where
   pub taken : fault_of check_app words ≡ []
@@ -197,16 +199,31 @@ AreNoCommand words = (command : Command) → AreCommand words command → ⊥
 -- What contracts see of words that were read.
 
 abbrev pub asked_of_words : AskedWords → Asked
-asked_of_words words = record { tra = words.tra.now; lab = words.lab.now; formula = words.formula.now; own = option_map (λ file. file.now) words.own }
+asked_of_words words = record {
+  tra = words.tra.now;
+  lab = words.lab.now;
+  formula = words.formula.now;
+  own = option_map (λ file. file.now) words.own;
+}
 
 abbrev pub check_of : CheckWords → Check
-check_of words = record { asked = asked_of_words words.asked; rounds = words.rounds; workers = words.workers; plan = words.plan; traps = words.traps }
+check_of words = record {
+  asked = asked_of_words words.asked;
+  rounds = words.rounds;
+  workers = words.workers;
+  plan = words.plan;
+  traps = words.traps;
+}
 
 abbrev pub audit_of : AuditWords → Audit
 audit_of words = record { asked = asked_of_words words.asked; certificate = words.certificate.now }
 
 abbrev pub solve_of : SolveWords → Solve
-solve_of words = record { asked = asked_of_words words.asked; values = option_map (λ file. file.now) words.values; plan = words.plan }
+solve_of words = record {
+  asked = asked_of_words words.asked;
+  values = option_map (λ file. file.now) words.values;
+  plan = words.plan;
+}
 
 abbrev pub make_of : MakeWords → Make
 make_of words = record { seed = words.seed; states = words.states; rounds = words.rounds; workers = words.workers }

@@ -91,7 +91,8 @@ pub enum CommandWords<'a> {
 
 /// The command that the words denote, or none where they denote no command. The only error is want of memory.
 pub fn read_words(alloc: Global, words: &[String]) -> Result<Option<CommandWords<'_>>, OutOfMemory>
-    ensures { IfOk result (λ read. MatchOption read (AreNoCommand (map string_bytes words.now)) (λ command. AreCommand (map string_bytes words.now) (command_of command))) }
+    ensures { IfOk result (λ read. MatchOption read (AreNoCommand (map string_bytes words.now))
+        (λ command. AreCommand (map string_bytes words.now) (command_of command))) }
 {
     match words {
         [name, rest @ ..] => read_command(alloc, name.as_str(), rest),
@@ -105,7 +106,8 @@ fn read_command<'a>(
     name: &str,
     words: &'a [String],
 ) -> Result<Option<CommandWords<'a>>, OutOfMemory>
-    ensures { IfOk result (λ read. MatchOption read (AreNoCommand (name.now ∷ map string_bytes words.entry.now)) (λ command. AreCommand (name.now ∷ map string_bytes words.entry.now) (command_of command))) }
+    ensures { IfOk result (λ read. MatchOption read (AreNoCommand (name.now ∷ map string_bytes words.entry.now))
+        (λ command. AreCommand (name.now ∷ map string_bytes words.entry.now) (command_of command))) }
 {
     match name {
         "check" => Ok(read_check(alloc, words)?.map(CommandWords::Check)),
@@ -122,7 +124,8 @@ fn read_command<'a>(
 
 // What the words behind `check` say, or none where they denote no command.
 fn read_check(alloc: Global, words: &[String]) -> Result<Option<CheckWords<'_>>, OutOfMemory>
-    ensures { IfOk result (λ read. MatchOption read ((check : Check) → AreCheckWords (map string_bytes words.now) check → ⊥) (λ check. AreCheckWords (map string_bytes words.now) (check_of check))) }
+    ensures { IfOk result (λ read. MatchOption read ((check : Check) → AreCheckWords (map string_bytes words.now) check
+        → ⊥) (λ check. AreCheckWords (map string_bytes words.now) (check_of check))) }
 {
     match taken(check_command(alloc)?, words)? {
         Some(matches) => Ok(check_words(&matches)),
@@ -132,7 +135,8 @@ fn read_check(alloc: Global, words: &[String]) -> Result<Option<CheckWords<'_>>,
 
 // What the words behind `audit` say, or none where they denote no command.
 fn read_audit(alloc: Global, words: &[String]) -> Result<Option<AuditWords<'_>>, OutOfMemory>
-    ensures { IfOk result (λ read. MatchOption read ((audit : Audit) → AreAuditWords (map string_bytes words.now) audit → ⊥) (λ audit. AreAuditWords (map string_bytes words.now) (audit_of audit))) }
+    ensures { IfOk result (λ read. MatchOption read ((audit : Audit) → AreAuditWords (map string_bytes words.now) audit
+        → ⊥) (λ audit. AreAuditWords (map string_bytes words.now) (audit_of audit))) }
 {
     match taken(audit_command(alloc)?, words)? {
         Some(matches) => Ok(audit_words(&matches)),
@@ -142,7 +146,8 @@ fn read_audit(alloc: Global, words: &[String]) -> Result<Option<AuditWords<'_>>,
 
 // What the words behind `solve` say, or none where they denote no command.
 fn read_solve(alloc: Global, words: &[String]) -> Result<Option<SolveWords<'_>>, OutOfMemory>
-    ensures { IfOk result (λ read. MatchOption read ((solve : Solve) → AreSolveWords (map string_bytes words.now) solve → ⊥) (λ solve. AreSolveWords (map string_bytes words.now) (solve_of solve))) }
+    ensures { IfOk result (λ read. MatchOption read ((solve : Solve) → AreSolveWords (map string_bytes words.now) solve
+        → ⊥) (λ solve. AreSolveWords (map string_bytes words.now) (solve_of solve))) }
 {
     match taken(solve_command(alloc)?, words)? {
         Some(matches) => Ok(solve_words(&matches)),
@@ -152,7 +157,8 @@ fn read_solve(alloc: Global, words: &[String]) -> Result<Option<SolveWords<'_>>,
 
 // What the words behind `sure` say, or none where they denote no command.
 fn read_sure(alloc: Global, words: &[String]) -> Result<Option<AskedWords<'_>>, OutOfMemory>
-    ensures { IfOk result (λ read. MatchOption read ((asked : Asked) → AreSureWords (map string_bytes words.now) asked → ⊥) (λ asked. AreSureWords (map string_bytes words.now) (asked_of_words asked))) }
+    ensures { IfOk result (λ read. MatchOption read ((asked : Asked) → AreSureWords (map string_bytes words.now) asked
+        → ⊥) (λ asked. AreSureWords (map string_bytes words.now) (asked_of_words asked))) }
 {
     match taken(sure_command(alloc)?, words)? {
         Some(matches) => Ok(asked_words(&matches)),
@@ -162,7 +168,8 @@ fn read_sure(alloc: Global, words: &[String]) -> Result<Option<AskedWords<'_>>, 
 
 // What the words behind `make` say, or none where they denote no command.
 fn read_make(alloc: Global, words: &[String]) -> Result<Option<MakeWords>, OutOfMemory>
-    ensures { IfOk result (λ read. MatchOption read ((make : Make) → AreMakeWords (map string_bytes words.now) make → ⊥) (λ make. AreMakeWords (map string_bytes words.now) (make_of make))) }
+    ensures { IfOk result (λ read. MatchOption read ((make : Make) → AreMakeWords (map string_bytes words.now) make → ⊥)
+        (λ make. AreMakeWords (map string_bytes words.now) (make_of make))) }
 {
     match taken(make_command(alloc)?, words)? {
         Some(matches) => Ok(make_words(&matches)),
@@ -176,7 +183,8 @@ fn taken<'a>(
     words: &'a [String],
 ) -> Result<Option<ArgMatches<'a>>, OutOfMemory>
     requires { is_simple_and_free (app_of command) ≡ true }
-    ensures { IfOk result (λ found. MatchOption found (fault_of (app_of command.entry) (map string_bytes words.entry.now) ≡ [] → ⊥) (FindsIn command.entry (map string_bytes words.entry.now))) }
+    ensures { IfOk result (λ found. MatchOption found (fault_of (app_of command.entry)
+        (map string_bytes words.entry.now) ≡ [] → ⊥) (FindsIn command.entry (map string_bytes words.entry.now))) }
 {
     match command.try_get_matches_from(words) {
         Ok(matches) => Ok(Some(matches)),

@@ -17,11 +17,14 @@ three_turns =
     ∷ in_ways 16 (0 ∷ 1 ∷ 1 ∷ 1 ∷ [])
     ∷ in_ways 16 (0 ∷ 2 ∷ 2 ∷ 2 ∷ []) ∷ []
 
--- the plays of three turns of give and take, where the maximiser alternates and the minimiser answers, of 4 * 4 * 4 ways
+-- the plays of three turns of give and take, where the maximiser alternates and the minimiser answers, of 4 * 4 * 4
+-- ways
 abbrev pub three_answered : List Play
-three_answered = in_ways 16 (0 ∷ 1 ∷ 0 ∷ 1 ∷ []) ∷ in_ways 16 (0 ∷ 1 ∷ 0 ∷ 2 ∷ []) ∷ in_ways 32 (0 ∷ 1 ∷ 3 ∷ 2 ∷ []) ∷ []
+three_answered = in_ways 16 (0 ∷ 1 ∷ 0 ∷ 1 ∷ []) ∷ in_ways 16 (0 ∷ 1 ∷ 0 ∷ 2 ∷ []) ∷ in_ways 32 (0 ∷ 1 ∷ 3 ∷ 2 ∷ [])
+    ∷ []
 
--- the plays of one turn of give and take, where the maximiser throws a die of two faces, of 2 * 4 ways: a play is listed once for each throw
+-- the plays of one turn of give and take, where the maximiser throws a die of two faces, of 2 * 4 ways: a play is
+-- listed once for each throw
 abbrev pub one_throw : List Play
 one_throw = in_ways 2 (0 ∷ 1 ∷ []) ∷ in_ways 2 (0 ∷ 2 ∷ []) ∷ in_ways 4 (0 ∷ 1 ∷ []) ∷ []
 

@@ -14,17 +14,21 @@ parts_to weight to = record { to = to; weight = weight }
 abbrev pub surely : ℕ → Distribution
 surely to = distribution_of (parts_to 1 to ∷ [])
 
--- The coin loop of examples/coin_loop.tra: state 0 stays half the time, a quarter of the time it is won at state 1, and a quarter lost at state 2. Nobody has a choice.
+-- The coin loop of examples/coin_loop.tra: state 0 stays half the time, a quarter of the time it is won at state 1, and
+-- a quarter lost at state 2. Nobody has a choice.
 abbrev pub coin_loop : Query
 coin_loop = record {
-  game = (distribution_of (parts_to 2 0 ∷ parts_to 1 1 ∷ parts_to 1 2 ∷ []) ∷ []) ∷ (surely 1 ∷ []) ∷ (surely 2 ∷ []) ∷ [];
+  game = (distribution_of (parts_to 2 0 ∷ parts_to 1 1 ∷ parts_to 1 2 ∷ []) ∷ []) ∷ (surely 1 ∷ []) ∷ (surely 2 ∷ [])
+      ∷ [];
   sides = Max ∷ Max ∷ Max ∷ [];
   goals = false ∷ true ∷ false ∷ [];
   deads = false ∷ false ∷ false ∷ [];
 }
 
--- Each player has a state. At state 0 the maximiser is bold (choice 0): half the time it is won at state 2, else the minimiser is to move at state 1; or careful (choice 1): the minimiser is to move.
--- At state 1 the minimiser is mild (choice 0): the maximiser is to move; or harsh (choice 1): half the time so, else it is lost at state 3, which is dead though it leads to state 2.
+-- Each player has a state. At state 0 the maximiser is bold (choice 0): half the time it is won at state 2, else the
+-- minimiser is to move at state 1; or careful (choice 1): the minimiser is to move.
+-- At state 1 the minimiser is mild (choice 0): the maximiser is to move; or harsh (choice 1): half the time so, else it
+-- is lost at state 3, which is dead though it leads to state 2.
 abbrev pub give_and_take : Query
 give_and_take = record {
   game = (distribution_of (parts_to 1 1 ∷ parts_to 1 2 ∷ []) ∷ surely 1 ∷ [])
@@ -35,7 +39,8 @@ give_and_take = record {
   deads = false ∷ false ∷ false ∷ true ∷ [];
 }
 
--- At state 0 the maximiser may stay for ever (choice 0), or try its luck (choice 1): half the time it is won at state 1, else it is at state 0 again. So state 0 with its first choice is an end component.
+-- At state 0 the maximiser may stay for ever (choice 0), or try its luck (choice 1): half the time it is won at state
+-- 1, else it is at state 0 again. So state 0 with its first choice is an end component.
 abbrev pub lingering : Query
 lingering = record {
   game = (surely 0 ∷ distribution_of (parts_to 1 0 ∷ parts_to 1 1 ∷ []) ∷ []) ∷ (surely 1 ∷ []) ∷ [];

@@ -1,4 +1,5 @@
--- Strategies, most of them for the game of give and take, where the players move by turns. The last turn stands first in the past: behind it is the one before.
+-- Strategies, most of them for the game of give and take, where the players move by turns. The last turn stands first
+-- in the past: behind it is the one before.
 use Rattle.std.specs.Prelude.{zero, suc, ◌-◌, [], ◌∷◌, min}
 use Rattle.strategies.specs.Strategies.{Strategy}
 
@@ -22,7 +23,8 @@ abbrev pub answering : Strategy
 answering [] s throw = 0
 answering (turn ∷ past) s throw = min turn.choice 1
 
--- with memory and a die: at the first turn of the play the maximiser is bold where the die shows 0, else careful; later it is bold
+-- with memory and a die: at the first turn of the play the maximiser is bold where the die shows 0, else careful; later
+-- it is bold
 abbrev pub tossing : Strategy
 tossing (turn ∷ past) s throw = 0
 tossing [] (suc s) throw = 0

@@ -19,7 +19,8 @@ pub fn games_are_questions()
     ensures lingering { IsQuery lingering }
 {}
 
-/// Three turns of the coin loop go in 64 ways, of which 28 are won: 7/16, as `reach` says. The other 36 are lost, as `avoid` says.
+/// Three turns of the coin loop go in 64 ways, of which 28 are won: 7/16, as `reach` says. The other 36 are lost, as
+/// `avoid` says.
 #[tactic(auto, unfolding(strategies::specs::Strategies::reach, strategies::specs::Plays::plays))]
 pub fn three_turns_are_counted()
     ensures all { plays coin_loop 1 first_choice first_choice 3 [] 0 ≡ three_turns }
@@ -30,8 +31,8 @@ pub fn three_turns_are_counted()
     ensures avoided { avoid coin_loop 1 first_choice first_choice 3 0 ≡ 36 }
 {}
 
-/// One turn of the coin loop goes in 4 ways, of which 2 stay at state 0 and 1 comes to state 1; and that 1 is what both sides
-/// can be sure of.
+/// One turn of the coin loop goes in 4 ways, of which 2 stay at state 0 and 1 comes to state 1; and that 1 is what both
+/// sides can be sure of.
 #[tactic(auto, unfolding(strategies::specs::Plays::plays))]
 pub fn the_next_state_is_counted()
     ensures stays { ways_next coin_loop (only 0) 1 first_choice first_choice 0 ≡ 2 }
@@ -39,7 +40,8 @@ pub fn the_next_state_is_counted()
     ensures sure { (parts : ℕ → ℕ) → AreBestNext coin_loop (only 1) parts → parts 0 ≡ 1 }
 {}
 
-/// Each turn of the coin loop ends the play with the probability 1/2, so 8 of the 64 ways of three turns are undecided, and 56 are over.
+/// Each turn of the coin loop ends the play with the probability 1/2, so 8 of the 64 ways of three turns are undecided,
+/// and 56 are over.
 #[tactic(auto, unfolding(strategies::specs::Strategies::reach, strategies::specs::Stopping::undecided))]
 pub fn the_coin_loop_stops()
     ensures undecided { undecided coin_loop coin_lost 3 0 ≡ 8 }

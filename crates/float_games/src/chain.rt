@@ -113,8 +113,8 @@ impl<'g> Chain<'g> {
         }
     }
 
-    /// One pass in place: each value becomes the node's sum, plus the values of its successors by their shares. Gives the
-    /// greatest change.
+    /// One pass in place: each value becomes the node's sum, plus the values of its successors by their shares. Gives
+    /// the greatest change.
     pub fn pass(&self, sums: &[f64], values: &mut [f64]) -> f64
         requires sums { length sums.now ≡ nodes_in self.now }
         requires values { length values.old ≡ nodes_in self.now }
@@ -139,8 +139,8 @@ impl<'g> Chain<'g> {
         change
     }
 
-    /// What each value misses: what its node gives and its successors have more, by their shares, less what the value has
-    /// where the node leaves. From differences it is nearly exact.
+    /// What each value misses: what its node gives and its successors have more, by their shares, less what the value
+    /// has where the node leaves. From differences it is nearly exact.
     pub fn residuals(&self, alloc: Global, values: &[f64]) -> Result<Vec<f64>, OutOfMemory>
         requires { length values.now ≡ nodes_in self.now }
         ensures { IfOk result (λ list. vec_len list ≡ nodes_in self.now) }

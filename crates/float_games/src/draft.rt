@@ -6,11 +6,11 @@ use crate::game::{FloatGame, Lists, NO_MARK};
 use game_outside::OutOfMemory;
 use std::alloc::Global;
 
-/// A game under way: the nodes that have ended, the choices so far of the next one, and what the next choice has so far:
-/// the sum of its weights, of those that leave, and of these times their values.
+/// A game under way: the nodes that have ended, the choices so far of the next one, and what the next choice has so
+/// far: the sum of its weights, of those that leave, and of these times their values.
 ///
-/// The edges of a choice come first, and then its end; the choices of a node, and then its end. What leads back to its own
-/// node is left out: the rest is scaled up.
+/// The edges of a choice come first, and then its end; the choices of a node, and then its end. What leads back to its
+/// own node is left out: the rest is scaled up.
 #[derive(Drop)]
 pub struct Draft {
     lists: Lists,
@@ -21,8 +21,8 @@ pub struct Draft {
 }
 
 impl Draft {
-    /// Nothing so far, with room for so many nodes, choices and edges. The only error of this and the other calls is want of
-    /// memory; more than 2^32 - 1 choices or edges count as that.
+    /// Nothing so far, with room for so many nodes, choices and edges. The only error of this and the other calls is
+    /// want of memory; more than 2^32 - 1 choices or edges count as that.
     pub fn new(
         alloc: Global,
         nodes: usize,
@@ -74,8 +74,9 @@ impl Draft {
         self.given += weight * value;
     }
 
-    /// Ends the choice under way: weights become shares. By its mark who made the game knows it again, as by its place among
-    /// the choices of its state. One that leads nowhere but to its own node is left out; the answer is whether it is in.
+    /// Ends the choice under way: weights become shares. By its mark who made the game knows it again, as by its place
+    /// among the choices of its state. One that leads nowhere but to its own node is left out; the answer is whether it
+    /// is in.
     pub fn end_choice(&mut self, mark: u32) -> Result<bool, OutOfMemory> {
         let total = self.total;
         let is_in = 0.0 < total;
@@ -98,8 +99,8 @@ impl Draft {
         Ok(is_in)
     }
 
-    /// Ends the node under way, which this side owns. One without a choice gets one that leaves with the value 0 and has no
-    /// mark.
+    /// Ends the node under way, which this side owns. One without a choice gets one that leaves with the value 0 and
+    /// has no mark.
     pub fn end_node(&mut self, maximises: bool) -> Result<(), OutOfMemory> {
         if self.lists.choice_starts.last().copied() == Some(number_of(self.choices())?) {
             self.add_exit(1.0, 0.0);

@@ -5,10 +5,10 @@ ghost use Rattle.std.specs.Prelude.{◌≡◌, ◌+◌, ◌^◌, ◌<◌, ◌≤
 use game_outside::OutOfMemory;
 use std::alloc::Global;
 
-/// A game of nodes, choices and edges, in flat lists: the choices of a node are those from its entry in `choice_starts` up
-/// to the next one, and the edges of a choice those from its entry in `edge_starts` up to the next one. A choice gives so
-/// many units where it leaves, and leaves with this share of probability; its edges have the rest. Its mark says whose choice it
-/// is.
+/// A game of nodes, choices and edges, in flat lists: the choices of a node are those from its entry in `choice_starts`
+/// up to the next one, and the edges of a choice those from its entry in `edge_starts` up to the next one. A choice
+/// gives so many units where it leaves, and leaves with this share of probability; its edges have the rest. Its mark
+/// says whose choice it is.
 #[derive(Drop)]
 pub struct FloatGame {
     pub(crate) choice_starts: Vec<u32>,

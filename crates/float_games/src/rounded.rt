@@ -44,9 +44,9 @@ pub fn ceil_of(x: f64) -> f64 {
 impl FloatGame {
     ghost use Rattle.float_games.specs.Nodes.{nodes_of};
 
-    /// One sweep in place over whole units: each entry that is on the wrong side of what a choice gives moves there, a lower
-    /// one down and an upper one up, over the policy's choice at nodes of the side that plays it, and over each choice of
-    /// the other side.
+    /// One sweep in place over whole units: each entry that is on the wrong side of what a choice gives moves there, a
+    /// lower one down and an upper one up, over the policy's choice at nodes of the side that plays it, and over each
+    /// choice of the other side.
     pub fn sweep_rounded(&self, bound: Bound, values: &mut [f64], policy: &[u32]) -> Rounded
         requires values { length values.old ≡ nodes_of self.now }
         requires policy { length policy.now ≡ nodes_of self.now }

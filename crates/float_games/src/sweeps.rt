@@ -35,8 +35,8 @@ pub fn bounded(value: f64) -> f64 {
 impl FloatGame {
     ghost use Rattle.float_games.specs.Nodes.{nodes_of};
 
-    /// One sweep in place over all nodes: each gets the value of its best choice, plus a cost. The choice of the policy is
-    /// exchanged only for one that gains more than this; else the value is that of the policy's choice. Gives what
+    /// One sweep in place over all nodes: each gets the value of its best choice, plus a cost. The choice of the policy
+    /// is exchanged only for one that gains more than this; else the value is that of the policy's choice. Gives what
     /// it did.
     pub fn sweep(&self, cost: f64, gain: f64, values: &mut [f64], policy: &mut [u32]) -> Swept
         requires values { length values.old ≡ nodes_of self.now }
@@ -88,8 +88,8 @@ impl FloatGame {
         Swept { change, exchanged }
     }
 
-    /// One sweep in place under a policy: each node gets the value of its choice, plus a cost. Where both sides own nodes,
-    /// the minimiser's choices stay open, so that values from below stay below. Gives the greatest change.
+    /// One sweep in place under a policy: each node gets the value of its choice, plus a cost. Where both sides own
+    /// nodes, the minimiser's choices stay open, so that values from below stay below. Gives the greatest change.
     pub fn sweep_policy(&self, cost: f64, values: &mut [f64], policy: &[u32]) -> f64
         requires values { length values.old ≡ nodes_of self.now }
         requires policy { length policy.now ≡ nodes_of self.now }

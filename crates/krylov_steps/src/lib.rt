@@ -2,8 +2,8 @@
 //! variant of Bi-CG for the solution of nonsymmetric linear systems, 1992), for chains whose band is too wide for an
 //! elimination.
 //!
-//! [`approach`] brings values nearer to those of a chain. What it solves is that a pass in place (Gauss and Seidel) changes
-//! nothing: so a pass is the preconditioner, and a step takes two of them.
+//! [`approach`] brings values nearer to those of a chain. What it solves is that a pass in place (Gauss and Seidel)
+//! changes nothing: so a pass is the preconditioner, and a step takes two of them.
 //!
 //! Nothing is promised of values. Where the steps go astray, the values stay as they were, or become the best that were
 //! seen.

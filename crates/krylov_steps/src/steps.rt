@@ -15,9 +15,9 @@ const LOOK: u32 = 20;
 /// How much more than at first a pass may change before the steps count as astray.
 const ASTRAY: f64 = 1_000_000.0;
 
-/// Brings values nearer to those of a chain, by at most so many steps, until a pass changes none by more than is enough:
-/// each value is then about the sum of its node, plus the values of its successors by their shares. Gives what a pass
-/// still changes. The only error is want of memory.
+/// Brings values nearer to those of a chain, by at most so many steps, until a pass changes none by more than is
+/// enough: each value is then about the sum of its node, plus the values of its successors by their shares. Gives what
+/// a pass still changes. The only error is want of memory.
 pub fn approach(
     alloc: Global,
     chain: &Chain,

@@ -8,8 +8,9 @@ use float_games::Chain;
 use game_outside::OutOfMemory;
 use std::alloc::Global;
 
-/// What the steps keep, in the words of the method: what a pass would still change (the residual), the shadow of the first
-/// one, the direction at hand, what a pass takes from the direction and from the residual, and what was found so far.
+/// What the steps keep, in the words of the method: what a pass would still change (the residual), the shadow of the
+/// first one, the direction at hand, what a pass takes from the direction and from the residual, and what was found so
+/// far.
 #[derive(Drop)]
 pub struct Work {
     nodes: usize,

@@ -50,8 +50,8 @@ pub fn evaluate(
     Ok(left)
 }
 
-/// Adds to values of a policy what they miss, where an elimination takes little. What they miss is found from differences,
-/// which are nearly exact. The only error is want of memory.
+/// Adds to values of a policy what they miss, where an elimination takes little. What they miss is found from
+/// differences, which are nearly exact. The only error is want of memory.
 pub fn refine(
     alloc: Global,
     game: &FloatGame,
@@ -75,8 +75,8 @@ pub fn refine(
     Ok(())
 }
 
-/// For each node how many moves a policy is expected to make before it leaves, or nothing where this is not found. Ten per
-/// cent off is near enough. The only error is want of memory.
+/// For each node how many moves a policy is expected to make before it leaves, or nothing where this is not found. Ten
+/// per cent off is near enough. The only error is want of memory.
 pub fn expected_moves(
     alloc: Global,
     game: &FloatGame,

@@ -19,9 +19,9 @@ const SWEEPS: u32 = 8;
 /// What the last sweeps may change where values count as found.
 const FOUND: f64 = 64.0;
 
-/// Brings values and a policy near those of the game where each move costs so many units: for lower values the policy of
-/// the maximiser should leave for sure, and values be low. True where a sweep changes little in the end. The only error is
-/// want of memory.
+/// Brings values and a policy near those of the game where each move costs so many units: for lower values the policy
+/// of the maximiser should leave for sure, and values be low. True where a sweep changes little in the end. The only
+/// error is want of memory.
 pub fn solve(
     alloc: Global,
     game: &FloatGame,

@@ -11,8 +11,11 @@ use Rattle.nested_truth.specs.Coarse.{AreCoarse, AreOpenWithin, AreWithin, IsCoa
 use Rattle.nested_truth.specs.Open.{IsOpenBy}
 use Rattle.nested_truth.specs.Sound.{IsAround, AreSoundBy, IsRightOf}
 
--- The bounds of the formula, found with those of the formulas inside, and how many of these there are and how many pairs of one and a state are left undecided. `starts` are the states where the outermost run looks whether its threshold is settled.
-pub record IsNested (m : Model) (f : Tree) (starts : List ℕ) (asked : ℕ) (band : Band) (how : How) (inner undecided : ℕ) : Type 0 where
+-- The bounds of the formula, found with those of the formulas inside, and how many of these there are and how many
+-- pairs of one and a state are left undecided. `starts` are the states where the outermost run looks whether its
+-- threshold is settled.
+pub record IsNested (m : Model) (f : Tree) (starts : List ℕ) (asked : ℕ) (band : Band) (how : How)
+    (inner undecided : ℕ) : Type 0 where
   pub left : Bands f.left
   pub right : Bands f.right
   pub left_found : AreFound m asked f.left left
@@ -29,11 +32,17 @@ pub record IsNested (m : Model) (f : Tree) (starts : List ℕ) (asked : ℕ) (ba
   -- the bounds are sound, and True is true and False is false
   pub sound : AreSoundBy f.kind m f (holds m.labels truth f.left) (holds m.labels truth f.right) band
   pub right_of : (s : ℕ) → s < states m → IsRightOf (verdict_at f.bound band s) (truth f s)
-  -- a formula inside is undecided only where it is by coarse bounds, of so many rounded steps and no run; so is the formula where its run looks, and a value that it asks for lies within coarse bounds there
-  pub left_within : (coarse : Bands f.left) → AreCoarse m asked f.left coarse → AreOpenWithin (states m) f.left left coarse
-  pub right_within : (coarse : Bands f.right) → AreCoarse m asked f.right coarse → AreOpenWithin (states m) f.right right coarse
-  pub within : (coarse_left : Bands f.left) (coarse_right : Bands f.right) (coarse : Band) → IsCoarse m f asked coarse_left coarse_right coarse → AreWithin f.bound starts band coarse
+  -- a formula inside is undecided only where it is by coarse bounds, of so many rounded steps and no run; so is the
+  -- formula where its run looks, and a value that it asks for lies within coarse bounds there
+  pub left_within : (coarse : Bands f.left) → AreCoarse m asked f.left coarse
+      → AreOpenWithin (states m) f.left left coarse
+  pub right_within : (coarse : Bands f.right) → AreCoarse m asked f.right coarse
+      → AreOpenWithin (states m) f.right right coarse
+  pub within : (coarse_left : Bands f.left) (coarse_right : Bands f.right) (coarse : Band)
+      → IsCoarse m f asked coarse_left coarse_right coarse → AreWithin f.bound starts band coarse
   -- where nothing inside is left undecided, the bounds are those of one run on the exact question
-  pub exact : undecided ≡ 0 → AreFoundBy f.kind m f (exactly (holds m.labels truth f.left)) (exactly (holds m.labels truth f.right)) starts asked band how
+  pub exact : undecided ≡ 0 → AreFoundBy f.kind m f (exactly (holds m.labels truth f.left))
+      (exactly (holds m.labels truth f.right)) starts asked band how
   -- and the formula is undecided at a state where its run looks only if its threshold is left open there
-  pub left_open : undecided ≡ 0 → All (λ s. verdict_at f.bound band s ≡ Undecided → IsOpenBy f.kind m f (holds m.labels truth f.left) (holds m.labels truth f.right) asked band s) starts
+  pub left_open : undecided ≡ 0 → All (λ s. verdict_at f.bound band s ≡ Undecided
+      → IsOpenBy f.kind m f (holds m.labels truth f.left) (holds m.labels truth f.right) asked band s) starts

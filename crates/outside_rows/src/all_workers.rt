@@ -105,9 +105,9 @@ fn chain<'a>(formula: &'a str, numbers: &'a [&'a str]) -> Row<'a> {
 /// How many workers share the chain, and how many of its states the last of them has.
 const TEAMS: [(&str, u32, u32); 4] = [("1", 1, 15), ("3", 3, 5), ("5", 5, 3), ("8", 8, 1)];
 
-/// Formulas, and how many times their runs update all states where each has at most one round: a round updates two tables.
-/// With `F<=0` no step is made, so what is counted is the other run. The last three leave states undecided inside, so the
-/// outermost formula poses two questions.
+/// Formulas, and how many times their runs update all states where each has at most one round: a round updates two
+/// tables. With `F<=0` no step is made, so what is counted is the other run. The last three leave states undecided
+/// inside, so the outermost formula poses two questions.
 const RUNS: [(&str, u32); 13] = [
     ("Pmax=? [ F \"goal\" ]", 2),
     ("Pmax=? [ F<=1 \"goal\" ]", 1),
@@ -124,7 +124,8 @@ const RUNS: [(&str, u32); 13] = [
     ("Pmax=? [ X P>=1 [ F \"goal\" ] ]", 2 + 2),
 ];
 
-// The last of so many workers passes the gate before each of its states as often as all states are updated, and none behind.
+// The last of so many workers passes the gate before each of its states as often as all states are updated, and none
+// behind.
 fn all_pass<R: Threads + Sync>(
     rt: &R,
     alloc: Global,

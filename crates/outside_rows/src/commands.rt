@@ -16,8 +16,8 @@ use std::alloc::Global;
 use std::test::Fail;
 use stogame_app::Status;
 
-/// Cases with the names of the texts that each begins where no call fails, a space behind each name. Of each kind of command
-/// there is one at least: `each_kind_of_command_has_a_case` fails where one is missing.
+/// Cases with the names of the texts that each begins where no call fails, a space behind each name. Of each kind of
+/// command there is one at least: `each_kind_of_command_has_a_case` fails where one is missing.
 pub const COMMANDS: [(Case<'static>, &str); 22] = [
     (CHECK_OF_COIN_LOOP, "m.tra m.lab "),
     (COIN_LOOP_OUT_OF_ORDER, "m.tra m.tra m.lab "),

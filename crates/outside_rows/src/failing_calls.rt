@@ -102,7 +102,8 @@ fn a_shelf_that_fails_leaves_nothing_written(rt: HostRuntime) -> Result<(), Fail
     Ok(())
 }
 
-// In pieces of 8 bytes the transition file, of 54 bytes, takes 9 calls with its beginning and its end, and the label file 6.
+// In pieces of 8 bytes the transition file, of 54 bytes, takes 9 calls with its beginning and its end, and the label
+// file 6.
 #[test]
 fn a_file_out_of_order_fails_in_each_call_of_both_readings(rt: HostRuntime) -> Result<(), Fail> {
     for (case, calls) in [

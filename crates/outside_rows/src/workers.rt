@@ -53,7 +53,8 @@ fn two_workers_run_at_once(rt: HostRuntime) -> Result<(), Fail> {
     Ok(())
 }
 
-// Counts who passes it before each of three states, and who passes it before a state of another: three workers share them.
+// Counts who passes it before each of three states, and who passes it before a state of another: three workers share
+// them.
 #[derive(Drop)]
 struct CountGate {
     passed: [AtomicU32; 3],
@@ -163,8 +164,8 @@ fn each_worker_passes_the_gate_before_its_own_state(rt: HostRuntime) -> Result<(
     Ok(())
 }
 
-/// Formulas that stand inside, and after how many rounds of at most eight they are settled at each state, where a run asks
-/// for it after 1, 2, 4 and 8.
+/// Formulas that stand inside, and after how many rounds of at most eight they are settled at each state, where a run
+/// asks for it after 1, 2, 4 and 8.
 const SETTLED: [(&str, u32); 5] = [
     ("P>=0.25 [ F \"goal\" ]", 1),
     ("P>=0.3 [ F \"goal\" ]", 2),

@@ -15,8 +15,8 @@ use std::alloc::Global;
 /// The most times that components are divided once more.
 const TURNS: u32 = 1_000;
 
-/// Divides components until no choice that stays in one of them leaves its part: a part of more than one state is an end
-/// component. The only error is want of memory.
+/// Divides components until no choice that stays in one of them leaves its part: a part of more than one state is an
+/// end component. The only error is want of memory.
 pub fn end_components(
     alloc: Global,
     question: &Question,

@@ -18,8 +18,8 @@ use std::alloc::Global;
 use std::num::nearest_u64_to_f64;
 use table_rounding::{Setting, UnitTable, round_component, single_entry};
 
-/// Finds upper entries for the states of a component, where the minimiser plays these replies. The states of an end component
-/// have one node, with the choices that leave it. Values begin with these, one for each state.
+/// Finds upper entries for the states of a component, where the minimiser plays these replies. The states of an end
+/// component have one node, with the choices that leave it. Values begin with these, one for each state.
 pub fn upper_component(
     alloc: Global,
     frame: &Frame<'_, '_>,

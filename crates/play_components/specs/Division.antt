@@ -1,7 +1,8 @@
 -- The states of a question, divided into components.
 use Rattle.std.specs.Prelude.{◌≡◌, ℕ, ◌+◌, ◌^◌, ◌<◌, ◌≤◌, List, length, slice_index, slice_range}
 
--- for each state the number of its component; the states, component after component; where each component begins among them, and last where they end; and where each state stands
+-- for each state the number of its component; the states, component after component; where each component begins among
+-- them, and last where they end; and where each state stands
 pub record Division : Type 0 where
   pub component : List ℕ
   pub members : List ℕ

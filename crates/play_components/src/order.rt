@@ -27,7 +27,8 @@ fn state_leads_back<K: Keeps>(question: &Question, kept: &K, component: &[u32], 
     requires fits { K.fits kept.now question.now }
     requires many { length component.now ≡ states question.now }
     requires state { state < states question.now }
-    ensures { IsTrue result → StateLeadsBack question.now (K.kept kept.now question.now) component.now state (length (choices_of question.now.game state)) }
+    ensures { IsTrue result → StateLeadsBack question.now (K.kept kept.now question.now) component.now state
+        (length (choices_of question.now.game state)) }
 {
     for choice in 0..question.game().choices_of(state) {
         if kept.keeps(question, state, choice) && !leads_back(question, component, state, choice) {
@@ -42,7 +43,8 @@ fn leads_back(question: &Question, component: &[u32], state: u32, choice: u32) -
     requires many { length component.now ≡ states question.now }
     requires state { state < states question.now }
     requires choice { choice < length (choices_of question.now.game state) }
-    ensures { IsTrue result → LeadsBack question.now component.now state choice (length (choice_of question.now.game state choice).edges) }
+    ensures { IsTrue result → LeadsBack question.now component.now state choice
+        (length (choice_of question.now.game state choice).edges) }
 {
     question.known();
     let own = component[state as usize];

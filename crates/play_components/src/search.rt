@@ -12,8 +12,8 @@ use std::alloc::Global;
 /// The component of a state that has none yet.
 pub const NONE: u32 = 4_294_967_295;
 
-/// What a search knows of a state: its number, by the order in which states were met, which is 0 until it was; the least
-/// number of a state without a component that it is known to lead to; and the next edge to follow.
+/// What a search knows of a state: its number, by the order in which states were met, which is 0 until it was; the
+/// least number of a state without a component that it is known to lead to; and the next edge to follow.
 #[derive(Clone, Copy)]
 struct Seen {
     number: u32,
@@ -22,8 +22,8 @@ struct Seen {
     place: u32,
 }
 
-/// A search under way: how many states it has met, and how many components it has closed; the path to the state at hand;
-/// and the states that were met and have no component yet.
+/// A search under way: how many states it has met, and how many components it has closed; the path to the state at
+/// hand; and the states that were met and have no component yet.
 #[derive(Drop)]
 pub struct Search {
     pub states: u32,
@@ -157,8 +157,8 @@ impl Search {
         }
     }
 
-    /// Leaves the last state of the path. If it is the first one met of its component, those that wait since then are the
-    /// others.
+    /// Leaves the last state of the path. If it is the first one met of its component, those that wait since then are
+    /// the others.
     fn leave(&mut self, state: u32)
         requires { state < self.old.states }
         ensures { self.new.states ≡ self.old.states }

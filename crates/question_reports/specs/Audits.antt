@@ -13,16 +13,21 @@ use Rattle.run_answers.specs.Printed.{verdict_for, line_for}
 use Rattle.run_answers.specs.declared.status.Status.{Status}
 use Rattle.question_reports.specs.Valued.{IsTold}
 
--- The text and the status say of the initial states what the certificate says, and that is right. Of `G` the certificate is that of the dual.
-pub record IsAudited (q : Query) (initial : List ℕ) (f : Tree) (plan : Plan) (text : List ℕ) (status : Status) : Type 0 where
+-- The text and the status say of the initial states what the certificate says, and that is right. Of `G` the
+-- certificate is that of the dual.
+pub record IsAudited (q : Query) (initial : List ℕ) (f : Tree) (plan : Plan) (text : List ℕ)
+    (status : Status) : Type 0 where
   pub told : IsTold q initial f plan status
   pub written : text ≡ report (map (line_for f Audited plan.lower.items plan.upper.items) initial)
   pub lines : All IsLine (map (line_for f Audited plan.lower.items plan.upper.items) initial)
   -- Undecided is said only where the bounds leave the threshold open
-  pub left_open : All (λ s. verdict_for f plan.lower.items plan.upper.items s ≡ Undecided → LeavesOpen (answered f).bound (slice_index plan.lower.items s) (slice_index plan.upper.items s) 1 0) initial
+  pub left_open : All (λ s. verdict_for f plan.lower.items plan.upper.items s ≡ Undecided
+      → LeavesOpen (answered f).bound (slice_index plan.lower.items s) (slice_index plan.upper.items s) 1 0) initial
 
--- The text and the status are the answer of an audit: the question accepts the certificate that was read, whoever made it.
-pub record IsAudit (q : Query) (initial : List ℕ) (f : Tree) (certificate text : List ℕ) (status : Status) : Type 0 where
+-- The text and the status are the answer of an audit: the question accepts the certificate that was read, whoever made
+-- it.
+pub record IsAudit (q : Query) (initial : List ℕ) (f : Tree) (certificate text : List ℕ)
+    (status : Status) : Type 0 where
   pub plan : Plan
   pub accepted : IsAccepted q certificate plan
   pub audited : IsAudited q initial f plan text status

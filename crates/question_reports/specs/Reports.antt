@@ -52,8 +52,10 @@ pub record IsShown (q : Query) (traps : Bool) (found : Bracket) (plan : Plan) : 
 
 -- 2. The answer.
 
--- the text and the status are the answer to a question: they are those of a bracket after at most the asked rounds. Of `G` the question is that of its dual, and the bounds are mirrored when they are printed.
-pub record IsBracketReport (q : Query) (initial : List ℕ) (f : Tree) (check : Check) (text : List ℕ) (status : Status) : Type 0 where
+-- the text and the status are the answer to a question: they are those of a bracket after at most the asked rounds. Of
+-- `G` the question is that of its dual, and the bounds are mirrored when they are printed.
+pub record IsBracketReport (q : Query) (initial : List ℕ) (f : Tree) (check : Check) (text : List ℕ)
+    (status : Status) : Type 0 where
   pub posed : IsQuery q
   pub zero : List Bool
   pub is_zero : IsZeroSet q zero
@@ -66,5 +68,8 @@ pub record IsBracketReport (q : Query) (initial : List ℕ) (f : Tree) (check : 
   pub passes : Passes q plan
   pub written : text ≡ output_text (output_of check.plan f (Rounds found.rounds) initial plan)
   pub limits : IsInLimits (output_of check.plan f (Rounds found.rounds) initial plan)
-  -- Undecided is said only where no bracket that the asked rounds promise settles the threshold; of `G` that of the dual
-  pub left_open : All (λ s. verdict_for f plan.lower.items plan.upper.items s ≡ Undecided → IsLeftOpen q zero (answered f).bound check.rounds (slice_index plan.lower.items) (slice_index plan.upper.items) s) initial
+  -- Undecided is said only where no bracket that the asked rounds promise settles the threshold; of `G` that of the
+  -- dual
+  pub left_open : All (λ s. verdict_for f plan.lower.items plan.upper.items s ≡ Undecided
+      → IsLeftOpen q zero (answered f).bound check.rounds (slice_index plan.lower.items)
+      (slice_index plan.upper.items) s) initial

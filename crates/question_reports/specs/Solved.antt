@@ -1,4 +1,5 @@
--- The answer of `solve`: a report of a plan that tables of a solver led to, and its certificate where that is asked for.
+-- The answer of `solve`: a report of a plan that tables of a solver led to, and its certificate where that is asked
+-- for.
 use Rattle.std.specs.Prelude.{◌≡◌, ℕ, Bool, List, slice_index, All}
 use Rattle.game_model.specs.Query.{Query, IsQuery, states}
 use Rattle.rpatl_syntax.specs.Formula.{Tree}
@@ -15,8 +16,10 @@ use Rattle.run_answers.specs.Printed.{verdict_for, output_of}
 use Rattle.run_answers.specs.declared.status.Status.{Status}
 use Rattle.question_reports.specs.Valued.{IsTold}
 
--- The text and the status are the answer: those of a plan that passes an audit and is sound. Of `G` the question is that of its dual, and the bounds are mirrored when they are printed.
-pub record IsSolved (q : Query) (initial : List ℕ) (f : Tree) (asked : Bool) (text : List ℕ) (status : Status) : Type 0 where
+-- The text and the status are the answer: those of a plan that passes an audit and is sound. Of `G` the question is
+-- that of its dual, and the bounds are mirrored when they are printed.
+pub record IsSolved (q : Query) (initial : List ℕ) (f : Tree) (asked : Bool) (text : List ℕ)
+    (status : Status) : Type 0 where
   pub posed : IsQuery q
   pub plan : Plan
   pub lists : HasStates plan (states q)
@@ -28,4 +31,5 @@ pub record IsSolved (q : Query) (initial : List ℕ) (f : Tree) (asked : Bool) (
   pub written : text ≡ output_text (output_of asked f Solved initial plan)
   pub limits : IsInLimits (output_of asked f Solved initial plan)
   -- Undecided is said only where the bounds leave the threshold open
-  pub left_open : All (λ s. verdict_for f plan.lower.items plan.upper.items s ≡ Undecided → LeavesOpen (answered f).bound (slice_index plan.lower.items s) (slice_index plan.upper.items s) 1 0) initial
+  pub left_open : All (λ s. verdict_for f plan.lower.items plan.upper.items s ≡ Undecided
+      → LeavesOpen (answered f).bound (slice_index plan.lower.items s) (slice_index plan.upper.items s) 1 0) initial

@@ -18,8 +18,8 @@ use std::alloc::Global;
 use verdicts::How;
 use verdicts::laws::{mirrored_verdicts_are_those_of_the_dual, undecided_thresholds_are_left_open};
 
-/// One line for each initial state, with the numbers of a certificate that was accepted, and what they say of a formula.
-/// The only error is want of memory.
+/// One line for each initial state, with the numbers of a certificate that was accepted, and what they say of a
+/// formula. The only error is want of memory.
 pub fn audit_report(
     alloc: Global,
     question: &Question,
@@ -32,7 +32,8 @@ pub fn audit_report(
     requires lists { HasStates plan.now (states question.now) }
     requires passes { Passes question.now plan.now }
     requires sound { IsSoundPlan question.now plan.now }
-    ensures audited { IfOk result (λ answer. IsAudited question.now initial.now (tree_of formula.now) plan.now answer.text.items answer.status) }
+    ensures audited { IfOk result (λ answer. IsAudited question.now initial.now
+        (tree_of formula.now) plan.now answer.text.items answer.status) }
     ensures answer { IfOk result (λ answer. IsAnswer answer.status) }
 {
     // What a question keeps, and two laws: these calls do nothing.

@@ -1,8 +1,9 @@
 //! What is reported of a question that is posed.
 //!
 //! [`bracket_report`] answers from a bracket, with its certificate where that is asked for; [`within_report`] and
-//! [`next_report`] from exactly so many steps; [`nested_report`] answers a formula with others inside; [`audit_report`] a
-//! question from a certificate that was accepted, whoever made it; and [`solved_report`] from a plan that tables of a solver led to.
+//! [`next_report`] from exactly so many steps; [`nested_report`] answers a formula with others inside; [`audit_report`]
+//! a question from a certificate that was accepted, whoever made it; and [`solved_report`] from a plan that tables of a
+//! solver led to.
 #![tactic(auto)]
 
 mod audits;

@@ -36,9 +36,10 @@ pub struct Formulas<'a> {
     pub answered: &'a Formula,
 }
 
-/// One line for each initial state, with the bounds after at most the asked rounds and what they say of the formula's bound;
-/// the upper ones lowered to the best exits of traps, where that is asked for; and behind them the certificate, where it is
-/// asked for. The question is that of the answered formula: of `G` the dual, else the same. The only error is want of memory.
+/// One line for each initial state, with the bounds after at most the asked rounds and what they say of the formula's
+/// bound; the upper ones lowered to the best exits of traps, where that is asked for; and behind them the certificate,
+/// where it is asked for. The question is that of the answered formula: of `G` the dual, else the same. The only error
+/// is want of memory.
 pub fn bracket_report<R: Threads + Sync, G: Gate + Sync>(
     rt: &R,
     alloc: Global,
@@ -52,7 +53,8 @@ pub fn bracket_report<R: Threads + Sync, G: Gate + Sync>(
     requires in_range { AreInRange (check_of check.now) }
     requires same { tree_of answered.now ≡ answered_of (tree_of spelled.now) }
     requires share { IsAtMostOne spelled.now.bound }
-    ensures report { IfOk result (λ answer. IsBracketReport posed.now.question posed.now.initial.items (tree_of spelled.now) (check_of check.now) answer.text.items answer.status) }
+    ensures report { IfOk result (λ answer. IsBracketReport posed.now.question posed.now.initial.items
+        (tree_of spelled.now) (check_of check.now) answer.text.items answer.status) }
     ensures answer { IfOk result (λ answer. IsAnswer answer.status) }
 {
     let question = &posed.question;
@@ -80,8 +82,8 @@ pub fn bracket_report<R: Threads + Sync, G: Gate + Sync>(
     make_answer(alloc, &plan, how, formulas, initial, check.plan)
 }
 
-// What is printed of a bracket: its tables with the strategies, and the upper one lowered to the best exits of traps, where
-// that is asked for.
+// What is printed of a bracket: its tables with the strategies, and the upper one lowered to the best exits of traps,
+// where that is asked for.
 fn shown(
     alloc: Global,
     question: &Question,
@@ -133,7 +135,7 @@ fn shown_upper(
     }
 }
 
-// The lines and the status of a plan, and its certificate where it is asked for.
+/// The lines and the status of a plan, and its certificate where it is asked for.
 pub fn make_answer(
     alloc: Global,
     plan: &Plan,
@@ -149,9 +151,12 @@ pub fn make_answer(
     requires lower { All (λ v. v ≤ unit) plan.now.lower.items }
     requires upper { All (λ v. v ≤ unit) plan.now.upper.items }
     ensures ranks { All (λ r. r ≤ greatest_rank) plan.now.ranks.items }
-    ensures text { IfOk result (λ answer. answer.text.items ≡ output_text (output_of asked (tree_of formulas.entry.spelled.now) how initial.now plan.now)) }
+    ensures text { IfOk result (λ answer. answer.text.items ≡ output_text
+        (output_of asked (tree_of formulas.entry.spelled.now) how initial.now plan.now)) }
     ensures answer { IfOk result (λ answer. IsAnswer answer.status) }
-    ensures status { IfOk result (λ answer. answer.status ≡ status_of (map (verdict_for (tree_of formulas.entry.spelled.now) plan.now.lower.items plan.now.upper.items) initial.now)) }
+    ensures status { IfOk result (λ answer. answer.status ≡ status_of
+        (map (verdict_for (tree_of formulas.entry.spelled.now) plan.now.lower.items plan.now.upper.items)
+        initial.now)) }
 {
     known_ranks(&plan.ranks);
     let mut answer = report_of(
@@ -185,7 +190,8 @@ fn append_certificate(
     requires some { 1 ≤ length plan.now.lower.items }
     requires lower { All (λ v. v ≤ unit) plan.now.lower.items }
     requires upper { All (λ v. v ≤ unit) plan.now.upper.items }
-    ensures { OnOk result (text.new.items ≡ text.old.items ++ certificate_part (certificate_of asked (tree_of formulas.entry.spelled.now) plan.now)) }
+    ensures { OnOk result (text.new.items ≡ text.old.items ++ certificate_part
+        (certificate_of asked (tree_of formulas.entry.spelled.now) plan.now)) }
 {
     if !asked {
         return Ok(());

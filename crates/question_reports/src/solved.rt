@@ -19,9 +19,10 @@ use std::alloc::Global;
 use verdicts::How;
 use verdicts::laws::{mirrored_verdicts_are_those_of_the_dual, undecided_thresholds_are_left_open};
 
-/// One line for each initial state, with the bounds of a plan that passes an audit and is sound, and what they say of the
-/// formula's bound; and behind them the certificate, where it is asked for. The question is that of the answered formula: of `G`
-/// the dual, else the same. Values to begin with, one for each state, are hints alone. The only error is want of memory.
+/// One line for each initial state, with the bounds of a plan that passes an audit and is sound, and what they say of
+/// the formula's bound; and behind them the certificate, where it is asked for. The question is that of the answered
+/// formula: of `G` the dual, else the same. Values to begin with, one for each state, are hints alone. The only error
+/// is want of memory.
 pub fn solved_report(
     alloc: Global,
     posed: &Posed<'_>,
@@ -33,7 +34,8 @@ pub fn solved_report(
     requires inside { All (λ s. s < states posed.now.question) posed.now.initial.items }
     requires same { tree_of answered.now ≡ answered_of (tree_of spelled.now) }
     requires share { IsAtMostOne spelled.now.bound }
-    ensures report { IfOk result (λ answer. IsSolved posed.now.question posed.now.initial.items (tree_of spelled.now) asked answer.text.items answer.status) }
+    ensures report { IfOk result (λ answer. IsSolved posed.now.question posed.now.initial.items
+        (tree_of spelled.now) asked answer.text.items answer.status) }
     ensures answer { IfOk result (λ answer. IsAnswer answer.status) }
 {
     let question = &posed.question;

@@ -37,7 +37,8 @@ pub fn within_report<R: Threads + Sync, G: Gate + Sync>(
     requires inside { All (λ s. s < states posed.now.question) posed.now.initial.items }
     requires steps { steps ≤ most_steps }
     requires workers { (1 ≤ workers) × (workers ≤ most_workers) }
-    ensures report { IfOk result (λ answer. IsWithinReport posed.now.question steps posed.now.initial.items (tree_of formula.now) answer.text.items answer.status) }
+    ensures report { IfOk result (λ answer. IsWithinReport posed.now.question steps posed.now.initial.items
+        (tree_of formula.now) answer.text.items answer.status) }
     ensures answer { IfOk result (λ answer. IsAnswer answer.status) }
 {
     // What a question keeps, and a law: these calls do nothing.
@@ -54,8 +55,8 @@ pub fn within_report<R: Threads + Sync, G: Gate + Sync>(
     )
 }
 
-/// The report on `X`: the probabilities that the next state is one of those of an opening table. The only error is want of
-/// memory.
+/// The report on `X`: the probabilities that the next state is one of those of an opening table. The only error is want
+/// of memory.
 pub fn next_report<R: Threads + Sync, G: Gate + Sync>(
     rt: &R,
     alloc: Global,
@@ -67,7 +68,8 @@ pub fn next_report<R: Threads + Sync, G: Gate + Sync>(
     requires inside { All (λ s. s < states posed.now.question) posed.now.initial.items }
     requires opening { IsOpening posed.now.question posed.now.opening.items }
     requires workers { (1 ≤ workers) × (workers ≤ most_workers) }
-    ensures report { IfOk result (λ answer. IsNextReport posed.now.question posed.now.opening.items posed.now.initial.items (tree_of formula.now) answer.text.items answer.status) }
+    ensures report { IfOk result (λ answer. IsNextReport posed.now.question posed.now.opening.items
+        posed.now.initial.items (tree_of formula.now) answer.text.items answer.status) }
     ensures answer { IfOk result (λ answer. IsAnswer answer.status) }
 {
     // What a question keeps, and a law: these calls do nothing.
@@ -89,11 +91,14 @@ fn sweep_report(
 ) -> Result<Answer, OutOfMemory>
     requires steps { steps ≤ most_steps }
     requires inside { All (λ s. s < states question.now) initial.now }
-    requires many { (length sweep.now.lower.items ≡ states question.now) × (length sweep.now.upper.items ≡ states question.now) }
+    requires many { (length sweep.now.lower.items ≡ states question.now)
+        × (length sweep.now.upper.items ≡ states question.now) }
     requires units { All (λ v. v ≤ unit) sweep.now.lower.items × All (λ v. v ≤ unit) sweep.now.upper.items }
-    ensures report { IfOk result (λ answer. (table numerators : ℕ → ℕ) → IsSweep question.now table steps sweep.now.lower.items sweep.now.upper.items
+    ensures report { IfOk result (λ answer. (table numerators : ℕ → ℕ)
+        → IsSweep question.now table steps sweep.now.lower.items sweep.now.upper.items
         → ((s : ℕ) → s < states question.now → exact_from question.now table steps s ≡ unit * numerators s)
-        → IsSweepReport question.now table steps numerators initial.now (tree_of formula.now) answer.text.items answer.status) }
+        → IsSweepReport question.now table steps numerators initial.now
+        (tree_of formula.now) answer.text.items answer.status) }
     ensures answer { IfOk result (λ answer. IsAnswer answer.status) }
 {
     // What a question keeps, and two laws: these calls do nothing.

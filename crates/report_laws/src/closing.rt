@@ -8,11 +8,14 @@ ghost use Rattle.run_answers.specs.declared.status.Status.{Status};
 ghost use Rattle.strategies.specs.Stopping.{IsStopping, IsWithin};
 ghost use Rattle.question_reports.specs.Reports.{IsBracketReport};
 
-/// If from every state, however both play, a goal or a state of value 0 comes within n steps with a positive probability, then
-/// after r rounds, at least j times n, the printed bounds are at most 2 r units and the j-th power of 1 - 1/D^n apart, at every
-/// state; D is the common denominator. (Interval iteration has such a bound: Haddad and Monmege, Interval iteration algorithm
-/// for MDPs and IMDPs, 2018.)
+/// If from every state, however both play, a goal or a state of value 0 comes within n steps with a positive
+/// probability, then after r rounds, at least j times n, the printed bounds are at most 2 r units and the j-th power of
+/// 1 - 1/D^n apart, at every state; D is the common denominator. (Interval iteration has such a bound: Haddad and
+/// Monmege, Interval iteration algorithm for MDPs and IMDPs, 2018.)
 pub fn printed_brackets_close()
-    ensures { (q : Query) (initial : List ℕ) (f : Tree) (check : Check) (text : List ℕ) (status : Status) (report : IsBracketReport q initial f check text status) (n j : ℕ) → IsStopping q report.zero n → j * n ≤ report.found.rounds
-        → IsWithin q n j report.found.rounds (slice_index report.plan.lower.items) (slice_index report.plan.upper.items) }
+    ensures { (q : Query) (initial : List ℕ) (f : Tree) (check : Check) (text : List ℕ) (status : Status)
+        (report : IsBracketReport q initial f check text status) (n j : ℕ) → IsStopping q report.zero n
+        → j * n ≤ report.found.rounds
+        → IsWithin q n j report.found.rounds (slice_index report.plan.lower.items)
+        (slice_index report.plan.upper.items) }
 {}

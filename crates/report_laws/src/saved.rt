@@ -13,20 +13,25 @@ use command_words::laws::words_denote_one_command;
 use plan_text::laws::{certificates_are_read_back, certificates_are_what_is_read};
 use rpatl_syntax::laws::formulas_of_texts_are_spellable;
 
-/// What `check` writes is no longer than a text may be, with a certificate and without: so `audit` does not refuse it as too long.
+/// What `check` writes is no longer than a text may be, with a certificate and without: so `audit` does not refuse it
+/// as too long.
 pub fn printed_certificates_are_short()
-    ensures { (words : List (List ℕ)) (holding : Option Holding) (taken : ℕ) (check : Check) (text : List ℕ) (status : Status) → AreCommand words (OfCheck check) → IsReportOfWords words holding taken text status
+    ensures { (words : List (List ℕ)) (holding : Option Holding) (taken : ℕ) (check : Check) (text : List ℕ)
+        (status : Status) → AreCommand words (OfCheck check) → IsReportOfWords words holding taken text status
         → length text ≤ most_bytes }
 {
     words_denote_one_command();
     formulas_of_texts_are_spellable();
 }
 
-/// What `check` writes with `--plan` is accepted by an audit of the same question, in the whole output as it stands, over a shelf
-/// that holds it and the same texts for the question. So `complete` of `run` says that the audit answers.
+/// What `check` writes with `--plan` is accepted by an audit of the same question, in the whole output as it stands,
+/// over a shelf that holds it and the same texts for the question. So `complete` of `run` says that the audit answers.
 pub fn what_check_writes_is_accepted()
-    ensures { (words : List (List ℕ)) (held later : Holding) (taken : ℕ) (check : Check) (audit : Audit) (text : List ℕ) (status : Status) → AreCommand words (OfCheck check) → IsReportOfWords words (Some held) taken text status → check.plan ≡ true
-        → audit.asked ≡ check.asked → sources_of later check.asked ≡ sources_of held check.asked → later audit.certificate ≡ Some text → IsAcceptedOf later (OfAudit audit) }
+    ensures { (words : List (List ℕ)) (held later : Holding) (taken : ℕ) (check : Check) (audit : Audit) (text : List ℕ)
+        (status : Status) → AreCommand words (OfCheck check) → IsReportOfWords words (Some held) taken text status
+        → check.plan ≡ true
+        → audit.asked ≡ check.asked → sources_of later check.asked ≡ sources_of held check.asked
+        → later audit.certificate ≡ Some text → IsAcceptedOf later (OfAudit audit) }
 {
     words_denote_one_command();
     certificates_are_read_back();
@@ -36,7 +41,8 @@ pub fn what_check_writes_is_accepted()
 
 /// What `solve` writes is no longer than a text may be, with a certificate and without.
 pub fn solved_certificates_are_short()
-    ensures { (words : List (List ℕ)) (holding : Option Holding) (taken : ℕ) (solve : Solve) (text : List ℕ) (status : Status) → AreCommand words (OfSolve solve) → IsReportOfWords words holding taken text status
+    ensures { (words : List (List ℕ)) (holding : Option Holding) (taken : ℕ) (solve : Solve) (text : List ℕ)
+        (status : Status) → AreCommand words (OfSolve solve) → IsReportOfWords words holding taken text status
         → length text ≤ most_bytes }
 {
     words_denote_one_command();
@@ -45,8 +51,11 @@ pub fn solved_certificates_are_short()
 
 /// What `solve` writes with `--plan` is accepted by an audit of the same question, in the whole output as it stands.
 pub fn what_solve_writes_is_accepted()
-    ensures { (words : List (List ℕ)) (held later : Holding) (taken : ℕ) (solve : Solve) (audit : Audit) (text : List ℕ) (status : Status) → AreCommand words (OfSolve solve) → IsReportOfWords words (Some held) taken text status → solve.plan ≡ true
-        → audit.asked ≡ solve.asked → sources_of later solve.asked ≡ sources_of held solve.asked → later audit.certificate ≡ Some text → IsAcceptedOf later (OfAudit audit) }
+    ensures { (words : List (List ℕ)) (held later : Holding) (taken : ℕ) (solve : Solve) (audit : Audit) (text : List ℕ)
+        (status : Status) → AreCommand words (OfSolve solve) → IsReportOfWords words (Some held) taken text status
+        → solve.plan ≡ true
+        → audit.asked ≡ solve.asked → sources_of later solve.asked ≡ sources_of held solve.asked
+        → later audit.certificate ≡ Some text → IsAcceptedOf later (OfAudit audit) }
 {
     words_denote_one_command();
     certificates_are_read_back();

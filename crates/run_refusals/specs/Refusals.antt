@@ -50,9 +50,11 @@ number_text number.TooLarge = codes "TooLarge"
 abbrev pub choice_text : ℕ → ℕ → ChoiceFault → List ℕ
 choice_text state k choice.OutOfMemory = codes "OutOfMemory" ++ choice_place state k
 choice_text state k (choice.TooFine first second) =
-    codes "TooFine" ++ (choice_place state k ++ (codes " first " ++ (decimal first ++ numbered (codes " second ") second)))
+    codes "TooFine" ++ (choice_place state k ++ (codes " first "
+    ++ (decimal first ++ numbered (codes " second ") second)))
 choice_text state k (choice.BadSum sum denominator) =
-    codes "BadSum" ++ (choice_place state k ++ (codes " sum " ++ (decimal sum ++ numbered (codes " denominator ") denominator)))
+    codes "BadSum" ++ (choice_place state k ++ (codes " sum "
+    ++ (decimal sum ++ numbered (codes " denominator ") denominator)))
 
 abbrev pub tra_text : TraCause → List ℕ
 tra_text tra.OutOfMemory = codes "OutOfMemory"
@@ -138,11 +140,13 @@ name_of_text Values = codes "values"
 
 -- a fault of a file, with its line
 abbrev pub refused_line : Text → ℕ → List ℕ → List ℕ
-refused_line text line cause = codes "refused " ++ (name_of_text text ++ (numbered (codes " line ") line ++ (32 ∷ (cause ++ codes "\n"))))
+refused_line text line cause = codes "refused " ++ (name_of_text text
+    ++ (numbered (codes " line ") line ++ (32 ∷ (cause ++ codes "\n"))))
 
 -- a fault of the formula, with its place
 abbrev pub formula_refused : FormulaFault → List ℕ
-formula_refused fault = codes "refused formula place " ++ (decimal fault.place ++ (32 ∷ (formula_text fault.cause ++ codes "\n")))
+formula_refused fault = codes "refused formula place " ++ (decimal fault.place
+    ++ (32 ∷ (formula_text fault.cause ++ codes "\n")))
 
 -- why a question is refused
 abbrev pub question_line : List ℕ → List ℕ

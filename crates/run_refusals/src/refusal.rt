@@ -116,7 +116,8 @@ fn question_line(alloc: Global, fault: &PoseFault) -> Result<Vec<u8>, AllocError
 }
 
 fn question_cause(alloc: Global, cause: &[u8], name: &[u8]) -> Result<Vec<u8>, AllocError>
-    ensures { IfOk result (λ line. line.items ≡ codes "refused question line 0 " ++ ((cause.now ++ name.now) ++ codes "\n")) }
+    ensures { IfOk result (λ line. line.items ≡ codes "refused question line 0 "
+        ++ ((cause.now ++ name.now) ++ codes "\n")) }
 {
     let mut line = Vec::from_slice(alloc, b"refused question line 0 ")?;
     line.extend_from_slice(cause)?;

@@ -31,7 +31,8 @@ fn shown(bytes: &[u8], from: usize) -> InlineText<{ SHOWN }> {
     InlineText::of(rest.escape_ascii())
 }
 
-/// A run ended with this status and wrote this text. Else the failure says what it did in their place, and `of` which run it is.
+/// A run ended with this status and wrote this text. Else the failure says what it did in their place, and `of` which
+/// run it is.
 pub fn comes_to<D: Display + Drop>(
     of: D,
     ended: Status,

@@ -15,8 +15,8 @@ use stogame_app::{Status, run};
 /// How many bytes the sink takes at once.
 pub const STEP: usize = 7;
 
-/// The check of a row, the audit of a certificate for its model and its formula, its solution, from values where there are any,
-/// its almost-sure states, or words that name no file.
+/// The check of a row, the audit of a certificate for its model and its formula, its solution, from values where there
+/// are any, its almost-sure states, or words that name no file.
 #[derive(Clone, Copy)]
 pub enum Command<'a> {
     Check(Row<'a>),

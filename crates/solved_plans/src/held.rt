@@ -25,8 +25,8 @@ pub struct Held {
     pub replies: Vec<Option<u32>>,
 }
 
-/// The upper table of a candidate, where that is inductive, and else the one of no entry, with the first replies to it. The
-/// only error is want of memory.
+/// The upper table of a candidate, where that is inductive, and else the one of no entry, with the first replies to it.
+/// The only error is want of memory.
 pub fn held_table(
     alloc: Global,
     question: &Question,
@@ -38,9 +38,11 @@ pub fn held_table(
     requires zero { IsZeroSet question.now zero.now }
     ensures units { IfOk result (λ held. All (λ v. v ≤ unit) held.values.items) }
     ensures inductive { IfOk result (λ held. IsInductive question.now (slice_index held.values.items)) }
-    ensures first { IfOk result (λ held. AreFirstReplies question.now (slice_index held.values.items) held.replies.items) }
+    ensures first { IfOk result (λ held. AreFirstReplies question.now
+        (slice_index held.values.items) held.replies.items) }
     ensures good { IfOk result (λ held. AreReplies question.now (slice_index held.values.items) held.replies.items) }
-    ensures values { IfOk result (λ held. IsUpperOf question.now sure.now zero.now (counted (states question.now) candidate.now) held.values.items) }
+    ensures values { IfOk result (λ held. IsUpperOf question.now sure.now zero.now
+        (counted (states question.now) candidate.now) held.values.items) }
 {
     let values = inductive_table(alloc, question, sure, zero, candidate)?;
     let replies = replies(alloc, question, &values)?;
@@ -59,7 +61,8 @@ fn inductive_table(
     requires zero { IsZeroSet question.now zero.now }
     ensures units { IfOk result (λ table. All (λ v. v ≤ unit) table.items) }
     ensures inductive { IfOk result (λ table. IsInductive question.now (slice_index table.items)) }
-    ensures values { IfOk result (λ table. IsUpperOf question.now sure.now zero.now (counted (states question.now) candidate.now) table.items) }
+    ensures values { IfOk result (λ table. IsUpperOf question.now sure.now zero.now
+        (counted (states question.now) candidate.now) table.items) }
 {
     question.known();
     let table = upper_table(alloc, question, sure, zero, counted_of(question, candidate))?;

@@ -11,10 +11,11 @@ ghost use Rattle.solved_plans.specs.Bounds.{sure_value, lower_bound, upper_bound
 
 use game_model::{Marks, Question};
 
-/// The almost-sure states have one plan with which the maximiser reaches a goal with probability 1: choices and ranks go
-/// together with probability 1 at each of them, and 0 elsewhere.
+/// The almost-sure states have one plan with which the maximiser reaches a goal with probability 1: choices and ranks
+/// go together with probability 1 at each of them, and 0 elsewhere.
 pub fn almost_sure_states_have_a_plan()
-    ensures { (q : Query) (sure : List Bool) (values : List ℕ) → IsQuery q → AreAlmostSure q sure → IsTable q (sure_value sure) values → CanBeRanked q values }
+    ensures { (q : Query) (sure : List Bool) (values : List ℕ) → IsQuery q → AreAlmostSure q sure
+        → IsTable q (sure_value sure) values → CanBeRanked q values }
 {}
 
 /// The lower table of no entry can be ranked.

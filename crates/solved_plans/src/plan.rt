@@ -20,8 +20,8 @@ use predecessors::Predecessors;
 use std::alloc::Global;
 use zero_sets::zero_set_over;
 
-/// The tables of a solver, in units, by state. A table that has another number of entries than there are states counts as
-/// missing.
+/// The tables of a solver, in units, by state. A table that has another number of entries than there are states counts
+/// as missing.
 #[derive(Drop)]
 pub struct Candidates {
     /// What the solver takes for lower bounds.
@@ -30,14 +30,15 @@ pub struct Candidates {
     pub upper: Vec<u64>,
 }
 
-/// A plan of a question that passes the checks of an audit, whatever the candidates are: its replies hold every strategy
-/// of the maximiser to the upper table, and its choices reach the lower table, less any 1/m, against every strategy of the
-/// minimiser. The lower bound is 1 exactly at the almost-sure states, and the upper one 0 exactly in the zero set.
+/// A plan of a question that passes the checks of an audit, whatever the candidates are: its replies hold every
+/// strategy of the maximiser to the upper table, and its choices reach the lower table, less any 1/m, against every
+/// strategy of the minimiser. The lower bound is 1 exactly at the almost-sure states, and the upper one 0 exactly in
+/// the zero set.
 ///
-/// Elsewhere the lower table is the candidate's, less than 1, where some choices and ranks vouch for the whole table, and
-/// else 0. The upper table is the candidate's, from one unit to 1, where the whole table is inductive, and else 1. The
-/// choices and ranks are those of `rank_certificate::rank_table`: none of either player stands where none is needed. The
-/// only error is want of memory.
+/// Elsewhere the lower table is the candidate's, less than 1, where some choices and ranks vouch for the whole table,
+/// and else 0. The upper table is the candidate's, from one unit to 1, where the whole table is inductive, and else 1.
+/// The choices and ranks are those of `rank_certificate::rank_table`: none of either player stands where none is
+/// needed. The only error is want of memory.
 pub fn hand_out(
     alloc: Global,
     question: &Question,
@@ -50,9 +51,12 @@ pub fn hand_out(
     ensures sound { IfOk result (λ plan. IsSoundPlan question.now plan) }
     ensures sure { IfOk result (λ plan. IsSureExactly question.now plan) }
     ensures zero { IfOk result (λ plan. IsZeroExactly question.now plan) }
-    ensures bounds { IfOk result (λ plan. AreBoundsOf question.now candidates.now.lower.items candidates.now.upper.items plan.lower.items plan.upper.items) }
-    ensures choices { IfOk result (λ plan. IsLayeredPlan question.now plan.lower.items plan.choices.items plan.ranks.items) }
-    ensures replies { IfOk result (λ plan. AreFirstReplies question.now (slice_index plan.upper.items) plan.replies.items) }
+    ensures bounds { IfOk result (λ plan. AreBoundsOf question.now candidates.now.lower.items candidates.now.upper.items
+        plan.lower.items plan.upper.items) }
+    ensures choices { IfOk result (λ plan. IsLayeredPlan question.now plan.lower.items plan.choices.items
+        plan.ranks.items) }
+    ensures replies { IfOk result (λ plan. AreFirstReplies question.now
+        (slice_index plan.upper.items) plan.replies.items) }
 {
     question.known();
     let sure = almost_sure_over(alloc, question, predecessors)?;

@@ -27,8 +27,8 @@ pub struct Reached {
     pub plan: RankPlan,
 }
 
-/// The lower table of a candidate, where some choices and ranks vouch for it, and else the one of no entry. The only error
-/// is want of memory.
+/// The lower table of a candidate, where some choices and ranks vouch for it, and else the one of no entry. The only
+/// error is want of memory.
 pub fn reached_table(
     alloc: Global,
     question: &Question,
@@ -40,10 +40,13 @@ pub fn reached_table(
     requires lists { ArePredecessors question.now.game predecessors.now }
     requires sure { AreAlmostSure question.now sure.now }
     requires zero { IsZeroSet question.now zero.now }
-    ensures layered { IfOk result (λ reached. IsLayeredPlan question.now reached.values.items reached.plan.choices.items reached.plan.ranks.items) }
-    ensures ranked { IfOk result (λ reached. Ranked question.now reached.values.items reached.plan.choices.items reached.plan.ranks.items) }
+    ensures layered { IfOk result (λ reached. IsLayeredPlan question.now reached.values.items reached.plan.choices.items
+        reached.plan.ranks.items) }
+    ensures ranked { IfOk result (λ reached. Ranked question.now reached.values.items reached.plan.choices.items
+        reached.plan.ranks.items) }
     ensures many { IfOk result (λ reached. length reached.values.items ≡ states question.now) }
-    ensures values { IfOk result (λ reached. IsLowerOf question.now sure.now zero.now (counted (states question.now) candidate.now) reached.values.items) }
+    ensures values { IfOk result (λ reached. IsLowerOf question.now sure.now zero.now
+        (counted (states question.now) candidate.now) reached.values.items) }
 {
     let values = lower_table(alloc, question, sure, zero, counted_of(question, candidate))?;
     if let Some(plan) = rank_table_over(alloc, question, &values, predecessors)? {
@@ -63,9 +66,12 @@ fn weakest_table(
     requires lists { ArePredecessors question.now.game predecessors.now }
     requires sure { AreAlmostSure question.now sure.now }
     requires zero { IsZeroSet question.now zero.now }
-    ensures layered { IfOk result (λ reached. IsLayeredPlan question.now reached.values.items reached.plan.choices.items reached.plan.ranks.items) }
-    ensures ranked { IfOk result (λ reached. Ranked question.now reached.values.items reached.plan.choices.items reached.plan.ranks.items) }
-    ensures values { IfOk result (λ reached. IsTable question.now (lower_bound sure.now zero.now []) reached.values.items) }
+    ensures layered { IfOk result (λ reached. IsLayeredPlan question.now reached.values.items reached.plan.choices.items
+        reached.plan.ranks.items) }
+    ensures ranked { IfOk result (λ reached. Ranked question.now reached.values.items reached.plan.choices.items
+        reached.plan.ranks.items) }
+    ensures values { IfOk result (λ reached. IsTable question.now
+        (lower_bound sure.now zero.now []) reached.values.items) }
 {
     let values = lower_table(alloc, question, sure, zero, &[])?;
     almost_sure_states_are_reached(question, sure, zero, &values);

@@ -244,8 +244,8 @@ fn tables_of_random_games_hold(rt: HostRuntime) -> Result<(), Fail> {
     holds(format_args!("few are wide: {wide}"), wide < 10)
 }
 
-/// The bounds of the first state's chance, where one side chooses everywhere: the lower table holds, and so does the upper
-/// one. Gives whether they are far apart somewhere.
+/// The bounds of the first state's chance, where one side chooses everywhere: the lower table holds, and so does the
+/// upper one. Gives whether they are far apart somewhere.
 fn check_tables(alloc: Global, game: &Game, side: Side) -> Result<u32, Fail> {
     let question = question_of(alloc, game, side, 0)?;
     let lower = table_of(alloc, &question, Bound::Lower)?;

@@ -41,7 +41,8 @@ fn solve_loaded<H: Shelf>(
     requires sizes { HasSizes loaded.now.game loaded.now.labels loaded.now.owners }
     requires share { IsAtMostOne loaded.now.formula.bound }
     requires taken { H.taken shelf.old ≤ most_bytes }
-    ensures { (before : H) → Reads (H.held before) (solve_of solve.now).asked (reading_of loaded.now) → LoadingLeaves H.held H.steady H.faults H.taken before shelf.old (Ok loaded.now)
+    ensures { (before : H) → Reads (H.held before) (solve_of solve.now).asked (reading_of loaded.now)
+        → LoadingLeaves H.held H.steady H.faults H.taken before shelf.old (Ok loaded.now)
         → IsAnswered H.held H.steady H.faults H.taken (OfSolve (solve_of solve.now)) before shelf.new result }
 {
     let problem = pose_loaded(alloc, loaded, Paths::Unbounded)?;

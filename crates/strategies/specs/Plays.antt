@@ -15,13 +15,16 @@ pub record Play : Type 0 where
 abbrev pub begun_at : ℕ → ℕ → Play → Play
 begun_at s ways play = record { through = s ∷ play.through; ways = ways * play.ways }
 
--- all plays of k turns, one for each throw and edge of each turn, so the same states may stand more than once. A turn has as many ways as faces times denominator: each throw of the die and each of the equal parts of the choice, of which an edge has its share.
+-- all plays of k turns, one for each throw and edge of each turn, so the same states may stand more than once. A turn
+-- has as many ways as faces times denominator: each throw of the die and each of the equal parts of the choice, of
+-- which an edge has its share.
 unfoldable pub plays : Query → ℕ → Strategy → Strategy → ℕ → List Turn → ℕ → List Play
 plays q faces greatest least zero past s = record { through = s ∷ []; ways = 1 } ∷ []
 plays q faces greatest least (suc k) past s =
     flat_map (λ throw. let choice = of_side (side_at q s) greatest least past s throw in
     flat_map (λ e. map (begun_at s (denominator q.game / (choice_of q.game s choice).total * e.weight))
-    (plays q faces greatest least k (record { state = s; throw = throw; choice = choice } ∷ past) e.to)) (choice_of q.game s choice).edges) (range_with_len 0 faces)
+    (plays q faces greatest least k (record { state = s; throw = throw; choice = choice } ∷ past) e.to))
+    (choice_of q.game s choice).edges) (range_with_len 0 faces)
 
 -- a play is won that comes through a goal, and through no dead state before
 abbrev pub is_won : Query → List ℕ → Bool

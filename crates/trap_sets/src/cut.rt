@@ -56,8 +56,10 @@ impl Cut<'_> {
         requires part { length part.now ≡ states self.now.question.now }
         ensures from { from ≤ result }
         ensures within { result ≤ length (choices_of self.now.question.now.game state) }
-        ensures before { (c : ℕ) → from ≤ c → c < result → ¬ IsInner self.now.question.now self.now.replies.now part.now state c }
-        ensures found { result < length (choices_of self.now.question.now.game state) → IsInner self.now.question.now self.now.replies.now part.now state result }
+        ensures before { (c : ℕ) → from ≤ c → c < result
+            → ¬ IsInner self.now.question.now self.now.replies.now part.now state c }
+        ensures found { result < length (choices_of self.now.question.now.game state)
+            → IsInner self.now.question.now self.now.replies.now part.now state result }
     {
         let count = self.question.game().choices_of(state);
         for choice in from..count {

@@ -93,7 +93,8 @@ fn best_exits(
     requires many { length sets.now.of.items ≡ states question.now }
     requires most { (s : ℕ) → slice_index sets.now.of.items s ≤ sets.now.count }
     ensures many { IfOk result (λ exits. length exits.items ≡ sets.now.count + 1) }
-    ensures best { IfOk result (λ exits. AreBestExits question.now (slice_index upper.now) sets.now.of.items exits.items) }
+    ensures best { IfOk result (λ exits. AreBestExits question.now
+        (slice_index upper.now) sets.now.of.items exits.items) }
 {
     question.known();
     let mut exits = vec![in alloc; 0u64; sets.count as usize + 1]?;

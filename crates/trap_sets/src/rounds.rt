@@ -46,7 +46,8 @@ fn next_round(alloc: Global, cut: &Cut<'_>, part: &mut [u32]) -> Result<bool, Ou
     requires rooted { IsRooted part.old }
     ensures keeps { OnOk result (KeepsEnds cut.now.question.now cut.now.replies.now part.new) }
     ensures rooted { OnOk result (IsRooted part.new) }
-    ensures settled { IfOk result (λ changes. changes ≡ false → AreSettled cut.now.question.now cut.now.replies.now part.new) }
+    ensures settled { IfOk result (λ changes. changes ≡ false
+        → AreSettled cut.now.question.now cut.now.replies.now part.new) }
     ensures fewer { IfOk result (λ changes. changes ≡ true → pairs part.new < pairs part.old) }
 {
     let any = trim(alloc, cut, part)?;
@@ -91,8 +92,10 @@ fn is_free(question: &Question, state: u32) -> bool
 fn same(part: &[u32], class: &[u32]) -> bool
     requires many { length class.now ≡ length part.now }
     requires rooted { IsRooted part.now }
-    ensures yes { IsTrue result → (s : ℕ) → slice_index part.now s ≢ 0 → slice_index class.now s ≡ slice_index class.now (slice_index part.now s - 1) }
-    ensures no { result ≡ false → (s : ℕ) × (slice_index part.now s ≢ 0) × (slice_index class.now s ≢ slice_index class.now (slice_index part.now s - 1)) }
+    ensures yes { IsTrue result → (s : ℕ) → slice_index part.now s ≢ 0
+        → slice_index class.now s ≡ slice_index class.now (slice_index part.now s - 1) }
+    ensures no { result ≡ false → (s : ℕ) × (slice_index part.now s ≢ 0)
+        × (slice_index class.now s ≢ slice_index class.now (slice_index part.now s - 1)) }
 {
     for state in 0..part.len() {
         let number = part[state];

@@ -18,9 +18,12 @@ pub fn trim(alloc: Global, cut: &Cut<'_>, part: &mut [u32]) -> Result<bool, OutO
     requires lists { ArePredecessors cut.now.question.now.game cut.now.predecessors.now }
     requires keeps { KeepsEnds cut.now.question.now cut.now.replies.now part.old }
     ensures keeps { OnOk result (KeepsEnds cut.now.question.now cut.now.replies.now part.new) }
-    ensures refines { OnOk result ((s : ℕ) → slice_index part.new s ≢ 0 → slice_index part.new s ≡ slice_index part.old s) }
-    ensures still { IfOk result (λ any. any ≡ false → ((s : ℕ) → slice_index part.new s ≡ slice_index part.old s) × HaveInner cut.now.question.now cut.now.replies.now part.new) }
-    ensures lost { IfOk result (λ any. any ≡ true → (s : ℕ) × (s < states cut.now.question.now) × (slice_index part.old s ≢ 0) × (slice_index part.new s ≡ 0)) }
+    ensures refines { OnOk result ((s : ℕ) → slice_index part.new s ≢ 0
+        → slice_index part.new s ≡ slice_index part.old s) }
+    ensures still { IfOk result (λ any. any ≡ false → ((s : ℕ) → slice_index part.new s ≡ slice_index part.old s)
+        × HaveInner cut.now.question.now cut.now.replies.now part.new) }
+    ensures lost { IfOk result (λ any. any ≡ true → (s : ℕ) × (s < states cut.now.question.now)
+        × (slice_index part.old s ≢ 0) × (slice_index part.new s ≡ 0)) }
 {
     let states = cut.question.game().states();
     let mut awaited = vec![in alloc; 0u32; states as usize]?;
@@ -39,8 +42,10 @@ fn trim_all(
 ) -> Result<(), OutOfMemory>
     requires lists { ArePredecessors cut.now.question.now.game cut.now.predecessors.now }
     requires trimmed { IsTrimmed cut.now.question.now cut.now.replies.now part.old part.old awaited.old gone.old.items }
-    ensures trimmed { OnOk result (IsTrimmed cut.now.question.now cut.now.replies.now part.old part.new awaited.new gone.new.items) }
-    ensures inner { OnOk result (length gone.new.items ≡ 0 → HaveInner cut.now.question.now cut.now.replies.now part.new) }
+    ensures trimmed { OnOk result (IsTrimmed cut.now.question.now cut.now.replies.now part.old part.new awaited.new
+        gone.new.items) }
+    ensures inner { OnOk result (length gone.new.items ≡ 0 → HaveInner cut.now.question.now cut.now.replies.now
+        part.new) }
 {
     test_all(cut, part, awaited, gone)?;
     for place in 0..cut.question.game().states() as usize {
@@ -61,8 +66,10 @@ fn test_all(
     gone: &mut Vec<u32>,
 ) -> Result<(), OutOfMemory>
     requires trimmed { IsTrimmed cut.now.question.now cut.now.replies.now part.old part.old awaited.old gone.old.items }
-    ensures trimmed { OnOk result (IsTrimmed cut.now.question.now cut.now.replies.now part.old part.new awaited.new gone.new.items) }
-    ensures inner { OnOk result (length gone.new.items ≡ 0 → HaveInner cut.now.question.now cut.now.replies.now part.new) }
+    ensures trimmed { OnOk result (IsTrimmed cut.now.question.now cut.now.replies.now part.old part.new awaited.new
+        gone.new.items) }
+    ensures inner { OnOk result (length gone.new.items ≡ 0 → HaveInner cut.now.question.now cut.now.replies.now
+        part.new) }
 {
     for state in 0..cut.question.game().states() {
         if part[state as usize] != 0 {
@@ -82,8 +89,10 @@ fn follow_gone(
 ) -> Result<(), OutOfMemory>
     requires lists { ArePredecessors cut.now.question.now.game cut.now.predecessors.now }
     requires member { member < states cut.now.question.now }
-    requires kept { (old : List ℕ) × IsTrimmed cut.now.question.now cut.now.replies.now old part.old awaited.old gone.old.items }
-    ensures trimmed { OnOk result ((old : List ℕ) → IsTrimmed cut.now.question.now cut.now.replies.now old part.old awaited.old gone.old.items
+    requires kept { (old : List ℕ) × IsTrimmed cut.now.question.now cut.now.replies.now old part.old awaited.old
+        gone.old.items }
+    ensures trimmed { OnOk result ((old : List ℕ) → IsTrimmed cut.now.question.now cut.now.replies.now old part.old
+        awaited.old gone.old.items
         → IsTrimmed cut.now.question.now cut.now.replies.now old part.new awaited.new gone.new.items) }
     ensures longer { OnOk result (IsLonger gone.old.items gone.new.items) }
 {
@@ -107,11 +116,14 @@ fn test(
 ) -> Result<(), OutOfMemory>
     requires state { state < states cut.now.question.now }
     requires some { slice_index part.old state ≢ 0 }
-    requires kept { (old : List ℕ) × IsTrimmed cut.now.question.now cut.now.replies.now old part.old awaited.old gone.old.items }
-    ensures trimmed { OnOk result ((old : List ℕ) → IsTrimmed cut.now.question.now cut.now.replies.now old part.old awaited.old gone.old.items
+    requires kept { (old : List ℕ) × IsTrimmed cut.now.question.now cut.now.replies.now old part.old awaited.old
+        gone.old.items }
+    ensures trimmed { OnOk result ((old : List ℕ) → IsTrimmed cut.now.question.now cut.now.replies.now old part.old
+        awaited.old gone.old.items
         → IsTrimmed cut.now.question.now cut.now.replies.now old part.new awaited.new gone.new.items) }
     ensures longer { OnOk result (IsLonger gone.old.items gone.new.items) }
-    ensures inner { OnOk result (length gone.new.items ≡ 0 → (c : ℕ) × IsInner cut.now.question.now cut.now.replies.now part.new state c) }
+    ensures inner { OnOk result (length gone.new.items ≡ 0 → (c : ℕ)
+        × IsInner cut.now.question.now cut.now.replies.now part.new state c) }
 {
     let place = state as usize;
     let next = cut.next_inner(part, state, awaited[place]);

@@ -17,7 +17,8 @@ pub record Line : Type 0 where
 -- The lines that are not blank, with their numbers, of which the first line has this one.
 abbrev pub counted : ℕ → List (List ℕ) → List Line
 counted number [] = []
-counted number (line ∷ lines) = if is_nil (fields_of line) then counted (number + 1) lines else record { number = number; bytes = line } ∷ counted (number + 1) lines
+counted number (line ∷ lines) = if is_nil (fields_of line) then counted
+    (number + 1) lines else record { number = number; bytes = line } ∷ counted (number + 1) lines
 
 -- 1. One number a line.
 
@@ -39,7 +40,8 @@ fault_in_order n lines = or_count (length lines == n) (first_bad lines)
 -- the state of a line, which is below n and not named before, or why there is none
 abbrev pub new_state : ℕ → (ℕ → Bool) → Option ℕ → Result ℕ ValuesCause
 new_state n named None = Err BadField
-new_state n named (Some state) = if nat_lt state n then (if named state then Err DoubleState else Ok state) else Err StateOutOfRange
+new_state n named (Some state) = if nat_lt state n then (if named state then Err DoubleState else Ok state) else Err
+    StateOutOfRange
 
 -- this state is named as well
 abbrev pub with_state : ℕ → (ℕ → Bool) → ℕ → Bool
@@ -53,14 +55,16 @@ then_at number (Err cause) next = Some (fault_at number cause)
 -- each line is a state and a number, and no state stands twice; those before are named already
 abbrev pub fault_of_named : ℕ → (ℕ → Bool) → List Line → Option ValuesFault
 fault_of_named n named [] = None
-fault_of_named n named (line ∷ lines) = then_at line.number (new_state n named (state_of line.bytes)) (λ state. fault_of_named n (with_state state named) lines)
+fault_of_named n named (line ∷ lines) = then_at line.number (new_state n named (state_of line.bytes))
+    (λ state. fault_of_named n (with_state state named) lines)
 
 -- 3. The text.
 
 -- the first line says which form all have; without a line it is the first form
 abbrev pub fault_of_lines : ℕ → List Line → Option ValuesFault
 fault_of_lines n [] = fault_in_order n []
-fault_of_lines n (line ∷ lines) = if names_state line.bytes then fault_of_named n (λ state. false) (line ∷ lines) else fault_in_order n (line ∷ lines)
+fault_of_lines n (line ∷ lines) = if names_state line.bytes then fault_of_named n (λ state. false)
+    (line ∷ lines) else fault_in_order n (line ∷ lines)
 
 -- The first fault of a text, or none where it gives values of n states.
 abbrev pub fault_of : ℕ → List ℕ → Option ValuesFault

@@ -21,7 +21,8 @@ are_whole (Some parts) = is_some (number_of parts.0) && is_some (number_of parts
 abbrev pub is_fraction : List ℕ → Bool
 is_fraction field = are_whole (split_first 47 field)
 
--- A number is a float as Rust reads one: a sign or none, digits with a point or none, an exponent or none; or `inf`, `infinity` or `nan`
+-- A number is a float as Rust reads one: a sign or none, digits with a point or none, an exponent or none; or `inf`,
+-- `infinity` or `nan`
 -- in any case. Or it is a fraction.
 abbrev pub is_number : List ℕ → Bool
 is_number field = is_float_text field || is_fraction field
@@ -41,7 +42,8 @@ is_value bytes = is_one_number (fields_of bytes)
 abbrev pub is_mark : ℕ → Bool
 is_mark b = b == 61 || b == 58
 
--- the bytes before the last mark where there are these parts of what is behind the first byte; or the byte is the last mark
+-- the bytes before the last mark where there are these parts of what is behind the first byte; or the byte is the last
+-- mark
 abbrev pub behind_byte : ℕ → List ℕ → Option (List ℕ × List ℕ) → Option (List ℕ × List ℕ)
 behind_byte b bytes (Some parts) = Some (b ∷ parts.0, parts.1)
 behind_byte b bytes None = if is_mark b then Some ([], bytes) else None

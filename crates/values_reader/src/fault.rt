@@ -13,7 +13,8 @@ pub enum ValuesCause {
     LineCount,
 }
 
-/// A fault of a file of values, with its line. Lines count from 1, blank ones too; line 0 says that it is of no one line.
+/// A fault of a file of values, with its line. Lines count from 1, blank ones too; line 0 says that it is of no one
+/// line.
 #[derive(Clone, Copy, Debug, PartialEq, Eq)]
 pub struct ValuesFault {
     /// The number of the line.

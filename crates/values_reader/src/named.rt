@@ -40,7 +40,8 @@ impl NamedValues {
     // The state has this value.
     fn put(&mut self, state: u32, value: f64)
         requires { state < self.old.states }
-        ensures named { (other : ℕ) → marked self.new.named.items other ≡ with_state state (marked self.old.named.items) other }
+        ensures named { (other : ℕ) → marked self.new.named.items other
+            ≡ with_state state (marked self.old.named.items) other }
         ensures states { self.new.states ≡ self.old.states }
     {
         self.named[state as usize] = true;

@@ -12,8 +12,8 @@ use crate::lines::next_line;
 use crate::named::read_named;
 use std::alloc::Global;
 
-/// The values of so many states that a text has, each from 0 to 1: a number above 1 counts as 1, and one below 0 or none as 0.
-/// Or the first fault of the text. Of the values nothing is promised but that there is one for each state.
+/// The values of so many states that a text has, each from 0 to 1: a number above 1 counts as 1, and one below 0 or
+/// none as 0. Or the first fault of the text. Of the values nothing is promised but that there is one for each state.
 pub fn read_values(alloc: Global, text: &[u8], states: u32) -> Result<Vec<f64>, ValuesEnd>
     requires { length text.now ≤ most_bytes }
     ensures exact { Answers (fault_of states text.now) result }

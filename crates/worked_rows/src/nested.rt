@@ -162,8 +162,8 @@ fn workers_of_every_number_write_the_same(rt: HostRuntime) -> Result<(), Fail> {
     Ok(())
 }
 
-/// Formulas of which one run alone passes the gate, since with `F<=0` no step is made: that of the outermost formula, and
-/// that of the one inside.
+/// Formulas of which one run alone passes the gate, since with `F<=0` no step is made: that of the outermost formula,
+/// and that of the one inside.
 const OF_ONE_RUN: [&str; 7] = [
     "Pmax=? [ F P>=1 [ F<=0 \"goal\" ] ]",
     "Pmax=? [ G P<1 [ F<=0 \"goal\" ] ]",
