@@ -18,8 +18,8 @@ use Rattle.rpatl_syntax.proofs.Denoted.{formula_denoted}
 use Rattle.rpatl_syntax.proofs.Again.{formula_said_again}
 use Rattle.rpatl_syntax.specs.declared.formula.PathKind.{PathKind}
 use Rattle.rpatl_syntax.specs.declared.formula.PathKind.TheVariants.{Until, Within, Next, Always}
-use Rattle.rpatl_syntax.specs.Dual.{dual_of}
-use Rattle.formula_sets.specs.Posing.{Model, initial_said, pose_said, pose_next_said}
+use Rattle.rpatl_syntax.specs.Dual.{dual_of, answered_by}
+use Rattle.formula_sets.specs.Posing.{Model, Posing, Poses, initial_said, pose_said, pose_next_said}
 use Rattle.formula_sets.proofs.Asking.{pose-found, pose-again}
 use Rattle.formula_sets.proofs.AskingNext.{pose_next-found, pose_next-again}
 use Rattle.run_refusals.specs.declared.refusal.Refusal.{Refusal}
@@ -28,7 +28,7 @@ use Rattle.run_refusals.specs.declared.refusal.Text.{Text}
 use Rattle.run_refusals.specs.declared.refusal.Text.TheVariants.{Tra, Lab, Own}
 use Rattle.command_words.specs.Words.{Asked}
 use Rattle.asked_files.specs.declared.problem.Paths.{Paths}
-use Rattle.asked_files.specs.Problems.{Problem, OfUntil, OfWithin, OfNext, OfAlways, OfNested, PosesProblem, takes_formula}
+use Rattle.asked_files.specs.Problems.{Problem, OfReach, OfWithin, OfNext, OfNested, IsReaching, PosesProblem, takes_formula}
 use Rattle.asked_files.specs.Said.{Said, NotHeld, Refuses, Denoted, and_then, read_said}
 use Rattle.asked_files.specs.Sources.{Sources}
 use Rattle.asked_files.specs.Texts.{text_said, game_said, labels_said, owners_said}
@@ -99,10 +99,17 @@ module _ (game : List (List Distribution)) (labels : Labelling) (owners : Owners
   abbrev model : Model
   model = record { game = game; labels = labels; owners = owners }
 
+  -- what is to be reached, by the kind of the paths
+  abbrev IsReachBy : Tree → Posing → PathKind → Type 0
+  IsReachBy formula p kind = IsReaching kind × Poses game labels owners (answered_by kind formula) p
+
+  reaches : (formula : Tree) (p : Posing) {kind other : PathKind} → kind ≡ other → IsReachBy formula p kind → IsReachBy formula p other
+  reaches formula p same is = subst (IsReachBy formula p) same is
+
   poses_by : (kind : PathKind) (formula : Tree) (problem : Problem) → IsFlat formula → formula.kind ≡ kind → posed_by kind (reading_with game labels owners formula) ≡ Denoted problem → PosesProblem game labels owners formula problem
   poses_by Until formula problem flat of is =
-      let r = posed_ok OfQuestion (pose_said game labels owners formula) OfUntil problem is in
-      subst (PosesProblem game labels owners formula) r.2 (flat, of, pose-found game labels owners formula r.0 r.1)
+      let r = posed_ok OfQuestion (pose_said game labels owners formula) OfReach problem is in
+      subst (PosesProblem game labels owners formula) r.2 (flat, reaches formula r.0 (sym of) (tt, pose-found game labels owners formula r.0 r.1))
   poses_by (Within k) formula problem flat of is =
       let r = posed_ok OfQuestion (pose_said game labels owners formula) (OfWithin k) problem is in
       subst (PosesProblem game labels owners formula) r.2 (flat, of, pose-found game labels owners formula r.0 r.1)
@@ -110,8 +117,8 @@ module _ (game : List (List Distribution)) (labels : Labelling) (owners : Owners
       let r = posed_ok OfQuestion (pose_next_said game labels owners formula) OfNext problem is in
       subst (PosesProblem game labels owners formula) r.2 (flat, of, pose_next-found game labels owners formula r.0 r.1)
   poses_by Always formula problem flat of is =
-      let r = posed_ok OfQuestion (pose_said game labels owners (dual_of formula)) OfAlways problem is in
-      subst (PosesProblem game labels owners formula) r.2 (flat, of, pose-found game labels owners (dual_of formula) r.0 r.1)
+      let r = posed_ok OfQuestion (pose_said game labels owners (dual_of formula)) OfReach problem is in
+      subst (PosesProblem game labels owners formula) r.2 (flat, reaches formula r.0 (sym of) (tt, pose-found game labels owners (dual_of formula) r.0 r.1))
 
   -- with formulas inside, or with none
   any_poses : (formula : Tree) (problem : Problem) (flat : Bool) → (is_flat formula.left && is_flat formula.right) ≡ flat
@@ -127,11 +134,16 @@ module _ (game : List (List Distribution)) (labels : Labelling) (owners : Owners
   flat_again : (formula : Tree) (problem : Problem) → IsFlat formula → posed_by formula.kind (reading_with game labels owners formula) ≡ Denoted problem → any_posed (reading_with game labels owners formula) ≡ Denoted problem
   flat_again formula problem flat is = ap (any_by formula) flat ∙ is
 
+  reach_again : (kind : PathKind) (formula : Tree) (p : Posing) → IsReachBy formula p kind → posed_by kind (reading_with game labels owners formula) ≡ Denoted (OfReach p)
+  reach_again Until formula p (reaching, poses) = ap (λ r. and_then (read_said OfQuestion r) (λ x. Denoted (OfReach x))) (pose-again game labels owners formula p poses)
+  reach_again (Within k) formula p (wrong, poses) = absurd wrong
+  reach_again Next formula p (wrong, poses) = absurd wrong
+  reach_again Always formula p (reaching, poses) = ap (λ r. and_then (read_said OfQuestion r) (λ x. Denoted (OfReach x))) (pose-again game labels owners (dual_of formula) p poses)
+
   posed_again : (formula : Tree) (problem : Problem) → PosesProblem game labels owners formula problem → any_posed (reading_with game labels owners formula) ≡ Denoted problem
-  posed_again formula (OfUntil p) (flat, of, poses) = flat_again formula (OfUntil p) flat (rw of (ap (λ r. and_then (read_said OfQuestion r) (λ x. Denoted (OfUntil x))) (pose-again game labels owners formula p poses)))
+  posed_again formula (OfReach p) (flat, reaching) = flat_again formula (OfReach p) flat (reach_again formula.kind formula p reaching)
   posed_again formula (OfWithin k p) (flat, of, poses) = flat_again formula (OfWithin k p) flat (rw of (ap (λ r. and_then (read_said OfQuestion r) (λ x. Denoted (OfWithin k x))) (pose-again game labels owners formula p poses)))
   posed_again formula (OfNext p) (flat, of, poses) = flat_again formula (OfNext p) flat (rw of (ap (λ r. and_then (read_said OfQuestion r) (λ x. Denoted (OfNext x))) (pose_next-again game labels owners formula p poses)))
-  posed_again formula (OfAlways p) (flat, of, poses) = flat_again formula (OfAlways p) flat (rw of (ap (λ r. and_then (read_said OfQuestion r) (λ x. Denoted (OfAlways x))) (pose-again game labels owners (dual_of formula) p poses)))
   posed_again formula (OfNested m initial) (nested, of, said) =
       ap (any_by formula) (is_not_flat (is_flat formula.left && is_flat formula.right) nested)
       ∙ (ap (λ r. and_then (read_said OfQuestion r) (λ x. Denoted (OfNested model x))) said ∙ ap (λ m. Denoted (OfNested m initial)) (sym of))

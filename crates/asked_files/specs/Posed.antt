@@ -13,7 +13,7 @@ use Rattle.run_refusals.specs.declared.refusal.Refusal.TheVariants.{OfFormula, O
 use Rattle.asked_files.specs.declared.model.Loaded.{Loaded}
 use Rattle.command_words.specs.Words.{Asked}
 use Rattle.asked_files.specs.declared.problem.Paths.{Paths}
-use Rattle.asked_files.specs.Problems.{Problem, OfUntil, OfWithin, OfNext, OfAlways, OfNested, takes_formula}
+use Rattle.asked_files.specs.Problems.{Problem, OfReach, OfWithin, OfNext, OfNested, takes_formula}
 use Rattle.asked_files.specs.Said.{Said, Refuses, Denoted, and_then, read_said}
 use Rattle.asked_files.specs.Sources.{Sources}
 use Rattle.asked_files.specs.Texts.{game_said, labels_said, owners_said}
@@ -62,16 +62,19 @@ behind_game sources asked game = and_then (labels_said sources.lab (length game)
 abbrev pub reading_said : Sources → Asked → Said Reading
 reading_said sources asked = and_then (game_said sources.tra) (λ game. behind_game sources asked game)
 
--- the problem that a reading poses, by the kind of its paths
+-- the problem that a reading poses where the goals of a formula are to be reached
+abbrev pub reach_posed : Tree → Reading → Said Problem
+reach_posed f r =
+    and_then (read_said OfQuestion (pose_said r.game r.labels r.owners f)) (λ posing. Denoted (OfReach posing))
+
+-- the problem that it poses, by the kind of its paths
 abbrev pub posed_by : PathKind → Reading → Said Problem
-posed_by Until r = and_then (read_said OfQuestion (pose_said r.game r.labels r.owners r.formula))
-    (λ posing. Denoted (OfUntil posing))
+posed_by Until r = reach_posed r.formula r
 posed_by (Within steps) r = and_then (read_said OfQuestion (pose_said r.game r.labels r.owners r.formula))
     (λ posing. Denoted (OfWithin steps posing))
 posed_by Next r = and_then (read_said OfQuestion (pose_next_said r.game r.labels r.owners r.formula))
     (λ posing. Denoted (OfNext posing))
-posed_by Always r = and_then (read_said OfQuestion (pose_said r.game r.labels r.owners (dual_of r.formula)))
-    (λ posing. Denoted (OfAlways posing))
+posed_by Always r = reach_posed (dual_of r.formula) r
 
 -- that of a formula with others inside
 abbrev pub nested_posed : Reading → Said Problem

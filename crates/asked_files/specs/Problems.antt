@@ -6,7 +6,7 @@ use Rattle.label_reader.specs.Labels.{Labelling}
 use Rattle.label_reader.specs.Owners.{Ownership}
 use Rattle.rpatl_syntax.specs.declared.formula.PathKind.{PathKind}
 use Rattle.rpatl_syntax.specs.declared.formula.PathKind.TheVariants.{Until, Within, Next, Always}
-use Rattle.rpatl_syntax.specs.Dual.{dual_of}
+use Rattle.rpatl_syntax.specs.Dual.{answered}
 use Rattle.rpatl_syntax.specs.Formula.{Tree, is_flat, IsFlat}
 use Rattle.formula_sets.specs.Posing.{Model, Posing, NextPosing, Poses, PosesNext, initial_said}
 use Rattle.asked_files.specs.declared.problem.Paths.{Paths}
@@ -14,44 +14,46 @@ use Rattle.asked_files.specs.declared.problem.Paths.TheVariants.{Any, Unbounded,
 
 -- 1. Problems.
 
--- to reach a goal; within so many steps; in the next step; of `G` to reach a goal of the dual; and of a formula with
--- others inside a game whose states have labels and owners, with its initial states
+-- to reach a goal, of `G` one of the dual; within so many steps; in the next step; and of a formula with others inside a
+-- game whose states have labels and owners, with its initial states
 pub data Problem : Type 0 where
-  OfUntil : (posing : Posing) → Problem
+  OfReach : (posing : Posing) → Problem
   OfWithin : (steps : ℕ) → (posing : Posing) → Problem
   OfNext : (posing : NextPosing) → Problem
-  OfAlways : (posing : Posing) → Problem
   OfNested : (model : Model) → (initial : List ℕ) → Problem
 
 abbrev pub initial_of : Problem → List ℕ
-initial_of (OfUntil p) = p.initial
+initial_of (OfReach p) = p.initial
 initial_of (OfWithin k p) = p.initial
 initial_of (OfNext p) = p.initial
-initial_of (OfAlways p) = p.initial
 initial_of (OfNested m initial) = initial
 
 -- how many states the game has
 abbrev pub states_of : Problem → ℕ
-states_of (OfUntil p) = states p.question
+states_of (OfReach p) = states p.question
 states_of (OfWithin k p) = states p.question
 states_of (OfNext p) = states p.question
-states_of (OfAlways p) = states p.question
 states_of (OfNested m initial) = length m.game
 
 -- the question whose goals are reached, without a bound on the steps; other problems have none
 abbrev pub posing_in : Problem → Option Posing
-posing_in (OfUntil p) = Some p
+posing_in (OfReach p) = Some p
 posing_in (OfWithin k p) = None
 posing_in (OfNext p) = None
-posing_in (OfAlways p) = Some p
 posing_in (OfNested m initial) = None
+
+-- such paths come to a goal, of `G` of the dual, without a bound on the steps
+abbrev pub IsReaching : PathKind → Type 0
+IsReaching Until = Unit {0}
+IsReaching (Within k) = ⊥
+IsReaching Next = ⊥
+IsReaching Always = Unit {0}
 
 -- the formula poses this problem of a game whose states have these labels and owners
 abbrev pub PosesProblem : List (List Distribution) → Labelling → Ownership → Tree → Problem → Type 0
-PosesProblem game l o f (OfUntil p) = IsFlat f × (f.kind ≡ Until) × Poses game l o f p
+PosesProblem game l o f (OfReach p) = IsFlat f × IsReaching f.kind × Poses game l o (answered f) p
 PosesProblem game l o f (OfWithin k p) = IsFlat f × (f.kind ≡ Within k) × Poses game l o f p
 PosesProblem game l o f (OfNext p) = IsFlat f × (f.kind ≡ Next) × PosesNext game l o f p
-PosesProblem game l o f (OfAlways p) = IsFlat f × (f.kind ≡ Always) × Poses game l o (dual_of f) p
 PosesProblem game l o f (OfNested m initial) = (¬ IsFlat f) × (m ≡ record { game = game; labels = l; owners = o })
     × (initial_said l o f ≡ Ok initial)
 

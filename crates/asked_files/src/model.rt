@@ -156,7 +156,10 @@ fn pose_kind(alloc: Global, loaded: &Loaded) -> Result<Problem<'_>, End>
     ensures nothing { ReadsNothing result }
 {
     match loaded.formula.kind {
-        PathKind::Until => Ok(Problem::Until(pose_reach(alloc, loaded, &loaded.formula)?)),
+        PathKind::Until => {
+            let posed = pose_reach(alloc, loaded, &loaded.formula)?;
+            Ok(Problem::Reach(posed, None))
+        }
         PathKind::Within(steps) => {
             let posed = pose_reach(alloc, loaded, &loaded.formula)?;
             Ok(Problem::Within(posed, steps))
@@ -165,7 +168,7 @@ fn pose_kind(alloc: Global, loaded: &Loaded) -> Result<Problem<'_>, End>
         PathKind::Always => {
             let dual = dual_of_formula(alloc, &loaded.formula)?;
             let posed = pose_reach(alloc, loaded, &dual)?;
-            Ok(Problem::Always(posed, dual))
+            Ok(Problem::Reach(posed, Some(dual)))
         }
     }
 }

@@ -9,23 +9,23 @@ use rpatl_syntax::{Formula, PathKind};
 /// What a formula asks, by the kind of its paths.
 #[derive(Drop)]
 pub enum Problem<'g> {
-    /// `F` and `U`: to reach a goal.
-    Until(Posed<'g>),
+    /// `F` and `U`: to reach a goal. `G`: to reach one of its dual, which stands beside the question.
+    Reach(Posed<'g>, Option<Formula>),
     /// `F<=k` and `U<=k`: to reach a goal within so many steps.
     Within(Posed<'g>, u32),
     /// `X`: to be where the right side holds after one step.
     Next(PosedNext<'g>),
-    /// `G`: the question of its dual, and the dual.
-    Always(Posed<'g>, Formula),
     /// A formula with others inside: what was loaded, and the initial states.
     Nested(&'g Loaded, Vec<u32>),
 }
 
 impl<'g> Problem<'g> {
     ghost use Rattle.std.specs.Prelude.{Some};
+    ghost use Rattle.rpatl_syntax.specs.Dual.{answered};
+    ghost use Rattle.rpatl_syntax.specs.Formula.{tree_of};
     ghost use Rattle.formula_sets.specs.Seen.{posing_of};
     ghost use Rattle.asked_files.specs.Problems.{posing_in};
-    ghost use Rattle.asked_files.specs.SeenProblems.{IsUnbounded, problem_of};
+    ghost use Rattle.asked_files.specs.SeenProblems.{HasDual, IsUnbounded, problem_of};
 
     /// The question whose goals are reached, without a bound on the steps: of `G` that of its dual.
     pub fn reached(&self) -> &Posed<'g>
@@ -33,7 +33,20 @@ impl<'g> Problem<'g> {
         ensures { posing_in (problem_of self.now) ≡ Some (posing_of result.now) }
     {
         match self {
-            Problem::Until(posed) | Problem::Always(posed, _) => posed,
+            Problem::Reach(posed, _) => posed,
+            Problem::Within(_, _) | Problem::Next(_) | Problem::Nested(_, _) => unreachable!(),
+        }
+    }
+
+    /// The formula whose question is answered: of `G` the dual.
+    pub fn answered<'a>(&'a self, formula: &'a Formula) -> &'a Formula
+        requires unbounded { IsUnbounded self.now }
+        requires dual { HasDual (tree_of formula.now) self.now }
+        ensures { tree_of result.now ≡ answered (tree_of formula.now) }
+    {
+        match self {
+            Problem::Reach(_, Some(dual)) => dual,
+            Problem::Reach(_, None) => formula,
             Problem::Within(_, _) | Problem::Next(_) | Problem::Nested(_, _) => unreachable!(),
         }
     }

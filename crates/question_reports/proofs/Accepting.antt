@@ -15,7 +15,7 @@ use Rattle.command_words.specs.Words.{Check}
 use Rattle.run_answers.specs.declared.status.Status.{Status}
 use Rattle.run_answers.specs.Printed.{line_for, output_of}
 use Rattle.asked_files.specs.declared.problem.Paths.TheVariants.{Unbounded}
-use Rattle.asked_files.specs.Problems.{Problem, OfUntil, OfWithin, OfNext, OfAlways, OfNested, PosesProblem, posing_in, takes, takes_formula}
+use Rattle.asked_files.specs.Problems.{Problem, OfReach, OfWithin, OfNext, OfNested, PosesProblem, posing_in, takes, takes_formula}
 use Rattle.rpatl_syntax.specs.Dual.{answered}
 use Rattle.question_reports.specs.Reports.{IsBracketReport}
 use Rattle.question_reports.specs.Solved.{IsSolved}
@@ -66,8 +66,7 @@ not_taken g false of taken = cc (taken)
 
 -- a problem that they pose is to reach a goal
 pub has-posing : (game : List (List Distribution)) (labels : Labelling) (owners : Ownership) (g : Tree) (problem : Problem) → PosesProblem game labels owners g problem → takes_formula Unbounded g ≡ true → IsSome (posing_in problem)
-has-posing game labels owners g (OfUntil p) poses taken = refl
-has-posing game labels owners g (OfAlways p) poses taken = refl
+has-posing game labels owners g (OfReach p) poses taken = refl
 has-posing game labels owners g (OfWithin k p) (flat, of, poses) taken =
     let by = not_taken g (is_flat g.left && is_flat g.right) refl taken in
     let not : takes Unbounded g.kind ≡ false = ap (takes Unbounded) of in

@@ -22,11 +22,11 @@ use Rattle.run_answers.specs.declared.status.Status.{Status}
 use Rattle.asked_files.specs.Asks.{Asks}
 use Rattle.asked_files.specs.declared.problem.Paths.{Paths}
 use Rattle.asked_files.specs.declared.problem.Paths.TheVariants.{Any, Unbounded}
-use Rattle.asked_files.specs.Problems.{Problem, OfUntil, OfWithin, OfNext, OfAlways, OfNested, PosesProblem, initial_of, posing_in}
+use Rattle.asked_files.specs.Problems.{Problem, OfReach, OfWithin, OfNext, OfNested, PosesProblem, initial_of, posing_in}
 use Rattle.rpatl_syntax.specs.Dual.{answered}
 use Rattle.asked_files.specs.Sources.{Sources, sources_of}
 use Rattle.stogame_app.specs.Commands.{IsAcceptedOf, check_paths}
-use Rattle.stogame_app.specs.Reports.{Checks, IsReportOfWords, of_until, of_always, of_within, of_next, of_nested, of_audit, of_solve, of_sure, of_make}
+use Rattle.stogame_app.specs.Reports.{Checks, IsReportOfWords, of_reach, of_within, of_next, of_nested, of_audit, of_solve, of_sure, of_make}
 use Rattle.stogame_app.proofs.Complete.{AreOneCommand}
 use Rattle.run_answers.proofs.Passing.{AreReadBack}
 use Rattle.run_answers.proofs.PlainParts.{spellable-plain, answered-plain}
@@ -57,10 +57,9 @@ game-few text game denotes = omega (arith, denotes.states, denotes.is_header.few
 
 -- the initial states of a problem are those with the label
 problem-starts : (game : List (List Distribution)) (labels : Labelling) (owners : Ownership) (f : Tree) (problem : Problem) → PosesProblem game labels owners f problem → initial_of problem ≡ states_with labels init
-problem-starts game labels owners f (OfUntil p) (flat, of, poses) = poses.set_up.starts
+problem-starts game labels owners f (OfReach p) (flat, of, poses) = poses.set_up.starts
 problem-starts game labels owners f (OfWithin k p) (flat, of, poses) = poses.set_up.starts
 problem-starts game labels owners f (OfNext p) (flat, of, poses) = poses.set_up.starts
-problem-starts game labels owners f (OfAlways p) (flat, of, poses) = poses.set_up.starts
 problem-starts game labels owners f (OfNested m initial) (nested, of, said) = (initial-found labels owners f initial said).starts
 
 pub initial-few : (paths : Paths) (sources : Sources) (asked : Asked) (problem : Problem) → Asks paths sources asked problem → length (initial_of problem) ≤ most_states
@@ -97,8 +96,7 @@ check-few spellable check problem f asks = record {
 
 pub printed-short : AreOneCommand → AreSpellable → (words : List (List ℕ)) (holding : Option Holding) (taken : ℕ) (check : Check) (text : List ℕ) (status : Status) → AreCommand words (OfCheck check)
     → IsReportOfWords words holding taken text status → length text ≤ most_bytes
-printed-short one spellable words holding taken check text status denoted (of_until other p f asks report) = let few = check-few spellable other (OfUntil p) f asks in report-text-short p.question p.initial f other text status few.states few.spelled report
-printed-short one spellable words holding taken check text status denoted (of_always other p f asks report) = let few = check-few spellable other (OfAlways p) f asks in report-text-short p.question p.initial f other text status few.states few.spelled report
+printed-short one spellable words holding taken check text status denoted (of_reach other p f asks report) = let few = check-few spellable other (OfReach p) f asks in report-text-short p.question p.initial f other text status few.states few.spelled report
 printed-short one spellable words holding taken check text status denoted (of_within other steps p f asks report) = let few = check-few spellable other (OfWithin steps p) f asks in sweep-text-short _ _ _ _ p.initial f text status few.states report.report
 printed-short one spellable words holding taken check text status denoted (of_next other p f asks report) = let few = check-few spellable other (OfNext p) f asks in sweep-text-short _ _ _ _ p.initial f text status few.states report.report
 printed-short one spellable words holding taken check text status denoted (of_nested other model initial f asks report) = let few = check-few spellable other (OfNested model initial) f asks in nested-text-short model initial f other.rounds text status few.states report
@@ -161,8 +159,7 @@ module _ (read_back : AreReadBack) (certificates : AreCertificates) (one : AreOn
       let same : check ≡ other = cc (commands) in subst (λ (k : Check). IsSaved held later k audit text) same saved
 
   by_report : (check : Check) → AreCommand words (OfCheck check) → IsSaved held later check audit text → IsReportOfWords words (Some held) taken text status → IsAcceptedOf later (OfAudit audit)
-  by_report check denoted saved (of_until other p f asks report) = reached-accepted other (OfUntil p) p f refl refl (of_other check other denoted asks.denoted saved) asks report
-  by_report check denoted saved (of_always other p f asks report) = reached-accepted other (OfAlways p) p f refl refl (of_other check other denoted asks.denoted saved) asks report
+  by_report check denoted saved (of_reach other p f asks report) = reached-accepted other (OfReach p) p f refl refl (of_other check other denoted asks.denoted saved) asks report
   by_report check denoted saved (of_within other steps p f asks report) = absurd (no-certificate other (OfWithin steps p) f refl (of_other check other denoted asks.denoted saved) asks)
   by_report check denoted saved (of_next other p f asks report) = absurd (no-certificate other (OfNext p) f refl (of_other check other denoted asks.denoted saved) asks)
   by_report check denoted saved (of_nested other model initial f asks report) = absurd (no-certificate other (OfNested model initial) f refl (of_other check other denoted asks.denoted saved) asks)

@@ -9,10 +9,10 @@ use Rattle.command_words.specs.Words.{Asked, Solve, Audit, Command, OfCheck, OfA
 use Rattle.run_answers.specs.declared.status.Status.{Status}
 use Rattle.asked_files.specs.Asks.{Asks}
 use Rattle.asked_files.specs.declared.problem.Paths.TheVariants.{Unbounded}
-use Rattle.asked_files.specs.Problems.{Problem, OfUntil, OfWithin, OfNext, OfAlways, OfNested, initial_of, posing_in}
+use Rattle.asked_files.specs.Problems.{Problem, OfReach, OfWithin, OfNext, OfNested, initial_of, posing_in}
 use Rattle.asked_files.specs.Sources.{Sources, sources_of}
 use Rattle.stogame_app.specs.Commands.{IsAcceptedOf}
-use Rattle.stogame_app.specs.Reports.{WordsPose, IsReportOfWords, of_until, of_always, of_within, of_next, of_nested, of_audit, of_solve, of_sure, of_make}
+use Rattle.stogame_app.specs.Reports.{WordsPose, IsReportOfWords, of_reach, of_within, of_next, of_nested, of_audit, of_solve, of_sure, of_make}
 use Rattle.stogame_app.proofs.Complete.{AreOneCommand}
 use Rattle.run_answers.proofs.Passing.{AreReadBack}
 use Rattle.run_answers.proofs.PlainParts.{spellable-plain, answered-plain}
@@ -35,8 +35,7 @@ same_solve one words solve command denoted also = subst (OneSolve solve) (one wo
 
 -- the initial states of the question that is reached are those of the problem
 reached-initial : (problem : Problem) (p : Posing) → posing_in problem ≡ Some p → initial_of problem ≡ p.initial
-reached-initial (OfUntil q) p is = let same : q ≡ p = cc (is) in ap (λ (r : Posing). r.initial) same
-reached-initial (OfAlways q) p is = let same : q ≡ p = cc (is) in ap (λ (r : Posing). r.initial) same
+reached-initial (OfReach q) p is = let same : q ≡ p = cc (is) in ap (λ (r : Posing). r.initial) same
 reached-initial (OfWithin k q) p is = cc (is)
 reached-initial (OfNext q) p is = cc (is)
 reached-initial (OfNested m initial) p is = cc (is)
@@ -52,8 +51,7 @@ module _ (one : AreOneCommand) (spellable : AreSpellable) (words : List (List �
   solve-short (of_solve other problem p f asks reached given solved) =
       let few = solve-few other problem f asks in
       solved-text-short p.question p.initial f other.plan text status (subst (λ (xs : List ℕ). length xs ≤ most_states) (reached-initial problem p reached) few.states) few.spelled solved
-  solve-short (of_until other p f asks report) = absurd (same_solve one words solve (OfCheck other) denoted asks.denoted)
-  solve-short (of_always other p f asks report) = absurd (same_solve one words solve (OfCheck other) denoted asks.denoted)
+  solve-short (of_reach other p f asks report) = absurd (same_solve one words solve (OfCheck other) denoted asks.denoted)
   solve-short (of_within other steps p f asks report) = absurd (same_solve one words solve (OfCheck other) denoted asks.denoted)
   solve-short (of_next other p f asks report) = absurd (same_solve one words solve (OfCheck other) denoted asks.denoted)
   solve-short (of_nested other model initial f asks report) = absurd (same_solve one words solve (OfCheck other) denoted asks.denoted)
@@ -85,8 +83,7 @@ module _ (read_back : AreReadBack) (certificates : AreCertificates) (one : AreOn
       let is : other ≡ solve = same_solve one words solve (OfSolve other) denoted asks.denoted in
       let short : length text ≤ most_bytes = solve-short one spellable words (Some held) taken solve text status denoted (of_solve other problem p f asks reached hints solved) in
       of_this problem p f (subst (λ (s : Solve). WordsPose words (Some held) taken (OfSolve s) s.asked Unbounded problem f) is asks) reached (subst (λ (s : Solve). IsSolved p.question p.initial f s.plan text status) is solved) short
-  solve-accepted (of_until other p f asks report) = absurd (same_solve one words solve (OfCheck other) denoted asks.denoted)
-  solve-accepted (of_always other p f asks report) = absurd (same_solve one words solve (OfCheck other) denoted asks.denoted)
+  solve-accepted (of_reach other p f asks report) = absurd (same_solve one words solve (OfCheck other) denoted asks.denoted)
   solve-accepted (of_within other steps p f asks report) = absurd (same_solve one words solve (OfCheck other) denoted asks.denoted)
   solve-accepted (of_next other p f asks report) = absurd (same_solve one words solve (OfCheck other) denoted asks.denoted)
   solve-accepted (of_nested other model initial f asks report) = absurd (same_solve one words solve (OfCheck other) denoted asks.denoted)

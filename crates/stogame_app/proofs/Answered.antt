@@ -12,7 +12,7 @@ use Rattle.asked_files.specs.declared.load.End.TheVariants.{OutOfMemory, ReadFau
 use Rattle.asked_files.specs.declared.problem.Paths.{Paths}
 use Rattle.asked_files.specs.declared.problem.Paths.TheVariants.{Unbounded, Reaching}
 use Rattle.formula_sets.specs.Posing.{Posing}
-use Rattle.asked_files.specs.Problems.{Problem, OfUntil, OfWithin, OfNext, OfAlways, OfNested, initial_of, posing_in, states_of}
+use Rattle.asked_files.specs.Problems.{Problem, OfReach, OfWithin, OfNext, OfNested, initial_of, posing_in, states_of}
 use Rattle.asked_files.specs.Said.{Said, NotHeld, Refuses, and_then}
 use Rattle.asked_files.specs.Sources.{Sources, SourceWith, IfKnown, sources_of}
 use Rattle.asked_files.specs.Loading.{IsTooLong, LoadingLeaves, Loads, ReadsNothing, RefusesCaused, Takes}
@@ -75,8 +75,7 @@ lacks_hints (Some held) solve problem poses none = inr ((problem, subst (λ (s :
 
 -- the initial states of the question that is reached are its states
 pub reached-inside : (problem : Problem) (posing : Posing) → posing_in problem ≡ Some posing → All (λ s. s < states_of problem) (initial_of problem) → All (λ s. s < states posing.question) posing.initial
-reached-inside (OfUntil p) posing is inside = let same : p ≡ posing = cc (is) in subst (λ (q : Posing). All (λ s. s < states q.question) q.initial) same inside
-reached-inside (OfAlways p) posing is inside = let same : p ≡ posing = cc (is) in subst (λ (q : Posing). All (λ s. s < states q.question) q.initial) same inside
+reached-inside (OfReach p) posing is inside = let same : p ≡ posing = cc (is) in subst (λ (q : Posing). All (λ s. s < states q.question) q.initial) same inside
 reached-inside (OfWithin k p) posing is inside = cc (is)
 reached-inside (OfNext p) posing is inside = cc (is)
 reached-inside (OfNested m initial) posing is inside = cc (is)

@@ -12,7 +12,7 @@ use Rattle.rpatl_syntax.specs.Spellable.{IsSpellable}
 use Rattle.formula_sets.specs.Truth.{holds}
 use Rattle.formula_sets.specs.Posing.{NextPosing, PosesNext}
 use Rattle.asked_files.specs.declared.problem.Problem.{Problem}
-use Rattle.asked_files.specs.declared.problem.Problem.TheVariants.{Until, Within, Next, Always, Nested}
+use Rattle.asked_files.specs.declared.problem.Problem.TheVariants.{Reach, Within, Next, Nested}
 use Rattle.asked_files.specs.Problems.{PosesProblem}
 use Rattle.asked_files.specs.declared.model.Loaded.{Loaded}
 use Rattle.asked_files.specs.Posed.{HasSizes}
@@ -49,9 +49,8 @@ of_next game l o f p poses =
 -- what was loaded poses a problem that can be reported on, where its formula was read from a text
 pub reportable : (game : List (List Distribution)) (l : Labelling) (o : Ownership) (f : Tree) (loaded : Loaded) (problem : Problem) → PosesProblem game l o f (problem_of problem) → IsOfLoaded loaded problem → HasSizes loaded.game loaded.labels loaded.owners
     → IsSpellable (tree_of loaded.formula) → formulas_inside (tree_of loaded.formula) ≤ longest → IsReportable problem (tree_of loaded.formula)
-reportable game l o f loaded (Until posed) poses of sizes spellable few = tt
+reportable game l o f loaded (Reach posed dual) poses of sizes spellable few = tt
 reportable game l o f loaded (Within posed steps) poses of sizes spellable few = tt
 reportable game l o f loaded (Next posed) (flat, kind, poses) of sizes spellable few = of_next game l o f _ poses
-reportable game l o f loaded (Always posed dual) poses of sizes spellable few = tt
 reportable game l o f loaded (Nested other initial) poses of sizes spellable few =
     subst (λ (k : Loaded). IsAnswerable k initial.items × (tree_of k.formula ≡ tree_of loaded.formula)) (sym of.0) (record { sizes = sizes; spellable = spellable; few = few; named = of.1 }, refl)

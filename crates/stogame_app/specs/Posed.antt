@@ -2,15 +2,14 @@
 use Rattle.std.specs.Prelude.{◌≡◌}
 use Rattle.rpatl_syntax.specs.Formula.{Tree, tree_of}
 use Rattle.asked_files.specs.declared.problem.Problem.{Problem}
-use Rattle.asked_files.specs.declared.problem.Problem.TheVariants.{Until, Within, Next, Always, Nested}
+use Rattle.asked_files.specs.declared.problem.Problem.TheVariants.{Reach, Within, Next, Nested}
 use Rattle.question_reports.specs.Nested.{IsAnswerable}
 use Rattle.question_reports.specs.Sweeps.{IsOpening}
 
 -- it can be reported on: with `X` the table is one of one step, and with formulas inside what was loaded poses it, and
 -- is of this formula
 abbrev pub IsReportable : Problem → Tree → Type 0
-IsReportable (Until posed) f = Unit {0}
+IsReportable (Reach posed dual) f = Unit {0}
 IsReportable (Within posed steps) f = Unit {0}
 IsReportable (Next posed) f = IsOpening posed.question posed.opening.items
-IsReportable (Always posed dual) f = Unit {0}
 IsReportable (Nested loaded initial) f = IsAnswerable loaded.now initial.items × (tree_of loaded.now.formula ≡ f)

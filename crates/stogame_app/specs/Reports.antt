@@ -9,7 +9,7 @@ use Rattle.formula_sets.specs.Posing.{Model, Posing, NextPosing}
 use Rattle.command_words.specs.Words.{Asked, Check, Audit, Solve, Make, Command, OfCheck, OfAudit, OfSolve, OfMake, OfSure, AreCommand}
 use Rattle.asked_files.specs.declared.problem.Paths.{Paths}
 use Rattle.asked_files.specs.declared.problem.Paths.TheVariants.{Unbounded, Reaching}
-use Rattle.asked_files.specs.Problems.{Problem, OfUntil, OfWithin, OfNext, OfAlways, OfNested, posing_in}
+use Rattle.asked_files.specs.Problems.{Problem, OfReach, OfWithin, OfNext, OfNested, posing_in}
 use Rattle.asked_files.specs.Sources.{SourceWith}
 use Rattle.asked_files.specs.Asks.{GivenTextWith}
 use Rattle.asked_files.specs.Questions.{PosesIt, GivesValues}
@@ -42,11 +42,8 @@ Checks words holding taken check problem f =
 -- The text and the status are the report of the command that the words denote.
 pub data IsReportOfWords (words : List (List ℕ)) (holding : Option Holding) (taken : ℕ) (text : List ℕ)
     (status : Status) : Type 0 where
-  -- `check` of `F` and `U`: bounds of the k-step values of a question
-  of_until : (check : Check) (p : Posing) (f : Tree) → Checks words holding taken check (OfUntil p) f
-      → IsBracketReport p.question p.initial f check text status → IsReportOfWords words holding taken text status
-  -- `check` of `G`: the same of its dual
-  of_always : (check : Check) (p : Posing) (f : Tree) → Checks words holding taken check (OfAlways p) f
+  -- `check` of `F`, `U` and, by its dual, `G`: bounds of the k-step values of a question
+  of_reach : (check : Check) (p : Posing) (f : Tree) → Checks words holding taken check (OfReach p) f
       → IsBracketReport p.question p.initial f check text status → IsReportOfWords words holding taken text status
   -- `check` of `F<=k` and `U<=k`: bounds of the values of exactly so many steps
   of_within : (check : Check) (steps : ℕ) (p : Posing) (f : Tree)

@@ -88,9 +88,9 @@ fn report_on<R: Threads + Sync, G: Gate + Sync>(
     ensures answer { IfOk result (λ answer. IsAnswer answer.status) }
 {
     match problem {
-        Problem::Until(posed) => bracket_report(rt, alloc, posed, formula, formula, check, gate),
-        Problem::Always(posed, dual) => {
-            bracket_report(rt, alloc, posed, formula, dual, check, gate)
+        Problem::Reach(posed, _) => {
+            let answered = problem.answered(formula);
+            bracket_report(rt, alloc, posed, formula, answered, check, gate)
         }
         Problem::Within(posed, steps) => {
             within_report(rt, alloc, posed, *steps, formula, check.workers, gate)

@@ -2,20 +2,17 @@
 
 ghost use Rattle.std.specs.Prelude.{◌≡◌, ◌≤◌, Ok};
 ghost use Rattle.text_lines.specs.Limits.{most_bytes};
-ghost use Rattle.rpatl_syntax.specs.Dual.{IsAtMostOne, answered as answered_of};
-ghost use Rattle.rpatl_syntax.specs.Formula.{tree_of};
+ghost use Rattle.rpatl_syntax.specs.Dual.{IsAtMostOne};
 ghost use Rattle.command_words.specs.Words.{OfSolve, solve_of};
 ghost use Rattle.asked_files.specs.Loading.{LoadingLeaves};
 ghost use Rattle.asked_files.specs.Posed.{HasSizes, reading_of};
 ghost use Rattle.asked_files.specs.Questions.{Reads};
-ghost use Rattle.asked_files.specs.SeenProblems.{HasDual, IsOfKind, IsUnbounded};
 ghost use Rattle.stogame_app.specs.Answers.{IsAnswered};
 
-use asked_files::{End, Loaded, Paths, Problem, load_model, load_values, pose_loaded};
+use asked_files::{End, Loaded, Paths, load_model, load_values, pose_loaded};
 use command_words::SolveWords;
 use game_outside::Shelf;
 use question_reports::solved_report;
-use rpatl_syntax::Formula;
 use run_answers::Answer;
 use std::alloc::Global;
 
@@ -48,7 +45,7 @@ fn solve_loaded<H: Shelf>(
     let problem = pose_loaded(alloc, loaded, Paths::Unbounded)?;
     let posed = problem.reached();
     let read = load_values(alloc, shelf, solve.values, posed.question.game().states())?;
-    let answered = answered(&problem, &loaded.formula);
+    let answered = problem.answered(&loaded.formula);
     match solved_report(
         alloc,
         posed,
@@ -67,19 +64,5 @@ fn as_hints(read: &Option<Vec<f64>>) -> Option<&[f64]> {
     match read {
         Some(values) => Some(values),
         None => None,
-    }
-}
-
-// The formula whose question is answered: of `G` the dual.
-fn answered<'a>(problem: &'a Problem<'_>, formula: &'a Formula) -> &'a Formula
-    requires kind { IsOfKind formula.now.kind problem.now }
-    requires dual { HasDual (tree_of formula.now) problem.now }
-    requires unbounded { IsUnbounded problem.now }
-    ensures { tree_of result.now ≡ answered_of (tree_of formula.now) }
-{
-    match problem {
-        Problem::Until(_) => formula,
-        Problem::Always(_, dual) => dual,
-        Problem::Within(_, _) | Problem::Next(_) | Problem::Nested(_, _) => unreachable!(),
     }
 }

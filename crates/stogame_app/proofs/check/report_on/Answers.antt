@@ -9,7 +9,7 @@ use Rattle.command_words.specs.Words.{check_of}
 use Rattle.asked_files.specs.declared.problem.Problem.{Problem}
 use Rattle.asked_files.specs.SeenProblems.{IsOfKind, problem_of}
 use Rattle.stogame_app.specs.Posed.{IsReportable}
-use Rattle.stogame_app.specs.Reports.{Checks, of_until, of_always, of_within, of_next, of_nested}
+use Rattle.stogame_app.specs.Reports.{Checks, of_reach, of_within, of_next, of_nested}
 use Rattle.stogame_app.proofs.check.report_on.Goals as goal
 
 pub within_report-requires-clause-steps : goal.within_report-requires-clause-steps
@@ -18,19 +18,12 @@ within_report-requires-clause-steps g c κs within =
     let kind : f.kind ≡ Within c.in-Within.steps = subst (λ (p : Problem). IsOfKind f.kind p) c.in-Within.is c.requires.kind in
     subst (λ (k : PathKind). HasKind k (tree_of f).left) kind c.requires.steps
 
-pub returns-in-Until-clause-report : goal.returns-in-Until-clause-report
-returns-in-Until-clause-report g c =
+pub returns-in-Reach-clause-report : goal.returns-in-Reach-clause-report
+returns-in-Reach-clause-report g c =
     let check = check_of c.args.check.now in
     let f = tree_of c.args.formula.now in
     IfOk-weaker c.bracket_report.result _ _
-    (λ answer report words holding taken asks. of_until check (posing_of c.in-Until.posed) f (subst (λ (p : Problem). Checks words holding taken check (problem_of p) f) c.in-Until.is asks) report) c.bracket_report.ensures.report
-
-pub returns-in-Always-clause-report : goal.returns-in-Always-clause-report
-returns-in-Always-clause-report g c =
-    let check = check_of c.args.check.now in
-    let f = tree_of c.args.formula.now in
-    IfOk-weaker c.bracket_report-in-Always.result _ _
-    (λ answer report words holding taken asks. of_always check (posing_of c.in-Always.posed) f (subst (λ (p : Problem). Checks words holding taken check (problem_of p) f) c.in-Always.is asks) report) c.bracket_report-in-Always.ensures.report
+    (λ answer report words holding taken asks. of_reach check (posing_of c.in-Reach.posed) f (subst (λ (p : Problem). Checks words holding taken check (problem_of p) f) c.in-Reach.is asks) report) c.bracket_report.ensures.report
 
 pub returns-in-Within-clause-report : goal.returns-in-Within-clause-report
 returns-in-Within-clause-report g c =
