@@ -6,12 +6,21 @@ use Rattle.game_outside.specs.declared.file.FileEnd.{FileEnd}
 use Rattle.game_outside.specs.declared.file.FileEnd.TheVariants as file
 use Rattle.game_outside.specs.Outside.{Holding, Rose, KeepsShelf}
 use Rattle.run_refusals.specs.declared.refusal.Text.{Text}
-use Rattle.run_refusals.specs.declared.refusal.Refusal.TheVariants.{TooLong}
+use Rattle.formula_sets.specs.declared.fault.PoseFault.{PoseFault}
+use Rattle.formula_sets.specs.declared.fault.PoseFault.TheVariants as pose
+use Rattle.run_refusals.specs.declared.refusal.Refusal.TheVariants.{TooLong, OfQuestion}
 use Rattle.run_refusals.specs.Caused.{IsCaused}
 use Rattle.asked_files.specs.declared.load.End.{End}
 use Rattle.asked_files.specs.declared.load.End.TheVariants.{OutOfMemory, ReadFault, Refused}
 use Rattle.asked_files.specs.Said.{Said, NotHeld, Refuses, Denoted}
 use Rattle.asked_files.specs.Sources.{IfKnown}
+
+-- how loading ends where a formula poses no question
+abbrev pub end_of_question : PoseFault → End
+end_of_question pose.OutOfMemory = OutOfMemory
+end_of_question (pose.UnknownLabel name) = Refused (OfQuestion (pose.UnknownLabel name))
+end_of_question (pose.UnknownPlayer name) = Refused (OfQuestion (pose.UnknownPlayer name))
+end_of_question pose.NoInit = Refused (OfQuestion pose.NoInit)
 
 -- the answer is what is said, or memory was wanting
 abbrev pub Loads : {X Y : Type 0} → (X → Y) → Result X End → Said Y → Type 0

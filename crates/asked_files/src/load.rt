@@ -6,8 +6,9 @@ ghost use Rattle.asked_files.specs.Sources.{held_own};
 ghost use Rattle.asked_files.specs.Loading.{LoadingLeaves, LoadsText, RefusesCaused, fault_of};
 ghost use Rattle.asked_files.specs.Texts.{text_said, game_said, labels_said, owners_said, single_owner};
 
+use formula_sets::PoseFault;
 use game_model::Game;
-use game_outside::{FileEnd, ReadEnd, Shelf, read_all};
+use game_outside::{FileEnd, OutOfMemory, ReadEnd, Shelf, read_all};
 use label_reader::{Labels, Owners, read_labels_from, read_owners_from};
 use run_refusals::{Refusal, Text};
 use std::alloc::Global;
@@ -20,6 +21,30 @@ pub enum End {
     OutOfMemory,
     ReadFault,
     Refused(Refusal),
+}
+
+impl From<OutOfMemory> for End {
+    ghost use Rattle.std.specs.Prelude.{◌≡◌};
+
+    ghost from_gives = { λ _ end. end ≡ End.OutOfMemory };
+
+    fn from(_: OutOfMemory) -> End {
+        End::OutOfMemory
+    }
+}
+
+impl From<PoseFault> for End {
+    ghost use Rattle.std.specs.Prelude.{◌≡◌};
+    ghost use Rattle.asked_files.specs.Loading.{end_of_question};
+
+    ghost from_gives = { λ fault end. end ≡ end_of_question fault };
+
+    fn from(fault: PoseFault) -> End {
+        match fault {
+            PoseFault::OutOfMemory => End::OutOfMemory,
+            _ => End::Refused(Refusal::OfQuestion(fault)),
+        }
+    }
 }
 
 /// The bytes of a text.
@@ -120,10 +145,7 @@ pub fn no_owner_file(alloc: Global, states: u32) -> Result<Owners, End>
     ensures sizes { IfOk result (λ owners. length owners.owners ≡ states) }
     ensures only { IsErrOf result End.OutOfMemory ⊎ IsOk result }
 {
-    match Owners::single(alloc, states) {
-        Ok(owners) => Ok(owners),
-        Err(_) => Err(End::OutOfMemory),
-    }
+    Ok(Owners::single(alloc, states)?)
 }
 
 /// The owners of the owner file, where one is named; else one player owns all states.

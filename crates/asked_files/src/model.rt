@@ -19,7 +19,7 @@ ghost use Rattle.asked_files.specs.Questions.{LacksText, Reads, ReadsAs};
 use crate::load::{End, load_game, load_labels, load_owners};
 use crate::problem::{Paths, Problem};
 use command_words::AskedWords;
-use formula_sets::{PoseFault, Posed, PosedNext, initial_of, is_flat, pose, pose_next};
+use formula_sets::{Posed, PosedNext, initial_of, is_flat, pose, pose_next};
 use game_model::Game;
 use game_outside::Shelf;
 use label_reader::{Labels, Owners};
@@ -137,10 +137,8 @@ fn pose_nested(alloc: Global, loaded: &Loaded) -> Result<Problem<'_>, End>
     ensures nothing { ReadsNothing result }
 {
     loaded.labels.known();
-    match initial_of(alloc, &loaded.labels, &loaded.owners, &loaded.formula) {
-        Ok(initial) => Ok(Problem::Nested(loaded, initial)),
-        Err(fault) => Err(end_of_question(fault)),
-    }
+    let initial = initial_of(alloc, &loaded.labels, &loaded.owners, &loaded.formula)?;
+    Ok(Problem::Nested(loaded, initial))
 }
 
 // The problem of what was loaded, by the kind of its paths.
@@ -180,10 +178,7 @@ fn dual_of_formula(alloc: Global, formula: &Formula) -> Result<Formula, End>
     ensures dual { IfOk result (λ it. tree_of it ≡ dual_of (tree_of formula.now)) }
     ensures memory { (end : End) → result ≡ Err end → end ≡ End.OutOfMemory }
 {
-    match dual(alloc, formula) {
-        Ok(formula) => Ok(formula),
-        Err(_) => Err(End::OutOfMemory),
-    }
+    Ok(dual(alloc, formula)?)
 }
 
 // The question of a formula whose goals are reached.
@@ -197,10 +192,8 @@ fn pose_reach<'g>(alloc: Global, loaded: &'g Loaded, formula: &Formula) -> Resul
     ensures inside { IfOk result (λ posed. All (λ s. s < states posed.question) posed.initial.items) }
     ensures nothing { ReadsNothing result }
 {
-    match pose(alloc, &loaded.game, &loaded.labels, &loaded.owners, formula) {
-        Ok(posed) => Ok(posed),
-        Err(fault) => Err(end_of_question(fault)),
-    }
+    let posed = pose(alloc, &loaded.game, &loaded.labels, &loaded.owners, formula)?;
+    Ok(posed)
 }
 
 // The question of a formula with `X`.
@@ -214,31 +207,12 @@ fn pose_step(alloc: Global, loaded: &Loaded) -> Result<PosedNext<'_>, End>
     ensures inside { IfOk result (λ posed. All (λ s. s < states posed.question) posed.initial.items) }
     ensures nothing { ReadsNothing result }
 {
-    match pose_next(
+    let posed = pose_next(
         alloc,
         &loaded.game,
         &loaded.labels,
         &loaded.owners,
         &loaded.formula,
-    ) {
-        Ok(posed) => Ok(posed),
-        Err(fault) => Err(end_of_question(fault)),
-    }
-}
-
-// The end where the formula poses no question.
-fn end_of_question(fault: PoseFault) -> End
-    ensures memory { fault ≡ PoseFault.OutOfMemory → result ≡ End.OutOfMemory }
-    ensures refused { fault ≢ PoseFault.OutOfMemory → result ≡ End.Refused (Refusal.OfQuestion fault) }
-{
-    match fault {
-        PoseFault::OutOfMemory => End::OutOfMemory,
-        PoseFault::UnknownLabel(name) => {
-            End::Refused(Refusal::OfQuestion(PoseFault::UnknownLabel(name)))
-        }
-        PoseFault::UnknownPlayer(name) => {
-            End::Refused(Refusal::OfQuestion(PoseFault::UnknownPlayer(name)))
-        }
-        PoseFault::NoInit => End::Refused(Refusal::OfQuestion(PoseFault::NoInit)),
-    }
+    )?;
+    Ok(posed)
 }

@@ -43,14 +43,12 @@ fn audit_loaded<H: Shelf>(
     let problem = pose_loaded(alloc, loaded, Paths::Unbounded)?;
     let posed = problem.reached();
     let plan = load_certificate(alloc, shelf, &posed.question, audit.certificate)?;
-    match audit_report(
+    let answer = audit_report(
         alloc,
         &posed.question,
         &plan,
         &loaded.formula,
         &posed.initial,
-    ) {
-        Ok(answer) => Ok(answer),
-        Err(_) => Err(End::OutOfMemory),
-    }
+    )?;
+    Ok(answer)
 }

@@ -28,8 +28,5 @@ pub fn answer_make<R: Threads + Sync, G: Gate + Sync>(
     ensures answer { IfOk result (λ answer. IsAnswer answer.status) }
     ensures memory { (end : End) → result ≡ Err end → end ≡ End.OutOfMemory }
 {
-    match drawn_report(rt, alloc, make, gate) {
-        Ok(answer) => Ok(answer),
-        Err(_) => Err(End::OutOfMemory),
-    }
+    Ok(drawn_report(rt, alloc, make, gate)?)
 }

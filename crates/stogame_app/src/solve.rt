@@ -46,17 +46,15 @@ fn solve_loaded<H: Shelf>(
     let posed = problem.reached();
     let read = load_values(alloc, shelf, solve.values, posed.question.game().states())?;
     let answered = problem.answered(&loaded.formula);
-    match solved_report(
+    let answer = solved_report(
         alloc,
         posed,
         &loaded.formula,
         answered,
         solve.plan,
         as_hints(&read),
-    ) {
-        Ok(answer) => Ok(answer),
-        Err(_) => Err(End::OutOfMemory),
-    }
+    )?;
+    Ok(answer)
 }
 
 // Values to begin with, where there are any.

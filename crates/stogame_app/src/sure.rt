@@ -36,13 +36,11 @@ fn sure_of_loaded(alloc: Global, loaded: &Loaded, asked: &AskedWords<'_>) -> Res
 {
     let problem = pose_loaded(alloc, loaded, Paths::Reaching)?;
     let posed = problem.reached();
-    match sure_report(alloc, &posed.question, &posed.initial) {
-        Ok(report) => Ok(Answer {
-            text: report.text,
-            status: sure_status(report.all),
-        }),
-        Err(_) => Err(End::OutOfMemory),
-    }
+    let report = sure_report(alloc, &posed.question, &posed.initial)?;
+    Ok(Answer {
+        text: report.text,
+        status: sure_status(report.all),
+    })
 }
 
 // All is well where every initial state is sure.
