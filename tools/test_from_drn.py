@@ -55,6 +55,8 @@ SAMPLE_TEXTS = {
 # a sample, an edit of its text, and what is told on standard error
 TOLD = [
     ("link", "", "", "the label ((s = 7) & (d = 1)) is named s_eq_7_and_d_eq_1"),
+    ("link", '"((s = 7) & (d = 1))"', "((s = 7) & (d = 1)) goal", "the label ((s = 7) & (d = 1)) is named s_eq_7_and_d_eq_1"),
+    ("link", '"((s = 7) & (d = 1))"', '!(s = 7) "(d = 1)"', "the label !(s = 7) is named not_s_eq_7\nthe label (d = 1) is named d_eq_1"),
     ("exact", "", "", "the label (s = 7) & done is named s_eq_7_and_done\nthe label (s = 7) is named s_eq_7\nthe label s = 7 is named s_eq_7_2"),
     ("nobody", "", "", "state 3 has no action and stays where it is"),
     ("nobody", "\taction stay\n\t\t2 : 1\n\taction leave\n\t\t3 : 1\n", "", "state 2 has no action and stays where it is, and so 1 more"),
@@ -85,6 +87,10 @@ REFUSED = [
     ("die", "state 1 [1]", "state 1 {4} [1]", "state 1", "rates and observations are not read"),
     ("die", "state 1 [1]", "state 1 <0> [1]", "state 1", "a player in a model that is no game"),
     ("die", "state 1 [1]", 'state 1 [1] "two words', "state 1", "no state that can be read"),
+    ("die", "state 1 [1]", "state 1 [1] s = 1", "state 1", "'=' is no label; a label with blanks stands in quotes"),
+    ("die", "state 1 [1]", "state 1 [1] ((s = 1)", "state 1", "the brackets of the label '((s = 1)' don't match; a label with blanks"),
+    ("die", "state 1 [1]", "state 1 [1] (s = 1))", "state 1", "the brackets of the label '(s = 1))' don't match"),
+    ("die", "state 1 [1]", 'state 1 [1] (s = "one" )', "state 1", "the brackets of the label '(s = one' don't match"),
     ("die", "state 1 [1]", "state one", "state one", "no state that can be read"),
     ("die", "1 : 0.5", "7 : 0.5", "7 : 0.5", "destination 7 is no state"),
     ("die", "1 : 0.5", "1 : 0.6", "action 0", "moves from here on: probabilities sum to 1.1"),
@@ -196,6 +202,10 @@ class Refused(InFolder):
         name = self.write("bad.drn", "@type: DTMC\n@model\n")
         ended = run_tool("from_drn", name, self.folder / "out")
         self.assertEqual(ended, (1, "", f"from_drn: {name}: line 2: @model before @type and @nr_states\n"))
+
+    def test_an_empty_file(self):
+        name = self.write("empty.drn", "")
+        self.assertEqual(run_tool("from_drn", name, self.folder / "out"), (1, "", f"from_drn: {name}: nothing in it\n"))
 
     def test_words(self):
         status, output, errors = run_tool("from_drn", "--help")
