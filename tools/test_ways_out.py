@@ -15,7 +15,6 @@ import explicit
 from calls import call_tool
 from certified_models import certified_models, starts_of
 from choice_names import read_choice_names
-from state_lists import read_valuations
 from strategies import read_strategy
 from trials import SAMPLES, TOOLS, InFolder, needs_program, program, run, run_tool
 
