@@ -1,4 +1,4 @@
-"""PRISM's explicit files, owner files and formulas, read strictly, and the question that they pose together.
+"""PRISM's explicit files, owner files and formulas, read strictly.
 
 What can't be read is refused with the name of the file, the line and the cause. The rules are those of the program's own
 readers, or stricter; `stogame` stays the judge of what a file means.
@@ -17,14 +17,10 @@ from array import array
 from collections import namedtuple
 from math import gcd, lcm
 
-import explicit_arrays
-import flat
-
 MOST_STATES = 1_000_000
 MOST_CHOICES = 16_384
 MOST_DENOMINATOR = 10**23
 MOST_DIGITS = 30
-MOST_BYTES_OF_FORMULA = 4_096
 MOST_DEPTH = 64
 
 # a sum of probabilities may miss 1 by one part in so many, since decimals are rounded
@@ -211,7 +207,6 @@ class Model:
         self.successor = array("i")
         self.weight = array("q")
         self.total = array("q")
-        self.probability = array("d")
         self.wide = {}
 
     @property
@@ -231,8 +226,8 @@ class Model:
         first, end = self.edge_start[choice], self.edge_start[choice + 1]
         return self.weight[first:end], self.total[choice]
 
-    def add_choice(self, successors, weights, total, shares):
-        """Adds a choice of the state under way; `shares` are the weights over the total, in floating point."""
+    def add_choice(self, successors, weights, total):
+        """Adds a choice of the state under way."""
         if total < NARROW:
             self.weight.extend(weights)
             self.total.append(total)
@@ -241,7 +236,6 @@ class Model:
             self.weight.extend([0] * len(weights))
             self.total.append(0)
         self.successor.extend(successors)
-        self.probability.extend(shares)
         self.edge_start.append(len(self.successor))
 
     def end_state(self):
@@ -356,9 +350,6 @@ def header_of(name, row):
 
 def read_transitions(name):
     """The model of a transition file of an MDP or of a Markov chain."""
-    model = Model()
-    if flat.numpy is not None and os.path.isfile(name) and explicit_arrays.fill(model, name, MOST_CHOICES):
-        return model
     blocks = field_blocks(name)
     number, block = next(blocks, (1, []))
     if not block:
@@ -401,7 +392,7 @@ def model_of_sorted(rows):
             choice += 1
         stated += choice
         if choice == 0:
-            model.add_choice([state], [1], 1, [1.0])
+            model.add_choice([state], [1], 1)
         model.end_state()
     if edge < count:
         raise Refusal(rows.name, None, f"the lines of state {sources[edge]} are not together")
@@ -425,18 +416,17 @@ class Distributions:
             made = self.make(state, choice, places)
             if len(self.made) < MOST_REMEMBERED:
                 self.made[key] = made
-        weights, total, shares = made
+        weights, total = made
         if 0 in weights:
             kept = [place for place, weight in enumerate(weights) if weight]
-            targets, weights, shares = ([column[place] for place in kept] for column in (targets, weights, shares))
-        model.add_choice(targets, weights, total, shares)
+            targets, weights = ([column[place] for place in kept] for column in (targets, weights))
+        model.add_choice(targets, weights, total)
 
     def make(self, state, choice, places):
         try:
-            weights, total = weights_of([self.fractions[place] for place in places])
+            return weights_of([self.fractions[place] for place in places])
         except ValueError as fault:
             raise Refusal(self.name, None, f"state {state} choice {choice}: {fault}") from fault
-        return weights, total, [weight / total for weight in weights]
 
 
 # Labels and owners
@@ -538,7 +528,7 @@ A state formula is a tuple: ('true',), ('false',), ('label', name), ('!', x), ('
 
 
 class Parser:
-    """Reads a formula by recursive descent. A fault is told with the byte of the formula where it lies."""
+    """Reads a formula of PCTL or rPATL reachability by recursive descent. A fault is told with the byte where it lies."""
 
     def __init__(self, text):
         self.text = text
@@ -665,13 +655,6 @@ class Parser:
         return formula
 
 
-def read_formula(text):
-    """The formula of a text, in the program's grammar: PCTL and rPATL reachability."""
-    if len(text.encode("utf-8", "surrogateescape")) > MOST_BYTES_OF_FORMULA:
-        raise Refusal("formula", None, f"more than {MOST_BYTES_OF_FORMULA} bytes")
-    return Parser(text).formula()
-
-
 def holds(formula, labels, states):
     """A byte for each state: 1 where the state formula holds."""
     kind = formula[0]
@@ -694,15 +677,6 @@ def labels_named(labels, label):
         raise Refusal("formula", None, f'the label file has no label "{label}"') from None
 
 
-# Questions
-
-Question = namedtuple("Question", "model goal dead maximises")
-Question.__doc__ = """A reachability question: a model, and a byte for each state: a goal, dead, owned by the maximiser.
-
-Goals are the states where the right side of U holds, dead states those where neither side does.
-"""
-
-
 def sides_of(formula, owners):
     """A byte for each state: 1 where the maximiser chooses (Chen, Forejt, Kwiatkowska, Parker and Simaitis, TACAS 2012).
 
@@ -719,13 +693,3 @@ def sides_of(formula, owners):
     side = formula.bound in (">=", ">", "Pmax")
     sides = [side if player in names else not side for player in owners.players]
     return bytearray(map(sides.__getitem__, owners.owner))
-
-
-def pose(model, labels, owners, formula):
-    """The question that a formula asks of a model."""
-    right = holds(formula.right, labels, model.states)
-    left = holds(formula.left, labels, model.states)
-    if not any(labels.get(b"init", b"")):
-        raise Refusal("formula", None, "no state has the label init")
-    lost = bytearray(1 - (one | other) for one, other in zip(left, right))
-    return Question(model, right, lost, sides_of(formula, owners))

@@ -1,10 +1,8 @@
-"""The built program, and how a certificate is made and audited today."""
+"""The built program, and who answers questions, makes certificates and audits them."""
 
 import os
 import shutil
 import subprocess
-import sys
-import tempfile
 from collections import namedtuple
 from pathlib import Path
 
@@ -29,33 +27,17 @@ def run(*words):
     return Ended(ended.returncode, ended.stdout, ended.stderr)
 
 
-def by_plan(command, *options):
-    """Certificates of a command, which are behind its report."""
-
-    def made(question):
-        return run(program(), command, *question, "--plan", *options)
-
-    return made
+# who answers a question, by name: a command and its options
+ASKERS = {"check": ["check"], "traps": ["check", "--traps"], "solve": ["solve"]}
 
 
-def by_certify(question):
-    return run(sys.executable, TOOLS / "certify", *question)
-
-
-# how a certificate may be made, by name: each of the words of a question gives a run whose output is a certificate file
-MAKERS = {
-    "check": by_plan("check", "--workers", "1"),
-    "traps": by_plan("check", "--workers", "1", "--traps"),
-    "solve": by_plan("solve"),
-    "certify": by_certify,
-}
-
-
-def certificate_by(maker, question):
+def certificate_by(asker, question):
     """The text of a certificate for a question, the words `TRA LAB FORMULA [--own FILE]`; refused with the line of who made none."""
-    ended = MAKERS[maker](question)
+    command, *options = ASKERS[asker]
+    workers = ["--workers", "1"] if command == "check" else []
+    ended = run(program(), command, *question, "--plan", *options, *workers)
     if "certificate " not in ended.output:
-        raise Refusal(maker, None, first_line(ended))
+        raise Refusal(asker, None, first_line(ended))
     return ended.output
 
 
@@ -70,31 +52,8 @@ def first_line(ended):
     return lines[0] if lines else f"ended with status {ended.status} and no word"
 
 
-def asked_by_certify(question):
-    """The lines of an audit of `certify`'s certificate; of `check` where it makes none, as with a bound on the steps."""
-    made = by_certify(question)
-    if made.status:
-        return run(program(), "check", *question)
-    with tempfile.TemporaryDirectory() as room:
-        name = Path(room, "certificate")
-        name.write_text(made.output, encoding="ascii")
-        return audited(question, name)
-
-
-def asked_by(command, *options):
-    """The lines of a command; of `check` where it does not take the formula."""
-
-    def asked(question):
-        ended = run(program(), command, *question, *options)
-        return run(program(), "check", *question) if ended.output.endswith("WrongKind\n") else ended
-
-    return asked
-
-
-# how a question may be answered, by name: each gives a run whose output is a report
-ASKERS = {
-    "check": lambda question: run(program(), "check", *question),
-    "traps": asked_by("check", "--traps"),
-    "solve": asked_by("solve"),
-    "certify": asked_by_certify,
-}
+def answered_by(asker, question):
+    """The run whose output is a report on a question; of `check` where another command does not take the formula."""
+    command, *options = ASKERS[asker]
+    ended = run(program(), command, *question, *options)
+    return run(program(), "check", *question) if ended.output.endswith("WrongKind\n") else ended

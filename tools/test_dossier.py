@@ -104,9 +104,7 @@ class Dossiers(InFolder):
     def test_given_certificates(self):
         cert = self.write("cert", "\n".join(self.text.splitlines()[-5:]) + "\n")
         self.assertEqual(call_tool("dossier", *self.words, "--cert", cert)[1], self.text)
-        for maker in ("solve", "certify"):
-            with self.subTest(maker=maker):
-                self.assertEqual(call_tool("dossier", *self.words, "--by", maker)[0], 0)
+        self.assertEqual(call_tool("dossier", *self.words, "--by", "solve")[0], 0)
         cert = self.write("cert", "certificate 2 4\n")
         self.assertEqual(call_tool("dossier", *self.words, "--cert", cert), (1, "", f"dossier: {cert}: refused cert line 2 MissingLine\n"))
 

@@ -182,7 +182,7 @@ class Files(InFolder):
         """With a bound on the steps `check` answers. Within one step player 1 keeps off the goal by passing, and reaches it by throwing."""
         throws, passes = (["0", bound, bound, "True"] for bound in ("0.650000000000000", "0.000000000000000"))
         text = '<<1>> P>=0.65 [ F "goal" ]\n<<1>> P>=0.65 [ F<=1 "goal" ]\n<<1>> P<1 [ F<=1 "goal" ]\n'
-        for asker in ("traps", "solve", "certify"):
+        for asker in ("traps", "solve"):
             with self.subTest(asker=asker):
                 self.assertEqual(self.rows(text, "--by", asker), ([throws, throws, passes], 0))
 

@@ -15,7 +15,6 @@ import explicit
 from calls import call_tool
 from certified_models import certified_models, starts_of
 from choice_names import read_choice_names
-from state_lists import read_valuations
 from strategies import read_strategy
 from trials import SAMPLES, TOOLS, InFolder, needs_program, program, run, run_tool
 
@@ -239,7 +238,7 @@ class Guarantees(InFolder):
         tra, lab = self.write("m.tra", "2 3 4\n0 0 0 1\n0 1 0 0.5\n0 1 1 0.5\n1 0 1 1\n"), self.write("m.lab", '0="init" 1="bad"\n0: 0\n1: 1\n')
         said = "state 0 maximiser guarantees at least {0} and no more than {0} audited Bracket\n"
         for text, value in (("0:0\n", "1.000000000000000"), ("0:1\n", "0.000000000000000")):
-            words = [tra, lab, 'Pmax=? [ G !"bad" ]', "--strategy", self.write("mine", text), "--by", "check"]
+            words = [tra, lab, 'Pmax=? [ G !"bad" ]', "--strategy", self.write("mine", text)]
             self.assertEqual(call_tool("guarantee", *words), (0, said.format(value), ""))
 
     def test_refusals(self):
