@@ -1,6 +1,6 @@
 -- Where choices are given: what the search finds are their layers, and the ranks vouch for them.
-use Rattle.std.proofs.Common.{◌≡◌, ℕ, zero, suc, ◌<◌, ◌⊎◌, List, length, arith, refl, subst, inl, inr, Option, Some, None}
-use Rattle.std.specs.Prelude.{slice_index, slice_index_or}
+use Rattle.std.proofs.Common.{◌≡◌, ℕ, zero, suc, ◌<◌, ◌⊎◌, List, length, arith, refl, subst, ◌∙◌, inl, inr, Option, Some, None}
+use Rattle.std.specs.Prelude.{slice_index, slice_index_or, MatchOption, IsSome}
 use Rattle.std.proofs.lemmas.Bool.{cases_lt}
 use Rattle.game_model.specs.declared.game.Side.{Side}
 use Rattle.game_model.specs.declared.game.Side.TheVariants.{Max, Min}
@@ -10,11 +10,12 @@ use Rattle.game_model.specs.Ranks.{HasRankedChoice, Ranked}
 use Rattle.rank_certificate.specs.Ranking.{IsEnough, NeedsRank}
 use Rattle.rank_certificate.specs.Layers.{IsAsked, LeadsInto, IsWithin, AreLayered}
 use Rattle.rank_certificate.specs.Carrying.{MayTake, Carries, IsCarriedBy, IsCarried, IsCarriedAt}
+use Rattle.rank_certificate.specs.Growth.{IsGrown}
 use Rattle.rank_certificate.proofs.States.{Some-one}
 use Rattle.rank_certificate.proofs.Causes.{asked-given, always-asked, given-asked}
 use Rattle.rank_certificate.proofs.Found.{Some-none}
 use Rattle.rank_certificate.proofs.Carried.{LeadsInto-more}
-use Rattle.rank_certificate.proofs.Standing.{carried-choice, carried-by, carried-least}
+use Rattle.rank_certificate.proofs.Standing.{all-found, carried-choice, carried-by, carried-least}
 
 module _ (q : Query) (values : List ℕ) (choices : List (Option ℕ)) (vouching : List ℕ) (posed : IsQuery q) (vouched : Ranked q values choices vouching) where
   abbrev value : ℕ → ℕ
@@ -88,34 +89,47 @@ module _ (q : Query) (values : List ℕ) (choices : List (Option ℕ)) (vouching
   carried-within (suc k) s inside (inl free) = inl free
   carried-within (suc k) s inside (inr by) = inr (λ c asked. carried-leads k s inside (λ t there. carried-within k t there) (side_at q s) refl by c asked)
 
-  module _ (ranks : List ℕ) (many : length ranks ≡ states q) (each : (s : ℕ) → s < states q → IsCarriedAt q value (Some choices) s (slice_index ranks s)) where
-    pub given-layered : AreLayered q values choices ranks
-    given-layered = record {
-      as_many = many;
-      each = λ s inside.
-          let at = each s inside in record {
-            within = carried-within (slice_index ranks s) s inside at.within;
-            least = λ k within. at.least k (within-carried k s inside within);
-          };
-    }
+  -- where all layers are done, each state has its layer as rank
+  module _ (found taken : List (Option ℕ)) (g : IsGrown q value (Some choices) found taken) where
+    all-ranked : (s : ℕ) → s < states q → (r : ℕ) × (slice_index_or found s None ≡ Some r)
+    all-ranked = all-found q values (Some choices) found taken posed g choices vouching vouched (λ s c asked gives. asked)
 
-    given-greatest : (s : ℕ) → s < states q → NeedsRank q value s → side_at q s ≡ Max → HasRankedChoice q value (slice_index ranks) choices s
-    given-greatest s inside needs max =
-        let at = carried-by q values (Some choices) ranks posed each enough s inside needs (slice_index ranks s) refl in
-        let by : IsCarriedBy Max q value (Some choices) (carried at.0) s = subst (λ side. IsCarriedBy side q value (Some choices) (carried at.0) s) max at.2 in
-        let h : Carries q value (Some choices) (carried at.0) s by.0 = by.2 in
-        record {
-          choice = by.0;
-          given = asked-given (side_at q s) (slice_index_or choices s None) by.0 max h.may;
-          inside = by.1;
-          ranked = carried-choice q values (Some choices) ranks posed each enough s by.0 at.0 inside needs by.1 at.1 h;
-        }
+    pub numbers-some : {V : Type 0} (P : V → Type 0) (numbers : Option V) → MatchOption numbers ((s : ℕ) × (s < length found) × (slice_index_or found s None ≡ None)) P → IsSome numbers
+    numbers-some P None (s, inside, left) = let at = all-ranked s (let h = g.growth in omega (arith, inside, h.many)) in absurd (Some-none (slice_index_or found s None) at.0 at.1 left)
+    numbers-some P (Some v) h = refl
 
-    pub given-Ranked : Ranked q values choices ranks
-    given-Ranked = record {
-      units = vouched.units;
-      goals = vouched.goals;
-      deads = vouched.deads;
-      greatest = λ s inside no_goal alive some max. given-greatest s inside (record { free = (no_goal, alive); positive = some }) max;
-      least = λ s inside no_goal alive some min. carried-least q values (Some choices) ranks posed each enough s inside (record { free = (no_goal, alive); positive = some }) min;
-    }
+    module _ (ranks : List ℕ) (many : length ranks ≡ length found) (given : (s : ℕ) → s < length found → slice_index_or found s None ≡ Some (slice_index ranks s)) where
+      each : (s : ℕ) → s < states q → IsCarriedAt q value (Some choices) s (slice_index ranks s)
+      each s inside = let h = g.growth in h.layer s (slice_index ranks s) (given s (omega (arith, inside, h.many)))
+
+      pub given-layered : AreLayered q values choices ranks
+      given-layered = record {
+        as_many = many ∙ (let h = g.growth in h.many);
+        each = λ s inside.
+            let at = each s inside in record {
+              within = carried-within (slice_index ranks s) s inside at.within;
+              least = λ k within. at.least k (within-carried k s inside within);
+            };
+      }
+
+      given-greatest : (s : ℕ) → s < states q → NeedsRank q value s → side_at q s ≡ Max → HasRankedChoice q value (slice_index ranks) choices s
+      given-greatest s inside needs max =
+          let at = carried-by q values (Some choices) ranks posed each enough s inside needs (slice_index ranks s) refl in
+          let by : IsCarriedBy Max q value (Some choices) (carried at.0) s = subst (λ side. IsCarriedBy side q value (Some choices) (carried at.0) s) max at.2 in
+          let h : Carries q value (Some choices) (carried at.0) s by.0 = by.2 in
+          record {
+            choice = by.0;
+            given = asked-given (side_at q s) (slice_index_or choices s None) by.0 max h.may;
+            inside = by.1;
+            ranked = carried-choice q values (Some choices) ranks posed each enough s by.0 at.0 inside needs by.1 at.1 h;
+          }
+
+      -- and the ranks vouch for the values and choices
+      pub given-Ranked : Ranked q values choices ranks
+      given-Ranked = record {
+        units = vouched.units;
+        goals = vouched.goals;
+        deads = vouched.deads;
+        greatest = λ s inside no_goal alive some max. given-greatest s inside (record { free = (no_goal, alive); positive = some }) max;
+        least = λ s inside no_goal alive some min. carried-least q values (Some choices) ranks posed each enough s inside (record { free = (no_goal, alive); positive = some }) min;
+      }
