@@ -15,7 +15,7 @@ use Rattle.rank_certificate.specs.Layers.{LeadsInto}
 abbrev pub CanBeRanked : Query → List ℕ → Type 0
 CanBeRanked q values = (choices : List (Option ℕ)) × (ranks : List ℕ) × Ranked q values choices ranks
 
--- where choices of the maximiser are given these alone may be taken, and those of the minimiser; where none are, each that gives its state the value
+-- where choices of the maximiser are given, these and each choice of the minimiser; where none are, each choice that gives its state the value
 abbrev pub MayTake : Query → (ℕ → ℕ) → Option (List (Option ℕ)) → ℕ → ℕ → Type 0
 MayTake q value None s c = IsEnough value s (choice_of q.game s c)
 MayTake q value (Some choices) s c = HasToRank (side_at q s) (slice_index_or choices s None) c

@@ -13,7 +13,7 @@ use crate::met::leads_low;
 use fixed_bellman::down_choice;
 use game_model::{Question, Side};
 
-/// The first choice of a state that carries it ([`carries`]).
+/// The first choice that carries a state on ([`carries`]).
 pub fn first_carrying(
     question: &Question,
     values: &[u64],
@@ -40,7 +40,7 @@ pub fn first_carrying(
     None
 }
 
-/// Whether every choice of a state does.
+/// Whether every choice of a state does so.
 pub fn all_carry(
     question: &Question,
     values: &[u64],
@@ -65,9 +65,9 @@ pub fn all_carry(
     true
 }
 
-/// Whether a choice of a state may be taken, and leads to a greater value, or to an equal one with a rank found.
-/// Where choices of the maximiser are given these alone may be taken, and those of the minimiser; where none are, each
-/// that gives its state the value.
+/// Whether a choice of a state may be taken, and leads to a greater value, or to an equal one with a rank found. Where
+/// choices of the maximiser are given, these may be taken and each of the minimiser; where none are, each that gives its
+/// state the value.
 pub fn carries(
     question: &Question,
     values: &[u64],

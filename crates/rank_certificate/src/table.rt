@@ -96,8 +96,7 @@ pub fn rank_standing(
     }))
 }
 
-/// The ranks of all layers, and the choices for them, where the maximiser may take these choices alone, or, if none are
-/// given, each that gives the value.
+/// The ranks of all layers, and the choices for them; where choices are given, of these alone.
 pub fn whole_growth(
     alloc: Global,
     question: &Question,
