@@ -1,6 +1,5 @@
 use Rattle.std.proofs.Common.{arith}
 use Rattle.std.specs.Prelude.{option_copied, slice_index}
-use Rattle.game_model.specs.Game.{choice_of}
 use Rattle.rank_certificate.specs.Growth.{HasRankWithin}
 use Rattle.rank_certificate.specs.Carrying.{Carries}
 use Rattle.rank_certificate.proofs.Followed.{Follows-idle, Follows-look}
