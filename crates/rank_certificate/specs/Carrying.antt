@@ -1,4 +1,5 @@
--- Ranks and choices that make values ranked: the least ranks, and at each state of the maximiser the first choice for its rank.
+-- Ranks and choices that make values ranked: the least ranks, and at each state of the maximiser the first choice for
+-- its rank.
 use Rattle.std.specs.Prelude.{◌≡◌, ℕ, zero, suc, ◌<◌, ◌≤◌, ◌⊎◌, true, List, length, slice_index, slice_index_or, Option, Some, None, IfSome, IsSomeAnd}
 use Rattle.game_model.specs.declared.game.Side.{Side}
 use Rattle.game_model.specs.declared.game.Side.TheVariants.{Max, Min}
@@ -15,7 +16,8 @@ use Rattle.rank_certificate.specs.Layers.{LeadsInto}
 abbrev pub CanBeRanked : Query → List ℕ → Type 0
 CanBeRanked q values = (choices : List (Option ℕ)) × (ranks : List ℕ) × Ranked q values choices ranks
 
--- where choices of the maximiser are given, these and each choice of the minimiser; where none are, each choice that gives its state the value
+-- where choices of the maximiser are given, these and each choice of the minimiser; where none are, each choice that
+-- gives its state the value
 abbrev pub MayTake : Query → (ℕ → ℕ) → Option (List (Option ℕ)) → ℕ → ℕ → Type 0
 MayTake q value None s c = IsEnough value s (choice_of q.game s c)
 MayTake q value (Some choices) s c = HasToRank (side_at q s) (slice_index_or choices s None) c
@@ -25,7 +27,8 @@ abbrev pub AreOfStates : Query → Option (List (Option ℕ)) → Type 0
 AreOfStates q only = IfSome only (λ choices. length choices ≡ states q)
 
 -- a choice that may be taken, and leads to a greater value, or to an equal one of these states
-pub record Carries (q : Query) (value : ℕ → ℕ) (only : Option (List (Option ℕ))) (among : ℕ → Type 0) (s c : ℕ) : Type 0 where
+pub record Carries (q : Query) (value : ℕ → ℕ) (only : Option (List (Option ℕ))) (among : ℕ → Type 0)
+    (s c : ℕ) : Type 0 where
   pub may : MayTake q value only s c
   pub leads : LeadsInto value among s (choice_of q.game s c)
 
@@ -37,7 +40,8 @@ IsCarriedBy Min q value only among s = (c : ℕ) → c < length (choices_of q.ga
 -- the states of rank r or less: first those that need none, then each that is carried into those of smaller rank
 unfoldable pub IsCarried : Query → (ℕ → ℕ) → Option (List (Option ℕ)) → ℕ → ℕ → Type 0
 IsCarried q value only zero s = ¬ NeedsRank q value s
-IsCarried q value only (suc r) s = ¬ NeedsRank q value s ⊎ IsCarriedBy (side_at q s) q value only (IsCarried q value only r) s
+IsCarried q value only (suc r) s = ¬ NeedsRank q value s ⊎ IsCarriedBy (side_at q s) q value only
+    (IsCarried q value only r) s
 
 -- the rank of a state: the least such r
 pub record IsCarriedAt (q : Query) (value : ℕ → ℕ) (only : Option (List (Option ℕ))) (s r : ℕ) : Type 0 where
@@ -45,7 +49,8 @@ pub record IsCarriedAt (q : Query) (value : ℕ → ℕ) (only : Option (List (O
   pub least : (k : ℕ) → IsCarried q value only k s → r ≤ k
 
 -- the first choice that carries the state into these states
-pub record IsFirstCarrying (q : Query) (value : ℕ → ℕ) (only : Option (List (Option ℕ))) (among : ℕ → Type 0) (s choice : ℕ) : Type 0 where
+pub record IsFirstCarrying (q : Query) (value : ℕ → ℕ) (only : Option (List (Option ℕ))) (among : ℕ → Type 0)
+    (s choice : ℕ) : Type 0 where
   pub inside : choice < length (choices_of q.game s)
   pub carries : Carries q value only among s choice
   pub before : (c : ℕ) → c < choice → ¬ Carries q value only among s c
@@ -65,7 +70,8 @@ pub record IsLayeredPlan (q : Query) (values : List ℕ) (choices : List (Option
   pub many : length ranks ≡ states q
   pub as_many : length choices ≡ states q
   pub each : (s : ℕ) → s < states q → IsCarriedAt q (slice_index values) None s (slice_index ranks s)
-  pub chosen : (s : ℕ) → s < states q → IsChosenAt q (slice_index values) None s (slice_index ranks s) (slice_index_or choices s None)
+  pub chosen : (s : ℕ) → s < states q → IsChosenAt q (slice_index values) None s (slice_index ranks s)
+      (slice_index_or choices s None)
 
 -- no state refuses the values at sight: its entry is at most its down step, and that of a goal is the unit
 pub record Stands (q : Query) (value : ℕ → ℕ) (s : ℕ) : Type 0 where

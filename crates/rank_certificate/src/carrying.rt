@@ -28,8 +28,11 @@ pub fn first_carrying(
     requires ranks { length ranks.now ≡ states question.now }
     requires state { state < states question.now }
     ensures { MatchOption result
-        ((c : ℕ) → c < length (choices_of question.now.game state) → ¬ Carries question.now (slice_index values.now) (option_copied only.entry) (HasRankWithin ranks.now level) state c)
-        (λ c. IsFirstCarrying question.now (slice_index values.now) (option_copied only.entry) (HasRankWithin ranks.now level) state c) }
+        ((c : ℕ) → c < length (choices_of question.now.game state)
+        → ¬ Carries question.now (slice_index values.now) (option_copied only.entry)
+        (HasRankWithin ranks.now level) state c)
+        (λ c. IsFirstCarrying question.now (slice_index values.now) (option_copied only.entry)
+        (HasRankWithin ranks.now level) state c) }
 {
     question.known();
     for choice in 0..question.game().choices_of(state) {
@@ -54,7 +57,9 @@ pub fn all_carry(
     requires only { AreOfStates question.now (option_copied only) }
     requires ranks { length ranks.now ≡ states question.now }
     requires state { state < states question.now }
-    ensures { IsTrue result ↔ ((c : ℕ) → c < length (choices_of question.now.game state) → Carries question.now (slice_index values.now) (option_copied only.entry) (HasRankWithin ranks.now level) state c) }
+    ensures { IsTrue result ↔ ((c : ℕ) → c < length (choices_of question.now.game state)
+        → Carries question.now (slice_index values.now) (option_copied only.entry)
+        (HasRankWithin ranks.now level) state c) }
 {
     question.known();
     for choice in 0..question.game().choices_of(state) {
@@ -66,8 +71,8 @@ pub fn all_carry(
 }
 
 /// Whether a choice of a state may be taken, and leads to a greater value, or to an equal one with a rank found. Where
-/// choices of the maximiser are given, these may be taken and each of the minimiser; where none are, each that gives its
-/// state the value.
+/// choices of the maximiser are given, these may be taken and each of the minimiser; where none are, each that gives
+/// its state the value.
 pub fn carries(
     question: &Question,
     values: &[u64],
@@ -83,7 +88,8 @@ pub fn carries(
     requires ranks { length ranks.now ≡ states question.now }
     requires state { state < states question.now }
     requires choice { choice < length (choices_of question.now.game state) }
-    ensures { IsTrue result ↔ Carries question.now (slice_index values.now) (option_copied only.entry) (HasRankWithin ranks.now level) state choice }
+    ensures { IsTrue result ↔ Carries question.now (slice_index values.now) (option_copied only.entry)
+        (HasRankWithin ranks.now level) state choice }
 {
     match only {
         Some(choices) => {

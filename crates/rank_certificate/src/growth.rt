@@ -34,7 +34,8 @@ impl Growth {
         values: &[u64],
     ) -> Result<Growth, OutOfMemory>
         requires { length values.now ≡ states question.now }
-        ensures opened { IfOk result (λ g. IsOpened question.now (slice_index values.now) (states question.now) g.ranks.items g.order.items) }
+        ensures opened { IfOk result (λ g. IsOpened question.now (slice_index values.now)
+            (states question.now) g.ranks.items g.order.items) }
         ensures choices { IfOk result (λ g. length g.choices.items ≡ states question.now) }
         ensures none { IfOk result (λ g. (s : ℕ) → slice_index_or g.choices.items s None ≡ None) }
     {
@@ -69,9 +70,14 @@ impl Growth {
         requires values { length values.now ≡ states question.now }
         requires units { All (λ v. v ≤ unit) values.now }
         requires only { AreOfStates question.now (option_copied only) }
-        requires growth { IsGrowth question.now (slice_index values.now) (option_copied only) 0 0 self.old.order.items self.old.ranks.items self.old.choices.items self.old.order.items }
-        ensures growth { OnOk result (IsGrowth question.now (slice_index values.now) (option_copied only.entry) 0 0 self.old.order.items self.new.ranks.items self.new.choices.items self.new.order.items) }
-        ensures apart { OnOk result ((s : ℕ) → s < states question.now → IsApart question.now (slice_index values.now) (option_copied only.entry) 0 self.new.ranks.items s) }
+        requires growth { IsGrowth question.now (slice_index values.now)
+            (option_copied only) 0 0 self.old.order.items self.old.ranks.items self.old.choices.items
+            self.old.order.items }
+        ensures growth { OnOk result (IsGrowth question.now (slice_index values.now)
+            (option_copied only.entry) 0 0 self.old.order.items self.new.ranks.items self.new.choices.items
+            self.new.order.items) }
+        ensures apart { OnOk result ((s : ℕ) → s < states question.now
+            → IsApart question.now (slice_index values.now) (option_copied only.entry) 0 self.new.ranks.items s) }
     {
         question.known();
         for state in 0..question.game().states() {
@@ -98,9 +104,15 @@ impl Growth {
         requires level { level + 1 < 2 ^ 32 }
         requires begin { begin ≤ end }
         requires end { end ≡ length self.old.order.items }
-        requires growth { IsGrowth question.now (slice_index values.now) (option_copied only) level begin self.old.order.items self.old.ranks.items self.old.choices.items self.old.order.items }
-        ensures growth { OnOk result (IsGrowth question.now (slice_index values.now) (option_copied only.entry) level begin self.old.order.items self.new.ranks.items self.new.choices.items self.new.order.items) }
-        ensures followed { OnOk result (AreFollowed question.now (slice_index values.now) (option_copied only.entry) level self.old.order.items begin (length self.old.order.items) self.new.ranks.items) }
+        requires growth { IsGrowth question.now (slice_index values.now)
+            (option_copied only) level begin self.old.order.items self.old.ranks.items self.old.choices.items
+            self.old.order.items }
+        ensures growth { OnOk result (IsGrowth question.now (slice_index values.now)
+            (option_copied only.entry) level begin self.old.order.items self.new.ranks.items self.new.choices.items
+            self.new.order.items) }
+        ensures followed { OnOk result (AreFollowed question.now (slice_index values.now)
+            (option_copied only.entry) level self.old.order.items begin
+            (length self.old.order.items) self.new.ranks.items) }
     {
         question.known();
         for place in begin..end {
@@ -128,8 +140,10 @@ impl Growth {
         requires ranks { length self.old.ranks.items ≡ states question.now }
         requires choices { length self.old.choices.items ≡ states question.now }
         requires hand { hand < states question.now }
-        ensures { OnOk result (Follows question.now (slice_index values.now) (option_copied only.entry) level hand (slice_index_or predecessors.now hand [])
-            self.old.ranks.items self.old.choices.items self.old.order.items self.new.ranks.items self.new.choices.items self.new.order.items) }
+        ensures { OnOk result (Follows question.now (slice_index values.now) (option_copied only.entry) level hand
+            (slice_index_or predecessors.now hand [])
+            self.old.ranks.items self.old.choices.items self.old.order.items self.new.ranks.items self.new.choices.items
+            self.new.order.items) }
     {
         question.known();
         for step in predecessors.of_state(hand) {
@@ -158,8 +172,10 @@ impl Growth {
         requires hand { hand < states question.now }
         requires state { step.state < states question.now }
         requires choice { step.choice < length (choices_of question.now.game step.state) }
-        ensures { OnOk result (Follows question.now (slice_index values.now) (option_copied only.entry) level hand (step ∷ [])
-            self.old.ranks.items self.old.choices.items self.old.order.items self.new.ranks.items self.new.choices.items self.new.order.items) }
+        ensures { OnOk result (Follows question.now (slice_index values.now) (option_copied only.entry) level hand
+            (step ∷ [])
+            self.old.ranks.items self.old.choices.items self.old.order.items self.new.ranks.items self.new.choices.items
+            self.new.order.items) }
     {
         question.known();
         if values[hand as usize] != values[step.state as usize] {
@@ -200,7 +216,8 @@ impl Growth {
         requires choices { length self.old.choices.items ≡ states question.now }
         requires state { state < states question.now }
         ensures { OnOk result (Looks question.now (slice_index values.now) (option_copied only.entry) level state
-            self.old.ranks.items self.old.choices.items self.old.order.items self.new.ranks.items self.new.choices.items self.new.order.items) }
+            self.old.ranks.items self.old.choices.items self.old.order.items self.new.ranks.items self.new.choices.items
+            self.new.order.items) }
     {
         if self.ranks[state as usize].is_some() {
             return Ok(());

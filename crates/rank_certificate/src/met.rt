@@ -21,7 +21,8 @@ pub fn leads_low(
     requires ranks { length ranks.now ≡ states question.now }
     requires state { state < states question.now }
     requires choice { choice < length (choices_of question.now.game state) }
-    ensures { IsTrue result ↔ LeadsInto (slice_index values.now) (HasRankWithin ranks.now level) state (choice_of question.now.game state choice) }
+    ensures { IsTrue result ↔ LeadsInto (slice_index values.now) (HasRankWithin ranks.now level) state
+        (choice_of question.now.game state choice) }
 {
     question.known();
     for place in 0..question.game().edge_count(state, choice) {

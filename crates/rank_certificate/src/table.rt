@@ -40,7 +40,8 @@ pub fn rank_table(
     requires { length values.now ≡ states question.now }
     ensures found { IfOk result (λ found. MatchOption found (¬ CanBeRanked question.now values.now)
         (λ plan. IsLayeredPlan question.now values.now plan.choices.items plan.ranks.items)) }
-    ensures ranked { IfOk result (λ found. IfSome found (λ plan. Ranked question.now values.now plan.choices.items plan.ranks.items)) }
+    ensures ranked { IfOk result (λ found. IfSome found (λ plan.
+        Ranked question.now values.now plan.choices.items plan.ranks.items)) }
 {
     let predecessors = Predecessors::of_game(alloc, question.game())?;
     rank_table_over(alloc, question, values, &predecessors)
@@ -58,7 +59,8 @@ pub fn rank_table_over(
     requires lists { ArePredecessors question.now.game predecessors.now }
     ensures found { IfOk result (λ found. MatchOption found (¬ CanBeRanked question.now values.now)
         (λ plan. IsLayeredPlan question.now values.now plan.choices.items plan.ranks.items)) }
-    ensures ranked { IfOk result (λ found. IfSome found (λ plan. Ranked question.now values.now plan.choices.items plan.ranks.items)) }
+    ensures ranked { IfOk result (λ found. IfSome found (λ plan.
+        Ranked question.now values.now plan.choices.items plan.ranks.items)) }
 {
     question.known();
     if let Some(_over) = first_over(values) {
@@ -83,7 +85,8 @@ pub fn rank_standing(
     requires stand { (s : ℕ) → s < states question.now → Stands question.now (slice_index values.now) s }
     ensures found { IfOk result (λ found. MatchOption found (¬ CanBeRanked question.now values.now)
         (λ plan. IsLayeredPlan question.now values.now plan.choices.items plan.ranks.items)) }
-    ensures ranked { IfOk result (λ found. IfSome found (λ plan. Ranked question.now values.now plan.choices.items plan.ranks.items)) }
+    ensures ranked { IfOk result (λ found. IfSome found (λ plan.
+        Ranked question.now values.now plan.choices.items plan.ranks.items)) }
 {
     question.known();
     let growth = whole_growth(alloc, question, values, None, predecessors)?;
@@ -108,7 +111,8 @@ pub fn whole_growth(
     requires units { All (λ v. v ≤ unit) values.now }
     requires only { AreOfStates question.now (option_copied only) }
     requires lists { ArePredecessors question.now.game predecessors.now }
-    ensures { IfOk result (λ g. IsGrown question.now (slice_index values.now) (option_copied only.entry) g.ranks.items g.choices.items) }
+    ensures { IfOk result (λ g. IsGrown question.now (slice_index values.now)
+        (option_copied only.entry) g.ranks.items g.choices.items) }
 {
     question.known();
     let mut growth = Growth::of_unneeded(alloc, question, values)?;
@@ -126,8 +130,11 @@ pub fn whole_growth(
 
 /// The ranks as numbers; none where a state has none.
 pub fn all_ranks(alloc: Global, ranks: &[Option<u32>]) -> Result<Option<Vec<u32>>, OutOfMemory>
-    ensures { IfOk result (λ found. MatchOption found ((s : ℕ) × (s < length ranks.now) × (slice_index_or ranks.now s None ≡ None))
-        (λ numbers. (length numbers.items ≡ length ranks.now) × ((s : ℕ) → s < length ranks.now → slice_index_or ranks.now s None ≡ Some (slice_index numbers.items s)))) }
+    ensures { IfOk result (λ found. MatchOption found ((s : ℕ) × (s < length ranks.now)
+        × (slice_index_or ranks.now s None ≡ None))
+        (λ numbers. (length numbers.items ≡ length ranks.now)
+        × ((s : ℕ) → s < length ranks.now
+        → slice_index_or ranks.now s None ≡ Some (slice_index numbers.items s)))) }
 {
     let mut numbers = Vec::with_capacity(alloc, ranks.len())?;
     for rank in ranks {
