@@ -6,16 +6,15 @@ use Rattle.game_model.specs.Game.{choices_of, choice_of, no_edge}
 use Rattle.game_model.specs.Query.{Query, IsQuery, states}
 use Rattle.predecessors.specs.declared.lists.Move.{Move}
 use Rattle.predecessors.specs.Moves.{move}
-use Rattle.rank_certificate.specs.Growing.{HasRankWithin}
 use Rattle.rank_certificate.specs.Carrying.{Carries, IsCarried}
-use Rattle.rank_certificate.specs.Growth.{IsApartBy, Looks, Follows}
+use Rattle.rank_certificate.specs.Growth.{HasRankWithin, IsApartBy, Looks, Follows}
 use Rattle.rank_certificate.proofs.Looked.{Looks-many, Looks-kept, Looks-apart, Looks-grown}
 use Rattle.rank_certificate.proofs.Carried.{Carries-more, next-whole}
 
-module _ (q : Query) (value : ℕ → ℕ) (level hand : ℕ) where
+module _ (q : Query) (value : ℕ → ℕ) (only : Option (List (Option ℕ))) (level hand : ℕ) where
   pub Follows-then : (part : List Move) (m : Move) (ranks choices : List (Option ℕ)) (order : List ℕ) (ranks' choices' : List (Option ℕ)) (order' : List ℕ) (ranks'' choices'' : List (Option ℕ)) (order'' : List ℕ)
-      → Follows q value level hand part ranks choices order ranks' choices' order' → Follows q value level hand (m ∷ []) ranks' choices' order' ranks'' choices'' order''
-      → Follows q value level hand (part ++ m ∷ []) ranks choices order ranks'' choices'' order''
+      → Follows q value only level hand part ranks choices order ranks' choices' order' → Follows q value only level hand (m ∷ []) ranks' choices' order' ranks'' choices'' order''
+      → Follows q value only level hand (part ++ m ∷ []) ranks choices order ranks'' choices'' order''
   Follows-then part m ranks choices order ranks' choices' order' ranks'' choices'' order'' first second = record {
     many = second.many ∙ first.many;
     as_many = second.as_many ∙ first.as_many;
@@ -29,7 +28,7 @@ module _ (q : Query) (value : ℕ → ℕ) (level hand : ℕ) where
 
   -- a move whose choice does not carry its state
   pub Follows-idle : (m : Move) (ranks choices : List (Option ℕ)) (order : List ℕ) → IsQuery q → m.state < states q → m.choice < length (choices_of q.game m.state)
-      → ¬ Carries value (HasRankWithin ranks level) m.state (choice_of q.game m.state m.choice) → Follows q value level hand (m ∷ []) ranks choices order ranks choices order
+      → ¬ Carries q value only (HasRankWithin ranks level) m.state m.choice → Follows q value only level hand (m ∷ []) ranks choices order ranks choices order
   Follows-idle m ranks choices order posed inside lc idle = record {
     many = refl;
     as_many = refl;
@@ -38,26 +37,26 @@ module _ (q : Query) (value : ℕ → ℕ) (level hand : ℕ) where
     apart = λ begin old h s c among equal. elim (Contains-push_cases [] m (move s c) among) [
       | inl none ↦ absurd (omega (arith, none.1))
       | inr is ↦
-          let none : Carries value (IsCarried q value level) m.state (choice_of q.game m.state m.choice) → ⊥ = λ carried.
-          idle (Carries-more value (IsCarried q value level) (HasRankWithin ranks level) m.state (choice_of q.game m.state m.choice)
+          let none : Carries q value only (IsCarried q value only level) m.state m.choice → ⊥ = λ carried.
+          idle (Carries-more q value only (IsCarried q value only level) (HasRankWithin ranks level) m.state m.choice
           (λ p lp same within. h.full (slice_index_or (choice_of q.game m.state m.choice).edges p no_edge).to (posed.game.inside m.state m.choice inside lc p no_edge lp) within) carried) in
-          subst (λ (x : Move). IsApartBy q value level ranks x.state x.choice) is (λ left carried by. none carried)
+          subst (λ (x : Move). IsApartBy q value only level ranks x.state x.choice) is (λ left carried by. none carried)
     ];
   }
 
   -- a move whose state is looked at
   pub Follows-look : (m : Move) (ranks choices : List (Option ℕ)) (order : List ℕ) (ranks' choices' : List (Option ℕ)) (order' : List ℕ) → IsQuery q → m.state < states q
-      → Looks q value level m.state ranks choices order ranks' choices' order' → Follows q value level hand (m ∷ []) ranks choices order ranks' choices' order'
+      → Looks q value only level m.state ranks choices order ranks' choices' order' → Follows q value only level hand (m ∷ []) ranks choices order ranks' choices' order'
   Follows-look m ranks choices order ranks' choices' order' posed inside looks =
-      let same = Looks-many q value level m.state ranks choices order ranks' choices' order' looks in
+      let same = Looks-many q value only level m.state ranks choices order ranks' choices' order' looks in
       record {
         many = same.0;
         as_many = same.1;
-        kept = Looks-kept q value level m.state ranks choices order ranks' choices' order' looks;
-        grown = λ begin old h. Looks-grown q value level begin old ranks choices order posed h m.state inside ranks' choices' order' looks;
+        kept = Looks-kept q value only level m.state ranks choices order ranks' choices' order' looks;
+        grown = λ begin old h. Looks-grown q value only level begin old ranks choices order posed h m.state inside ranks' choices' order' looks;
         apart = λ begin old h s c among equal. elim (Contains-push_cases [] m (move s c) among) [
           | inl none ↦ absurd (omega (arith, none.1))
-          | inr is ↦ subst (λ (x : Move). IsApartBy q value level ranks' x.state x.choice) is
-              (λ left carried by. Looks-apart q value level begin old ranks choices order posed h m.state inside ranks' choices' order' looks left (next-whole q value level m.state by))
+          | inr is ↦ subst (λ (x : Move). IsApartBy q value only level ranks' x.state x.choice) is
+              (λ left carried by. Looks-apart q value only level begin old ranks choices order posed h m.state inside ranks' choices' order' looks left (next-whole q value only level m.state by))
         ];
       }

@@ -12,21 +12,21 @@ use Rattle.rank_certificate.specs.Carrying.{IsCarried, IsFirstCarrying, IsChosen
 use Rattle.rank_certificate.specs.LowerGuess.{excess, raised_table, IsFirstAt, IsFirstGuess, IsRaised, IsUnraised, IsLowerGuess}
 use Rattle.rank_certificate.proofs.Refused.{IsTable-one}
 
-first-least : (q : Query) (value : ℕ → ℕ) (among : ℕ → Type 0) (s c d : ℕ) → IsFirstCarrying q value among s c → IsFirstCarrying q value among s d → c ≤ d
+first-least : (q : Query) (value : ℕ → ℕ) (among : ℕ → Type 0) (s c d : ℕ) → IsFirstCarrying q value None among s c → IsFirstCarrying q value None among s d → c ≤ d
 first-least q value among s c d h k = elim (cases_lt d c) [
   | inl less ↦ absurd (h.before d less k.carries)
   | inr rest ↦ rest
 ]
 
-chosen-one : (q : Query) (value : ℕ → ℕ) (among : ℕ → Type 0) (s : ℕ) (side : Side) (a b : Option ℕ) → IsChosen side q value among s a → IsChosen side q value among s b → a ≡ b
+chosen-one : (q : Query) (value : ℕ → ℕ) (among : ℕ → Type 0) (s : ℕ) (side : Side) (a b : Option ℕ) → IsChosen side q value None among s a → IsChosen side q value None among s b → a ≡ b
 chosen-one q value among s Max None b h k = absurd h
 chosen-one q value among s Max (Some c) None h k = absurd k
 chosen-one q value among s Max (Some c) (Some d) h k = let same : c ≡ d = omega (arith, first-least q value among s c d h k, first-least q value among s d c k h) in ap (λ (n : ℕ). Some n) same
 chosen-one q value among s Min a b h k = h ∙ sym k
 
-chosen-at-one : (q : Query) (value : ℕ → ℕ) (s r : ℕ) (a b : Option ℕ) → IsChosenAt q value s r a → IsChosenAt q value s r b → a ≡ b
+chosen-at-one : (q : Query) (value : ℕ → ℕ) (s r : ℕ) (a b : Option ℕ) → IsChosenAt q value None s r a → IsChosenAt q value None s r b → a ≡ b
 chosen-at-one q value s zero a b h k = h ∙ sym k
-chosen-at-one q value s (suc r) a b h k = chosen-one q value (IsCarried q value r) s (side_at q s) a b h k
+chosen-at-one q value s (suc r) a b h k = chosen-one q value (IsCarried q value None r) s (side_at q s) a b h k
 
 -- the ranks and choices of a table are fixed
 module _ (q : Query) (values : List ℕ) (choices choices' : List (Option ℕ)) (ranks ranks' : List ℕ) (h : IsLayeredPlan q values choices ranks) (k : IsLayeredPlan q values choices' ranks') where
@@ -43,7 +43,7 @@ module _ (q : Query) (values : List ℕ) (choices choices' : List (Option ℕ)) 
   plan-choices-one = ext_get_or None choices choices' (h.as_many ∙ sym k.as_many) (λ s inside.
       let there : s < states q = omega (arith, inside, h.as_many) in
       chosen-at-one q (slice_index values) s (slice_index ranks s) (slice_index_or choices s None) (slice_index_or choices' s None) (h.chosen s there)
-      (subst (λ (r : ℕ). IsChosenAt q (slice_index values) s r (slice_index_or choices' s None)) (sym (rank-one s there)) (k.chosen s there)))
+      (subst (λ (r : ℕ). IsChosenAt q (slice_index values) None s r (slice_index_or choices' s None)) (sym (rank-one s there)) (k.chosen s there)))
 
 layered-one : (q : Query) (values : List ℕ) (choices : List (Option ℕ)) (ranks ranks' : List ℕ) → AreLayered q values choices ranks → AreLayered q values choices ranks' → ranks ≡ ranks'
 layered-one q values choices ranks ranks' h k = ext_get_or 0 ranks ranks' (h.as_many ∙ sym k.as_many) (λ s inside.

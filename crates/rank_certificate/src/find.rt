@@ -1,13 +1,12 @@
 //! The layered ranks of values and choices.
 
-ghost use Rattle.std.specs.Prelude.{◌≡◌, length, slice_index, IfOk};
+ghost use Rattle.std.specs.Prelude.{◌≡◌, length, IfOk};
 ghost use Rattle.game_model.specs.Query.{states};
 ghost use Rattle.game_model.specs.Ranks.{Ranked};
 ghost use Rattle.predecessors.specs.Lists.{ArePredecessors};
 ghost use Rattle.rank_certificate.specs.Layers.{IsRankable, AreLayered};
-ghost use Rattle.rank_certificate.specs.Growing.{IsDone};
 
-use crate::layers::Layers;
+use crate::table::{all_ranks, whole_growth};
 use game_model::Question;
 use game_outside::OutOfMemory;
 use predecessors::Predecessors;
@@ -16,8 +15,9 @@ use std::alloc::Global;
 /// The layered ranks of values and choices that some ranks vouch for: 0 at goals, dead states and states of
 /// value 0; elsewhere the least number from 1 up such that the choice of the maximiser, or every choice of
 /// the minimiser, has a successor of greater value, or one of equal value and smaller rank. They vouch for the
-/// values and choices ([`crate::check_ranks`]). The search goes backward from the states of rank 0, over lists of
-/// predecessors, and tests each choice once; the time is no part of the contract. The only error is want of memory.
+/// values and choices ([`crate::check_ranks`]). The search is that of [`crate::rank_table`], with these choices as the
+/// only ones that a state of the maximiser may take; the time is no part of the contract. The only error is want of
+/// memory.
 pub fn find_ranks(
     alloc: Global,
     question: &Question,
@@ -51,34 +51,7 @@ pub fn find_ranks_over(
     ensures layered { IfOk result (λ ranks. AreLayered question.now values.now choices.now ranks.items) }
 {
     question.known();
-    let layers = all_layers(alloc, question, values, choices, predecessors)?;
-    let ranks = layers.numbers(alloc)?;
-    Ok(ranks)
-}
-
-/// The ranks of all layers.
-fn all_layers(
-    alloc: Global,
-    question: &Question,
-    values: &[u64],
-    choices: &[Option<u32>],
-    predecessors: &Predecessors,
-) -> Result<Layers, OutOfMemory>
-    requires values { length values.now ≡ states question.now }
-    requires choices { length choices.now ≡ states question.now }
-    requires lists { ArePredecessors question.now.game predecessors.now }
-    ensures { IfOk result (λ layers. IsDone question.now (slice_index values.now) choices.now layers.ranks.items) }
-{
-    question.known();
-    let mut layers = Layers::of_unneeded(alloc, question, values)?;
-    let mut begin = layers.order.len();
-    layers.start(question, values, choices)?;
-    let mut level: u32 = 1;
-    while begin < layers.order.len() {
-        let end = layers.order.len();
-        layers.spread(question, values, choices, predecessors, level, begin, end)?;
-        begin = end;
-        level += 1;
-    }
-    Ok(layers)
+    let growth = whole_growth(alloc, question, values, Some(choices), predecessors)?;
+    let ranks = all_ranks(alloc, &growth.ranks)?;
+    Ok(ranks.unwrap())
 }

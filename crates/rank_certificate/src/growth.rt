@@ -1,18 +1,17 @@
 //! Ranks and choices by layers, found backward from the states that need none.
 
-ghost use Rattle.std.specs.Prelude.{◌≡◌, ℕ, ◌+◌, ◌^◌, ◌<◌, ◌≤◌, ◌↔◌, List, [], ◌∷◌, ◌++◌, length, slice_index, slice_index_or, slice_set, All, Some, None, IfOk, OnOk, IsTrue, MatchOption};
+ghost use Rattle.std.specs.Prelude.{◌≡◌, ℕ, ◌+◌, ◌^◌, ◌<◌, ◌≤◌, ◌↔◌, List, [], ◌∷◌, ◌++◌, length, slice_index, slice_index_or, slice_set, All, Some, None, IfOk, OnOk, IsTrue, option_copied};
 ghost use Rattle.game_model.specs.Game.{choices_of};
 ghost use Rattle.game_model.specs.Query.{states, side_at};
 ghost use Rattle.game_model.specs.Limits.{unit};
 ghost use Rattle.predecessors.specs.declared.lists.Move.{Move};
 ghost use Rattle.predecessors.specs.Lists.{ArePredecessors};
 ghost use Rattle.predecessors.specs.Moves.{LeadsTo};
-ghost use Rattle.rank_certificate.specs.Growing.{HasRankWithin, IsOpened};
-ghost use Rattle.rank_certificate.specs.Carrying.{IsCarriedBy, IsChosen};
-ghost use Rattle.rank_certificate.specs.Growth.{IsGrowth, IsApart, Looks, Joins, Follows, AreFollowed};
+ghost use Rattle.rank_certificate.specs.Ranking.{NeedsRank};
+ghost use Rattle.rank_certificate.specs.Carrying.{AreOfStates};
+ghost use Rattle.rank_certificate.specs.Growth.{IsOpened, IsGrowth, IsApart, Looks, Joins, Follows, AreFollowed};
 
 use crate::carrying::{all_carry, carries, first_carrying};
-use crate::layers::Layers;
 use game_model::{Question, Side};
 use game_outside::OutOfMemory;
 use predecessors::{Move, Predecessors};
@@ -41,31 +40,48 @@ impl Growth {
         ensures none { IfOk result (λ g. (s : ℕ) → slice_index_or g.choices.items s None ≡ None) }
     {
         question.known();
-        let layers = Layers::of_unneeded(alloc, question, values)?;
+        let states = question.game().states();
         let none: Option<u32> = None;
-        let choices = vec![in alloc; none; question.game().states() as usize]?;
+        let choices = vec![in alloc; none; states as usize]?;
+        let mut ranks = Vec::with_capacity(alloc, states as usize)?;
+        let mut order = Vec::with_capacity(alloc, states as usize)?;
+        for state in 0..states {
+            if needs_rank(question, values, state) {
+                ranks.push(None)?;
+            } else {
+                ranks.push(Some(0))?;
+                order.push(state)?;
+            }
+        }
         Ok(Growth {
-            ranks: layers.ranks,
+            ranks,
             choices,
-            order: layers.order,
+            order,
         })
     }
 
     /// Looks at each state: it joins layer 1 where it is carried into layer 0.
-    pub fn start(&mut self, question: &Question, values: &[u64]) -> Result<(), OutOfMemory>
+    pub fn start(
+        &mut self,
+        question: &Question,
+        values: &[u64],
+        only: Option<&[Option<u32>]>,
+    ) -> Result<(), OutOfMemory>
         requires values { length values.now ≡ states question.now }
         requires units { All (λ v. v ≤ unit) values.now }
-        requires growth { IsGrowth question.now
-            (slice_index values.now) 0 0 self.old.order.items self.old.ranks.items self.old.choices.items
+        requires only { AreOfStates question.now (option_copied only) }
+        requires growth { IsGrowth question.now (slice_index values.now)
+            (option_copied only) 0 0 self.old.order.items self.old.ranks.items self.old.choices.items
             self.old.order.items }
-        ensures growth { OnOk result (IsGrowth question.now (slice_index values.now) 0 0 self.old.order.items
-            self.new.ranks.items self.new.choices.items self.new.order.items) }
+        ensures growth { OnOk result (IsGrowth question.now (slice_index values.now)
+            (option_copied only.entry) 0 0 self.old.order.items self.new.ranks.items self.new.choices.items
+            self.new.order.items) }
         ensures apart { OnOk result ((s : ℕ) → s < states question.now
-            → IsApart question.now (slice_index values.now) 0 self.new.ranks.items s) }
+            → IsApart question.now (slice_index values.now) (option_copied only.entry) 0 self.new.ranks.items s) }
     {
         question.known();
         for state in 0..question.game().states() {
-            self.look(question, values, 0, state)?;
+            self.look(question, values, only, 0, state)?;
         }
         Ok(())
     }
@@ -75,6 +91,7 @@ impl Growth {
         &mut self,
         question: &Question,
         values: &[u64],
+        only: Option<&[Option<u32>]>,
         predecessors: &Predecessors,
         level: u32,
         begin: usize,
@@ -82,23 +99,25 @@ impl Growth {
     ) -> Result<(), OutOfMemory>
         requires values { length values.now ≡ states question.now }
         requires units { All (λ v. v ≤ unit) values.now }
+        requires only { AreOfStates question.now (option_copied only) }
         requires lists { ArePredecessors question.now.game predecessors.now }
         requires level { level + 1 < 2 ^ 32 }
         requires begin { begin ≤ end }
         requires end { end ≡ length self.old.order.items }
-        requires growth { IsGrowth question.now
-            (slice_index values.now) level begin self.old.order.items self.old.ranks.items self.old.choices.items
+        requires growth { IsGrowth question.now (slice_index values.now)
+            (option_copied only) level begin self.old.order.items self.old.ranks.items self.old.choices.items
             self.old.order.items }
-        ensures growth { OnOk result (IsGrowth question.now (slice_index values.now) level begin self.old.order.items
-            self.new.ranks.items self.new.choices.items self.new.order.items) }
-        ensures followed { OnOk result (AreFollowed question.now
-            (slice_index values.now) level self.old.order.items begin
+        ensures growth { OnOk result (IsGrowth question.now (slice_index values.now)
+            (option_copied only.entry) level begin self.old.order.items self.new.ranks.items self.new.choices.items
+            self.new.order.items) }
+        ensures followed { OnOk result (AreFollowed question.now (slice_index values.now)
+            (option_copied only.entry) level self.old.order.items begin
             (length self.old.order.items) self.new.ranks.items) }
     {
         question.known();
         for place in begin..end {
             let hand = self.order[place];
-            self.go_back(question, values, predecessors, level, hand)?;
+            self.go_back(question, values, only, predecessors, level, hand)?;
         }
         Ok(())
     }
@@ -108,25 +127,27 @@ impl Growth {
         &mut self,
         question: &Question,
         values: &[u64],
+        only: Option<&[Option<u32>]>,
         predecessors: &Predecessors,
         level: u32,
         hand: u32,
     ) -> Result<(), OutOfMemory>
         requires values { length values.now ≡ states question.now }
         requires units { All (λ v. v ≤ unit) values.now }
+        requires only { AreOfStates question.now (option_copied only) }
         requires lists { ArePredecessors question.now.game predecessors.now }
         requires level { level + 1 < 2 ^ 32 }
         requires ranks { length self.old.ranks.items ≡ states question.now }
         requires choices { length self.old.choices.items ≡ states question.now }
         requires hand { hand < states question.now }
-        ensures { OnOk result (Follows question.now (slice_index values.now) level hand
+        ensures { OnOk result (Follows question.now (slice_index values.now) (option_copied only.entry) level hand
             (slice_index_or predecessors.now hand [])
             self.old.ranks.items self.old.choices.items self.old.order.items self.new.ranks.items self.new.choices.items
             self.new.order.items) }
     {
         question.known();
         for step in predecessors.of_state(hand) {
-            self.follow(question, values, level, hand, *step)?;
+            self.follow(question, values, only, level, hand, *step)?;
         }
         Ok(())
     }
@@ -137,19 +158,22 @@ impl Growth {
         &mut self,
         question: &Question,
         values: &[u64],
+        only: Option<&[Option<u32>]>,
         level: u32,
         hand: u32,
         step: Move,
     ) -> Result<(), OutOfMemory>
         requires values { length values.now ≡ states question.now }
         requires units { All (λ v. v ≤ unit) values.now }
+        requires only { AreOfStates question.now (option_copied only) }
         requires level { level + 1 < 2 ^ 32 }
         requires ranks { length self.old.ranks.items ≡ states question.now }
         requires choices { length self.old.choices.items ≡ states question.now }
         requires hand { hand < states question.now }
         requires state { step.state < states question.now }
         requires choice { step.choice < length (choices_of question.now.game step.state) }
-        ensures { OnOk result (Follows question.now (slice_index values.now) level hand (step ∷ [])
+        ensures { OnOk result (Follows question.now (slice_index values.now) (option_copied only.entry) level hand
+            (step ∷ [])
             self.old.ranks.items self.old.choices.items self.old.order.items self.new.ranks.items self.new.choices.items
             self.new.order.items) }
     {
@@ -163,6 +187,7 @@ impl Growth {
         if !carries(
             question,
             values,
+            only,
             &self.ranks,
             level,
             step.state,
@@ -170,7 +195,7 @@ impl Growth {
         ) {
             return Ok(());
         }
-        self.look(question, values, level, step.state)?;
+        self.look(question, values, only, level, step.state)?;
         Ok(())
     }
 
@@ -179,16 +204,18 @@ impl Growth {
         &mut self,
         question: &Question,
         values: &[u64],
+        only: Option<&[Option<u32>]>,
         level: u32,
         state: u32,
     ) -> Result<(), OutOfMemory>
         requires values { length values.now ≡ states question.now }
         requires units { All (λ v. v ≤ unit) values.now }
+        requires only { AreOfStates question.now (option_copied only) }
         requires level { level + 1 < 2 ^ 32 }
         requires ranks { length self.old.ranks.items ≡ states question.now }
         requires choices { length self.old.choices.items ≡ states question.now }
         requires state { state < states question.now }
-        ensures { OnOk result (Looks question.now (slice_index values.now) level state
+        ensures { OnOk result (Looks question.now (slice_index values.now) (option_copied only.entry) level state
             self.old.ranks.items self.old.choices.items self.old.order.items self.new.ranks.items self.new.choices.items
             self.new.order.items) }
     {
@@ -197,13 +224,13 @@ impl Growth {
         }
         match question.side(state) {
             Side::Max => {
-                let choice = first_carrying(question, values, &self.ranks, level, state);
+                let choice = first_carrying(question, values, only, &self.ranks, level, state);
                 if choice.is_some() {
                     self.join(level, state, choice)?;
                 }
             }
             Side::Min => {
-                if all_carry(question, values, &self.ranks, level, state) {
+                if all_carry(question, values, only, &self.ranks, level, state) {
                     self.join(level, state, None)?;
                 }
             }
@@ -225,4 +252,13 @@ impl Growth {
         self.order.push(state)?;
         Ok(())
     }
+}
+
+/// Whether a state has a positive value and is neither goal nor dead.
+fn needs_rank(question: &Question, values: &[u64], state: u32) -> bool
+    requires values { length values.now ≡ states question.now }
+    requires state { state < states question.now }
+    ensures { IsTrue result ↔ NeedsRank question.now (slice_index values.now) state }
+{
+    values[state as usize] > 0 && !question.is_goal(state) && !question.is_dead(state)
 }

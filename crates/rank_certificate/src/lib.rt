@@ -23,7 +23,6 @@ mod growth;
 mod guess;
 mod guesses;
 pub mod laws;
-mod layers;
 mod lesser;
 mod met;
 mod table;

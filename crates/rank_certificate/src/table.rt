@@ -1,11 +1,11 @@
 //! The plan that makes values ranked.
 
-ghost use Rattle.std.specs.Prelude.{◌≡◌, ℕ, ◌<◌, ◌≤◌, ◌↔◌, length, slice_index, slice_index_or, All, Some, None, IfOk, IfSome, IsTrue, MatchOption};
+ghost use Rattle.std.specs.Prelude.{◌≡◌, ℕ, ◌<◌, ◌≤◌, ◌↔◌, length, slice_index, slice_index_or, All, Some, None, IfOk, IfSome, IsTrue, MatchOption, option_copied};
 ghost use Rattle.game_model.specs.Query.{states};
 ghost use Rattle.game_model.specs.Limits.{unit};
 ghost use Rattle.game_model.specs.Ranks.{Ranked};
 ghost use Rattle.predecessors.specs.Lists.{ArePredecessors};
-ghost use Rattle.rank_certificate.specs.Carrying.{CanBeRanked, IsLayeredPlan, Stands};
+ghost use Rattle.rank_certificate.specs.Carrying.{AreOfStates, CanBeRanked, IsLayeredPlan, Stands};
 ghost use Rattle.rank_certificate.specs.Growth.{IsGrown};
 
 use crate::check::first_over;
@@ -89,7 +89,7 @@ pub fn rank_standing(
         Ranked question.now values.now plan.choices.items plan.ranks.items)) }
 {
     question.known();
-    let growth = whole_growth(alloc, question, values, predecessors)?;
+    let growth = whole_growth(alloc, question, values, None, predecessors)?;
     let Some(ranks) = all_ranks(alloc, &growth.ranks)? else {
         return Ok(None);
     };
@@ -99,26 +99,29 @@ pub fn rank_standing(
     }))
 }
 
-/// The ranks of all layers, and the choices for them.
-fn whole_growth(
+/// The ranks of all layers, and the choices for them; where choices are given, of these alone.
+pub fn whole_growth(
     alloc: Global,
     question: &Question,
     values: &[u64],
+    only: Option<&[Option<u32>]>,
     predecessors: &Predecessors,
 ) -> Result<Growth, OutOfMemory>
     requires values { length values.now ≡ states question.now }
     requires units { All (λ v. v ≤ unit) values.now }
+    requires only { AreOfStates question.now (option_copied only) }
     requires lists { ArePredecessors question.now.game predecessors.now }
-    ensures { IfOk result (λ g. IsGrown question.now (slice_index values.now) g.ranks.items g.choices.items) }
+    ensures { IfOk result (λ g. IsGrown question.now (slice_index values.now)
+        (option_copied only.entry) g.ranks.items g.choices.items) }
 {
     question.known();
     let mut growth = Growth::of_unneeded(alloc, question, values)?;
     let mut begin = growth.order.len();
-    growth.start(question, values)?;
+    growth.start(question, values, only)?;
     let mut level: u32 = 1;
     while begin < growth.order.len() {
         let end = growth.order.len();
-        growth.spread(question, values, predecessors, level, begin, end)?;
+        growth.spread(question, values, only, predecessors, level, begin, end)?;
         begin = end;
         level += 1;
     }
@@ -126,7 +129,7 @@ fn whole_growth(
 }
 
 /// The ranks as numbers; none where a state has none.
-fn all_ranks(alloc: Global, ranks: &[Option<u32>]) -> Result<Option<Vec<u32>>, OutOfMemory>
+pub fn all_ranks(alloc: Global, ranks: &[Option<u32>]) -> Result<Option<Vec<u32>>, OutOfMemory>
     ensures { IfOk result (λ found. MatchOption found ((s : ℕ) × (s < length ranks.now)
         × (slice_index_or ranks.now s None ≡ None))
         (λ numbers. (length numbers.items ≡ length ranks.now)

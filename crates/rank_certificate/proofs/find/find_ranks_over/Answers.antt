@@ -1,16 +1,27 @@
-use Rattle.std.proofs.Common.{subst, sym}
-use Rattle.rank_certificate.specs.Layers.{AreLayered}
-use Rattle.rank_certificate.proofs.Finding.{layered, layered-Ranked}
+use Rattle.std.proofs.Common.{◌≡◌, ℕ, ◌<◌, length, List, Option, Some, None}
+use Rattle.std.specs.Prelude.{slice_index, slice_index_or}
+use Rattle.rank_certificate.proofs.Given.{numbers-some, given-layered, given-Ranked}
 use Rattle.rank_certificate.proofs.find.find_ranks_over.Goals as goal
 
-pub returns-clause-layered : goal.returns-clause-layered
-returns-clause-layered c =
-    let done = c.in_ok-layers.ensures in
+pub unwrap-requires : goal.unwrap-requires
+unwrap-requires c =
     let some = c.requires.rankable in
-    subst (λ list. AreLayered c.args.question.now c.args.values.now c.args.choices.now list) (sym c.in_ok-ranks.ensures)
-    (layered c.args.question.now c.args.values.now c.args.choices.now done.level done.place 0 c.in_ok-layers.layers.ranks.items done.awaited done.order c.known.ensures done.ranking done.done some.0 some.1)
+    numbers-some c.args.question.now c.args.values.now c.args.choices.now some.0 c.known.ensures some.1 _ _ c.in_ok-growth.ensures _ c.in_ok-ranks.ranks (rw c.deref.ensures.value at c.in_ok-ranks.ensures)
 
 pub returns-clause-ranked : goal.returns-clause-ranked
 returns-clause-ranked c =
     let some = c.requires.rankable in
-    layered-Ranked c.args.question.now c.args.values.now c.args.choices.now some.0 c.in_ok-ranks.ranks.items c.known.ensures some.1 (returns-clause-layered c)
+    let found : List (Option ℕ) = c.in_ok-growth.growth.ranks.items in
+    let ranks : List ℕ = c.unwrap.result.items in
+    let all : (length ranks ≡ length found) × ((s : ℕ) → s < length found → slice_index_or found s None ≡ Some (slice_index ranks s)) =
+    rw c.deref.ensures.value at (rw c.unwrap.ensures at c.in_ok-ranks.ensures) in
+    given-Ranked c.args.question.now c.args.values.now c.args.choices.now some.0 c.known.ensures some.1 found _ c.in_ok-growth.ensures ranks all.0 all.1
+
+pub returns-clause-layered : goal.returns-clause-layered
+returns-clause-layered c =
+    let some = c.requires.rankable in
+    let found : List (Option ℕ) = c.in_ok-growth.growth.ranks.items in
+    let ranks : List ℕ = c.unwrap.result.items in
+    let all : (length ranks ≡ length found) × ((s : ℕ) → s < length found → slice_index_or found s None ≡ Some (slice_index ranks s)) =
+    rw c.deref.ensures.value at (rw c.unwrap.ensures at c.in_ok-ranks.ensures) in
+    given-layered c.args.question.now c.args.values.now c.args.choices.now some.0 c.known.ensures some.1 found _ c.in_ok-growth.ensures ranks all.0 all.1

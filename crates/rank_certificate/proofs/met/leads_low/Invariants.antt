@@ -1,7 +1,7 @@
 use Rattle.std.proofs.Common.{◌≡◌, ◌⊎◌, ℕ, ◌<◌}
 use Rattle.std.specs.Prelude.{slice_index}
 use Rattle.game_model.specs.Game.{edge_of}
-use Rattle.rank_certificate.specs.Growing.{HasRankWithin}
+use Rattle.rank_certificate.specs.Growth.{HasRankWithin}
 use Rattle.rank_certificate.proofs.met.leads_low.Given as goal
 
 abbrev pub invariant-loop-place : goal.invariant-loop-place

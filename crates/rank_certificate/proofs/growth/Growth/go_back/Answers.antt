@@ -1,5 +1,5 @@
 use Rattle.std.proofs.Common.{ℕ, List, take, get_or, subst, sym}
-use Rattle.std.specs.Prelude.{slice_index, Contains}
+use Rattle.std.specs.Prelude.{option_copied, slice_index, Contains}
 use Rattle.std.proofs.lemmas.List.{take_more}
 use Rattle.std.proofs.lemmas.List.Elements.{Contains-get_or}
 use Rattle.predecessors.specs.declared.lists.Move.{Move}
@@ -31,8 +31,8 @@ loop-step-preserved c =
     let items : List Move = c.of_state-step-items.result.now in
     let i : ℕ = c.loop-step.step-index in
     let d : Move = record { state = 0; choice = 0 } in
-    subst (λ part. Follows c.args.question.now (slice_index c.args.values.now) c.args.level c.args.hand part c.args.self.now.ranks.items c.args.self.now.choices.items c.args.self.now.order.items
+    subst (λ part. Follows c.args.question.now (slice_index c.args.values.now) (option_copied c.args.only) c.args.level c.args.hand part c.args.self.now.ranks.items c.args.self.now.choices.items c.args.self.now.order.items
     c.follow.new.self.ranks.items c.follow.new.self.choices.items c.follow.new.self.order.items) (sym (take_more items i d c.loop-step-test.true))
-    (Follows-then c.args.question.now (slice_index c.args.values.now) c.args.level c.args.hand (take i items) (get_or items i d) c.args.self.now.ranks.items c.args.self.now.choices.items c.args.self.now.order.items
+    (Follows-then c.args.question.now (slice_index c.args.values.now) (option_copied c.args.only) c.args.level c.args.hand (take i items) (get_or items i d) c.args.self.now.ranks.items c.args.self.now.choices.items c.args.self.now.order.items
     c.loop-step.self.ranks.items c.loop-step.self.choices.items c.loop-step.self.order.items c.follow.new.self.ranks.items c.follow.new.self.choices.items c.follow.new.self.order.items
     c.loop-step.invariant c.in_ok-follow.ensures)

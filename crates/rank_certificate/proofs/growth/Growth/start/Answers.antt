@@ -1,5 +1,5 @@
 use Rattle.std.proofs.Common.{◌≡◌, ◌<◌, length, arith, ap, sym, subst, inl, inr}
-use Rattle.std.specs.Prelude.{slice_index}
+use Rattle.std.specs.Prelude.{option_copied, slice_index}
 use Rattle.std.proofs.lemmas.Bool.{cases_lt}
 use Rattle.game_model.specs.Query.{states}
 use Rattle.rank_certificate.specs.Growth.{IsApart}
@@ -15,11 +15,11 @@ loop-state-preserved c =
     let inside : at < states q = omega (arith, c.loop-state-test.true, c.states-state-end.ensures, ap length c.game.ensures) in
     let looks = c.in_ok-look.ensures in
     record {
-      growth = Looks-grown q value 0 0 c.args.self.now.order.items _ _ _ c.known.ensures h.growth at inside _ _ _ looks;
+      growth = Looks-grown q value (option_copied c.args.only) 0 0 c.args.self.now.order.items _ _ _ c.known.ensures h.growth at inside _ _ _ looks;
       apart = λ s less left. elim (cases_lt s at) [
-        | inl early ↦ h.apart s early (Looks-kept q value 0 at _ _ _ _ _ _ looks s left)
+        | inl early ↦ h.apart s early (Looks-kept q value (option_copied c.args.only) 0 at _ _ _ _ _ _ looks s left)
         | inr last ↦
             let same : s ≡ at = omega (arith, less, last) in
-            subst (λ u. IsApart q value 0 c.look.new.self.ranks.items u) (sym same) (Looks-apart q value 0 0 c.args.self.now.order.items _ _ _ c.known.ensures h.growth at inside _ _ _ looks) left
+            subst (λ u. IsApart q value (option_copied c.args.only) 0 c.look.new.self.ranks.items u) (sym same) (Looks-apart q value (option_copied c.args.only) 0 0 c.args.self.now.order.items _ _ _ c.known.ensures h.growth at inside _ _ _ looks) left
       ];
     }

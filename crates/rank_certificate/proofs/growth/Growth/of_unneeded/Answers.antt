@@ -1,9 +1,9 @@
 use Rattle.std.proofs.Common.{ap, ◌∙◌}
 use Rattle.std.specs.Prelude.{slice_index}
 use Rattle.std.proofs.lemmas.Bool.{both_ways}
-use Rattle.rank_certificate.proofs.Advancing.{Opened-needs-in, Opened-free-in}
-use Rattle.rank_certificate.proofs.layers.Layers.of_unneeded.Goals as goal
-use Rattle.rank_certificate.proofs.layers.Layers.of_unneeded.Goals.{then-needs_rank+in_ok-push, else-needs_rank+in_ok-push-2+in_ok-push-3}
+use Rattle.rank_certificate.proofs.Found.{Opened-needs-in, Opened-free-in}
+use Rattle.rank_certificate.proofs.growth.Growth.of_unneeded.Goals as goal
+use Rattle.rank_certificate.proofs.growth.Growth.of_unneeded.Goals.{then-needs_rank+in_ok-push, else-needs_rank+in_ok-push-2+in_ok-push-3}
 
 pub loop-state-preserved : goal.loop-state-preserved
 loop-state-preserved c = elim c.if-needs_rank.branch [
