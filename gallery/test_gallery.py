@@ -1,5 +1,7 @@
 """Tests of the gallery's own parts, and where there is a program short trials of it: python3 -m unittest discover gallery"""
 
+import contextlib
+import io
 import os
 import random
 import stat
@@ -8,6 +10,8 @@ import tempfile
 import unittest
 from fractions import Fraction
 from pathlib import Path
+from unittest import mock
+from xml.etree import ElementTree
 
 sys.path.insert(0, str(Path(__file__).resolve().parent))
 
@@ -20,6 +24,7 @@ import egl
 import hallway
 import investor
 import microgrid
+import pictures
 import solver_trials
 import teams
 import wlan
@@ -30,7 +35,7 @@ from exact import exact_values, plain_value_iteration
 from families import instances
 from known import OTHER, Known, agrees, same_or_size
 from model import Model, spelt
-from picture import linear, logarithmic
+from picture import Picture, linear, logarithmic
 from question import Inside, Question, sure
 from solved import Solved, faults_of_line, is_taken, solved
 from table import write_lines
@@ -204,6 +209,49 @@ class Pictures(unittest.TestCase):
         self.assertEqual([axis.share(value) for value in (0.001, 0.01, 1, 100, 1000)], [0, 0, 0.5, 1, 1])
         self.assertEqual([words for _, words in axis.marks], ["10⁻²", "10⁻¹", "1", "10", "100"])
         self.assertEqual(linear("p", 0, 1, 4, 2).marks[1], (0.25, "0.25"))
+
+    def drawn(self, draw, name, **rows):
+        """The words of a picture that is drawn of these rows, and how many curves and signs it has, as tags of SVG."""
+        with tempfile.TemporaryDirectory() as room:
+            for field, text in rows.items():
+                (Path(room) / field).write_text(text, encoding="ascii")
+            places = {"FOLDER": Path(room), "TIMES": Path(room) / "times", "WIDTHS": Path(room) / "widths"}
+            with mock.patch.multiple(pictures, **places), contextlib.redirect_stdout(io.StringIO()):
+                draw()
+            tree = ElementTree.parse(Path(room) / f"{name}.svg").getroot()
+        tags = [element.tag.rpartition("}")[2] for element in tree.iter()]
+        return [element.text for element in tree.iter() if element.tag.endswith("text")], tags
+
+    def test_times(self):
+        rows = "group,model,kind,states,command,status,rounds,seconds,clock,megabytes,width\n" + "".join(
+            f"g,{model},{kind},1000,{command},0,,{seconds},1,1,0.0e+00\n"
+            for model, kind in (("a", "DTMC"), ("b", "game"))
+            for command, seconds in (("check", "3.5"), ("check --traps", "4"), ("solve", "0.2" if model == "a" else ""))
+        )
+        words, tags = self.drawn(pictures.draw_times, "times", times=rows)
+        for word in ("Time by number of states", "states", "processor time, seconds", "check, DTMC", "solve, DTMC", "a", "b"):
+            self.assertIn(word, words)
+        self.assertNotIn("solve, game", words)
+        self.assertEqual((tags.count("circle"), tags.count("polygon")), (4, 2))
+
+    def test_widths(self):
+        rows = "model,states,command,rounds,seconds,width\n" + "".join(
+            f"m,1234,{command},7,{seconds},{width}\n"
+            for command, seconds, width in (("check", 0.1, "1.0e+00"), ("check", 2, "5.0e-03"), ("solve", 0.0, "0.0e+00"))
+        )
+        words, tags = self.drawn(pictures.draw_widths, "widths", widths=rows)
+        for word in ("Width of the bracket by time: m, 1,234 states", "check", "solve", "5.0 · 10⁻³", "0"):
+            self.assertIn(word, words)
+        self.assertNotIn("check --traps", words)
+        self.assertEqual(tags.count("circle"), 2)
+
+    def test_words_beside_each_other(self):
+        """Those of a second point at the same place stand below the first ones."""
+        picture = Picture("", logarithmic("", 0, 2), logarithmic("", 0, 2))
+        for words in ("first", "second"):
+            picture.words(10, 10, words)
+        (_, _, upper), (_, _, lower) = picture.worded
+        self.assertGreater(lower, upper)
 
 
 class Answers(unittest.TestCase):
