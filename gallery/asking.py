@@ -21,7 +21,7 @@ def program():
 
 
 def asked(command, path, model, question, *rest):
-    """The ended run of a command about a model whose files have this path; the rest of its words stand behind the formula."""
+    """The ended run of a command about a model whose files have this path; its other words stand behind the formula."""
     words = [program(), command, f"{path}.tra", f"{path}.lab", question.formula(), *map(str, rest)]
     if model.players:
         words += ["--own", f"{path}.own"]

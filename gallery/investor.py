@@ -3,18 +3,20 @@
 
     investor.py TOP HIGH INVESTORS NAME
 
-Source: A. McIver and C. Morgan, Results on the quantitative mu-calculus, ACM Transactions on Computational Logic 8, 2007,
-the futures market, a case study of PRISM; with two investors after T. Chen, V. Forejt, M. Kwiatkowska, D. Parker and A.
-Simaitis, Automatic verification of competitive stochastic systems, Formal Methods in System Design 43, 2013. Rebuilt from
-its description in the form of a reachability question: there it is the value of a sale that is expected. In the source TOP
-is 10. That two investors sell on their own, and that the market bars one of them at most, is our choice.
+Source: A. McIver and C. Morgan, Results on the quantitative mu-calculus, ACM Transactions on Computational Logic 8,
+2007, the futures market, a case study of PRISM; with two investors after T. Chen, V. Forejt, M. Kwiatkowska, D.
+Parker and A. Simaitis, Automatic verification of competitive stochastic systems, Formal Methods in System Design 43,
+2013. Rebuilt from its description in the form of a reachability question: there it is the value of a sale that is
+expected. In the source TOP is 10. That two investors sell on their own, and that the market bars one of them at most,
+is our choice.
 
 State: the value of a share, the chance that it rises, the cap on the value, for each investor whether it waits, has
-reserved or has sold, whom the market bars, and whose turn it is. An investor may reserve a share once, on the first day of
-a month; a month later it is delivered and sold. The value is from 0 to the cap and begins at TOP/2; in a month it rises by
-1 with a chance of so many TOPths, and else falls by 1. This chance begins at 1/2; it goes up or down a TOPth, up with 2/3
-where the value is below TOP/2, down with 2/3 where it is above, and with 1/2 each at TOP/2. The cap begins at TOP and
-falls by 1 with 1/2. The market may bar an investor from reserving in a month, and none in two months running.
+reserved or has sold, whom the market bars, and whose turn it is. An investor may reserve a share once, on the first
+day of a month; a month later it is delivered and sold. The value is from 0 to the cap and begins at TOP/2; in a month
+it rises by 1 with a chance of so many TOPths, and else falls by 1. This chance begins at 1/2; it goes up or down a
+TOPth, up with 2/3 where the value is below TOP/2, down with 2/3 where it is above, and with 1/2 each at TOP/2. The
+cap begins at TOP and falls by 1 with 1/2. The market may bar an investor from reserving in a month, and none in two
+months running.
 
 Value: computed in fractions by strategy iteration, of a sale at HIGH or more.
 """
@@ -34,7 +36,7 @@ SIZES = {"small": [(4, 4, 1), (2, 2, 2)], "large": [(8, 6, 1), (4, 4, 2)]}
 
 
 class Month(NamedTuple):
-    """`turn` is the number of an investor, or that of the market behind them; `barred` is the number of one, or none."""
+    """`turn` is the number of an investor or that of the market behind them; `barred` is the number of one or none."""
 
     value: int
     chance: int
@@ -50,8 +52,10 @@ def model(top, high, investors):
             return []
         if month.turn < investors:
             return [[(1, after)] for after in reservations(month)]
-        may_be_barred = [number for number in range(investors) if number != month.barred and month.investors[number] == WAITS]
-        return [passed(month, barred) for barred in (None, *may_be_barred)]
+        return [passed(month, barred) for barred in (None, *may_be_barred(month))]
+
+    def may_be_barred(month):
+        return [number for number, status in enumerate(month.investors) if status == WAITS and number != month.barred]
 
     def reservations(month):
         """What an investor on turn may do: wait, or reserve where it has not and is not barred."""

@@ -128,7 +128,7 @@ class Picture:
         self.text(x + (10 if anchor == "start" else -10), y + (18 if below else -9), words, 13, anchor)
 
     def words(self, across, up, words, anchor="end"):
-        """Words to the left of a point, or with the anchor `start` to the right; lower where others stand there already."""
+        """Words to the left of a point, or with the anchor `start` to the right, lower where others stand there."""
         x, y = self.place(across, up)
         x += 10 if anchor == "start" else -10
         left = x if anchor == "start" else x - LETTER * len(words)
@@ -147,7 +147,7 @@ class Picture:
 
 
 def painted(**colours):
-    """The attributes of `fill` and `stroke`: their colours on light paper, and classes by which a dark screen finds the others."""
+    """The attributes of `fill` and `stroke`: their colours on light paper, and classes that a dark screen repaints."""
     plain = " ".join(f'{what}="{COLOURS[colour][0]}"' for what, colour in colours.items())
     return f'{plain} class="{" ".join(f"{colour}-{what}" for what, colour in colours.items())}"'
 

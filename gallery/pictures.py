@@ -145,7 +145,11 @@ def pairs_of_models(rows):
 
 
 def measured(row):
-    return float(row["states"]), max(float(row["seconds"]), LEAST_SECONDS)
+    return float(row["states"]), timed(row)
+
+
+def timed(row):
+    return max(float(row["seconds"]), LEAST_SECONDS)
 
 
 def draw_widths():
@@ -157,14 +161,14 @@ def draw_widths():
         logarithmic("width of the bracket, a probability", -15, 0, 3),
     )
     for command, (colour, dashes) in COMMANDS.items():
-        found = [row for row in rows if row["command"] == command]
-        pairs = sorted((max(float(row["seconds"]), LEAST_SECONDS), max(float(row["width"]), LEAST_WIDTH)) for row in found)
+        found = sorted((timed(row), row["width"]) for row in rows if row["command"] == command)
+        pairs = [(seconds, max(float(width), float(LEAST_WIDTH))) for seconds, width in found]
         if len(pairs) == 1:
             picture.points(command, pairs, colour, "circle")
         elif pairs:
             picture.curve(command, pairs, colour, dashes)
         if pairs:
-            picture.words(*pairs[-1], spelt_width(found[-1]["width"]), "start")
+            picture.words(*pairs[-1], spelt_width(found[-1][1]), "start")
     finish(picture, "widths")
 
 

@@ -1,8 +1,8 @@
 """What `solve` says of a question, and what is wrong with it.
 
-The value lies between its bounds, of which the lower one is 1 only where the value is, and the upper one 0 only where the
-value is; the verdict is the one that the bounds give and right of the value; and the certificate of `--plan` is accepted by
-an audit, with the same line.
+The value lies between its bounds, of which the lower one is 1 exactly where the value is, and the upper one 0 exactly
+where the value is; the verdict is the one that the bounds give and right of the value; and the certificate of `--plan`
+is accepted by an audit, with the same line.
 """
 
 import tempfile

@@ -4,15 +4,16 @@
     solver_trials.py games N
     solver_trials.py values N
 
-`games` draws N games of two players with 3 to 8 states, each of them initial, of which many can be kept from an end for
-ever. Four questions are asked of each, with `F`, `U` or `G`, for a value or with a threshold, which often is the value of
-a state. `values` draws N such games with one question each and a file for `--values`, with numbers that are none, are
-infinite, below 0 or huge, lines too many, states that do not exist or stand twice, blank lines, brackets and fractions by 0.
+`games` draws N games of two players with 3 to 8 states, each of them initial, of which many can be kept from an end
+for ever. Four questions are asked of each, with `F`, `U` or `G`, for a value or with a threshold, which often is the
+value of a state. `values` draws N such games with one question each and a file for `--values`, with numbers that are
+none, are infinite, below 0 or huge, lines too many, states that do not exist or stand twice, blank lines, brackets
+and fractions by 0.
 
-At each state the value, computed in fractions, has to lie between the bounds and the verdict to be right of it; of `games`
-each certificate is audited, too. A file of values has to be refused exactly where a plain reading refuses it, with the
-line and the cause. The same games and files are drawn on every machine. A line for each fault is printed, and one that
-sums up; the status is 1 where there is a fault. The program is that of `gallery/run`.
+At each state the value, computed in fractions, has to lie between the bounds and the verdict to be right of it; of
+`games` each certificate is audited, too. A file of values has to be refused exactly where a plain reading refuses it,
+with the line and the cause. The same games and files are drawn on every machine. A line for each fault is printed,
+and one that sums up; the status is 1 where there is a fault. The program is that of `gallery/run`.
 """
 
 import random
@@ -25,7 +26,7 @@ from asking import UNIT, asked, bracket_of, failures
 from drawn import drawn_game, drawn_question, drawn_values, fault_of, stays_open
 from solved import faults_of_line, faults_of_plan
 
-QUESTIONS = 4
+QUESTIONS, MANY = 4, 10
 REFUSED = 4
 
 
@@ -33,12 +34,14 @@ def faults_of_lines(lines, question, values):
     """What is wrong with the lines of a report, one for each state, and how far the bounds of each lie apart."""
     if [line.split()[:2] for line in lines] != [["state", str(state)] for state in range(len(values))]:
         return ["there is not one line for each state"], []
-    faults = [f"state {state}: {fault}" for state, line in enumerate(lines) for fault in faults_of_line(line, question, values[state])]
+    faults = []
+    for state, line in enumerate(lines):
+        faults += [f"state {state}: {fault}" for fault in faults_of_line(line, question, values[state])]
     return faults, [Fraction(upper) - Fraction(lower) for lower, upper in map(bracket_of, lines)]
 
 
 def trial_of_game(number, path):
-    """The faults of one game with its questions, the widths of all bounds, and for how many questions play can stay open."""
+    """The faults of one game, the widths of all bounds, and for how many of its questions play can stay open."""
     draw = random.Random(f"game {number}")
     model = drawn_game(draw)
     model.write(path)
@@ -77,12 +80,12 @@ def games(count):
     with tempfile.TemporaryDirectory() as room:
         ended = [told(number, trial_of_game(number, Path(room) / "game")) for number in range(count)]
     widths = [width for _, wide, _ in ended for width in wide]
-    exact, widest = sum(width == 0 for width in widths), max(widths) / UNIT
+    exact, wide = sum(width == 0 for width in widths), sum(width > MANY * UNIT for width in widths)
     opened = sum(opened for _, _, opened in ended)
     faults = sum(len(faults) for faults, _, _ in ended)
     return faults, (
         f"{count} games, {QUESTIONS * count} questions, {opened} with play that can stay open, {len(widths)} bounds, "
-        f"{exact} with no unit between, the widest with {widest}; {faults} faults"
+        f"{exact} with no unit between, {wide} with more than {MANY}, the widest with {max(widths) / UNIT}; {faults} faults"
     )
 
 

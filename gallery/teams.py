@@ -3,21 +3,21 @@
 
     teams.py AGENTS REACH TASKS NAME
 
-Source: after T. Chen, M. Kwiatkowska, D. Parker and A. Simaitis, Verifying team formation protocols with probabilistic
-model checking, CLIMA 2011, on the protocol of M. Gaston and M. desJardins, Agent-organized networks for dynamic team
-formation, AAMAS 2005. Rebuilt from its description in the form of a reachability question: agents on a network have a
-resource each, tasks need several, and an agent may begin a team or join one of a neighbour. There agents are rewarded,
-and begin and join with given probabilities or as they choose; here they choose. The networks, the tasks and the order in
-which agents act are our choice.
+Source: after T. Chen, M. Kwiatkowska, D. Parker and A. Simaitis, Verifying team formation protocols with
+probabilistic model checking, CLIMA 2011, on the protocol of M. Gaston and M. desJardins, Agent-organized networks for
+dynamic team formation, AAMAS 2005. Rebuilt from its description in the form of a reachability question: agents on a
+network have a resource each, tasks need several, and an agent may begin a team or join one of a neighbour. There
+agents are rewarded, and begin and join with given probabilities or as they choose; here they choose. The networks,
+the tasks and the order in which agents act are our choice.
 
-State: the tasks, the team of each agent, who has acted, and whose turn it is. The AGENTS sit in a ring, and each knows the
-next REACH ones at both sides; agent i has the resource i modulo 3. First each of TASKS tasks is drawn, which needs two of
-the three resources or all, with 1/4 each. Then agents act in an order that is drawn, each once. One on turn stays out, or
-begins the team of a task that has none, or joins that of a neighbour, where its own resource is needed and nobody of the
-team has it.
+State: the tasks, the team of each agent, who has acted, and whose turn it is. The AGENTS sit in a ring, and each
+knows the next REACH ones at both sides; agent i has the resource i modulo 3. First each of TASKS tasks is drawn,
+which needs two of the three resources or all, with 1/4 each. Then agents act in an order that is drawn, each once.
+One on turn stays out, or begins the team of a task that has none, or joins that of a neighbour, where its own
+resource is needed and nobody of the team has it.
 
-Value: computed in fractions by strategy iteration, for coalitions against all others, who keep out or take a place. Three
-agents who know each other and one task: all do it surely, two of them where it needs theirs alone, with 1/4.
+Value: computed in fractions by strategy iteration, for coalitions against all others, who keep out or take a place.
+Three agents who know each other and one task: all do it surely, two of them where it needs theirs alone, with 1/4.
 """
 
 from fractions import Fraction
@@ -34,7 +34,7 @@ SIZES = {"small": [(3, 1, 1), (4, 1, 1), (4, 1, 2)], "large": [(5, 1, 2)]}
 
 
 class Turn(NamedTuple):
-    """The needs of the tasks, the task of each agent or none, the agents still to act, and who is on turn, or nobody."""
+    """The needs of the tasks, the task of each agent or none, the agents still to act, and who is on turn or none."""
 
     tasks: tuple
     teams: tuple
@@ -108,9 +108,8 @@ def questions(agents, reach, tasks):
     players = names(agents)
     for count in range(2, agents + 1):
         yield Question("Pmax=?", "one_done", coalition=tuple(players[:count]))
-    for partner in players[1:3]:
-        yield Question("Pmax=?", "with_a1", coalition=("a1", partner))
-    yield Question("Pmax=?", "with_a1", coalition=tuple(players[:-1]))
+    for coalition in dict.fromkeys([("a1", "a2"), ("a1", "a3"), tuple(players[:-1])]):
+        yield Question("Pmax=?", "with_a1", coalition=coalition)
     yield Question("Pmax=?", "all_done", coalition=tuple(players))
     yield Question("P>=0.5", "all_done", coalition=tuple(players[:-1]))
     yield Question("Pmax=?", "!all_done", coalition=tuple(players[-1:]), path="G")

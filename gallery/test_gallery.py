@@ -1,4 +1,4 @@
-"""Tests of the gallery's own parts, and where there is a program short trials of it: python3 -m unittest discover gallery"""
+"""Tests of the gallery's own parts, and short trials of the program where it is: python3 -m unittest discover gallery"""
 
 import contextlib
 import io
@@ -191,13 +191,13 @@ class Games(unittest.TestCase):
         self.assertEqual(self.value(model, "one_done", "a1", "a2", "a3"), 1)
 
     def test_four_agents_in_a_ring(self):
-        """The last one has the first one's resource and takes its place, where it acts before the first two: with 1/3."""
+        """The last has the first one's resource and takes its place, where it acts before the first two: with 1/3."""
         model = teams.model(4, 1, 1)
         for label in ("one_done", "with_a1"):
             self.assertEqual(self.value(model, label, "a1", "a2"), Fraction(1, 4) * Fraction(2, 3))
 
     def test_a_sale_in_the_first_month(self):
-        """Each later month is worse. The share has to rise, with 1/2, and where HIGH is TOP the cap to stay, with 1/2."""
+        """Each later month is worse. The share has to rise, with 1/2; where HIGH is TOP the cap has to stay, with 1/2."""
         self.assertEqual(self.value(investor.model(2, 2, 1), "i1_high", "i1"), Fraction(1, 4))
         self.assertEqual(self.value(investor.model(4, 3, 1), "i1_high", "i1"), HALF)
         self.assertEqual(self.value(investor.model(2, 2, 2), "one_high", "i1"), Fraction(1, 4))
@@ -335,7 +335,8 @@ class Solving(unittest.TestCase):
         one = none.replace("0.0", "1.0")
         for line, value, faults in ((none, 0, []), (one, 1, []), (nearly, 0, [ends]), (none, Fraction(1, 10**20), [ends])):
             with self.subTest(line=line, value=value):
-                self.assertEqual([fault for fault in faults_of_line(line, Question("Pmin=?", "goal"), value) if fault == ends], faults)
+                found = faults_of_line(line, Question("Pmin=?", "goal"), value)
+                self.assertEqual([fault for fault in found if fault == ends], faults)
 
     def test_verdicts(self):
         line = LOOSE.replace("Bracket", "{}")
