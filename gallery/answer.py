@@ -1,36 +1,24 @@
 """One question of one model: its independent value, the program's answer, and what is wrong with it."""
 
-import os
-import subprocess
-import sys
 import time
 from dataclasses import dataclass, field
 from fractions import Fraction
-from pathlib import Path
+from typing import Optional
 
+from asking import TRUTHS, UNIT, asked, bracket_of, failures, verdict_of
 from exact import Problem, exact_values
 from known import agrees
 from question import Question
+from solved import Solved
 from table import shown
-
-STATUSES_OF_ANSWERS = (0, 1, 2)
-UNIT = Fraction(1, 10**15)
-BUILT = Path(__file__).resolve().parent.parent / "crates" / "stogame" / "out" / "stogame"
-
-
-def program():
-    """The program that the environment variable STOGAME names, or the built one of this clone."""
-    path = os.environ.get("STOGAME", str(BUILT))
-    if not os.access(path, os.X_OK):
-        sys.exit(f"{path} is no program: call ./stogame, which builds it, or name one by STOGAME")
-    return path
 
 
 @dataclass
 class Answer:
     """The first line of the report, the value that it has to agree with, and the faults that were found.
 
-    With formulas inside `inside` is the line before the report, which counts them and what is undecided of them.
+    With formulas inside `inside` is the line before the report, which counts them and what is undecided of them. What
+    `solve` says of the same question is `solved`, where it takes it and was asked.
     """
 
     name: str
@@ -41,6 +29,7 @@ class Answer:
     line: str
     seconds: float
     faults: list = field(default_factory=list)
+    solved: Optional[Solved] = None
 
     def stored(self):
         """What is stored of the answer."""
@@ -48,11 +37,10 @@ class Answer:
 
     def bracket(self):
         """The lower and the upper bound as they are printed, or nothing where the line has none."""
-        words = self.line.split()
-        return (words[3], words[5]) if words[:1] == ["state"] else ()
+        return bracket_of(self.line)
 
     def verdict(self):
-        return self.line.split()[-1] if self.bracket() else self.line
+        return verdict_of(self.line)
 
     def summary(self):
         """The verdict, and with formulas inside how many pairs of one and a state are undecided."""
@@ -65,12 +53,12 @@ def answers(name, model, path, questions):
     for question in questions:
         values = independent_values(model, question, computed)
         begun = time.monotonic()
-        run = subprocess.run(words_of(path, model, question), capture_output=True, text=True)
+        run = asked(question.command, path, model, question, *options_of(question))
         seconds = time.monotonic() - begun
         inside, lines = parted(question, run.stdout.splitlines())
         answer = Answer(name, len(model), question, Fraction(values[0]), inside, lines[0], seconds)
-        if run.returncode not in STATUSES_OF_ANSWERS or run.stderr:
-            answer.faults.append(f"status {run.returncode} {run.stderr.strip()}")
+        if failures(run):
+            answer.faults += failures(run)
         elif question.command == "sure":
             judge_sure(answer, lines, values)
         else:
@@ -86,14 +74,9 @@ def parted(question, lines):
     return inside, lines[1 if inside else 0 :] or [""]
 
 
-def words_of(path, model, question):
-    """The words of a command, with one worker, so that the number of rounds is the same everywhere."""
-    words = [program(), question.command, f"{path}.tra", f"{path}.lab", question.formula()]
-    if model.players:
-        words += ["--own", f"{path}.own"]
-    if question.command == "check":
-        words += [*question.options, "--workers", "1"]
-    return words
+def options_of(question):
+    """The options of a command; one worker, so that the number of rounds is the same everywhere."""
+    return [*question.options, "--workers", "1"] if question.command == "check" else []
 
 
 def independent_values(model, question, computed):
@@ -142,7 +125,7 @@ def judge_bracket(answer, lines):
     if not lower <= answer.value <= upper:
         answer.faults.append(f"the bracket misses the value {shown(answer.value)}")
     judge_steps(answer, max(answer.value - lower, upper - answer.value))
-    told = {"True": True, "False": False}.get(answer.verdict())
+    told = TRUTHS.get(answer.verdict())
     if told is not None and told != answer.question.is_true_of(answer.value):
         answer.faults.append(f"the verdict is wrong of the value {shown(answer.value)}")
 

@@ -32,6 +32,8 @@ FAMILIES = (
     "hallway",
     "charlton",
     "microgrid",
+    "teams",
+    "investor",
 )
 SIZES = ("small", "large")
 

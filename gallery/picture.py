@@ -7,6 +7,7 @@ WIDTH, HEIGHT = 720, 460
 LEFT, RIGHT, BOTTOM = 92, 690, 396
 LEGEND_TOP, LEGEND_HEIGHT, LEGEND_PLACES = 50, 20, (LEFT, LEFT + 300)
 DOT = 4
+LETTER, ROW = 7, 15
 SUPERSCRIPTS = str.maketrans("-0123456789", "⁻⁰¹²³⁴⁵⁶⁷⁸⁹")
 MOST_SPELT = 4
 
@@ -62,7 +63,7 @@ class Picture:
     """Curves and points over two axes, below a title and a legend of one or two columns."""
 
     def __init__(self, title, across, up, legends=4):
-        self.across, self.up, self.legends, self.parts = across, up, 0, []
+        self.across, self.up, self.legends, self.parts, self.worded = across, up, 0, [], []
         self.top = LEGEND_TOP + LEGEND_HEIGHT * -(-legends // 2) + 14
         self.text(LEFT, 28, title, 16)
         for value, words in across.marks:
@@ -84,12 +85,12 @@ class Picture:
     def text(self, x, y, words, size, anchor="start", turned=False):
         turn = f' transform="rotate(-90 {x:.1f} {y:.1f})"' if turned else ""
         place = f'x="{x:.1f}" y="{y:.1f}" font-size="{size}" text-anchor="{anchor}"{turn}'
-        self.parts.append(f'<text {place} {painted("fill", "ink")}>{escaped(words)}</text>')
+        self.parts.append(f'<text {place} {painted(fill="ink")}>{escaped(words)}</text>')
 
     def line(self, places, colour, width, dashes=""):
         joined = " ".join(f"{x:.1f},{y:.1f}" for x, y in places)
         dashed = f' stroke-dasharray="{dashes}"' if dashes else ""
-        stroke = f'stroke-width="{width}"{dashed} {painted("stroke", colour)}'
+        stroke = f'stroke-width="{width}"{dashed} {painted(stroke=colour)}'
         self.parts.append(f'<polyline points="{joined}" fill="none" {stroke}/>')
 
     def next_legend(self, name):
@@ -105,19 +106,20 @@ class Picture:
         x, y = self.next_legend(name)
         self.line([(x, y), (x + 34, y)], colour, 2, dashes)
 
-    def points(self, name, pairs, colour, shape):
-        """Points of one kind, each a circle, a square or a triangle."""
+    def points(self, name, pairs, colour, shape, hollow=False):
+        """Points of one kind, each a circle, a square or a triangle, filled or hollow."""
         x, y = self.next_legend(name)
         for place in [(x + 17, y), *(self.place(*pair) for pair in pairs)]:
-            self.sign(*place, colour, shape)
+            self.sign(*place, colour, shape, hollow)
 
-    def sign(self, x, y, colour, shape):
+    def sign(self, x, y, colour, shape, hollow=False):
+        paint = f'{painted(fill="paper", stroke=colour)} stroke-width="1.6"' if hollow else painted(fill=colour)
         if shape == "circle":
-            self.parts.append(f'<circle cx="{x:.1f}" cy="{y:.1f}" r="{DOT}" {painted("fill", colour)}/>')
+            self.parts.append(f'<circle cx="{x:.1f}" cy="{y:.1f}" r="{DOT}" {paint}/>')
             return
         corners = {"square": ((-1, -1), (1, -1), (1, 1), (-1, 1)), "triangle": ((0, -1.3), (1.2, 1), (-1.2, 1))}[shape]
         joined = " ".join(f"{x + DOT * right:.1f},{y + DOT * down:.1f}" for right, down in corners)
-        self.parts.append(f'<polygon points="{joined}" {painted("fill", colour)}/>')
+        self.parts.append(f'<polygon points="{joined}" {paint}/>')
 
     def dot(self, across, up, words, anchor="start", below=False):
         """A dot on a curve with words beside it, to the right or, with the anchor `end`, to the left."""
@@ -125,22 +127,29 @@ class Picture:
         self.sign(x, y, "ink", "circle")
         self.text(x + (10 if anchor == "start" else -10), y + (18 if below else -9), words, 13, anchor)
 
-    def words(self, across, up, words):
-        """Words to the left of a point."""
+    def words(self, across, up, words, anchor="end"):
+        """Words to the left of a point, or with the anchor `start` to the right, lower where others stand there."""
         x, y = self.place(across, up)
-        self.text(x - 10, y + 4, words, 12, "end")
+        x += 10 if anchor == "start" else -10
+        left = x if anchor == "start" else x - LETTER * len(words)
+        right = left + LETTER * len(words)
+        while any(low < right and left < high and abs(y - row) < ROW for low, high, row in self.worded):
+            y += ROW
+        self.worded.append((left, right, y))
+        self.text(x, y + 4, words, 12, anchor)
 
     def write(self, path):
         size = f'viewBox="0 0 {WIDTH} {HEIGHT}" width="{WIDTH}" height="{HEIGHT}"'
         head = f'<svg xmlns="http://www.w3.org/2000/svg" {size} font-family="sans-serif">'
-        paper = f'<rect width="{WIDTH}" height="{HEIGHT}" {painted("fill", "paper")}/>'
+        paper = f'<rect width="{WIDTH}" height="{HEIGHT}" {painted(fill="paper")}/>'
         text = "\n".join([head, style(), paper, *self.parts, "</svg>", ""])
         path.write_text(text, encoding="ascii", errors="xmlcharrefreplace")
 
 
-def painted(what, colour):
-    """The attributes of a colour: that of light paper, and a class by which a dark screen finds the other one."""
-    return f'{what}="{COLOURS[colour][0]}" class="{colour}-{what}"'
+def painted(**colours):
+    """The attributes of `fill` and `stroke`: their colours on light paper, and classes that a dark screen repaints."""
+    plain = " ".join(f'{what}="{COLOURS[colour][0]}"' for what, colour in colours.items())
+    return f'{plain} class="{" ".join(f"{colour}-{what}" for what, colour in colours.items())}"'
 
 
 def style():

@@ -25,7 +25,7 @@ import coin
 import stall
 from answer import answers
 from exact import exact_values, plain_value_iteration
-from picture import Picture, linear, logarithmic
+from picture import Picture, linear, logarithmic, spelt_power
 from question import Question
 
 FOLDER = Path(__file__).resolve().parent / "pictures"
@@ -36,6 +36,9 @@ TABLES = 2
 LEAST_WIDTH, LEAST_SECONDS = Fraction(1, 10**15), 0.001
 WORK = "updates of states"
 VALUE = "probability"
+SECONDS = "processor time, seconds"
+MOST_NAMED = 4
+TIMED = {"check": "blue", "solve": "green"}
 COMMANDS = {"check": ("blue", ""), "check --traps": ("red", "7 4"), "solve": ("green", "2 3")}
 SHAPES = {"DTMC": "circle", "MDP": "square", "game": "triangle"}
 
@@ -115,24 +118,38 @@ def rows_of(path):
 
 
 def draw_times():
-    """The time of `check` by the number of states, and that of `solve` where it was measured."""
-    rows = [row for row in rows_of(TIMES) if row["seconds"]]
+    """The time of `check` by the number of states, and that of `solve`, with a line that joins the two of one model."""
+    rows = [row for row in rows_of(TIMES) if row["seconds"] and row["command"] in TIMED]
     highest = max(float(row["seconds"]) for row in rows)
-    seconds = logarithmic("time of the processor, s", -3, 3 if highest > 100 else 2)
+    seconds = logarithmic(SECONDS, -3, 3 if highest > 100 else 2)
     picture = Picture("Time by number of states", logarithmic("states", 1, 6), seconds, 6)
-    for command, colour in (("check", "blue"), ("solve", "green")):
-        for kind, shape in SHAPES.items():
+    for joined in pairs_of_models(rows):
+        picture.line([picture.place(*measured(row)) for row in joined], "grey", 1, "1 3")
+    for kind, shape in SHAPES.items():
+        for command, colour in TIMED.items():
             pairs = [measured(row) for row in rows if (row["command"], row["kind"]) == (command, kind)]
             if pairs:
-                picture.points(f"{command}, {kind}", pairs, colour, shape)
+                picture.points(f"{command}, {kind}", pairs, colour, shape, hollow=command == "solve")
     slowest = sorted((row for row in rows if row["command"] == "check"), key=lambda row: -float(row["seconds"]))
-    for row in slowest[:4]:
+    for row in slowest[:MOST_NAMED]:
         picture.words(*measured(row), row["model"])
     finish(picture, "times")
 
 
+def pairs_of_models(rows):
+    """The two rows of each model that both commands answered."""
+    models = {}
+    for row in rows:
+        models.setdefault(row["model"], []).append(row)
+    return [joined for joined in models.values() if len(joined) == len(TIMED)]
+
+
 def measured(row):
-    return float(row["states"]), max(float(row["seconds"]), LEAST_SECONDS)
+    return float(row["states"]), timed(row)
+
+
+def timed(row):
+    return max(float(row["seconds"]), LEAST_SECONDS)
 
 
 def draw_widths():
@@ -140,17 +157,25 @@ def draw_widths():
     rows = rows_of(WIDTHS)
     picture = Picture(
         f"Width of the bracket by time: {rows[0]['model']}, {int(rows[0]['states']):,} states",
-        logarithmic("time of the processor, s", -3, 2),
-        logarithmic("width of the bracket", -15, 0, 3),
+        logarithmic(SECONDS, -3, 3),
+        logarithmic("width of the bracket, a probability", -15, 0, 3),
     )
     for command, (colour, dashes) in COMMANDS.items():
-        found = [row for row in rows if row["command"] == command]
-        pairs = [(max(float(row["seconds"]), LEAST_SECONDS), max(float(row["width"]), 1e-15)) for row in found]
+        found = sorted((timed(row), row["width"]) for row in rows if row["command"] == command)
+        pairs = [(seconds, max(float(width), float(LEAST_WIDTH))) for seconds, width in found]
         if len(pairs) == 1:
             picture.points(command, pairs, colour, "circle")
         elif pairs:
-            picture.curve(command, sorted(pairs), colour, dashes)
+            picture.curve(command, pairs, colour, dashes)
+        if pairs:
+            picture.words(*pairs[-1], spelt_width(found[-1][1]), "start")
     finish(picture, "widths")
+
+
+def spelt_width(width):
+    """A width such as `2.0e-15` as a person writes it."""
+    digits, power = width.split("e")
+    return f"{digits} · {spelt_power(int(power))}" if float(width) else "0"
 
 
 def finish(picture, name):

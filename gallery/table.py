@@ -1,9 +1,14 @@
 """The gallery's answers as a printed table, as stored lines, and as the table of the README."""
 
+from solved import title
+
 MOST_OF_A_DENOMINATOR = 10**9
 PLACES = 18
 MODEL_HEAD = "| Model | States | Choices | Moves | Known as | What it is there |\n|---|---|---|---|---|---|\n"
-HEAD = "| Model | States | Question | Value | Its source | Bracket | Verdict |\n|---|---|---|---|---|---|---|\n"
+HEAD = (
+    "| Model | States | Question | Value | Its source | Bracket | Verdict | Width by `solve` |\n"
+    "|---|---|---|---|---|---|---|---|\n"
+)
 
 
 def shown(value):
@@ -17,11 +22,17 @@ def printed(answer):
     """A line of the table, and one for each fault."""
     cells = f"{answer.name:<23} {answer.states:>6}  {answer.question.title():<50} {shown(answer.value):<22}"
     ends = f" {' '.join(answer.bracket()):<35} {answer.summary():<14} {answer.seconds:6.2f} s"
+    if answer.solved:
+        ends += f"  solve {answer.solved.summary():<19} {answer.solved.seconds:6.2f} s"
     return "\n".join([cells + ends] + [f"    {fault}" for fault in answer.faults])
 
 
 def key_of(name, question):
     return f"{name} | {question.title()}"
+
+
+def solved_key_of(name, question):
+    return f"{name} | {title(question)}"
 
 
 def read_lines(path):
@@ -32,7 +43,8 @@ def read_lines(path):
 
 
 def write_lines(path, keys, lines):
-    path.write_text("".join(f"{key} | {lines[key]}\n" for key in keys if key in lines), encoding="ascii")
+    known = (key for key in dict.fromkeys(keys) if key in lines)
+    path.write_text("".join(f"{key} | {lines[key]}\n" for key in known), encoding="ascii")
 
 
 def write_markdown(path, size, answers):
@@ -60,8 +72,9 @@ def model_cells(name, known, counts):
 
 
 def markdown(answer):
-    title, bracket = f"`{answer.question.title()}`", "<br>".join(answer.bracket())
+    asked, bracket = f"`{answer.question.title()}`", "<br>".join(answer.bracket())
     source = answer.question.source
     if answer.question.published:
         source += f"; published as {answer.question.published}"
-    return row(answer.name, answer.states, title, shown(answer.value), source, bracket, answer.summary())
+    solved = answer.solved.summary() if answer.solved else ""
+    return row(answer.name, answer.states, asked, shown(answer.value), source, bracket, answer.summary(), solved)

@@ -1,9 +1,17 @@
-"""Tests of the gallery's own parts, without the program: python3 -m unittest discover gallery"""
+"""Tests of the gallery's own parts, and short trials of the program where it is: python3 -m unittest discover gallery"""
 
+import contextlib
+import io
+import os
+import random
+import stat
 import sys
+import tempfile
 import unittest
 from fractions import Fraction
 from pathlib import Path
+from unittest import mock
+from xml.etree import ElementTree
 
 sys.path.insert(0, str(Path(__file__).resolve().parent))
 
@@ -14,15 +22,23 @@ import coin
 import csma
 import egl
 import hallway
+import investor
 import microgrid
+import pictures
+import solver_trials
+import teams
 import wlan
 from answer import Answer, judge_bracket, judge_inside, parted
+from asking import BUILT
+from drawn import drawn_game, drawn_question, drawn_values, fault_of, stays_open
 from exact import exact_values, plain_value_iteration
 from families import instances
 from known import OTHER, Known, agrees, same_or_size
 from model import Model, spelt
-from picture import linear, logarithmic
+from picture import Picture, linear, logarithmic
 from question import Inside, Question, sure
+from solved import Solved, faults_of_line, is_taken, solved
+from table import write_lines
 
 MOST_STATES, MOST_STEPS = 130, 300
 HALF = Fraction(1, 2)
@@ -168,12 +184,74 @@ class Games(unittest.TestCase):
         self.assertEqual(self.value(hallway.model(1, 2), "found_whole", "robot"), whole)
 
 
+    def test_three_agents_who_know_each_other(self):
+        """Two of them do a task that needs their two resources alone, one of four; all three do any."""
+        model = teams.model(3, 1, 1)
+        self.assertEqual(self.value(model, "one_done", "a1", "a2"), Fraction(1, 4))
+        self.assertEqual(self.value(model, "one_done", "a1", "a2", "a3"), 1)
+
+    def test_four_agents_in_a_ring(self):
+        """The last has the first one's resource and takes its place, where it acts before the first two: with 1/3."""
+        model = teams.model(4, 1, 1)
+        for label in ("one_done", "with_a1"):
+            self.assertEqual(self.value(model, label, "a1", "a2"), Fraction(1, 4) * Fraction(2, 3))
+
+    def test_a_sale_in_the_first_month(self):
+        """Each later month is worse. The share has to rise, with 1/2; where HIGH is TOP the cap has to stay, with 1/2."""
+        self.assertEqual(self.value(investor.model(2, 2, 1), "i1_high", "i1"), Fraction(1, 4))
+        self.assertEqual(self.value(investor.model(4, 3, 1), "i1_high", "i1"), HALF)
+        self.assertEqual(self.value(investor.model(2, 2, 2), "one_high", "i1"), Fraction(1, 4))
+
+
 class Pictures(unittest.TestCase):
     def test_axes(self):
         axis = logarithmic("s", -2, 2)
         self.assertEqual([axis.share(value) for value in (0.001, 0.01, 1, 100, 1000)], [0, 0, 0.5, 1, 1])
         self.assertEqual([words for _, words in axis.marks], ["10⁻²", "10⁻¹", "1", "10", "100"])
         self.assertEqual(linear("p", 0, 1, 4, 2).marks[1], (0.25, "0.25"))
+
+    def drawn(self, draw, name, **rows):
+        """The words of a picture that is drawn of these rows, and how many curves and signs it has, as tags of SVG."""
+        with tempfile.TemporaryDirectory() as room:
+            for field, text in rows.items():
+                (Path(room) / field).write_text(text, encoding="ascii")
+            places = {"FOLDER": Path(room), "TIMES": Path(room) / "times", "WIDTHS": Path(room) / "widths"}
+            with mock.patch.multiple(pictures, **places), contextlib.redirect_stdout(io.StringIO()):
+                draw()
+            tree = ElementTree.parse(Path(room) / f"{name}.svg").getroot()
+        tags = [element.tag.rpartition("}")[2] for element in tree.iter()]
+        return [element.text for element in tree.iter() if element.tag.endswith("text")], tags
+
+    def test_times(self):
+        rows = "group,model,kind,states,command,status,rounds,seconds,clock,megabytes,width\n" + "".join(
+            f"g,{model},{kind},1000,{command},0,,{seconds},1,1,0.0e+00\n"
+            for model, kind in (("a", "DTMC"), ("b", "game"))
+            for command, seconds in (("check", "3.5"), ("check --traps", "4"), ("solve", "0.2" if model == "a" else ""))
+        )
+        words, tags = self.drawn(pictures.draw_times, "times", times=rows)
+        for word in ("Time by number of states", "states", "processor time, seconds", "check, DTMC", "solve, DTMC", "a", "b"):
+            self.assertIn(word, words)
+        self.assertNotIn("solve, game", words)
+        self.assertEqual((tags.count("circle"), tags.count("polygon")), (4, 2))
+
+    def test_widths(self):
+        rows = "model,states,command,rounds,seconds,width\n" + "".join(
+            f"m,1234,{command},7,{seconds},{width}\n"
+            for command, seconds, width in (("check", 0.1, "1.0e+00"), ("check", 2, "5.0e-03"), ("solve", 0.0, "0.0e+00"))
+        )
+        words, tags = self.drawn(pictures.draw_widths, "widths", widths=rows)
+        for word in ("Width of the bracket by time: m, 1,234 states", "check", "solve", "5.0 · 10⁻³", "0"):
+            self.assertIn(word, words)
+        self.assertNotIn("check --traps", words)
+        self.assertEqual(tags.count("circle"), 2)
+
+    def test_words_beside_each_other(self):
+        """Those of a second point at the same place stand below the first ones."""
+        picture = Picture("", logarithmic("", 0, 2), logarithmic("", 0, 2))
+        for words in ("first", "second"):
+            picture.words(10, 10, words)
+        (_, _, upper), (_, _, lower) = picture.worded
+        self.assertGreater(lower, upper)
 
 
 class Answers(unittest.TestCase):
@@ -202,6 +280,146 @@ class Answers(unittest.TestCase):
         nested = Question("Pmax=?", Inside(Question("P>=1", "goal")), steps=3)
         self.assertEqual(self.answer_to(nested, "inner 1 undecided 1", line).faults, [])
         self.assertTrue(self.answer_to(nested, "inner 1 undecided 0", line).faults)
+
+
+MADE_UP = """#!/bin/sh
+case "$1 $*" in
+    solve*--plan*) echo "$LINE"; echo 'certificate 2 3' ;;
+    solve*) echo "$LINE" ;;
+    audit*) grep -q certificate "$5" && echo "$AUDIT" ;;
+esac
+"""
+SOLVED = "state 0 lower 0.{} upper 0.{} {} {}"
+LOOSE = SOLVED.format("4" + "9" * 14, "5" + "0" * 13 + "1", "solved", "Bracket")
+
+
+class Solving(unittest.TestCase):
+    """What is required of `solve`, over a program that is made up, which prints the same lines of every question."""
+
+    def setUp(self):
+        room = tempfile.TemporaryDirectory()
+        self.addCleanup(room.cleanup)
+        program = Path(room.name) / "program"
+        program.write_text(MADE_UP, encoding="ascii")
+        program.chmod(program.stat().st_mode | stat.S_IXUSR)
+        kept = dict(os.environ)
+        self.addCleanup(lambda: (os.environ.clear(), os.environ.update(kept)))
+        os.environ["STOGAME"] = str(program)
+
+    def answer(self, line, audit, question=Question("Pmax=?", "goal"), value=HALF):
+        os.environ.update(LINE=line, AUDIT=audit)
+        return solved(coin_loop(), "none", question, value)
+
+    def test_a_right_answer(self):
+        answer = self.answer(LOOSE, LOOSE.replace("solved", "audited"))
+        self.assertEqual((answer.faults, answer.line, answer.summary()), ([], LOOSE, "2.0e-15"))
+
+    def test_other_certificates(self):
+        for audit in (LOOSE, LOOSE.replace("solved", "audited").replace("49", "48"), "refused cert line 1 Version"):
+            self.assertEqual(self.answer(LOOSE, audit).faults, [f"solve: the audit says {audit}"])
+
+    def test_what_is_no_answer(self):
+        for line in ("", "refused formula place 4 Unexpected", LOOSE.replace("solved", "rounds 3")):
+            answer = self.answer(line, line)
+            self.assertEqual(answer.faults[0], "solve: there is no bracket of one initial state")
+        self.assertEqual(Solved("", 0.0).summary(), "none")
+
+    def test_a_value_outside(self):
+        for value in (Fraction(1, 3), Fraction(2, 3)):
+            self.assertEqual(faults_of_line(LOOSE, Question("Pmax=?", "goal"), value), ["the bracket misses the value"])
+
+    def test_values_that_the_graph_decides(self):
+        zeros, ends = "0" * 15, "the bounds do not say whether the value is 0 or 1"
+        none = SOLVED.format(zeros, zeros, "solved", "Bracket")
+        nearly = SOLVED.format(zeros, zeros[1:] + "1", "solved", "Bracket")
+        one = none.replace("0.0", "1.0")
+        for line, value, faults in ((none, 0, []), (one, 1, []), (nearly, 0, [ends]), (none, Fraction(1, 10**20), [ends])):
+            with self.subTest(line=line, value=value):
+                found = faults_of_line(line, Question("Pmin=?", "goal"), value)
+                self.assertEqual([fault for fault in found if fault == ends], faults)
+
+    def test_verdicts(self):
+        line = LOOSE.replace("Bracket", "{}")
+        for bound, told in (("P>=0.5", "Undecided"), ("P>0.6", "False"), ("P<=0.6", "True"), ("P>=0.4", "True")):
+            question = Question(bound, "goal")
+            for verdict in ("True", "False", "Undecided"):
+                faults = faults_of_line(line.format(verdict), question, HALF)
+                self.assertEqual(not faults, verdict == told)
+
+    def test_what_is_asked(self):
+        inner = Question("P>=1", "goal")
+        for question in (Question("Pmax=?", "goal", safe="ok"), Question("P>1/3", "!goal", path="G")):
+            self.assertTrue(is_taken(question))
+        for question in (
+            Question("Pmax=?", "goal", path="X"),
+            Question("Pmax=?", "goal", steps=3),
+            Question("Pmax=?", Inside(inner)),
+            sure("Pmax=?", "goal"),
+        ):
+            self.assertFalse(is_taken(question))
+
+    def test_one_line_for_a_formula(self):
+        with tempfile.TemporaryDirectory() as room:
+            path = Path(room) / "lines"
+            write_lines(path, ["b", "a", "b", "c"], {"a": "1", "b": "2"})
+            self.assertEqual(path.read_text(encoding="ascii"), "b | 2\na | 1\n")
+
+
+class Drawn(unittest.TestCase):
+    def test_the_same_games(self):
+        """The same of one seed, with values that no end decides, of which play can stay away at some."""
+        questions, opened, between = 40, 0, 0
+        for number in range(questions):
+            drawn = [drawn_game(random.Random(number)) for _ in range(2)]
+            self.assertEqual(drawn[0].texts(), drawn[1].texts())
+            question, values = drawn_question(random.Random(number), drawn[0])
+            self.assertTrue(is_taken(question))
+            opened += stays_open(drawn[0], values)
+            between += sum(0 < value < 1 for value in values)
+        self.assertGreater(opened, questions // 8)
+        self.assertGreater(between, questions)
+
+    def test_play_that_stays_open(self):
+        rule = {"a": [[(1, "b")], [(HALF, "goal"), (HALF, "end")]], "b": [[(1, "a")]], "goal": [], "end": []}
+        model = Model("a", rule.get, {"goal": lambda name: name == "goal"}, ["x"], lambda name: "x")
+        self.assertTrue(stays_open(model, [HALF, HALF, 1, 0]))
+        self.assertFalse(stays_open(coin_loop(), [HALF, 1, 0]))
+
+    def test_faults_of_files_of_values(self):
+        for text, fault in (
+            (b"0.5\n1\n0\n", None),
+            (b"\n nan\r\n1/0\n\t-1e999", None),
+            (b"0.5\n1\n", (0, "LineCount")),
+            (b"0.5\n1\n0\n0\n", (0, "LineCount")),
+            (b"", (0, "LineCount")),
+            (b"\n0.5\n0,1\n", (3, "BadField")),
+            (b"0.5\n1=0\n", (2, "BadField")),
+            (b"0.5\n1\n0\r", (3, "BadField")),
+            (b"1=0.5\n\n0:(1,2)=.5\n", None),
+            (b"1=0.5\n (0) : (1, =2) : 5.\n", None),
+            (b"1=0.5\n3=0.5\n", (2, "StateOutOfRange")),
+            (b"1=0.5\n(1)=0.5\n", (2, "DoubleState")),
+            (b"1=0.5\n0==0.5\n", (2, "BadField")),
+            (b"1=0.5\n0.5\n", (2, "BadField")),
+        ):
+            self.assertEqual(fault_of(text, 3), fault, text)
+
+    def test_files_of_many_kinds(self):
+        faults = [fault_of(drawn_values(random.Random(number), 4), 4) for number in range(100)]
+        causes = [fault and fault[1] for fault in faults]
+        for cause in (None, "BadField", "LineCount", "StateOutOfRange", "DoubleState"):
+            self.assertGreater(causes.count(cause), 1, cause)
+
+
+@unittest.skipUnless(os.access(os.environ.get("STOGAME", str(BUILT)), os.X_OK), "no built program")
+class Trials(unittest.TestCase):
+    def test_drawn_games(self):
+        faults, line = solver_trials.games(20)
+        self.assertEqual(faults, 0, line)
+
+    def test_files_of_values(self):
+        faults, line = solver_trials.values(60)
+        self.assertEqual(faults, 0, line)
 
 
 class Questions(unittest.TestCase):

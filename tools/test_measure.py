@@ -61,8 +61,12 @@ class MadeUp(InFolder):
 
     def test_rows_of_widths(self):
         rows = list(measure.width_rows(self.files, measure.offered(self.program), self.program, 60))
-        self.assertEqual({row["command"] for row in rows}, {"check", "check --traps"})
-        self.assertEqual(len(rows), 2 * len(measure.rounds_up_to(STALL.rounds)))
+        self.assertEqual([row["command"] for row in rows], ["check", "check --traps"], "no more rounds are made than 7")
+
+    def test_cells_of_a_run(self):
+        row = {"model": "m", "command": "check", "rounds": "7", "seconds": "1.5", "clock": "2", "width": "1.0e-15"}
+        self.assertEqual(measure.run_cells({**row, "megabytes": "17.3"})[4], "under 20 MB")
+        self.assertEqual(measure.run_cells({**row, "megabytes": "123.4"})[4], "123 MB")
 
     def test_a_run_that_takes_too_long_is_given_up(self):
         run = measure.run_once(["sleep", "20"], 0.1, self.folder / "out")

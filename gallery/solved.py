@@ -1,0 +1,108 @@
+"""What `solve` says of a question, and what is wrong with it.
+
+The value lies between its bounds, of which the lower one is 1 exactly where the value is, and the upper one 0 exactly
+where the value is; the verdict is the one that the bounds give and right of the value; and the certificate of `--plan`
+is accepted by an audit, with the same line.
+"""
+
+import tempfile
+import time
+from dataclasses import dataclass, field
+from fractions import Fraction
+from pathlib import Path
+
+from asking import TRUTHS, asked, bracket_of, failures, verdict_of
+
+PATHS = ("F", "G")
+
+
+@dataclass
+class Solved:
+    """The line of the answer, the time that it took, and the faults that were found."""
+
+    line: str
+    seconds: float
+    faults: list = field(default_factory=list)
+
+    def width(self):
+        """How far the bounds lie apart, or none where there are none."""
+        bracket = bracket_of(self.line)
+        return Fraction(bracket[1]) - Fraction(bracket[0]) if bracket else None
+
+    def summary(self):
+        """The width as a float, and the verdict where there is a threshold."""
+        if self.width() is None:
+            return "none"
+        verdict = verdict_of(self.line)
+        return spelt(self.width()) + (f", {verdict}" if verdict != "Bracket" else "")
+
+
+def spelt(width):
+    return f"{float(width):.1e}" if width else "0"
+
+
+def is_taken(question):
+    """Whether `solve` takes the question: it has no bound on the steps, no `X` and no formula inside."""
+    return question.command == "check" and question.path in PATHS and question.steps is None and not question.inside()
+
+
+def title(question):
+    """The words of `solve`, without the files."""
+    return f"solve '{question.formula()}'"
+
+
+def solved(model, path, question, value):
+    """What `solve` says of the first state, whose value this is."""
+    begun = time.monotonic()
+    run = asked("solve", path, model, question)
+    seconds = time.monotonic() - begun
+    lines = run.stdout.splitlines()
+    answer = Solved(lines[0] if lines else "", seconds, failures(run))
+    if not answer.faults:
+        answer.faults += faults_of_report(lines, question, value) + faults_of_plan(lines, model, path, question)
+    answer.faults = [f"solve: {fault}" for fault in answer.faults]
+    return answer
+
+
+def faults_of_report(lines, question, value):
+    if len(lines) != 1 or not bracket_of(lines[0]) or lines[0].split()[6:-1] != ["solved"]:
+        return ["there is no bracket of one initial state"]
+    return faults_of_line(lines[0], question, value)
+
+
+def faults_of_line(line, question, value):
+    """What is wrong with a line, of a state with this value."""
+    lower, upper = map(Fraction, bracket_of(line))
+    faults = []
+    if not lower <= value <= upper:
+        faults.append("the bracket misses the value")
+    if (lower == 1, upper == 0) != (value == 1, value == 0):
+        faults.append("the bounds do not say whether the value is 0 or 1")
+    if verdict_of(line) != verdict_by(question, lower, upper):
+        faults.append("the verdict is not that of the bounds")
+    if question.threshold() and TRUTHS.get(verdict_of(line)) == (not question.is_true_of(value)):
+        faults.append("the verdict is wrong of the value")
+    return faults
+
+
+def verdict_by(question, lower, upper):
+    """What bounds say of a threshold: all values between them keep it, none does, or some do."""
+    if question.threshold() is None:
+        return "Bracket"
+    kept = {question.is_true_of(lower), question.is_true_of(upper)}
+    return str(kept.pop()) if len(kept) == 1 else "Undecided"
+
+
+def faults_of_plan(lines, model, path, question):
+    """What is wrong with the certificate of the same question, and what an audit says of it."""
+    plan = asked("solve", path, model, question, "--plan")
+    if failures(plan) or plan.stdout.splitlines()[: len(lines)] != lines:
+        return ["--plan begins with another answer"]
+    with tempfile.TemporaryDirectory() as room:
+        certificate = Path(room) / "certificate"
+        certificate.write_text(plan.stdout, encoding="ascii")
+        audit = asked("audit", path, model, question, certificate)
+    expected = [line.replace(" solved ", " audited ") for line in lines]
+    if failures(audit) or audit.stdout.splitlines() != expected:
+        return [f"the audit says {audit.stdout.strip()}"]
+    return []
