@@ -53,7 +53,8 @@ impl Guesses<'_> {
     {
         let mut made = None;
         for steps in 0..MOST_STEPS + 1 {
-            if self.refuses_at(steps, witnesses.states[steps as usize]) {
+            let witness = witnesses.states[steps as usize];
+            if self.refuses_at(steps, witness, Self::steps_made(&made)) {
                 continue;
             }
             let table = self.table_after(maker, alloc, steps, made, &mut witnesses.up_steps)?;
@@ -119,5 +120,15 @@ impl Guesses<'_> {
             return UNIT;
         }
         UNIT.min(self.lower[state as usize] + self.excess)
+    }
+
+    /// The up steps of the table that was made, if any.
+    fn steps_made(made: &Option<(Vec<u64>, u32)>) -> u32
+        ensures { result ≡ steps_of made.now }
+    {
+        match made {
+            Some((_table, steps)) => *steps,
+            None => 0,
+        }
     }
 }

@@ -12,18 +12,22 @@ use crate::guesses::Guesses;
 use fixed_bellman::Quotient;
 use game_model::{Side, UNIT};
 
-/// A test at one state may look into as many states as this, where the question has fewer.
+/// Where the question has fewer states than this, a test at one state may look into as many as this, and into no more
+/// than the up steps of the table would.
 const LEAST_BUDGET: u32 = 1_000;
 
 impl Guesses<'_> {
-    /// Whether a table is seen to be refused at this state alone. It is not seen where the recursion would
-    /// look into more states than the question has, then the table costs no more, and into more than a few.
-    pub fn refuses_at(&self, steps: u32, state: u32) -> bool
+    /// Whether a table is seen to be refused at this state alone, where one after `made` up steps is at hand. It is not
+    /// seen where the recursion would look into more states than the question has and, where these are few, into more
+    /// than the up steps from that table on: then the table costs no more.
+    pub fn refuses_at(&self, steps: u32, state: u32, made: u32) -> bool
         requires steps { steps ≤ most_steps }
         requires state { state < states self.now.question.now }
         ensures { IsTrue result → IsRefusedOf self.now steps }
     {
-        let mut budget = self.question.game().states().max(LEAST_BUDGET);
+        let states = self.question.game().states();
+        let up_steps = steps.saturating_sub(made).saturating_add(1);
+        let mut budget = states.max(LEAST_BUDGET.min(states.saturating_mul(up_steps)));
         let Some(entry) = self.entry(steps, state, &mut budget) else {
             return false;
         };
