@@ -1,7 +1,9 @@
+pub mod Lists
 pub mod Ends
 pub mod Exits
 pub mod Lowered
 pub mod Parts
+pub mod OfCut
 pub mod OfInner
 pub mod Searching
 pub mod Trimming
