@@ -23,12 +23,16 @@ pub record IsBestExit (q : Query) (table : ℕ → ℕ) (set : ℕ → Bool) (va
   pub most : (s c : ℕ) → IsExit q set s c → up_value table (choice_of q.game s c) ≤ value
   pub given : (value ≡ 0) ⊎ GivesExit q table set value
 
--- of the exits of states before this one, and of earlier choices of this one, the greatest up values by number; 0 where there is none
+-- of the exits of states before this one, and of earlier choices of this one, the greatest up values by number; 0 where
+-- there is none
 pub record IsBestBefore (q : Query) (table : ℕ → ℕ) (of exits : List ℕ) (state choice : ℕ) : Type 0 where
-  pub earlier : (i s c : ℕ) → 1 ≤ i → IsExit q (numbered of i) s c → s < state → up_value table (choice_of q.game s c) ≤ slice_index exits i
-  pub here : (i c : ℕ) → 1 ≤ i → IsExit q (numbered of i) state c → c < choice → up_value table (choice_of q.game state c) ≤ slice_index exits i
+  pub earlier : (i s c : ℕ) → 1 ≤ i → IsExit q (numbered of i) s c → s < state
+      → up_value table (choice_of q.game s c) ≤ slice_index exits i
+  pub here : (i c : ℕ) → 1 ≤ i → IsExit q (numbered of i) state c → c < choice
+      → up_value table (choice_of q.game state c) ≤ slice_index exits i
   pub given : (i : ℕ) → (slice_index exits i ≡ 0) ⊎ GivesExit q table (numbered of i) (slice_index exits i)
 
 -- the best exit of each numbered set
 abbrev pub AreBestExits : Query → (ℕ → ℕ) → List ℕ → List ℕ → Type 0
-AreBestExits q table of exits = (i : ℕ) → 1 ≤ i → i < length exits → IsBestExit q table (numbered of i) (slice_index exits i)
+AreBestExits q table of exits = (i : ℕ) → 1 ≤ i → i < length exits
+    → IsBestExit q table (numbered of i) (slice_index exits i)

@@ -6,7 +6,8 @@ use Rattle.trap_sets.specs.Exits.{IsBestExit}
 
 -- the entry of a state in the lowered table
 pub record IsLoweredEntry (q : Query) (of upper : List ℕ) (s value : ℕ) : Type 0 where
-  pub trapped : slice_index of s ≢ 0 → (exit : ℕ) × IsBestExit q (slice_index upper) (numbered of (slice_index of s)) exit × (value ≡ min (slice_index upper s) exit)
+  pub trapped : slice_index of s ≢ 0 → (exit : ℕ) × IsBestExit q (slice_index upper)
+      (numbered of (slice_index of s)) exit × (value ≡ min (slice_index upper s) exit)
   pub other : slice_index of s ≡ 0 → value ≡ slice_index upper s
 
 -- in a trap the lesser of the entry and the best exit over the table handed in, elsewhere the entry
@@ -24,4 +25,5 @@ pub record IsLoweredTable (q : Query) (replies : List (Option ℕ)) (upper table
 -- no trap has an entry above its best exit over the table handed in
 abbrev pub IsCapped : Query → List (Option ℕ) → List ℕ → List ℕ → Type 0
 IsCapped q replies upper table =
-    (trap : ℕ → Bool) (exit : ℕ) → IsTrap q replies trap → IsBestExit q (slice_index upper) trap exit → (s : ℕ) → trap s ≡ true → slice_index table s ≤ exit
+    (trap : ℕ → Bool) (exit : ℕ) → IsTrap q replies trap → IsBestExit q (slice_index upper) trap exit → (s : ℕ)
+    → trap s ≡ true → slice_index table s ≤ exit

@@ -32,21 +32,25 @@ Comes q replies part s t = Reach (IsStep q replies part) s t
 pub record KeepsEnds (q : Query) (replies : List (Option ℕ)) (part : List ℕ) : Type 0 where
   pub many : length part ≡ states q
   pub free : (s : ℕ) → s < states q → slice_index part s ≢ 0 → IsFree q s
-  pub kept : (set : ℕ → Bool) (listed : ℕ → ℕ → Bool) → IsEndComponent q replies set listed → (s : ℕ) → set s ≡ true → slice_index part s ≢ 0
-  pub joined : (set : ℕ → Bool) (listed : ℕ → ℕ → Bool) → IsEndComponent q replies set listed → (s t : ℕ) → set s ≡ true → set t ≡ true → slice_index part s ≡ slice_index part t
+  pub kept : (set : ℕ → Bool) (listed : ℕ → ℕ → Bool) → IsEndComponent q replies set listed → (s : ℕ) → set s ≡ true
+      → slice_index part s ≢ 0
+  pub joined : (set : ℕ → Bool) (listed : ℕ → ℕ → Bool) → IsEndComponent q replies set listed → (s t : ℕ) → set s ≡ true
+      → set t ≡ true → slice_index part s ≡ slice_index part t
 
 -- the number of a part or class is one more than one of its states
 abbrev pub IsRooted : List ℕ → Type 0
 IsRooted part = (s : ℕ) → slice_index part s ≢ 0 → slice_index part (slice_index part s - 1) ≡ slice_index part s
 
--- the classes so far: states of one class reach each other, and states that reach each other are in one class, or have none yet
+-- the classes so far: states of one class reach each other, and states that reach each other are in one class, or have
+-- none yet
 pub record IsPlacing (q : Query) (replies : List (Option ℕ)) (part class : List ℕ) : Type 0 where
   pub many : length class ≡ states q
   pub live : (s : ℕ) → slice_index class s ≢ 0 → slice_index part s ≢ 0
   pub rooted : IsRooted class
   pub back : (s : ℕ) → slice_index class s ≢ 0 → Comes q replies part s (slice_index class s - 1)
   pub on : (s : ℕ) → slice_index class s ≢ 0 → Comes q replies part (slice_index class s - 1) s
-  pub joined : (s t : ℕ) → Comes q replies part s t → Comes q replies part t s → slice_index class s ≡ slice_index class t
+  pub joined : (s t : ℕ) → Comes q replies part s t → Comes q replies part t s
+      → slice_index class s ≡ slice_index class t
 
 -- and each state with a part has a class
 pub record AreClasses (q : Query) (replies : List (Option ℕ)) (part class : List ℕ) : Type 0 where

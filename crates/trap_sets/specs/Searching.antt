@@ -33,7 +33,8 @@ pub record IsFurther (old new list more : List ℕ) (pivot : ℕ) : Type 0 where
 
 -- a state is marked where it has no class and the move is one of an inner choice
 abbrev pub IsMet : Inner → List ℕ → List ℕ → ℕ → Move → Type 0
-IsMet inner class seen pivot m = IsInnerOf inner m.state m.choice → slice_index class m.state ≡ 0 → slice_index seen m.state ≡ pivot + 1
+IsMet inner class seen pivot m = IsInnerOf inner m.state m.choice → slice_index class m.state ≡ 0
+    → slice_index seen m.state ≡ pivot + 1
 
 -- each mark is that of a pivot that has a class
 abbrev pub AreSpent : List ℕ → List ℕ → Type 0
@@ -45,7 +46,8 @@ pub record AreMarkedBack (inner : Inner) (class : List ℕ) (pivot : ℕ) (old s
   pub root : slice_index seen pivot ≡ pivot + 1
   pub behind : (s : ℕ) → slice_index seen s ≡ pivot + 1 → IsBehind inner class pivot s
   pub others : (s : ℕ) → slice_index seen s ≢ pivot + 1 → slice_index seen s ≡ slice_index old s
-  pub closed : (s t : ℕ) → IsStepOf inner s t → slice_index seen t ≡ pivot + 1 → slice_index class s ≡ 0 → slice_index seen s ≡ pivot + 1
+  pub closed : (s t : ℕ) → IsStepOf inner s t → slice_index seen t ≡ pivot + 1 → slice_index class s ≡ 0
+      → slice_index seen s ≡ pivot + 1
 
 -- after the search forward those of them to which the pivot comes have its class, and all others what they had
 pub record AreMarkedOn (inner : Inner) (seen : List ℕ) (pivot : ℕ) (old class : List ℕ) : Type 0 where
@@ -53,4 +55,5 @@ pub record AreMarkedOn (inner : Inner) (seen : List ℕ) (pivot : ℕ) (old clas
   pub root : slice_index class pivot ≡ pivot + 1
   pub before : (s : ℕ) → slice_index class s ≡ pivot + 1 → IsBefore inner seen pivot s
   pub others : (s : ℕ) → slice_index class s ≢ pivot + 1 → slice_index class s ≡ slice_index old s
-  pub closed : (s t : ℕ) → IsStepOf inner s t → slice_index class s ≡ pivot + 1 → slice_index seen t ≡ pivot + 1 → slice_index class t ≡ pivot + 1
+  pub closed : (s t : ℕ) → IsStepOf inner s t → slice_index class s ≡ pivot + 1 → slice_index seen t ≡ pivot + 1
+      → slice_index class t ≡ pivot + 1

@@ -49,10 +49,13 @@ fn follow_back(
     requires pivot { pivot < states_of inner.now }
     requires state { state < states_of inner.now }
     requires marked { slice_index seen.old state ≡ pivot + 1 }
-    requires marking { IsMarking (states_of inner.now) (IsBehind inner.now class.now pivot) seen.old list.old.items pivot }
-    ensures marking { OnOk result (IsMarking (states_of inner.now) (IsBehind inner.now class.now pivot) seen.new list.new.items pivot) }
+    requires marking { IsMarking (states_of inner.now)
+        (IsBehind inner.now class.now pivot) seen.old list.old.items pivot }
+    ensures marking { OnOk result (IsMarking (states_of inner.now)
+        (IsBehind inner.now class.now pivot) seen.new list.new.items pivot) }
     ensures further { OnOk result (IsFurther seen.old seen.new list.old.items list.new.items pivot) }
-    ensures closed { OnOk result ((s : ℕ) → IsStepOf inner.now s state → slice_index class.now s ≡ 0 → slice_index seen.new s ≡ pivot + 1) }
+    ensures closed { OnOk result ((s : ℕ) → IsStepOf inner.now s state → slice_index class.now s ≡ 0
+        → slice_index seen.new s ≡ pivot + 1) }
 {
     for step in inner.cut.predecessors.of_state(state) {
         meet_back(inner, class, pivot, *step, seen, list)?;
@@ -74,8 +77,10 @@ fn meet_back(
     requires state { step.state < states_of inner.now }
     requires choice { step.choice < length (choices_of inner.now.cut.question.now.game step.state) }
     requires leads { (t : ℕ) × LeadsOf inner.now step.state step.choice t × (slice_index seen.old t ≡ pivot + 1) }
-    requires marking { IsMarking (states_of inner.now) (IsBehind inner.now class.now pivot) seen.old list.old.items pivot }
-    ensures marking { OnOk result (IsMarking (states_of inner.now) (IsBehind inner.now class.now pivot) seen.new list.new.items pivot) }
+    requires marking { IsMarking (states_of inner.now)
+        (IsBehind inner.now class.now pivot) seen.old list.old.items pivot }
+    ensures marking { OnOk result (IsMarking (states_of inner.now)
+        (IsBehind inner.now class.now pivot) seen.new list.new.items pivot) }
     ensures further { OnOk result (IsFurther seen.old seen.new list.old.items list.new.items pivot) }
     ensures met { OnOk result (IsMet inner.now class.now seen.new pivot step) }
 {

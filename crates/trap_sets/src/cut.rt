@@ -59,7 +59,8 @@ impl Cut<'_> {
         ensures from { from ≤ result }
         ensures within { result ≤ length (choices_of self.now.question.now.game state) }
         ensures before { (c : ℕ) → from ≤ c → c < result → ¬ IsInnerIn self.now part.now state c }
-        ensures found { result < length (choices_of self.now.question.now.game state) → IsInnerIn self.now part.now state result }
+        ensures found { result < length (choices_of self.now.question.now.game state)
+            → IsInnerIn self.now part.now state result }
     {
         let count = self.question.game().choices_of(state);
         for choice in from..count {

@@ -49,10 +49,13 @@ fn follow_on(
     requires pivot { pivot < states_of inner.now }
     requires state { state < states_of inner.now }
     requires member { slice_index class.old state ≡ pivot + 1 }
-    requires marking { IsMarking (states_of inner.now) (IsBefore inner.now seen.now pivot) class.old list.old.items pivot }
-    ensures marking { OnOk result (IsMarking (states_of inner.now) (IsBefore inner.now seen.now pivot) class.new list.new.items pivot) }
+    requires marking { IsMarking (states_of inner.now)
+        (IsBefore inner.now seen.now pivot) class.old list.old.items pivot }
+    ensures marking { OnOk result (IsMarking (states_of inner.now)
+        (IsBefore inner.now seen.now pivot) class.new list.new.items pivot) }
     ensures further { OnOk result (IsFurther class.old class.new list.old.items list.new.items pivot) }
-    ensures closed { OnOk result ((t : ℕ) → IsStepOf inner.now state t → slice_index seen.now t ≡ pivot + 1 → slice_index class.new t ≡ pivot + 1) }
+    ensures closed { OnOk result ((t : ℕ) → IsStepOf inner.now state t → slice_index seen.now t ≡ pivot + 1
+        → slice_index class.new t ≡ pivot + 1) }
 {
     for choice in 0..inner.cut.question.game().choices_of(state) {
         if inner.has(state, choice) {
@@ -77,10 +80,13 @@ fn follow_choice(
     requires choice { step.choice < length (choices_of inner.now.cut.question.now.game step.state) }
     requires inner { IsInnerOf inner.now step.state step.choice }
     requires member { slice_index class.old step.state ≡ pivot + 1 }
-    requires marking { IsMarking (states_of inner.now) (IsBefore inner.now seen.now pivot) class.old list.old.items pivot }
-    ensures marking { OnOk result (IsMarking (states_of inner.now) (IsBefore inner.now seen.now pivot) class.new list.new.items pivot) }
+    requires marking { IsMarking (states_of inner.now)
+        (IsBefore inner.now seen.now pivot) class.old list.old.items pivot }
+    ensures marking { OnOk result (IsMarking (states_of inner.now)
+        (IsBefore inner.now seen.now pivot) class.new list.new.items pivot) }
     ensures further { OnOk result (IsFurther class.old class.new list.old.items list.new.items pivot) }
-    ensures met { OnOk result ((t : ℕ) → LeadsOf inner.now step.state step.choice t → slice_index seen.now t ≡ pivot + 1 → slice_index class.new t ≡ pivot + 1) }
+    ensures met { OnOk result ((t : ℕ) → LeadsOf inner.now step.state step.choice t → slice_index seen.now t ≡ pivot + 1
+        → slice_index class.new t ≡ pivot + 1) }
 {
     let mark = pivot + 1;
     let game = inner.cut.question.game();

@@ -91,7 +91,8 @@ fn best_exits(alloc: Global, upper: &Table<'_>, sets: &TrapSets) -> Result<Vec<u
     requires many { length sets.now.of.items ≡ states upper.now.question.now }
     requires most { (s : ℕ) → slice_index sets.now.of.items s ≤ sets.now.count }
     ensures many { IfOk result (λ exits. length exits.items ≡ sets.now.count + 1) }
-    ensures best { IfOk result (λ exits. AreBestExits upper.now.question.now (slice_index upper.now.entries.now) sets.now.of.items exits.items) }
+    ensures best { IfOk result (λ exits. AreBestExits upper.now.question.now
+        (slice_index upper.now.entries.now) sets.now.of.items exits.items) }
 {
     let mut exits = vec![in alloc; 0u64; sets.count as usize + 1]?;
     for state in 0..upper.question.game().states() {

@@ -88,8 +88,10 @@ fn is_free(question: &Question, state: u32) -> bool
 fn same(part: &[u32], class: &[u32]) -> bool
     requires many { length class.now ≡ length part.now }
     requires rooted { IsRooted part.now }
-    ensures yes { IsTrue result → (s : ℕ) → slice_index part.now s ≢ 0 → slice_index class.now s ≡ slice_index class.now (slice_index part.now s - 1) }
-    ensures no { result ≡ false → (s : ℕ) × (slice_index part.now s ≢ 0) × (slice_index class.now s ≢ slice_index class.now (slice_index part.now s - 1)) }
+    ensures yes { IsTrue result → (s : ℕ) → slice_index part.now s ≢ 0
+        → slice_index class.now s ≡ slice_index class.now (slice_index part.now s - 1) }
+    ensures no { result ≡ false → (s : ℕ) × (slice_index part.now s ≢ 0)
+        × (slice_index class.now s ≢ slice_index class.now (slice_index part.now s - 1)) }
 {
     for state in 0..part.len() {
         let number = part[state];

@@ -14,9 +14,12 @@ use std::alloc::Global;
 pub fn trim(alloc: Global, cut: &Cut<'_>, part: &mut [u32]) -> Result<bool, OutOfMemory>
     requires keeps { KeepsEndsOf cut.now part.old }
     ensures keeps { OnOk result (KeepsEndsOf cut.now part.new) }
-    ensures refines { OnOk result ((s : ℕ) → slice_index part.new s ≢ 0 → slice_index part.new s ≡ slice_index part.old s) }
-    ensures still { IfOk result (λ any. any ≡ false → ((s : ℕ) → slice_index part.new s ≡ slice_index part.old s) × HaveInnerOf cut.now part.new) }
-    ensures lost { IfOk result (λ any. any ≡ true → (s : ℕ) × (s < states_in cut.now) × (slice_index part.old s ≢ 0) × (slice_index part.new s ≡ 0)) }
+    ensures refines { OnOk result ((s : ℕ) → slice_index part.new s ≢ 0
+        → slice_index part.new s ≡ slice_index part.old s) }
+    ensures still { IfOk result (λ any. any ≡ false → ((s : ℕ) → slice_index part.new s ≡ slice_index part.old s)
+        × HaveInnerOf cut.now part.new) }
+    ensures lost { IfOk result (λ any. any ≡ true → (s : ℕ) × (s < states_in cut.now) × (slice_index part.old s ≢ 0)
+        × (slice_index part.new s ≡ 0)) }
 {
     let states = cut.question.game().states();
     let mut awaited = vec![in alloc; 0u32; states as usize]?;
