@@ -9,6 +9,7 @@ from fractions import Fraction
 from pathlib import Path
 
 from exact import Problem, exact_values
+from known import agrees
 from question import Question
 from table import shown
 
@@ -75,6 +76,7 @@ def answers(name, model, path, questions):
         else:
             judge_inside(answer)
             judge_bracket(answer, lines)
+        judge_published(answer)
         yield answer
 
 
@@ -112,6 +114,12 @@ def judge_sure(answer, lines, values):
     sure = [str(state) for state, value in enumerate(values) if value == 1]
     if lines != [f"sure {len(sure)} of {len(values)}"] + sure:
         answer.faults.append(f"the value is 1 at {len(sure)} states, and others are listed")
+
+
+def judge_published(answer):
+    published = answer.question.published
+    if published and not agrees(answer.value, published):
+        answer.faults.append(f"the value {shown(answer.value)} is not the published one, {published}")
 
 
 def judge_inside(answer):

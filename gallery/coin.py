@@ -13,17 +13,27 @@ else it tosses again. The scheduler chooses which process moves. The counter is 
 bounds.
 
 Value: the source has that all processes end with heads with at least (RANGE - 1) / (2 RANGE), whatever the scheduler
-does, and that they all end with 1. How low a scheduler can bring the heads is computed in fractions.
+does, and that they all end with 1. How low a scheduler can bring the heads is computed in fractions. For four processes
+these are the fractions of one scheduler, found by value iteration, whose values in floating point they are up to
+10^-15.
 """
 
 from fractions import Fraction
 
+from known import Known
 from model import Model, write_from_words
-from question import Question, sure
+from question import COMPUTED, Question, sure
 
 HALF = Fraction(1, 2)
 SOURCE = "Aspnes and Herlihy 1990"
-SIZES = {"small": [(2, 2), (2, 4)], "large": [(2, 16)]}
+SIZES = {"small": [(2, 2), (2, 4)], "large": [(2, 16), (4, 2), (4, 4)]}
+COUNTS = {(2, 2): (272, 492), (2, 4): (528, 972), (2, 16): (2064, 3852), (4, 2): (22656, 75232), (4, 4): (43136, 144352)}
+VALUES = {
+    (4, 2): ("325/1024", "170112531/577765376"),
+    (4, 4): ("852021/2097152", "45666330762076479/292595849630842880"),
+}
+SCHEDULER = COMPUTED + ", of one scheduler"
+PUBLISHED = {(2, 2): ("0.3828125", "0.10833333"), (4, 2): ("0.3173828125", "0.2944318")}
 TAILS, HEADS = 0, 1
 FEW, MANY_ROUNDS = 4, ("--rounds", "100000")
 
@@ -67,13 +77,26 @@ def sides(state):
     return {side for _, side in state[1]}
 
 
+def answers_to(processes, bound):
+    """The values of both questions with their source, or none where they are computed anew."""
+    if (processes, bound) in VALUES:
+        return [(Fraction(value), SCHEDULER) for value in VALUES[processes, bound]]
+    return [(None, COMPUTED)] * 2
+
+
 def questions(processes, bound):
     options = MANY_ROUNDS if bound > FEW else ()
-    yield Question("Pmin=?", "heads", options=options)
-    yield Question("Pmax=?", "disagreement", options=options)
-    yield Question(f"P>={Fraction(bound - 1, 2 * bound)}", "heads")
-    yield Question("P>0.4", "heads")
+    heads, disagreement = answers_to(processes, bound)
+    published = PUBLISHED.get((processes, bound), ("", ""))
+    yield Question("Pmin=?", "heads", *heads, options=options, published=published[0])
+    yield Question("Pmax=?", "disagreement", *disagreement, options=options, published=published[1])
+    yield Question(f"P>={Fraction(bound - 1, 2 * bound)}", "heads", *heads)
+    yield Question("P>0.4", "heads", *heads)
     yield sure("Pmin=?", "finished", value=1, source=SOURCE)
+
+
+def known_as(processes, bound):
+    return Known(f"`consensus` {processes}-{bound}: `c2`, `disagree`", *COUNTS[processes, bound])
 
 
 if __name__ == "__main__":

@@ -22,6 +22,7 @@ A's release j is step 2n + 2j - 1, and B is first at it with 1 / 2^j * 1 / 2^(j-
 
 from fractions import Fraction
 
+from known import OTHER, Known
 from model import Model, write_from_words
 from question import CLOSED, Question
 
@@ -75,6 +76,10 @@ def questions(pairs):
     yield Question("Pmax=?", "b_cheats", early, CLOSED, steps=steps)
     yield Question("P<=2/3", "b_cheats", early, CLOSED, steps=steps)
     yield Question("P>=1/3", "!b_cheats", 1 - cheated, CLOSED, path="G")
+
+
+def known_as(pairs):
+    return Known("`egl`", kind=OTHER)
 
 
 if __name__ == "__main__":

@@ -19,6 +19,7 @@ paths that comes with (s/h)(1 - (1-h)^PATHS), and the sender is seen so often as
 
 from fractions import Fraction
 
+from known import OTHER, Known
 from model import Model, write_from_words
 from question import CLOSED, Question, sure
 
@@ -76,6 +77,10 @@ def questions(members, collaborators, paths):
     yield Question("Pmax=?", "sender_seen", first, CLOSED, safe="!other_seen")
     yield Question("Pmax=?", "twice", twice, CLOSED)
     yield Question("P<0.1", "twice", twice, CLOSED)
+
+
+def known_as(members, collaborators, paths):
+    return Known("`crowds`", kind=OTHER)
 
 
 if __name__ == "__main__":

@@ -19,6 +19,7 @@ digits of 1 / FACES. The first toss of a die of 6 or 8 faces makes a face twice 
 
 from fractions import Fraction
 
+from known import Known
 from model import Model, write_from_words
 from question import CLOSED, Inside, Question, sure
 
@@ -74,6 +75,10 @@ def questions(faces):
     if faces <= FEW:
         twice_as_likely = Question(f"P>={2 * one}", "one")
         yield Question("Pmax=?", Inside(twice_as_likely), path="X")
+
+
+def known_as(faces):
+    return Known("PRISM's `die`", 13, 20) if faces == 6 else Known()
 
 
 if __name__ == "__main__":

@@ -18,6 +18,20 @@ FAMILIES = (
     "wind",
     "stall",
     "truel",
+    "brp",
+    "egl",
+    "crowds_runs",
+    "herman",
+    "leader",
+    "csma",
+    "wlan",
+    "zeroconf_reset",
+    "firewire_abst",
+    "dice",
+    "observer",
+    "hallway",
+    "charlton",
+    "microgrid",
 )
 SIZES = ("small", "large")
 

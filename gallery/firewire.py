@@ -20,6 +20,7 @@ value is that of the greatest x and y and the greatest that of the least; it is 
 from fractions import Fraction
 from functools import lru_cache
 
+from known import OTHER, Known
 from model import Model, write_from_words
 from question import CLOSED, COMPUTED, Question, sure
 
@@ -27,7 +28,7 @@ DELAY = 36
 SHORT, LONG = (76, 85 + DELAY), (159, 167 + DELAY)
 QUARTER, HALF = Fraction(1, 4), Fraction(1, 2)
 RECURSION = COMPUTED + ", by the rule"
-SIZES = {"small": [(0,), (300,), (1000,)], "large": [(20000,)]}
+SIZES = {"small": [(0,), (200,), (300,), (400,), (600,), (800,), (1000,)], "large": [(20000,)]}
 
 
 def model(deadline):
@@ -72,6 +73,10 @@ def questions(deadline):
     yield Question("Pmin=?", "elected", least, RECURSION)
     yield Question("Pmax=?", "elected", greatest, RECURSION)
     yield Question("P>=5/8", "elected", least, RECURSION)
+
+
+def known_as(deadline):
+    return Known("`firewire_dl`: `deadline`" if deadline else "`firewire`: `elected`", kind=OTHER)
 
 
 if __name__ == "__main__":

@@ -27,6 +27,11 @@ class Model:
     def __len__(self):
         return len(self.names)
 
+    def counts(self):
+        """How many states, choices and moves there are."""
+        moves = sum(len(choice) for choices in self.choices for choice in choices)
+        return len(self), sum(map(len, self.choices)), moves
+
     def is_chain(self):
         return not self.players and all(len(choices) == 1 for choices in self.choices)
 

@@ -20,6 +20,7 @@ model.
 from fractions import Fraction
 from math import comb
 
+from known import ENCODING, Known
 from model import Model, write_from_words
 from question import COMPUTED, Question
 
@@ -98,8 +99,14 @@ def mixed(weights, rows):
 
 def questions(bundle, restorations):
     value = reliability(bundle, restorations)
-    yield Question("Pmax=?", "reliable", value, STAGES)
+    published = "0.28641904638485" if (bundle, restorations) == (20, 1) else ""
+    yield Question("Pmax=?", "reliable", value, STAGES, published=published)
     yield Question("P>=0.6", "reliable", value, STAGES)
+
+
+def known_as(bundle, restorations):
+    instance = " 20-1" if (bundle, restorations) == (20, 1) else ""
+    return Known(f"`nand`{instance}: `reliable`", kind=ENCODING)
 
 
 if __name__ == "__main__":

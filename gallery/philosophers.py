@@ -21,6 +21,7 @@ hold their left forks, and one after the other fails and takes it again.
 
 from fractions import Fraction
 
+from known import OTHER, Known
 from model import Model, write_from_words
 from question import CLOSED, Question, sure
 
@@ -65,6 +66,10 @@ def questions(philosophers, coins):
     yield Question("Pmin=?", "eats", coins, CLOSED)
     yield Question("P>=1", "eats", coins, CLOSED)
     yield sure("Pmin=?", "eats", value=coins, source=CLOSED)
+
+
+def known_as(philosophers, coins):
+    return Known(f"`philosophers-mdp` {philosophers}", kind=OTHER) if coins else Known()
 
 
 if __name__ == "__main__":

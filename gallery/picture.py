@@ -1,64 +1,155 @@
-"""A picture of curves over the number of rounds, as an SVG of 700 pixels."""
+"""A picture of curves and points over two axes, as an SVG of 720 pixels, in colours for light and for dark screens."""
 
+from dataclasses import dataclass
 from math import log10
 
-WIDTH, HEIGHT = 700, 440
-LEFT, RIGHT, TOP, BOTTOM = 64, 660, 112, 386
-BLUE, RED, GREY, BLACK = "#0b3d91", "#a11d1d", "#767676", "#111111"
-LEGEND_WIDTH, LEGEND_HEIGHT, LETTER_WIDTH = 306, 20, 7
+WIDTH, HEIGHT = 720, 460
+LEFT, RIGHT, BOTTOM = 92, 690, 396
+LEGEND_TOP, LEGEND_HEIGHT, LEGEND_PLACES = 50, 20, (LEFT, LEFT + 300)
+DOT = 4
+SUPERSCRIPTS = str.maketrans("-0123456789", "⁻⁰¹²³⁴⁵⁶⁷⁸⁹")
+MOST_SPELT = 4
+
+# each colour on light paper and on dark paper
+COLOURS = {
+    "paper": ("#ffffff", "#0d1117"),
+    "ink": ("#111111", "#e6e6e6"),
+    "faint": ("#dddddd", "#30363d"),
+    "grey": ("#666666", "#a0a0a0"),
+    "blue": ("#0b3d91", "#79b0ff"),
+    "red": ("#a11d1d", "#ff8d85"),
+    "green": ("#1a6b3a", "#63d297"),
+    "orange": ("#9a5b00", "#f0b45a"),
+}
+
+
+@dataclass
+class Axis:
+    """An axis: its title with the unit, its ends, and the marks as pairs of a value and words."""
+
+    title: str
+    low: float
+    high: float
+    marks: list
+    is_logarithmic: bool = False
+
+    def share(self, value):
+        """How far along the axis a value stands; what is beyond an end stands there."""
+        value = min(max(float(value), self.low), self.high)
+        low, high = self.low, self.high
+        if self.is_logarithmic:
+            low, high, value = log10(low), log10(high), log10(value)
+        return (value - low) / (high - low)
+
+
+def logarithmic(title, first, last, step=1):
+    """An axis of powers of ten, with a mark at each, or at each so many."""
+    marks = [(10.0**power, spelt_power(power)) for power in range(first, last + 1, step)]
+    return Axis(title, 10.0**first, 10.0**last, marks, True)
+
+
+def spelt_power(power):
+    return f"{10**power:,}" if 0 <= power <= MOST_SPELT else f"10{str(power).translate(SUPERSCRIPTS)}"
+
+
+def linear(title, low, high, count, places=1):
+    """An axis from a low to a high value in so many parts."""
+    values = [low + (high - low) * part / count for part in range(count + 1)]
+    return Axis(title, low, high, [(value, f"{value:.{places}f}") for value in values])
 
 
 class Picture:
-    """Curves of pairs of rounds and a height from 0 to 1; the axis of the rounds is logarithmic."""
+    """Curves and points over two axes, below a title and a legend of one or two columns."""
 
-    def __init__(self, title, decades, heights):
-        """`heights` are pairs of a height and the words that stand beside it."""
-        self.decades, self.legends, self.parts = decades, 0, []
-        self.text((LEFT, 26), title, 16)
-        for decade in range(decades + 1):
-            x, y = self.place(10**decade, 0)
-            self.line([(x, y), (x, y + 5)])
-            self.text((x, y + 22), f"{10**decade:,}", 13, "middle")
-        for height, words in heights:
-            x, y = self.place(1, height)
-            self.line([(x - 5, y), (x, y)])
-            self.text((x - 10, y + 4), words, 13, "end")
-        self.line([(LEFT, TOP), (LEFT, BOTTOM), (RIGHT, BOTTOM)])
-        self.text(((LEFT + RIGHT) / 2, HEIGHT - 10), "rounds", 14, "middle")
+    def __init__(self, title, across, up, legends=4):
+        self.across, self.up, self.legends, self.parts = across, up, 0, []
+        self.top = LEGEND_TOP + LEGEND_HEIGHT * -(-legends // 2) + 14
+        self.text(LEFT, 28, title, 16)
+        for value, words in across.marks:
+            x, _ = self.place(value, up.low)
+            self.line([(x, self.top), (x, BOTTOM)], "faint", 1)
+            self.text(x, BOTTOM + 20, words, 13, "middle")
+        for value, words in up.marks:
+            _, y = self.place(across.low, value)
+            self.line([(LEFT, y), (RIGHT, y)], "faint", 1)
+            self.text(LEFT - 8, y + 4, words, 13, "end")
+        self.line([(LEFT, self.top), (LEFT, BOTTOM), (RIGHT, BOTTOM)], "ink", 1)
+        self.text((LEFT + RIGHT) / 2, HEIGHT - 14, across.title, 14, "middle")
+        self.text(20, (self.top + BOTTOM) / 2, up.title, 14, "middle", turned=True)
 
-    def place(self, rounds, height):
-        return LEFT + (RIGHT - LEFT) * log10(rounds) / self.decades, BOTTOM - (BOTTOM - TOP) * height
+    def place(self, across, up):
+        x = LEFT + (RIGHT - LEFT) * self.across.share(across)
+        return x, BOTTOM - (BOTTOM - self.top) * self.up.share(up)
 
-    def text(self, place, words, size, anchor="start"):
-        x, y = place
-        self.parts.append(
-            f'<text x="{x:.1f}" y="{y:.1f}" font-size="{size}" text-anchor="{anchor}" fill="{BLACK}">{words}</text>'
-        )
+    def text(self, x, y, words, size, anchor="start", turned=False):
+        turn = f' transform="rotate(-90 {x:.1f} {y:.1f})"' if turned else ""
+        place = f'x="{x:.1f}" y="{y:.1f}" font-size="{size}" text-anchor="{anchor}"{turn}'
+        self.parts.append(f'<text {place} {painted("fill", "ink")}>{escaped(words)}</text>')
 
-    def line(self, places, color=BLACK, width=1, dashes=""):
+    def line(self, places, colour, width, dashes=""):
         joined = " ".join(f"{x:.1f},{y:.1f}" for x, y in places)
-        stroke = f'stroke="{color}" stroke-width="{width}" stroke-dasharray="{dashes}"'
+        dashed = f' stroke-dasharray="{dashes}"' if dashes else ""
+        stroke = f'stroke-width="{width}"{dashed} {painted("stroke", colour)}'
         self.parts.append(f'<polyline points="{joined}" fill="none" {stroke}/>')
 
-    def curve(self, name, pairs, color, dashes=""):
-        """A curve, with its name at the next place of the legend."""
-        self.line([self.place(*pair) for pair in pairs], color, 2, dashes)
-        x = LEFT + LEGEND_WIDTH * (self.legends % 2)
-        y = 48 + LEGEND_HEIGHT * (self.legends // 2)
-        self.line([(x, y), (x + 34, y)], color, 2, dashes)
-        self.text((x + 42, y + 4), name, 13)
+    def next_legend(self, name):
+        """Writes a name at the next place of the legend, and says where its sign stands."""
+        x = LEGEND_PLACES[self.legends % 2]
+        y = LEGEND_TOP + LEGEND_HEIGHT * (self.legends // 2)
         self.legends += 1
+        self.text(x + 42, y + 4, name, 13)
+        return x, y
 
-    def dot(self, rounds, height, words, words_height):
-        """A dot on a curve, with words at the left at a height of their own, and a line between both."""
-        x, y = self.place(rounds, height)
-        _, words_y = self.place(1, words_height)
-        self.parts.append(f'<circle cx="{x:.1f}" cy="{y:.1f}" r="4.5" fill="{BLACK}"/>')
-        self.text((LEFT + 14, words_y), words, 13)
-        self.line([(LEFT + 20 + LETTER_WIDTH * len(words), words_y - 4), (x, y)])
+    def curve(self, name, pairs, colour, dashes=""):
+        self.line([self.place(*pair) for pair in pairs], colour, 2, dashes)
+        x, y = self.next_legend(name)
+        self.line([(x, y), (x + 34, y)], colour, 2, dashes)
+
+    def points(self, name, pairs, colour, shape):
+        """Points of one kind, each a circle, a square or a triangle."""
+        x, y = self.next_legend(name)
+        for place in [(x + 17, y), *(self.place(*pair) for pair in pairs)]:
+            self.sign(*place, colour, shape)
+
+    def sign(self, x, y, colour, shape):
+        if shape == "circle":
+            self.parts.append(f'<circle cx="{x:.1f}" cy="{y:.1f}" r="{DOT}" {painted("fill", colour)}/>')
+            return
+        corners = {"square": ((-1, -1), (1, -1), (1, 1), (-1, 1)), "triangle": ((0, -1.3), (1.2, 1), (-1.2, 1))}[shape]
+        joined = " ".join(f"{x + DOT * right:.1f},{y + DOT * down:.1f}" for right, down in corners)
+        self.parts.append(f'<polygon points="{joined}" {painted("fill", colour)}/>')
+
+    def dot(self, across, up, words, anchor="start", below=False):
+        """A dot on a curve with words beside it, to the right or, with the anchor `end`, to the left."""
+        x, y = self.place(across, up)
+        self.sign(x, y, "ink", "circle")
+        self.text(x + (10 if anchor == "start" else -10), y + (18 if below else -9), words, 13, anchor)
+
+    def words(self, across, up, words):
+        """Words to the left of a point."""
+        x, y = self.place(across, up)
+        self.text(x - 10, y + 4, words, 12, "end")
 
     def write(self, path):
         size = f'viewBox="0 0 {WIDTH} {HEIGHT}" width="{WIDTH}" height="{HEIGHT}"'
         head = f'<svg xmlns="http://www.w3.org/2000/svg" {size} font-family="sans-serif">'
-        paper = f'<rect width="{WIDTH}" height="{HEIGHT}" fill="white"/>'
-        path.write_text("\n".join([head, paper, *self.parts, "</svg>", ""]), encoding="ascii")
+        paper = f'<rect width="{WIDTH}" height="{HEIGHT}" {painted("fill", "paper")}/>'
+        text = "\n".join([head, style(), paper, *self.parts, "</svg>", ""])
+        path.write_text(text, encoding="ascii", errors="xmlcharrefreplace")
+
+
+def painted(what, colour):
+    """The attributes of a colour: that of light paper, and a class by which a dark screen finds the other one."""
+    return f'{what}="{COLOURS[colour][0]}" class="{colour}-{what}"'
+
+
+def style():
+    """What a dark screen changes."""
+    rules = [
+        f".{name}-{what} {{ {what}: {dark}; }}" for name, (_, dark) in COLOURS.items() for what in ("fill", "stroke")
+    ]
+    return "\n".join(["<style>", "@media (prefers-color-scheme: dark) {", *rules, "}", "</style>"])
+
+
+def escaped(words):
+    return words.replace("&", "&amp;").replace("<", "&lt;")

@@ -1,16 +1,23 @@
 #!/usr/bin/env python3
-"""Draws for three models the two bounds by rounds, with plain value iteration beside them.
+"""Draws proved bounds beside plain value iteration for three models, and for many what `tools/measure` measured.
 
-    gallery/pictures.py
+    gallery/pictures.py [bounds | times]
 
-writes `gallery/pictures/NAME.svg`. The bounds are those of the program that `gallery/run` runs too, with `--rounds R`
-for rising R. Plain value iteration is `exact.plain_value_iteration`; it stops where no value changes by 10^-6.
+writes `gallery/pictures/NAME.svg`. With `bounds`, or with no word, the first three: bounds are those of the program that
+`gallery/run` runs too, with `--rounds R` for rising R; plain value iteration is `exact.plain_value_iteration`, which
+stops where no value changes by 10^-6. With `times` the other two, out of the rows that `tools/measure` left in
+`gallery/pictures/times.csv` and `widths.csv`.
+
+Work is counted in updates of states, as many as there can be: a round of the program updates two tables in place, so
+twice as many as the model has states, and one of plain value iteration makes one table anew. A round of the program
+passes over states that nothing can have changed; these are counted, too.
 """
 
+import csv
+import sys
 import tempfile
-from dataclasses import dataclass, replace
+from dataclasses import replace
 from fractions import Fraction
-from math import log10
 from pathlib import Path
 
 import chain
@@ -18,115 +25,149 @@ import coin
 import stall
 from answer import answers
 from exact import exact_values, plain_value_iteration
-from model import Model
-from picture import BLACK, BLUE, GREY, RED, Picture
+from picture import Picture, linear, logarithmic
 from question import Question
 
 FOLDER = Path(__file__).resolve().parent / "pictures"
+TIMES, WIDTHS = FOLDER / "times.csv", FOLDER / "widths.csv"
 DIFFERENCE = 1e-6
-STEPS_OF_A_DECADE = (1, 1.5, 2, 3, 4, 5, 6, 8)
-LEAST_DISTANCE = -15
-TRAPS = ("--traps",)
+STEPS_OF_A_DECADE = (1, 1.25, 1.5, 2, 2.5, 3, 4, 5, 6, 8)
+TABLES = 2
+LEAST_WIDTH, LEAST_SECONDS = Fraction(1, 10**15), 0.001
+WORK = "updates of states"
+VALUE = "probability"
+COMMANDS = {"check": ("blue", ""), "check --traps": ("red", "7 4"), "solve": ("green", "2 3")}
+SHAPES = {"DTMC": "circle", "MDP": "square", "game": "triangle"}
 
 
-@dataclass
-class Plot:
-    """What a picture shows: values from 0 to 1, or their distances from the exact one on a logarithmic axis."""
-
-    name: str
-    title: str
-    model: Model
-    question: Question
-    decades: int
-    distances: bool = False
-    traps: bool = False
-
-    def heights(self):
-        """The marks of the axis: pairs of a height and words."""
-        if not self.distances:
-            return [(tenth / 10, f"{tenth / 10:.1f}") for tenth in range(0, 11, 2)]
-        return [(1 - power / LEAST_DISTANCE, f"1e{power}" if power else "1") for power in range(LEAST_DISTANCE, 1, 3)]
-
-    def height(self, value, exact):
-        """How high a value stands; distances below the least one stand at the bottom."""
-        if not self.distances:
-            return float(value)
-        distance = abs(Fraction(value) - exact)
-        return max(0.0, 1 - log10(distance) / LEAST_DISTANCE) if distance else 0.0
-
-
-PLOTS = (
-    Plot(
-        "chain",
-        "The chain of Haddad and Monmege, LENGTH 17",
-        chain.model(17),
-        Question("Pmax=?", "goal"),
-        6,
-    ),
-    Plot(
-        "coin",
-        "The shared coin, 2 processes, RANGE 8: distances from the exact value",
-        coin.model(2, 8),
-        Question("Pmin=?", "heads"),
-        5,
-        distances=True,
-    ),
-    Plot(
-        "stall",
-        "The game in which both players may stall, STAKE 40",
-        stall.model(40),
-        Question("Pmax=?", "won", coalition=("max",)),
-        5,
-        traps=True,
-    ),
-)
-
-
-def bounds(plot, options=()):
-    """The lower and the upper bounds that the program prints: two lists of pairs of rounds and a value."""
-    rounds = sorted({int(step * 10**decade) for decade in range(plot.decades) for step in STEPS_OF_A_DECADE})
-    rounds.append(10**plot.decades)
-    asked = [replace(plot.question, value=0, options=("--rounds", str(count), *options)) for count in rounds]
+def bounds(model, question, decades, options=()):
+    """The brackets that the program prints for rising rounds: triples of updates, a lower and an upper bound."""
+    rounds = sorted({int(step * 10**decade) for decade in range(decades) for step in STEPS_OF_A_DECADE})
+    rounds.append(10**decades)
+    asked = [replace(question, value=0, options=("--rounds", str(count), *options)) for count in rounds]
     with tempfile.TemporaryDirectory() as room:
-        path = Path(room) / plot.name
-        plot.model.write(path)
-        brackets = [answer.bracket() for answer in answers(plot.name, plot.model, path, asked)]
-    return [[(count, Fraction(bracket[side])) for count, bracket in zip(rounds, brackets)] for side in (0, 1)]
+        path = Path(room) / "model"
+        model.write(path)
+        brackets = [answer.bracket() for answer in answers("model", model, path, asked)]
+    work = TABLES * len(model)
+    return [(count * work, *map(Fraction, bracket)) for count, bracket in zip(rounds, brackets)]
 
 
-def draw(plot):
-    exact = exact_values(plot.model, plot.question)[0]
-    plain = plain_value_iteration(plot.model, plot.question, DIFFERENCE)
-    picture = Picture(plot.title, plot.decades, plot.heights())
-
-    def curve(name, pairs, color, dashes=""):
-        picture.curve(name, [(count, plot.height(value, exact)) for count, value in pairs], color, dashes)
-
-    lower, upper = bounds(plot)
-    curve("upper bound, proved", upper, RED)
-    curve("lower bound, proved", lower, BLUE)
-    if plot.traps:
-        curve("upper bound with --traps, proved", bounds(plot, TRAPS)[1], RED, "7 4")
-    curve("plain value iteration, until 1e-6", thinned(plain), BLACK, "2 3")
-    if not plot.distances:
-        curve("exact value", [(1, exact), (10**plot.decades, exact)], GREY, "1 4")
-    words = f"stops at {plain[-1]:.6f} after {len(plain) - 1:,} rounds"
-    picture.dot(len(plain) - 1, plot.height(plain[-1], exact), words, 0.3 if plot.distances else 0.62)
-    picture.write(FOLDER / f"{plot.name}.svg")
-    print(f"{plot.name}: exactly {float(exact):.9f}, plain value iteration {words}")
-
-
-def thinned(values):
-    """Pairs of rounds and a value, from the first round on, at about as many places as can be seen."""
+def plain(model, question):
+    """Plain value iteration: pairs of updates and the value of the first state, at as many places as can be seen."""
+    values = plain_value_iteration(model, question, DIFFERENCE)
     last = len(values) - 1
     counts = sorted({round(last ** (place / 200)) for place in range(201)})
-    return [(count, values[count]) for count in counts]
+    return [(count * len(model), values[count]) for count in counts], last
+
+
+def draw_sides(picture, brackets):
+    picture.curve("upper bound, proved", [(work, upper) for work, _, upper in brackets], "red")
+    picture.curve("lower bound, proved", [(work, lower) for work, lower, _ in brackets], "blue")
+
+
+def draw_chain():
+    model, question = chain.model(17), Question("Pmax=?", "goal")
+    picture = Picture("The chain of Haddad and Monmege, LENGTH 17; the value is 0.5", logarithmic(WORK, 4, 8), quarters())
+    draw_sides(picture, bounds(model, question, 6))
+    pairs, rounds = plain(model, question)
+    picture.curve("plain value iteration, until 10⁻⁶", pairs, "ink", "2 3")
+    picture.dot(*pairs[-1], f"stops at {pairs[-1][1]:.6f} after {rounds:,} rounds", anchor="end")
+    finish(picture, "chain")
+
+
+def quarters():
+    return linear(VALUE, 0, 1, 4, 2)
+
+
+def draw_coin():
+    model, question = coin.model(2, 8), Question("Pmin=?", "heads")
+    exact = exact_values(model, question)[0]
+    title = "The shared coin, 2 processes, RANGE 8"
+    picture = Picture(title, logarithmic(WORK, 5, 8), logarithmic("width, or distance from the value", -15, 0, 3))
+    widths = [(work, max(upper - lower, LEAST_WIDTH)) for work, lower, upper in bounds(model, question, 5)]
+    picture.curve("width of the proved bracket", widths, "blue")
+    pairs, rounds = plain(model, question)
+    distances = [(work, abs(Fraction(value) - exact)) for work, value in pairs]
+    picture.curve("plain value iteration, its distance", distances, "ink", "2 3")
+    picture.dot(*distances[-1], f"stops after {rounds:,} rounds", anchor="end", below=True)
+    finish(picture, "coin")
+
+
+def draw_stall():
+    model, question = stall.model(40), Question("Pmax=?", "won", coalition=("max",))
+    title = "The game in which both players may stall, STAKE 40; the value is 0.5"
+    picture = Picture(title, logarithmic(WORK, 4, 7), quarters())
+    draw_sides(picture, bounds(model, question, 5))
+    lowered = [(work, upper) for work, _, upper in bounds(model, question, 5, ("--traps",))]
+    picture.curve("upper bound with --traps, proved", lowered, "orange", "7 4")
+    pairs, _ = plain(model, question)
+    picture.curve("plain value iteration, until 10⁻⁶", pairs, "ink", "2 3")
+    picture.dot(*pairs[-1], f"stops at {pairs[-1][1]:.6f}", below=True)
+    finish(picture, "stall")
+
+
+def rows_of(path):
+    if not path.exists():
+        sys.exit(f"{path} is not there: tools/measure writes it")
+    with open(path, newline="", encoding="ascii") as rows:
+        return list(csv.DictReader(rows))
+
+
+def draw_times():
+    """The time of `check` by the number of states, and that of `solve` where it was measured."""
+    rows = [row for row in rows_of(TIMES) if row["seconds"]]
+    highest = max(float(row["seconds"]) for row in rows)
+    seconds = logarithmic("time of the processor, s", -3, 3 if highest > 100 else 2)
+    picture = Picture("Time by number of states", logarithmic("states", 1, 6), seconds, 6)
+    for command, colour in (("check", "blue"), ("solve", "green")):
+        for kind, shape in SHAPES.items():
+            pairs = [measured(row) for row in rows if (row["command"], row["kind"]) == (command, kind)]
+            if pairs:
+                picture.points(f"{command}, {kind}", pairs, colour, shape)
+    slowest = sorted((row for row in rows if row["command"] == "check"), key=lambda row: -float(row["seconds"]))
+    for row in slowest[:4]:
+        picture.words(*measured(row), row["model"])
+    finish(picture, "times")
+
+
+def measured(row):
+    return float(row["states"]), max(float(row["seconds"]), LEAST_SECONDS)
+
+
+def draw_widths():
+    """The width of the bracket by time, of each command that was measured on this model."""
+    rows = rows_of(WIDTHS)
+    picture = Picture(
+        f"Width of the bracket by time: {rows[0]['model']}, {int(rows[0]['states']):,} states",
+        logarithmic("time of the processor, s", -3, 2),
+        logarithmic("width of the bracket", -15, 0, 3),
+    )
+    for command, (colour, dashes) in COMMANDS.items():
+        found = [row for row in rows if row["command"] == command]
+        pairs = [(max(float(row["seconds"]), LEAST_SECONDS), max(float(row["width"]), 1e-15)) for row in found]
+        if len(pairs) == 1:
+            picture.points(command, pairs, colour, "circle")
+        elif pairs:
+            picture.curve(command, sorted(pairs), colour, dashes)
+    finish(picture, "widths")
+
+
+def finish(picture, name):
+    picture.write(FOLDER / f"{name}.svg")
+    print(f"{name}.svg")
+
+
+DRAWN = {"bounds": (draw_chain, draw_coin, draw_stall), "times": (draw_times, draw_widths)}
 
 
 def main():
+    asked = sys.argv[1:] or ["bounds"]
+    if len(asked) > 1 or asked[0] not in DRAWN:
+        sys.exit(__doc__)
     FOLDER.mkdir(exist_ok=True)
-    for plot in PLOTS:
-        draw(plot)
+    for draw in DRAWN[asked[0]]:
+        draw()
 
 
 if __name__ == "__main__":

@@ -24,7 +24,8 @@ class Question:
     """A formula with the independent value at the first state, or none where it is computed exactly.
 
     `goal` and `safe` are labels, or `!label`, or formulas inside; the formula is `path goal`, where `path` is `F`, `X`
-    or `G`, or `safe U goal` where `safe` is given. `steps` bounds the steps of `F` and `U`.
+    or `G`, or `safe U goal` where `safe` is given. `steps` bounds the steps of `F` and `U`. `published` is the value as
+    it is published for this model, in decimals.
     """
 
     bound: str
@@ -37,6 +38,7 @@ class Question:
     command: str = "check"
     path: str = "F"
     steps: Optional[int] = None
+    published: str = ""
 
     def formula(self):
         coalition = "" if self.coalition is None else f"<<{','.join(self.coalition)}>> "

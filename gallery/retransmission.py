@@ -19,6 +19,7 @@ steps nothing may be lost, (1 - f) ^ FRAMES; within 3 more one thing, FRAMES f t
 
 from fractions import Fraction
 
+from known import ENCODING, Known
 from model import Model, write_from_words
 from question import CLOSED, Question
 
@@ -61,6 +62,10 @@ def questions(frames, retries):
     yield Question("Pmax=?", "done", at_once * (1 + frames * failed_try), CLOSED, steps=2 * frames + 3)
     yield Question("Pmax=?", "given_up", FRAME_LOST ** (retries + 1), CLOSED, safe="first", steps=shortest)
     yield Question("P>=0.9999", "!given_up", 1 - failed, CLOSED, path="G")
+
+
+def known_as(frames, retries):
+    return Known(f"`brp` {frames}-{retries}: `p1`", kind=ENCODING)
 
 
 if __name__ == "__main__":

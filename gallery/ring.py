@@ -20,6 +20,7 @@ within so many steps is computed in fractions, backward.
 
 from fractions import Fraction
 
+from known import Known
 from model import Model, write_from_words
 from question import BACKWARD, CLOSED, Inside, Question, sure
 
@@ -45,7 +46,7 @@ def handed_on(tokens, holder, step):
 
 
 def questions(processes):
-    yield Question("Pmin=?", "stable", 1, SOURCE)
+    yield Question("Pmin=?", "stable", 1, SOURCE, published="1")
     yield Question("P>=1", "stable", 1, SOURCE)
     yield Question("P>=0.999999", "stable", 1, SOURCE)
     yield sure("Pmin=?", "stable", value=1, source=SOURCE)
@@ -58,6 +59,10 @@ def questions(processes):
     yield Question("P>=1", Inside(soon), 1, CLOSED, path="G")
     for_ever = Question("P>=1", "stable", path="G")
     yield Question("P>=0.999999", Inside(for_ever), 1, SOURCE)
+
+
+def known_as(processes):
+    return Known(f"`israeli-jalfon` {processes}: `stable`", 2**processes - 1)
 
 
 if __name__ == "__main__":

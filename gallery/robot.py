@@ -11,13 +11,14 @@ way with 0.1 each; at the border it stays where it is. It begins in one corner, 
 in five is a pit, drawn from the seed, which it never leaves; next to the first field there is none.
 
 Value: computed in fractions by strategy iteration, and backward where there is a deadline. The goal is 2 (SIDE - 1)
-steps away. With a formula inside the robot keeps to fields from which it can still reach the goal with 3/4, or on a large grid
-with 3/8.
+steps away. With a formula inside the robot keeps to fields from which it can still reach the goal with 3/4, or on a
+large grid with 3/8.
 """
 
 import random
 from fractions import Fraction
 
+from known import Known
 from model import Model, write_from_words
 from question import BACKWARD, ONLY_PLAYER, Inside, Question, sure
 
@@ -69,6 +70,10 @@ def questions(side, seed):
     way = Question("P>=3/4" if side <= FEW else "P>=3/8", "goal", coalition=(ONLY_PLAYER,))
     yield Question("Pmax=?", "goal", safe=Inside(way))
     yield Question("Pmax=?", Inside(way), path="G")
+
+
+def known_as(side, seed):
+    return Known()
 
 
 if __name__ == "__main__":

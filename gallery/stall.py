@@ -20,6 +20,7 @@ them; S is their sum after all m. One step leads to the play.
 
 from fractions import Fraction
 
+from known import Known
 from model import Model, write_from_words
 from question import CLOSED, Question
 
@@ -63,6 +64,10 @@ def questions(stake):
     yield Question("P>=0.5", "won", HALF, CLOSED, coalition=("max",), options=rounds)
     for bound, tosses in (("Pmax=?", stake**2), ("P>0.6", 4 * stake**2)):
         yield Question(bound, "won", won_within(stake, tosses), CLOSED, coalition=("max",), steps=tosses + 1)
+
+
+def known_as(stake):
+    return Known()
 
 
 if __name__ == "__main__":

@@ -2,6 +2,7 @@
 
 MOST_OF_A_DENOMINATOR = 10**9
 PLACES = 18
+MODEL_HEAD = "| Model | States | Choices | Moves | Known as | What it is there |\n|---|---|---|---|---|---|\n"
 HEAD = "| Model | States | Question | Value | Its source | Bracket | Verdict |\n|---|---|---|---|---|---|---|\n"
 
 
@@ -35,14 +36,32 @@ def write_lines(path, keys, lines):
 
 
 def write_markdown(path, size, answers):
-    """Puts the table between the two marks that name this size."""
-    begin, end = f"<!-- {size} -->\n", f"<!-- end of {size} -->\n"
+    write_between(path, size, HEAD + "".join(map(markdown, answers)))
+
+
+def write_models(path, size, models):
+    """The table of the models of a size, of their names, what they are known as, and the models."""
+    write_between(path, f"models of {size}", MODEL_HEAD + "".join(row(*model_cells(*each)) for each in models))
+
+
+def write_between(path, mark, text):
+    """Puts a text between the two marks of this name."""
+    begin, end = f"<!-- {mark} -->\n", f"<!-- end of {mark} -->\n"
     before, rest = path.read_text(encoding="utf-8").split(begin)
-    table = HEAD + "".join(map(markdown, answers))
-    path.write_text(before + begin + table + end + rest.split(end)[1], encoding="utf-8")
+    path.write_text(before + begin + text + end + rest.split(end)[1], encoding="utf-8")
+
+
+def row(*cells):
+    return f"| {' | '.join(map(str, cells))} |\n"
+
+
+def model_cells(name, known, counts):
+    return (name, *counts, *known.cells())
 
 
 def markdown(answer):
     title, bracket = f"`{answer.question.title()}`", "<br>".join(answer.bracket())
-    cells = [answer.name, answer.states, title, shown(answer.value), answer.question.source, bracket, answer.summary()]
-    return f"| {' | '.join(map(str, cells))} |\n"
+    source = answer.question.source
+    if answer.question.published:
+        source += f"; published as {answer.question.published}"
+    return row(answer.name, answer.states, title, shown(answer.value), source, bracket, answer.summary())

@@ -7,11 +7,21 @@ from pathlib import Path
 
 sys.path.insert(0, str(Path(__file__).resolve().parent))
 
+import brp
 import chain
+import charlton
+import coin
+import csma
+import egl
+import hallway
+import microgrid
+import wlan
 from answer import Answer, judge_bracket, judge_inside, parted
 from exact import exact_values, plain_value_iteration
 from families import instances
+from known import OTHER, Known, agrees, same_or_size
 from model import Model, spelt
+from picture import linear, logarithmic
 from question import Inside, Question, sure
 
 MOST_STATES, MOST_STEPS = 130, 300
@@ -89,6 +99,81 @@ class Values(unittest.TestCase):
             for question in given if len(model) <= MOST_STATES else []:
                 with self.subTest(model=name, question=question.title()):
                     self.assertEqual(exact_values(model, question)[0], question.value)
+
+
+class KnownModels(unittest.TestCase):
+    def test_published_values(self):
+        self.assertTrue(agrees(Fraction(1, 3), "0.333"))
+        self.assertTrue(agrees(Fraction(2, 3), "0.667"))
+        self.assertTrue(agrees(Fraction(2, 3), "0.666"))
+        self.assertTrue(agrees(Fraction(1, 8), "1.25e-1"))
+        for published in ("0.665", "0.668", "0.6665"):
+            self.assertFalse(agrees(Fraction(2, 3), published))
+
+    def test_counts(self):
+        self.assertEqual(Known("name", 13, 20).faults(13, 20), [])
+        self.assertEqual(Known("name", 13).faults(13, 21), [])
+        self.assertEqual(Known("name", kind=OTHER).faults(13, 20), [])
+        self.assertEqual(Known().faults(13, 20), [])
+        self.assertTrue(Known("name", 13, 20).faults(13, 21))
+        self.assertTrue(Known("name", 13, 20).faults(14, 20))
+        self.assertTrue(Known("name").faults(13, 20))
+
+    def test_cells(self):
+        self.assertEqual(Known().cells(), ("", ""))
+        self.assertEqual(Known("`brp`", kind=OTHER).cells(), ("`brp`", "another model"))
+        counts = {(1, 2): (13, 20)}
+        self.assertEqual(same_or_size("`x`", (1, 2), counts, "`p`"), Known("`x` 1-2: `p`", 13, 20))
+        self.assertEqual(same_or_size("`x`", (1, 3), counts, "`p`").cells()[0], "`x` 1-3: `p`")
+
+    def test_small_models_are_as_published(self):
+        for name, module, sizes in instances("small"):
+            states, _, moves = module.model(*sizes).counts()
+            with self.subTest(model=name):
+                self.assertEqual(module.known_as(*sizes).faults(states, moves), [])
+
+    def test_models_of_the_benchmark_set(self):
+        """The numbers of states and moves, and values, that are published of some models that are not among the small ones."""
+        for module, sizes, counts in (
+            (egl, (5, 2), (33790, 34813)),
+            (wlan, (2, 10), (6063, 10619)),
+            (brp, (64, 5), (5192, 6915)),
+            (csma, (2, 4), (7958, 10594)),
+            (coin, (4, 2), (22656, 75232)),
+        ):
+            states, _, moves = module.model(*sizes).counts()
+            self.assertEqual((states, moves), counts)
+            for question in module.questions(*sizes):
+                self.assertTrue(not question.published or agrees(question.value, question.published))
+
+
+class Games(unittest.TestCase):
+    def value(self, model, goal, *coalition):
+        return exact_values(model, Question("Pmax=?", goal, coalition=coalition))[0]
+
+    def test_a_village_of_one_block(self):
+        """Two roads to the house, each with a jam at worst: 0.1 * 0.01."""
+        self.assertEqual(self.value(charlton.model(1), "home", "car"), Fraction("0.999") ** 2)
+
+    def test_one_hour_of_two_households(self):
+        """Both get a load with 1/4. Who wants a peak runs its own at once, and the other one gently."""
+        model = microgrid.model(2, 2, 1)
+        self.assertEqual(self.value(model, "peak", "h1"), Fraction(1, 4))
+        self.assertEqual(self.value(microgrid.model(2, 3, 1), "peak", "h1"), 0)
+        self.assertEqual(self.value(microgrid.model(2, 3, 1), "peak", "h1", "h2"), Fraction(1, 4))
+
+    def test_a_hallway_of_two_fields(self):
+        """The robot needs one move, which succeeds with 0.8 while it is whole; the human comes to it with 1/2, against its will."""
+        whole = Fraction(8, 10) / (1 - Fraction(19, 100) / 2) + Fraction(19, 200) / (1 - Fraction(19, 200))
+        self.assertEqual(self.value(hallway.model(1, 2), "found_whole", "robot"), whole)
+
+
+class Pictures(unittest.TestCase):
+    def test_axes(self):
+        axis = logarithmic("s", -2, 2)
+        self.assertEqual([axis.share(value) for value in (0.001, 0.01, 1, 100, 1000)], [0, 0, 0.5, 1, 1])
+        self.assertEqual([words for _, words in axis.marks], ["10⁻²", "10⁻¹", "1", "10", "100"])
+        self.assertEqual(linear("p", 0, 1, 4, 2).marks[1], (0.25, "0.25"))
 
 
 class Answers(unittest.TestCase):

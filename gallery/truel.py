@@ -23,6 +23,7 @@ with 0.3 * 0.5, since it has to hit B, and C then to miss; and beside C, which s
 from fractions import Fraction
 from string import ascii_lowercase
 
+from known import Known
 from model import Model, write_from_words
 from question import BACKWARD, CLOSED, COMPUTED, Inside, Question, sure
 
@@ -97,6 +98,10 @@ def questions_of_turns(known):
         yield Question("Pmax=?", Inside(ahead), *answer, coalition=tuple(coalition))
     answer = (Fraction(17, 20), CLOSED) if known else (None, COMPUTED)
     yield Question("Pmax=?", Inside(ahead, negated=True), *answer, coalition=("b", "c"), path="G")
+
+
+def known_as(*hits):
+    return Known()
 
 
 if __name__ == "__main__":

@@ -18,6 +18,7 @@ many of the wind lie between. With a formula inside the robot keeps to where it 
 
 from fractions import Fraction
 
+from known import Known
 from model import Model, write_from_words
 from question import BACKWARD, Inside, Question, sure
 from robot import STEPS, drawn_pits, moved
@@ -58,6 +59,10 @@ def questions(side, seed):
     way = Question("P>=3/8", "goal", coalition=("robot",))
     yield Question("Pmax=?", "goal", coalition=("robot",), safe=Inside(way))
     yield Question("Pmax=?", Inside(way), coalition=("robot",), path="G")
+
+
+def known_as(side, seed):
+    return Known()
 
 
 if __name__ == "__main__":

@@ -22,6 +22,7 @@ was drawn, with 1 less the chance of a collision.
 
 from fractions import Fraction
 
+from known import OTHER, Known
 from model import Model, write_from_words
 from question import CLOSED, Inside, Question, sure
 
@@ -71,6 +72,10 @@ def questions_of_danger(probes, used, value):
     yield Question("Pmax=?", Inside(danger), last_probe, CLOSED)
     yield Question("P>=0.99", Inside(danger, negated=True), 1 - last_probe, CLOSED, path="G")
     yield Question("P>=0.999", Inside(safe), 1 - value, CLOSED)
+
+
+def known_as(probes, hosts):
+    return Known("`zeroconf`", kind=OTHER)
 
 
 if __name__ == "__main__":

@@ -11,6 +11,7 @@ choice c those from edge_start[c] to edge_start[c + 1].
 import operator
 import os
 import re
+import signal
 import tempfile
 from array import array
 from collections import namedtuple
@@ -118,12 +119,32 @@ def write_beside(name, pieces):
         mask = os.umask(0)
         os.umask(mask)
         os.fchmod(handle, 0o666 & ~mask)
-        with open(handle, "w", encoding="ascii", newline="\n") as file:
+        with open(handle, "w", encoding="ascii", errors="surrogateescape", newline="\n") as file:
             file.writelines(pieces)
     except BaseException:
         os.remove(temporary)
         raise
     return temporary
+
+
+def write_output(data):
+    """Writes bytes to standard output, without a buffer that would fail at the end."""
+    try:
+        while data:
+            data = data[os.write(1, data) :]
+    except OSError as error:
+        raise Refusal("standard output", None, f"can't be written: {error.strerror}") from error
+
+
+def header_line(names):
+    """The first line of a label or owner file, in which these names have the indices 0, 1 and so on."""
+    return " ".join(f'{index}="{name.decode("ascii")}"' for index, name in enumerate(names)) + "\n"
+
+
+def end_with_the_reader():
+    """From here on the program ends without a word where nobody reads on, as before `| head`."""
+    if hasattr(signal, "SIGPIPE"):
+        signal.signal(signal.SIGPIPE, signal.SIG_DFL)
 
 
 # Probabilities

@@ -1,12 +1,16 @@
 #!/usr/bin/env python3
-"""Writes a random MDP as PRISM's explicit files, to measure with.
+"""Writes a random MDP or game as PRISM's explicit files, to measure with.
 
-    random_model.py STATES CHOICES SEED NAME [PLACES]
+    random_model.py STATES CHOICES SEED NAME [PLACES] [--game]
 
 writes NAME.tra and NAME.lab. Each state has so many choices of two moves each, to states drawn at random, with
-probabilities of so many decimal places, by default 2. Each thousandth state is a goal, the first of them state 999, and one state in a
-hundred is a trap; both keep to themselves, with one move a choice. The label `init` is at state 0. The same arguments
-give the same files.
+probabilities of so many decimal places, by default 2. Each thousandth state is a goal, the first of them state 999, and
+one state in a hundred is a trap; both keep to themselves, with one move a choice. The label `init` is at state 0. With
+`--game` it writes NAME.own, too: each state is drawn for one of the players `max` and `min`. The same arguments give
+the same files, and NAME.tra and NAME.lab are those of the MDP.
+
+With one choice a state, as with two and `--game`, nearly all values lie strictly between 0 and 1. With many choices of
+one player nearly all are 0 or 1: there is a way to a goal, or none.
 """
 
 import random
@@ -17,6 +21,8 @@ GOAL_EVERY = 1000
 TRAP_EVERY = 100
 PLACES = 2
 MOST_PLACES = 24
+PLAYERS = ("max", "min")
+GAME = "--game"
 
 
 def is_goal(state):
@@ -56,19 +62,32 @@ def write_labels(path, states):
                 out.write(f"{state}: 1\n")
 
 
+def write_owners(path, states, seed):
+    draw = random.Random(f"{seed} owners")
+    with open(path, "w", encoding="ascii") as out:
+        out.write(" ".join(f'{index}="{player}"' for index, player in enumerate(PLAYERS)) + "\n")
+        for state in range(states):
+            out.write(f"{state}: {draw.randrange(len(PLAYERS))}\n")
+
+
 def main():
-    if len(sys.argv) not in (5, 6):
+    words = [word for word in sys.argv[1:] if word != GAME]
+    if "--help" in words:
+        print(__doc__)
+        return
+    if len(words) not in (4, 5):
         sys.exit(__doc__)
-    numbers = sys.argv[1:4] + sys.argv[5:]
-    if not all(word.isascii() and word.isdigit() for word in numbers):
+    if not all(word.isascii() and word.isdigit() for word in words[:3] + words[4:]):
         sys.exit("STATES, CHOICES, SEED and PLACES are whole numbers")
-    states, choices, seed = (int(word) for word in sys.argv[1:4])
-    places = int(sys.argv[5]) if len(sys.argv) == 6 else PLACES
+    states, choices, seed = (int(word) for word in words[:3])
+    places = int(words[4]) if len(words) == 5 else PLACES
     if states < GOAL_EVERY or choices < 1 or not 1 <= places <= MOST_PLACES:
         sys.exit(f"a model has a thousand states, one choice and one place at least, and {MOST_PLACES} places at most")
-    name = sys.argv[4]
+    name = words[3]
     write_transitions(f"{name}.tra", states, choices, seed, places)
     write_labels(f"{name}.lab", states)
+    if GAME in sys.argv:
+        write_owners(f"{name}.own", states, seed)
 
 
 if __name__ == "__main__":

@@ -1,5 +1,7 @@
 """Models of Storm's explicit format, turned into PRISM's explicit files."""
 
+import contextlib
+import io
 import unittest
 
 from explicit import Refusal
@@ -9,9 +11,10 @@ DIE = {
     "out.tra": "7 11\n0 1 0.5\n0 2 0.5\n1 0 0.5\n1 3 1/2\n2 4 0.25\n2 5 2.5e-1\n2 6 0.5\n3 3 1\n4 4 1\n5 5 1\n6 6 1\n",
     "out.lab": '0="init" 1="deadlock" 2="done" 3="one" 4="two" 5="three" 6="four"\n'
     "0: 0\n3: 1 2 3\n4: 1 2 4\n5: 1 2 5\n6: 1 2 6\n",
+    "out.sta": "(s,d)\n0:(0,0)\n1:(1,0)\n2:(2,0)\n3:(3,1)\n4:(3,2)\n5:(3,3)\n6:(3,4)\n",
 }
 CHOICES = {
-    "out.tra": "4 5 7\n0 0 0 0.9\n0 0 1 0.1\n0 1 2 0.30000000000000004\n0 1 3 0.7\n1 0 0 1\n2 0 2 1\n3 0 3 1\n",
+    "out.tra": "4 5 7\n0 0 0 0.9 wait\n0 0 1 0.1 wait\n0 1 2 0.30000000000000004 go\n0 1 3 0.7 go\n1 0 0 1\n2 0 2 1 stay\n3 0 3 1 stay\n",
     "out.lab": '0="init" 1="goal" 2="lost"\n0: 0\n1: 0\n2: 1\n3: 2\n',
 }
 PLACEHOLDERS = {
@@ -19,10 +22,49 @@ PLACEHOLDERS = {
     "out.lab": '0="init" 1="goal"\n0: 0\n1: 1\n',
 }
 GAME = {
-    "out.tra": "4 6 8\n0 0 1 1\n0 1 2 0.5\n0 1 3 0.5\n1 0 0 1\n1 1 2 0.6\n1 1 3 0.4\n2 0 2 1\n3 0 3 1\n",
+    "out.tra": "4 6 8\n0 0 1 1 left\n0 1 2 0.5 right\n0 1 3 0.5 right\n1 0 0 1 back\n1 1 2 0.6 on\n1 1 3 0.4 on\n2 0 2 1\n3 0 3 1\n",
     "out.lab": '0="init" 1="goal"\n0: 0\n2: 1\n',
     "out.own": '0="p0" 1="p1"\n0: 0\n1: 1\n2: 0\n3: 1\n',
 }
+LINK = {
+    "out.tra": "4 5 7\n0 0 1 0.90000000000000002 fast\n0 0 2 0.10000000000000001 fast\n0 1 3 1 safe\n1 0 1 1 stay\n2 0 2 1 stay\n"
+    "3 0 1 0.94999999999999996 send\n3 0 2 0.050000000000000003 send\n",
+    "out.lab": '0="init" 1="s_eq_7_and_d_eq_1"\n0: 0\n1: 1\n',
+    "out.sta": "(s,d)\n0:(0,0)\n1:(7,1)\n2:(7,0)\n3:(3,0)\n",
+}
+EXACT = {
+    "out.tra": "4 5 7\n0 0 1 9/10 fast\n0 0 2 1/10 fast\n0 1 3 1 safe\n1 0 1 1\n2 0 2 1\n3 0 1 19/20 send\n3 0 2 1/20 send\n",
+    "out.lab": '0="init" 1="(s=0)" 2="s_eq_7_and_done" 3="s_eq_7" 4="deadlock" 5="s_eq_7_2"\n0: 0 1\n1: 2 3\n2: 4 5\n',
+    "out.sta": "(s,done)\n0:(0,false)\n1:(7,true)\n2:(7,false)\n3:(3,false)\n",
+}
+NOBODY = {
+    "out.tra": "4 5 6\n0 0 1 1 left\n0 1 3 1 right\n1 0 2 0.5 toss\n1 0 3 0.5 toss\n2 0 2 1 stay\n2 1 3 1 leave\n",
+    "out.lab": '0="init" 1="goal" 2="deadlock"\n0: 0\n2: 1\n3: 2\n',
+    "out.own": '0="p1" 1="p2"\n0: 0\n2: 1\n',
+}
+SAMPLE_TEXTS = {
+    "die": DIE,
+    "choices": CHOICES,
+    "placeholders": PLACEHOLDERS,
+    "game": GAME,
+    "link": LINK,
+    "exact": EXACT,
+    "nobody": NOBODY,
+}
+
+# a sample, an edit of its text, and what is told on standard error
+TOLD = [
+    ("link", "", "", "the label ((s = 7) & (d = 1)) is named s_eq_7_and_d_eq_1"),
+    ("exact", "", "", "the label (s = 7) & done is named s_eq_7_and_done\nthe label (s = 7) is named s_eq_7\nthe label s = 7 is named s_eq_7_2"),
+    ("nobody", "", "", "state 3 has no action and stays where it is"),
+    ("nobody", "\taction stay\n\t\t2 : 1\n\taction leave\n\t\t3 : 1\n", "", "state 2 has no action and stays where it is, and so 1 more"),
+    ("die", "//[s=1\t& d=0]\n", "", "no OUT.sta: state 1 has no values, or more than once"),
+    ("die", "//[s=3\t& d=4]\n", "", "no OUT.sta: state 6 has no values"),
+    ("die", "//[s=1\t& d=0]\n", "//[s=1\t& d=0]\n//[s=1\t& d=0]\n", "no OUT.sta: state 1 has no values, or more than once"),
+    ("die", "//[s=1\t& d=0]\n", "//[s=1]\n", "no OUT.sta: state 1 has other variables"),
+    ("die", "//[s=1\t& d=0]\n", "//[s=1\t& d=0]\n// any other comment\n", ""),
+    ("choices", "action wait", 'action "wait & see"', "the action wait & see is named wait_and_see"),
+]
 
 # a sample, an edit of its text, a line of the text that is refused, and the cause
 REFUSED = [
@@ -31,6 +73,9 @@ REFUSED = [
     ("die", "DTMC\n@par", "Markov Automaton\n@par", "@type", "a model of type 'Markov Automaton'; DTMC, MDP and SMG are read"),
     ("die", "@parameters\n", "@parameters\np q", "p q", "parameters 'p q' are not read"),
     ("die", "@nr_states\n7", "@nr_states\nseven", "seven", "'seven' is no whole number"),
+    ("link", "@value_type: double", "@value_type: parametric", "@value_type", "values of type 'parametric'; double and rational are read"),
+    ("link", "@value_type: double", "@value_type: double-interval", "@value_type", "values of type 'double-interval'; double"),
+    ("rare", "", "", "1.0000000000000001e-09", "probability '1.0000000000000001e-09': finer than 10^-23"),
     ("die", "@nr_states\n7\n", "", "@model", "@model before @type and @nr_states"),
     ("die", "@nr_states\n7", "@nr_states\n8", None, "7 states; the header states 8"),
     ("die", "@nr_choices\n7", "@nr_choices\n9", None, "7 choices; the header states 9"),
@@ -39,7 +84,7 @@ REFUSED = [
     ("die", "state 1 [1]", "state 1 !3.5 [1]", "state 1", "rates and observations are not read"),
     ("die", "state 1 [1]", "state 1 {4} [1]", "state 1", "rates and observations are not read"),
     ("die", "state 1 [1]", "state 1 <0> [1]", "state 1", "a player in a model that is no game"),
-    ("die", "state 1 [1]", 'state 1 [1] "two words"', "state 1", "'two words' can't be a label"),
+    ("die", "state 1 [1]", 'state 1 [1] "two words', "state 1", "no state that can be read"),
     ("die", "state 1 [1]", "state one", "state one", "no state that can be read"),
     ("die", "1 : 0.5", "7 : 0.5", "7 : 0.5", "destination 7 is no state"),
     ("die", "1 : 0.5", "1 : 0.6", "action 0", "moves from here on: probabilities sum to 1.1"),
@@ -49,14 +94,19 @@ REFUSED = [
     ("die", "1 : 0.5", "1 : 5e-25", "1 : 5e-25", "probability '5e-25': finer than 10^-23"),
     ("die", "1 : 0.5", "1 0.5", "1 0.5", "'1 0.5' is no state, action or move"),
     ("die", "\taction 0", "\taction none\n\taction 0", "action none", "an action without moves"),
-    ("die", "\taction 0 [0]\n\t\t3 : 1\n", "", "state 3", "state 3 has no moves"),
+    ("die", "\taction 0 [0]\n\t\t3 : 1\n", "", None, "6 choices; the header states 7"),
     ("die", "\t\t3 : 1\n", "\t\t3 : 1\n\taction 1\n\t\t3 : 1\n", "state 3", "state 3 of a DTMC has 2 actions"),
     ("die", " init", "", None, "no state has the label init"),
     ("placeholders", "1 : $0", "1 : $7", "1 : $7", "'$7' is no placeholder of the header"),
     ("placeholders", "$0 : 0.25", "$0", "$0", "no placeholder and value"),
     ("game", "state 1 <1>", "state 1", "state 1", "state 1 of a game has choices and no player"),
+    ("nobody", "state 0 <1>", "state 0 <18446744073709551615>", "state 0", "state 0 of a game has choices and no player"),
     ("game", "state 1 <1>", "state 1 <-1>", "state 1", "'-1' can't be a player: neither a number nor a name"),
 ]
+
+
+def sample(name):
+    return (SAMPLES / f"documented_{name}.drn").read_text(encoding="ascii")
 
 
 def line_with(text, place):
@@ -68,12 +118,43 @@ def line_with(text, place):
 class Documented(InFolder):
     """The samples, which were written from the documentation of the format."""
 
+    def convert(self, name, names):
+        """What is told of a model of this text, and what was written."""
+        told = io.StringIO()
+        with contextlib.redirect_stderr(told):
+            load("from_drn").convert(name, self.folder / "out", names)
+        return told.getvalue(), {name: text for name, text in self.written().items() if name.startswith("out.")}
+
     def test_texts(self):
-        for name, texts in (("die", DIE), ("choices", CHOICES), ("placeholders", PLACEHOLDERS), ("game", GAME)):
+        for name, texts in SAMPLE_TEXTS.items():
             with self.subTest(name):
                 self.setUp()
-                load("from_drn").convert(SAMPLES / f"documented_{name}.drn", self.folder / "out")
-                self.assertEqual(self.written(), texts)
+                _, written = self.convert(SAMPLES / f"documented_{name}.drn", {})
+                self.assertEqual(written, texts)
+
+    def test_carriage_returns(self):
+        for name, texts in SAMPLE_TEXTS.items():
+            with self.subTest(name):
+                self.setUp()
+                text = sample(name).replace("\n", "\r\n").encode("ascii")
+                path = self.folder / "in.drn"
+                path.write_bytes(text)
+                self.assertEqual(self.convert(path, {})[1], texts)
+
+    def test_names_of_players(self):
+        _, written = self.convert(SAMPLES / "documented_game.drn", {b"0": b"anna", b"1": b"bert"})
+        self.assertEqual(written["out.own"], GAME["out.own"].replace("p0", "anna").replace("p1", "bert"))
+
+    def test_what_is_told(self):
+        for name, old, new, lines in TOLD:
+            with self.subTest(name=name, new=new):
+                self.setUp()
+                self.assertIn(old, sample(name))
+                path = self.write("in.drn", sample(name).replace(old, new, 1).replace("@nr_choices\n5\n", ""))
+                told, written = self.convert(path, {})
+                out = str(self.folder / "out")
+                self.assertEqual(told.replace(out, "OUT"), "".join(f"from_drn: {line}\n" for line in lines.splitlines()))
+                self.assertEqual("out.sta" in written, "OUT.sta" not in lines and name in ("die", "link", "exact"))
 
     @needs_program
     def test_the_program_reads_them(self):
@@ -82,11 +163,13 @@ class Documented(InFolder):
             ("choices", 'Pmin=? [ F "goal" ]', "state 0 lower 0.000000000000000 upper 0.000000000000000"),
             ("placeholders", 'Pmax=? [ F "goal" ]', "state 0 lower 0.750000000000000 upper 0.750000000000000"),
             ("game", '<<p0>> Pmax=? [ F "goal" ]', "state 0 lower 0.500000000000000 upper 0.500000000000000"),
+            ("exact", 'P>=0.9 [ F "s_eq_7_and_done" ]', "state 0 lower 0.900000000000000 upper 0.900000000000000"),
+            ("nobody", '<<p1>> Pmax=? [ F "goal" ]', "state 0 lower 0.500000000000000 upper 0.500000000000000"),
         ):
             with self.subTest(name):
                 out = self.folder / name
-                self.assertEqual(run_tool("from_drn", SAMPLES / f"documented_{name}.drn", out), (0, "", ""))
-                owners = ["--own", f"{out}.own"] if name == "game" else []
+                self.assertEqual(run_tool("from_drn", SAMPLES / f"documented_{name}.drn", out)[:2], (0, ""))
+                owners = ["--own", f"{out}.own"] if name in ("game", "nobody") else []
                 status, output, errors = run(program(), "check", f"{out}.tra", f"{out}.lab", formula, *owners)
                 self.assertEqual((status, errors), (0, ""), output)
                 self.assertTrue(output.startswith(line), output)
@@ -97,14 +180,14 @@ class Refused(InFolder):
 
     def test_faults(self):
         from_drn = load("from_drn")
-        for sample, old, new, place, cause in REFUSED:
+        for name, old, new, place, cause in REFUSED:
             with self.subTest(new=new, cause=cause):
-                text = (SAMPLES / f"documented_{sample}.drn").read_text(encoding="ascii")
+                text = sample(name)
                 self.assertIn(old, text)
                 text = text.replace(old, new, 1)
-                name = self.write("bad.drn", text)
+                path = self.write("bad.drn", text)
                 with self.assertRaises(Refusal) as caught:
-                    from_drn.convert(name, self.folder / "out")
+                    from_drn.convert(path, self.folder / "out", {})
                 self.assertIn(cause, caught.exception.cause)
                 self.assertEqual(caught.exception.line, line_with(text, place))
                 self.assertEqual(list(self.written()), ["bad.drn"])
@@ -113,6 +196,14 @@ class Refused(InFolder):
         name = self.write("bad.drn", "@type: DTMC\n@model\n")
         ended = run_tool("from_drn", name, self.folder / "out")
         self.assertEqual(ended, (1, "", f"from_drn: {name}: line 2: @model before @type and @nr_states\n"))
+
+    def test_words(self):
+        status, output, errors = run_tool("from_drn", "--help")
+        self.assertEqual((status, errors), (0, ""))
+        self.assertIn("from_drn FILE OUT", output)
+        status, output, errors = run_tool("from_drn", "model.drn", "out", "--names", "0")
+        self.assertEqual((status, output), (2, ""))
+        self.assertIn("'0' is no list of VALUE=NAME", errors)
 
     def test_no_file(self):
         status, output, errors = run_tool("from_drn", self.folder / "none.drn", self.folder / "out")

@@ -16,7 +16,8 @@ pub record IsGone (q : Query) (marks : List Bool) (kept order : List ℕ) : Type
   pub leads : (s c : ℕ) → s < states q → c < slice_index kept s → meets marks (choice_of q.game s c) ≡ true
 
 -- the states below this one that a set does not have have gone, after those that were gone before
-pub record IsAdded (q : Query) (set before : List Bool) (first : List ℕ) (state : ℕ) (marks : List Bool) (kept order : List ℕ) : Type 0 where
+pub record IsAdded (q : Query) (set before : List Bool) (first : List ℕ) (state : ℕ) (marks : List Bool)
+    (kept order : List ℕ) : Type 0 where
   pub more : length first ≤ length order
   pub same : length order ≡ length first → marks ≡ before
   pub larger : (s : ℕ) → slice_index_or before s false ≡ true → slice_index_or marks s false ≡ true

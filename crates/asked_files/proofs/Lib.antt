@@ -1,6 +1,6 @@
 pub mod Asking
-pub mod CertificateTexts
 pub mod FilesLoaded
+pub mod HeldTexts
 pub mod Leaving
 pub mod Lengths
 pub mod Loading

@@ -26,7 +26,8 @@ abbrev pub AreOwners : Option (List ℕ) → Option (List ℕ) → ℕ → Owner
 AreOwners None source states owners = owners ≡ single_owner states
 AreOwners (Some name) source states owners = GivenTextWith source (λ text. DenotesOwners text states owners)
 
--- The transition text denotes a game, the label text labels of its states, and the owner text owners of them; the formula poses the problem of these, and the command takes it.
+-- The transition text denotes a game, the label text labels of its states, and the owner text owners of them; the
+-- formula poses the problem of these, and the command takes it.
 pub record Asks (paths : Paths) (sources : Sources) (asked : Asked) (problem : Problem) : Type 0 where
   pub game : List (List Distribution)
   pub labels : Labelling

@@ -20,8 +20,10 @@ Loads view (Err OutOfMemory) said = Unit {0}
 Loads view (Err ReadFault) said = said ≡ NotHeld
 Loads view (Err (Refused refusal)) said = said ≡ Refuses refusal
 
--- The answer is what is said of a source. It is the one that is held at the place, where this is told, unless it can't be read; on a steady shelf it always is.
-pub record LoadsText {X Y : Type 0} (holding : Option Holding) (steady : Bool) (place : Holding → Option (List ℕ)) (view : X → Y) (result : Result X End) (said : Option (List ℕ) → Said Y) : Type 0 where
+-- The answer is what is said of a source. It is the one that is held at the place, where this is told, unless it can't
+-- be read; on a steady shelf it always is.
+pub record LoadsText {X Y : Type 0} (holding : Option Holding) (steady : Bool) (place : Holding → Option (List ℕ))
+    (view : X → Y) (result : Result X End) (said : Option (List ℕ) → Said Y) : Type 0 where
   pub source : Option (List ℕ)
   pub told : (IsErrOf result ReadFault → ⊥) → IfKnown holding (λ held. source ≡ place held)
   pub steadily : steady ≡ true → IfKnown holding (λ held. source ≡ place held)
@@ -51,13 +53,15 @@ pub record Takes {X : Type 0} (result : Result X End) (taken : ℕ) : Type 0 whe
   pub only_too_long : most_bytes < taken → IsTooLong result ⊎ IsErrOf result OutOfMemory
 
 -- What loading does to a shelf.
-pub record LoadingLeaves {S X : Type 0} (held : S → Option Holding) (steady : S → Bool) (faults took : S → ℕ) (old new : S) (result : Result X End) : Type 0 where
+pub record LoadingLeaves {S X : Type 0} (held : S → Option Holding) (steady : S → Bool) (faults took : S → ℕ)
+    (old new : S) (result : Result X End) : Type 0 where
   -- it doesn't fail by itself
   pub read_fault : IsErrOf result ReadFault → Rose (faults old) (faults new)
   pub takes : Takes result (took new)
   pub kept : KeepsShelf (held old) (held new) (steady old) (steady new) (faults old) (faults new)
 
--- why a file that was not accepted gives no text: the fault that its reader found; or, where it was not read to its end, how loading ends
+-- why a file that was not accepted gives no text: the fault that its reader found; or, where it was not read to its
+-- end, how loading ends
 abbrev pub fault_of : {F : Type 0} → Text → FileEnd F → Result F End
 fault_of text file.OutOfMemory = Err OutOfMemory
 fault_of text file.ReadFault = Err ReadFault

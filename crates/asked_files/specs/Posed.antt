@@ -36,34 +36,47 @@ pub record HasSizes (game : List (List Distribution)) (labels : Labelling) (owne
 
 -- what contracts see of what was loaded
 abbrev pub reading_of : Loaded → Reading
-reading_of loaded = record { game = loaded.game; labels = loaded.labels; owners = loaded.owners; formula = tree_of loaded.formula }
+reading_of loaded = record {
+  game = loaded.game;
+  labels = loaded.labels;
+  owners = loaded.owners;
+  formula = tree_of loaded.formula;
+}
 
 abbrev pub reading_with : List (List Distribution) → Labelling → Ownership → Tree → Reading
 reading_with game labels owners formula = record { game = game; labels = labels; owners = owners; formula = formula }
 
 -- the reading behind the owners, behind the labels, behind the game, and the whole
 abbrev pub behind_owners : Asked → List (List Distribution) → Labelling → Ownership → Said Reading
-behind_owners asked game labels owners = and_then (formula_read asked.formula) (λ formula. Denoted (reading_with game labels owners formula))
+behind_owners asked game labels owners =
+    and_then (formula_read asked.formula) (λ formula. Denoted (reading_with game labels owners formula))
 
 abbrev pub behind_labels : Sources → Asked → List (List Distribution) → Labelling → Said Reading
-behind_labels sources asked game labels = and_then (owners_said asked.own sources.own (length game)) (λ owners. behind_owners asked game labels owners)
+behind_labels sources asked game labels =
+    and_then (owners_said asked.own sources.own (length game)) (λ owners. behind_owners asked game labels owners)
 
 abbrev pub behind_game : Sources → Asked → List (List Distribution) → Said Reading
-behind_game sources asked game = and_then (labels_said sources.lab (length game)) (λ labels. behind_labels sources asked game labels)
+behind_game sources asked game = and_then (labels_said sources.lab (length game))
+    (λ labels. behind_labels sources asked game labels)
 
 abbrev pub reading_said : Sources → Asked → Said Reading
 reading_said sources asked = and_then (game_said sources.tra) (λ game. behind_game sources asked game)
 
 -- the problem that a reading poses, by the kind of its paths
 abbrev pub posed_by : PathKind → Reading → Said Problem
-posed_by Until r = and_then (read_said OfQuestion (pose_said r.game r.labels r.owners r.formula)) (λ posing. Denoted (OfUntil posing))
-posed_by (Within steps) r = and_then (read_said OfQuestion (pose_said r.game r.labels r.owners r.formula)) (λ posing. Denoted (OfWithin steps posing))
-posed_by Next r = and_then (read_said OfQuestion (pose_next_said r.game r.labels r.owners r.formula)) (λ posing. Denoted (OfNext posing))
-posed_by Always r = and_then (read_said OfQuestion (pose_said r.game r.labels r.owners (dual_of r.formula))) (λ posing. Denoted (OfAlways posing))
+posed_by Until r = and_then (read_said OfQuestion (pose_said r.game r.labels r.owners r.formula))
+    (λ posing. Denoted (OfUntil posing))
+posed_by (Within steps) r = and_then (read_said OfQuestion (pose_said r.game r.labels r.owners r.formula))
+    (λ posing. Denoted (OfWithin steps posing))
+posed_by Next r = and_then (read_said OfQuestion (pose_next_said r.game r.labels r.owners r.formula))
+    (λ posing. Denoted (OfNext posing))
+posed_by Always r = and_then (read_said OfQuestion (pose_said r.game r.labels r.owners (dual_of r.formula)))
+    (λ posing. Denoted (OfAlways posing))
 
 -- that of a formula with others inside
 abbrev pub nested_posed : Reading → Said Problem
-nested_posed r = and_then (read_said OfQuestion (initial_said r.labels r.owners r.formula)) (λ initial. Denoted (OfNested (record { game = r.game; labels = r.labels; owners = r.owners }) initial))
+nested_posed r = and_then (read_said OfQuestion (initial_said r.labels r.owners r.formula))
+    (λ initial. Denoted (OfNested (record { game = r.game; labels = r.labels; owners = r.owners }) initial))
 
 abbrev pub any_posed : Reading → Said Problem
 any_posed r = if is_flat r.formula.left && is_flat r.formula.right then posed_by r.formula.kind r else nested_posed r
@@ -73,7 +86,8 @@ abbrev pub where_taken : Bool → Problem → Said Problem
 where_taken taken problem = if taken then Denoted problem else Refuses WrongKind
 
 abbrev pub posed : Paths → Reading → Said Problem
-posed paths reading = and_then (any_posed reading) (λ problem. where_taken (takes_formula paths reading.formula) problem)
+posed paths reading = and_then (any_posed reading) (λ problem.
+    where_taken (takes_formula paths reading.formula) problem)
 
 -- the problem that these texts and words pose to a command that takes such paths, or their first refusal
 abbrev pub problem_said : Paths → Sources → Asked → Said Problem

@@ -14,7 +14,8 @@ use Rattle.asked_files.specs.declared.problem.Paths.TheVariants.{Any, Unbounded,
 
 -- 1. Problems.
 
--- to reach a goal; within so many steps; in the next step; of `G` to reach a goal of the dual; and of a formula with others inside a game whose states have labels and owners, with its initial states
+-- to reach a goal; within so many steps; in the next step; of `G` to reach a goal of the dual; and of a formula with
+-- others inside a game whose states have labels and owners, with its initial states
 pub data Problem : Type 0 where
   OfUntil : (posing : Posing) → Problem
   OfWithin : (steps : ℕ) → (posing : Posing) → Problem
@@ -51,7 +52,8 @@ PosesProblem game l o f (OfUntil p) = IsFlat f × (f.kind ≡ Until) × Poses ga
 PosesProblem game l o f (OfWithin k p) = IsFlat f × (f.kind ≡ Within k) × Poses game l o f p
 PosesProblem game l o f (OfNext p) = IsFlat f × (f.kind ≡ Next) × PosesNext game l o f p
 PosesProblem game l o f (OfAlways p) = IsFlat f × (f.kind ≡ Always) × Poses game l o (dual_of f) p
-PosesProblem game l o f (OfNested m initial) = (¬ IsFlat f) × (m ≡ record { game = game; labels = l; owners = o }) × (initial_said l o f ≡ Ok initial)
+PosesProblem game l o f (OfNested m initial) = (¬ IsFlat f) × (m ≡ record { game = game; labels = l; owners = o })
+    × (initial_said l o f ≡ Ok initial)
 
 -- 2. Which formulas a command takes.
 

@@ -1,24 +1,26 @@
--- What the texts under the names of a command come to, and the text of a certificate.
-use Rattle.std.specs.Prelude.{◌≡◌, ◌<◌, ℕ, List, length, Option, Some}
+-- What the texts under the names of a command come to, the text of a certificate, and that of values to begin with.
+use Rattle.std.specs.Prelude.{◌≡◌, ◌<◌, ℕ, List, length, Option, Some, None}
 use Rattle.text_lines.specs.Limits.{most_bytes}
 use Rattle.game_outside.specs.Outside.{Holding}
 use Rattle.game_model.specs.Query.{Query}
 use Rattle.rpatl_syntax.specs.Rules.{Denotes}
 use Rattle.certificate_audit.specs.Refused.{IsRefused}
+use Rattle.values_reader.specs.Faults.{fault_of}
 use Rattle.command_words.specs.Words.{Asked}
 use Rattle.run_refusals.specs.declared.refusal.Refusal.{Refusal}
-use Rattle.run_refusals.specs.declared.refusal.Refusal.TheVariants.{OfCertificate, TooLong}
-use Rattle.run_refusals.specs.declared.refusal.Text.TheVariants.{Cert}
+use Rattle.run_refusals.specs.declared.refusal.Refusal.TheVariants.{OfCertificate, OfValues, TooLong}
+use Rattle.run_refusals.specs.declared.refusal.Text.TheVariants.{Cert, Values}
 use Rattle.asked_files.specs.declared.problem.Paths.{Paths}
 use Rattle.asked_files.specs.Problems.{Problem}
 use Rattle.asked_files.specs.Said.{Said, NotHeld, Refuses, Denoted}
-use Rattle.asked_files.specs.Sources.{Sources, IfKnown, AreSources, sources_of}
+use Rattle.asked_files.specs.Sources.{Sources, SourceWith, IfKnown, AreSources, sources_of}
 use Rattle.asked_files.specs.Posed.{Reading, reading_said, posed, problem_said}
 use Rattle.asked_files.specs.Asks.{GivenTextWith, Asks}
 
 -- 1. The problem.
 
--- there are texts, which are those that are held where this is told, that ask this problem with the words, of a command that takes such paths
+-- there are texts, which are those that are held where this is told, that ask this problem with the words, of a command
+-- that takes such paths
 pub record PosesIt (holding : Option Holding) (asked : Asked) (paths : Paths) (problem : Problem) : Type 0 where
   pub sources : Sources
   pub told : AreSources holding asked sources
@@ -42,17 +44,50 @@ pub record ReadsAs (holding : Option Holding) (asked : Asked) (said : Said Readi
   pub told : AreSources holding asked sources
   pub says : reading_said sources asked ≡ said
 
--- They say this reading. Its formula is the one that the words spell; the problem that it poses to a command is the one that is asked, and where it poses none, so is the refusal.
+-- They say this reading. Its formula is the one that the words spell; the problem that it poses to a command is the one
+-- that is asked, and where it poses none, so is the refusal.
 pub record Reads (holding : Option Holding) (asked : Asked) (reading : Reading) : Type 0 where
   pub said : ReadsAs holding asked (Denoted reading)
   pub spelled : Denotes asked.formula reading.formula
-  pub asks : (paths : Paths) (problem : Problem) → posed paths reading ≡ Denoted problem → PosesIt holding asked paths problem
-  pub refuses : (paths : Paths) (refusal : Refusal) → posed paths reading ≡ Refuses refusal → RefusesQuestion holding asked paths refusal
+  pub asks : (paths : Paths) (problem : Problem) → posed paths reading ≡ Denoted problem
+      → PosesIt holding asked paths problem
+  pub refuses : (paths : Paths) (refusal : Refusal) → posed paths reading ≡ Refuses refusal
+      → RefusesQuestion holding asked paths refusal
 
 -- 3. The certificate of an audit.
+
+-- there is a text, and it is too long
+abbrev pub IsLonger : Option (List ℕ) → Type 0
+IsLonger source = (text : List ℕ) × (source ≡ Some text) × (most_bytes < length text)
 
 -- why a text is refused as the certificate of a question: it is too long, or this is its first fault
 abbrev pub RefusesCertificate : Query → Option (List ℕ) → Refusal → Type 0
 RefusesCertificate q source (OfCertificate fault) = GivenTextWith source (λ text. IsRefused q text fault)
-RefusesCertificate q source (TooLong Cert) = (text : List ℕ) × (source ≡ Some text) × (most_bytes < length text)
+RefusesCertificate q source (TooLong Cert) = IsLonger source
 RefusesCertificate q source refusal = ⊥
+
+-- 4. Values to begin with.
+
+-- where a file of values is named, there is a text, which is the one that is held where this is told, and it has no
+-- fault for so many states
+abbrev pub GivesValues : Option Holding → Option (List ℕ) → ℕ → Type 0
+GivesValues holding None states = Unit {0}
+GivesValues holding (Some name) states =
+    SourceWith holding name (λ source. GivenTextWith source (λ text. fault_of states text ≡ None))
+
+-- why a text is refused as values of so many states: it is too long, or this is its first fault
+abbrev pub RefusesValuesText : ℕ → Option (List ℕ) → Refusal → Type 0
+RefusesValuesText states source (OfValues fault) = GivenTextWith source (λ text. fault_of states text ≡ Some fault)
+RefusesValuesText states source (TooLong Values) = IsLonger source
+RefusesValuesText states source refusal = ⊥
+
+-- a file of values is named, and its text is refused for this
+abbrev pub RefusesValues : Option Holding → Option (List ℕ) → ℕ → Refusal → Type 0
+RefusesValues holding None states refusal = ⊥
+RefusesValues holding (Some name) states refusal =
+    SourceWith holding name (λ source. RefusesValuesText states source refusal)
+
+-- a file of values is named, and where the holding is told, it lacks its text
+abbrev pub LacksValues : Option Holding → Option (List ℕ) → Type 0
+LacksValues holding None = ⊥
+LacksValues holding (Some name) = IfKnown holding (λ held. held name ≡ None)

@@ -16,7 +16,11 @@ problem_of (Until posed) = OfUntil (posing_of posed)
 problem_of (Within posed steps) = OfWithin steps (posing_of posed)
 problem_of (Next posed) = OfNext (next_posing_of posed)
 problem_of (Always posed dual) = OfAlways (posing_of posed)
-problem_of (Nested loaded initial) = OfNested (record { game = loaded.now.game; labels = loaded.now.labels; owners = loaded.now.owners }) initial.items
+problem_of (Nested loaded initial) = OfNested (record {
+  game = loaded.now.game;
+  labels = loaded.now.labels;
+  owners = loaded.now.owners;
+}) initial.items
 
 -- beside the question of `G` stands its dual
 abbrev pub HasDual : Tree → Posed → Type 0
@@ -56,4 +60,5 @@ IsOfLoaded other (Until posed) = Unit {0}
 IsOfLoaded other (Within posed steps) = Unit {0}
 IsOfLoaded other (Next posed) = Unit {0}
 IsOfLoaded other (Always posed dual) = Unit {0}
-IsOfLoaded other (Nested loaded initial) = (loaded.now ≡ other) × (initial_said other.labels other.owners (tree_of other.formula) ≡ Ok initial.items)
+IsOfLoaded other (Nested loaded initial) = (loaded.now ≡ other)
+    × (initial_said other.labels other.owners (tree_of other.formula) ≡ Ok initial.items)

@@ -31,4 +31,5 @@ single_owner states = record { players = codes "p0" ∷ []; owners = replicate s
 -- the owners of an owner text, where a file is named; without one, one player owns all
 abbrev pub owners_said : Option (List ℕ) → Option (List ℕ) → ℕ → Said Ownership
 owners_said None source states = Denoted (single_owner states)
-owners_said (Some name) source states = and_then (text_said Own source) (λ bytes. read_said OfOwn (owners_of bytes states))
+owners_said (Some name) source states = and_then (text_said Own source)
+    (λ bytes. read_said OfOwn (owners_of bytes states))

@@ -26,11 +26,14 @@ pub fn load_certificate<H: Shelf>(
     question: &Question,
     name: &str,
 ) -> Result<Plan, End>
-    ensures accepted { IfOk result (λ plan. SourceWith (H.held shelf.old) name.now (λ source. GivenTextWith source (λ text. IsAccepted question.now text plan))) }
+    ensures accepted { IfOk result (λ plan. SourceWith (H.held shelf.old) name.now
+        (λ source. GivenTextWith source (λ text. IsAccepted question.now text plan))) }
     ensures sound { IfOk result (λ plan. IsSoundPlan question.now plan) }
-    ensures refused { (refusal : Refusal) → result ≡ Err (End.Refused refusal) → SourceWith (H.held shelf.old) name.now (λ source. RefusesCertificate question.now source refusal) }
+    ensures refused { (refusal : Refusal) → result ≡ Err (End.Refused refusal)
+        → SourceWith (H.held shelf.old) name.now (λ source. RefusesCertificate question.now source refusal) }
     ensures shelf { LoadingLeaves H.held H.steady H.faults H.taken shelf.old shelf.new result }
-    ensures steadily { IsErrOf result End.ReadFault → H.steady shelf.old ≡ true → IfKnown (H.held shelf.old) (λ held. held name.now ≡ None) }
+    ensures steadily { IsErrOf result End.ReadFault → H.steady shelf.old ≡ true
+        → IfKnown (H.held shelf.old) (λ held. held name.now ≡ None) }
     ensures caused { RefusesCaused result }
 {
     let bytes = load_text(alloc, shelf, Text::Cert, name)?;
@@ -41,7 +44,8 @@ fn certificate_in(alloc: Global, question: &Question, bytes: &[u8]) -> Result<Pl
     requires { length bytes.now ≤ most_bytes }
     ensures accepted { IfOk result (λ plan. IsAccepted question.now bytes.now plan) }
     ensures sound { IfOk result (λ plan. IsSoundPlan question.now plan) }
-    ensures refused { (refusal : Refusal) → result ≡ Err (End.Refused refusal) → (fault : AuditFault) × (refusal ≡ Refusal.OfCertificate fault) × IsRefused question.now bytes.now fault }
+    ensures refused { (refusal : Refusal) → result ≡ Err (End.Refused refusal)
+        → (fault : AuditFault) × (refusal ≡ Refusal.OfCertificate fault) × IsRefused question.now bytes.now fault }
     ensures read { IsErrOf result End.ReadFault → ⊥ }
     ensures caused { RefusesCaused result }
     ensures short { IsTooLong result → ⊥ }

@@ -29,7 +29,8 @@ pub fn load_text<H: Shelf>(
     text: Text,
     name: &str,
 ) -> Result<Vec<u8>, End>
-    ensures says { LoadsText (H.held shelf.old) (H.steady shelf.old) (λ held. held name.now) (λ v. v.items) result (text_said text) }
+    ensures says { LoadsText (H.held shelf.old) (H.steady shelf.old) (λ held. held name.now) (λ v. v.items) result
+        (text_said text) }
     ensures within { IfOk result (λ v. length v.items ≤ most_bytes) }
     ensures shelf { LoadingLeaves H.held H.steady H.faults H.taken shelf.old shelf.new result }
     ensures caused { RefusesCaused result }
@@ -76,7 +77,8 @@ pub fn load_labels<H: Shelf>(
     name: &str,
     states: u32,
 ) -> Result<Labels, End>
-    ensures says { LoadsText (H.held shelf.old) (H.steady shelf.old) (λ held. held name.now) (λ x. x) result (λ source. labels_said source states) }
+    ensures says { LoadsText (H.held shelf.old) (H.steady shelf.old) (λ held. held name.now) (λ x. x) result
+        (λ source. labels_said source states) }
     ensures shelf { LoadingLeaves H.held H.steady H.faults H.taken shelf.old shelf.new result }
     ensures caused { RefusesCaused result }
     ensures sizes { IfOk result (λ labels. labels.states ≡ states) }
@@ -97,7 +99,8 @@ pub fn load_owner_file<H: Shelf>(
     name: &str,
     states: u32,
 ) -> Result<Owners, End>
-    ensures says { LoadsText (H.held shelf.old) (H.steady shelf.old) (λ held. held name.now) (λ x. x) result (λ source. owners_said (Some name.now) source states) }
+    ensures says { LoadsText (H.held shelf.old) (H.steady shelf.old) (λ held. held name.now) (λ x. x) result
+        (λ source. owners_said (Some name.now) source states) }
     ensures shelf { LoadingLeaves H.held H.steady H.faults H.taken shelf.old shelf.new result }
     ensures caused { RefusesCaused result }
     ensures sizes { IfOk result (λ owners. length owners.owners ≡ states) }
@@ -131,7 +134,9 @@ pub fn load_owners<H: Shelf>(
     states: u32,
 ) -> Result<Owners, End>
     requires { H.taken shelf.old ≤ most_bytes }
-    ensures says { LoadsText (H.held shelf.old) (H.steady shelf.old) (held_own (option_map (λ file. file.now) own.entry)) (λ x. x) result (λ source. owners_said (option_map (λ file. file.now) own.entry) source states) }
+    ensures says { LoadsText (H.held shelf.old) (H.steady shelf.old)
+        (held_own (option_map (λ file. file.now) own.entry)) (λ x. x) result
+        (λ source. owners_said (option_map (λ file. file.now) own.entry) source states) }
     ensures shelf { LoadingLeaves H.held H.steady H.faults H.taken shelf.old shelf.new result }
     ensures caused { RefusesCaused result }
     ensures sizes { IfOk result (λ owners. length owners.owners ≡ states) }

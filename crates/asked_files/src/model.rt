@@ -67,8 +67,10 @@ pub fn load_model<H: Shelf>(
     ensures reads { IfOk result (λ loaded. Reads (H.held shelf.old) (asked_of_words asked.now) (reading_of loaded)) }
     ensures sizes { IfOk result (λ loaded. HasSizes loaded.game loaded.labels loaded.owners) }
     ensures share { IfOk result (λ loaded. IsAtMostOne loaded.formula.bound) }
-    ensures refused { (refusal : Refusal) → result ≡ Err (End.Refused refusal) → ReadsAs (H.held shelf.old) (asked_of_words asked.now) (Refuses refusal) }
-    ensures steadily { IsErrOf result End.ReadFault → H.steady shelf.old ≡ true → LacksText (H.held shelf.old) (asked_of_words asked.now) }
+    ensures refused { (refusal : Refusal) → result ≡ Err (End.Refused refusal)
+        → ReadsAs (H.held shelf.old) (asked_of_words asked.now) (Refuses refusal) }
+    ensures steadily { IsErrOf result End.ReadFault → H.steady shelf.old ≡ true
+        → LacksText (H.held shelf.old) (asked_of_words asked.now) }
     ensures shelf { LoadingLeaves H.held H.steady H.faults H.taken shelf.old shelf.new result }
     ensures caused { RefusesCaused result }
 {
@@ -186,7 +188,9 @@ fn pose_reach<'g>(alloc: Global, loaded: &'g Loaded, formula: &Formula) -> Resul
     requires sizes { HasSizes loaded.now.game loaded.now.labels loaded.now.owners }
     requires kind { IsUntil formula.now.kind }
     requires flat { IsFlat (tree_of formula.now) }
-    ensures says { Loads posing_of result (read_said Refusal.OfQuestion (pose_said loaded.now.game loaded.now.labels loaded.now.owners (tree_of formula.now))) }
+    ensures says { Loads posing_of result
+        (read_said Refusal.OfQuestion (pose_said loaded.now.game loaded.now.labels loaded.now.owners
+        (tree_of formula.now))) }
     ensures inside { IfOk result (λ posed. All (λ s. s < states posed.question) posed.initial.items) }
     ensures nothing { ReadsNothing result }
 {
@@ -201,7 +205,9 @@ fn pose_step(alloc: Global, loaded: &Loaded) -> Result<PosedNext<'_>, End>
     requires sizes { HasSizes loaded.now.game loaded.now.labels loaded.now.owners }
     requires kind { loaded.now.formula.kind ≡ PathKind.Next }
     requires flat { IsFlat (tree_of loaded.now.formula) }
-    ensures says { Loads next_posing_of result (read_said Refusal.OfQuestion (pose_next_said loaded.now.game loaded.now.labels loaded.now.owners (tree_of loaded.now.formula))) }
+    ensures says { Loads next_posing_of result
+        (read_said Refusal.OfQuestion (pose_next_said loaded.now.game loaded.now.labels loaded.now.owners
+        (tree_of loaded.now.formula))) }
     ensures inside { IfOk result (λ posed. All (λ s. s < states posed.question) posed.initial.items) }
     ensures nothing { ReadsNothing result }
 {

@@ -6,7 +6,8 @@ use Rattle.game_model.specs.declared.game.Side.TheVariants.{Max, Min}
 use Rattle.game_model.specs.Game.{Distribution, choices_of}
 use Rattle.game_model.specs.Query.{Query, states, is_goal, is_dead, side_at}
 
--- What is barred: states, which may not join, and choices, which attract nobody. Both stay in the game, so a choice of the minimiser that is barred is a way out for it.
+-- What is barred: states, which may not join, and choices, which attract nobody. Both stay in the game, so a choice of
+-- the minimiser that is barred is a way out for it.
 pub record Barred : Type 0 where
   pub states : ℕ → Bool
   pub choices : Distribution → Bool
@@ -37,14 +38,17 @@ pub record AreGoals (q : Query) (set : List Bool) : Type 0 where
   pub many : length set ≡ states q
   pub each : (s : ℕ) → s < states q → slice_index_or set s false ≡ is_goal q s
 
--- a set that grew from the goals, barred or not: one after another, states joined that are not barred and that the set attracted
+-- a set that grew from the goals, barred or not: one after another, states joined that are not barred and that the set
+-- attracted
 pub data Grew (q : Query) (barred : Barred) : List Bool → Type 0 where
   from_goals : (set : List Bool) → AreGoals q set → Grew q barred set
-  with_state : (set : List Bool) (s : ℕ) → Grew q barred set → s < states q → barred.states s ≡ false → is_attracted q barred set s ≡ true → Grew q barred (slice_set set s true)
+  with_state : (set : List Bool) (s : ℕ) → Grew q barred set → s < states q → barred.states s ≡ false
+      → is_attracted q barred set s ≡ true → Grew q barred (slice_set set s true)
 
 -- a set attracts no other state that is not barred
 abbrev pub IsClosed : Query → Barred → List Bool → Type 0
-IsClosed q barred set = (s : ℕ) → s < states q → slice_index_or set s false ≡ false → barred.states s ≡ false → is_attracted q barred set s ≡ false
+IsClosed q barred set = (s : ℕ) → s < states q → slice_index_or set s false ≡ false → barred.states s ≡ false
+    → is_attracted q barred set s ≡ false
 
 -- the attractor: it grew from the goals, and attracts no other state that is not barred
 pub record IsAttractor (q : Query) (barred : Barred) (set : List Bool) : Type 0 where

@@ -24,41 +24,51 @@ pub record IsOrder (members : List Bool) (order : List ℕ) : Type 0 where
   pub listed : (s : ℕ) → s < length members → slice_index_or members s false ≡ true → Contains order s
   pub few : length order ≡ count_by (λ b. b) members
 
--- a state of the minimiser waits for a choice: those before it serve, and where it is not barred it has not been followed
-pub record Awaits (q : Query) (barred : Barred) (followed : List Move) (members : List Bool) (s choice : ℕ) : Type 0 where
+-- a state of the minimiser waits for a choice: those before it serve, and where it is not barred it has not been
+-- followed
+pub record Awaits (q : Query) (barred : Barred) (followed : List Move) (members : List Bool)
+    (s choice : ℕ) : Type 0 where
   pub inside : choice < length (choices_of q.game s)
   pub before : (c : ℕ) → c < choice → serves barred members (choice_of q.game s c) ≡ true
   pub still : barred.choices (choice_of q.game s choice) ≡ false → ¬ Contains followed (move s choice)
 
 -- a state that is no member: no choice of the maximiser that is not barred has been followed
-pub record IsLeft (q : Query) (barred : Barred) (followed : List Move) (members : List Bool) (awaited : List ℕ) (s : ℕ) : Type 0 where
-  pub greatest : side_at q s ≡ Max → (c : ℕ) → c < length (choices_of q.game s) → barred.choices (choice_of q.game s c) ≡ false → ¬ Contains followed (move s c)
+pub record IsLeft (q : Query) (barred : Barred) (followed : List Move) (members : List Bool) (awaited : List ℕ)
+    (s : ℕ) : Type 0 where
+  pub greatest : side_at q s ≡ Max → (c : ℕ) → c < length (choices_of q.game s)
+      → barred.choices (choice_of q.game s c) ≡ false → ¬ Contains followed (move s c)
   pub least : side_at q s ≡ Min → Awaits q barred followed members s (slice_index awaited s)
 
 -- the set after these moves to members were followed
-pub record IsGrowth (q : Query) (barred : Barred) (followed : List Move) (members : List Bool) (awaited order : List ℕ) : Type 0 where
+pub record IsGrowth (q : Query) (barred : Barred) (followed : List Move) (members : List Bool)
+    (awaited order : List ℕ) : Type 0 where
   pub many : length members ≡ states q
   pub as_many : length awaited ≡ states q
   pub ordered : IsOrder members order
   pub grew : Grew q barred members
   pub leads : (s c : ℕ) → Contains followed (move s c) → meets members (choice_of q.game s c) ≡ true
-  pub left : (s : ℕ) → s < states q → slice_index_or members s false ≡ false → barred.states s ≡ false → IsLeft q barred followed members awaited s
+  pub left : (s : ℕ) → s < states q → slice_index_or members s false ≡ false → barred.states s ≡ false
+      → IsLeft q barred followed members awaited s
 
 -- each state of a set is in another
 abbrev pub IsLarger : List Bool → List Bool → Type 0
 IsLarger set more = (s : ℕ) → slice_index_or set s false ≡ true → slice_index_or more s false ≡ true
 
--- a state whose choices show that a set does not attract it: no choice of the maximiser serves, nor the one that the minimiser waits for
+-- a state whose choices show that a set does not attract it: no choice of the maximiser serves, nor the one that the
+-- minimiser waits for
 pub record IsTested (q : Query) (barred : Barred) (set : List Bool) (awaited : List ℕ) (s : ℕ) : Type 0 where
-  pub greatest : side_at q s ≡ Max → (c : ℕ) → c < length (choices_of q.game s) → serves barred set (choice_of q.game s c) ≡ false
+  pub greatest : side_at q s ≡ Max → (c : ℕ) → c < length (choices_of q.game s)
+      → serves barred set (choice_of q.game s c) ≡ false
   pub least : side_at q s ≡ Min → serves barred set (choice_of q.game s (slice_index awaited s)) ≡ false
 
 -- each state that is neither a member nor barred was tested against an older set
 abbrev pub AreTested : Query → Barred → List Bool → List Bool → List ℕ → ℕ → Type 0
-AreTested q barred old members awaited upto = (s : ℕ) → s < upto → slice_index_or members s false ≡ false → barred.states s ≡ false → IsTested q barred old awaited s
+AreTested q barred old members awaited upto = (s : ℕ) → s < upto → slice_index_or members s false ≡ false
+    → barred.states s ≡ false → IsTested q barred old awaited s
 
 -- the moves to more members of the order were followed
-pub record IsAdvanced (q : Query) (barred : Barred) (lists : List (List Move)) (place next : ℕ) (members : List Bool) (awaited order : List ℕ) : Type 0 where
+pub record IsAdvanced (q : Query) (barred : Barred) (lists : List (List Move)) (place next : ℕ) (members : List Bool)
+    (awaited order : List ℕ) : Type 0 where
   pub further : place < next
   pub within : next ≤ length order
   pub grown : IsGrowth q barred (moves_into lists (take next order)) members awaited order

@@ -18,8 +18,8 @@ use std::alloc::Global;
 /// tested instead. So there are at most as many passes over all states.
 const SHARE: usize = 16;
 
-/// The attractor of the goals, with chance on the maximiser's side, over the predecessors in the question's game. The only error is want of
-/// memory.
+/// The attractor of the goals, with chance on the maximiser's side, over the predecessors in the question's game. The
+/// only error is want of memory.
 pub fn attractor_of<S: Bars>(
     alloc: Global,
     question: &Question,
@@ -50,8 +50,11 @@ fn advance<S: Bars>(
     requires lists { ArePredecessors question.now.game predecessors.now }
     requires fits { S.fits bars.now question.now }
     requires place { place < length growth.old.order.items }
-    requires grown { IsGrowth question.now (S.barred bars.now question.now) (moves_into predecessors.now (take place growth.old.order.items)) growth.old.members.items growth.old.awaited.items growth.old.order.items }
-    ensures { IfOk result (λ next. IsAdvanced question.now (S.barred bars.now question.now) predecessors.now place next growth.new.members.items growth.new.awaited.items growth.new.order.items) }
+    requires grown { IsGrowth question.now (S.barred bars.now question.now)
+        (moves_into predecessors.now (take place growth.old.order.items)) growth.old.members.items
+        growth.old.awaited.items growth.old.order.items }
+    ensures { IfOk result (λ next. IsAdvanced question.now (S.barred bars.now question.now) predecessors.now place next
+        growth.new.members.items growth.new.awaited.items growth.new.order.items) }
 {
     question.known();
     let end = growth.order.len();
@@ -74,9 +77,13 @@ fn go_back<S: Bars>(
     requires lists { ArePredecessors question.now.game predecessors.now }
     requires fits { S.fits bars.now question.now }
     requires place { place < length growth.old.order.items }
-    requires grown { IsGrowth question.now (S.barred bars.now question.now) (moves_into predecessors.now (take place growth.old.order.items)) growth.old.members.items growth.old.awaited.items growth.old.order.items }
+    requires grown { IsGrowth question.now (S.barred bars.now question.now)
+        (moves_into predecessors.now (take place growth.old.order.items)) growth.old.members.items
+        growth.old.awaited.items growth.old.order.items }
     ensures longer { OnOk result (IsLonger growth.old.order.items growth.new.order.items) }
-    ensures grown { OnOk result (IsGrowth question.now (S.barred bars.now question.now) (moves_into predecessors.now (take (place + 1) growth.new.order.items)) growth.new.members.items growth.new.awaited.items growth.new.order.items) }
+    ensures grown { OnOk result (IsGrowth question.now (S.barred bars.now question.now)
+        (moves_into predecessors.now (take (place + 1) growth.new.order.items)) growth.new.members.items
+        growth.new.awaited.items growth.new.order.items) }
 {
     let member = growth.order[place];
     for step in predecessors.of_state(member) {
@@ -88,11 +95,14 @@ fn go_back<S: Bars>(
 /// Tests each state that is no member.
 fn test_all<S: Bars>(question: &Question, bars: &S, growth: &mut Growth) -> Result<(), OutOfMemory>
     requires fits { S.fits bars.now question.now }
-    requires grown { IsGrowth question.now (S.barred bars.now question.now) [] growth.old.members.items growth.old.awaited.items growth.old.order.items }
+    requires grown { IsGrowth question.now (S.barred bars.now question.now)
+        [] growth.old.members.items growth.old.awaited.items growth.old.order.items }
     ensures longer { OnOk result (IsLonger growth.old.order.items growth.new.order.items) }
     ensures larger { OnOk result (IsLarger growth.old.members.items growth.new.members.items) }
-    ensures grows { OnOk result (IsGrowth question.now (S.barred bars.now question.now) [] growth.new.members.items growth.new.awaited.items growth.new.order.items) }
-    ensures tested { OnOk result (AreTested question.now (S.barred bars.now question.now) growth.old.members.items growth.new.members.items growth.new.awaited.items (states question.now)) }
+    ensures grows { OnOk result (IsGrowth question.now (S.barred bars.now question.now)
+        [] growth.new.members.items growth.new.awaited.items growth.new.order.items) }
+    ensures tested { OnOk result (AreTested question.now (S.barred bars.now question.now) growth.old.members.items
+        growth.new.members.items growth.new.awaited.items (states question.now)) }
 {
     for state in 0..question.game().states() {
         growth.test(question, bars, state)?;

@@ -25,7 +25,8 @@ pub struct Growth {
 impl Growth {
     /// The goals alone.
     pub fn of_goals(alloc: Global, question: &Question) -> Result<Growth, OutOfMemory>
-        ensures { IfOk result (λ g. (barred : Barred) → IsGrowth question.now barred [] g.members.items g.awaited.items g.order.items) }
+        ensures { IfOk result (λ g. (barred : Barred) → IsGrowth question.now barred
+            [] g.members.items g.awaited.items g.order.items) }
     {
         question.known();
         let states = question.game().states();
@@ -59,8 +60,10 @@ impl Growth {
         requires awaited { length self.old.awaited.items ≡ states question.now }
         requires leads { LeadsIn question.now.game self.old.members.items step }
         ensures longer { OnOk result (IsLonger self.old.order.items self.new.order.items) }
-        ensures grows { OnOk result ((followed : List Move) → IsGrowth question.now (S.barred bars.now question.now) followed self.old.members.items self.old.awaited.items self.old.order.items
-            → IsGrowth question.now (S.barred bars.now question.now) (followed ++ step ∷ []) self.new.members.items self.new.awaited.items self.new.order.items) }
+        ensures grows { OnOk result ((followed : List Move) → IsGrowth question.now
+            (S.barred bars.now question.now) followed self.old.members.items self.old.awaited.items self.old.order.items
+            → IsGrowth question.now (S.barred bars.now question.now)
+            (followed ++ step ∷ []) self.new.members.items self.new.awaited.items self.new.order.items) }
     {
         question.known();
         let state = step.state as usize;
@@ -103,12 +106,18 @@ impl Growth {
     ) -> Result<(), OutOfMemory>
         requires fits { S.fits bars.now question.now }
         requires state { state < states question.now }
-        requires grown { IsGrowth question.now (S.barred bars.now question.now) [] self.old.members.items self.old.awaited.items self.old.order.items }
+        requires grown { IsGrowth question.now (S.barred bars.now question.now)
+            [] self.old.members.items self.old.awaited.items self.old.order.items }
         ensures longer { OnOk result (IsLonger self.old.order.items self.new.order.items) }
-        ensures grows { OnOk result (IsGrowth question.now (S.barred bars.now question.now) [] self.new.members.items self.new.awaited.items self.new.order.items) }
+        ensures grows { OnOk result (IsGrowth question.now (S.barred bars.now question.now)
+            [] self.new.members.items self.new.awaited.items self.new.order.items) }
         ensures larger { OnOk result (IsLarger self.old.members.items self.new.members.items) }
-        ensures others { OnOk result ((s : ℕ) → s ≢ state → slice_index self.new.awaited.items s ≡ slice_index self.old.awaited.items s) }
-        ensures tested { OnOk result (slice_index_or self.new.members.items state false ≡ false → (S.barred bars.now question.now).states state ≡ false → IsTested question.now (S.barred bars.now question.now) self.old.members.items self.new.awaited.items state) }
+        ensures others { OnOk result ((s : ℕ) → s ≢ state → slice_index self.new.awaited.items s
+            ≡ slice_index self.old.awaited.items s) }
+        ensures tested { OnOk result (slice_index_or self.new.members.items state false ≡ false
+            → (S.barred bars.now question.now).states state ≡ false
+            → IsTested question.now (S.barred bars.now question.now) self.old.members.items self.new.awaited.items
+            state) }
     {
         question.known();
         let place = state as usize;

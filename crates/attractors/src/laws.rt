@@ -13,5 +13,6 @@ pub fn attractors_are_least()
 
 /// So there is only one.
 pub fn attractors_are_one()
-    ensures { (q : Query) (barred : Barred) (set other : List Bool) → IsAttractor q barred set → IsAttractor q barred other → set ≡ other }
+    ensures { (q : Query) (barred : Barred) (set other : List Bool) → IsAttractor q barred set
+        → IsAttractor q barred other → set ≡ other }
 {}

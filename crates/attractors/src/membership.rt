@@ -25,8 +25,10 @@ pub fn first_unserved<S: Bars>(
     requires many { length set.now ≡ states question.now }
     ensures from { from ≤ result }
     ensures within { result ≤ length (choices_of question.now.game state) }
-    ensures before { (c : ℕ) → from ≤ c → c < result → serves (S.barred bars.now question.now) set.now (choice_of question.now.game state c) ≡ true }
-    ensures first { result < length (choices_of question.now.game state) → serves (S.barred bars.now question.now) set.now (choice_of question.now.game state result) ≡ false }
+    ensures before { (c : ℕ) → from ≤ c → c < result
+        → serves (S.barred bars.now question.now) set.now (choice_of question.now.game state c) ≡ true }
+    ensures first { result < length (choices_of question.now.game state)
+        → serves (S.barred bars.now question.now) set.now (choice_of question.now.game state result) ≡ false }
 {
     let count = question.game().choices_of(state);
     for choice in from..count {

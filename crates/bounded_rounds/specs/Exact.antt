@@ -16,7 +16,8 @@ exact_from q opening (suc k) s =
 abbrev pub next_numerator : Query → (ℕ → Bool) → ℕ → ℕ
 next_numerator q holds s =
     optimum (side_at q s)
-    (λ choice. denominator q.game / choice.total * sum_by (λ e. if holds e.to then e.weight else 0) choice.edges) (choices_of q.game s)
+    (λ choice. denominator q.game / choice.total * sum_by (λ e. if holds e.to then e.weight else 0) choice.edges)
+    (choices_of q.game s)
 
 -- no state is a goal or dead, and the opening table is the unit at these states, else 0
 pub record IsNext (q : Query) (opening : ℕ → ℕ) (holds : ℕ → Bool) : Type 0 where

@@ -15,13 +15,17 @@ pub record IsBoundsTable (q : Query) (table : List Bounds) : Type 0 where
   pub many : length table ≡ states q
   pub units : All AreUnits table
 
--- the first entries of a part are the steps of so many states in a row from this one on, in units. Where nothing changed they are also the entries of the table
+-- the first entries of a part are the steps of so many states in a row from this one on, in units. Where nothing
+-- changed they are also the entries of the table
 pub record IsStretch (step table : ℕ → ℕ) (first count : ℕ) (part : List ℕ) (changed : Bool) : Type 0 where
   pub values : (k : ℕ) → k < count → slice_index part k ≡ step (first + k)
   pub units : (k : ℕ) → k < count → slice_index part k ≤ unit
   pub same : changed ≡ false → (k : ℕ) → k < count → slice_index part k ≡ table (first + k)
 
 -- the steps of both bounds at so many states in a row from this one on
-pub record IsStepped (q : Query) (table : List Bounds) (first count : ℕ) (next : List Bounds) (changed : Bool) : Type 0 where
-  pub down : IsStretch (down_step q (slice_index (lowers table))) (slice_index (lowers table)) first count (lowers next) changed
-  pub up : IsStretch (up_step q (slice_index (uppers table))) (slice_index (uppers table)) first count (uppers next) changed
+pub record IsStepped (q : Query) (table : List Bounds) (first count : ℕ) (next : List Bounds)
+    (changed : Bool) : Type 0 where
+  pub down : IsStretch (down_step q (slice_index (lowers table))) (slice_index (lowers table)) first count
+      (lowers next) changed
+  pub up : IsStretch (up_step q (slice_index (uppers table))) (slice_index (uppers table)) first count
+      (uppers next) changed

@@ -20,7 +20,8 @@ pub fn limits()
 /// Two sweeps of as many steps from the same table are the same, whatever their schedules and their numbers of workers.
 pub fn sweeps_agree()
     ensures { (q : Query) (table : ℕ → ℕ) (k : ℕ) (lower upper other_lower other_upper : List ℕ) →
-        IsSweep q table k lower upper → IsSweep q table k other_lower other_upper → (lower ≡ other_lower) × (upper ≡ other_upper) }
+        IsSweep q table k lower upper → IsSweep q table k other_lower other_upper
+        → (lower ≡ other_lower) × (upper ≡ other_upper) }
 {}
 
 /// Tables that are equal at all states have the same sweeps.
@@ -56,12 +57,15 @@ pub fn one_step_is_the_next_value()
 /// A sweep of k steps from the opening table of iteration brackets the k-step values, within k units.
 pub fn bounded_values_are_bracketed()
     ensures { (q : Query) (k : ℕ) (lower upper : List ℕ) → IsQuery q → IsSweep q (opening q) k lower upper →
-        (s : ℕ) → s < states q → IsBracketed k (denominator q.game ^ k) (slice_index lower s) (slice_index upper s) (unit * numerator q k s) }
+        (s : ℕ) → s < states q → IsBracketed k (denominator q.game ^ k) (slice_index lower s) (slice_index upper s)
+        (unit * numerator q k s) }
 {}
 
 /// Without goals and dead states, a sweep of one step from the unit at some states and 0 elsewhere brackets the
 /// probability that one of those is next, within one unit.
 pub fn next_values_are_bracketed()
-    ensures { (q : Query) (table : ℕ → ℕ) (holds : ℕ → Bool) (lower upper : List ℕ) → IsQuery q → IsNext q table holds → IsSweep q table 1 lower upper →
-        (s : ℕ) → s < states q → IsBracketed 1 (denominator q.game) (slice_index lower s) (slice_index upper s) (unit * next_numerator q holds s) }
+    ensures { (q : Query) (table : ℕ → ℕ) (holds : ℕ → Bool) (lower upper : List ℕ) → IsQuery q → IsNext q table holds
+        → IsSweep q table 1 lower upper →
+        (s : ℕ) → s < states q → IsBracketed 1 (denominator q.game) (slice_index lower s) (slice_index upper s)
+        (unit * next_numerator q holds s) }
 {}

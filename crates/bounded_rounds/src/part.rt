@@ -41,8 +41,8 @@ pub fn step_part<G: Gate>(
     changed
 }
 
-/// Reads the entries of the successors of a stretch of states, so that the memory fetches them at once. No entry is above
-/// the unit, so it answers no; since it answers, the compiler keeps the reads.
+/// Reads the entries of the successors of a stretch of states, so that the memory fetches them at once. No entry is
+/// above the unit, so it answers no; since it answers, the compiler keeps the reads.
 fn look_ahead(tables: Tables<'_>, from: u32, to: u32) -> bool
     requires order { from ≤ to }
     requires inside { to ≤ states tables.question.now }
@@ -98,10 +98,13 @@ fn step_stretch<G: Gate>(
 /// The step of both bounds of a state, and whether one of them is not the entry there.
 fn step_state(tables: Tables<'_>, state: u32) -> (Bounds, bool)
     requires { state < states tables.question.now }
-    ensures down { result.0.lower ≡ down_step tables.entry.question.now (slice_index (lowers tables.entry.table.now)) state }
-    ensures up { result.0.upper ≡ up_step tables.entry.question.now (slice_index (uppers tables.entry.table.now)) state }
+    ensures down { result.0.lower ≡ down_step tables.entry.question.now
+        (slice_index (lowers tables.entry.table.now)) state }
+    ensures up { result.0.upper ≡ up_step tables.entry.question.now
+        (slice_index (uppers tables.entry.table.now)) state }
     ensures units { AreUnits result.0 }
-    ensures same { result.1 ≡ false → (result.0.lower ≡ slice_index (lowers tables.entry.table.now) state) × (result.0.upper ≡ slice_index (uppers tables.entry.table.now) state) }
+    ensures same { result.1 ≡ false → (result.0.lower ≡ slice_index (lowers tables.entry.table.now) state)
+        × (result.0.upper ≡ slice_index (uppers tables.entry.table.now) state) }
 {
     let bounds = step_bounds(tables.question, state, tables.table);
     let old = tables.table[state as usize];

@@ -29,13 +29,13 @@ pub struct Sweep {
     pub upper: Vec<u64>,
 }
 
-/// The tables after exactly so many steps from an opening table: down steps for the lower one, up steps for the upper one.
-/// They are the same for every number of workers and every schedule. With no steps both are the opening table. The only
-/// error is want of memory.
+/// The tables after exactly so many steps from an opening table: down steps for the lower one, up steps for the upper
+/// one. They are the same for every number of workers and every schedule. With no steps both are the opening table. The
+/// only error is want of memory.
 ///
-/// Each step reads one table of bounds and writes another. Where W workers take part, worker w has the states from w times
-/// the number of states over W, rounded up, and passes the gate before each of them. All workers take part in the first
-/// step; later on there are fewer where the game is small.
+/// Each step reads one table of bounds and writes another. Where W workers take part, worker w has the states from w
+/// times the number of states over W, rounded up, and passes the gate before each of them. All workers take part in the
+/// first step; later on there are fewer where the game is small.
 pub fn bounded<R: Threads + Sync, G: Gate + Sync>(
     rt: &R,
     alloc: Global,
@@ -49,8 +49,10 @@ pub fn bounded<R: Threads + Sync, G: Gate + Sync>(
     requires units { All (λ v. v ≤ unit) opening.now }
     requires steps { steps ≤ most_steps }
     requires workers { (1 ≤ workers) × (workers ≤ most_workers) }
-    ensures sweep { IfOk result (λ sweep. IsSweep question.now (slice_index opening.now) steps sweep.lower.items sweep.upper.items) }
-    ensures units { IfOk result (λ sweep. All (λ v. v ≤ unit) sweep.lower.items × All (λ v. v ≤ unit) sweep.upper.items) }
+    ensures sweep { IfOk result (λ sweep. IsSweep question.now
+        (slice_index opening.now) steps sweep.lower.items sweep.upper.items) }
+    ensures units { IfOk result (λ sweep. All (λ v. v ≤ unit) sweep.lower.items
+        × All (λ v. v ≤ unit) sweep.upper.items) }
 {
     let first = open(alloc, opening)?;
     let spare = open(alloc, opening)?;
@@ -71,8 +73,7 @@ fn open(alloc: Global, opening: &[u64]) -> Result<Vec<Bounds>, AllocError>
         .collect(alloc)
 }
 
-/// The lower bounds, or the upper ones.
-/// The bounds as a lower and an upper table.
+// The bounds as a lower and an upper table.
 fn parted(alloc: Global, table: &[Bounds]) -> Result<Sweep, AllocError>
     ensures lower { IfOk result (λ sweep. sweep.lower.items ≡ lowers table.now) }
     ensures upper { IfOk result (λ sweep. sweep.upper.items ≡ uppers table.now) }
@@ -82,7 +83,8 @@ fn parted(alloc: Global, table: &[Bounds]) -> Result<Sweep, AllocError>
     Ok(Sweep { lower, upper })
 }
 
-/// The steps, from one table to the other and back. A step that changes nothing is the last: so are all steps behind it.
+/// The steps, from one table to the other and back. A step that changes nothing is the last: so are all steps behind
+/// it.
 fn iterate<R: Threads + Sync, G: Gate + Sync>(
     rt: &R,
     question: &Question,
@@ -96,7 +98,8 @@ fn iterate<R: Threads + Sync, G: Gate + Sync>(
     requires same { uppers table.items ≡ lowers table.items }
     requires next { length next.items ≡ states question.now }
     requires workers { 1 ≤ workers }
-    ensures sweep { IsSweep question.now (slice_index (lowers table.items)) steps (lowers result.items) (uppers result.items) }
+    ensures sweep { IsSweep question.now (slice_index (lowers table.items)) steps (lowers result.items)
+        (uppers result.items) }
     ensures units { All AreUnits result.items }
 {
     question.known();

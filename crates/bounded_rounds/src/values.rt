@@ -13,8 +13,8 @@ use game_outside::{Gate, OutOfMemory};
 use std::alloc::{AllocError, Global};
 use std::thread::Threads;
 
-/// What [`bounded`] gives from the table that iteration opens with, of which k exact steps are the k-step values. The only error
-/// is want of memory.
+/// What [`bounded`] gives from the table that iteration opens with, of which k exact steps are the k-step values. The
+/// only error is want of memory.
 pub fn bounded_values<R: Threads + Sync, G: Gate + Sync>(
     rt: &R,
     alloc: Global,
@@ -25,8 +25,10 @@ pub fn bounded_values<R: Threads + Sync, G: Gate + Sync>(
 ) -> Result<Sweep, OutOfMemory>
     requires steps { steps ≤ most_steps }
     requires workers { (1 ≤ workers) × (workers ≤ most_workers) }
-    ensures sweep { IfOk result (λ sweep. IsSweep question.now (opening question.now) steps sweep.lower.items sweep.upper.items) }
-    ensures units { IfOk result (λ sweep. All (λ v. v ≤ unit) sweep.lower.items × All (λ v. v ≤ unit) sweep.upper.items) }
+    ensures sweep { IfOk result (λ sweep. IsSweep question.now
+        (opening question.now) steps sweep.lower.items sweep.upper.items) }
+    ensures units { IfOk result (λ sweep. All (λ v. v ≤ unit) sweep.lower.items
+        × All (λ v. v ≤ unit) sweep.upper.items) }
 {
     question.known();
     let table = opening_of(alloc, question)?;
@@ -37,7 +39,8 @@ pub fn bounded_values<R: Threads + Sync, G: Gate + Sync>(
 fn opening_of(alloc: Global, question: &Question) -> Result<Vec<u64>, AllocError>
     ensures many { IfOk result (λ table. length table.items ≡ states question.now) }
     ensures units { IfOk result (λ table. All (λ v. v ≤ unit) table.items) }
-    ensures each { IfOk result (λ table. (s : ℕ) → s < states question.now → slice_index table.items s ≡ opening question.now s) }
+    ensures each { IfOk result (λ table. (s : ℕ) → s < states question.now
+        → slice_index table.items s ≡ opening question.now s) }
 {
     let states = question.game().states();
     let mut table = Vec::with_capacity(alloc, states as usize)?;

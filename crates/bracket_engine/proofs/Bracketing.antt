@@ -25,7 +25,7 @@ use Rattle.rpatl_syntax.specs.declared.formula.Bound.{Bound}
 use Rattle.verdicts.specs.Verdict.{is_asking}
 use Rattle.verdicts.proofs.Staying.{settled-on}
 use Rattle.bracket_engine.specs.declared.stopping.SettlingGuess.{SettlingGuess}
-use Rattle.bracket_engine.specs.Stop.{AreSettledAt, upper_from, with_kept, IsSettlingGuess, IsUpper, IsUpperFrom}
+use Rattle.bracket_engine.specs.Stop.{AreSettledAt, EndsWhereSettled, upper_from, with_kept, IsSettlingGuess, IsUpper, IsUpperFrom}
 use Rattle.bracket_engine.specs.Bracket.{IsBracket, IsCloseBelow, IsNarrow, IsSweptAbove, IsLeastSettled}
 use Rattle.bracket_engine.specs.declared.race.Ended.{Ended}
 use Rattle.marked_rounds.specs.Rounds.{IsRaced}
@@ -145,9 +145,9 @@ module _ (q : Query) (zero_set : List Bool) (words swapped_words lower swapped_v
         subst (λ k. slice_index upper s ≡ upper_from (slice_index swapped_values) (with_kept k (slice_index over.guess)) s) is (over.each s there) in
         settled-on bound (slice_index lower s) (slice_index lower s) (upper_from (slice_index swapped_values) (slice_index one.guess.items) s) (slice_index upper s) (le_refl _) (omega (arith, each)) (settles.settles i d within)
 
-    IsBracket-raced : (is_asking bound ≡ true → kept ≡ None) → rounds ≤ asked → (rounds < asked → (stable ≡ true) ⊎ (is_some kept ≡ true))
+    IsBracket-raced : (is_asking bound ≡ true → kept ≡ None) → rounds ≤ asked → (rounds < asked → (stable ≡ true) ⊎ (is_some kept ≡ true)) → EndsWhereSettled q (swapped q zero_set) bound initial rounds
         → (stable ≡ true) ↔ (IsSettled q (slice_index lower) × IsSettled (swapped q zero_set) (slice_index swapped_values)) → IsBracket q zero_set bound initial asked lower upper rounds stable
-    IsBracket-raced none few early settled =
+    IsBracket-raced none few early in_time settled =
         let chosen : AreChoicesOf q.game (choices_of q.game) = AreChoicesOf-choices_of q.game h.posed.game in
         let run : IsRun q (slice_index lower) rounds = IsRun-raced q words lower rounds h.raced h.lower_is in
         let swapped_run : IsRun (swapped q zero_set) (slice_index swapped_values) rounds = IsRun-raced (swapped q zero_set) swapped_words swapped_values rounds h.swapped_raced h.swapped_values_are in
@@ -180,6 +180,7 @@ module _ (q : Query) (zero_set : List Bool) (words swapped_words lower swapped_v
             | inr past ↦ inr (subst (λ (n : ℕ). IsNarrow q zero_set n (slice_index lower) (slice_index upper)) (let same : rounds ≡ asked = omega arith in same) narrow)
           ];
           early = ended;
+          in_time = in_time;
           settled = settled;
           least = λ is. IsLeastSettled-run q (slice_index lower) rounds h.posed run (settled.0 is).0;
           swapped_least = λ is. IsLeastSettled-run (swapped q zero_set) (slice_index swapped_values) rounds h.swapped_posed swapped_run (settled.0 is).1;
@@ -214,6 +215,7 @@ module _ (q swapped_question : Query) (zero_set : List Bool) (bound : Bound) (in
   IsBracket-over upper stable inside from settled =
       IsBracket-raced q zero_set words swapped_words lower swapped_values upper ended.rounds ended.kept AreTables-over from bound initial asked stable inside kept-over over.none over.few
       (λ less. elim (over.early less) [ inl is ↦ inl (settled.1 (rests-over is)) | inr some ↦ inr some ])
+      (subst (λ (p : Query). EndsWhereSettled q p bound initial ended.rounds) same over.in_time)
       (subst (λ (p : Query). (stable ≡ true) ↔ (IsSettled q (slice_index lower) × IsSettled p (slice_index swapped_values))) same settled)
 
 -- what was kept is a guess, and inductive

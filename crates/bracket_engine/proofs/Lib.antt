@@ -4,3 +4,4 @@ pub mod ClosedChoices
 pub mod Guessed
 pub mod Rests
 pub mod Uppers
+pub mod Ending

@@ -1,4 +1,5 @@
--- What a run of rounds gives: a sound lower table, the base, and a sound upper table, and how near they are to the values of r steps. The swapped values are lower bounds of the swapped question.
+-- What a run of rounds gives: a sound lower table, the base, and a sound upper table, and how near they are to the
+-- values of r steps. The swapped values are lower bounds of the swapped question.
 use Rattle.std.specs.Prelude.{◌≡◌, ℕ, ◌+◌, ◌-◌, ◌*◌, ◌^◌, ◌<◌, ◌≤◌, ◌↔◌, ◌⊎◌, Bool, true, List, length, All, map, min, slice_index, Option, None, IfSome}
 use Rattle.game_model.specs.Query.{Query, states}
 use Rattle.game_model.specs.Values.{denominator, numerator}
@@ -9,7 +10,7 @@ use Rattle.game_model.specs.Bounds.{IsLow, IsHigh}
 use Rattle.rpatl_syntax.specs.declared.formula.Bound.{Bound}
 use Rattle.verdicts.specs.Verdict.{is_asking}
 use Rattle.bracket_engine.specs.declared.stopping.SettlingGuess.{SettlingGuess}
-use Rattle.bracket_engine.specs.Stop.{AreSettledAt, IsSettlingGuess, IsUpperFrom}
+use Rattle.bracket_engine.specs.Stop.{AreSettledAt, EndsWhereSettled, IsSettlingGuess, IsUpperFrom}
 
 -- at most r units below the r-step values
 abbrev pub IsCloseBelow : Query → ℕ → (ℕ → ℕ) → Type 0
@@ -30,7 +31,8 @@ IsSweptAbove q zero r table = (s : ℕ) → s < states q → down_steps (swapped
 
 -- at most r units above the values of not being lost after r steps
 abbrev pub IsCloseAbove : Query → List Bool → ℕ → (ℕ → ℕ) → Type 0
-IsCloseAbove q zero r table = (s : ℕ) → s < states q → table s * denominator q.game ^ r ≤ unit * open_numerator q zero r s + r * denominator q.game ^ r
+IsCloseAbove q zero r table = (s : ℕ) → s < states q
+    → table s * denominator q.game ^ r ≤ unit * open_numerator q zero r s + r * denominator q.game ^ r
 
 -- the least table that is nowhere below the opening table and has no down value above its entry
 pub record IsLeastSettled (q : Query) (table : ℕ → ℕ) : Type 0 where
@@ -38,28 +40,33 @@ pub record IsLeastSettled (q : Query) (table : ℕ → ℕ) : Type 0 where
   pub settled : IsSettled q table
   pub least : (other : ℕ → ℕ) → IsBelow q (opening q) other → IsSettled q other → IsBelow q table other
 
--- how near tables of bounds are to the values: the lower one is nowhere below r down steps, and the upper one at most the unit less those of the swapped question
+-- how near tables of bounds are to the values: the lower one is nowhere below r down steps, and the upper one at most
+-- the unit less those of the swapped question
 pub record IsNarrow (q : Query) (zero : List Bool) (r : ℕ) (lower upper : ℕ → ℕ) : Type 0 where
   pub swept : IsBelow q (down_steps q r) lower
   pub near : IsCloseBelow q r lower
   pub swept_above : IsSweptAbove q zero r upper
   pub near_above : IsCloseAbove q zero r upper
 
--- lower bounds of the swapped question: sound, and between the down steps of the completed rounds and those of all their updates
+-- lower bounds of the swapped question: sound, and between the down steps of the completed rounds and those of all
+-- their updates
 pub record AreSwappedValues (q : Query) (zero : List Bool) (rounds : ℕ) (values : List ℕ) : Type 0 where
   pub units : (s : ℕ) → s < states q → slice_index values s ≤ unit
   pub low : IsLow (swapped q zero) (slice_index values)
   pub swept : IsBelow (swapped q zero) (down_steps (swapped q zero) rounds) (slice_index values)
   pub within : IsBelow (swapped q zero) (slice_index values) (down_steps (swapped q zero) (rounds * states q))
 
--- a bracket of a question with this zero set, after this many completed rounds of those that were asked for, unless the threshold was settled at the initial states before
-pub record IsBracket (q : Query) (zero : List Bool) (bound : Bound) (initial : List ℕ) (asked : ℕ) (base upper : List ℕ) (rounds : ℕ) (stable : Bool) : Type 0 where
+-- a bracket of a question with this zero set, after this many completed rounds of those that were asked for, unless the
+-- threshold was settled at the initial states before
+pub record IsBracket (q : Query) (zero : List Bool) (bound : Bound) (initial : List ℕ) (asked : ℕ) (base upper : List ℕ)
+    (rounds : ℕ) (stable : Bool) : Type 0 where
   pub base_length : length base ≡ states q
   pub base_units : All (λ v. v ≤ unit) base
   -- the bounds are sound
   pub low : IsLow q (slice_index base)
   pub high : IsHigh q (slice_index upper)
-  -- the upper table is inductive, and the least of the unit less the swapped values, of the first guess over the base, and of a guess that was kept, if any
+  -- the upper table is inductive, and the least of the unit less the swapped values, of the first guess over the base,
+  -- and of a guess that was kept, if any
   pub swapped_values : List ℕ
   pub swapped_bounds : AreSwappedValues q zero rounds swapped_values
   pub kept : Option SettlingGuess
@@ -70,12 +77,17 @@ pub record IsBracket (q : Query) (zero : List Bool) (bound : Bound) (initial : L
   -- the base is within the down steps of all updates of the completed rounds, one a state
   pub few : rounds ≤ asked
   pub within : IsBelow q (slice_index base) (down_steps q (rounds * states q))
-  -- the tables are as near as the completed rounds make them, and as the asked ones, unless each initial state is settled
+  -- the tables are as near as the completed rounds make them, and as the asked ones, unless each initial state is
+  -- settled
   pub narrow : IsNarrow q zero rounds (slice_index base) (slice_index upper)
-  pub narrow_asked : AreSettledAt bound initial (slice_index base) (slice_index upper) ⊎ IsNarrow q zero asked (slice_index base) (slice_index upper)
+  pub narrow_asked : AreSettledAt bound initial (slice_index base) (slice_index upper)
+      ⊎ IsNarrow q zero asked (slice_index base) (slice_index upper)
   -- the run ends early only where both tables are settled, or each initial state is
   pub early : rounds < asked → (stable ≡ true) ⊎ AreSettledAt bound initial (slice_index base) (slice_index upper)
-  pub settled : (stable ≡ true) ↔ (IsSettled q (slice_index base) × IsSettled (swapped q zero) (slice_index swapped_values))
+  -- and it does so in time
+  pub in_time : EndsWhereSettled q (swapped q zero) bound initial rounds
+  pub settled : (stable ≡ true) ↔ (IsSettled q (slice_index base)
+      × IsSettled (swapped q zero) (slice_index swapped_values))
   -- tables that are settled are the least settled ones
   pub least : stable ≡ true → IsLeastSettled q (slice_index base)
   pub swapped_least : stable ≡ true → IsLeastSettled (swapped q zero) (slice_index swapped_values)

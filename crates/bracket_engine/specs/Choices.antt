@@ -10,7 +10,8 @@ use Rattle.step_core.specs.Events.{on_side}
 -- the choice of a word, where a plan needs one
 abbrev pub choice_of_word : Query → ℕ → ℕ → Option ℕ
 choice_of_word q s word =
-    if is_goal q s || is_dead q s then None else on_side (side_at q s) (if value_in word == 0 then None else Some (choice_in word)) None
+    if is_goal q s || is_dead q s then None else on_side (side_at q s)
+    (if value_in word == 0 then None else Some (choice_in word)) None
 
 -- a choice for each state, and none at a goal, a dead state, a state of the minimiser and one of value 0
 pub record AreChoices (q : Query) (lower : List ℕ) (choices : List (Option ℕ)) : Type 0 where
@@ -20,7 +21,8 @@ pub record AreChoices (q : Query) (lower : List ℕ) (choices : List (Option ℕ
   pub none_at_least : (s : ℕ) → s < states q → side_at q s ≡ Min → slice_index_or choices s None ≡ None
   pub none_at_zero : (s : ℕ) → s < states q → slice_index lower s ≡ 0 → slice_index_or choices s None ≡ None
 
--- the layered ranks of a lower table and choices; the maximiser who plays these reaches it, less any 1/m, within some horizon
+-- the layered ranks of a lower table and choices; the maximiser who plays these reaches it, less any 1/m, within some
+-- horizon
 pub record AreRanks (q : Query) (lower : List ℕ) (choices : List (Option ℕ)) (ranks : List ℕ) : Type 0 where
   pub ranked : Ranked q lower choices ranks
   pub layered : AreLayered q lower choices ranks

@@ -9,7 +9,8 @@ use Rattle.bracket_engine.specs.Choices.{AreChoices, AreRanks}
 use Rattle.bracket_engine.specs.Replies.{AreRepliesTo}
 
 -- a bracket of a question with this zero set, after at most so many rounds
-pub record IsFound (q : Query) (zero : List Bool) (bound : Bound) (initial : List ℕ) (asked : ℕ) (found : Bracket) : Type 0 where
+pub record IsFound (q : Query) (zero : List Bool) (bound : Bound) (initial : List ℕ) (asked : ℕ)
+    (found : Bracket) : Type 0 where
   pub bounds : IsBracket q zero bound initial asked found.base.items found.upper.items found.rounds found.stable
   pub lower : IsLowerTable q zero found.base.items found.lower.items found.choices.items found.ranks.items
   pub choices : AreChoices q found.lower.items found.choices.items

@@ -6,8 +6,10 @@ use Rattle.game_model.specs.Rounded.{IsBelow}
 use Rattle.game_model.specs.Bounds.{IsNear}
 use Rattle.rank_certificate.specs.LowerGuess.{IsLowerGuess}
 
--- k-step values come as near to the lower table as one likes, and it is nowhere below the base: it is the lower guess of the base, with the choices and the ranks that vouch for it
-pub record IsLowerTable (q : Query) (zero : List Bool) (base lower : List ℕ) (choices : List (Option ℕ)) (ranks : List ℕ) : Type 0 where
+-- k-step values come as near to the lower table as one likes, and it is nowhere below the base: it is the lower guess
+-- of the base, with the choices and the ranks that vouch for it
+pub record IsLowerTable (q : Query) (zero : List Bool) (base lower : List ℕ) (choices : List (Option ℕ))
+    (ranks : List ℕ) : Type 0 where
   pub as_many : length lower ≡ states q
   pub units : All (λ v. v ≤ unit) lower
   pub near : IsNear q (slice_index lower)

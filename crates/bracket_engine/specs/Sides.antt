@@ -16,6 +16,7 @@ pub record IsLowerSide (q : Query) (zero : List Bool) (base : List ℕ) (side : 
   pub ranks : AreRanks q side.values.items side.plan.choices.items side.plan.ranks.items
 
 -- an upper table from a base, swapped values and a guess that was kept, if any, and the replies to it
-pub record IsUpperSide (q : Query) (zero : List Bool) (base swapped_value : ℕ → ℕ) (kept : Option SettlingGuess) (side : UpperSide) : Type 0 where
+pub record IsUpperSide (q : Query) (zero : List Bool) (base swapped_value : ℕ → ℕ) (kept : Option SettlingGuess)
+    (side : UpperSide) : Type 0 where
   pub upper : IsUpperFrom q zero base swapped_value kept side.table.items
   pub replies : AreRepliesTo q side.table.items side.replies.items

@@ -1,16 +1,25 @@
 -- What may end a run before its rounds: a guess that settles the threshold at the initial states.
-use Rattle.std.specs.Prelude.{◌≡◌, ℕ, ◌-◌, ◌<◌, ◌≤◌, Bool, true, List, length, All, Option, Some, None, min, slice_index}
+use Rattle.std.specs.Prelude.{◌≡◌, ℕ, ◌-◌, ◌<◌, ◌≤◌, Bool, true, false, List, length, All, Option, Some, None, min, slice_index}
+use Rattle.std.specs.Int.{is_power_of_two}
 use Rattle.game_model.specs.Limits.{unit}
 use Rattle.game_model.specs.Query.{Query, states}
-use Rattle.game_model.specs.Rounded.{IsBelow, IsInductive}
+use Rattle.game_model.specs.Rounded.{down_steps, IsBelow, IsInductive}
 use Rattle.rpatl_syntax.specs.declared.formula.Bound.{Bound}
-use Rattle.verdicts.specs.Verdict.{verdict_of, is_settling}
+use Rattle.verdicts.specs.Verdict.{verdict_of, is_settling, is_asking}
 use Rattle.upper_guess.specs.Guess.{IsFirstGuess}
 use Rattle.bracket_engine.specs.declared.stopping.SettlingGuess.{SettlingGuess}
 
 -- lower and upper bounds settle the threshold at each of these states
 abbrev pub AreSettledAt : Bound → List ℕ → (ℕ → ℕ) → (ℕ → ℕ) → Type 0
 AreSettledAt bound initial lower upper = All (λ s. is_settling (verdict_of bound (lower s) (upper s)) ≡ true) initial
+
+-- A run of so many rounds goes on no longer than it has to: where it sets a threshold it is over by the first of the
+-- rounds 1, 2, 4, 8 and so on after which as many down steps of its question and of the swapped one settle that at each
+-- of these states.
+abbrev pub EndsWhereSettled : Query → Query → Bound → List ℕ → ℕ → Type 0
+EndsWhereSettled q swapped_question bound initial rounds =
+    is_asking bound ≡ false → (r : ℕ) → is_power_of_two r ≡ true
+    → AreSettledAt bound initial (down_steps q r) (λ s. unit - down_steps swapped_question r s) → rounds ≤ r
 
 -- the lesser of the unit less a swapped value and of a guess
 abbrev pub upper_from : (ℕ → ℕ) → (ℕ → ℕ) → ℕ → ℕ
@@ -22,8 +31,10 @@ pub record IsUpper (q : Query) (table : List ℕ) : Type 0 where
   pub units : All (λ v. v ≤ unit) table
   pub inductive : IsInductive q (slice_index table)
 
--- a guess over lower bounds that are nowhere above these; with these and the swapped values it settles the threshold at the initial states
-pub record IsSettlingGuess (q : Query) (zero : List Bool) (bound : Bound) (initial : List ℕ) (lower swapped_value : ℕ → ℕ) (kept : SettlingGuess) : Type 0 where
+-- a guess over lower bounds that are nowhere above these; with these and the swapped values it settles the threshold at
+-- the initial states
+pub record IsSettlingGuess (q : Query) (zero : List Bool) (bound : Bound) (initial : List ℕ)
+    (lower swapped_value : ℕ → ℕ) (kept : SettlingGuess) : Type 0 where
   pub below : IsBelow q (slice_index kept.lower.items) lower
   pub first : IsFirstGuess q zero (slice_index kept.lower.items) kept.guess.items
   pub upper : IsUpper q kept.guess.items
@@ -35,15 +46,18 @@ with_kept None guess s = guess s
 with_kept (Some kept) guess s = min (guess s) (slice_index kept.guess.items s)
 
 -- the lesser of the guess over lower bounds and of the one that was kept, if any
-pub record IsLeastGuess (q : Query) (zero : List Bool) (lower : ℕ → ℕ) (kept : Option SettlingGuess) (least : List ℕ) : Type 0 where
+pub record IsLeastGuess (q : Query) (zero : List Bool) (lower : ℕ → ℕ) (kept : Option SettlingGuess)
+    (least : List ℕ) : Type 0 where
   pub guess : List ℕ
   pub first : IsFirstGuess q zero lower guess
   pub each : (s : ℕ) → s < states q → slice_index least s ≡ with_kept kept (slice_index guess) s
   pub upper : IsUpper q least
 
 -- the least of the unit less the swapped values, of the guess over lower bounds, and of the one that was kept, if any
-pub record IsUpperFrom (q : Query) (zero : List Bool) (lower swapped_value : ℕ → ℕ) (kept : Option SettlingGuess) (upper : List ℕ) : Type 0 where
+pub record IsUpperFrom (q : Query) (zero : List Bool) (lower swapped_value : ℕ → ℕ) (kept : Option SettlingGuess)
+    (upper : List ℕ) : Type 0 where
   pub guess : List ℕ
   pub first : IsFirstGuess q zero lower guess
-  pub each : (s : ℕ) → s < states q → slice_index upper s ≡ upper_from swapped_value (with_kept kept (slice_index guess)) s
+  pub each : (s : ℕ) → s < states q → slice_index upper s ≡ upper_from swapped_value
+      (with_kept kept (slice_index guess)) s
   pub table : IsUpper q upper

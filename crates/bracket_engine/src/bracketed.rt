@@ -28,8 +28,8 @@ pub struct Bracketed {
     pub bracket: Bracket,
 }
 
-/// The zero set of a question, and the bracket of [`bracket_over`](crate::bracket_over), whose run may end where the bound is
-/// settled at each initial state. The only error is want of memory.
+/// The zero set of a question, and the bracket of [`bracket_over`](crate::bracket_over), whose run may end where the
+/// bound is settled at each initial state. The only error is want of memory.
 pub fn bracket_for<R: Threads + Sync, G: Gate + Sync>(
     rt: &R,
     alloc: Global,

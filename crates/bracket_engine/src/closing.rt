@@ -26,8 +26,8 @@ use std::alloc::Global;
 use std::thread::Threads;
 use team_tables::Team;
 
-/// The bracket of two races that are over: the tables, and the strategies for them. The swapped question and the swapped words are
-/// let go once they are read.
+/// The bracket of two races that are over: the tables, and the strategies for them. The swapped question and the
+/// swapped words are let go once they are read.
 pub fn bracket_of<F: Fn(u64, u64) -> bool, R: Threads + Sync>(
     team: &Team<'_, R>,
     alloc: Global,
@@ -39,11 +39,15 @@ pub fn bracket_of<F: Fn(u64, u64) -> bool, R: Threads + Sync>(
     requires zero { IsZeroSet ending.now.question.now ending.now.zero.now }
     requires initial { All (λ s. s < states ending.now.question.now) ending.now.initial.now }
     requires swapped_question { swapped_question ≡ swapped ending.now.question.now ending.now.zero.now }
-    requires asked { (asked : _) × AreOver ending.now.question.now swapped_question ending.now.zero.now (bound_of ending.now.rule.now) ending.now.initial.now asked raced.words raced.swapped_words raced.ended }
+    requires asked { (asked : _) × AreOver ending.now.question.now swapped_question ending.now.zero.now
+        (bound_of ending.now.rule.now) ending.now.initial.now asked raced.words raced.swapped_words raced.ended }
     requires lists { ArePredecessors ending.now.question.now.game predecessors.now }
-    ensures bounds { (asked : _) → AreOver ending.now.question.now swapped_question.entry ending.now.zero.now (bound_of ending.now.rule.now) ending.now.initial.now asked raced.words raced.swapped_words raced.ended
-        → IfOk result (λ b. IsBracket ending.now.question.now ending.now.zero.now (bound_of ending.now.rule.now) ending.now.initial.now asked b.base.items b.upper.items b.rounds b.stable) }
-    ensures lower { IfOk result (λ b. IsLowerTable ending.now.question.now ending.now.zero.now b.base.items b.lower.items b.choices.items b.ranks.items) }
+    ensures bounds { (asked : _) → AreOver ending.now.question.now swapped_question.entry ending.now.zero.now
+        (bound_of ending.now.rule.now) ending.now.initial.now asked raced.words raced.swapped_words raced.ended
+        → IfOk result (λ b. IsBracket ending.now.question.now ending.now.zero.now
+        (bound_of ending.now.rule.now) ending.now.initial.now asked b.base.items b.upper.items b.rounds b.stable) }
+    ensures lower { IfOk result (λ b. IsLowerTable ending.now.question.now ending.now.zero.now b.base.items
+        b.lower.items b.choices.items b.ranks.items) }
     ensures choices { IfOk result (λ b. AreChoices ending.now.question.now b.lower.items b.choices.items) }
     ensures ranks { IfOk result (λ b. AreRanks ending.now.question.now b.lower.items b.choices.items b.ranks.items) }
     ensures replies { IfOk result (λ b. AreRepliesTo ending.now.question.now b.upper.items b.replies.items) }
@@ -106,8 +110,10 @@ fn is_stable(
     requires units { All (λ v. v ≤ unit) base.now }
     requires swapped_values { length swapped_values.now ≡ states swapped_question.now }
     requires swapped_units { All (λ v. v ≤ unit) swapped_values.now }
-    requires rests { rests ≡ true → IsSettled question.now (slice_index base.now) × IsSettled swapped_question.now (slice_index swapped_values.now) }
-    ensures { (result ≡ true) ↔ (IsSettled question.now (slice_index base.now) × IsSettled swapped_question.now (slice_index swapped_values.now)) }
+    requires rests { rests ≡ true → IsSettled question.now (slice_index base.now)
+        × IsSettled swapped_question.now (slice_index swapped_values.now) }
+    ensures { (result ≡ true) ↔ (IsSettled question.now (slice_index base.now)
+        × IsSettled swapped_question.now (slice_index swapped_values.now)) }
 {
     rests || (settled(question, base) && settled(swapped_question, swapped_values))
 }

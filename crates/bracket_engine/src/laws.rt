@@ -19,14 +19,19 @@ pub fn limits()
 /// Two runs of one question that settle have the same base, whatever their schedules, their numbers of workers
 /// and the rounds that were asked for.
 pub fn settled_bases_agree()
-    ensures { (q : Query) (zero other_zero : List Bool) (bound other_bound : Bound) (initial other_initial : List ℕ) (asked other_asked : ℕ) (base upper other other_upper : List ℕ) (rounds other_rounds : ℕ)
-        → IsBracket q zero bound initial asked base upper rounds true → IsBracket q other_zero other_bound other_initial other_asked other other_upper other_rounds true → base ≡ other }
+    ensures { (q : Query) (zero other_zero : List Bool) (bound other_bound : Bound) (initial other_initial : List ℕ)
+        (asked other_asked : ℕ) (base upper other other_upper : List ℕ) (rounds other_rounds : ℕ)
+        → IsBracket q zero bound initial asked base upper rounds true
+        → IsBracket q other_zero other_bound other_initial other_asked other other_upper other_rounds true
+        → base ≡ other }
 {}
 
 /// Lower tables of the same base are the same.
 pub fn lower_tables_agree()
-    ensures { (q : Query) (zero : List Bool) (base lower other : List ℕ) (choices other_choices : List (Option ℕ)) (ranks other_ranks : List ℕ)
-        → IsLowerTable q zero base lower choices ranks → IsLowerTable q zero base other other_choices other_ranks → lower ≡ other }
+    ensures { (q : Query) (zero : List Bool) (base lower other : List ℕ) (choices other_choices : List (Option ℕ))
+        (ranks other_ranks : List ℕ)
+        → IsLowerTable q zero base lower choices ranks → IsLowerTable q zero base other other_choices other_ranks
+        → lower ≡ other }
 {
     one_lower_table();
 }
@@ -34,7 +39,10 @@ pub fn lower_tables_agree()
 /// Two runs of one question that settle have the same upper bounds, whatever their schedules, their numbers of workers
 /// and the rounds that were asked for, where both ask for a value.
 pub fn settled_upper_bounds_agree()
-    ensures { (q : Query) (zero : List Bool) (bound other_bound : Bound) (initial other_initial : List ℕ) (asked other_asked : ℕ) (base upper other_base other : List ℕ) (rounds other_rounds : ℕ)
+    ensures { (q : Query) (zero : List Bool) (bound other_bound : Bound) (initial other_initial : List ℕ)
+        (asked other_asked : ℕ) (base upper other_base other : List ℕ) (rounds other_rounds : ℕ)
         → is_asking bound ≡ true → is_asking other_bound ≡ true
-        → IsBracket q zero bound initial asked base upper rounds true → IsBracket q zero other_bound other_initial other_asked other_base other other_rounds true → upper ≡ other }
+        → IsBracket q zero bound initial asked base upper rounds true
+        → IsBracket q zero other_bound other_initial other_asked other_base other other_rounds true
+        → upper ≡ other }
 {}

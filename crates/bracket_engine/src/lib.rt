@@ -3,10 +3,11 @@
 //!
 //! [`bracket`] is value iteration from below with the Bellman operator rounded down, by rounds of workers
 //! that race on shared words (Baier and Katoen 2008, chapter 10; asynchronous iteration after Bertsekas
-//! 1982). A round updates only states that may rise (`marked_rounds`). What it ensures holds for every schedule and number of workers. It ends after the asked rounds, where
-//! both tables are settled, or where a guess settles the rule at the initial states. It says nothing of how near the two tables
-//! come to each other beyond the values of as many steps, nor that two workers ran at once, nor that a run ends as early as it may.
-//! [`bracket_over`] gives the same over lists of predecessors that the caller has, and [`bracket_for`] for a bound, with the zero set.
+//! 1982). A round updates only states that may rise (`marked_rounds`). What it ensures holds for every schedule and
+//! number of workers. It ends after the asked rounds, where both tables are settled, or where a guess settles the rule
+//! at the initial states. It says nothing of how near the two tables come to each other beyond the values of as many
+//! steps, nor that two workers ran at once, nor that a run ends as early as it may. [`bracket_over`] gives the same
+//! over lists of predecessors that the caller has, and [`bracket_for`] for a bound, with the zero set.
 #![tactic(auto)]
 
 mod bounds;

@@ -16,9 +16,9 @@ use rank_certificate::{LowerGuess, lower_guess_over};
 use std::alloc::Global;
 use value_words::Words;
 
-/// The lower guess of the base, the values of these words, with the maximiser's choices and ranks that vouch for it. Where
-/// no guess is accepted, the choices are those that the words name. The words are let go once these are read. The lists are
-/// the predecessors in the question's game, and the marks its zero set.
+/// The lower guess of the base, the values of these words, with the maximiser's choices and ranks that vouch for it.
+/// Where no guess is accepted, the choices are those that the words name. The words are let go once these are read. The
+/// lists are the predecessors in the question's game, and the marks its zero set.
 pub fn lower_side(
     alloc: Global,
     question: &Question,

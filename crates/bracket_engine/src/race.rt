@@ -11,7 +11,7 @@ ghost use Rattle.game_model.specs.Dual.{IsZeroSet};
 ghost use Rattle.marked_rounds.specs.Agenda.{read_of};
 ghost use Rattle.marked_rounds.specs.Rounds.{IsRacing};
 ghost use Rattle.bracket_engine.specs.Race.{AreOver};
-ghost use Rattle.bracket_engine.specs.Stop.{IsSettlingGuess};
+ghost use Rattle.bracket_engine.specs.Stop.{EndsWhereSettled, IsSettlingGuess};
 
 use crate::stopping::{Ending, SettlingGuess};
 use game_model::Question;
@@ -47,8 +47,8 @@ pub struct Ended {
 }
 
 /// Runs at most `most` rounds on the words of both questions, over the predecessors in their game, each of at most so
-/// many workers. It ends earlier where a round changed nothing on either: then the words of both are settled; or where a
-/// guess, whose tables the team fills, settles the threshold at each initial state.
+/// many workers. It ends earlier where a round changed nothing on either: then the words of both are settled; or where
+/// a guess, whose tables the team fills, settles the threshold at each initial state.
 pub fn race<
     R: Threads + Sync,
     P: Posing + Send + Sync,
@@ -75,7 +75,8 @@ pub fn race<
     requires lists { ArePredecessors ending.now.question.now.game predecessors.now }
     requires some { 1 ≤ workers }
     requires few { workers ≤ most_workers }
-    ensures { IfOk result (λ raced. AreOver P.posed C.posed ending.now.zero.now (bound_of ending.now.rule.now) ending.now.initial.now most raced.words raced.swapped_words raced.ended) }
+    ensures { IfOk result (λ raced. AreOver P.posed C.posed ending.now.zero.now
+        (bound_of ending.now.rule.now) ending.now.initial.now most raced.words raced.swapped_words raced.ended) }
 {
     let question = ending.question;
     question.known();
@@ -136,10 +137,14 @@ fn run_rounds<
     ensures few { IfOk result (λ r. r.2.rounds ≤ most) }
     ensures lower { IfOk result (λ r. IsRacing P.posed r.2.rounds r.0.pass r.0.agenda) }
     ensures swapped_runner { IfOk result (λ r. IsRacing C.posed r.2.rounds r.1.pass r.1.agenda) }
-    ensures rests { IfOk result (λ r. r.2.rests ≡ true → IsSettled P.posed (read_of r.0.agenda) × IsSettled C.posed (read_of r.1.agenda)) }
-    ensures kept { IfOk result (λ r. IfSome r.2.kept (IsSettlingGuess P.posed ending.now.zero.now (bound_of ending.now.rule.now) ending.now.initial.now (read_of r.0.agenda) (read_of r.1.agenda))) }
+    ensures rests { IfOk result (λ r. r.2.rests ≡ true → IsSettled P.posed (read_of r.0.agenda)
+        × IsSettled C.posed (read_of r.1.agenda)) }
+    ensures kept { IfOk result (λ r. IfSome r.2.kept (IsSettlingGuess P.posed ending.now.zero.now
+        (bound_of ending.now.rule.now) ending.now.initial.now (read_of r.0.agenda) (read_of r.1.agenda))) }
     ensures none { is_asking (bound_of ending.now.rule.now) ≡ true → IfOk result (λ r. r.2.kept ≡ None) }
     ensures early { IfOk result (λ r. r.2.rounds < most → (r.2.rests ≡ true) ⊎ (is_some r.2.kept ≡ true)) }
+    ensures in_time { IfOk result (λ r. EndsWhereSettled P.posed C.posed
+        (bound_of ending.now.rule.now) ending.now.initial.now r.2.rounds) }
 {
     ending.question.known();
     let mut witnesses = Witnesses::none();

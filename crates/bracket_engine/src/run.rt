@@ -32,12 +32,12 @@ pub const MOST_ROUNDS: u32 = 1_000_000;
 
 /// The bracket after at most this many rounds, each of at most so many workers, who pass the gate before each
 /// state. A round is one on the lower table and then one on the swapped values, which are lower bounds of the
-/// swapped question. The run ends before where both are settled, or where after 1, 2, 4, 8 and so on rounds the lower bounds and
-/// the lesser of a guess over them and of the unit less the swapped values settle the rule at each initial state. At the end the
-/// base is the last lower table, and the lower table is its lower guess: a value that is met in the limit alone, which no
-/// number of rounds reaches, is found by it. The upper table is the least of the unit less the swapped values, of the
-/// guess over the base and of the one that ended the run. The marks are the question's zero set. The only
-/// error is want of memory.
+/// swapped question. The run ends before where both are settled, or where after 1, 2, 4, 8 and so on rounds the lower
+/// bounds and the lesser of a guess over them and of the unit less the swapped values settle the rule at each initial
+/// state. At the end the base is the last lower table, and the lower table is its lower guess: a value that is met in
+/// the limit alone, which no number of rounds reaches, is found by it. The upper table is the least of the unit less
+/// the swapped values, of the guess over the base and of the one that ended the run. The marks are the question's zero
+/// set. The only error is want of memory.
 pub fn bracket<R: Threads + Sync, F: Fn(u64, u64) -> bool, G: Gate + Sync>(
     rt: &R,
     alloc: Global,
@@ -55,8 +55,10 @@ pub fn bracket<R: Threads + Sync, F: Fn(u64, u64) -> bool, G: Gate + Sync>(
     requires few { workers ≤ most_workers }
     requires stop { IsStopRule F.Fn stop.now }
     requires initial { All (λ s. s < states question.now) initial.now }
-    ensures bounds { IfOk result (λ b. IsBracket question.now zero.now (bound_of stop.now) initial.now rounds b.base.items b.upper.items b.rounds b.stable) }
-    ensures lower { IfOk result (λ b. IsLowerTable question.now zero.now b.base.items b.lower.items b.choices.items b.ranks.items) }
+    ensures bounds { IfOk result (λ b. IsBracket question.now zero.now
+        (bound_of stop.now) initial.now rounds b.base.items b.upper.items b.rounds b.stable) }
+    ensures lower { IfOk result (λ b. IsLowerTable question.now zero.now b.base.items b.lower.items b.choices.items
+        b.ranks.items) }
     ensures choices { IfOk result (λ b. AreChoices question.now b.lower.items b.choices.items) }
     ensures ranks { IfOk result (λ b. AreRanks question.now b.lower.items b.choices.items b.ranks.items) }
     ensures replies { IfOk result (λ b. AreRepliesTo question.now b.upper.items b.replies.items) }
@@ -97,8 +99,10 @@ pub fn bracket_over<R: Threads + Sync, F: Fn(u64, u64) -> bool, G: Gate + Sync>(
     requires few { workers ≤ most_workers }
     requires stop { IsStopRule F.Fn stop.now }
     requires initial { All (λ s. s < states question.now) initial.now }
-    ensures bounds { IfOk result (λ b. IsBracket question.now zero.now (bound_of stop.now) initial.now rounds b.base.items b.upper.items b.rounds b.stable) }
-    ensures lower { IfOk result (λ b. IsLowerTable question.now zero.now b.base.items b.lower.items b.choices.items b.ranks.items) }
+    ensures bounds { IfOk result (λ b. IsBracket question.now zero.now
+        (bound_of stop.now) initial.now rounds b.base.items b.upper.items b.rounds b.stable) }
+    ensures lower { IfOk result (λ b. IsLowerTable question.now zero.now b.base.items b.lower.items b.choices.items
+        b.ranks.items) }
     ensures choices { IfOk result (λ b. AreChoices question.now b.lower.items b.choices.items) }
     ensures ranks { IfOk result (λ b. AreRanks question.now b.lower.items b.choices.items b.ranks.items) }
     ensures replies { IfOk result (λ b. AreRepliesTo question.now b.upper.items b.replies.items) }

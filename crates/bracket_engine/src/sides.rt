@@ -25,8 +25,8 @@ use std::thread::{Threads, join};
 use team_tables::Team;
 use value_words::Words;
 
-/// Both sides over a base, the values of these words. Where the team has several workers, one of them makes the lower side
-/// while the others make the upper one. One worker makes one after the other, and costs no thread.
+/// Both sides over a base, the values of these words. Where the team has several workers, one of them makes the lower
+/// side while the others make the upper one. One worker makes one after the other, and costs no thread.
 pub fn both_sides<R: Threads + Sync>(
     team: &Team<'_, R>,
     alloc: Global,
@@ -46,9 +46,11 @@ pub fn both_sides<R: Threads + Sync>(
     requires units { All (λ v. v ≤ unit) base.now }
     requires swapped_values { length swapped_values.items ≡ states question.now }
     requires unlost { IsInductive question.now (λ s. unit - slice_index swapped_values.items s) }
-    requires kept { IfSome kept (λ kept. IsFirstGuess question.now zero.now (slice_index kept.lower.items) kept.guess.items × IsUpper question.now kept.guess.items) }
+    requires kept { IfSome kept (λ kept. IsFirstGuess question.now zero.now
+        (slice_index kept.lower.items) kept.guess.items × IsUpper question.now kept.guess.items) }
     ensures lower { IfOk result (λ sides. IsLowerSide question.now zero.now base.now sides.0) }
-    ensures upper { IfOk result (λ sides. IsUpperSide question.now zero.now (slice_index base.now) (slice_index swapped_values.items) kept sides.1) }
+    ensures upper { IfOk result (λ sides. IsUpperSide question.now zero.now (slice_index base.now)
+        (slice_index swapped_values.items) kept sides.1) }
 {
     if team.workers == 1 {
         let lower = lower_side(alloc, question, zero, predecessors, words, base)?;
@@ -131,7 +133,8 @@ struct LowerJob<'a> {
 impl Job for LowerJob<'_> {
     type Made = Result<LowerGuess, OutOfMemory>;
 
-    ghost can_run = { λ j. IsZeroSet j.question.now j.zero.now × ArePredecessors j.question.now.game j.predecessors.now × AreSoundWords j.question.now j.words × (j.base.now ≡ values_of j.words) };
+    ghost can_run = { λ j. IsZeroSet j.question.now j.zero.now × ArePredecessors j.question.now.game j.predecessors.now
+        × AreSoundWords j.question.now j.words × (j.base.now ≡ values_of j.words) };
 
     ghost gives = { λ j made. IfOk made (λ side. IsLowerSide j.question.now j.zero.now j.base.now side) };
 
@@ -164,9 +167,15 @@ impl<R: Threads + Sync> Job for UpperJob<'_, R> {
     type Made = Result<UpperSide, OutOfMemory>;
 
     // The team shares what starts threads.
-    ghost can_run = { λ j. IsSync R.row × IsZeroSet j.question.now j.zero.now × (length j.base.now ≡ states j.question.now) × All (λ v. v ≤ unit) j.base.now × (length j.swapped_values.items ≡ states j.question.now) × IsInductive j.question.now (λ s. unit - slice_index j.swapped_values.items s) × IfSome j.kept (λ kept. IsFirstGuess j.question.now j.zero.now (slice_index kept.lower.items) kept.guess.items × IsUpper j.question.now kept.guess.items) };
+    ghost can_run = { λ j. IsSync R.row × IsZeroSet j.question.now j.zero.now
+        × (length j.base.now ≡ states j.question.now) × All (λ v. v ≤ unit) j.base.now
+        × (length j.swapped_values.items ≡ states j.question.now)
+        × IsInductive j.question.now (λ s. unit - slice_index j.swapped_values.items s)
+        × IfSome j.kept (λ kept. IsFirstGuess j.question.now j.zero.now (slice_index kept.lower.items) kept.guess.items
+        × IsUpper j.question.now kept.guess.items) };
 
-    ghost gives = { λ j made. IfOk made (λ side. IsUpperSide j.question.now j.zero.now (slice_index j.base.now) (slice_index j.swapped_values.items) j.kept side) };
+    ghost gives = { λ j made. IfOk made (λ side. IsUpperSide j.question.now j.zero.now (slice_index j.base.now)
+        (slice_index j.swapped_values.items) j.kept side) };
 
     fn run(self) -> Result<UpperSide, OutOfMemory> {
         let UpperJob {

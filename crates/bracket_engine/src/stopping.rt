@@ -32,15 +32,16 @@ pub struct Ending<'a, F: Fn(u64, u64) -> bool> {
 }
 
 impl<F: Fn(u64, u64) -> bool> Ending<'_, F> {
-    ghost use Rattle.std.specs.Prelude.{◌↔◌, true, slice_index, IfOk, IfSome, None};
+    ghost use Rattle.std.specs.Prelude.{◌-◌, ◌↔◌, true, false, slice_index, IfOk, IfSome, None};
+    ghost use Rattle.std.specs.Int.{is_power_of_two};
     ghost use Rattle.upper_guess.specs.Guess.{AreWitnesses};
     ghost use Rattle.verdicts.specs.Verdict.{is_asking};
     ghost use Rattle.verdicts.specs.Stop.{bound_of, IsStopRule};
     ghost use Rattle.bracket_engine.specs.Stop.{AreSettledAt, upper_from, IsSettlingGuess};
 
-    /// The guess over lower bounds, after 1, 2, 4, 8 and so on rounds, where with the swapped values it settles the threshold
-    /// at each initial state. None is made where the bound asks for a value, since no rule could use it. The team fills its
-    /// tables.
+    /// The guess over lower bounds, after 1, 2, 4, 8 and so on rounds, where with the swapped values it settles the
+    /// threshold at each initial state; there is one after such a round where the values alone settle it. None is made
+    /// where the bound asks for a value, since no rule could use it. The team fills its tables.
     pub fn asked_after<R: Threads + Sync>(
         &self,
         team: &Team<'_, R>,
@@ -58,7 +59,13 @@ impl<F: Fn(u64, u64) -> bool> Ending<'_, F> {
         requires swapped_values { length swapped_values.now ≡ states self.now.question.now }
         requires witnesses { AreWitnesses self.now.question.now witnesses.old.states }
         ensures witnesses { AreWitnesses self.now.question.now witnesses.new.states }
-        ensures kept { IfOk result (λ found. IfSome found (IsSettlingGuess self.now.question.now self.now.zero.now (bound_of self.now.rule.now) self.now.initial.now (slice_index lower.now) (slice_index swapped_values.now))) }
+        ensures kept { IfOk result (λ found. IfSome found (IsSettlingGuess self.now.question.now self.now.zero.now
+            (bound_of self.now.rule.now) self.now.initial.now (slice_index lower.now)
+            (slice_index swapped_values.now))) }
+        ensures open { IfOk result (λ found. found ≡ None → is_asking (bound_of self.now.rule.now) ≡ false
+            → is_power_of_two rounds ≡ true
+            → ¬ AreSettledAt (bound_of self.now.rule.now) self.now.initial.now (slice_index lower.now)
+            (λ s. unit - slice_index swapped_values.now s)) }
         ensures asking { is_asking (bound_of self.now.rule.now) ≡ true → IfOk result (λ found. found ≡ None) }
     {
         if !self.rule.may_settle() || !rounds.is_power_of_two() {
@@ -84,7 +91,12 @@ impl<F: Fn(u64, u64) -> bool> Ending<'_, F> {
         requires swapped_values { length swapped_values.now ≡ states self.now.question.now }
         requires witnesses { AreWitnesses self.now.question.now witnesses.old.states }
         ensures witnesses { AreWitnesses self.now.question.now witnesses.new.states }
-        ensures kept { IfOk result (λ found. IfSome found (IsSettlingGuess self.now.question.now self.now.zero.now (bound_of self.now.rule.now) self.now.initial.now (slice_index lower.now) (slice_index swapped_values.now))) }
+        ensures kept { IfOk result (λ found. IfSome found (IsSettlingGuess self.now.question.now self.now.zero.now
+            (bound_of self.now.rule.now) self.now.initial.now (slice_index lower.now)
+            (slice_index swapped_values.now))) }
+        ensures open { IfOk result (λ found. found ≡ None → ¬ AreSettledAt
+            (bound_of self.now.rule.now) self.now.initial.now (slice_index lower.now)
+            (λ s. unit - slice_index swapped_values.now s)) }
     {
         let guess = guess_with(team, alloc, self.question, self.zero, lower, witnesses)?;
         if !self.settles(lower, swapped_values, &guess) {
@@ -102,7 +114,8 @@ impl<F: Fn(u64, u64) -> bool> Ending<'_, F> {
         requires lower_units { All (λ v. v ≤ unit) lower.now }
         requires swapped_values { length swapped_values.now ≡ states self.now.question.now }
         requires guess { length guess.now ≡ states self.now.question.now }
-        ensures { (result ≡ true) ↔ AreSettledAt (bound_of self.now.rule.now) self.now.initial.now (slice_index lower.now) (upper_from (slice_index swapped_values.now) (slice_index guess.now)) }
+        ensures { (result ≡ true) ↔ AreSettledAt (bound_of self.now.rule.now) self.now.initial.now
+            (slice_index lower.now) (upper_from (slice_index swapped_values.now) (slice_index guess.now)) }
     {
         for state in self.initial {
             let place = *state as usize;

@@ -55,7 +55,8 @@ pub fn choices_of_words(
 ) -> Result<Vec<Option<u32>>, OutOfMemory>
     requires { length words.now ≡ states question.now }
     ensures as_many { IfOk result (λ choices. length choices.items ≡ states question.now) }
-    ensures choices { IfOk result (λ choices. (s : ℕ) → s < states question.now → slice_index_or choices.items s None ≡ choice_of_word question.now s (slice_index words.now s)) }
+    ensures choices { IfOk result (λ choices. (s : ℕ) → s < states question.now
+        → slice_index_or choices.items s None ≡ choice_of_word question.now s (slice_index words.now s)) }
 {
     question.known();
     let mut choices = Vec::new(alloc);

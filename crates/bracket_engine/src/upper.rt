@@ -44,15 +44,18 @@ pub fn upper_side<R: Threads + Sync>(
     requires units { All (λ v. v ≤ unit) lower.now }
     requires swapped_values { length swapped_values.items ≡ states question.now }
     requires unlost { IsInductive question.now (λ s. unit - slice_index swapped_values.items s) }
-    requires kept { IfSome kept (λ kept. IsFirstGuess question.now zero.now (slice_index kept.lower.items) kept.guess.items × IsUpper question.now kept.guess.items) }
-    ensures { IfOk result (λ side. IsUpperSide question.now zero.now (slice_index lower.now) (slice_index swapped_values.items) kept side) }
+    requires kept { IfSome kept (λ kept. IsFirstGuess question.now zero.now
+        (slice_index kept.lower.items) kept.guess.items × IsUpper question.now kept.guess.items) }
+    ensures { IfOk result (λ side. IsUpperSide question.now zero.now (slice_index lower.now)
+        (slice_index swapped_values.items) kept side) }
 {
     let table = upper_table(team, alloc, question, zero, lower, swapped_values, kept)?;
     let replies = replies(alloc, question, &table)?;
     Ok(UpperSide { table, replies })
 }
 
-// The least of the unit less the swapped values, of the guess over the lower bounds, and of the one that was kept, if any.
+// The least of the unit less the swapped values, of the guess over the lower bounds, and of the one that was kept, if
+// any.
 fn upper_table<R: Threads + Sync>(
     team: &Team<'_, R>,
     alloc: Global,
@@ -67,8 +70,10 @@ fn upper_table<R: Threads + Sync>(
     requires units { All (λ v. v ≤ unit) lower.now }
     requires swapped_values { length swapped_values.items ≡ states question.now }
     requires unlost { IsInductive question.now (λ s. unit - slice_index swapped_values.items s) }
-    requires kept { IfSome kept (λ kept. IsFirstGuess question.now zero.now (slice_index kept.lower.items) kept.guess.items × IsUpper question.now kept.guess.items) }
-    ensures { IfOk result (λ upper. IsUpperFrom question.now zero.now (slice_index lower.now) (slice_index swapped_values.items) kept upper.items) }
+    requires kept { IfSome kept (λ kept. IsFirstGuess question.now zero.now
+        (slice_index kept.lower.items) kept.guess.items × IsUpper question.now kept.guess.items) }
+    ensures { IfOk result (λ upper. IsUpperFrom question.now zero.now (slice_index lower.now)
+        (slice_index swapped_values.items) kept upper.items) }
 {
     question.known();
     let unlost = rests(alloc, &swapped_values)?;
@@ -90,7 +95,8 @@ fn least_guess<R: Threads + Sync>(
     requires zero { IsZeroSet question.now zero.now }
     requires length { length lower.now ≡ states question.now }
     requires units { All (λ v. v ≤ unit) lower.now }
-    requires kept { IfSome kept (λ kept. IsFirstGuess question.now zero.now (slice_index kept.lower.items) kept.guess.items × IsUpper question.now kept.guess.items) }
+    requires kept { IfSome kept (λ kept. IsFirstGuess question.now zero.now
+        (slice_index kept.lower.items) kept.guess.items × IsUpper question.now kept.guess.items) }
     ensures { IfOk result (λ least. IsLeastGuess question.now zero.now (slice_index lower.now) kept least.items) }
 {
     question.known();

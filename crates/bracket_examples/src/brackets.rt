@@ -43,8 +43,10 @@ pub fn bracket_for<R: Threads + Sync>(
     requires some { 1 ≤ workers }
     requires few { workers ≤ most_workers }
     requires initial { All (λ s. s < states question.now) initial.now }
-    ensures bounds { IfOk result (λ b. IsBracket question.now zero.now bound initial.now rounds b.base.items b.upper.items b.rounds b.stable) }
-    ensures lower { IfOk result (λ b. IsLowerTable question.now zero.now b.base.items b.lower.items b.choices.items b.ranks.items) }
+    ensures bounds { IfOk result (λ b. IsBracket question.now zero.now bound initial.now rounds b.base.items
+        b.upper.items b.rounds b.stable) }
+    ensures lower { IfOk result (λ b. IsLowerTable question.now zero.now b.base.items b.lower.items b.choices.items
+        b.ranks.items) }
     ensures choices { IfOk result (λ b. AreChoices question.now b.lower.items b.choices.items) }
     ensures ranks { IfOk result (λ b. AreRanks question.now b.lower.items b.choices.items b.ranks.items) }
     ensures replies { IfOk result (λ b. AreRepliesTo question.now b.upper.items b.replies.items) }
@@ -78,8 +80,10 @@ pub fn value_bracket<R: Threads + Sync>(
     requires rounds { rounds ≤ most_rounds }
     requires some { 1 ≤ workers }
     requires few { workers ≤ most_workers }
-    ensures bounds { IfOk result (λ b. IsBracket question.now zero.now AskMax (0 ∷ []) rounds b.base.items b.upper.items b.rounds b.stable) }
-    ensures lower { IfOk result (λ b. IsLowerTable question.now zero.now b.base.items b.lower.items b.choices.items b.ranks.items) }
+    ensures bounds { IfOk result (λ b. IsBracket question.now zero.now AskMax
+        (0 ∷ []) rounds b.base.items b.upper.items b.rounds b.stable) }
+    ensures lower { IfOk result (λ b. IsLowerTable question.now zero.now b.base.items b.lower.items b.choices.items
+        b.ranks.items) }
     ensures choices { IfOk result (λ b. AreChoices question.now b.lower.items b.choices.items) }
     ensures ranks { IfOk result (λ b. AreRanks question.now b.lower.items b.choices.items b.ranks.items) }
     ensures replies { IfOk result (λ b. AreRepliesTo question.now b.upper.items b.replies.items) }
@@ -106,7 +110,8 @@ fn are_within(uppers: &[u64], swapped_values: &[u64]) -> bool {
             .all(|(upper, value)| *upper <= UNIT.saturating_sub(*value))
 }
 
-// Compares the bracket of one worker with the tables of plain sweeps after so many rounds; after two of them the guess too.
+// Compares the bracket of one worker with the tables of plain sweeps after so many rounds; after two of them the guess
+// too.
 fn agrees_with_the_tables<R: Threads + Sync>(
     rt: &R,
     alloc: Global,

@@ -32,8 +32,8 @@ fn are_the_lesser(uppers: &[u64], swapped_values: &[u64], guess: &[u64]) -> Resu
     Ok(())
 }
 
-/// Compares the guess over a table with the first of all full tables, and an upper table with the lesser of it and of the
-/// unit less the swapped values.
+/// Compares the guess over a table with the first of all full tables, and an upper table with the lesser of it and of
+/// the unit less the swapped values.
 pub fn agrees_with_the_plain_guess(
     alloc: Global,
     question: &Question<'_>,
@@ -93,8 +93,8 @@ fn makes_up_steps<R: Threads + Sync>(
     same(rounds, made, count)
 }
 
-// The guess makes exactly so many up steps: without an excess it takes two at the values of the coin loop, and after three
-// rounds the first table of the excess that reaches one half is accepted.
+// The guess makes exactly so many up steps: without an excess it takes two at the values of the coin loop, and after
+// three rounds the first table of the excess that reaches one half is accepted.
 #[test]
 fn guesses_of_the_coin_loop_make_so_many_up_steps(rt: HostRuntime) -> Result<(), Fail> {
     let alloc = rt.alloc();

@@ -29,8 +29,8 @@ pub struct Known {
     pub upper: Vec<u64>,
 }
 
-// The least number of units that is not below a part of a whole, digit by digit. None where ten times the part, or of what
-// is left of it, does not fit 128 bits.
+// The least number of units that is not below a part of a whole, digit by digit. None where ten times the part, or of
+// what is left of it, does not fit 128 bits.
 fn units_of(part: u128, whole: u128) -> Option<u128> {
     let mut units = 0_u128;
     let mut rest = part;

@@ -1,11 +1,13 @@
-//! Tests of brackets and of what is made of them, beside their clauses, over random and structured games: of thresholds,
-//! guesses and certificates.
+//! Tests of brackets and of what is made of them, beside their clauses, over random and structured games: of
+//! thresholds, guesses and certificates.
 #![tactic(auto)]
 
 #[cfg(test)]
 mod brackets;
 #[cfg(test)]
 mod certificates;
+#[cfg(test)]
+mod closing;
 #[cfg(test)]
 mod guesses;
 #[cfg(test)]

@@ -18,7 +18,8 @@ fn rank_of(ranks: &[Option<u32>], state: u32) -> Option<u32> {
     ranks.get(state as usize).copied().flatten()
 }
 
-// Whether a choice gives the value of its state, and has a successor of greater value, or one of equal value that has a rank.
+// Whether a choice gives the value of its state, and has a successor of greater value, or one of equal value that has a
+// rank.
 fn carries(
     question: &Question<'_>,
     values: &[u64],
@@ -73,8 +74,8 @@ fn suffice(question: &Question<'_>, state: u32, carrying: &[u32]) -> bool
     }
 }
 
-// The ranks with the next layer: of each state that is carried by the states before it. Of those of the maximiser the first
-// choice that does so is written down.
+// The ranks with the next layer: of each state that is carried by the states before it. Of those of the maximiser the
+// first choice that does so is written down.
 fn next_layer(
     alloc: Global,
     question: &Question<'_>,

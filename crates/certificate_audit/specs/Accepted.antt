@@ -4,8 +4,9 @@ use Rattle.game_model.specs.Query.{Query, states}
 use Rattle.game_model.specs.Limits.{unit}
 use Rattle.game_model.specs.Bounds.{IsHigh}
 use Rattle.game_model.specs.Rounded.{IsInductive}
-use Rattle.game_model.specs.Ranks.{Ranked, ReachesUnder}
-use Rattle.inductive_check.specs.Replies.{AreReplies, HoldsUnder}
+use Rattle.game_model.specs.Ranks.{Ranked}
+use Rattle.strategies.specs.Strategies.{HoldsAgainstAll, ReachesAgainstAll}
+use Rattle.inductive_check.specs.Replies.{AreReplies}
 use Rattle.plan_text.specs.declared.plan.Plan.{Plan}
 use Rattle.plan_text.specs.Entries.{HasStates, entries_of}
 use Rattle.plan_text.specs.Certificate.{IsCertificate}
@@ -27,8 +28,9 @@ pub record IsAccepted (q : Query) (text : List ℕ) (plan : Plan) : Type 0 where
   pub read : IsSaid q text plan
   pub passes : Passes q plan
 
--- what a plan vouches for: its upper table is above every k-step value, its replies hold every opponent to it, and its choices reach its lower table, less any 1/m
+-- what a plan vouches for: its upper table is above every k-step value, its replies hold every strategy of the
+-- maximiser to it, and its choices reach its lower table, less any 1/m, against every strategy of the minimiser
 pub record IsSoundPlan (q : Query) (plan : Plan) : Type 0 where
   pub high : IsHigh q (slice_index plan.upper.items)
-  pub held : HoldsUnder q plan.replies.items (slice_index plan.upper.items)
-  pub reached : ReachesUnder q plan.choices.items (slice_index plan.lower.items)
+  pub held : HoldsAgainstAll q plan.replies.items (slice_index plan.upper.items)
+  pub reached : ReachesAgainstAll q plan.choices.items (slice_index plan.lower.items)

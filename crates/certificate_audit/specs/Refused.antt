@@ -23,7 +23,8 @@ pub record IsReplyFault (q : Query) (plan : Plan) (fault : UpperFault) : Type 0 
   pub cause : fault.cause ≡ Reply
   pub first : IsFirstWithoutReply q (slice_index plan.upper.items) plan.replies.items fault.state
 
--- the upper table is inductive and the replies are held to it, and this is the fault of the lower table, choices and ranks
+-- the upper table is inductive and the replies are held to it, and this is the fault of the lower table, choices and
+-- ranks
 pub record IsLowerFault (q : Query) (plan : Plan) (fault : RankFault) : Type 0 where
   pub units : All (λ v. v ≤ unit) plan.upper.items
   pub inductive : IsInductive q (slice_index plan.upper.items)

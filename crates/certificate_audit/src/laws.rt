@@ -20,9 +20,12 @@ pub fn accepted_plans_are_sound()
 
 /// A text has one answer for a question: one fault, or no fault and the entries of one plan.
 pub fn audits_have_one_answer()
-    ensures fault { (q : Query) (text : List ℕ) (fault other : AuditFault) → IsRefused q text fault → IsRefused q text other → fault ≡ other }
-    ensures accepted { (q : Query) (text : List ℕ) (plan : Plan) (fault : AuditFault) → IsAccepted q text plan → ¬ IsRefused q text fault }
-    ensures entries { (q : Query) (text : List ℕ) (plan other : Plan) → IsAccepted q text plan → IsAccepted q text other → entries_of plan ≡ entries_of other }
+    ensures fault { (q : Query) (text : List ℕ) (fault other : AuditFault) → IsRefused q text fault
+        → IsRefused q text other → fault ≡ other }
+    ensures accepted { (q : Query) (text : List ℕ) (plan : Plan) (fault : AuditFault) → IsAccepted q text plan
+        → ¬ IsRefused q text fault }
+    ensures entries { (q : Query) (text : List ℕ) (plan other : Plan) → IsAccepted q text plan → IsAccepted q text other
+        → entries_of plan ≡ entries_of other }
 {}
 
 /// In a certificate of the first version a million times a million units are probability 1. It passes in those units
@@ -30,7 +33,8 @@ pub fn audits_have_one_answer()
 pub fn old_certificates_mean_what_they_meant()
     ensures lengths { (table : List ℕ) → length (thousandfold table) ≡ length table }
     ensures upper { (q : Query) (upper : List ℕ) → IsQuery q →
-        (All (λ v. v ≤ old_unit) upper × IsInductiveIn old_unit q (slice_index upper)) ↔ (All (λ v. v ≤ unit) (thousandfold upper) × IsInductive q (slice_index (thousandfold upper))) }
+        (All (λ v. v ≤ old_unit) upper × IsInductiveIn old_unit q (slice_index upper)) ↔
+        (All (λ v. v ≤ unit) (thousandfold upper) × IsInductive q (slice_index (thousandfold upper))) }
     ensures replies { (q : Query) (upper : List ℕ) (replies : List (Option ℕ)) →
         AreReplies q (slice_index upper) replies ↔ AreReplies q (slice_index (thousandfold upper)) replies }
     ensures ranked { (q : Query) (values : List ℕ) (choices : List (Option ℕ)) (ranks : List ℕ) →

@@ -9,8 +9,9 @@ use Rattle.command_words.specs.declared.words.AskedWords.{AskedWords}
 use Rattle.command_words.specs.declared.words.AuditWords.{AuditWords}
 use Rattle.command_words.specs.declared.words.CheckWords.{CheckWords}
 use Rattle.command_words.specs.declared.words.MakeWords.{MakeWords}
-use Rattle.command_words.specs.Grammar.{FindsIn, audit_app, check_app, make_app, sure_app, value_in, value_of}
-use Rattle.command_words.specs.Words.{Asked, Audit, Check, Make, AreAuditWords, AreCheckWords, AreMakeWords, AreSureWords, AreInRange, IsMakeInRange, SayAsked, SayAudit, SayCheck, SayMake, asked_of_words, audit_of, check_of, make_of}
+use Rattle.command_words.specs.declared.words.SolveWords.{SolveWords}
+use Rattle.command_words.specs.Grammar.{FindsIn, audit_app, check_app, make_app, solve_app, sure_app, value_in, value_of}
+use Rattle.command_words.specs.Words.{Asked, Audit, Check, Make, Solve, AreAuditWords, AreCheckWords, AreMakeWords, AreSolveWords, AreSureWords, AreInRange, IsMakeInRange, SayAsked, SayAudit, SayCheck, SayMake, SaySolve, asked_of_words, audit_of, check_of, make_of, solve_of}
 use Rattle.command_words.proofs.Ranges.{check_in_range, make_in_range}
 
 -- the values that were found are those that the words give
@@ -37,6 +38,16 @@ audit_denoted command m words None same found none = λ audit are.
 audit_denoted command m words (Some audit) same found said = record {
   taken = subst (λ (a : App). fault_of a words ≡ []) same found.no_fault;
   said = subst (λ (value : Text → Option Text). SayAudit value (audit_of audit)) (values_found audit_app command words m same found) said;
+}
+
+pub solve_denoted : (command : Command) (m : ArgMatches) (words : List Text) (read : Option SolveWords) → app_of command ≡ solve_app → FindsIn command words m
+    → MatchOption read ((solve : Solve) → SaySolve (value_in m) solve → ⊥) (λ solve. SaySolve (value_in m) (solve_of solve))
+    → MatchOption read ((solve : Solve) → AreSolveWords words solve → ⊥) (λ solve. AreSolveWords words (solve_of solve))
+solve_denoted command m words None same found none = λ solve are.
+    none solve (subst (λ (value : Text → Option Text). SaySolve value solve) (sym (values_found solve_app command words m same found)) are.said)
+solve_denoted command m words (Some solve) same found said = record {
+  taken = subst (λ (a : App). fault_of a words ≡ []) same found.no_fault;
+  said = subst (λ (value : Text → Option Text). SaySolve value (solve_of solve)) (values_found solve_app command words m same found) said;
 }
 
 pub sure_denoted : (command : Command) (m : ArgMatches) (words : List Text) (read : Option AskedWords) → app_of command ≡ sure_app → FindsIn command words m

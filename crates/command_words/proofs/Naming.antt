@@ -6,11 +6,16 @@ use Rattle.command_words.specs.declared.words.AuditWords.{AuditWords}
 use Rattle.command_words.specs.declared.words.CheckWords.{CheckWords}
 use Rattle.command_words.specs.declared.words.CommandWords.{CommandWords}
 use Rattle.command_words.specs.declared.words.CommandWords.TheVariants as variant
-use Rattle.command_words.specs.Words.{Asked, Audit, Check, Command, OfAudit, OfCheck, OfMake, OfSure, AreAuditWords, AreCheckWords, AreSureWords, AreCommand, AreNoCommand, AreWordsOf, asked_of_words, audit_of, check_of, command_of, name_of}
+use Rattle.command_words.specs.declared.words.SolveWords.{SolveWords}
+use Rattle.command_words.specs.Words.{Asked, Audit, Check, Command, Solve, OfAudit, OfCheck, OfMake, OfSolve, OfSure, AreAuditWords, AreCheckWords, AreSolveWords, AreSureWords, AreCommand, AreNoCommand, AreWordsOf, asked_of_words, audit_of, check_of, command_of, name_of, solve_of}
 
 -- the first byte of equal texts
 pub first_byte : {s t : Text} → s ≡ t → get_or s 0 0 ≡ get_or t 0 0
 first_byte e = ap (λ (t : Text). get_or t 0 0) e
+
+-- and the second
+pub second_byte : {s t : Text} → s ≡ t → get_or s 1 0 ≡ get_or t 1 0
+second_byte e = ap (λ (t : Text). get_or t 1 0) e
 
 -- words that denote a command begin with its name, and the others are its words
 pub begun : (name : Text) (words : List Text) (command : Command) → AreCommand (name ∷ words) command → (name_of command ≡ name) × AreWordsOf command words
@@ -27,6 +32,7 @@ IsAnswer words read = MatchOption read (AreNoCommand words) (λ command. AreComm
 not_check : (words : List Text) (command : Command) → ((check : Check) → AreCheckWords words check → ⊥) → name_of command ≡ codes "check" → AreWordsOf command words → ⊥
 not_check words (OfCheck check) none named are = none check are
 not_check words (OfAudit audit) none named are = absurd (omega (arith, first_byte named))
+not_check words (OfSolve solve) none named are = absurd (omega (arith, first_byte named))
 not_check words (OfMake make) none named are = absurd (omega (arith, first_byte named))
 not_check words (OfSure asked) none named are = absurd (omega (arith, first_byte named))
 
@@ -42,6 +48,7 @@ check_named name words (Some check) read named is are =
 not_audit : (words : List Text) (command : Command) → ((audit : Audit) → AreAuditWords words audit → ⊥) → name_of command ≡ codes "audit" → AreWordsOf command words → ⊥
 not_audit words (OfCheck check) none named are = absurd (omega (arith, first_byte named))
 not_audit words (OfAudit audit) none named are = none audit are
+not_audit words (OfSolve solve) none named are = absurd (omega (arith, first_byte named))
 not_audit words (OfMake make) none named are = absurd (omega (arith, first_byte named))
 not_audit words (OfSure asked) none named are = absurd (omega (arith, first_byte named))
 
@@ -53,10 +60,27 @@ audit_named name words None read named is none = subst (λ (r : Option CommandWo
 audit_named name words (Some audit) read named is are =
     subst (λ (r : Option CommandWords). IsAnswer (name ∷ words) r) (sym is) (record { rest = words; words_are = ap (λ (w : Text). w ∷ words) named; behind = are })
 
+-- and so for `solve`
+not_solve : (words : List Text) (command : Command) → ((solve : Solve) → AreSolveWords words solve → ⊥) → name_of command ≡ codes "solve" → AreWordsOf command words → ⊥
+not_solve words (OfCheck check) none named are = absurd (omega (arith, first_byte named))
+not_solve words (OfAudit audit) none named are = absurd (omega (arith, first_byte named))
+not_solve words (OfSolve solve) none named are = none solve are
+not_solve words (OfMake make) none named are = absurd (omega (arith, first_byte named))
+not_solve words (OfSure asked) none named are = absurd (omega (arith, second_byte named))
+
+pub solve_named : (name : Text) (words : List Text) (found : Option SolveWords) (read : Option CommandWords) → name ≡ codes "solve" → MatchOption found (read ≡ None) (λ solve. read ≡ Some (variant.Solve solve))
+    → MatchOption found ((solve : Solve) → AreSolveWords words solve → ⊥) (λ solve. AreSolveWords words (solve_of solve)) → IsAnswer (name ∷ words) read
+solve_named name words None read named is none = subst (λ (r : Option CommandWords). IsAnswer (name ∷ words) r) (sym is) (λ command are.
+    let parts = begun name words command are in
+    not_solve words command none (parts.0 ∙ named) parts.1)
+solve_named name words (Some solve) read named is are =
+    subst (λ (r : Option CommandWords). IsAnswer (name ∷ words) r) (sym is) (record { rest = words; words_are = ap (λ (w : Text). w ∷ words) named; behind = are })
+
 -- and so for `sure`
 not_sure : (words : List Text) (command : Command) → ((asked : Asked) → AreSureWords words asked → ⊥) → name_of command ≡ codes "sure" → AreWordsOf command words → ⊥
 not_sure words (OfCheck check) none named are = absurd (omega (arith, first_byte named))
 not_sure words (OfAudit audit) none named are = absurd (omega (arith, first_byte named))
+not_sure words (OfSolve solve) none named are = absurd (omega (arith, second_byte named))
 not_sure words (OfMake make) none named are = absurd (omega (arith, first_byte named))
 not_sure words (OfSure asked) none named are = none asked are
 

@@ -3,8 +3,8 @@ use Rattle.std.proofs.Common.{◌≡◌, ◌∙◌, ℕ, Bool, true, false, List
 use Rattle.std.specs.Prelude.{IsTrue, ◌↔◌}
 use Rattle.std.specs.Str.Parse.{digits_value, without_leading_plus}
 use Rattle.clap.specs.Words.{Text}
-use Rattle.command_words.proofs.Naming.{begun, first_byte}
-use Rattle.command_words.specs.Words.{Asked, Audit, Check, Make, Command, OfAudit, OfCheck, OfMake, OfSure, AreCommand, AreWordsOf, IsNumber, GivesNumber, SayAsked, SayAudit, SayCheck, SayMake, name_of}
+use Rattle.command_words.proofs.Naming.{begun, first_byte, second_byte}
+use Rattle.command_words.specs.Words.{Asked, Audit, Check, Make, Solve, Command, OfAudit, OfCheck, OfMake, OfSolve, OfSure, AreCommand, AreWordsOf, IsNumber, GivesNumber, SayAsked, SayAudit, SayCheck, SayMake, SaySolve, name_of}
 
 -- an option has one number
 one_number : (default : ℕ) (word : Option (List ℕ)) (m n : ℕ) → IsNumber default word m → IsNumber default word n → m ≡ n
@@ -46,6 +46,15 @@ same_audit q q' c c' a b = cc (a, b)
 one_audit : (value : Text → Option Text) (a b : Audit) → SayAudit value a → SayAudit value b → a ≡ b
 one_audit value a b x y = same_audit a.asked b.asked a.certificate b.certificate (one_asked value a.asked b.asked x.asked y.asked) (sym x.certificate.given ∙ y.certificate.given)
 
+same_solve : (q q' : Asked) (v v' : Option (List ℕ)) (p p' : Bool) → q ≡ q' → v ≡ v' → p ≡ p'
+    → ◌≡◌ {A = Solve} (record { asked = q; values = v; plan = p }) (record { asked = q'; values = v'; plan = p' })
+same_solve q q' v v' p p' a b c = cc (a, b, c)
+
+-- values say one thing of `solve`
+one_solve : (value : Text → Option Text) (a b : Solve) → SaySolve value a → SaySolve value b → a ≡ b
+one_solve value a b x y = same_solve a.asked b.asked a.values b.values a.plan b.plan (one_asked value a.asked b.asked x.asked y.asked) (x.values ∙ sym y.values)
+    (one_flag (value (codes "plan") ≡ Some (codes "true")) a.plan b.plan x.plan y.plan)
+
 -- a value gives one number
 one_given : (value : Option Text) (m n : ℕ) → GivesNumber value m → GivesNumber value n → m ≡ n
 one_given value m n of_m of_n =
@@ -81,6 +90,15 @@ one_of_words words (OfSure a) (OfCheck b) same x y = absurd (omega (arith, first
 one_of_words words (OfAudit a) (OfSure b) same x y = absurd (omega (arith, first_byte same))
 one_of_words words (OfSure a) (OfAudit b) same x y = absurd (omega (arith, first_byte same))
 one_of_words words (OfMake a) (OfSure b) same x y = absurd (omega (arith, first_byte same))
+one_of_words words (OfSolve a) (OfSolve b) same x y = ap OfSolve (one_solve _ a b x.said y.said)
+one_of_words words (OfCheck a) (OfSolve b) same x y = absurd (omega (arith, first_byte same))
+one_of_words words (OfSolve a) (OfCheck b) same x y = absurd (omega (arith, first_byte same))
+one_of_words words (OfAudit a) (OfSolve b) same x y = absurd (omega (arith, first_byte same))
+one_of_words words (OfSolve a) (OfAudit b) same x y = absurd (omega (arith, first_byte same))
+one_of_words words (OfMake a) (OfSolve b) same x y = absurd (omega (arith, first_byte same))
+one_of_words words (OfSolve a) (OfMake b) same x y = absurd (omega (arith, first_byte same))
+one_of_words words (OfSure a) (OfSolve b) same x y = absurd (omega (arith, second_byte same))
+one_of_words words (OfSolve a) (OfSure b) same x y = absurd (omega (arith, second_byte same))
 one_of_words words (OfSure a) (OfMake b) same x y = absurd (omega (arith, first_byte same))
 
 pub one_command : (words : List Text) (a b : Command) → AreCommand words a → AreCommand words b → a ≡ b

@@ -1,5 +1,7 @@
--- The words behind `check`, `audit`, `make` and `sure`, as `clap` reads them: `TRA LAB FORMULA [--own FILE] [--rounds R] [--workers W] [--plan] [--traps]`,
--- `TRA LAB FORMULA CERT [--own FILE]`, `SEED STATES [--rounds R] [--workers W]` and `TRA LAB FORMULA [--own FILE]`.
+-- The words behind `check`, `audit`, `solve`, `make` and `sure`, as `clap` reads them: `TRA LAB FORMULA [--own FILE]
+-- [--rounds R] [--workers W] [--plan] [--traps]`,
+-- `TRA LAB FORMULA CERT [--own FILE]`, `TRA LAB FORMULA [--own FILE] [--values FILE] [--plan]`, `SEED STATES [--rounds
+-- R] [--workers W]` and `TRA LAB FORMULA [--own FILE]`.
 use Rattle.std.specs.Prelude.{◌≡◌, ℕ, List, [], codes, pos, true, Option, Some}
 use Rattle.clap.specs.Words.{App, IsParsedFrom, Rule, Text, app_of, fault_of, first_of, first_value, found_of, matches_of, new_app, new_rule, rows_of, with_rule}
 use Rattle.clap.specs.declared.builder.ArgAction.TheVariants.{SetTrue}
@@ -26,7 +28,10 @@ flag name = record (option name) { action = Some SetTrue }
 
 -- a command whose name is read already and that knows no `--help`
 abbrev pub bare_app : Text → App
-bare_app name = let a = new_app name in record a { top = record a.top { no_binary_name = true; disable_help_flag = true } }
+bare_app name = let a = new_app name in record a {
+  top = record a.top
+      { no_binary_name = true; disable_help_flag = true };
+}
 
 -- a command that asks a question
 abbrev pub asked_app : Text → App
@@ -35,20 +40,26 @@ asked_app name = with_rule (with_rule (with_rule (with_rule (bare_app name)
 
 -- a command that also says how far a run goes: its rounds, and the workers of a round
 abbrev pub with_run_limits : App → App
-with_run_limits app = with_rule (with_rule app (with_range (option (codes "rounds")) 0 most_rounds)) (with_range (option (codes "workers")) 1 most_workers)
+with_run_limits app = with_rule (with_rule app (with_range (option (codes "rounds")) 0 most_rounds))
+    (with_range (option (codes "workers")) 1 most_workers)
 
 abbrev pub check_app : App
-check_app = with_rule (with_rule (with_run_limits (asked_app (codes "check"))) (flag (codes "plan"))) (flag (codes "traps"))
+check_app = with_rule (with_rule (with_run_limits (asked_app (codes "check"))) (flag (codes "plan")))
+    (flag (codes "traps"))
 
 abbrev pub audit_app : App
 audit_app = with_rule (asked_app (codes "audit")) (positional (codes "certificate"))
+
+abbrev pub solve_app : App
+solve_app = with_rule (with_rule (asked_app (codes "solve")) (option (codes "values"))) (flag (codes "plan"))
 
 abbrev pub sure_app : App
 sure_app = asked_app (codes "sure")
 
 abbrev pub make_app : App
 make_app = with_run_limits (with_rule (with_rule (bare_app (codes "make"))
-    (with_range (positional (codes "seed")) 1 most_seed)) (with_range (positional (codes "states")) least_states most_states))
+    (with_range (positional (codes "seed")) 1 most_seed))
+    (with_range (positional (codes "states")) least_states most_states))
 
 -- the value that words give to a name, where they give one; of a flag it is `true` where it is given
 abbrev pub value_of : App → List Text → Text → Option Text

@@ -2,11 +2,12 @@
 use Rattle.std.specs.Prelude.{◌≡◌, ◌<◌, ◌≤◌, ◌↔◌, ℕ, Bool, IsTrue, List, [], ◌∷◌, length, codes, Option, Some, None, option_map}
 use Rattle.std.specs.Str.Parse.{IsNumeral, digits_value, without_leading_plus}
 use Rattle.clap.specs.Words.{Text, fault_of}
-use Rattle.command_words.specs.Grammar.{check_app, audit_app, make_app, sure_app, value_of}
+use Rattle.command_words.specs.Grammar.{check_app, audit_app, solve_app, make_app, sure_app, value_of}
 use Rattle.command_words.specs.Limits.{most_rounds, most_workers, default_rounds, default_workers, most_seed, least_states, most_states}
 use Rattle.command_words.specs.declared.words.AskedWords.{AskedWords}
 use Rattle.command_words.specs.declared.words.CheckWords.{CheckWords}
 use Rattle.command_words.specs.declared.words.AuditWords.{AuditWords}
+use Rattle.command_words.specs.declared.words.SolveWords.{SolveWords}
 use Rattle.command_words.specs.declared.words.MakeWords.{MakeWords}
 use Rattle.command_words.specs.declared.words.CommandWords.{CommandWords}
 use Rattle.command_words.specs.declared.words.CommandWords.TheVariants as variant
@@ -33,6 +34,12 @@ pub record Audit : Type 0 where
   pub asked : Asked
   pub certificate : List ℕ
 
+-- the words of `solve`: a file of values to begin with, where one is named
+pub record Solve : Type 0 where
+  pub asked : Asked
+  pub values : Option (List ℕ)
+  pub plan : Bool
+
 -- the words of `make`: the seed of a game, and how many states it is to have
 pub record Make : Type 0 where
   pub seed : ℕ
@@ -43,6 +50,7 @@ pub record Make : Type 0 where
 pub data Command : Type 0 where
   OfCheck : (check : Check) → Command
   OfAudit : (audit : Audit) → Command
+  OfSolve : (solve : Solve) → Command
   OfMake : (make : Make) → Command
   OfSure : (asked : Asked) → Command
 
@@ -71,10 +79,10 @@ pub record NamesFile (value : Option Text) (file : List ℕ) : Type 0 where
   pub given : value ≡ Some file
   pub named : 0 < length file
 
--- an owner file that is given has a name
-abbrev pub IsOwnerFile : Option (List ℕ) → Type 0
-IsOwnerFile None = Unit {0}
-IsOwnerFile (Some file) = 0 < length file
+-- a file that is given has a name
+abbrev pub IsNamedWhereGiven : Option (List ℕ) → Type 0
+IsNamedWhereGiven None = Unit {0}
+IsNamedWhereGiven (Some file) = 0 < length file
 
 -- the word spells the number as Rust reads one: digits, with a plus sign before them or none
 pub record Spells (word : List ℕ) (n : ℕ) : Type 0 where
@@ -98,7 +106,7 @@ pub record SayAsked (value : Text → Option Text) (asked : Asked) : Type 0 wher
   pub lab : NamesFile (value (codes "lab")) asked.lab
   pub formula : value (codes "formula") ≡ Some asked.formula
   pub own : asked.own ≡ value (codes "own")
-  pub own_named : IsOwnerFile asked.own
+  pub own_named : IsNamedWhereGiven asked.own
 
 -- the values of the names say how far a run goes: 10,000 rounds and 4 workers where no word says them
 pub record SayRunLimits (value : Text → Option Text) (rounds workers : ℕ) : Type 0 where
@@ -117,6 +125,13 @@ pub record SayAudit (value : Text → Option Text) (audit : Audit) : Type 0 wher
   pub asked : SayAsked value audit.asked
   pub certificate : NamesFile (value (codes "certificate")) audit.certificate
 
+-- the values of the names say this of `solve`
+pub record SaySolve (value : Text → Option Text) (solve : Solve) : Type 0 where
+  pub asked : SayAsked value solve.asked
+  pub values : solve.values ≡ value (codes "values")
+  pub values_named : IsNamedWhereGiven solve.values
+  pub plan : IsTrue solve.plan ↔ (value (codes "plan") ≡ Some (codes "true"))
+
 -- the values of the names say this of `make`
 pub record SayMake (value : Text → Option Text) (make : Make) : Type 0 where
   pub seed : GivesNumber (value (codes "seed")) make.seed
@@ -125,8 +140,10 @@ pub record SayMake (value : Text → Option Text) (make : Make) : Type 0 where
 
 -- What words denote.
 
--- the words behind `check` denote this: `clap` has no fault to find in them, and the values that it gives them say it. So
--- options may stand anywhere, each once at most, with the value in the next word or behind `=`; behind `--` no word is an
+-- the words behind `check` denote this: `clap` has no fault to find in them, and the values that it gives them say it.
+-- So
+-- options may stand anywhere, each once at most, with the value in the next word or behind `=`; behind `--` no word is
+-- an
 -- option; three words are left; and each number is one of 32 bits, in its range
 pub record AreCheckWords (words : List Text) (check : Check) : Type 0 where
   pub taken : fault_of check_app words ≡ []
@@ -137,6 +154,11 @@ pub record AreCheckWords (words : List Text) (check : Check) : Type 0 where
 pub record AreAuditWords (words : List Text) (audit : Audit) : Type 0 where
   pub taken : fault_of audit_app words ≡ []
   pub said : SayAudit (value_of audit_app words) audit
+
+-- the words behind `solve` denote this, in the same way; three words are left
+pub record AreSolveWords (words : List Text) (solve : Solve) : Type 0 where
+  pub taken : fault_of solve_app words ≡ []
+  pub said : SaySolve (value_of solve_app words) solve
 
 -- the words behind `make` denote this, in the same way; two words are left, which are numbers in their ranges as well
 pub record AreMakeWords (words : List Text) (make : Make) : Type 0 where
@@ -153,6 +175,7 @@ pub record AreSureWords (words : List Text) (asked : Asked) : Type 0 where
 abbrev pub name_of : Command → Text
 name_of (OfCheck check) = codes "check"
 name_of (OfAudit audit) = codes "audit"
+name_of (OfSolve solve) = codes "solve"
 name_of (OfMake make) = codes "make"
 name_of (OfSure asked) = codes "sure"
 
@@ -160,6 +183,7 @@ name_of (OfSure asked) = codes "sure"
 abbrev pub AreWordsOf : Command → List Text → Type 0
 AreWordsOf (OfCheck check) words = AreCheckWords words check
 AreWordsOf (OfAudit audit) words = AreAuditWords words audit
+AreWordsOf (OfSolve solve) words = AreSolveWords words solve
 AreWordsOf (OfMake make) words = AreMakeWords words make
 AreWordsOf (OfSure asked) words = AreSureWords words asked
 
@@ -175,13 +199,31 @@ AreNoCommand words = (command : Command) → AreCommand words command → ⊥
 -- What contracts see of words that were read.
 
 abbrev pub asked_of_words : AskedWords → Asked
-asked_of_words words = record { tra = words.tra.now; lab = words.lab.now; formula = words.formula.now; own = option_map (λ file. file.now) words.own }
+asked_of_words words = record {
+  tra = words.tra.now;
+  lab = words.lab.now;
+  formula = words.formula.now;
+  own = option_map (λ file. file.now) words.own;
+}
 
 abbrev pub check_of : CheckWords → Check
-check_of words = record { asked = asked_of_words words.asked; rounds = words.rounds; workers = words.workers; plan = words.plan; traps = words.traps }
+check_of words = record {
+  asked = asked_of_words words.asked;
+  rounds = words.rounds;
+  workers = words.workers;
+  plan = words.plan;
+  traps = words.traps;
+}
 
 abbrev pub audit_of : AuditWords → Audit
 audit_of words = record { asked = asked_of_words words.asked; certificate = words.certificate.now }
+
+abbrev pub solve_of : SolveWords → Solve
+solve_of words = record {
+  asked = asked_of_words words.asked;
+  values = option_map (λ file. file.now) words.values;
+  plan = words.plan;
+}
 
 abbrev pub make_of : MakeWords → Make
 make_of words = record { seed = words.seed; states = words.states; rounds = words.rounds; workers = words.workers }
@@ -189,5 +231,6 @@ make_of words = record { seed = words.seed; states = words.states; rounds = word
 abbrev pub command_of : CommandWords → Command
 command_of (variant.Check check) = OfCheck (check_of check)
 command_of (variant.Audit audit) = OfAudit (audit_of audit)
+command_of (variant.Solve solve) = OfSolve (solve_of solve)
 command_of (variant.Make make) = OfMake (make_of make)
 command_of (variant.Sure asked) = OfSure (asked_of_words asked)

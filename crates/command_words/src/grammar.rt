@@ -2,7 +2,7 @@
 
 ghost use Rattle.std.specs.Prelude.{◌≡◌, false, IfOk, codes};
 ghost use Rattle.clap.specs.Words.{app_of, rule_of};
-ghost use Rattle.command_words.specs.Grammar.{bare_app, asked_app, check_app, audit_app, make_app, sure_app, with_run_limits as app_with_run_limits, with_range, option as option_rule, flag as flag_rule, positional as positional_rule};
+ghost use Rattle.command_words.specs.Grammar.{bare_app, asked_app, check_app, audit_app, solve_app, make_app, sure_app, with_run_limits as app_with_run_limits, with_range, option as option_rule, flag as flag_rule, positional as positional_rule};
 ghost use Rattle.command_words.specs.Limits.{most_rounds, most_workers, most_seed, least_states, most_states};
 
 use crate::limits::{LEAST_STATES, MOST_ROUNDS, MOST_SEED, MOST_STATES, MOST_WORKERS};
@@ -23,6 +23,15 @@ pub fn audit_command<'a>(alloc: Global) -> Result<Command<'a>, AllocError>
     ensures { IfOk result (λ command. app_of command ≡ audit_app) }
 {
     asked_command(alloc, "audit")?.arg(positional(alloc, "certificate"))
+}
+
+/// The command `solve`, whose first word is read already.
+pub fn solve_command<'a>(alloc: Global) -> Result<Command<'a>, AllocError>
+    ensures { IfOk result (λ command. app_of command ≡ solve_app) }
+{
+    asked_command(alloc, "solve")?
+        .arg(option(alloc, "values"))?
+        .arg(flag(alloc, "plan"))
 }
 
 /// The command `sure`, whose first word is read already.

@@ -1,4 +1,4 @@
-//! The words of the command line: what `check`, `audit`, `make` and `sure` take, and nothing else.
+//! The words of the command line: what `check`, `audit`, `solve`, `make` and `sure` take, and nothing else.
 //!
 //! [`read_words`] gives the command that the words denote. The first word names it, and the words behind it are as
 //! `clap` reads them, by the definitions of `specs/Grammar.antt`; numbers are in their ranges, and files have names.
@@ -10,4 +10,6 @@ mod limits;
 mod said;
 mod words;
 
-pub use words::{AskedWords, AuditWords, CheckWords, CommandWords, MakeWords, read_words};
+pub use words::{
+    AskedWords, AuditWords, CheckWords, CommandWords, MakeWords, SolveWords, read_words,
+};

@@ -2,10 +2,10 @@
 
 ghost use Rattle.std.specs.Prelude.{◌≡◌, ◌≤◌, ◌^◌, ◌↔◌, ℕ, List, Some, IsTrue, MatchOption, codes, option_map};
 ghost use Rattle.command_words.specs.Grammar.{value_in};
-ghost use Rattle.command_words.specs.Words.{Asked, Check, Audit, Make, IsOwnerFile, IsNumber, NamesFile, GivesNumber, AreRunLimits, AreInRange, IsMakeInRange, SayAsked, SayRunLimits, SayCheck, SayAudit, SayMake, asked_of_words, check_of, audit_of, make_of};
+ghost use Rattle.command_words.specs.Words.{Asked, Check, Audit, Solve, Make, IsNamedWhereGiven, IsNumber, NamesFile, GivesNumber, AreRunLimits, AreInRange, IsMakeInRange, SayAsked, SayRunLimits, SayCheck, SayAudit, SaySolve, SayMake, asked_of_words, check_of, audit_of, solve_of, make_of};
 
 use crate::limits::{DEFAULT_ROUNDS, DEFAULT_WORKERS};
-use crate::words::{AskedWords, AuditWords, CheckWords, MakeWords};
+use crate::words::{AskedWords, AuditWords, CheckWords, MakeWords, SolveWords};
 use clap::ArgMatches;
 
 // How far a run goes.
@@ -17,7 +17,8 @@ struct RunLimits {
 
 /// What the values say of `check`, or none where they say no command.
 pub fn check_words<'a>(matches: &ArgMatches<'a>) -> Option<CheckWords<'a>>
-    ensures { MatchOption result ((check : Check) → SayCheck (value_in matches.now) check → AreInRange check → ⊥) (λ check. SayCheck (value_in matches.now) (check_of check)) }
+    ensures { MatchOption result ((check : Check) → SayCheck (value_in matches.now) check → AreInRange check → ⊥)
+        (λ check. SayCheck (value_in matches.now) (check_of check)) }
 {
     let limits = run_limits(matches)?;
     Some(CheckWords {
@@ -31,7 +32,8 @@ pub fn check_words<'a>(matches: &ArgMatches<'a>) -> Option<CheckWords<'a>>
 
 /// What the values say of `audit`, or none where they say no command.
 pub fn audit_words<'a>(matches: &ArgMatches<'a>) -> Option<AuditWords<'a>>
-    ensures { MatchOption result ((audit : Audit) → SayAudit (value_in matches.now) audit → ⊥) (λ audit. SayAudit (value_in matches.now) (audit_of audit)) }
+    ensures { MatchOption result ((audit : Audit) → SayAudit (value_in matches.now) audit → ⊥)
+        (λ audit. SayAudit (value_in matches.now) (audit_of audit)) }
 {
     Some(AuditWords {
         asked: asked_words(matches)?,
@@ -39,9 +41,26 @@ pub fn audit_words<'a>(matches: &ArgMatches<'a>) -> Option<AuditWords<'a>>
     })
 }
 
+/// What the values say of `solve`, or none where they say no command.
+pub fn solve_words<'a>(matches: &ArgMatches<'a>) -> Option<SolveWords<'a>>
+    ensures { MatchOption result ((solve : Solve) → SaySolve (value_in matches.now) solve → ⊥)
+        (λ solve. SaySolve (value_in matches.now) (solve_of solve)) }
+{
+    let values = matches.get_str("values");
+    if !is_named_where_given(values) {
+        return None;
+    }
+    Some(SolveWords {
+        asked: asked_words(matches)?,
+        values,
+        plan: is_given(matches.get_str("plan")),
+    })
+}
+
 /// What the values say of `make`, or none where they say no command.
 pub fn make_words<'a>(matches: &ArgMatches<'a>) -> Option<MakeWords>
-    ensures { MatchOption result ((make : Make) → SayMake (value_in matches.now) make → IsMakeInRange make → ⊥) (λ make. SayMake (value_in matches.now) (make_of make)) }
+    ensures { MatchOption result ((make : Make) → SayMake (value_in matches.now) make → IsMakeInRange make → ⊥)
+        (λ make. SayMake (value_in matches.now) (make_of make)) }
 {
     let limits = run_limits(matches)?;
     Some(MakeWords {
@@ -54,10 +73,11 @@ pub fn make_words<'a>(matches: &ArgMatches<'a>) -> Option<MakeWords>
 
 /// What the values ask, or none where they ask nothing.
 pub fn asked_words<'a>(matches: &ArgMatches<'a>) -> Option<AskedWords<'a>>
-    ensures { MatchOption result ((asked : Asked) → SayAsked (value_in matches.now) asked → ⊥) (λ asked. SayAsked (value_in matches.now) (asked_of_words asked)) }
+    ensures { MatchOption result ((asked : Asked) → SayAsked (value_in matches.now) asked → ⊥)
+        (λ asked. SayAsked (value_in matches.now) (asked_of_words asked)) }
 {
     let own = matches.get_str("own");
-    if !is_owner_file(own) {
+    if !is_named_where_given(own) {
         return None;
     }
     Some(AskedWords {
@@ -70,7 +90,9 @@ pub fn asked_words<'a>(matches: &ArgMatches<'a>) -> Option<AskedWords<'a>>
 
 // How far a run goes by what the values say, or none where they say no such limits.
 fn run_limits<'a>(matches: &ArgMatches<'a>) -> Option<RunLimits>
-    ensures { MatchOption result ((rounds workers : ℕ) → SayRunLimits (value_in matches.now) rounds workers → AreRunLimits rounds workers → ⊥) (λ limits. SayRunLimits (value_in matches.now) limits.rounds limits.workers) }
+    ensures { MatchOption result ((rounds workers : ℕ) → SayRunLimits (value_in matches.now) rounds workers
+        → AreRunLimits rounds workers → ⊥)
+        (λ limits. SayRunLimits (value_in matches.now) limits.rounds limits.workers) }
 {
     Some(RunLimits {
         rounds: read_number(matches.get_str("rounds"), DEFAULT_ROUNDS)?,
@@ -80,7 +102,8 @@ fn run_limits<'a>(matches: &ArgMatches<'a>) -> Option<RunLimits>
 
 // The word of a file, where it is not empty.
 fn file_word(word: Option<&str>) -> Option<&str>
-    ensures { MatchOption result ((file : List ℕ) → NamesFile (option_map (λ w. w.now) word.entry) file → ⊥) (λ file. NamesFile (option_map (λ w. w.now) word.entry) file.now) }
+    ensures { MatchOption result ((file : List ℕ) → NamesFile (option_map (λ w. w.now) word.entry) file → ⊥)
+        (λ file. NamesFile (option_map (λ w. w.now) word.entry) file.now) }
 {
     match word {
         Some(file) if !file.is_empty() => Some(file),
@@ -88,11 +111,11 @@ fn file_word(word: Option<&str>) -> Option<&str>
     }
 }
 
-// Whether an owner file that is given has a name.
-fn is_owner_file(own: Option<&str>) -> bool
-    ensures { IsTrue result ↔ IsOwnerFile (option_map (λ w. w.now) own.entry) }
+// Whether a file that is given has a name.
+fn is_named_where_given(word: Option<&str>) -> bool
+    ensures { IsTrue result ↔ IsNamedWhereGiven (option_map (λ w. w.now) word.entry) }
 {
-    match own {
+    match word {
         Some(file) => !file.is_empty(),
         None => true,
     }
@@ -111,7 +134,8 @@ fn is_given(value: Option<&str>) -> bool
 // The number that the word of an option spells, or the default where it is not given. None where it is no number of
 // 32 bits.
 fn read_number(word: Option<&str>, default: u32) -> Option<u32>
-    ensures { MatchOption result ((n : ℕ) → IsNumber default (option_map (λ w. w.now) word.entry) n → 2 ^ 32 ≤ n) (λ n. IsNumber default (option_map (λ w. w.now) word.entry) n) }
+    ensures { MatchOption result ((n : ℕ) → IsNumber default (option_map (λ w. w.now) word.entry) n → 2 ^ 32 ≤ n)
+        (λ n. IsNumber default (option_map (λ w. w.now) word.entry) n) }
 {
     match word {
         None => Some(default),
@@ -121,7 +145,8 @@ fn read_number(word: Option<&str>, default: u32) -> Option<u32>
 
 // The number that a word spells, which must be given. None where it is no number of 32 bits.
 fn given_number(word: Option<&str>) -> Option<u32>
-    ensures { MatchOption result ((n : ℕ) → GivesNumber (option_map (λ w. w.now) word.entry) n → 2 ^ 32 ≤ n) (λ n. GivesNumber (option_map (λ w. w.now) word.entry) n) }
+    ensures { MatchOption result ((n : ℕ) → GivesNumber (option_map (λ w. w.now) word.entry) n → 2 ^ 32 ≤ n)
+        (λ n. GivesNumber (option_map (λ w. w.now) word.entry) n) }
 {
     word?.parse::<u32>().ok()
 }

@@ -4,10 +4,10 @@ ghost use Rattle.std.specs.Prelude.{◌≡◌, ◌∷◌, [], IfOk, MatchOption,
 ghost use Rattle.std.specs.String.{string_bytes};
 ghost use Rattle.clap.specs.Words.{app_of, fault_of, is_simple_and_free};
 ghost use Rattle.command_words.specs.Grammar.{FindsIn};
-ghost use Rattle.command_words.specs.Words.{Asked, Check, Audit, Make, AreCheckWords, AreAuditWords, AreMakeWords, AreSureWords, AreCommand, AreNoCommand, asked_of_words, check_of, audit_of, make_of, command_of};
+ghost use Rattle.command_words.specs.Words.{Asked, Check, Audit, Solve, Make, AreCheckWords, AreAuditWords, AreSolveWords, AreMakeWords, AreSureWords, AreCommand, AreNoCommand, asked_of_words, check_of, audit_of, solve_of, make_of, command_of};
 
-use crate::grammar::{audit_command, check_command, make_command, sure_command};
-use crate::said::{asked_words, audit_words, check_words, make_words};
+use crate::grammar::{audit_command, check_command, make_command, solve_command, sure_command};
+use crate::said::{asked_words, audit_words, check_words, make_words, solve_words};
 use clap::error::ErrorKind;
 use clap::{ArgMatches, Command};
 use game_outside::OutOfMemory;
@@ -50,6 +50,17 @@ pub struct AuditWords<'a> {
     pub certificate: &'a str,
 }
 
+/// The words of `solve`: `TRA LAB FORMULA [--own FILE] [--values FILE] [--plan]`.
+#[derive(Clone, Copy, Debug)]
+pub struct SolveWords<'a> {
+    /// The question.
+    pub asked: AskedWords<'a>,
+    /// The name of the file of values to begin with.
+    pub values: Option<&'a str>,
+    /// Whether the certificate is to be written.
+    pub plan: bool,
+}
+
 /// The words of `make`: `SEED STATES [--rounds R] [--workers W]`.
 #[derive(Clone, Copy, Debug)]
 pub struct MakeWords {
@@ -70,6 +81,8 @@ pub enum CommandWords<'a> {
     Check(CheckWords<'a>),
     /// `audit`.
     Audit(AuditWords<'a>),
+    /// `solve`.
+    Solve(SolveWords<'a>),
     /// `make`.
     Make(MakeWords),
     /// `sure`.
@@ -78,7 +91,8 @@ pub enum CommandWords<'a> {
 
 /// The command that the words denote, or none where they denote no command. The only error is want of memory.
 pub fn read_words(alloc: Global, words: &[String]) -> Result<Option<CommandWords<'_>>, OutOfMemory>
-    ensures { IfOk result (λ read. MatchOption read (AreNoCommand (map string_bytes words.now)) (λ command. AreCommand (map string_bytes words.now) (command_of command))) }
+    ensures { IfOk result (λ read. MatchOption read (AreNoCommand (map string_bytes words.now))
+        (λ command. AreCommand (map string_bytes words.now) (command_of command))) }
 {
     match words {
         [name, rest @ ..] => read_command(alloc, name.as_str(), rest),
@@ -92,11 +106,13 @@ fn read_command<'a>(
     name: &str,
     words: &'a [String],
 ) -> Result<Option<CommandWords<'a>>, OutOfMemory>
-    ensures { IfOk result (λ read. MatchOption read (AreNoCommand (name.now ∷ map string_bytes words.entry.now)) (λ command. AreCommand (name.now ∷ map string_bytes words.entry.now) (command_of command))) }
+    ensures { IfOk result (λ read. MatchOption read (AreNoCommand (name.now ∷ map string_bytes words.entry.now))
+        (λ command. AreCommand (name.now ∷ map string_bytes words.entry.now) (command_of command))) }
 {
     match name {
         "check" => Ok(read_check(alloc, words)?.map(CommandWords::Check)),
         "audit" => Ok(read_audit(alloc, words)?.map(CommandWords::Audit)),
+        "solve" => Ok(read_solve(alloc, words)?.map(CommandWords::Solve)),
         "make" => match read_make(alloc, words)? {
             Some(make) => Ok(Some(CommandWords::Make(make))),
             None => Ok(None),
@@ -108,7 +124,8 @@ fn read_command<'a>(
 
 // What the words behind `check` say, or none where they denote no command.
 fn read_check(alloc: Global, words: &[String]) -> Result<Option<CheckWords<'_>>, OutOfMemory>
-    ensures { IfOk result (λ read. MatchOption read ((check : Check) → AreCheckWords (map string_bytes words.now) check → ⊥) (λ check. AreCheckWords (map string_bytes words.now) (check_of check))) }
+    ensures { IfOk result (λ read. MatchOption read ((check : Check) → AreCheckWords (map string_bytes words.now) check
+        → ⊥) (λ check. AreCheckWords (map string_bytes words.now) (check_of check))) }
 {
     match taken(check_command(alloc)?, words)? {
         Some(matches) => Ok(check_words(&matches)),
@@ -118,7 +135,8 @@ fn read_check(alloc: Global, words: &[String]) -> Result<Option<CheckWords<'_>>,
 
 // What the words behind `audit` say, or none where they denote no command.
 fn read_audit(alloc: Global, words: &[String]) -> Result<Option<AuditWords<'_>>, OutOfMemory>
-    ensures { IfOk result (λ read. MatchOption read ((audit : Audit) → AreAuditWords (map string_bytes words.now) audit → ⊥) (λ audit. AreAuditWords (map string_bytes words.now) (audit_of audit))) }
+    ensures { IfOk result (λ read. MatchOption read ((audit : Audit) → AreAuditWords (map string_bytes words.now) audit
+        → ⊥) (λ audit. AreAuditWords (map string_bytes words.now) (audit_of audit))) }
 {
     match taken(audit_command(alloc)?, words)? {
         Some(matches) => Ok(audit_words(&matches)),
@@ -126,9 +144,21 @@ fn read_audit(alloc: Global, words: &[String]) -> Result<Option<AuditWords<'_>>,
     }
 }
 
+// What the words behind `solve` say, or none where they denote no command.
+fn read_solve(alloc: Global, words: &[String]) -> Result<Option<SolveWords<'_>>, OutOfMemory>
+    ensures { IfOk result (λ read. MatchOption read ((solve : Solve) → AreSolveWords (map string_bytes words.now) solve
+        → ⊥) (λ solve. AreSolveWords (map string_bytes words.now) (solve_of solve))) }
+{
+    match taken(solve_command(alloc)?, words)? {
+        Some(matches) => Ok(solve_words(&matches)),
+        None => Ok(None),
+    }
+}
+
 // What the words behind `sure` say, or none where they denote no command.
 fn read_sure(alloc: Global, words: &[String]) -> Result<Option<AskedWords<'_>>, OutOfMemory>
-    ensures { IfOk result (λ read. MatchOption read ((asked : Asked) → AreSureWords (map string_bytes words.now) asked → ⊥) (λ asked. AreSureWords (map string_bytes words.now) (asked_of_words asked))) }
+    ensures { IfOk result (λ read. MatchOption read ((asked : Asked) → AreSureWords (map string_bytes words.now) asked
+        → ⊥) (λ asked. AreSureWords (map string_bytes words.now) (asked_of_words asked))) }
 {
     match taken(sure_command(alloc)?, words)? {
         Some(matches) => Ok(asked_words(&matches)),
@@ -138,7 +168,8 @@ fn read_sure(alloc: Global, words: &[String]) -> Result<Option<AskedWords<'_>>, 
 
 // What the words behind `make` say, or none where they denote no command.
 fn read_make(alloc: Global, words: &[String]) -> Result<Option<MakeWords>, OutOfMemory>
-    ensures { IfOk result (λ read. MatchOption read ((make : Make) → AreMakeWords (map string_bytes words.now) make → ⊥) (λ make. AreMakeWords (map string_bytes words.now) (make_of make))) }
+    ensures { IfOk result (λ read. MatchOption read ((make : Make) → AreMakeWords (map string_bytes words.now) make → ⊥)
+        (λ make. AreMakeWords (map string_bytes words.now) (make_of make))) }
 {
     match taken(make_command(alloc)?, words)? {
         Some(matches) => Ok(make_words(&matches)),
@@ -152,7 +183,8 @@ fn taken<'a>(
     words: &'a [String],
 ) -> Result<Option<ArgMatches<'a>>, OutOfMemory>
     requires { is_simple_and_free (app_of command) ≡ true }
-    ensures { IfOk result (λ found. MatchOption found (fault_of (app_of command.entry) (map string_bytes words.entry.now) ≡ [] → ⊥) (FindsIn command.entry (map string_bytes words.entry.now))) }
+    ensures { IfOk result (λ found. MatchOption found (fault_of (app_of command.entry)
+        (map string_bytes words.entry.now) ≡ [] → ⊥) (FindsIn command.entry (map string_bytes words.entry.now))) }
 {
     match command.try_get_matches_from(words) {
         Ok(matches) => Ok(Some(matches)),

@@ -1,7 +1,8 @@
 -- The limits of numbers and choices.
 use Rattle.std.specs.Prelude.{ℕ, ◌^◌}
 
--- the greatest denominator, of a fraction and of a choice: a sum of weights over it fits 128 bits, and one near it is below `total_bound`
+-- the greatest denominator, of a fraction and of a choice: a sum of weights over it fits 128 bits, and one near it is
+-- below `total_bound`
 abbrev pub finest : ℕ
 finest = 10 ^ 23
 

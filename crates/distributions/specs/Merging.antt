@@ -10,7 +10,8 @@ heavier sum weight = record { to = sum.to; weight = sum.weight + weight }
 -- the sum of the edges to one destination so far, and the edges that follow
 abbrev pub merged_from : Edge → List Edge → List Edge
 merged_from sum [] = keep_edge sum.to sum.weight []
-merged_from sum (e ∷ edges) = if e.to == sum.to then merged_from (heavier sum e.weight) edges else keep_edge sum.to sum.weight (merged_from e edges)
+merged_from sum (e ∷ edges) = if e.to ==
+    sum.to then merged_from (heavier sum e.weight) edges else keep_edge sum.to sum.weight (merged_from e edges)
 
 -- the edges stand by destination, from this one on
 abbrev pub StandFrom : ℕ → List Edge → Type 0

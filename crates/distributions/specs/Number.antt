@@ -32,7 +32,8 @@ SpellsBack text back = ((text ≡ []) × (back ≡ [])) ⊎ ((text ≡ 46 ∷ ba
 
 -- nothing, plus or minus
 abbrev pub SpellsSign : List ℕ → Bool → Type 0
-SpellsSign sign below = ((sign ≡ []) × (below ≡ false)) ⊎ (((sign ≡ 43 ∷ []) × (below ≡ false)) ⊎ ((sign ≡ 45 ∷ []) × (below ≡ true)))
+SpellsSign sign below = ((sign ≡ []) × (below ≡ false))
+    ⊎ (((sign ≡ 43 ∷ []) × (below ≡ false)) ⊎ ((sign ≡ 45 ∷ []) × (below ≡ true)))
 
 -- an `e` or `E`, a sign and digits
 pub record SpellsPower (text : List ℕ) (exponent : Exponent) : Type 0 where
@@ -76,7 +77,8 @@ value_of (Decimal front back exponent) = record {
 value_of (Quotient above below) = record { num = value_onto 0 above; den = value_onto 0 below }
 
 abbrev pub is_long : Spelling → Bool
-is_long (Decimal front back exponent) = nat_lt most_digits (length front + length back) || (nat_lt most_exponent_digits (length exponent.digits) || nat_lt most_exponent (value_onto 0 exponent.digits))
+is_long (Decimal front back exponent) = nat_lt most_digits (length front + length back)
+    || (nat_lt most_exponent_digits (length exponent.digits) || nat_lt most_exponent (value_onto 0 exponent.digits))
 is_long (Quotient above below) = nat_lt most_digits (length above) || nat_lt most_digits (length below)
 
 -- the text spells this fraction
@@ -105,17 +107,20 @@ behind_digits text = drop (digits_len text) text
 
 abbrev pub exponent_digits : Bool → List ℕ → Option Exponent
 exponent_digits below [] = None
-exponent_digits below (b ∷ bytes) = if all_digits (b ∷ bytes) then Some (record { below = below; digits = b ∷ bytes }) else None
+exponent_digits below (b ∷ bytes) = if all_digits (b ∷ bytes) then Some
+    (record { below = below; digits = b ∷ bytes }) else None
 
 -- behind an `e`: a sign or none, and digits
 abbrev pub exponent_of : List ℕ → Option Exponent
 exponent_of [] = None
-exponent_of (b ∷ bytes) = if b == 45 then exponent_digits true bytes else (if b == 43 then exponent_digits false bytes else exponent_digits false (b ∷ bytes))
+exponent_of (b ∷ bytes) = if b == 45 then exponent_digits true bytes else
+    (if b == 43 then exponent_digits false bytes else exponent_digits false (b ∷ bytes))
 
 -- behind the digits of a decimal: nothing, or an exponent
 abbrev pub decimal_of : List ℕ → List ℕ → List ℕ → Option Spelling
 decimal_of front back [] = Some (Decimal front back no_exponent)
-decimal_of front back (b ∷ bytes) = if b == 101 || b == 69 then option_map (Decimal front back) (exponent_of bytes) else None
+decimal_of front back (b ∷ bytes) = if b == 101 || b ==
+    69 then option_map (Decimal front back) (exponent_of bytes) else None
 
 -- behind the line of a fraction: digits
 abbrev pub quotient_of : List ℕ → List ℕ → Option Spelling
@@ -125,14 +130,18 @@ quotient_of above (b ∷ bytes) = if all_digits (b ∷ bytes) then Some (Quotien
 -- behind the first digits
 abbrev pub behind_front : List ℕ → List ℕ → Option Spelling
 behind_front front [] = decimal_of front [] []
-behind_front front (b ∷ bytes) = if b == 46 then decimal_of front (leading_digits bytes) (behind_digits bytes) else (if b == 47 then quotient_of front bytes else decimal_of front [] (b ∷ bytes))
+behind_front front (b ∷ bytes) = if b ==
+    46 then decimal_of front (leading_digits bytes) (behind_digits bytes) else
+    (if b == 47 then quotient_of front bytes else decimal_of front [] (b ∷ bytes))
 
 abbrev pub spelling_of : List ℕ → Option Spelling
-spelling_of text = if is_nil (leading_digits text) then None else behind_front (leading_digits text) (behind_digits text)
+spelling_of text = if is_nil (leading_digits text) then None else behind_front (leading_digits text)
+    (behind_digits text)
 
 -- a fraction in lowest terms, where it is in range
 abbrev pub in_range : Fraction → Result Fraction NumberFault
-in_range f = if nat_lt finest f.den then Err TooFine else (if nat_lt (most_value * f.den) f.num then Err TooLarge else Ok f)
+in_range f = if nat_lt finest f.den then Err TooFine else
+    (if nat_lt (most_value * f.den) f.num then Err TooLarge else Ok f)
 
 abbrev pub fraction_said : Fraction → Result Fraction NumberFault
 fraction_said f = if f.den == 0 then Err ZeroDenominator else in_range (lowest f)

@@ -44,7 +44,8 @@ pub record Denotes (parts : List Part) (distribution : Distribution) : Type 0 wh
 abbrev pub denominator_said : ℕ → List Part → Result ℕ ChoiceFault
 denominator_said common [] = Ok common
 denominator_said common (part ∷ parts) =
-    if nat_lt finest (lcm common part.share.den) then Err (TooFine common part.share.den) else denominator_said (lcm common part.share.den) parts
+    if nat_lt finest (lcm common part.share.den) then Err (TooFine common part.share.den) else denominator_said
+    (lcm common part.share.den) parts
 
 -- an edge, unless its weight is 0
 abbrev pub keep_edge : ℕ → ℕ → List Edge → List Edge
@@ -67,7 +68,8 @@ gathered edges = edges_from (weight_to edges) 0 (span edges)
 -- the distribution with these edges, where their weights nearly sum to the common denominator
 abbrev pub sum_said : ℕ → List Edge → Result Distribution ChoiceFault
 sum_said common edges =
-    if nat_lt common (distance (total_of edges) common * tolerance) then Err (BadSum (total_of edges) common) else Ok (record { total = total_of edges; edges = edges })
+    if nat_lt common (distance (total_of edges) common * tolerance) then Err (BadSum (total_of edges) common) else Ok
+    (record { total = total_of edges; edges = edges })
 
 abbrev pub choice_over : Result ℕ ChoiceFault → List Part → Result Distribution ChoiceFault
 choice_over (Ok common) parts = sum_said common (gathered (weighted common parts))

@@ -126,8 +126,8 @@ fn choice_of_edges(common: u128, edges: Vec<Edge>) -> Result<Choice, ChoiceFault
 }
 
 /// The choice with these parts, or the first reason why they make none. The weight of a destination is the sum of its
-/// parts over the common denominator; a choice whose weights nearly sum to that denominator is divided by their sum. What
-/// is said of parts is what they denote: `laws::said_is_denoted`.
+/// parts over the common denominator; a choice whose weights nearly sum to that denominator is divided by their sum.
+/// What is said of parts is what they denote: `laws::said_is_denoted`.
 pub fn make_choice(alloc: Global, parts: &[Part]) -> Result<Choice, ChoiceFault>
     requires { length parts.now ≤ most_parts }
     ensures { AnswersOrWants IsOutOfMemory (λ c. c) result (choice_said parts.now) }

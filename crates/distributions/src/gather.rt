@@ -64,7 +64,8 @@ fn keep(edges: &mut Vec<Edge>, edge: Edge) -> Result<(), AllocError>
 // Adds an edge to the sum of the edges to one destination, or keeps that sum and begins a new one.
 fn add_edge(merged: &mut Vec<Edge>, sum: Edge, edge: Edge) -> Result<Edge, AllocError>
     requires { sum.weight + edge.weight < 2 ^ 128 }
-    ensures value { IfOk result (λ new. (rest : List Edge) → merged.new.items ++ merged_from new rest ≡ merged.old.items ++ merged_from sum (edge ∷ rest)) }
+    ensures value { IfOk result (λ new. (rest : List Edge) → merged.new.items ++ merged_from new rest ≡ merged.old.items
+        ++ merged_from sum (edge ∷ rest)) }
     ensures small { IfOk result (λ new. new.weight ≤ sum.weight + edge.weight) }
 {
     if edge.to == sum.to {

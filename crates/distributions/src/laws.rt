@@ -48,10 +48,12 @@ pub fn spellings()
 /// What is said by cases is what is denoted: of a text a number, and of parts a distribution.
 pub fn said_is_denoted()
     ensures number { (text : List ℕ) (f : Fraction) → (number_said text ≡ Ok f) ↔ DenotesNumber text f }
-    ensures choice { (parts : List Part) (d : Distribution) → All (λ part. IsFraction part.share) parts → (choice_said parts ≡ Ok d) ↔ Denotes parts d }
+    ensures choice { (parts : List Part) (d : Distribution) → All (λ part. IsFraction part.share) parts
+        → (choice_said parts ≡ Ok d) ↔ Denotes parts d }
 {}
 
 /// The order of the parts plays no part.
 pub fn order_of_parts()
-    ensures { (parts others : List Part) (d : Distribution) → IsPermutation parts others → Denotes parts d → Denotes others d }
+    ensures { (parts others : List Part) (d : Distribution) → IsPermutation parts others → Denotes parts d
+        → Denotes others d }
 {}

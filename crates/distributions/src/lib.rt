@@ -10,8 +10,8 @@
 //! let choice = make_choice(alloc, &[Part { to: 1, share }, Part { to: 2, share }, Part { to: 3, share }])?;
 //! ```
 //!
-//! Contracts see a `Frac` as a numerator over a denominator. Each call is exact: its answer is what the definitions say,
-//! and `make_choice` alone takes memory.
+//! Contracts see a `Frac` as a numerator over a denominator. Each call is exact: its answer is what the definitions
+//! say, and `make_choice` alone takes memory.
 #![tactic(auto)]
 
 mod choice;

@@ -7,4 +7,5 @@ abbrev pub with_part : List Edge → Edge → List Edge
 with_part [] part = part ∷ []
 with_part (e ∷ edges) part =
     if nat_lt part.to e.to then part ∷ e ∷ edges
-    else (if part.to == e.to then record { to = e.to; weight = e.weight + part.weight } ∷ edges else e ∷ with_part edges part)
+    else (if part.to == e.to then record { to = e.to; weight = e.weight + part.weight } ∷ edges else e
+    ∷ with_part edges part)

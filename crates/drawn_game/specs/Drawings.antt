@@ -2,7 +2,8 @@
 use Rattle.std.specs.Prelude.{ℕ, zero, suc, ◌*◌, ◌%◌, List, [], ◌∷◌, ◌++◌}
 use Rattle.drawn_game.specs.Limits.{multiplier, modulus}
 
--- the draw behind a draw (Lehmer 1951; Park and Miller, Random number generators: good ones are hard to find, CACM 1988)
+-- the draw behind a draw (Lehmer 1951; Park and Miller, Random number generators: good ones are hard to find, CACM
+-- 1988)
 unfoldable pub next_draw : ℕ → ℕ
 next_draw x = x * multiplier % modulus
 

@@ -6,7 +6,8 @@ use Rattle.game_model.specs.Game.{Distribution, weight_to, total_of}
 
 -- the edges that the parts add up to: one to each of n states that has some weight, by rising number
 unfoldable pub added_up : ℕ → List Edge → List Edge
-added_up n parts = filter (λ e. nat_lt 0 e.weight) (map (λ to. record { to = to; weight = weight_to parts to }) (range_with_len 0 n))
+added_up n parts = filter (λ e. nat_lt 0 e.weight) (map (λ to. record { to = to; weight = weight_to parts to })
+    (range_with_len 0 n))
 
 -- the choice of these parts in a game of n states
 abbrev pub choice_of_parts : ℕ → List Edge → Distribution

@@ -22,7 +22,8 @@ pub fn draw_state(
     requires between { builder.old.under_way ≡ [] }
     ensures side { IfOk result (λ side. side ≡ (drawn_state states draws.old).value.side) }
     ensures last { OnOk result (draws.new ≡ (drawn_state states draws.old).last) }
-    ensures built { OnOk result (builder.new ≡ between (builder.old.done ++ (drawn_state states draws.old).value.choices ∷ [])) }
+    ensures built { OnOk result (builder.new ≡ between (builder.old.done ++ (drawn_state states draws.old).value.choices
+        ∷ [])) }
 {
     let side = side_drawn(draws.draw());
     let choices = 1 + draws.draw() % 3;

@@ -18,12 +18,14 @@ sum_of table = sum_by (λ v. v) table
 
 -- the sums of both tables, where these are settled
 abbrev pub ending : Bool → List ℕ → List ℕ → List ℕ
-ending stable lower upper = if stable then numbered (codes " lower ") (sum_of lower) ++ (numbered (codes " upper ") (sum_of upper) ++ codes " settled\n") else codes " unsettled\n"
+ending stable lower upper = if stable then numbered (codes " lower ") (sum_of lower)
+    ++ (numbered (codes " upper ") (sum_of upper) ++ codes " settled\n") else codes " unsettled\n"
 
 -- the line `model seed A states N zero Z`, where Z states are lost: of value 0; with its ending
 abbrev pub summary_text : ℕ → ℕ → ℕ → Bool → List ℕ → List ℕ → List ℕ
 summary_text seed states lost stable lower upper =
-    numbered (codes "model seed ") seed ++ (numbered (codes " states ") states ++ (numbered (codes " zero ") lost ++ ending stable lower upper))
+    numbered (codes "model seed ") seed ++ (numbered (codes " states ") states
+    ++ (numbered (codes " zero ") lost ++ ending stable lower upper))
 
 -- all is well where both tables are settled
 abbrev pub status_made : Bool → Status
@@ -33,13 +35,17 @@ status_made stable = if stable then Fine else SomeUndecided
 abbrev pub drawn_question : ℕ → ℕ → Query
 drawn_question seed states = question_of (drawn_game seed states)
 
--- The text and the status are the answer of `make`: they are those of a bracket of the drawn question after at most the asked rounds, and all of these were made where it is not settled.
+-- The text and the status are the answer of `make`: they are those of a bracket of the drawn question after at most the
+-- asked rounds, and all of these were made where it is not settled.
 pub record IsMade (seed states asked : ℕ) (text : List ℕ) (status : Status) : Type 0 where
   pub zero : List Bool
   pub is_zero : IsZeroSet (drawn_question seed states) zero
   pub found : Bracket
-  pub bounds : IsBracket (drawn_question seed states) zero AskMax (0 ∷ []) asked found.base.items found.upper.items found.rounds found.stable
-  pub lower : IsLowerTable (drawn_question seed states) zero found.base.items found.lower.items found.choices.items found.ranks.items
-  pub written : text ≡ summary_text seed states (count_by (λ marked. marked) zero) found.stable found.lower.items found.upper.items
+  pub bounds : IsBracket (drawn_question seed states) zero AskMax
+      (0 ∷ []) asked found.base.items found.upper.items found.rounds found.stable
+  pub lower : IsLowerTable (drawn_question seed states) zero found.base.items found.lower.items found.choices.items
+      found.ranks.items
+  pub written : text ≡ summary_text seed states (count_by (λ marked.
+      marked) zero) found.stable found.lower.items found.upper.items
   pub ends : status ≡ status_made found.stable
   pub completed : found.stable ≡ false → found.rounds ≡ asked

@@ -1,7 +1,7 @@
 //! What `make` says of a game that a seed draws.
 //!
-//! [`drawn_report`] writes one line on the bracket of its question: the number of states of value 0, and the sums of both tables
-//! where these are settled. [`laws`] says that the line of settled tables is the same on every run.
+//! [`drawn_report`] writes one line on the bracket of its question: the number of states of value 0, and the sums of
+//! both tables where these are settled. [`laws`] says that the line of settled tables is the same on every run.
 #![tactic(auto)]
 
 ghost use Rattle.std.specs.Prelude.{◌≡◌, ◌<◌, ◌^◌, IfOk, count_by};
@@ -31,7 +31,8 @@ pub fn drawn_report<R: Threads + Sync, G: Gate + Sync>(
     gate: &G,
 ) -> Result<Answer, OutOfMemory>
     requires { IsMakeInRange (make_of make.now) }
-    ensures made { IfOk result (λ answer. IsMade make.now.seed make.now.states make.now.rounds answer.text.items answer.status) }
+    ensures made { IfOk result (λ answer. IsMade make.now.seed make.now.states make.now.rounds answer.text.items
+        answer.status) }
     ensures answer { IfOk result (λ answer. IsAnswer answer.status) }
 {
     let drawn = draw_game(alloc, make.seed, make.states)?;
@@ -61,7 +62,8 @@ fn write_summary(
     found: &Bracket,
 ) -> Result<Answer, OutOfMemory>
     requires fits { (sum_of found.now.lower.items < 2 ^ 128) × (sum_of found.now.upper.items < 2 ^ 128) }
-    ensures text { IfOk result (λ answer. answer.text.items ≡ summary_text make.now.seed make.now.states (count_by (λ marked. marked) zero.now) found.now.stable found.now.lower.items found.now.upper.items) }
+    ensures text { IfOk result (λ answer. answer.text.items ≡ summary_text make.now.seed make.now.states
+        (count_by (λ marked. marked) zero.now) found.now.stable found.now.lower.items found.now.upper.items) }
     ensures status { IfOk result (λ answer. answer.status ≡ status_made found.now.stable) }
     ensures answer { IfOk result (λ answer. IsAnswer answer.status) }
 {
@@ -79,7 +81,8 @@ fn write_summary(
 // The sums of both tables, where these are settled.
 fn ending(alloc: Global, found: &Bracket) -> Result<String, AllocError>
     requires fits { (sum_of found.now.lower.items < 2 ^ 128) × (sum_of found.now.upper.items < 2 ^ 128) }
-    ensures { IfOk result (λ end. string_bytes end ≡ ending found.now.stable found.now.lower.items found.now.upper.items) }
+    ensures { IfOk result (λ end. string_bytes end ≡ ending found.now.stable found.now.lower.items
+        found.now.upper.items) }
 {
     if found.stable {
         let lower = sum_of(&found.lower);

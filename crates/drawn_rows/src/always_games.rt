@@ -1,5 +1,5 @@
-//! What always holds, over random games of two players: the printed bounds of `G` are 1 less those of its dual, exchanged, and lie
-//! around 1 less the dual's k-step values.
+//! What always holds, over random games of two players: the printed bounds of `G` are 1 less those of its dual,
+//! exchanged, and lie around 1 less the dual's k-step values.
 
 use crate::drawn_models::{DrawnModel, MOST_STATES, draw_model};
 use crate::draws::Draws;
@@ -69,7 +69,8 @@ const ASKED: [Asked; 6] = [
     },
 ];
 
-// A coalition as it is spelled, and whether the first player and the second one are in it; no coalition where neither is said.
+// A coalition as it is spelled, and whether the first player and the second one are in it; no coalition where neither
+// is said.
 #[derive(Clone, Copy)]
 struct Coalition {
     text: &'static str,
@@ -160,8 +161,8 @@ fn are_mirrored(lines: &[PrintedLine<'_>], dual: &[PrintedLine<'_>]) -> bool {
     same
 }
 
-// Whether the bounds of a line lie around what so many steps say of its state; and, where they are promised to, no more units
-// away than there were steps.
+// Whether the bounds of a line lie around what so many steps say of its state; and, where they are promised to, no more
+// units away than there were steps.
 fn lies_around(
     line: &PrintedLine<'_>,
     staying: &Staying,
@@ -178,8 +179,8 @@ fn lies_around(
     Some(is_sound && (is_near || !is_promised))
 }
 
-// Whether all lines lie around what so many steps say. The rounds that were made promise as many steps; where a value is asked for,
-// fewer rounds than were asked are made only where more would change nothing.
+// Whether all lines lie around what so many steps say. The rounds that were made promise as many steps; where a value
+// is asked for, fewer rounds than were asked are made only where more would change nothing.
 fn all_lie_around(
     lines: &[PrintedLine<'_>],
     staying: &Staying,
@@ -220,7 +221,8 @@ fn compare<R: Threads + Sync + Abort>(
     Ok(lines.iter().filter(|line| line.lower < line.upper).count())
 }
 
-// Compares what is written of a model, a coalition and a bound that are drawn. It gives how many lines have bounds that differ.
+// Compares what is written of a model, a coalition and a bound that are drawn. It gives how many lines have bounds that
+// differ.
 fn compare_drawn<R: Threads + Sync + Abort>(
     rt: &R,
     alloc: Global,

@@ -9,8 +9,8 @@ use std::test::Fail;
 /// The most states of a model that is drawn.
 pub const MOST_STATES: u32 = 6;
 
-// How many choices of a model have two parts at most: the common denominator is then at most 4^4, so that values of some steps
-// fit 128 bits.
+// How many choices of a model have two parts at most: the common denominator is then at most 4^4, so that values of
+// some steps fit 128 bits.
 const MOST_TOSSES: u32 = 4;
 
 // The probabilities of a choice of two parts.

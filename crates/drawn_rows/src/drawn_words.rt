@@ -2,7 +2,7 @@
 
 use crate::draws::Draws;
 use crate::plain_reading::{PlainWords, plain_words};
-use command_words::{AskedWords, AuditWords, CheckWords, CommandWords, read_words};
+use command_words::{AskedWords, AuditWords, CheckWords, CommandWords, SolveWords, read_words};
 use game_outside::{OpenGate, SteadyShelf, SteadySink};
 use run_rows::coin_loop_files;
 use std::alloc::Global;
@@ -18,7 +18,9 @@ const CHECK: &[&str] = &["check", "m.tra", "m.lab", REACH];
 
 const AUDIT: &[&str] = &["audit", "m.tra", "m.lab", REACH, "c"];
 
-const DRAWN: [&str; 37] = [
+const SOLVE: &[&str] = &["solve", "m.tra", "m.lab", REACH];
+
+const DRAWN: [&str; 39] = [
     "m.tra",
     "m.lab",
     REACH,
@@ -39,6 +41,8 @@ const DRAWN: [&str; 37] = [
     "--own=m.own",
     "--own=",
     "--own=-",
+    "--values",
+    "--values=v",
     "--rounds",
     "--rounds",
     "--rounds=3",
@@ -125,11 +129,20 @@ fn says_audit(audit: &AuditWords<'_>, plain: &PlainWords<'_>) -> bool {
         && is_word(plain.places.as_slice(), 3, audit.certificate)
 }
 
+// Whether a `solve` that was read is what the plain reading says.
+fn says_solve(solve: &SolveWords<'_>, plain: &PlainWords<'_>) -> bool {
+    plain.name == "solve"
+        && asks(&solve.asked, plain)
+        && is_one_file(solve.values, plain.values)
+        && solve.plan == plain.plan
+}
+
 // Whether a command that was read is what the plain reading says, in each of its words.
 fn says_command(command: &CommandWords<'_>, plain: &PlainWords<'_>) -> bool {
     match command {
         CommandWords::Check(check) => says_check(check, plain),
         CommandWords::Audit(audit) => says_audit(audit, plain),
+        CommandWords::Solve(solve) => says_solve(solve, plain),
         CommandWords::Make(_) | CommandWords::Sure(_) => false,
     }
 }
@@ -194,7 +207,7 @@ fn read_drawn<R: Threads + Sync + Abort>(
 fn drawn_words_are_read_as_a_plain_reading_says(rt: HostRuntime) -> Result<(), Fail> {
     let alloc = rt.alloc();
     let mut draws = Draws::from_seed(1);
-    for words in [CHECK, AUDIT] {
+    for words in [CHECK, AUDIT, SOLVE] {
         let commands = read_drawn(&rt, alloc, &mut draws, words)?;
         assert!(rt;
             300 < commands && commands < 2000,

@@ -1,5 +1,5 @@
-//! Words, texts and models that are drawn by lot, the same in each run, read and run, and compared with plain readings and
-//! plain values.
+//! Words, texts and models that are drawn by lot, the same in each run, read and run, and compared with plain readings
+//! and plain values.
 #![tactic(auto)]
 
 #[cfg(test)]

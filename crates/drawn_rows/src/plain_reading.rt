@@ -23,6 +23,11 @@ const AUDIT: Taken = Taken {
     options: &["--own"],
 };
 
+const SOLVE: Taken = Taken {
+    places: 3,
+    options: &["--own", "--values", "--plan"],
+};
+
 /// What the words of a command say.
 #[derive(Drop)]
 pub struct PlainWords<'a> {
@@ -32,6 +37,8 @@ pub struct PlainWords<'a> {
     pub places: Vec<&'a str>,
     /// The value of the option of this name, if it is given.
     pub own: Option<&'a str>,
+    /// The value of the option of this name, if it is given.
+    pub values: Option<&'a str>,
     /// The number of rounds, or the one where no word says it.
     pub rounds: u32,
     /// The number of workers, or the one where no word says it.
@@ -58,6 +65,7 @@ pub fn plain_words<'a>(alloc: Global, words: &[&'a str]) -> Result<Option<PlainW
     match words.split_first() {
         Some((name, rest)) if *name == "check" => words_behind(alloc, CHECK, name, rest),
         Some((name, rest)) if *name == "audit" => words_behind(alloc, AUDIT, name, rest),
+        Some((name, rest)) if *name == "solve" => words_behind(alloc, SOLVE, name, rest),
         _ => Ok(None),
     }
 }
@@ -75,6 +83,7 @@ fn words_behind<'a>(
             name,
             places: Vec::new(alloc),
             own: None,
+            values: None,
             rounds: 10_000,
             workers: 4,
             plan: false,
@@ -143,6 +152,7 @@ impl<'a> Reading<'a> {
     fn take(&mut self, name: &str, value: &'a str) {
         match (name, value.parse::<u32>()) {
             ("--own", _) if !value.is_empty() => self.said.own = Some(value),
+            ("--values", _) if !value.is_empty() => self.said.values = Some(value),
             ("--rounds", Ok(rounds)) if rounds <= 1_000_000 => self.said.rounds = rounds,
             ("--workers", Ok(workers)) if 1 <= workers && workers <= 64 => {
                 self.said.workers = workers;

@@ -46,8 +46,8 @@ impl<'g> LeavingGame<'g> {
         })
     }
 
-    /// What so many steps say: the most is 1 less the value of leaving within them, and the least is that of coming to a safe
-    /// state within them, and not outside before.
+    /// What so many steps say: the most is 1 less the value of leaving within them, and the least is that of coming to
+    /// a safe state within them, and not outside before.
     pub fn staying(&self, alloc: Global, steps: u32) -> Option<Staying> {
         let left = left_within(alloc, self.game, &self.sides, &self.outside, steps)?;
         let least = numerators_of(
@@ -108,7 +108,8 @@ fn left_within(
     numerators_of(alloc, game, sides, outside, &dead, steps)
 }
 
-// The numerators of reaching a goal within so many steps, where the lists are long enough and no state is both goal and dead.
+// The numerators of reaching a goal within so many steps, where the lists are long enough and no state is both goal and
+// dead.
 fn numerators_of(
     alloc: Global,
     game: &Game,
@@ -134,7 +135,8 @@ fn numerators_of(
 // Whether no state is both.
 fn are_apart(goals: &[bool], dead: &[bool]) -> bool
     requires { length goals.now ≡ length dead.now }
-    ensures { OnTrue result ((s : ℕ) → slice_index_or goals.now s false ≡ true → slice_index_or dead.now s false ≡ false) }
+    ensures { OnTrue result ((s : ℕ) → slice_index_or goals.now s false ≡ true
+        → slice_index_or dead.now s false ≡ false) }
 {
     for state in 0..goals.len() {
         if goals[state] && dead[state] {

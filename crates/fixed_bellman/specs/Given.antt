@@ -12,10 +12,13 @@ IsFree q s = (is_goal q s ≡ false) × (is_dead q s ≡ false)
 
 -- the choice gives at least the value over a table: at a state of the minimiser it is 0, and every choice does
 pub record IsGivenBy (q : Query) (table : ℕ → ℕ) (s value choice : ℕ) : Type 0 where
-  pub greatest : side_at q s ≡ Max → (choice < length (choices_of q.game s)) × (value ≤ down_value table (choice_of q.game s choice))
-  pub least : side_at q s ≡ Min → (choice ≡ 0) × ((c : ℕ) → c < length (choices_of q.game s) → value ≤ down_value table (choice_of q.game s c))
+  pub greatest : side_at q s ≡ Max → (choice < length (choices_of q.game s))
+      × (value ≤ down_value table (choice_of q.game s choice))
+  pub least : side_at q s ≡ Min → (choice ≡ 0) × ((c : ℕ) → c < length (choices_of q.game s)
+      → value ≤ down_value table (choice_of q.game s c))
 
--- a value, at least a floor, and a choice for it: at least the step over what was seen before, and where it is above the floor, given by what was seen after; no earlier choice had it before. At the floor the choice is 0.
+-- a value, at least a floor, and a choice for it: at least the step over what was seen before, and where it is above
+-- the floor, given by what was seen after; no earlier choice had it before. At the floor the choice is 0.
 pub record IsStepAbove (q : Query) (old new : ℕ → ℕ) (s floor value choice : ℕ) : Type 0 where
   pub units : value ≤ unit
   pub floored : floor ≤ value

@@ -10,7 +10,8 @@ use Rattle.fixed_bellman.specs.Bounds.{lowers, uppers}
 abbrev pub edges_of : List ℕ → List ℕ → List Edge
 edges_of [] weights = []
 edges_of (successor ∷ successors) [] = []
-edges_of (successor ∷ successors) (weight ∷ weights) = record { to = successor; weight = weight } ∷ edges_of successors weights
+edges_of (successor ∷ successors) (weight ∷ weights) =
+    record { to = successor; weight = weight } ∷ edges_of successors weights
 
 -- the sum of their weights
 abbrev pub weight_of_all : List ℕ → List ℕ → ℕ

@@ -25,7 +25,8 @@ pub fn step_above<V: Values>(
     requires free { IsFree question.now state }
     requires floor { floor ≤ unit }
     ensures onward { V.onward values.now pass.old pass.new }
-    ensures step { IsStepAbove question.now (V.seen values.now pass.old) (V.seen values.now pass.new) state floor result.0 result.1 }
+    ensures step { IsStepAbove question.now (V.seen values.now pass.old)
+        (V.seen values.now pass.new) state floor result.0 result.1 }
 {
     question.known();
     match question.side(state) {
@@ -51,9 +52,12 @@ fn greatest_above<V: Values>(
     ensures floored { floor ≤ result.0 }
     ensures none { result.0 ≡ floor → result.1 ≡ 0 }
     ensures inside { result.1 < length (choices_of question.now.game state) }
-    ensures low { (c : ℕ) → c < length (choices_of question.now.game state) → down_value (V.seen values.now pass.old) (choice_of question.now.game state c) ≤ result.0 }
-    ensures given { floor < result.0 → result.0 ≤ down_value (V.seen values.now pass.new) (choice_of question.now.game state result.1) }
-    ensures first { (c : ℕ) → c < result.1 → down_value (V.seen values.now pass.old) (choice_of question.now.game state c) < result.0 }
+    ensures low { (c : ℕ) → c < length (choices_of question.now.game state)
+        → down_value (V.seen values.now pass.old) (choice_of question.now.game state c) ≤ result.0 }
+    ensures given { floor < result.0 → result.0 ≤ down_value (V.seen values.now pass.new)
+        (choice_of question.now.game state result.1) }
+    ensures first { (c : ℕ) → c < result.1
+        → down_value (V.seen values.now pass.old) (choice_of question.now.game state c) < result.0 }
 {
     question.known();
     let row = question.row(state);
@@ -84,8 +88,10 @@ fn least_above<V: Values>(
     ensures onward { V.onward values.now pass.old pass.new }
     ensures units { result ≤ unit }
     ensures floored { floor ≤ result }
-    ensures low { (c : ℕ) × (c < length (choices_of question.now.game state)) × (down_value (V.seen values.now pass.old) (choice_of question.now.game state c) ≤ result) }
-    ensures given { floor < result → (c : ℕ) → c < length (choices_of question.now.game state) → result ≤ down_value (V.seen values.now pass.new) (choice_of question.now.game state c) }
+    ensures low { (c : ℕ) × (c < length (choices_of question.now.game state))
+        × (down_value (V.seen values.now pass.old) (choice_of question.now.game state c) ≤ result) }
+    ensures given { floor < result → (c : ℕ) → c < length (choices_of question.now.game state)
+        → result ≤ down_value (V.seen values.now pass.new) (choice_of question.now.game state c) }
 {
     question.known();
     let row = question.row(state);

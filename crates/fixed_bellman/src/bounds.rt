@@ -19,8 +19,8 @@ pub struct Bounds {
     pub upper: u64,
 }
 
-/// The step of both bounds of a state: the down step of the lower bounds, and the up step of the upper ones. It goes over
-/// the edges of each choice once.
+/// The step of both bounds of a state: the down step of the lower bounds, and the up step of the upper ones. It goes
+/// over the edges of each choice once.
 pub fn step_bounds(question: &Question, state: u32, table: &[Bounds]) -> Bounds
     requires state { state < states question.now }
     requires length { length table.now ≡ states question.now }
@@ -49,8 +49,10 @@ fn greatest_bounds(question: &Question, state: u32, table: &[Bounds]) -> Bounds
     requires state { state < states question.now }
     requires length { length table.now ≡ states question.now }
     requires units { All AreUnits table.now }
-    ensures lower { result.lower ≡ optimum Side.Max (down_value (slice_index (lowers table.now))) (choices_of question.now.game state) }
-    ensures upper { result.upper ≡ optimum Side.Max (up_value (slice_index (uppers table.now))) (choices_of question.now.game state) }
+    ensures lower { result.lower ≡ optimum Side.Max (down_value (slice_index (lowers table.now)))
+        (choices_of question.now.game state) }
+    ensures upper { result.upper ≡ optimum Side.Max (up_value (slice_index (uppers table.now)))
+        (choices_of question.now.game state) }
     ensures units { AreUnits result }
 {
     question.known();
@@ -74,8 +76,10 @@ fn least_bounds(question: &Question, state: u32, table: &[Bounds]) -> Bounds
     requires state { state < states question.now }
     requires length { length table.now ≡ states question.now }
     requires units { All AreUnits table.now }
-    ensures lower { result.lower ≡ optimum Side.Min (down_value (slice_index (lowers table.now))) (choices_of question.now.game state) }
-    ensures upper { result.upper ≡ optimum Side.Min (up_value (slice_index (uppers table.now))) (choices_of question.now.game state) }
+    ensures lower { result.lower ≡ optimum Side.Min (down_value (slice_index (lowers table.now)))
+        (choices_of question.now.game state) }
+    ensures upper { result.upper ≡ optimum Side.Min (up_value (slice_index (uppers table.now)))
+        (choices_of question.now.game state) }
     ensures units { AreUnits result }
 {
     question.known();

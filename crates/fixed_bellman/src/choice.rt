@@ -20,8 +20,10 @@ pub fn down_choice(question: &Question, state: u32, choice: u32, table: &[u64]) 
     ensures value { result ≡ down_value (slice_index table.now) (choice_of question.now.game state choice) }
     ensures units { result ≤ unit }
     // It is the greatest number of units that is not above the weighted average.
-    ensures below { result * (choice_of question.now.game state choice).total ≤ weighted_sum (slice_index table.now) (choice_of question.now.game state choice).edges }
-    ensures greatest { weighted_sum (slice_index table.now) (choice_of question.now.game state choice).edges < (result + 1) * (choice_of question.now.game state choice).total }
+    ensures below { result * (choice_of question.now.game state choice).total
+        ≤ weighted_sum (slice_index table.now) (choice_of question.now.game state choice).edges }
+    ensures greatest { weighted_sum (slice_index table.now) (choice_of question.now.game state choice).edges
+        < (result + 1) * (choice_of question.now.game state choice).total }
 {
     question.known();
     table_quotient(&question.row(state), choice, table).down()
@@ -36,8 +38,11 @@ pub fn up_choice(question: &Question, state: u32, choice: u32, table: &[u64]) ->
     ensures value { result ≡ up_value (slice_index table.now) (choice_of question.now.game state choice) }
     ensures units { result ≤ unit }
     // It is the least number of units that is not below the weighted average.
-    ensures above { weighted_sum (slice_index table.now) (choice_of question.now.game state choice).edges ≤ result * (choice_of question.now.game state choice).total }
-    ensures least { result * (choice_of question.now.game state choice).total < weighted_sum (slice_index table.now) (choice_of question.now.game state choice).edges + (choice_of question.now.game state choice).total }
+    ensures above { weighted_sum (slice_index table.now) (choice_of question.now.game state choice).edges
+        ≤ result * (choice_of question.now.game state choice).total }
+    ensures least { result * (choice_of question.now.game state choice).total
+        < weighted_sum (slice_index table.now) (choice_of question.now.game state choice).edges +
+        (choice_of question.now.game state choice).total }
 {
     question.known();
     table_quotient(&question.row(state), choice, table).up()

@@ -64,7 +64,9 @@ fn table_step_above(question: &Question, state: u32, table: &[u64], floor: u64) 
     requires floor { floor ≤ unit }
     ensures units { result.0 ≤ unit }
     ensures low { down_step question.now (slice_index table.now) state ≤ result.0 }
-    ensures exact { (floor < result.0) ⊎ (floor ≡ 0) → (result.0 ≡ down_step question.now (slice_index table.now) state) × DownChoice question.now (slice_index table.now) state result.0 result.1 }
+    ensures exact { (floor < result.0) ⊎ (floor ≡ 0)
+        → (result.0 ≡ down_step question.now (slice_index table.now) state)
+        × DownChoice question.now (slice_index table.now) state result.0 result.1 }
 {
     question.known();
     let entries = Entries::new(table);

@@ -17,7 +17,8 @@ pub fn quotient<V: Values>(row: &Row<'_>, choice: u32, values: &V, pass: &mut V:
     requires choice { choice < length row.now }
     requires fits { All (λ e. V.fits values.now pass.old e.to) (choice_among row.now choice).edges }
     ensures onward { V.onward values.now pass.old pass.new }
-    ensures between { IsBetween result (V.seen values.now pass.old) (V.seen values.now pass.new) (choice_among row.now choice) }
+    ensures between { IsBetween result (V.seen values.now pass.old) (V.seen values.now pass.new)
+        (choice_among row.now choice) }
 {
     row.known();
     let total = row.total(choice);
@@ -51,7 +52,8 @@ fn sum_of<V: Values>(
     requires total { total ≡ (choice_among row.now choice).total }
     requires fits { All (λ e. V.fits values.now pass.old e.to) (choice_among row.now choice).edges }
     ensures onward { V.onward values.now pass.old pass.new }
-    ensures sum { IsSumBetween (choice_among row.now choice).edges (V.seen values.now pass.old) (V.seen values.now pass.new) result }
+    ensures sum { IsSumBetween (choice_among row.now choice).edges (V.seen values.now pass.old)
+        (V.seen values.now pass.new) result }
 {
     row.known();
     if total >= 18_446_744_073_709_551_616 {
@@ -71,7 +73,8 @@ fn narrow_sum<V: Values>(successors: &[u32], weights: &[u64], values: &V, pass: 
     requires fits { All (λ t. V.fits values.now pass.old t) successors.now }
     requires narrow { weight_of_all successors.now weights.now * unit < 2 ^ 64 }
     ensures onward { V.onward values.now pass.old pass.new }
-    ensures sum { IsSumBetween (edges_of successors.now weights.now) (V.seen values.now pass.old) (V.seen values.now pass.new) result }
+    ensures sum { IsSumBetween (edges_of successors.now weights.now) (V.seen values.now pass.old)
+        (V.seen values.now pass.new) result }
 {
     let mut sum: u64 = 0;
     for (place, successor) in successors.iter().enumerate() {
@@ -91,7 +94,8 @@ fn middle_sum<V: Values>(
     requires fits { All (λ t. V.fits values.now pass.old t) successors.now }
     requires small { weight_of_all successors.now weights.now < total_bound }
     ensures onward { V.onward values.now pass.old pass.new }
-    ensures sum { IsSumBetween (edges_of successors.now weights.now) (V.seen values.now pass.old) (V.seen values.now pass.new) result }
+    ensures sum { IsSumBetween (edges_of successors.now weights.now) (V.seen values.now pass.old)
+        (V.seen values.now pass.new) result }
 {
     let mut sum: u128 = 0;
     for (place, successor) in successors.iter().enumerate() {
@@ -106,7 +110,8 @@ fn wide_sum<V: Values>(row: &Row<'_>, choice: u32, values: &V, pass: &mut V::Pas
     requires choice { choice < length row.now }
     requires fits { All (λ e. V.fits values.now pass.old e.to) (choice_among row.now choice).edges }
     ensures onward { V.onward values.now pass.old pass.new }
-    ensures sum { IsSumBetween (choice_among row.now choice).edges (V.seen values.now pass.old) (V.seen values.now pass.new) result }
+    ensures sum { IsSumBetween (choice_among row.now choice).edges (V.seen values.now pass.old)
+        (V.seen values.now pass.new) result }
 {
     row.known();
     let mut sum: u128 = 0;

@@ -60,8 +60,10 @@ opening_at l f s = if holds l f.right s then unit else 0
 
 -- 1. The question, as a relation.
 
--- whatever the path: the names in the formula are there, and the question is of this game, with the formula's sides and the initial states
-pub record IsSetUp (game : List (List Distribution)) (l : Labelling) (o : Ownership) (f : Tree) (question : Query) (initial : List ℕ) : Type 0 where
+-- whatever the path: the names in the formula are there, and the question is of this game, with the formula's sides and
+-- the initial states
+pub record IsSetUp (game : List (List Distribution)) (l : Labelling) (o : Ownership) (f : Tree) (question : Query)
+    (initial : List ℕ) : Type 0 where
   pub labels : All (λ name. is_known l name ≡ true) (formula_labels f)
   pub players : All (λ name. is_player o name ≡ true) (formula_players f)
   pub game_same : question.game ≡ game
@@ -72,13 +74,15 @@ pub record IsSetUp (game : List (List Distribution)) (l : Labelling) (o : Owners
   pub starts : initial ≡ states_with l init
   pub some : initial ≢ []
 
-pub record Poses (game : List (List Distribution)) (l : Labelling) (o : Ownership) (f : Tree) (p : Posing) : Type 0 where
+pub record Poses (game : List (List Distribution)) (l : Labelling) (o : Ownership) (f : Tree)
+    (p : Posing) : Type 0 where
   pub set_up : IsSetUp game l o f p.question p.initial
   pub goals : (s : ℕ) → s < length game → is_goal p.question s ≡ holds l f.right s
   pub deads : (s : ℕ) → s < length game → is_dead p.question s ≡ neither_holds l f s
 
 -- with `X`: no marks, and an opening table
-pub record PosesNext (game : List (List Distribution)) (l : Labelling) (o : Ownership) (f : Tree) (p : NextPosing) : Type 0 where
+pub record PosesNext (game : List (List Distribution)) (l : Labelling) (o : Ownership) (f : Tree)
+    (p : NextPosing) : Type 0 where
   pub set_up : IsSetUp game l o f p.question p.initial
   pub goals : (s : ℕ) → s < length game → is_goal p.question s ≡ false
   pub deads : (s : ℕ) → s < length game → is_dead p.question s ≡ false
@@ -93,10 +97,17 @@ at_states value n = map value (range_with_len 0 n)
 
 -- the question of the game with the formula's sides, and these goals and dead states
 abbrev pub question_with : List (List Distribution) → Ownership → Tree → List Bool → List Bool → Query
-question_with game o f goals deads = record { game = game; sides = at_states (side_of f.coalition f.bound o) (length game); goals = goals; deads = deads }
+question_with game o f goals deads = record {
+  game = game;
+  sides = at_states (side_of f.coalition f.bound o)
+      (length game);
+  goals = goals;
+  deads = deads;
+}
 
 abbrev pub question_of : List (List Distribution) → Labelling → Ownership → Tree → Query
-question_of game l o f = question_with game o f (at_states (holds l f.right) (length game)) (at_states (neither_holds l f) (length game))
+question_of game l o f = question_with game o f (at_states (holds l f.right) (length game))
+    (at_states (neither_holds l f) (length game))
 
 abbrev pub unmarked : ℕ → List Bool
 unmarked states = at_states (λ s. false) states
@@ -115,7 +126,8 @@ known_with None None initial = initial
 
 -- the initial states, or the first fault
 abbrev pub initial_said : Labelling → Ownership → Tree → Result (List ℕ) PoseFault
-initial_said l o f = known_with (unknown_label l (formula_labels f)) (unknown_player o (formula_players f)) (some_state (states_with l init))
+initial_said l o f = known_with (unknown_label l (formula_labels f)) (unknown_player o (formula_players f))
+    (some_state (states_with l init))
 
 -- what is made of initial states, or the fault
 abbrev pub made_of : {X : Type 0} → (List ℕ → X) → Result (List ℕ) PoseFault → Result X PoseFault
@@ -124,11 +136,16 @@ made_of make (Err fault) = Err fault
 
 -- the question that is posed, or the first fault
 abbrev pub pose_said : List (List Distribution) → Labelling → Ownership → Tree → Result Posing PoseFault
-pose_said game l o f = made_of (λ initial. record { question = question_of game l o f; initial = initial }) (initial_said l o f)
+pose_said game l o f = made_of (λ initial. record { question = question_of game l o f; initial = initial })
+    (initial_said l o f)
 
 -- the same with `X`
 abbrev pub pose_next_said : List (List Distribution) → Labelling → Ownership → Tree → Result NextPosing PoseFault
-pose_next_said game l o f = made_of (λ initial. record { question = next_question_of game o f; opening = at_states (opening_at l f) (length game); initial = initial }) (initial_said l o f)
+pose_next_said game l o f = made_of (λ initial. record {
+  question = next_question_of game o f;
+  opening = at_states (opening_at l f) (length game);
+  initial = initial;
+}) (initial_said l o f)
 
 abbrev pub IsOutOfMemory : PoseFault → Type 0
 IsOutOfMemory fault = fault ≡ OutOfMemory

@@ -33,7 +33,8 @@ is_member names name = list_any (λ other. bytes_eq name other) names
 -- the side that chooses at a state
 abbrev pub side_of : Option (List (List ℕ)) → Bound → Ownership → ℕ → Side
 side_of None bound owners s = common_side bound
-side_of (Some names) bound owners s = if is_member names (owner_of owners s) then coalition_side bound else other_side (coalition_side bound)
+side_of (Some names) bound owners s = if is_member names (owner_of owners s) then coalition_side bound else other_side
+    (coalition_side bound)
 
 -- the players of a coalition
 abbrev pub members_of : Option (List (List ℕ)) → List (List ℕ)

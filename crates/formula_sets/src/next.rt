@@ -90,9 +90,11 @@ pub fn pose_next<'g>(
     requires labels { labels.now.states ≡ length game.now }
     requires owners { length owners.now.owners ≡ length game.now }
     requires flat { IsFlat (tree_of formula.now) }
-    ensures exact { AnswersOrWants IsOutOfMemory next_posing_of result (pose_next_said game.now labels.now owners.now (tree_of formula.now)) }
+    ensures exact { AnswersOrWants IsOutOfMemory next_posing_of result
+        (pose_next_said game.now labels.now owners.now (tree_of formula.now)) }
     ensures inside { IfOk result (λ posed. All (λ s. s < states posed.question) posed.initial.items) }
-    ensures opening { IfOk result (λ posed. (length posed.opening.items ≡ states posed.question) × All (λ v. v ≤ unit) posed.opening.items) }
+    ensures opening { IfOk result (λ posed. (length posed.opening.items ≡ states posed.question)
+        × All (λ v. v ≤ unit) posed.opening.items) }
 {
     let initial = initial_of(alloc, labels, owners, formula)?;
     let Ok(question) = question_in(alloc, game, owners, formula) else {

@@ -32,7 +32,8 @@ pub fn sides_of(
     states: u32,
 ) -> Result<Vec<Side>, AllocError>
     requires { length owners.now.owners ≡ states }
-    ensures { IfOk result (λ v. v.items ≡ at_states (side_of (tree_of formula.now).coalition formula.now.bound owners.now) states) }
+    ensures { IfOk result (λ v. v.items ≡ at_states (side_of
+        (tree_of formula.now).coalition formula.now.bound owners.now) states) }
 {
     let mut sides = Vec::with_capacity(alloc, states as usize)?;
     for state in 0..states {
@@ -111,7 +112,8 @@ pub fn initial_of(
     owners: &Owners,
     formula: &Formula,
 ) -> Result<Vec<u32>, PoseFault>
-    ensures said { AnswersOrWants IsOutOfMemory (λ initial. initial.items) result (initial_said labels.now owners.now (tree_of formula.now)) }
+    ensures said { AnswersOrWants IsOutOfMemory (λ initial. initial.items) result
+        (initial_said labels.now owners.now (tree_of formula.now)) }
     ensures inside { IfOk result (λ initial. All (λ s. s < labels.now.states) initial.items) }
 {
     labels.known();
@@ -143,7 +145,8 @@ pub fn pose<'g>(
     requires labels { labels.now.states ≡ length game.now }
     requires owners { length owners.now.owners ≡ length game.now }
     requires flat { IsFlat (tree_of formula.now) }
-    ensures exact { AnswersOrWants IsOutOfMemory posing_of result (pose_said game.now labels.now owners.now (tree_of formula.now)) }
+    ensures exact { AnswersOrWants IsOutOfMemory posing_of result
+        (pose_said game.now labels.now owners.now (tree_of formula.now)) }
     ensures inside { IfOk result (λ posed. All (λ s. s < states posed.question) posed.initial.items) }
 {
     let initial = initial_of(alloc, labels, owners, formula)?;

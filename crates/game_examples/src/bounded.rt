@@ -8,12 +8,13 @@ ghost use Rattle.round_workers.specs.Share.{most_workers};
 use bounded_rounds::{MOST_STEPS, Sweep, bounded, bounded_values};
 use expectations::{holds, same};
 use game_model::{Side, UNIT};
-use game_outside::{HoldGate, OpenGate};
+use game_outside::{Gate, HoldGate, OpenGate};
 use sample_games::{
-    all_of, coin_loop, four_states, ladder, question_of, question_of_sides,
+    all_of, chain, coin_loop, four_states, ladder, question_of, question_of_sides,
     question_with_minimiser_at,
 };
 use std::alloc::{AllocError, Global};
+use std::sync::atomic::{AtomicU32, Ordering};
 use std::test::Fail;
 use std::thread::Threads;
 
@@ -88,6 +89,48 @@ fn two_steps<R: Threads + Sync>(rt: &R, alloc: Global, gate: &HoldGate) -> Resul
     let game = coin_loop(alloc)?;
     let question = question_of(alloc, &game, Side::Max, 1)?;
     Ok(bounded(rt, alloc, &question, &[0, UNIT, 0], 2, 2, gate)?)
+}
+
+// Counts how often each of two workers passes it.
+#[derive(Drop)]
+struct PairGate {
+    first: AtomicU32,
+    second: AtomicU32,
+}
+
+impl Gate for PairGate {
+    fn arrive(&self, worker: u32, _state: u32) {
+        let passed = if worker == 0 {
+            &self.first
+        } else {
+            &self.second
+        };
+        let _before = passed.fetch_add(1, Ordering::SeqCst);
+    }
+}
+
+/// As many edges as make one more worker worth its thread; a chain has one for each state.
+const MANY: u32 = 50_000;
+
+// Three steps of two workers over a chain of many states.
+fn three_steps<R: Threads + Sync>(rt: &R, alloc: Global, gate: &PairGate) -> Result<Sweep, Fail> {
+    let game = chain(alloc, MANY)?;
+    let question = question_of(alloc, &game, Side::Max, MANY - 1)?;
+    Ok(bounded_values(rt, alloc, &question, 3, 2, gate)?)
+}
+
+#[test]
+fn later_steps_over_many_states_have_all_workers(rt: HostRuntime) -> Result<(), Fail> {
+    let gate = PairGate {
+        first: AtomicU32::new(0),
+        second: AtomicU32::new(0),
+    };
+    let _sweep = three_steps(&rt, rt.alloc(), &gate)?;
+    let passed = (
+        gate.first.load(Ordering::SeqCst),
+        gate.second.load(Ordering::SeqCst),
+    );
+    same("first and second", passed, (3 * MANY / 2, 3 * MANY / 2))
 }
 
 #[test]

@@ -91,8 +91,8 @@ fn the_coin_loop_settles_at_round_50(rt: HostRuntime) -> Result<(), Fail> {
     Ok(())
 }
 
-/// After so many rounds at most, these are the base and the bounds of state 0 of the coin loop, and these are the rounds that
-/// it took and whether it settled.
+/// After so many rounds at most, these are the base and the bounds of state 0 of the coin loop, and these are the
+/// rounds that it took and whether it settled.
 fn check_coin_loop<R: Threads + Sync>(
     rt: &R,
     alloc: Global,

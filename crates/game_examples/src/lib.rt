@@ -1,5 +1,5 @@
-//! Worked examples of the crates that compute over games: values, sets, guesses, ranks, brackets and formulas with others
-//! inside, over small games.
+//! Worked examples of the crates that compute over games: values, sets, guesses, ranks, brackets and formulas with
+//! others inside, over small games.
 //!
 //! They stand over these crates, since a test in a crate proves that crate once more.
 #![tactic(auto)]

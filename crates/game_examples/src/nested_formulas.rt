@@ -40,7 +40,13 @@ fn goal(alloc: Global) -> Result<StateFormula, Fail>
 
 // `[ F right ]` with this bound.
 fn reaching(bound: Bound, right: StateFormula) -> Formula
-    ensures { tree_of result ≡ record { coalition = None; bound = bound; kind = PathKind.Until; left = True; right = state_of right } }
+    ensures { tree_of result ≡ record {
+      coalition = None;
+      bound = bound;
+      kind = PathKind.Until;
+      left = True;
+      right = state_of right;
+    } }
 {
     Formula {
         coalition: None,

@@ -81,8 +81,8 @@ fn check_steps(alloc: Global, question: &Question<'_>, lower: &[u64]) -> Result<
     question.known();
     let zero = zero_set(alloc, question)?;
     let mut witnesses = Witnesses::none();
-    // The five tables without an excess are made, and each is refused at another state. These states refuse all others up to
-    // the one that has the unit everywhere.
+    // The five tables without an excess are made, and each is refused at another state. These states refuse all others
+    // up to the one that has the unit everywhere.
     guess_with(&Alone {}, alloc, &*question, &zero, &*lower, &mut witnesses)?;
     let first = witnesses.up_steps();
     // Now they refuse the five as well.

@@ -6,3 +6,5 @@ pub mod Near
 pub mod Under
 pub mod Truth
 pub mod Powers
+pub mod Planned
+pub mod Horizon

@@ -12,7 +12,7 @@ use Rattle.game_model.proofs.Choices.{denominator-pos}
 unit-pos : 0 < unit
 unit-pos = lit< tt
 
-near-reached : (u a b v n d m : ℕ) → 0 < u → a * u ≤ v * b → m * v * d ≤ u * (m * n + d) → a * m * d ≤ b * (m * n + d)
+pub near-reached : (u a b v n d m : ℕ) → 0 < u → a * u ≤ v * b → m * v * d ≤ u * (m * n + d) → a * m * d ≤ b * (m * n + d)
 near-reached u a b v n d m positive bound near =
     let whole : u * (a * m * d) ≤ u * (b * (m * n + d)) = omega (arith, mul-le-mul_right (m * d) bound, mul-le-mul_left b near) in
     le_of_mul-le-mul_left whole positive
@@ -23,7 +23,7 @@ IsNear-reaches q table a b s near inside bound = λ m some.
     let at = near m some in
     (at.0, near-reached unit a b (table s) (numerator q at.0 s) (denominator q.game ^ at.0) m unit-pos bound (at.1 s inside))
 
-near-exceeded : (u a b v n d m : ℕ) → 0 < d → m ≡ b * u + 1 → a * u + 1 ≤ v * b → m * v * d ≤ u * (m * n + d) → a * d < b * n
+pub near-exceeded : (u a b v n d m : ℕ) → 0 < d → m ≡ b * u + 1 → a * u + 1 ≤ v * b → m * v * d ≤ u * (m * n + d) → a * d < b * n
 near-exceeded u a b v n d m positive is bound near = elim (cases_lt (a * d) (b * n)) [
   | inl less ↦ less
   | inr most ↦
@@ -52,7 +52,7 @@ IsLow-reaches q table a b s low = IsNear-reaches q table a b s (IsLow-near q tab
 pub IsLow-exceeds : (q : Query) (table : ℕ → ℕ) (a b s : ℕ) → IsQuery q → IsLow q table → s < length q.game → a * unit < table s * b → Exceeds q a b s
 IsLow-exceeds q table a b s h low = IsNear-exceeds q table a b s h (IsLow-near q table low)
 
-not-exceeded : (top a b u n d : ℕ) → 0 < top → u * b ≤ a * top → top * n ≤ u * d → b * n ≤ a * d
+pub not-exceeded : (top a b u n d : ℕ) → 0 < top → u * b ≤ a * top → top * n ≤ u * d → b * n ≤ a * d
 not-exceeded top a b u n d some bound high =
     let whole : top * (b * n) ≤ top * (a * d) = omega (arith, mul-le-mul_right d bound, mul-le-mul_left b high) in
     le_of_mul-le-mul_left whole some
@@ -63,7 +63,7 @@ IsHigh-not-exceeds q table a b s high inside bound exceeds =
     let most : b * numerator q exceeds.0 s ≤ a * denominator q.game ^ exceeds.0 = not-exceeded unit a b (table s) (numerator q exceeds.0 s) (denominator q.game ^ exceeds.0) unit-pos bound (high exceeds.0 s inside) in
     omega (arith, exceeds.1)
 
-not-reached : (top a b u n d m : ℕ) → 0 < d → u * b + 1 ≤ a * top → top * n ≤ u * d → a * m * d ≤ b * (m * n + d) → m ≤ b * top
+pub not-reached : (top a b u n d m : ℕ) → 0 < d → u * b + 1 ≤ a * top → top * n ≤ u * d → a * m * d ≤ b * (m * n + d) → m ≤ b * top
 not-reached top a b u n d m positive bound high near =
     let whole : d * m ≤ d * (b * top) = omega (arith, mul-le-mul_right (m * d) bound, mul-le-mul_left (m * b) high, mul-le-mul_left top near) in
     le_of_mul-le-mul_left whole positive

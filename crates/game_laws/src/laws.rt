@@ -23,7 +23,8 @@ pub fn raised_tables_stay_low()
 
 /// A greater table has a greater down step.
 pub fn down_steps_keep_order()
-    ensures { (q : Query) (table other : ℕ → ℕ) → IsQuery q → IsBelow q table other → IsBelow q (down_step q table) (down_step q other) }
+    ensures { (q : Query) (table other : ℕ → ℕ) → IsQuery q → IsBelow q table other
+        → IsBelow q (down_step q table) (down_step q other) }
 {}
 
 /// The r-fold down step rises with r.
@@ -38,7 +39,8 @@ pub fn down_steps_are_below_values()
 
 /// r down steps lose at most r units.
 pub fn down_steps_come_near()
-    ensures { (q : Query) → IsQuery q → (r s : ℕ) → unit * numerator q r s ≤ (down_steps q r s + r) * denominator q.game ^ r }
+    ensures { (q : Query) → IsQuery q → (r s : ℕ)
+        → unit * numerator q r s ≤ (down_steps q r s + r) * denominator q.game ^ r }
 {}
 
 /// A settled table that is nowhere below the opening table is nowhere below an r-fold down step.
@@ -63,22 +65,26 @@ pub fn dual_bounds_come_near()
 
 /// A lower value that is at least a bound shows that the values reach the bound.
 pub fn low_tables_are_reached()
-    ensures { (q : Query) (table : ℕ → ℕ) (a b s : ℕ) → IsLow q table → s < states q → a * unit ≤ table s * b → Reaches q a b s }
+    ensures { (q : Query) (table : ℕ → ℕ) (a b s : ℕ) → IsLow q table → s < states q → a * unit ≤ table s * b
+        → Reaches q a b s }
 {}
 
 /// A lower value that is above a bound shows that some value exceeds the bound.
 pub fn low_tables_are_exceeded()
-    ensures { (q : Query) (table : ℕ → ℕ) (a b s : ℕ) → IsQuery q → IsLow q table → s < states q → a * unit < table s * b → Exceeds q a b s }
+    ensures { (q : Query) (table : ℕ → ℕ) (a b s : ℕ) → IsQuery q → IsLow q table → s < states q
+        → a * unit < table s * b → Exceeds q a b s }
 {}
 
 /// A value that k-step values come near, and that is at least a bound, shows that the values reach the bound.
 pub fn near_tables_are_reached()
-    ensures { (q : Query) (table : ℕ → ℕ) (a b s : ℕ) → IsNear q table → s < states q → a * unit ≤ table s * b → Reaches q a b s }
+    ensures { (q : Query) (table : ℕ → ℕ) (a b s : ℕ) → IsNear q table → s < states q → a * unit ≤ table s * b
+        → Reaches q a b s }
 {}
 
 /// A value that k-step values come near, and that is above a bound, shows that some value exceeds the bound.
 pub fn near_tables_are_exceeded()
-    ensures { (q : Query) (table : ℕ → ℕ) (a b s : ℕ) → IsQuery q → IsNear q table → s < states q → a * unit < table s * b → Exceeds q a b s }
+    ensures { (q : Query) (table : ℕ → ℕ) (a b s : ℕ) → IsQuery q → IsNear q table → s < states q
+        → a * unit < table s * b → Exceeds q a b s }
 {}
 
 /// A low table is one that k-step values come near.
@@ -88,12 +94,14 @@ pub fn low_tables_are_near()
 
 /// An upper value that is at most a bound shows that no value exceeds the bound.
 pub fn high_tables_are_not_exceeded()
-    ensures { (q : Query) (table : ℕ → ℕ) (a b s : ℕ) → IsHigh q table → s < states q → table s * b ≤ a * unit → ¬ Exceeds q a b s }
+    ensures { (q : Query) (table : ℕ → ℕ) (a b s : ℕ) → IsHigh q table → s < states q → table s * b ≤ a * unit
+        → ¬ Exceeds q a b s }
 {}
 
 /// An upper value that is below a bound shows that the values do not reach the bound.
 pub fn high_tables_are_not_reached()
-    ensures { (q : Query) (table : ℕ → ℕ) (a b s : ℕ) → IsQuery q → IsHigh q table → s < states q → table s * b < a * unit → ¬ Reaches q a b s }
+    ensures { (q : Query) (table : ℕ → ℕ) (a b s : ℕ) → IsQuery q → IsHigh q table → s < states q
+        → table s * b < a * unit → ¬ Reaches q a b s }
 {}
 
 /// With a plan the maximiser reaches at most the value.

@@ -13,7 +13,8 @@ use game_model::Question;
 pub fn stays_low(question: &Question, table: &[u64], next: &[u64])
     requires low { IsLow question.now (slice_index table.now) }
     requires raised { (s : ℕ) → s < states question.now →
-        (slice_index next.now s ≤ slice_index table.now s) ⊎ (slice_index next.now s ≤ down_step question.now (slice_index table.now) s) }
+        (slice_index next.now s ≤ slice_index table.now s)
+        ⊎ (slice_index next.now s ≤ down_step question.now (slice_index table.now) s) }
     ensures { IsLow question.now (slice_index next.now) }
 {
     question.known();
@@ -31,7 +32,8 @@ pub fn stays_low_when_raised(question: &Question, table: &[u64], state: u32, val
 /// A greater table has a greater down step.
 pub fn down_steps_in_order(question: &Question, table: &[u64], other: &[u64])
     requires { IsBelow question.now (slice_index table.now) (slice_index other.now) }
-    ensures { IsBelow question.now (down_step question.now (slice_index table.now)) (down_step question.now (slice_index other.now)) }
+    ensures { IsBelow question.now (down_step question.now (slice_index table.now))
+        (down_step question.now (slice_index other.now)) }
 {
     question.known();
 }
@@ -39,8 +41,10 @@ pub fn down_steps_in_order(question: &Question, table: &[u64], other: &[u64])
 /// The r-fold down step rises with r, is at most the r-step value, and loses at most r units.
 pub fn down_steps_of(question: &Question)
     ensures rises { (r : ℕ) → IsBelow question.now (down_steps question.now r) (down_steps question.now (r + 1)) }
-    ensures below { (r s : ℕ) → down_steps question.now r s * denominator question.now.game ^ r ≤ unit * numerator question.now r s }
-    ensures near { (r s : ℕ) → unit * numerator question.now r s ≤ (down_steps question.now r s + r) * denominator question.now.game ^ r }
+    ensures below { (r s : ℕ) → down_steps question.now r s * denominator question.now.game ^ r
+        ≤ unit * numerator question.now r s }
+    ensures near { (r s : ℕ) → unit * numerator question.now r s
+        ≤ (down_steps question.now r s + r) * denominator question.now.game ^ r }
 {
     question.known();
 }
@@ -65,8 +69,10 @@ pub fn inductive_is_high(question: &Question, table: &[u64])
 /// What a low table says of a bound a/b.
 pub fn low_and_bounds(question: &Question, table: &[u64])
     requires { IsLow question.now (slice_index table.now) }
-    ensures reached { (a b s : ℕ) → s < states question.now → a * unit ≤ slice_index table.now s * b → Reaches question.now a b s }
-    ensures exceeded { (a b s : ℕ) → s < states question.now → a * unit < slice_index table.now s * b → Exceeds question.now a b s }
+    ensures reached { (a b s : ℕ) → s < states question.now → a * unit ≤ slice_index table.now s * b
+        → Reaches question.now a b s }
+    ensures exceeded { (a b s : ℕ) → s < states question.now → a * unit < slice_index table.now s * b
+        → Exceeds question.now a b s }
 {
     question.known();
 }
@@ -74,8 +80,10 @@ pub fn low_and_bounds(question: &Question, table: &[u64])
 /// What a high table says of a bound a/b.
 pub fn high_and_bounds(question: &Question, table: &[u64])
     requires { IsHigh question.now (slice_index table.now) }
-    ensures not_exceeded { (a b s : ℕ) → s < states question.now → slice_index table.now s * b ≤ a * unit → ¬ Exceeds question.now a b s }
-    ensures not_reached { (a b s : ℕ) → s < states question.now → slice_index table.now s * b < a * unit → ¬ Reaches question.now a b s }
+    ensures not_exceeded { (a b s : ℕ) → s < states question.now → slice_index table.now s * b ≤ a * unit
+        → ¬ Exceeds question.now a b s }
+    ensures not_reached { (a b s : ℕ) → s < states question.now → slice_index table.now s * b < a * unit
+        → ¬ Reaches question.now a b s }
 {
     question.known();
 }

@@ -20,7 +20,8 @@ IsHigh q table = (k s : ℕ) → s < length q.game → unit * numerator q k s �
 
 -- k-step values come as near to a/b as one likes
 abbrev pub Reaches : Query → ℕ → ℕ → ℕ → Type 0
-Reaches q a b s = (m : ℕ) → 1 ≤ m → (k : ℕ) × (a * m * denominator q.game ^ k ≤ b * (m * numerator q k s + denominator q.game ^ k))
+Reaches q a b s = (m : ℕ) → 1 ≤ m → (k : ℕ) × (a * m * denominator q.game ^ k
+    ≤ b * (m * numerator q k s + denominator q.game ^ k))
 
 -- some k-step value is above a/b
 abbrev pub Exceeds : Query → ℕ → ℕ → ℕ → Type 0

@@ -1,4 +1,5 @@
--- A game in flat lists: where the choices of each state begin, where the edges of each choice begin, the totals, the successors and the weights.
+-- A game in flat lists: where the choices of each state begin, where the edges of each choice begin, the totals, the
+-- successors and the weights.
 use Rattle.std.specs.Prelude.{◌≡◌, ℕ, ◌+◌, ◌-◌, ◌*◌, ◌^◌, ◌<◌, ◌≤◌, List, length, slice_index}
 use Rattle.game_model.specs.declared.game.Edge.{Edge}
 use Rattle.game_model.specs.Game.{Distribution, IsDistribution}
@@ -12,17 +13,20 @@ edge_at to low high i = record { to = slice_index to i; weight = slice_index low
 abbrev pub distribution_at : List ℕ → List ℕ → List ℕ → List ℕ → List ℕ → ℕ → Distribution
 distribution_at first_edge totals to low high c = record {
   total = slice_index totals c;
-  edges = span (edge_at to low high) (slice_index first_edge c) (slice_index first_edge (c + 1) - slice_index first_edge c);
+  edges = span (edge_at to low high) (slice_index first_edge c)
+      (slice_index first_edge (c + 1) - slice_index first_edge c);
 }
 
 -- the choices of the state at a place
 abbrev pub choices_at : List ℕ → List ℕ → List ℕ → List ℕ → List ℕ → List ℕ → ℕ → List Distribution
 choices_at first_choice first_edge totals to low high s =
-    span (distribution_at first_edge totals to low high) (slice_index first_choice s) (slice_index first_choice (s + 1) - slice_index first_choice s)
+    span (distribution_at first_edge totals to low high) (slice_index first_choice s)
+    (slice_index first_choice (s + 1) - slice_index first_choice s)
 
 -- the states that have ended
 abbrev pub game_at : List ℕ → List ℕ → List ℕ → List ℕ → List ℕ → List ℕ → List (List Distribution)
-game_at first_choice first_edge totals to low high = span (choices_at first_choice first_edge totals to low high) 0 (length first_choice - 1)
+game_at first_choice first_edge totals to low high =
+    span (choices_at first_choice first_edge totals to low high) 0 (length first_choice - 1)
 
 -- the last entry
 abbrev pub last_of : List ℕ → ℕ
@@ -31,7 +35,8 @@ last_of xs = slice_index xs (length xs - 1)
 -- the choices of the state under way
 abbrev pub under_way_at : List ℕ → List ℕ → List ℕ → List ℕ → List ℕ → List ℕ → List Distribution
 under_way_at first_choice first_edge totals to low high =
-    span (distribution_at first_edge totals to low high) (last_of first_choice) (length first_edge - 1 - last_of first_choice)
+    span (distribution_at first_edge totals to low high) (last_of first_choice)
+    (length first_edge - 1 - last_of first_choice)
 
 -- the first entry is 0, and each is at most the next, and at most the last
 pub record IsAscending (xs : List ℕ) : Type 0 where
@@ -52,4 +57,5 @@ pub record IsLaidOut (first_choice first_edge totals to low : List ℕ) : Type 0
 -- and each choice is a distribution
 pub record AreFlatLists (first_choice first_edge totals to low high : List ℕ) : Type 0 where
   pub laid_out : IsLaidOut first_choice first_edge totals to low
-  pub distributions : (c : ℕ) → c + 1 < length first_edge → IsDistribution (distribution_at first_edge totals to low high c)
+  pub distributions : (c : ℕ) → c + 1 < length first_edge
+      → IsDistribution (distribution_at first_edge totals to low high c)

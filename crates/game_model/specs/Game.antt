@@ -20,7 +20,8 @@ abbrev pub total_of : List Edge → ℕ
 total_of edges = sum_by (λ e. e.weight) edges
 
 abbrev pub IsRising : List Edge → Type 0
-IsRising edges = (i j : ℕ) → i < j → j < length edges → slice_index (destinations edges) i < slice_index (destinations edges) j
+IsRising edges = (i j : ℕ) → i < j → j < length edges
+    → slice_index (destinations edges) i < slice_index (destinations edges) j
 
 -- what every choice keeps
 pub record IsDistribution (distribution : Distribution) : Type 0 where
@@ -81,4 +82,5 @@ pub record IsGame (game : List (List Distribution)) : Type 0 where
   pub chosen : (s : ℕ) → s < length game → 0 < length (choices_of game s)
   pub bounded : (s : ℕ) → s < length game → length (choices_of game s) ≤ most_choices
   pub distribution : (s c : ℕ) → s < length game → c < length (choices_of game s) → IsDistribution (choice_of game s c)
-  pub inside : (s c : ℕ) → s < length game → c < length (choices_of game s) → All (λ e. e.to < length game) (choice_of game s c).edges
+  pub inside : (s c : ℕ) → s < length game → c < length (choices_of game s)
+      → All (λ e. e.to < length game) (choice_of game s c).edges

@@ -14,20 +14,24 @@ IsSameBelow n xs ys = (i : ℕ) → i < n → slice_index ys i ≡ slice_index x
 
 -- from n on the high words of the weights
 abbrev pub HasHighWords : ℕ → List Edge → List ℕ → Type 0
-HasHighWords n edges xs = (i : ℕ) → i < length edges → slice_index xs (n + i) ≡ (slice_index_or edges i no_edge).weight / 2 ^ 64
+HasHighWords n edges xs = (i : ℕ) → i < length edges
+    → slice_index xs (n + i) ≡ (slice_index_or edges i no_edge).weight / 2 ^ 64
 
 -- ys is xs and zeros
 abbrev pub IsPadded : List ℕ → List ℕ → Type 0
 IsPadded xs ys = (n : ℕ) × (ys ≡ xs ++ replicate n 0)
 
 -- the lists behind with the edges of one more choice
-abbrev pub IsPushed : List ℕ → List ℕ → List ℕ → List ℕ → List ℕ → List Edge → List ℕ → List ℕ → List ℕ → List ℕ → List ℕ → Type 0
+abbrev pub IsPushed : List ℕ → List ℕ → List ℕ → List ℕ → List ℕ → List Edge → List ℕ → List ℕ → List ℕ → List ℕ
+    → List ℕ → Type 0
 IsPushed fe totals to low high edges fe' totals' to' low' high' =
     (fe' ≡ fe ++ (last_of fe + length edges) ∷ []) × (totals' ≡ take (length fe - 1) totals ++ total_of edges ∷ [])
-    × (to' ≡ take (last_of fe) to ++ map (λ e. e.to) edges) × (low' ≡ take (last_of fe) low ++ map (λ e. e.weight % 2 ^ 64) edges)
+    × (to' ≡ take (last_of fe) to ++ map (λ e. e.to) edges)
+    × (low' ≡ take (last_of fe) low ++ map (λ e. e.weight % 2 ^ 64) edges)
     × IsSameBelow (last_of fe) high high' × HasHighWords (last_of fe) edges high'
 
 -- the lists are as before where they are in use
 abbrev pub IsStill : List ℕ → List ℕ → List ℕ → List ℕ → List ℕ → List ℕ → List ℕ → List ℕ → List ℕ → List ℕ → Type 0
 IsStill fe totals to low high fe' totals' to' low' high' =
-    (fe' ≡ fe) × IsLonger (take (length fe - 1) totals) totals' × IsLonger (take (last_of fe) to) to' × IsLonger (take (last_of fe) low) low' × IsSameBelow (last_of fe) high high'
+    (fe' ≡ fe) × IsLonger (take (length fe - 1) totals) totals' × IsLonger (take (last_of fe) to) to'
+    × IsLonger (take (last_of fe) low) low' × IsSameBelow (last_of fe) high high'

@@ -14,7 +14,8 @@ same_side Min Min = true
 
 -- a plan gives a choice to each state of a side; one that is missing or out of range counts as choice 0
 abbrev pub planned_place : List (Option ℕ) → ℕ → ℕ → ℕ
-planned_place plan s count = let place = unwrap_or (slice_index_or plan s None) 0 in if nat_lt place count then place else 0
+planned_place plan s count = let place =
+    unwrap_or (slice_index_or plan s None) 0 in if nat_lt place count then place else 0
 
 -- the choices of each state where one side plays its plan: of that side the planned one alone
 abbrev pub planned : Query → Side → List (Option ℕ) → ℕ → List Distribution

@@ -13,7 +13,8 @@ pub record IsRankedChoice (value rank : ℕ → ℕ) (s : ℕ) (choice : Distrib
   pub place : ℕ
   pub inside : place < length choice.edges
   pub onward : (value s < value (slice_index_or choice.edges place no_edge).to)
-      ⊎ ((value (slice_index_or choice.edges place no_edge).to ≡ value s) × (rank (slice_index_or choice.edges place no_edge).to < rank s))
+      ⊎ ((value (slice_index_or choice.edges place no_edge).to ≡ value s)
+      × (rank (slice_index_or choice.edges place no_edge).to < rank s))
 
 -- the state has a choice in range, and it is ranked
 pub record HasRankedChoice (q : Query) (value rank : ℕ → ℕ) (choices : List (Option ℕ)) (s : ℕ) : Type 0 where
@@ -27,10 +28,13 @@ pub record RankedIn (top : ℕ) (q : Query) (values : List ℕ) (choices : List 
   pub units : (s : ℕ) → s < length q.game → slice_index values s ≤ top
   pub goals : (s : ℕ) → s < length q.game → is_goal q s ≡ true → slice_index values s ≡ top
   pub deads : (s : ℕ) → s < length q.game → is_dead q s ≡ true → slice_index values s ≡ 0
-  pub greatest : (s : ℕ) → s < length q.game → is_goal q s ≡ false → is_dead q s ≡ false → 0 < slice_index values s → side_at q s ≡ Max
+  pub greatest : (s : ℕ) → s < length q.game → is_goal q s ≡ false → is_dead q s ≡ false → 0 < slice_index values s
+      → side_at q s ≡ Max
       → HasRankedChoice q (slice_index values) (slice_index ranks) choices s
-  pub least : (s : ℕ) → s < length q.game → is_goal q s ≡ false → is_dead q s ≡ false → 0 < slice_index values s → side_at q s ≡ Min
-      → (c : ℕ) → c < length (choices_of q.game s) → IsRankedChoice (slice_index values) (slice_index ranks) s (choice_of q.game s c)
+  pub least : (s : ℕ) → s < length q.game → is_goal q s ≡ false → is_dead q s ≡ false → 0 < slice_index values s
+      → side_at q s ≡ Min
+      → (c : ℕ) → c < length (choices_of q.game s)
+      → IsRankedChoice (slice_index values) (slice_index ranks) s (choice_of q.game s c)
 
 abbrev pub Ranked : Query → List ℕ → List (Option ℕ) → List ℕ → Type 0
 Ranked q values choices ranks = RankedIn unit q values choices ranks

@@ -33,7 +33,8 @@ pub record IsFirstWith (value : Distribution → ℕ) (choices : List Distributi
 
 -- the choice that a down step names: at a Max state that is neither goal nor dead the first with the value, else 0
 pub record DownChoice (q : Query) (table : ℕ → ℕ) (s value choice : ℕ) : Type 0 where
-  pub chosen : is_goal q s ≡ false → is_dead q s ≡ false → side_at q s ≡ Max → IsFirstWith (down_value table) (choices_of q.game s) value choice
+  pub chosen : is_goal q s ≡ false → is_dead q s ≡ false → side_at q s ≡ Max
+      → IsFirstWith (down_value table) (choices_of q.game s) value choice
   pub goal : is_goal q s ≡ true → choice ≡ 0
   pub dead : is_dead q s ≡ true → choice ≡ 0
   pub least : side_at q s ≡ Min → choice ≡ 0

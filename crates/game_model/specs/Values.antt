@@ -22,7 +22,8 @@ weighted_sum table edges = sum_by (λ e. e.weight * table e.to) edges
 
 -- goals have the top value and dead states 0; elsewhere the side takes the optimum of its choices
 abbrev pub bellman : Query → (ℕ → List Distribution) → ℕ → (Distribution → ℕ) → ℕ → ℕ
-bellman q choices top value s = if is_goal q s then top else (if is_dead q s then 0 else optimum (side_at q s) value (choices s))
+bellman q choices top value s = if is_goal q s then top else
+    (if is_dead q s then 0 else optimum (side_at q s) value (choices s))
 
 -- the product of the totals of the choices of a state
 abbrev pub total_product : List Distribution → ℕ

@@ -128,8 +128,11 @@ fn add_choice(
     requires totals { length first_edge.old.items ≤ length totals.old.items + 1 }
     requires to { last_of first_edge.old.items ≤ length to.old.items }
     requires low { last_of first_edge.old.items ≤ length low.old.items }
-    ensures ok { IfOk result (λ _. IsPushed first_edge.old.items totals.old.items to.old.items low.old.items high.old.items choice.now.edges first_edge.new.items totals.new.items to.new.items low.new.items high.new.items) }
-    ensures err { OnErr result (IsStill first_edge.old.items totals.old.items to.old.items low.old.items high.old.items first_edge.new.items totals.new.items to.new.items low.new.items high.new.items) }
+    ensures ok { IfOk result (λ _. IsPushed first_edge.old.items totals.old.items to.old.items low.old.items
+        high.old.items choice.now.edges first_edge.new.items totals.new.items to.new.items low.new.items
+        high.new.items) }
+    ensures err { OnErr result (IsStill first_edge.old.items totals.old.items to.old.items low.old.items high.old.items
+        first_edge.new.items totals.new.items to.new.items low.new.items high.new.items) }
 {
     choice.known();
     let count = first_edge.len() - 1;

@@ -36,5 +36,6 @@ pub fn swap_law()
 /// A k-step value is at most the value of not being lost after any number of steps.
 pub fn values_below_open_values()
     ensures { (q : Query) (lost : List Bool) → IsQuery q → IsZeroSet q lost →
-        (k j s : ℕ) → s < states q → numerator q k s * denominator q.game ^ j ≤ open_numerator q lost j s * denominator q.game ^ k }
+        (k j s : ℕ) → s < states q → numerator q k s * denominator q.game ^ j
+        ≤ open_numerator q lost j s * denominator q.game ^ k }
 {}

@@ -25,9 +25,19 @@ impl<'g> Model for Question<'g> {
 
     ghost Value = { Query };
 
-    ghost view = { λ q. record { game = q.game.now; sides = q.sides.items; goals = q.goals.items; deads = q.deads.items } };
+    ghost view = { λ q. record {
+      game = q.game.now;
+      sides = q.sides.items;
+      goals = q.goals.items;
+      deads = q.deads.items;
+    } };
 
-    ghost invariant = { λ q. IsQuery (record { game = q.game.now; sides = q.sides.items; goals = q.goals.items; deads = q.deads.items }) };
+    ghost invariant = { λ q. IsQuery (record {
+      game = q.game.now;
+      sides = q.sides.items;
+      goals = q.goals.items;
+      deads = q.deads.items;
+    }) };
 }
 
 impl<'g> Question<'g> {
@@ -39,7 +49,8 @@ impl<'g> Question<'g> {
         requires sides { length sides.items ≡ length game.now }
         requires goal { length goal.items ≡ length game.now }
         requires dead { length dead.items ≡ length game.now }
-        requires apart { (s : ℕ) → slice_index_or goal.items s false ≡ true → slice_index_or dead.items s false ≡ false }
+        requires apart { (s : ℕ) → slice_index_or goal.items s false ≡ true
+            → slice_index_or dead.items s false ≡ false }
         ensures game { result.game ≡ game.now }
         ensures sides { result.sides ≡ sides.items }
         ensures goals { result.goals ≡ goal.items }

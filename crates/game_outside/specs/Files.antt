@@ -7,7 +7,8 @@ use Rattle.game_outside.specs.declared.shelf.ReadEnd.TheVariants as read
 use Rattle.game_outside.specs.Limits.{piece_size}
 use Rattle.game_outside.specs.Outside.{Holding, Holds, IsHeldAs, IsHeldLonger, Rose, KeepsShelf}
 
--- there is a text within the limit, which is the one that is held under the name where this is told, and this is true of it
+-- there is a text within the limit, which is the one that is held under the name where this is told, and this is true
+-- of it
 pub record HeldTextWith (holding : Option Holding) (name : List ℕ) (limit : ℕ) (Holds : List ℕ → Type 0) : Type 0 where
   pub text : List ℕ
   pub told : IsHeldAs holding name text
@@ -15,9 +16,11 @@ pub record HeldTextWith (holding : Option Holding) (name : List ℕ) (limit : �
   pub holds : Holds text
 
 -- The answer of a file is that of its text, or its text is too long, or want of memory or a fault of the shelf.
-abbrev pub ReadsFile : {X F : Type 0} → (List ℕ → Result X F → Type 0) → Option Holding → List ℕ → ℕ → Result X (FileEnd F) → Type 0
+abbrev pub ReadsFile : {X F : Type 0} → (List ℕ → Result X F → Type 0) → Option Holding → List ℕ → ℕ
+    → Result X (FileEnd F) → Type 0
 ReadsFile Answers holding name limit (Ok x) = HeldTextWith holding name limit (λ text. Answers text (Ok x))
-ReadsFile Answers holding name limit (Err (Refused fault)) = HeldTextWith holding name limit (λ text. Answers text (Err fault))
+ReadsFile Answers holding name limit (Err (Refused fault)) =
+    HeldTextWith holding name limit (λ text. Answers text (Err fault))
 ReadsFile Answers holding name limit (Err TooLong) = IsHeldLonger holding name limit
 ReadsFile Answers holding name limit (Err ReadFault) = Unit {0}
 ReadsFile Answers holding name limit (Err OutOfMemory) = Unit {0}
@@ -29,7 +32,8 @@ of_read read.ReadFault = ReadFault
 of_read read.TooLong = TooLong
 
 -- What a call that reads the text under a name, up to a limit, does to a shelf.
-pub record LeavesShelf {S X F : Type 0} (held : S → Option Holding) (steady : S → Bool) (faults took : S → ℕ) (name : List ℕ) (limit : ℕ) (old new : S) (result : Result X (FileEnd F)) : Type 0 where
+pub record LeavesShelf {S X F : Type 0} (held : S → Option Holding) (steady : S → Bool) (faults took : S → ℕ)
+    (name : List ℕ) (limit : ℕ) (old new : S) (result : Result X (FileEnd F)) : Type 0 where
   -- it doesn't fail by itself
   pub read_fault : IsErrOf result ReadFault → Rose (faults old) (faults new)
   pub steadily : IsErrOf result ReadFault → steady old ≡ true → Holds (held old) name → ⊥

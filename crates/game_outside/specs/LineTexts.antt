@@ -7,7 +7,8 @@ use Rattle.game_outside.specs.declared.line_text.LineText.TheInside.{Inside}
 use Rattle.game_outside.specs.declared.shelf.ReadEnd.{ReadEnd}
 use Rattle.game_outside.specs.Limits.{piece_size}
 
--- the bytes that were taken off the shelf and are not given yet, how many were taken, the limit, whether a call was refused, and whether the end was met
+-- the bytes that were taken off the shelf and are not given yet, how many were taken, the limit, whether a call was
+-- refused, and whether the end was met
 pub record TextUnderWay : Type 0 where
   pub held : List ℕ
   pub taken : ℕ
@@ -16,9 +17,16 @@ pub record TextUnderWay : Type 0 where
   pub ended : Bool
 
 abbrev pub under_way : Inside → TextUnderWay
-under_way t = record { held = take (t.end - t.begin) (drop t.begin t.piece.items); taken = t.taken; limit = t.limit; closed = t.closed; ended = t.ended }
+under_way t = record {
+  held = take (t.end - t.begin) (drop t.begin t.piece.items);
+  taken = t.taken;
+  limit = t.limit;
+  closed = t.closed;
+  ended = t.ended;
+}
 
--- what a text under way keeps: at most one piece is held and none behind the end, and as long as no call was refused the limit is not passed
+-- what a text under way keeps: at most one piece is held and none behind the end, and as long as no call was refused
+-- the limit is not passed
 pub record IsUnderWay (t : Inside) : Type 0 where
   pub piece : length t.piece.items ≡ piece_size
   pub begins : t.begin ≤ t.end
@@ -37,12 +45,14 @@ pub record Takes (old new : TextUnderWay) (rest rest' : Option (List ℕ)) (more
 abbrev pub MayFollow : TextUnderWay → List ℕ → Type 0
 MayFollow text behind = text.ended ≡ true → behind ≡ []
 
--- A call gave the next line: whatever stands behind what is held, the line is the first of the bytes that were held and came, and the others follow. At least one byte is given.
+-- A call gave the next line: whatever stands behind what is held, the line is the first of the bytes that were held and
+-- came, and the others follow. At least one byte is given.
 pub record GivesLine (old new : TextUnderWay) (rest rest' : Option (List ℕ)) (line : List ℕ) : Type 0 where
   pub going : old.ended ≡ false
   pub more : List ℕ
   pub takes : Takes old new rest rest' more
-  pub first : (behind : List ℕ) → MayFollow new behind → lines_of ((old.held ++ more) ++ behind) ≡ line ∷ lines_of (new.held ++ behind)
+  pub first : (behind : List ℕ) → MayFollow new behind
+      → lines_of ((old.held ++ more) ++ behind) ≡ line ∷ lines_of (new.held ++ behind)
   pub further : old.taken + length new.held < new.taken + length old.held
 
 -- A call met the end of the text: nothing was held, and nothing came.
@@ -65,7 +75,8 @@ pub record PassesLimit (old : TextUnderWay) (rest rest' : Option (List ℕ)) : T
   pub consumed : Consumes rest rest' more
   pub over : old.limit < old.taken + length more
 
--- What is known of the counts behind each call: the number taken is the shelf's, at most the limit and one piece, and a refusal closes the text.
+-- What is known of the counts behind each call: the number taken is the shelf's, at most the limit and one piece, and a
+-- refusal closes the text.
 pub record Counts {X : Type 0} (old new : TextUnderWay) (taken : ℕ) (result : Result X ReadEnd) : Type 0 where
   pub taken_is : new.taken ≡ taken
   pub most : taken ≤ old.limit + piece_size
@@ -92,7 +103,8 @@ pub record IsUncut (line line' held held' : List ℕ) : Type 0 where
   pub grown : line' ≡ line ++ held
   pub none : held' ≡ []
 
--- A line is on its way: the bytes that were held and those that came are its bytes so far, which have no LF, and those that are held.
+-- A line is on its way: the bytes that were held and those that came are its bytes so far, which have no LF, and those
+-- that are held.
 pub record IsOnTheWay (old now : TextUnderWay) (rest rest' : Option (List ℕ)) (line : List ℕ) : Type 0 where
   pub more : List ℕ
   pub takes : Takes old now rest rest' more

@@ -37,8 +37,9 @@ impl<F: Drop> From<ReadEnd> for FileEnd<F> {
     }
 }
 
-/// What a reader makes of the text under a name, which comes in pieces. Of the text it keeps a piece and a line. A fault of
-/// reading, and a text that is too long, come before the reader's refusal, so the rest of the text is taken first.
+/// What a reader makes of the text under a name, which comes in pieces. Of the text it keeps a piece and a line. A
+/// fault of reading, and a text that is too long, come before the reader's refusal, so the rest of the text is taken
+/// first.
 pub fn read_lines_from<H: Shelf, R: LineReader>(
     alloc: Global,
     shelf: &mut H,
@@ -51,9 +52,11 @@ where
     requires { limit ≤ most_bytes }
 
     // The answer is the reader's for the whole text, in whatever pieces this comes.
-    ensures reads { ReadsFile (λ text answer. R.answers reader 1 (significant (lines_of text)) answer) (H.held shelf.old) name.now limit result }
+    ensures reads { ReadsFile (λ text answer. R.answers reader 1 (significant (lines_of text)) answer)
+        (H.held shelf.old) name.now limit result }
 
-    // It fails only where the shelf fails, takes little more than the limit, and changes nothing of what the shelf holds.
+    // It fails only where the shelf fails, takes little more than the limit, and changes nothing of what the shelf
+    // holds.
     ensures shelf { LeavesShelf H.held H.steady H.faults H.taken name.now limit shelf.old shelf.new result }
 {
     let mut text = LineText::begin(alloc, shelf, name, limit)?;

@@ -7,8 +7,8 @@ use std::thread;
 /// How many turns a worker is held, where nothing else is said.
 const TURNS: u32 = 10_000_000;
 
-/// A gate that holds the first arrival of one worker until the others have arrived so often in all, for a number of turns.
-/// Where they don't, it gives up. It promises nothing.
+/// A gate that holds the first arrival of one worker until the others have arrived so often in all, for a number of
+/// turns. Where they don't, it gives up. It promises nothing.
 #[derive(Drop)]
 pub struct LateGate {
     turns: u32,

@@ -15,8 +15,8 @@ use std::marker::Model;
 use text_lines::laws::lines_end_in_lf_or_crlf;
 use text_lines::without_cr;
 
-/// A text that is being read by lines. It holds at most one piece of the text, and keeps no reference to the shelf, which
-/// each call takes. After a refusal it is closed.
+/// A text that is being read by lines. It holds at most one piece of the text, and keeps no reference to the shelf,
+/// which each call takes. After a refusal it is closed.
 #[derive(Drop)]
 pub struct LineText {
     piece: Vec<u8>,
@@ -47,14 +47,23 @@ impl LineText {
         limit: u64,
     ) -> Result<LineText, ReadEnd>
         requires { limit < 2 ^ 64 - 1 }
-        ensures begun { IfOk result (λ text. text ≡ record { held = []; taken = 0; limit = limit; closed = false; ended = false }) }
+        ensures begun { IfOk result (λ text. text ≡ record {
+          held = [];
+          taken = 0;
+          limit = limit;
+          closed = false;
+          ended = false;
+        }) }
         ensures rest { OnOk result (Begins (H.held shelf.old) name.now (H.rest shelf.new)) }
         ensures taken { H.taken shelf.new ≡ 0 }
         ensures read_fault { IsErrOf result ReadEnd.ReadFault → Rose (H.faults shelf.old) (H.faults shelf.new) }
-        ensures steadily { IsErrOf result ReadEnd.ReadFault → H.steady shelf.old ≡ true → Holds (H.held shelf.old) name.now → ⊥ }
+        ensures steadily { IsErrOf result ReadEnd.ReadFault → H.steady shelf.old ≡ true
+            → Holds (H.held shelf.old) name.now → ⊥ }
         ensures short { IsErrOf result ReadEnd.TooLong → ⊥ }
-        ensures kept { KeepsShelf (H.held shelf.old) (H.held shelf.new) (H.steady shelf.old) (H.steady shelf.new) (H.faults shelf.old) (H.faults shelf.new) }
-        ensures quiet { H.steady shelf.old ≡ true → Holds (H.held shelf.old) name.now → H.faults shelf.new ≡ H.faults shelf.old }
+        ensures kept { KeepsShelf (H.held shelf.old) (H.held shelf.new) (H.steady shelf.old) (H.steady shelf.new)
+            (H.faults shelf.old) (H.faults shelf.new) }
+        ensures quiet { H.steady shelf.old ≡ true → Holds (H.held shelf.old) name.now
+            → H.faults shelf.new ≡ H.faults shelf.old }
     {
         if shelf.begin(name).is_err() {
             return Err(ReadEnd::ReadFault);
@@ -80,8 +89,8 @@ impl LineText {
         !self.closed
     }
 
-    /// Puts the next line, without its ending, in place of what `line` has. False at the end of the text, and then the line
-    /// is empty.
+    /// Puts the next line, without its ending, in place of what `line` has. False at the end of the text, and then the
+    /// line is empty.
     pub fn next_line<H: Shelf>(
         &mut self,
         shelf: &mut H,
@@ -89,15 +98,18 @@ impl LineText {
     ) -> Result<bool, ReadEnd>
         requires open { self.old.closed ≡ false }
         requires taken { self.old.taken ≡ H.taken shelf.old }
-        ensures line { result ≡ Ok true → GivesLine self.old self.new (H.rest shelf.old) (H.rest shelf.new) line.new.items }
-        ensures end { result ≡ Ok false → MeetsEnd self.old self.new (H.rest shelf.old) (H.rest shelf.new) line.new.items }
+        ensures line { result ≡ Ok true → GivesLine self.old self.new (H.rest shelf.old)
+            (H.rest shelf.new) line.new.items }
+        ensures end { result ≡ Ok false → MeetsEnd self.old self.new (H.rest shelf.old)
+            (H.rest shelf.new) line.new.items }
         ensures ended { self.old.ended ≡ true → shelf.new ≡ shelf.old }
         ensures read_fault { IsErrOf result ReadEnd.ReadFault → Rose (H.faults shelf.old) (H.faults shelf.new) }
         ensures steadily { IsErrOf result ReadEnd.ReadFault → H.steady shelf.old ≡ true → ⊥ }
         ensures too_long { IsErrOf result ReadEnd.TooLong → PassesLimit self.old (H.rest shelf.old) (H.rest shelf.new) }
         ensures over { IsErrOf result ReadEnd.TooLong ↔ self.old.limit < H.taken shelf.new }
         ensures counts { Counts self.old self.new (H.taken shelf.new) result }
-        ensures kept { KeepsShelf (H.held shelf.old) (H.held shelf.new) (H.steady shelf.old) (H.steady shelf.new) (H.faults shelf.old) (H.faults shelf.new) }
+        ensures kept { KeepsShelf (H.held shelf.old) (H.held shelf.new) (H.steady shelf.old) (H.steady shelf.new)
+            (H.faults shelf.old) (H.faults shelf.new) }
         ensures quiet { H.steady shelf.old ≡ true → H.faults shelf.new ≡ H.faults shelf.old }
     {
         self.known();
@@ -135,7 +147,8 @@ impl LineText {
         ensures over { IsErrOf result ReadEnd.TooLong ↔ self.old.limit < H.taken shelf.new }
         ensures room { IsErrOf result ReadEnd.OutOfMemory → ⊥ }
         ensures counts { Counts self.old self.new (H.taken shelf.new) result }
-        ensures kept { KeepsShelf (H.held shelf.old) (H.held shelf.new) (H.steady shelf.old) (H.steady shelf.new) (H.faults shelf.old) (H.faults shelf.new) }
+        ensures kept { KeepsShelf (H.held shelf.old) (H.held shelf.new) (H.steady shelf.old) (H.steady shelf.new)
+            (H.faults shelf.old) (H.faults shelf.new) }
         ensures quiet { H.steady shelf.old ≡ true → H.faults shelf.new ≡ H.faults shelf.old }
     {
         self.known();
@@ -167,7 +180,8 @@ impl LineText {
         ensures over { IsErrOf result ReadEnd.TooLong ↔ self.old.limit < H.taken shelf.new }
         ensures room { IsErrOf result ReadEnd.OutOfMemory → ⊥ }
         ensures counts { Counts self.old self.new (H.taken shelf.new) result }
-        ensures kept { KeepsShelf (H.held shelf.old) (H.held shelf.new) (H.steady shelf.old) (H.steady shelf.new) (H.faults shelf.old) (H.faults shelf.new) }
+        ensures kept { KeepsShelf (H.held shelf.old) (H.held shelf.new) (H.steady shelf.old) (H.steady shelf.new)
+            (H.faults shelf.old) (H.faults shelf.new) }
         ensures quiet { H.steady shelf.old ≡ true → H.faults shelf.new ≡ H.faults shelf.old }
     {
         self.known();

@@ -11,8 +11,8 @@ use std::alloc::{AllocError, Global};
 
 /// A place with named texts. One text at a time is begun and read from front to end.
 ///
-/// An object tells what it likes of the texts that it holds. It always tells how many bytes were taken, how often a call
-/// failed, and whether its calls for what is held never fail.
+/// An object tells what it likes of the texts that it holds. It always tells how many bytes were taken, how often a
+/// call failed, and whether its calls for what is held never fail.
 pub trait Shelf {
     /// The bytes under each name, where they are told.
     ghost held: { Self → Option Holding };
@@ -37,7 +37,8 @@ pub trait Shelf {
         ensures cause { HasCause (faults self.old) (faults self.new) result }
         ensures held { held self.new ≡ held self.old }
         ensures steady { steady self.new ≡ steady self.old }
-        ensures steadily { steady self.old ≡ true → Holds (held self.old) name.now → IsOk result × (faults self.new ≡ faults self.old) };
+        ensures steadily { steady self.old ≡ true → Holds (held self.old) name.now
+            → IsOk result × (faults self.new ≡ faults self.old) };
 
     /// Puts the next bytes of the text into the piece, and answers how many. Zero says that the text is at its end, or
     /// that none was begun.
@@ -80,7 +81,8 @@ pub fn read_all<H: Shelf>(
 
     // It doesn't fail by itself.
     ensures read_fault { IsErrOf result ReadEnd.ReadFault → Rose (H.faults shelf.old) (H.faults shelf.new) }
-    ensures steadily { IsErrOf result ReadEnd.ReadFault → H.steady shelf.old ≡ true → Holds (H.held shelf.old) name.now → ⊥ }
+    ensures steadily { IsErrOf result ReadEnd.ReadFault → H.steady shelf.old ≡ true → Holds (H.held shelf.old) name.now
+        → ⊥ }
 
     // A text is too long exactly where more than the limit was taken.
     ensures too_long { IsErrOf result ReadEnd.TooLong ↔ limit < H.taken shelf.new }
@@ -93,7 +95,8 @@ pub fn read_all<H: Shelf>(
     ensures later { H.faults shelf.old ≤ H.faults shelf.new }
     ensures held { H.held shelf.new ≡ H.held shelf.old }
     ensures steady { H.steady shelf.new ≡ H.steady shelf.old }
-    ensures quiet { H.steady shelf.old ≡ true → Holds (H.held shelf.old) name.now → H.faults shelf.new ≡ H.faults shelf.old }
+    ensures quiet { H.steady shelf.old ≡ true → Holds (H.held shelf.old) name.now
+        → H.faults shelf.new ≡ H.faults shelf.old }
 {
     if shelf.begin(name).is_err() {
         return Err(ReadEnd::ReadFault);

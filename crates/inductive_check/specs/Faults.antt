@@ -16,7 +16,8 @@ pub record IsFirstAbove (q : Query) (table : ℕ → ℕ) (s : ℕ) : Type 0 whe
   pub above : table s < up_step q table s
   pub before : (t : ℕ) → t < s → up_step q table t ≤ table t
 
--- why the up step of a state is above its entry: it is a goal, some choice of the maximiser is not held, or none of the minimiser is
+-- why the up step of a state is above its entry: it is a goal, some choice of the maximiser is not held, or none of the
+-- minimiser is
 abbrev pub IsCauseAt : Query → (ℕ → ℕ) → ℕ → UpperCause → Type 0
 IsCauseAt q table s OverOne = ⊥
 IsCauseAt q table s Goal = is_goal q s ≡ true

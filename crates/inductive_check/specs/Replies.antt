@@ -16,7 +16,8 @@ pub record NeedsReply (q : Query) (s : ℕ) : Type 0 where
 
 -- a reply is given, in range, and held to the entry of the state
 abbrev pub IsReply : Query → (ℕ → ℕ) → ℕ → Option ℕ → Type 0
-IsReply q table s reply = IsSomeAnd reply (λ choice. (choice < length (choices_of q.game s)) × IsHeldAt q table s choice)
+IsReply q table s reply = IsSomeAnd reply (λ choice. (choice < length (choices_of q.game s))
+    × IsHeldAt q table s choice)
 
 -- a reply for each state that needs one
 abbrev pub AreReplies : Query → (ℕ → ℕ) → List (Option ℕ) → Type 0
@@ -43,4 +44,5 @@ pub record AreFirstReplies (q : Query) (table : ℕ → ℕ) (replies : List (Op
 
 -- where the minimiser plays these replies, no opponent, of any memory, is above the table at any horizon
 abbrev pub HoldsUnder : Query → List (Option ℕ) → (ℕ → ℕ) → Type 0
-HoldsUnder q replies table = (k s : ℕ) → s < states q → unit * numerator_under q Min replies k s ≤ table s * denominator q.game ^ k
+HoldsUnder q replies table = (k s : ℕ) → s < states q
+    → unit * numerator_under q Min replies k s ≤ table s * denominator q.game ^ k

@@ -26,7 +26,8 @@ pub fn first_held(question: &Question, upper: &[u64], state: u32) -> Option<u32>
     requires length { length upper.now ≡ states question.now }
     requires units { All (λ v. v ≤ unit) upper.now }
     requires state { state < states question.now }
-    ensures { MatchOption result (NoneHeld question.now (slice_index upper.now) state) (IsFirstHeld question.now (slice_index upper.now) state) }
+    ensures { MatchOption result (NoneHeld question.now (slice_index upper.now) state)
+        (IsFirstHeld question.now (slice_index upper.now) state) }
 {
     for choice in 0..question.game().choices_of(state) {
         if is_held(question, upper, state, choice) {
@@ -41,7 +42,8 @@ pub fn first_unheld(question: &Question, upper: &[u64], state: u32) -> Option<u3
     requires length { length upper.now ≡ states question.now }
     requires units { All (λ v. v ≤ unit) upper.now }
     requires state { state < states question.now }
-    ensures { MatchOption result (AllHeld question.now (slice_index upper.now) state) (IsFirstUnheld question.now (slice_index upper.now) state) }
+    ensures { MatchOption result (AllHeld question.now (slice_index upper.now) state)
+        (IsFirstUnheld question.now (slice_index upper.now) state) }
 {
     for choice in 0..question.game().choices_of(state) {
         if !is_held(question, upper, state, choice) {

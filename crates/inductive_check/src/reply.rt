@@ -29,7 +29,8 @@ pub fn check_replies(
     ensures ok { IsOk result ↔ AreReplies question.now (slice_index upper.now) replies.now }
     ensures holds { IsOk result → HoldsUnder question.now replies.now (slice_index upper.now) }
     ensures cause { IfErr result (λ fault. fault.cause ≡ UpperCause.Reply) }
-    ensures state { IfErr result (λ fault. IsFirstWithoutReply question.now (slice_index upper.now) replies.now fault.state) }
+    ensures state { IfErr result (λ fault. IsFirstWithoutReply question.now
+        (slice_index upper.now) replies.now fault.state) }
 {
     for state in 0..question.game().states() {
         if !answers(question, upper, state, replies[state as usize]) {
@@ -48,7 +49,8 @@ fn answers(question: &Question, upper: &[u64], state: u32, reply: Option<u32>) -
     requires length { length upper.now ≡ states question.now }
     requires units { All (λ v. v ≤ unit) upper.now }
     requires state { state < states question.now }
-    ensures { IsTrue result ↔ (NeedsReply question.now state → IsReply question.now (slice_index upper.now) state reply) }
+    ensures { IsTrue result ↔ (NeedsReply question.now state
+        → IsReply question.now (slice_index upper.now) state reply) }
 {
     if !needs_reply(question, state) {
         return true;

@@ -9,5 +9,7 @@ use Rattle.label_reader.specs.Texts.{lines_from, made_of, IsOutOfMemory}
 
 -- The answer to a text whose lines go on with these, of which the first has this number. What the lines before them say
 -- is what the reader holds.
-abbrev pub AnswersBehind : {Y : Type 0} → FileKind → ℕ → (List Item → List StateLine → Y) → List Item → (List StateLine → Type 0) → ℕ → List (List ℕ) → Result Y LabFault → Type 0
-AnswersBehind kind n make items Holds number lines answer = (read : List StateLine) → Holds read → AnswersOrWants IsOutOfMemory (λ x. x) answer (made_of (make items) (lines_from kind n items read number lines))
+abbrev pub AnswersBehind : {Y : Type 0} → FileKind → ℕ → (List Item → List StateLine → Y) → List Item
+    → (List StateLine → Type 0) → ℕ → List (List ℕ) → Result Y LabFault → Type 0
+AnswersBehind kind n make items Holds number lines answer = (read : List StateLine) → Holds read
+    → AnswersOrWants IsOutOfMemory (λ x. x) answer (made_of (make items) (lines_from kind n items read number lines))

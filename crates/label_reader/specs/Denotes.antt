@@ -94,13 +94,15 @@ IsOneOf (other ∷ numbers) number = (other ≡ number) ⊎ IsOneOf numbers numb
 -- some line says the number of the state
 abbrev pub LineNames : List StateLine → ℕ → ℕ → Type 0
 LineNames [] number state = ⊥
-LineNames (line ∷ lines) number state = ((line.state ≡ state) × IsOneOf line.numbers number) ⊎ LineNames lines number state
+LineNames (line ∷ lines) number state = ((line.state ≡ state) × IsOneOf line.numbers number)
+    ⊎ LineNames lines number state
 
 -- a label holds at the states of which some line says its index
 pub record IsLabel (n : ℕ) (lines : List StateLine) (item : Item) (label : Label) : Type 0 where
   pub name : label.name ≡ item.name
   pub marks : length label.marks ≡ n
-  pub holds : (state : ℕ) → state < n → (slice_index_or label.marks state false ≡ true) ↔ LineNames lines item.index state
+  pub holds : (state : ℕ) → state < n → (slice_index_or label.marks state false
+      ≡ true) ↔ LineNames lines item.index state
 
 abbrev pub AreLabels : ℕ → List StateLine → List Item → List Label → Type 0
 AreLabels n lines [] [] = Unit {0}
@@ -116,7 +118,8 @@ pub record DenotesLabels (text : List ℕ) (n : ℕ) (l : Labelling) : Type 0 wh
   pub states : l.states ≡ n
   pub labels : AreLabels n lines items l.labels
 
--- A text denotes these owners of n states: each state's is the one that is said, and the first player where none is said.
+-- A text denotes these owners of n states: each state's is the one that is said, and the first player where none is
+-- said.
 pub record DenotesOwners (text : List ℕ) (n : ℕ) (o : Ownership) : Type 0 where
   pub items : List Item
   pub lines : List StateLine
@@ -124,5 +127,7 @@ pub record DenotesOwners (text : List ℕ) (n : ℕ) (o : Ownership) : Type 0 wh
   pub one : (state first second : ℕ) → LineNames lines first state → LineNames lines second state → first ≡ second
   pub players : o.players ≡ map (λ item. item.name) items
   pub owners : length o.owners ≡ n
-  pub owned : (state number : ℕ) → state < n → LineNames lines number state → place_of items number ≡ Some (slice_index o.owners state)
-  pub others : (state : ℕ) → state < n → ((number : ℕ) → LineNames lines number state → ⊥) → slice_index o.owners state ≡ 0
+  pub owned : (state number : ℕ) → state < n → LineNames lines number state
+      → place_of items number ≡ Some (slice_index o.owners state)
+  pub others : (state : ℕ) → state < n → ((number : ℕ) → LineNames lines number state → ⊥)
+      → slice_index o.owners state ≡ 0

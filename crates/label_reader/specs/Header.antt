@@ -27,7 +27,8 @@ split_first x bytes = option_map (parted_at bytes) (position (λ b. b == x) byte
 
 -- what stands between two quotes
 abbrev pub quoted : List ℕ → Option (List ℕ)
-quoted bytes = if nat_le 2 (length bytes) && slice_index bytes 0 == 34 && slice_index bytes (length bytes - 1) == 34 then Some (take (length bytes - 2) (drop 1 bytes)) else None
+quoted bytes = if nat_le 2 (length bytes) && slice_index bytes 0 == 34 && slice_index bytes (length bytes - 1) ==
+    34 then Some (take (length bytes - 2) (drop 1 bytes)) else None
 
 -- from `!` to `~`, and no quote
 abbrev pub is_label_byte : ℕ → Bool
@@ -46,7 +47,8 @@ abbrev pub is_name : FileKind → List ℕ → Bool
 is_name kind name = nat_le 1 (length name) && nat_le (length name) longest_name && has_name_bytes kind name
 
 abbrev pub item_named : FileKind → Option ℕ → Option (List ℕ) → Option Item
-item_named kind (Some index) (Some name) = if is_name kind name then Some (record { index = index; name = name }) else None
+item_named kind (Some index) (Some name) =
+    if is_name kind name then Some (record { index = index; name = name }) else None
 item_named kind index name = None
 
 abbrev pub item_parts : FileKind → Option (List ℕ × List ℕ) → Option Item
@@ -99,7 +101,8 @@ and_then (Err cause) next = Err cause
 -- the items before these fields, and those that the fields spell
 abbrev pub items_from : FileKind → List Item → List (List ℕ) → Result (List Item) LabCause
 items_from kind before [] = Ok before
-items_from kind before (field ∷ fields) = and_then (with_item kind before (item_of kind field)) (λ items. items_from kind items fields)
+items_from kind before (field ∷ fields) =
+    and_then (with_item kind before (item_of kind field)) (λ items. items_from kind items fields)
 
 -- The items of a header with these fields, or its first fault.
 abbrev pub header_of : FileKind → List (List ℕ) → Result (List Item) LabCause

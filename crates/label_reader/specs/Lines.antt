@@ -27,7 +27,8 @@ only_number fields = None
 
 abbrev pub numbered : Option ℕ → List (List ℕ) → Option StateLine
 numbered None fields = None
-numbered (Some state) fields = if list_all is_number fields then Some (record { state = state; numbers = map number_in fields }) else None
+numbered (Some state) fields = if list_all is_number fields then Some
+    (record { state = state; numbers = map number_in fields }) else None
 
 abbrev pub line_parts : Option (List ℕ × List ℕ) → Option StateLine
 line_parts None = None
@@ -40,7 +41,8 @@ state_line line = line_parts (split_first 58 line)
 -- a line whose state is in range, and whose numbers are indices of the header
 abbrev pub known_line : ℕ → List Item → Option StateLine → Result StateLine LabCause
 known_line n items None = Err BadField
-known_line n items (Some line) = if nat_lt line.state n then (if list_all (has_index items) line.numbers then Ok line else Err UnknownIndex) else Err StateOutOfRange
+known_line n items (Some line) = if nat_lt line.state n then
+    (if list_all (has_index items) line.numbers then Ok line else Err UnknownIndex) else Err StateOutOfRange
 
 -- all numbers that the lines say of a state
 abbrev pub said_of : List StateLine → ℕ → List ℕ
@@ -54,7 +56,8 @@ all_same (number ∷ numbers) = list_all (λ other. other == number) numbers
 -- a line behind those before it; in an owner file no state has two owners
 abbrev pub with_line : FileKind → List StateLine → StateLine → Result (List StateLine) LabCause
 with_line LabelFile before line = Ok (before ++ line ∷ [])
-with_line OwnerFile before line = if all_same (said_of (before ++ line ∷ []) line.state) then Ok (before ++ line ∷ []) else Err (TwoOwners line.state)
+with_line OwnerFile before line = if all_same (said_of (before ++ line ∷ []) line.state) then Ok
+    (before ++ line ∷ []) else Err (TwoOwners line.state)
 
 -- the lines before this one and the line itself, or its first fault
 abbrev pub add_line : FileKind → ℕ → List Item → List StateLine → List ℕ → Result (List StateLine) LabCause
@@ -62,4 +65,5 @@ add_line kind n items before line = and_then (known_line n items (state_line lin
 
 -- whether the fields spell indices of the header, or their first fault
 abbrev pub known_fields : List Item → List (List ℕ) → Result (Unit {0}) LabCause
-known_fields items fields = if list_all is_number fields then (if list_all (has_place items) fields then Ok tt else Err UnknownIndex) else Err BadField
+known_fields items fields = if list_all is_number fields then
+    (if list_all (has_place items) fields then Ok tt else Err UnknownIndex) else Err BadField

@@ -11,10 +11,12 @@ with_mark state (Some place) sets = slice_set sets place (slice_set (slice_index
 -- the sets, with the state marked in each whose index a field spells
 abbrev pub with_marks : List Item → ℕ → List (List Bool) → List (List ℕ) → List (List Bool)
 with_marks items state sets [] = sets
-with_marks items state sets (field ∷ fields) = with_marks items state (with_mark state (place_in items field) sets) fields
+with_marks items state sets (field ∷ fields) =
+    with_marks items state (with_mark state (place_in items field) sets) fields
 
 -- each set has exactly the states of which its index is said
 pub record AreMarked (n : ℕ) (items : List Item) (said : ℕ → ℕ → Bool) (sets : List (List Bool)) : Type 0 where
   pub count : length sets ≡ length items
   pub lengths : All (λ marks. length marks ≡ n) sets
-  pub marks : (k s : ℕ) → k < length items → s < n → slice_index_or (slice_index_or sets k []) s false ≡ said (slice_index (indices_of items) k) s
+  pub marks : (k s : ℕ) → k < length items → s < n
+      → slice_index_or (slice_index_or sets k []) s false ≡ said (slice_index (indices_of items) k) s

@@ -9,7 +9,8 @@ names_of entries = map (λ entry. entry.0.items) entries
 
 -- the entries' names, each with the marks in its place
 abbrev pub labels_named : List (Vec ℕ Global × ℕ) → List (List Bool) → List Label
-labels_named (entry ∷ entries) (marks ∷ sets) = record { name = entry.0.items; marks = marks } ∷ labels_named entries sets
+labels_named (entry ∷ entries) (marks ∷ sets) =
+    record { name = entry.0.items; marks = marks } ∷ labels_named entries sets
 labels_named entries sets = []
 
 -- there are as many sets as names, each with a mark for each state

@@ -32,7 +32,9 @@ all_at items (Some place) fields = list_all (λ field. is_at place (place_in ite
 
 -- the owner behind a line with these fields, or their first fault
 abbrev pub owner_behind : List Item → ℕ → Option ℕ → List (List ℕ) → Result (Option ℕ) LabCause
-owner_behind items state named fields = and_then (known_fields items fields) (λ _. if all_at items (owner_then named (first_in items fields)) fields then Ok (owner_then named (first_in items fields)) else Err (TwoOwners state))
+owner_behind items state named fields = and_then (known_fields items fields)
+    (λ _. if all_at items (owner_then named (first_in items fields)) fields then Ok
+    (owner_then named (first_in items fields)) else Err (TwoOwners state))
 
 -- each state has the owner who is said first, all that is said of it is one known index
 pub record AreRead (n : ℕ) (items : List Item) (lines : List StateLine) (owners : List (Option ℕ)) : Type 0 where

@@ -21,7 +21,8 @@ RefusesCaused (Err file.TooLong) = Unit {0}
 
 -- the same answer, but want of memory in place of a refusal for it
 abbrev pub IsWithoutWant : {X : Type 0} → Result X (FileEnd LabFault) → Result X (FileEnd LabFault) → Type 0
-IsWithoutWant (Err (file.Refused fault)) after = (is_out_of_memory fault.cause ≡ true → after ≡ Err file.OutOfMemory) × (is_out_of_memory fault.cause ≡ false → after ≡ Err (file.Refused fault))
+IsWithoutWant (Err (file.Refused fault)) after = (is_out_of_memory fault.cause ≡ true → after ≡ Err file.OutOfMemory)
+    × (is_out_of_memory fault.cause ≡ false → after ≡ Err (file.Refused fault))
 IsWithoutWant (Ok x) after = after ≡ Ok x
 IsWithoutWant (Err file.OutOfMemory) after = after ≡ Err file.OutOfMemory
 IsWithoutWant (Err file.ReadFault) after = after ≡ Err file.ReadFault

@@ -23,7 +23,8 @@ then_at number (Err cause) next = Err (fault_at number cause)
 -- the lines before these, and these, of which the first has this number
 abbrev pub lines_from : FileKind → ℕ → List Item → List StateLine → ℕ → List (List ℕ) → Result (List StateLine) LabFault
 lines_from kind n items before number [] = Ok before
-lines_from kind n items before number (line ∷ lines) = then_at number (add_line kind n items before line) (λ read. lines_from kind n items read (number + 1) lines)
+lines_from kind n items before number (line ∷ lines) =
+    then_at number (add_line kind n items before line) (λ read. lines_from kind n items read (number + 1) lines)
 
 -- a value made of what was read
 abbrev pub made_of : {X Y : Type 0} → (X → Y) → Result X LabFault → Result Y LabFault
@@ -31,9 +32,11 @@ made_of make (Ok x) = Ok (make x)
 made_of make (Err fault) = Err fault
 
 -- What a text says, made into a value: its header's items and the lines behind it, or the first fault.
-abbrev pub said_by_lines : {Y : Type 0} → FileKind → ℕ → (List Item → List StateLine → Y) → List (List ℕ) → Result Y LabFault
+abbrev pub said_by_lines : {Y : Type 0} → FileKind → ℕ → (List Item → List StateLine → Y) → List (List ℕ)
+    → Result Y LabFault
 said_by_lines kind n make [] = Err (fault_at 1 NoHeader)
-said_by_lines kind n make (header ∷ lines) = then_at 1 (header_of kind (fields_of header)) (λ items. made_of (make items) (lines_from kind n items [] 2 lines))
+said_by_lines kind n make (header ∷ lines) =
+    then_at 1 (header_of kind (fields_of header)) (λ items. made_of (make items) (lines_from kind n items [] 2 lines))
 
 abbrev pub said_by : {Y : Type 0} → FileKind → ℕ → (List Item → List StateLine → Y) → List ℕ → Result Y LabFault
 said_by kind n make text = said_by_lines kind n make (significant (lines_of text))
@@ -59,7 +62,10 @@ owner_place items [] = 0
 owner_place items (number ∷ numbers) = unwrap_or (place_of items number) 0
 
 abbrev pub ownership : ℕ → List Item → List StateLine → Ownership
-ownership n items lines = record { players = map (λ item. item.name) items; owners = map (λ state. owner_place items (said_of lines state)) (range_with_len 0 n) }
+ownership n items lines = record {
+  players = map (λ item. item.name) items;
+  owners = map (λ state. owner_place items (said_of lines state)) (range_with_len 0 n);
+}
 
 -- The owners that a text denotes, or its first fault.
 abbrev pub owners_of : List ℕ → ℕ → Result Ownership LabFault
@@ -74,4 +80,5 @@ IsOutOfMemoryCause cause = cause ≡ OutOfMemory
 
 -- the fault of a header with this cause: want of memory has line 0
 abbrev pub GivesFault : LabCause → LabFault → Type 0
-GivesFault cause fault = IsOutOfMemory fault × (cause ≡ OutOfMemory) ⊎ (fault ≡ fault_at 1 cause) × (cause ≢ OutOfMemory)
+GivesFault cause fault = IsOutOfMemory fault × (cause ≡ OutOfMemory) ⊎ (fault ≡ fault_at 1 cause)
+    × (cause ≢ OutOfMemory)

@@ -31,7 +31,8 @@ pub fn read_labels_from<H: Shelf>(
     ensures caused { RefusesCaused result }
     ensures sizes { IfOk result (λ labels. labels.states ≡ states) }
 
-    // It fails only where the shelf fails, takes little more than the limit, and changes nothing of what the shelf holds.
+    // It fails only where the shelf fails, takes little more than the limit, and changes nothing of what the shelf
+    // holds.
     ensures shelf { LeavesShelf H.held H.steady H.faults H.taken name.now limit shelf.old shelf.new result }
 {
     read_from::<H, LabelSets>(alloc, shelf, name, limit, states)
@@ -53,7 +54,8 @@ pub fn read_owners_from<H: Shelf>(
     ensures caused { RefusesCaused result }
     ensures sizes { IfOk result (λ owners. length owners.owners ≡ states) }
 
-    // It fails only where the shelf fails, takes little more than the limit, and changes nothing of what the shelf holds.
+    // It fails only where the shelf fails, takes little more than the limit, and changes nothing of what the shelf
+    // holds.
     ensures shelf { LeavesShelf H.held H.steady H.faults H.taken name.now limit shelf.old shelf.new result }
 {
     read_from::<H, OwnerTable>(alloc, shelf, name, limit, states)
@@ -68,7 +70,8 @@ fn read_from<H: Shelf, B: BehindHeader>(
     states: u32,
 ) -> Result<B::Made, FileEnd<LabFault>>
     requires { limit ≤ most_bytes }
-    ensures reads { ReadsFile (λ text answer. said_by B.kind states (B.make states) text ≡ answer) (H.held shelf.old) name.now limit result }
+    ensures reads { ReadsFile (λ text answer. said_by B.kind states (B.make states) text ≡ answer)
+        (H.held shelf.old) name.now limit result }
     ensures caused { RefusesCaused result }
     ensures shelf { LeavesShelf H.held H.steady H.faults H.taken name.now limit shelf.old shelf.new result }
 {

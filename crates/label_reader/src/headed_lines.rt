@@ -30,7 +30,9 @@ pub trait BehindHeader: LineReader<Fault = LabFault> {
     fn new(alloc: Global, header: Header, states: u32) -> Result<Self, AllocError>
         requires { 0 < length header }
         ensures { IfOk result (λ reader. (lines : List (List ℕ)) (answer : Result Self.Made LabFault) →
-            Self.answers reader 2 lines answer → AnswersOrWants IsOutOfMemory (λ x. x) answer (made_of (make states header) (lines_from kind states header [] 2 lines))) };
+            Self.answers reader 2 lines answer
+            → AnswersOrWants IsOutOfMemory (λ x. x) answer
+            (made_of (make states header) (lines_from kind states header [] 2 lines))) };
 }
 
 /// A reader of a whole text: of its header, and then of the lines behind it.
@@ -58,9 +60,11 @@ impl<B: BehindHeader> HeadedLines<B> {
 // Takes the header.
 fn begin<B: BehindHeader>(alloc: Global, states: u32, line: &[u8]) -> Result<B, LabFault>
     ensures ok { IfOk result (λ reader. (lines : List (List ℕ)) (answer : Result B.Made LabFault) →
-        B.answers reader 2 lines answer → AnswersOrWants IsOutOfMemory (λ x. x) answer (said_by_lines B.kind states (B.make states) (line.now ∷ lines))) }
+        B.answers reader 2 lines answer → AnswersOrWants IsOutOfMemory (λ x. x) answer
+        (said_by_lines B.kind states (B.make states) (line.now ∷ lines))) }
     ensures fault { MatchResult result (λ _. Unit {0}) (λ fault. (lines : List (List ℕ)) →
-        AnswersOrWants {X = B.Made} IsOutOfMemory (λ x. x) (Err fault) (said_by_lines B.kind states (B.make states) (line.now ∷ lines))) }
+        AnswersOrWants {X = B.Made} IsOutOfMemory (λ x. x) (Err fault)
+        (said_by_lines B.kind states (B.make states) (line.now ∷ lines))) }
 {
     match read_header(alloc, B::kind(), line) {
         Err(cause) => Err(LabFault::of_header(cause)),
@@ -77,7 +81,8 @@ impl<B: BehindHeader> LineReader for HeadedLines<B> {
     type Fault = LabFault;
 
     ghost answers = { λ r number lines answer. MatchOption r.behind
-        (number ≡ 1 → AnswersOrWants IsOutOfMemory (λ x. x) answer (said_by_lines B.kind r.states (B.make r.states) lines))
+        (number ≡ 1 → AnswersOrWants IsOutOfMemory (λ x. x) answer
+        (said_by_lines B.kind r.states (B.make r.states) lines))
         (λ reader. B.answers reader number lines answer) };
 
     fn take(&mut self, number: u32, line: &[u8]) -> Result<(), LabFault> {

@@ -101,7 +101,8 @@ impl Header {
         requires small { index ≤ greatest_index }
         requires new_index { has_index self index ≡ false }
         requires new_name { has_name self name.now ≡ false }
-        ensures { MatchResult result (λ h. h ≡ self ++ (record { index = index; name = name.now }) ∷ []) (λ cause. cause ≡ LabCause.OutOfMemory) }
+        ensures { MatchResult result (λ h. h ≡ self ++ (record { index = index; name = name.now }) ∷ [])
+            (λ cause. cause ≡ LabCause.OutOfMemory) }
     {
         let Header {
             mut names,
@@ -122,7 +123,8 @@ impl Header {
 
     /// One item more, which a field spells, or its first fault.
     pub fn add(self, alloc: Global, kind: FileKind, field: &[u8]) -> Result<Header, LabCause>
-        ensures { AnswersOrWants IsOutOfMemoryCause (λ items. items) result (with_item kind self (item_of kind field.now)) }
+        ensures { AnswersOrWants IsOutOfMemoryCause (λ items. items) result
+            (with_item kind self (item_of kind field.now)) }
     {
         let Some((index, name)) = read_item(kind, field) else {
             return Err(LabCause::BadHeader);

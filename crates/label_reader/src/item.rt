@@ -17,7 +17,8 @@ fn place_of_byte(x: u8, bytes: &[u8]) -> Option<usize>
 
 /// What stands before the first of a byte, and behind it.
 pub fn split_at_first(x: u8, bytes: &[u8]) -> Option<(&[u8], &[u8])>
-    ensures { MatchOption result (split_first x bytes.now ≡ None) (λ r. split_first x bytes.now ≡ Some (r.0.now, r.1.now)) }
+    ensures { MatchOption result (split_first x bytes.now ≡ None)
+        (λ r. split_first x bytes.now ≡ Some (r.0.now, r.1.now)) }
 {
     match place_of_byte(x, bytes) {
         Some(place) => {

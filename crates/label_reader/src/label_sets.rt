@@ -54,7 +54,8 @@ impl LineReader for LabelSets {
 
     type Fault = LabFault;
 
-    ghost answers = { λ s number lines answer. AnswersBehind LabelFile s.states (labelling s.states) s.header (λ read. AreMarked s.states s.header (is_said read) s.sets.items) number lines answer };
+    ghost answers = { λ s number lines answer. AnswersBehind LabelFile s.states (labelling s.states) s.header
+        (λ read. AreMarked s.states s.header (is_said read) s.sets.items) number lines answer };
 
     fn take(&mut self, number: u32, line: &[u8]) -> Result<(), LabFault> {
         match read_state(self.states, line) {

@@ -31,5 +31,6 @@ pub fn owners_are_those_that_a_text_denotes()
 /// The states with a label are those at which it holds, in rising order.
 pub fn states_with_a_label_are_those_where_it_holds()
     ensures rising { (l : Labelling) (name : List ℕ) → IsStrictlyIncreasing (states_with l name) }
-    ensures each { (l : Labelling) (name : List ℕ) (state : ℕ) → list_any (λ s. s == state) (states_with l name) ≡ holds_at l name state }
+    ensures each { (l : Labelling) (name : List ℕ) (state : ℕ)
+        → list_any (λ s. s == state) (states_with l name) ≡ holds_at l name state }
 {}

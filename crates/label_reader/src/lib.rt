@@ -1,10 +1,10 @@
 //! Label files and owner files of explicit models.
 //!
 //! `read_labels` gives the labels of a model's states and `read_owners` the players that own them, each from the bytes
-//! of its file and the number of states; or the first fault of the text with its line. Both formats are one: a header of
-//! items `index="name"`, and lines `state: index index ..` in any order. Of a text that denotes labels or owners nothing
-//! but these is answered, unless memory is wanting. `read_labels_from` and `read_owners_from` read a file on a shelf, a
-//! piece at a time, and give the same answer in whatever pieces it comes.
+//! of its file and the number of states; or the first fault of the text with its line. Both formats are one: a header
+//! of items `index="name"`, and lines `state: index index ..` in any order. Of a text that denotes labels or owners
+//! nothing but these is answered, unless memory is wanting. `read_labels_from` and `read_owners_from` read a file on a
+//! shelf, a piece at a time, and give the same answer in whatever pieces it comes.
 //!
 //! ```text
 //! let labels = read_labels(alloc, &bytes, game.states())?;
@@ -12,7 +12,8 @@
 //! let owners = Owners::single(alloc, game.states())?;
 //! ```
 //!
-//! `Labels::holds`, `Labels::knows`, `Owners::knows` and `Owners::owner` take no memory and constant time. Contracts see
+//! `Labels::holds`, `Labels::knows`, `Owners::knows` and `Owners::owner` take no memory and constant time. Contracts
+//! see
 //! `Labels` as a `Labelling`, a list of names with a mark for each state, and `Owners` as an `Ownership`.
 //!
 //! Nothing is said of what PRISM reads or refuses beyond these rules.

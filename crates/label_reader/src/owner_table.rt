@@ -50,7 +50,8 @@ impl LineReader for OwnerTable {
 
     type Fault = LabFault;
 
-    ghost answers = { λ t number lines answer. AnswersBehind OwnerFile t.states (ownership t.states) t.header (λ read. AreRead t.states t.header read t.owners.items) number lines answer };
+    ghost answers = { λ t number lines answer. AnswersBehind OwnerFile t.states (ownership t.states) t.header
+        (λ read. AreRead t.states t.header read t.owners.items) number lines answer };
 
     fn take(&mut self, number: u32, line: &[u8]) -> Result<(), LabFault> {
         match read_state(self.states, line) {

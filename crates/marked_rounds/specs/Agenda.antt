@@ -23,14 +23,17 @@ pub record IsSized (q : Query) (agenda : Agenda) : Type 0 where
 abbrev pub IsWhole : Query → Agenda → Type 0
 IsWhole q agenda = agenda.whole ≡ true → (s : ℕ) → s < states q → IsMarked agenda.marks.items s
 
--- a state without a mark is quiet: its down step over the values that were read is at most its own. These are nowhere above what was seen
+-- a state without a mark is quiet: its down step over the values that were read is at most its own. These are nowhere
+-- above what was seen
 pub record IsAgenda (q : Query) (agenda : Agenda) (seen : ℕ → ℕ) : Type 0 where
   pub sized : IsSized q agenda
   pub whole : IsWhole q agenda
   pub below : (s : ℕ) → s < states q → read_of agenda s ≤ seen s
-  pub quiet : (s : ℕ) → s < states q → slice_index_or agenda.marks.items s false ≡ false → down_step q (read_of agenda) s ≤ read_of agenda s
+  pub quiet : (s : ℕ) → s < states q → slice_index_or agenda.marks.items s false ≡ false
+      → down_step q (read_of agenda) s ≤ read_of agenda s
 
--- a state was looked at again: its value is no smaller, and at most what is seen now; if it had the second mark, it is at least what was seen before; where it is another one, the state has the second mark
+-- a state was looked at again: its value is no smaller, and at most what is seen now; if it had the second mark, it is
+-- at least what was seen before; where it is another one, the state has the second mark
 pub record IsStateRead (s : ℕ) (old new : Agenda) (before after : ℕ → ℕ) : Type 0 where
   pub rises : read_of old s ≤ read_of new s
   pub below : read_of new s ≤ after s
@@ -42,7 +45,8 @@ pub record IsElsewhere (s : ℕ) (old new : Agenda) : Type 0 where
   pub read : (t : ℕ) → t ≢ s → read_of new t ≡ read_of old t
   pub more : (t : ℕ) → t ≢ s → slice_index_or new.more.items t false ≡ slice_index_or old.more.items t false
 
--- after a round the states were looked at again: each value is no smaller, and at most what is seen now; that of a marked state is at least what was seen before; where it is another one, the state has the second mark
+-- after a round the states were looked at again: each value is no smaller, and at most what is seen now; that of a
+-- marked state is at least what was seen before; where it is another one, the state has the second mark
 pub record IsReadAgain (q : Query) (old new : Agenda) (before after : ℕ → ℕ) : Type 0 where
   pub rises : (s : ℕ) → s < states q → read_of old s ≤ read_of new s
   pub below : (s : ℕ) → s < states q → read_of new s ≤ after s
@@ -51,4 +55,5 @@ pub record IsReadAgain (q : Query) (old new : Agenda) (before after : ℕ → �
 
 -- each state with an edge to a changed one has a mark
 abbrev pub AreMarkedFor : List (List Distribution) → List Bool → List Bool → Type 0
-AreMarkedFor game changed marks = (s c t : ℕ) → t < length game → IsMarked changed t → LeadsTo game s c t → IsMarked marks s
+AreMarkedFor game changed marks = (s c t : ℕ) → t < length game → IsMarked changed t → LeadsTo game s c t
+    → IsMarked marks s

@@ -10,7 +10,8 @@ use Rattle.value_words.specs.Rule.{all_parts}
 use Rattle.marked_rounds.specs.declared.agenda.Agenda.{Agenda}
 use Rattle.marked_rounds.specs.Agenda.{read_of}
 
--- after this many rounds: the pass is the only one and has won at most one exchange a state and round, and what was read is nowhere below the down steps of the rounds
+-- after this many rounds: the pass is the only one and has won at most one exchange a state and round, and what was
+-- read is nowhere below the down steps of the rounds
 pub record IsRacingSeat (q : Query) (rounds : ℕ) (seat : PassSeat) (agenda : Agenda) : Type 0 where
   pub whole : seat.me.0.parts ≡ all_parts
   pub won : seat.me.0.won ≤ rounds * states q

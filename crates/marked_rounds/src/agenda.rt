@@ -36,7 +36,8 @@ impl Agenda {
     /// All states are to be updated, and the values are those of the opening table.
     pub fn open(alloc: Global, question: &Question) -> Result<Agenda, OutOfMemory>
         ensures sized { IfOk result (λ agenda. IsSized question.now agenda) }
-        ensures opens { IfOk result (λ agenda. (s : ℕ) → s < states question.now → read_of agenda s ≡ opening question.now s) }
+        ensures opens { IfOk result (λ agenda. (s : ℕ) → s < states question.now
+            → read_of agenda s ≡ opening question.now s) }
         ensures marked { IfOk result (λ agenda. (s : ℕ) → s < states question.now → IsMarked agenda.marks.items s) }
     {
         let states = question.game().states();
@@ -55,8 +56,8 @@ impl Agenda {
     }
 }
 
-/// The first place from one on that has a mark; the number of marks, where there is none. Where the place itself has one, no
-/// stretch is looked at.
+/// The first place from one on that has a mark; the number of marks, where there is none. Where the place itself has
+/// one, no stretch is looked at.
 fn mark_from(marks: &[bool], from: u32) -> u32
     requires few { length marks.now ≤ most_states }
     requires from { from ≤ length marks.now }
@@ -112,7 +113,8 @@ fn read_marked<P: Posing>(table: &ValueTable<'_, P>, pass: &mut Pass<P>, agenda:
     requires below { (s : ℕ) → s < states P.posed → read_of agenda.old s ≤ seen_by pass.old s }
     ensures looked { Looked pass.old pass.new }
     ensures sized { IsSized P.posed agenda.new }
-    ensures again { (s : ℕ) → s < states P.posed → IsStateRead s agenda.old agenda.new (seen_by pass.old) (seen_by pass.new) }
+    ensures again { (s : ℕ) → s < states P.posed
+        → IsStateRead s agenda.old agenda.new (seen_by pass.old) (seen_by pass.new) }
     ensures none { result ≡ 0 → (s : ℕ) → s < states P.posed → slice_index_or agenda.new.more.items s false ≡ false }
     ensures whole { agenda.new.whole ≡ agenda.old.whole }
 {

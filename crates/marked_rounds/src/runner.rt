@@ -54,7 +54,8 @@ pub fn open<'q, P: Posing>(
     })
 }
 
-/// One round of at most so many workers, and whether a value changed: where it says that none did, what was read is settled.
+/// One round of at most so many workers, and whether a value changed: where it says that none did, what was read is
+/// settled.
 pub fn one_round<'q, R: Threads + Sync, P: Posing + Send + Sync, G: Gate + Sync>(
     rt: &R,
     predecessors: &Predecessors,
@@ -64,7 +65,8 @@ pub fn one_round<'q, R: Threads + Sync, P: Posing + Send + Sync, G: Gate + Sync>
 ) -> (Runner<'q, P>, bool)
     requires predecessors { ArePredecessors P.posed.game predecessors.now }
     requires workers { (1 ≤ workers) × (workers ≤ most_workers) }
-    ensures racing { (r : ℕ) → IsRacing P.posed r runner.entry.pass runner.entry.agenda → IsRacing P.posed (r + 1) result.0.pass result.0.agenda }
+    ensures racing { (r : ℕ) → IsRacing P.posed r runner.entry.pass runner.entry.agenda
+        → IsRacing P.posed (r + 1) result.0.pass result.0.agenda }
     ensures settled { result.1 ≡ false → IsSettled P.posed (read_of result.0.agenda) }
 {
     let Runner {

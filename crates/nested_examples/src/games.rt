@@ -1,5 +1,5 @@
-//! Formulas with formulas inside, over random games of two players: the bounds lie around the exact values, and what they say of
-//! thresholds is true.
+//! Formulas with formulas inside, over random games of two players: the bounds lie around the exact values, and what
+//! they say of thresholds is true.
 
 ghost use Rattle.std.specs.Prelude.{◌≤◌, IfOk};
 ghost use Rattle.rpatl_syntax.specs.Formula.{formulas_inside, tree_of};
@@ -114,7 +114,8 @@ fn answer_of<R: Threads + Sync>(
     }
 }
 
-// Whether bounds lie around the value at a state, and near it where the steps are bounded and nothing inside is undecided.
+// Whether bounds lie around the value at a state, and near it where the steps are bounded and nothing inside is
+// undecided.
 fn lie_right(
     valued: &Valued<'_>,
     undecided: u32,
@@ -171,8 +172,8 @@ fn compare_state(
     compare_verdict(valued, text, state, lower, upper, tally)
 }
 
-// Compares an answer with the values at each state: bounds lie around them, and verdicts are true. It gives at how many states
-// the bounds leave open what is asked.
+// Compares an answer with the values at each state: bounds lie around them, and verdicts are true. It gives at how many
+// states the bounds leave open what is asked.
 fn compare_bounds(
     valued: &Valued<'_>,
     answer: &Nested,
@@ -187,7 +188,8 @@ fn compare_bounds(
     Ok(open)
 }
 
-// How many formulas are inside one, how many of their verdicts are undecided, and at how many states it is left open itself.
+// How many formulas are inside one, how many of their verdicts are undecided, and at how many states it is left open
+// itself.
 #[derive(Clone, Copy)]
 struct Compared {
     inner: u32,
@@ -232,8 +234,8 @@ fn compare<R: Threads + Sync>(
     compare_answer(valued, &answer, model.seen.of_second.len(), text, tally)
 }
 
-// Compares the answers to a formula and to each one inside, asked by itself. What is undecided inside is what these leave
-// open; workers that race may leave open something else.
+// Compares the answers to a formula and to each one inside, asked by itself. What is undecided inside is what these
+// leave open; workers that race may leave open something else.
 fn compare_all<R: Threads + Sync>(
     rt: &R,
     alloc: Global,

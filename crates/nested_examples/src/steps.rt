@@ -13,10 +13,10 @@ const COMMON: u128 = 6;
 // The numerator of 1 of values without a bound on the steps.
 const FINE: u128 = 10_000_000_000_000_000_000_000;
 
-// How far such a value may lie above a table in which a step that is rounded down changes nothing. A best memoryless strategy of
-// the maximiser, and the minimiser's choices by the table, make a Markov chain of at most 5 states with probabilities of at least
-// 1/3. After fewer than 10^5 steps it has come to a goal or to where there is no way to one, but for a probability below 10^-30,
-// and each step loses less than one by rounding.
+// How far such a value may lie above a table in which a step that is rounded down changes nothing. A best memoryless
+// strategy of the maximiser, and the minimiser's choices by the table, make a Markov chain of at most 5 states with
+// probabilities of at least 1/3. After fewer than 10^5 steps it has come to a goal or to where there is no way to one,
+// but for a probability below 10^-30, and each step loses less than one by rounding.
 const SLACK: u128 = 100_000;
 
 // Many steps: most games come to rest much earlier.

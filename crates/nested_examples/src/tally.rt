@@ -60,8 +60,8 @@ impl Tally {
         }
     }
 
-    /// More formulas than this have all inside settled, and more than that something open; and there are many verdicts of each
-    /// kind, and many values between 0 and 1.
+    /// More formulas than this have all inside settled, and more than that something open; and there are many verdicts
+    /// of each kind, and many values between 0 and 1.
     pub fn is_telling(&self, settled: u32, open: u32) -> Result<(), Fail> {
         are_more("settled inside", self.settled, settled)?;
         are_more("open inside", self.open, open)?;

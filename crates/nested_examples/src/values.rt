@@ -16,9 +16,9 @@ pub struct Seen<'g> {
     pub has_b: Vec<bool>,
 }
 
-/// The values of a path at all states: numerators over that of 1. A value is nowhere further than the slack away, and it is a
-/// threshold where it is that near. Without a bound on the steps it is a fraction whose denominator is at most 6^5 (Cramer's
-/// rule), so another threshold is much further away.
+/// The values of a path at all states: numerators over that of 1. A value is nowhere further than the slack away, and
+/// it is a threshold where it is that near. Without a bound on the steps it is a fraction whose denominator is at most
+/// 6^5 (Cramer's rule), so another threshold is much further away.
 #[derive(Drop)]
 pub struct Exact {
     pub numerators: Vec<u128>,

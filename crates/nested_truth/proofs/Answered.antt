@@ -17,21 +17,26 @@ use Rattle.rpatl_syntax.specs.Limits.{longest}
 use Rattle.rpatl_syntax.specs.Spellable.{IsSpellable}
 use Rattle.bracket_engine.specs.Bracket.{rests_of}
 use Rattle.verdicts.specs.declared.report.How.{How}
+use Rattle.verdicts.specs.declared.verdict.Verdict.TheVariants.{Undecided}
 use Rattle.nested_truth.specs.declared.judging.Judged.{Judged}
 use Rattle.formula_sets.specs.Posing.{Model}
 use Rattle.nested_truth.specs.Truth.{Valuation, IsTruth, states, holds, everywhere}
-use Rattle.nested_truth.specs.Bands.{Band, Known, known, exactly, negated, judgement, undecided_at}
+use Rattle.nested_truth.specs.Bands.{Band, Known, known, exactly, negated, judgement, undecided_at, undecided_in, verdict_at}
 use Rattle.nested_truth.specs.Runs.{AreFoundBy, AreRaced, pessimistic, optimistic, mirrored}
+use Rattle.nested_truth.specs.Open.{IsOpenBy}
 use Rattle.nested_truth.specs.Nested.{IsNested}
 use Rattle.nested_truth.specs.Seen.{AreAlike, IsBand, IsJudged, seen}
-use Rattle.nested_truth.specs.Sound.{IsAround}
+use Rattle.nested_truth.specs.Sound.{IsAround, IsRightOf, AreSoundBy}
 use Rattle.nested_truth.proofs.Parts.{alike-back}
 use Rattle.nested_truth.proofs.Counted.{undecided-few, undecided-pairs}
 use Rattle.nested_truth.proofs.Widened.{sound-by}
-use Rattle.nested_truth.proofs.Valuation.{right-by}
+use Rattle.nested_truth.proofs.Valuation.{right-by, small-share}
 use Rattle.nested_truth.proofs.Around.{around}
 use Rattle.nested_truth.proofs.Inside.{open-within, outermost}
-use Rattle.nested_truth.proofs.Exactly.{both-same, found-same, known-exactly, settled}
+use Rattle.nested_truth.proofs.Exactly.{both-same, found-same}
+use Rattle.nested_truth.proofs.Decided.{decided-truth}
+use Rattle.nested_truth.proofs.Existing.{truth-of}
+use Rattle.nested_truth.proofs.Opened.{all-opened}
 
 -- 1. `G`.
 
@@ -121,11 +126,40 @@ module _ (m : Model) (game : IsGame m.game) (asked : ℕ) (f : Tree) (left right
   -- 4. The outermost formula.
 
   module _ (spellable : IsSpellable f) where
-    left-around : (valuation : Valuation) → IsTruth m valuation → IsAround m (holds m.labels valuation f.left) (known m.labels f.left h.bands)
-    left-around valuation truth = around m game valuation truth asked f.left h.bands spellable.left.parts h.found
+    truth : Valuation
+    truth = (truth-of m game).0
 
-    right-around : (valuation : Valuation) → IsTruth m valuation → IsAround m (holds m.labels valuation f.right) (known m.labels f.right i.bands)
-    right-around valuation truth = around m game valuation truth asked f.right i.bands spellable.right.parts i.found
+    is-truth : IsTruth m truth
+    unfolding truth
+    is-truth = (truth-of m game).1
+
+    left-around : IsAround m (holds m.labels truth f.left) (known m.labels f.left h.bands)
+    left-around = around m game truth is-truth asked f.left h.bands spellable.left.parts h.found
+
+    right-around : IsAround m (holds m.labels truth f.right) (known m.labels f.right i.bands)
+    right-around = around m game truth is-truth asked f.right i.bands spellable.right.parts i.found
+
+    sound-truth : AreSoundBy f.kind m f (holds m.labels truth f.left) (holds m.labels truth f.right) band
+    sound-truth = sound-by m game f (holds m.labels truth f.left) (holds m.labels truth f.right) (known m.labels f.left h.bands) (known m.labels f.right i.bands) left-around right-around starts asked band how f.kind found-known
+
+    right-truth : (s : ℕ) → s < states m → IsRightOf (verdict_at f.bound band s) (truth f s)
+    right-truth s there =
+        right-by m game f spellable.share (holds m.labels truth f.left) (holds m.labels truth f.right) (known m.labels f.left h.bands) (known m.labels f.right i.bands) left-around right-around starts asked band how f.kind found-known
+        s there (truth f s) (is-truth f s there)
+
+    -- where nothing inside is undecided, what is known of the sides is the truth
+    exact-truth : undecided_in f.left h.bands (states m) + undecided_in f.right i.bands (states m) ≡ 0
+        → AreFoundBy f.kind m f (exactly (holds m.labels truth f.left)) (exactly (holds m.labels truth f.right)) starts asked band how
+    exact-truth none =
+        found-same m game f (known m.labels f.left h.bands) (known m.labels f.right i.bands) (exactly (holds m.labels truth f.left)) (exactly (holds m.labels truth f.right))
+        (decided-truth m game truth is-truth asked f.left h.bands spellable.left.parts h.found (omega (arith, none)))
+        (decided-truth m game truth is-truth asked f.right i.bands spellable.right.parts i.found (omega (arith, none)))
+        starts asked band how f.kind found-known
+
+    -- and what is undecided is left open
+    open-truth : All (λ s. s < states m) starts → undecided_in f.left h.bands (states m) + undecided_in f.right i.bands (states m) ≡ 0
+        → All (λ s. verdict_at f.bound band s ≡ Undecided → IsOpenBy f.kind m f (holds m.labels truth f.left) (holds m.labels truth f.right) asked band s) starts
+    open-truth inside none = all-opened m game f (small-share f.bound spellable.share) (holds m.labels truth f.left) (holds m.labels truth f.right) starts asked band how inside (exact-truth none)
 
     pub nested-of : All (λ s. s < states m) starts → (inner undecided : ℕ) → inner ≡ left.inner + right.inner → undecided ≡ left.undecided + right.undecided → IsNested m f starts asked band how inner undecided
     nested-of inside inner undecided inner_is undecided_is = record {
@@ -136,16 +170,15 @@ module _ (m : Model) (game : IsGame m.game) (asked : ℕ) (f : Tree) (left right
       found = found-known;
       inner_are = omega (arith, inner_is, h.inner_are, i.inner_are);
       undecided_are = omega (arith, undecided_is, h.undecided_are, i.undecided_are);
+      truth = truth;
+      is_truth = is-truth;
       left_around = left-around;
       right_around = right-around;
-      sound = λ valuation truth. sound-by m game f (holds m.labels valuation f.left) (holds m.labels valuation f.right) (known m.labels f.left h.bands) (known m.labels f.right i.bands) (left-around valuation truth) (right-around valuation truth) starts asked band how f.kind found-known;
-      right_of = λ valuation truth s there. right-by m game f spellable.share (holds m.labels valuation f.left) (holds m.labels valuation f.right) (known m.labels f.left h.bands) (known m.labels f.right i.bands) (left-around valuation truth) (right-around valuation truth) starts asked band how f.kind found-known s there (valuation f s) (truth f s there);
+      sound = sound-truth;
+      right_of = right-truth;
       left_within = λ coarse c. open-within m game asked f.left h.bands coarse spellable.left.parts h.found c;
       right_within = λ coarse c. open-within m game asked f.right i.bands coarse spellable.right.parts i.found c;
       within = λ cl cr coarse c. outermost m game asked f starts h.bands cl i.bands cr band coarse how spellable.share spellable.left.parts spellable.right.parts inside h.found i.found found-known c;
-      exact = λ valuation truth none.
-          found-same m game f (known m.labels f.left h.bands) (known m.labels f.right i.bands) (exactly (holds m.labels valuation f.left)) (exactly (holds m.labels valuation f.right))
-          (known-exactly m (holds m.labels valuation f.left) (known m.labels f.left h.bands) (left-around valuation truth) (settled m f.left h.bands spellable.left.parts (omega (arith, none, undecided_is, h.undecided_are))))
-          (known-exactly m (holds m.labels valuation f.right) (known m.labels f.right i.bands) (right-around valuation truth) (settled m f.right i.bands spellable.right.parts (omega (arith, none, undecided_is, i.undecided_are))))
-          starts asked band how f.kind found-known;
+      exact = λ none. exact-truth (omega (arith, none, undecided_is, h.undecided_are, i.undecided_are));
+      left_open = λ none. open-truth inside (omega (arith, none, undecided_is, h.undecided_are, i.undecided_are));
     }

@@ -166,7 +166,7 @@ module _ (m : Model) (game : IsGame m.game) (f : Tree) (kl kr cl cr : Known) (lc
 
 -- 5. 1 less the bounds of the dual.
 
-rest-entry : (values : List ℕ) (s : ℕ) → s < length values → slice_index (rests_of values) s ≡ unit - slice_index values s
+pub rest-entry : (values : List ℕ) (s : ℕ) → s < length values → slice_index (rests_of values) s ≡ unit - slice_index values s
 rest-entry values s inside = get_or-map (λ v. unit - v) values s 0 0 inside
 
 -- both tables have an entry of at most the unit
@@ -176,7 +176,7 @@ pub record HasUnits (band : Band) (s : ℕ) : Type 0 where
   pub lower : slice_index band.lower s ≤ unit
   pub upper : slice_index band.upper s ≤ unit
 
-verdict-mirrored : (bound : Bound) (band : Band) (s : ℕ) → IsAtMostOne bound → HasUnits band s → verdict_at bound (mirrored band) s ≡ verdict_at (dual_bound bound) band s
+pub verdict-mirrored : (bound : Bound) (band : Band) (s : ℕ) → IsAtMostOne bound → HasUnits band s → verdict_at bound (mirrored band) s ≡ verdict_at (dual_bound bound) band s
 verdict-mirrored bound band s small h =
     ap (λ v. verdict_of bound v (slice_index (mirrored band).upper s)) (rest-entry band.upper s h.uppers)
     ∙ ap (λ v. verdict_of bound (unit - slice_index band.upper s) v) (rest-entry band.lower s h.lowers)
@@ -198,7 +198,7 @@ mirrored-within bound coarse fine s small c h at = record {
   upper = λ asking. omega (arith, at.lower (asking-dual bound asking), rest-entry coarse.lower s c.lowers, rest-entry fine.lower s h.lowers);
 }
 
-bounded-units : (m : Model) (f : Tree) (left right : ℕ → Bool) (band : Band) → IsBounded m f left right band → (s : ℕ) → s < states m → HasUnits band s
+pub bounded-units : (m : Model) (f : Tree) (left right : ℕ → Bool) (band : Band) → IsBounded m f left right band → (s : ℕ) → s < states m → HasUnits band s
 bounded-units m f left right band h s inside =
     let lowers : s < length band.lower = omega (arith, inside, h.lowers) in
     let uppers : s < length band.upper = omega (arith, inside, h.uppers) in

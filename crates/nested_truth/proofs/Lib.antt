@@ -16,5 +16,9 @@ pub mod Looked
 pub mod Finer
 pub mod Coarsely
 pub mod Inside
+pub mod Existing
+pub mod Decided
+pub mod Opened
+pub mod CoarseBounds
 pub mod Answered
 pub mod Unique

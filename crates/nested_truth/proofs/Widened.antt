@@ -81,7 +81,7 @@ module _ (m : Model) (game : IsGame m.game) (f : Tree) (left right : ℕ → Boo
 
   -- 4. One step.
 
-  next-opens : (holds : ℕ → Bool) → IsNext (next_question_of m.game m.owners f) (units_at holds) holds
+  pub next-opens : (holds : ℕ → Bool) → IsNext (next_question_of m.game m.owners f) (units_at holds) holds
   next-opens holds = record {
     goals = λ s inside. never_marked (states m) s;
     deads = λ s inside. never_marked (states m) s;

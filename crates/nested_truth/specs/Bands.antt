@@ -57,7 +57,10 @@ abbrev mutual
 
 -- where a band says that a bound surely holds, and that it possibly does
 abbrev pub judgement : Bound → Band → Known
-judgement bound band = record { sure = (λ s. is_yes (verdict_at bound band s)); possible = (λ s. not (is_no (verdict_at bound band s))) }
+judgement bound band = record {
+  sure = (λ s. is_yes (verdict_at bound band s));
+  possible = (λ s. not (is_no (verdict_at bound band s)));
+}
 
 -- at how many of so many states a band leaves a bound undecided
 abbrev pub undecided_at : Bound → Band → ℕ → ℕ

@@ -16,7 +16,8 @@ use Rattle.nested_truth.specs.Truth.{states, everywhere}
 use Rattle.nested_truth.specs.Bands.{Band, Bands, Known, known, exactly, negated, verdict_at}
 use Rattle.nested_truth.specs.Runs.{AreSwept, pessimistic, optimistic, units_at, mirrored}
 
--- The lower bounds are so many down steps of one question, and the upper ones the unit less as many of the swapped other question.
+-- The lower bounds are so many down steps of one question, and the upper ones the unit less as many of the swapped
+-- other question.
 pub record AreStepped (low high : Query) (n asked : ℕ) (band : Band) : Type 0 where
   pub zero : List Bool
   pub is_zero : IsZeroSet high zero
@@ -27,13 +28,17 @@ pub record AreStepped (low high : Query) (n asked : ℕ) (band : Band) : Type 0 
 
 -- the coarse bounds of a formula with a path of this kind, after so many rounds
 abbrev pub AreCoarseBy : PathKind → Model → Tree → Known → Known → ℕ → Band → Type 0
-AreCoarseBy Until m f left right asked band = AreStepped (pessimistic m f left right) (optimistic m f left right) (states m) asked band
+AreCoarseBy Until m f left right asked band =
+    AreStepped (pessimistic m f left right) (optimistic m f left right) (states m) asked band
 AreCoarseBy (Within k) m f left right asked band =
-    (how : How) × AreSwept (pessimistic m f left right) (optimistic m f left right) (opening (pessimistic m f left right)) (opening (optimistic m f left right)) k band how
+    (how : How) × AreSwept (pessimistic m f left right) (optimistic m f left right)
+    (opening (pessimistic m f left right)) (opening (optimistic m f left right)) k band how
 AreCoarseBy Next m f left right asked band =
-    (how : How) × AreSwept (next_question_of m.game m.owners f) (next_question_of m.game m.owners f) (units_at right.sure) (units_at right.possible) 1 band how
+    (how : How) × AreSwept (next_question_of m.game m.owners f) (next_question_of m.game m.owners f)
+    (units_at right.sure) (units_at right.possible) 1 band how
 AreCoarseBy Always m f left right asked band =
-    (other : Band) × AreStepped (pessimistic m (dual_of f) (exactly everywhere) (negated right)) (optimistic m (dual_of f) (exactly everywhere) (negated right)) (states m) asked other × (band ≡ mirrored other)
+    (other : Band) × AreStepped (pessimistic m (dual_of f) (exactly everywhere) (negated right))
+    (optimistic m (dual_of f) (exactly everywhere) (negated right)) (states m) asked other × (band ≡ mirrored other)
 
 -- each formula inside has such bounds
 abbrev pub AreCoarse : Model → ℕ → (x : State) → Bands x → Type 0
@@ -45,11 +50,13 @@ AreCoarse m asked (And x y) b = AreCoarse m asked x b.0 × AreCoarse m asked y b
 AreCoarse m asked (Or x y) b = AreCoarse m asked x b.0 × AreCoarse m asked y b.1
 AreCoarse m asked (Implies x y) b = AreCoarse m asked x b.0 × AreCoarse m asked y b.1
 AreCoarse m asked (Inner team bound kind left right) b =
-    AreCoarseBy kind m (record { coalition = team; bound = bound; kind = kind; left = left; right = right }) (known m.labels left b.1) (known m.labels right b.2) asked b.0
+    AreCoarseBy kind m (record { coalition = team; bound = bound; kind = kind; left = left; right = right })
+    (known m.labels left b.1) (known m.labels right b.2) asked b.0
     × AreCoarse m asked left b.1 × AreCoarse m asked right b.2
 
 -- coarse bounds of a formula, and of the formulas inside its sides
-pub record IsCoarse (m : Model) (f : Tree) (asked : ℕ) (left : Bands f.left) (right : Bands f.right) (band : Band) : Type 0 where
+pub record IsCoarse (m : Model) (f : Tree) (asked : ℕ) (left : Bands f.left) (right : Bands f.right)
+    (band : Band) : Type 0 where
   pub left_coarse : AreCoarse m asked f.left left
   pub right_coarse : AreCoarse m asked f.right right
   pub coarse : AreCoarseBy f.kind m f (known m.labels f.left left) (known m.labels f.right right) asked band
@@ -61,7 +68,8 @@ pub record IsFiner (n : ℕ) (fine coarse : Known) : Type 0 where
 
 -- a band leaves a bound undecided at a state only if the coarse one does
 abbrev pub IsOpenWithin : Bound → Band → Band → ℕ → Type 0
-IsOpenWithin bound fine coarse s = is_undecided (verdict_at bound fine s) ≡ true → is_undecided (verdict_at bound coarse s) ≡ true
+IsOpenWithin bound fine coarse s = is_undecided (verdict_at bound fine s) ≡ true
+    → is_undecided (verdict_at bound coarse s) ≡ true
 
 -- each formula inside is left undecided at so many states only where it is by the coarse bands
 abbrev pub AreOpenWithin : ℕ → (x : State) → Bands x → Bands x → Type 0
@@ -73,9 +81,11 @@ AreOpenWithin n (And x y) fine coarse = AreOpenWithin n x fine.0 coarse.0 × Are
 AreOpenWithin n (Or x y) fine coarse = AreOpenWithin n x fine.0 coarse.0 × AreOpenWithin n y fine.1 coarse.1
 AreOpenWithin n (Implies x y) fine coarse = AreOpenWithin n x fine.0 coarse.0 × AreOpenWithin n y fine.1 coarse.1
 AreOpenWithin n (Inner team bound kind left right) fine coarse =
-    ((s : ℕ) → s < n → IsOpenWithin bound fine.0 coarse.0 s) × AreOpenWithin n left fine.1 coarse.1 × AreOpenWithin n right fine.2 coarse.2
+    ((s : ℕ) → s < n → IsOpenWithin bound fine.0 coarse.0 s) × AreOpenWithin n left fine.1 coarse.1
+    × AreOpenWithin n right fine.2 coarse.2
 
--- at each of these states a band leaves a bound undecided only if the coarse one does, and where the bound asks for a value it lies within the coarse one
+-- at each of these states a band leaves a bound undecided only if the coarse one does, and where the bound asks for a
+-- value it lies within the coarse one
 pub record AreWithin (bound : Bound) (starts : List ℕ) (fine coarse : Band) : Type 0 where
   pub undecided : All (λ s. IsOpenWithin bound fine coarse s) starts
   pub lower : is_asking bound ≡ true → All (λ s. slice_index coarse.lower s ≤ slice_index fine.lower s) starts

@@ -4,5 +4,6 @@ pub mod Bands
 pub mod Runs
 pub mod Sound
 pub mod Coarse
+pub mod Open
 pub mod Nested
 pub mod Seen

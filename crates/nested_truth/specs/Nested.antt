@@ -1,16 +1,21 @@
 -- The answer to a formula with formulas inside.
-use Rattle.std.specs.Prelude.{◌≡◌, ◌<◌, ◌+◌, ℕ, List}
+use Rattle.std.specs.Prelude.{◌≡◌, ◌<◌, ◌+◌, ℕ, List, All}
 use Rattle.rpatl_syntax.specs.Formula.{Tree, formulas_inside}
 use Rattle.verdicts.specs.declared.report.How.{How}
+use Rattle.verdicts.specs.declared.verdict.Verdict.TheVariants.{Undecided}
 use Rattle.formula_sets.specs.Posing.{Model}
 use Rattle.nested_truth.specs.Truth.{Valuation, IsTruth, states, holds}
 use Rattle.nested_truth.specs.Bands.{Band, Bands, known, exactly, verdict_at, undecided_in}
 use Rattle.nested_truth.specs.Runs.{AreFound, AreFoundBy}
 use Rattle.nested_truth.specs.Coarse.{AreCoarse, AreOpenWithin, AreWithin, IsCoarse}
+use Rattle.nested_truth.specs.Open.{IsOpenBy}
 use Rattle.nested_truth.specs.Sound.{IsAround, AreSoundBy, IsRightOf}
 
--- The bounds of the formula, found with those of the formulas inside, and how many of these there are and how many pairs of one and a state are left undecided. `starts` are the states where the outermost run looks whether its threshold is settled.
-pub record IsNested (m : Model) (f : Tree) (starts : List ℕ) (asked : ℕ) (band : Band) (how : How) (inner undecided : ℕ) : Type 0 where
+-- The bounds of the formula, found with those of the formulas inside, and how many of these there are and how many
+-- pairs of one and a state are left undecided. `starts` are the states where the outermost run looks whether its
+-- threshold is settled.
+pub record IsNested (m : Model) (f : Tree) (starts : List ℕ) (asked : ℕ) (band : Band) (how : How)
+    (inner undecided : ℕ) : Type 0 where
   pub left : Bands f.left
   pub right : Bands f.right
   pub left_found : AreFound m asked f.left left
@@ -18,15 +23,26 @@ pub record IsNested (m : Model) (f : Tree) (starts : List ℕ) (asked : ℕ) (ba
   pub found : AreFoundBy f.kind m f (known m.labels f.left left) (known m.labels f.right right) starts asked band how
   pub inner_are : inner ≡ formulas_inside f
   pub undecided_are : undecided ≡ undecided_in f.left left (states m) + undecided_in f.right right (states m)
+  -- the truth of every formula at each state
+  pub truth : Valuation
+  pub is_truth : IsTruth m truth
   -- where a side surely holds it does, and where it holds it possibly does
-  pub left_around : (valuation : Valuation) → IsTruth m valuation → IsAround m (holds m.labels valuation f.left) (known m.labels f.left left)
-  pub right_around : (valuation : Valuation) → IsTruth m valuation → IsAround m (holds m.labels valuation f.right) (known m.labels f.right right)
+  pub left_around : IsAround m (holds m.labels truth f.left) (known m.labels f.left left)
+  pub right_around : IsAround m (holds m.labels truth f.right) (known m.labels f.right right)
   -- the bounds are sound, and True is true and False is false
-  pub sound : (valuation : Valuation) → IsTruth m valuation → AreSoundBy f.kind m f (holds m.labels valuation f.left) (holds m.labels valuation f.right) band
-  pub right_of : (valuation : Valuation) → IsTruth m valuation → (s : ℕ) → s < states m → IsRightOf (verdict_at f.bound band s) (valuation f s)
-  -- a formula inside is undecided only where it is by coarse bounds, of so many rounded steps and no run; so is the formula where its run looks, and a value that it asks for lies within coarse bounds there
-  pub left_within : (coarse : Bands f.left) → AreCoarse m asked f.left coarse → AreOpenWithin (states m) f.left left coarse
-  pub right_within : (coarse : Bands f.right) → AreCoarse m asked f.right coarse → AreOpenWithin (states m) f.right right coarse
-  pub within : (coarse_left : Bands f.left) (coarse_right : Bands f.right) (coarse : Band) → IsCoarse m f asked coarse_left coarse_right coarse → AreWithin f.bound starts band coarse
+  pub sound : AreSoundBy f.kind m f (holds m.labels truth f.left) (holds m.labels truth f.right) band
+  pub right_of : (s : ℕ) → s < states m → IsRightOf (verdict_at f.bound band s) (truth f s)
+  -- a formula inside is undecided only where it is by coarse bounds, of so many rounded steps and no run; so is the
+  -- formula where its run looks, and a value that it asks for lies within coarse bounds there
+  pub left_within : (coarse : Bands f.left) → AreCoarse m asked f.left coarse
+      → AreOpenWithin (states m) f.left left coarse
+  pub right_within : (coarse : Bands f.right) → AreCoarse m asked f.right coarse
+      → AreOpenWithin (states m) f.right right coarse
+  pub within : (coarse_left : Bands f.left) (coarse_right : Bands f.right) (coarse : Band)
+      → IsCoarse m f asked coarse_left coarse_right coarse → AreWithin f.bound starts band coarse
   -- where nothing inside is left undecided, the bounds are those of one run on the exact question
-  pub exact : (valuation : Valuation) → IsTruth m valuation → undecided ≡ 0 → AreFoundBy f.kind m f (exactly (holds m.labels valuation f.left)) (exactly (holds m.labels valuation f.right)) starts asked band how
+  pub exact : undecided ≡ 0 → AreFoundBy f.kind m f (exactly (holds m.labels truth f.left))
+      (exactly (holds m.labels truth f.right)) starts asked band how
+  -- and the formula is undecided at a state where its run looks only if its threshold is left open there
+  pub left_open : undecided ≡ 0 → All (λ s. verdict_at f.bound band s ≡ Undecided
+      → IsOpenBy f.kind m f (holds m.labels truth f.left) (holds m.labels truth f.right) asked band s) starts

@@ -1,4 +1,5 @@
--- Bounds that runs find for a formula whose sides are known in part: lower ones for the question of the sure states, upper ones for that of the possible states.
+-- Bounds that runs find for a formula whose sides are known in part: lower ones for the question of the sure states,
+-- upper ones for that of the possible states.
 use Rattle.std.specs.Prelude.{◌≡◌, ℕ, Bool, List, if◌then◌else◌}
 use Rattle.std.specs.List.{range_with_len}
 use Rattle.game_model.specs.Limits.{unit}
@@ -26,8 +27,10 @@ pub record IsRun (q : Query) (bound : Bound) (starts : List ℕ) (asked : ℕ) (
   pub is_zero : IsZeroSet q zero
   pub is_found : IsFound q zero bound starts asked found
 
--- The lower bounds are those of a bracket of one question, the upper ones those of a bracket of another, each after at most so many rounds; of the same bracket where the questions are the same.
-pub record AreRaced (low high : Query) (bound : Bound) (starts : List ℕ) (asked : ℕ) (band : Band) (how : How) : Type 0 where
+-- The lower bounds are those of a bracket of one question, the upper ones those of a bracket of another, each after at
+-- most so many rounds; of the same bracket where the questions are the same.
+pub record AreRaced (low high : Query) (bound : Bound) (starts : List ℕ) (asked : ℕ) (band : Band)
+    (how : How) : Type 0 where
   pub low_found : Bracket
   pub low_run : IsRun low bound starts asked low_found
   pub high_found : Bracket
@@ -37,8 +40,10 @@ pub record AreRaced (low high : Query) (bound : Bound) (starts : List ℕ) (aske
   pub upper : band.upper ≡ high_found.upper.items
   pub rounds : how ≡ Rounds low_found.rounds
 
--- The lower bounds are so many down steps of one table for one question, the upper ones as many up steps of another for another.
-pub record AreSwept (low high : Query) (low_opening high_opening : ℕ → ℕ) (steps : ℕ) (band : Band) (how : How) : Type 0 where
+-- The lower bounds are so many down steps of one table for one question, the upper ones as many up steps of another for
+-- another.
+pub record AreSwept (low high : Query) (low_opening high_opening : ℕ → ℕ) (steps : ℕ) (band : Band)
+    (how : How) : Type 0 where
   pub low_upper : List ℕ
   pub low_swept : IsSweep low low_opening steps band.lower low_upper
   pub high_lower : List ℕ
@@ -60,15 +65,21 @@ units_at holds s = if holds s then unit else 0
 abbrev pub mirrored : Band → Band
 mirrored band = record { lower = rests_of band.upper; upper = rests_of band.lower }
 
--- the bounds of a formula with a path of this kind, of which `starts` are the states where a run looks whether its threshold is settled
+-- the bounds of a formula with a path of this kind, of which `starts` are the states where a run looks whether its
+-- threshold is settled
 abbrev pub AreFoundBy : PathKind → Model → Tree → Known → Known → List ℕ → ℕ → Band → How → Type 0
-AreFoundBy Until m f left right starts asked band how = AreRaced (pessimistic m f left right) (optimistic m f left right) f.bound starts asked band how
+AreFoundBy Until m f left right starts asked band how =
+    AreRaced (pessimistic m f left right) (optimistic m f left right) f.bound starts asked band how
 AreFoundBy (Within k) m f left right starts asked band how =
-    AreSwept (pessimistic m f left right) (optimistic m f left right) (opening (pessimistic m f left right)) (opening (optimistic m f left right)) k band how
+    AreSwept (pessimistic m f left right) (optimistic m f left right) (opening (pessimistic m f left right))
+    (opening (optimistic m f left right)) k band how
 AreFoundBy Next m f left right starts asked band how =
-    AreSwept (next_question_of m.game m.owners f) (next_question_of m.game m.owners f) (units_at right.sure) (units_at right.possible) 1 band how
+    AreSwept (next_question_of m.game m.owners f) (next_question_of m.game m.owners f) (units_at right.sure)
+    (units_at right.possible) 1 band how
 AreFoundBy Always m f left right starts asked band how =
-    (other : Band) × AreRaced (pessimistic m (dual_of f) (exactly everywhere) (negated right)) (optimistic m (dual_of f) (exactly everywhere) (negated right)) (dual_bound f.bound) starts asked other how × (band ≡ mirrored other)
+    (other : Band) × AreRaced (pessimistic m (dual_of f) (exactly everywhere) (negated right))
+    (optimistic m (dual_of f) (exactly everywhere) (negated right)) (dual_bound f.bound) starts asked other how
+    × (band ≡ mirrored other)
 
 -- each formula inside has bounds so, and its runs look at every state
 abbrev pub AreFound : Model → ℕ → (x : State) → Bands x → Type 0
@@ -80,5 +91,12 @@ AreFound m asked (And x y) b = AreFound m asked x b.0 × AreFound m asked y b.1
 AreFound m asked (Or x y) b = AreFound m asked x b.0 × AreFound m asked y b.1
 AreFound m asked (Implies x y) b = AreFound m asked x b.0 × AreFound m asked y b.1
 AreFound m asked (Inner team bound kind left right) b =
-    ((how : How) × AreFoundBy kind m (record { coalition = team; bound = bound; kind = kind; left = left; right = right }) (known m.labels left b.1) (known m.labels right b.2) (range_with_len 0 (states m)) asked b.0 how)
+    ((how : How) × AreFoundBy kind m (record {
+      coalition = team;
+      bound = bound;
+      kind = kind;
+      left = left;
+      right = right;
+    }) (known m.labels left b.1) (known m.labels right b.2)
+    (range_with_len 0 (states m)) asked b.0 how)
     × AreFound m asked left b.1 × AreFound m asked right b.2

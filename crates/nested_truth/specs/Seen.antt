@@ -18,7 +18,10 @@ model_of setting = record { game = setting.game.now; labels = setting.labels.now
 
 -- what two lists of marks say
 abbrev pub seen : KnownSets → Known
-seen sets = record { sure = (λ s. slice_index_or sets.sure.items s false); possible = (λ s. slice_index_or sets.possible.items s false) }
+seen sets = record {
+  sure = (λ s. slice_index_or sets.sure.items s false);
+  possible = (λ s. slice_index_or sets.possible.items s false);
+}
 
 -- they say the same of so many states
 pub record AreAlike (n : ℕ) (one other : Known) : Type 0 where

@@ -24,15 +24,21 @@ pub record IsBetween (parts lower upper value : ℕ) : Type 0 where
   pub low : lower * parts ≤ value
   pub high : value ≤ upper * parts
 
--- The bounds are sound for a formula with a path of this kind whose sides hold at these states. Without a bound on the steps k-step values come as near to the lower bounds as one likes, and none is above an upper one; of `G` so for 1 less the values of the dual. With one the value lies between the bounds.
+-- The bounds are sound for a formula with a path of this kind whose sides hold at these states. Without a bound on the
+-- steps k-step values come as near to the lower bounds as one likes, and none is above an upper one; of `G` so for 1
+-- less the values of the dual. With one the value lies between the bounds.
 abbrev pub AreSoundBy : PathKind → Model → Tree → (ℕ → Bool) → (ℕ → Bool) → Band → Type 0
-AreSoundBy Until m f left right band = IsNear (question_by m f left right) (slice_index band.lower) × IsHigh (question_by m f left right) (slice_index band.upper)
+AreSoundBy Until m f left right band = IsNear (question_by m f left right) (slice_index band.lower)
+    × IsHigh (question_by m f left right) (slice_index band.upper)
 AreSoundBy (Within k) m f left right band =
-    (s : ℕ) → s < states m → IsBetween (denominator m.game ^ k) (slice_index band.lower s) (slice_index band.upper s) (unit * numerator (question_by m f left right) k s)
+    (s : ℕ) → s < states m → IsBetween (denominator m.game ^ k) (slice_index band.lower s) (slice_index band.upper s)
+    (unit * numerator (question_by m f left right) k s)
 AreSoundBy Next m f left right band =
-    (s : ℕ) → s < states m → IsBetween (denominator m.game) (slice_index band.lower s) (slice_index band.upper s) (unit * next_numerator (next_question_of m.game m.owners f) right s)
+    (s : ℕ) → s < states m → IsBetween (denominator m.game) (slice_index band.lower s) (slice_index band.upper s)
+    (unit * next_numerator (next_question_of m.game m.owners f) right s)
 AreSoundBy Always m f left right band =
-    (s : ℕ) → s < states m → IsBelowRest (dual_question_by m f right) s (slice_index band.lower s) × IsNearRest (dual_question_by m f right) s (slice_index band.upper s)
+    (s : ℕ) → s < states m → IsBelowRest (dual_question_by m f right) s (slice_index band.lower s)
+    × IsNearRest (dual_question_by m f right) s (slice_index band.upper s)
 
 -- what a verdict says is the truth
 abbrev pub IsRightOf : Verdict → Bool → Type 0

@@ -27,11 +27,13 @@ holds l valuation (Not x) s = not (holds l valuation x s)
 holds l valuation (And x y) s = holds l valuation x s && holds l valuation y s
 holds l valuation (Or x y) s = holds l valuation x s || holds l valuation y s
 holds l valuation (Implies x y) s = not (holds l valuation x s) || holds l valuation y s
-holds l valuation (Inner team bound kind left right) s = valuation (record { coalition = team; bound = bound; kind = kind; left = left; right = right }) s
+holds l valuation (Inner team bound kind left right) s =
+    valuation (record { coalition = team; bound = bound; kind = kind; left = left; right = right }) s
 
 -- the question of a formula whose sides hold at these states
 abbrev pub question_by : Model → Tree → (ℕ → Bool) → (ℕ → Bool) → Query
-question_by m f left right = question_with m.game m.owners f (at_states right (states m)) (at_states (λ s. not (right s) && not (left s)) (states m))
+question_by m f left right = question_with m.game m.owners f (at_states right (states m))
+    (at_states (λ s. not (right s) && not (left s)) (states m))
 
 abbrev pub everywhere : ℕ → Bool
 everywhere s = true
@@ -43,14 +45,16 @@ dual_question_by m f right = question_by m (dual_of f) everywhere (λ s. not (ri
 -- the formula, with a path of this kind whose sides hold at these states, is true at a state
 abbrev pub IsTrueBy : PathKind → Model → Tree → (ℕ → Bool) → (ℕ → Bool) → ℕ → Type 0
 IsTrueBy Until m f left right s = IsTrueOf (question_by m f left right) f.bound s
-IsTrueBy (Within k) m f left right s = IsMetBy f.bound (numerator (question_by m f left right) k s) (denominator m.game ^ k)
-IsTrueBy Next m f left right s = IsMetBy f.bound (next_numerator (next_question_of m.game m.owners f) right s) (denominator m.game)
+IsTrueBy (Within k) m f left right s = IsMetBy f.bound (numerator (question_by m f left right) k s)
+    (denominator m.game ^ k)
+IsTrueBy Next m f left right s = IsMetBy f.bound (next_numerator (next_question_of m.game m.owners f) right s)
+    (denominator m.game)
 IsTrueBy Always m f left right s = IsTrueOf (dual_question_by m f right) (dual_bound f.bound) s
 
 -- the formula is true at a state, where formulas inside hold as the valuation says
 abbrev pub IsTrue : Model → Valuation → Tree → ℕ → Type 0
 IsTrue m valuation f s = IsTrueBy f.kind m f (holds m.labels valuation f.left) (holds m.labels valuation f.right) s
 
--- The valuation is the truth: each formula is true in it at exactly the states where it is. There is at most one such.
+-- The valuation is the truth: each formula is true in it at exactly the states where it is. There is one such.
 abbrev pub IsTruth : Model → Valuation → Type 0
 IsTruth m valuation = (f : Tree) (s : ℕ) → s < states m → (valuation f s ≡ true) ↔ IsTrue m valuation f s

@@ -7,9 +7,11 @@ use verdicts::How;
 pub struct Nested {
     /// The initial states, rising.
     pub initial: Vec<u32>,
-    /// The lower bounds: those of the question that the sure states of both sides pose. Of `G` 1 less the upper ones of the dual.
+    /// The lower bounds: those of the question that the sure states of both sides pose. Of `G` 1 less the upper ones of
+    /// the dual.
     pub lower: Vec<u64>,
-    /// The upper bounds: those of the question that the possible states of both sides pose. Of `G` 1 less the lower ones of the dual.
+    /// The upper bounds: those of the question that the possible states of both sides pose. Of `G` 1 less the lower
+    /// ones of the dual.
     pub upper: Vec<u64>,
     /// How many rounds or steps the lower bounds come from; of `G` those of the dual.
     pub how: How,

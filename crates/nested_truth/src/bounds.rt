@@ -8,7 +8,8 @@ use game_outside::OutOfMemory;
 use std::alloc::{AllocError, Global};
 use verdicts::How;
 
-/// A lower and an upper bound for each state, in units, and how many rounds or steps the lower ones come from; where they are mirrored, the upper ones.
+/// A lower and an upper bound for each state, in units, and how many rounds or steps the lower ones come from; where
+/// they are mirrored, the upper ones.
 #[derive(Drop)]
 pub struct Bounds {
     pub lower: Vec<u64>,

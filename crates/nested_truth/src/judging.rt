@@ -42,7 +42,8 @@ impl Judged {
         requires states { length other.sets.sure.items ≡ length self.sets.sure.items }
         requires inner { self.inner + other.inner < 2 ^ 32 }
         requires undecided { self.undecided + other.undecided < 2 ^ 32 }
-        ensures { (m : Model) (asked : ℕ) (x y : State) → IsJudged m asked x self → IsJudged m asked y other → IsJudged m asked (And x y) result }
+        ensures { (m : Model) (asked : ℕ) (x y : State) → IsJudged m asked x self → IsJudged m asked y other
+            → IsJudged m asked (And x y) result }
     {
         Judged {
             sets: self.sets.both(&other.sets),
@@ -56,7 +57,8 @@ impl Judged {
         requires states { length other.sets.sure.items ≡ length self.sets.sure.items }
         requires inner { self.inner + other.inner < 2 ^ 32 }
         requires undecided { self.undecided + other.undecided < 2 ^ 32 }
-        ensures { (m : Model) (asked : ℕ) (x y : State) → IsJudged m asked x self → IsJudged m asked y other → IsJudged m asked (Or x y) result }
+        ensures { (m : Model) (asked : ℕ) (x y : State) → IsJudged m asked x self → IsJudged m asked y other
+            → IsJudged m asked (Or x y) result }
     {
         Judged {
             sets: self.sets.either(&other.sets),
@@ -70,7 +72,8 @@ impl Judged {
         requires states { length other.sets.sure.items ≡ length self.sets.sure.items }
         requires inner { self.inner + other.inner < 2 ^ 32 }
         requires undecided { self.undecided + other.undecided < 2 ^ 32 }
-        ensures { (m : Model) (asked : ℕ) (x y : State) → IsJudged m asked x self → IsJudged m asked y other → IsJudged m asked (Implies x y) result }
+        ensures { (m : Model) (asked : ℕ) (x y : State) → IsJudged m asked x self → IsJudged m asked y other
+            → IsJudged m asked (Implies x y) result }
     {
         Judged {
             sets: self.sets.negated().either(&other.sets),
@@ -80,8 +83,8 @@ impl Judged {
     }
 }
 
-/// Where a bound surely holds and where it possibly does, by bounds of the value at each of so many states; and at how many
-/// of them these leave it undecided.
+/// Where a bound surely holds and where it possibly does, by bounds of the value at each of so many states; and at how
+/// many of them these leave it undecided.
 pub fn judged_by(
     alloc: Global,
     bound: &Bound,

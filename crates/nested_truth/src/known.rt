@@ -122,7 +122,8 @@ fn marks_of(
 
 // Exchanges the marked places with the others.
 fn negate(marks: &mut [bool])
-    ensures { (s : ℕ) → s < length marks.old → slice_index_or marks.new s false ≡ not (slice_index_or marks.old s false) }
+    ensures { (s : ℕ) → s < length marks.old
+        → slice_index_or marks.new s false ≡ not (slice_index_or marks.old s false) }
 {
     for mark in marks.iter_mut() {
         *mark = !*mark;
@@ -132,7 +133,8 @@ fn negate(marks: &mut [bool])
 // Keeps the marks that others have, too.
 fn intersect(marks: &mut [bool], others: &[bool])
     requires { length others.now ≡ length marks.old }
-    ensures { (s : ℕ) → s < length marks.old → slice_index_or marks.new s false ≡ (slice_index_or marks.old s false && slice_index_or others.now s false) }
+    ensures { (s : ℕ) → s < length marks.old
+        → slice_index_or marks.new s false ≡ (slice_index_or marks.old s false && slice_index_or others.now s false) }
 {
     for place in 0..marks.len() {
         marks[place] = marks[place] && others[place];
@@ -142,7 +144,8 @@ fn intersect(marks: &mut [bool], others: &[bool])
 // Adds the marks of others.
 fn unite(marks: &mut [bool], others: &[bool])
     requires { length others.now ≡ length marks.old }
-    ensures { (s : ℕ) → s < length marks.old → slice_index_or marks.new s false ≡ (slice_index_or marks.old s false || slice_index_or others.now s false) }
+    ensures { (s : ℕ) → s < length marks.old
+        → slice_index_or marks.new s false ≡ (slice_index_or marks.old s false || slice_index_or others.now s false) }
 {
     for place in 0..marks.len() {
         marks[place] = marks[place] || others[place];

@@ -19,8 +19,8 @@ use rpatl_syntax::{Formula, PathKind, dual};
 use std::alloc::Global;
 use std::thread::Threads;
 
-/// The bounds of a formula, from what is known of its sides. A run ends where the threshold is settled at all of the states
-/// from which it starts.
+/// The bounds of a formula, from what is known of its sides. A run ends where the threshold is settled at all of the
+/// states from which it starts.
 pub fn bounds_of<R: Threads + Sync, G: Gate + Sync>(
     rt: &R,
     alloc: Global,
@@ -37,7 +37,8 @@ pub fn bounds_of<R: Threads + Sync, G: Gate + Sync>(
     requires left { length left.now.sure.items ≡ length setting.game.now }
     requires right { length right.sure.items ≡ length setting.game.now }
     requires starts { All (λ s. s < length setting.game.now) starts.now }
-    ensures found { IfOk result (λ bounds. AreFoundBy formula.now.kind (model_of setting.entry) (tree_of formula.now) (seen left.now) (seen right) starts.now setting.entry.rounds (band_in bounds) bounds.how) }
+    ensures found { IfOk result (λ bounds. AreFoundBy formula.now.kind (model_of setting.entry) (tree_of formula.now)
+        (seen left.now) (seen right) starts.now setting.entry.rounds (band_in bounds) bounds.how) }
     ensures band { IfOk result (λ bounds. IsBand (length setting.entry.game.now) (band_in bounds)) }
 {
     match formula.kind {
@@ -66,7 +67,8 @@ fn reached<R: Threads + Sync, G: Gate + Sync>(
     requires left { length left.now.sure.items ≡ length setting.game.now }
     requires right { length right.now.sure.items ≡ length setting.game.now }
     requires starts { All (λ s. s < length setting.game.now) starts.now }
-    ensures found { IfOk result (λ bounds. AreFoundBy PathKind.Until (model_of setting.entry) (tree_of formula.now) (seen left.now) (seen right.now) starts.now setting.entry.rounds (band_in bounds) bounds.how) }
+    ensures found { IfOk result (λ bounds. AreFoundBy PathKind.Until (model_of setting.entry) (tree_of formula.now)
+        (seen left.now) (seen right.now) starts.now setting.entry.rounds (band_in bounds) bounds.how) }
     ensures band { IfOk result (λ bounds. IsBand (length setting.entry.game.now) (band_in bounds)) }
 {
     let questions = Questions::of_formula(alloc, setting, formula, left, right)?;
@@ -88,7 +90,8 @@ fn always<R: Threads + Sync, G: Gate + Sync>(
     requires lists { ArePredecessors setting.game.now setting.predecessors.now }
     requires right { length right.sure.items ≡ length setting.game.now }
     requires starts { All (λ s. s < length setting.game.now) starts.now }
-    ensures found { IfOk result (λ bounds. (left : Known) → AreFoundBy PathKind.Always (model_of setting.entry) (tree_of formula.now) left (seen right) starts.now setting.entry.rounds (band_in bounds) bounds.how) }
+    ensures found { IfOk result (λ bounds. (left : Known) → AreFoundBy PathKind.Always (model_of setting.entry)
+        (tree_of formula.now) left (seen right) starts.now setting.entry.rounds (band_in bounds) bounds.how) }
     ensures band { IfOk result (λ bounds. IsBand (length setting.entry.game.now) (band_in bounds)) }
 {
     let dual = dual(alloc, formula)?;

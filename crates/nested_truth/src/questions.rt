@@ -36,9 +36,11 @@ impl<'g> Questions<'g> {
     ) -> Result<Questions<'g>, OutOfMemory>
         requires left { length left.now.sure.items ≡ length setting.game.now }
         requires right { length right.now.sure.items ≡ length setting.game.now }
-        ensures low { IfOk result (λ questions. questions.low ≡ pessimistic (model_of setting.entry) (tree_of formula.now) (seen left.now) (seen right.now)) }
+        ensures low { IfOk result (λ questions. questions.low
+            ≡ pessimistic (model_of setting.entry) (tree_of formula.now) (seen left.now) (seen right.now)) }
         ensures other { IfOk result (λ questions. IfSome questions.high (λ question. questions.low ≢ question)) }
-        ensures high { IfOk result (λ questions. high_or questions.low questions.high ≡ optimistic (model_of setting.entry) (tree_of formula.now) (seen left.now) (seen right.now)) }
+        ensures high { IfOk result (λ questions. high_or questions.low questions.high
+            ≡ optimistic (model_of setting.entry) (tree_of formula.now) (seen left.now) (seen right.now)) }
     {
         let low_deads = lost(alloc, &left.sure, &right.sure)?;
         let high_deads = lost(alloc, &left.possible, &right.possible)?;
@@ -65,7 +67,8 @@ fn are_same(goals: &[bool], others: &[bool], deads: &[bool], other_deads: &[bool
 // Where neither side holds.
 fn lost(alloc: Global, left: &[bool], right: &[bool]) -> Result<Vec<bool>, AllocError>
     requires { length left.now ≡ length right.now }
-    ensures { IfOk result (λ v. v.items ≡ at_states (λ s. not (slice_index_or right.now s false) && not (slice_index_or left.now s false)) (length right.now)) }
+    ensures { IfOk result (λ v. v.items ≡ at_states (λ s. not (slice_index_or right.now s false)
+        && not (slice_index_or left.now s false)) (length right.now)) }
 {
     let mut marks = Vec::with_capacity(alloc, right.len())?;
     for place in 0..right.len() {
@@ -91,7 +94,8 @@ fn question_in<'g>(
     requires goals { length goals.now ≡ length setting.game.now }
     requires deads { length deads.items ≡ length setting.game.now }
     requires apart { (s : ℕ) → slice_index_or goals.now s false ≡ true → slice_index_or deads.items s false ≡ false }
-    ensures { IfOk result (λ question. question ≡ question_with setting.entry.game.now setting.entry.owners.now (tree_of formula.now) goals.now deads.items) }
+    ensures { IfOk result (λ question. question ≡ question_with setting.entry.game.now setting.entry.owners.now
+        (tree_of formula.now) goals.now deads.items) }
 {
     let sides = sides_of(alloc, setting.owners, formula, setting.game.states())?;
     let goals = goals.to_vec(alloc)?;
@@ -104,7 +108,8 @@ pub fn next_question<'g>(
     setting: Setting<'g>,
     formula: &Formula,
 ) -> Result<Question<'g>, OutOfMemory>
-    ensures { IfOk result (λ question. question ≡ next_question_of setting.entry.game.now setting.entry.owners.now (tree_of formula.now)) }
+    ensures { IfOk result (λ question. question ≡ next_question_of setting.entry.game.now setting.entry.owners.now
+        (tree_of formula.now)) }
 {
     let states = setting.game.states();
     let goals = no_marks(alloc, states)?;

@@ -17,8 +17,8 @@ use std::alloc::Global;
 use std::thread::Threads;
 use verdicts::How;
 
-/// The lower bounds of one question and the upper ones of another: one run, where they are the same. A run ends where the
-/// bound is settled at all of these states.
+/// The lower bounds of one question and the upper ones of another: one run, where they are the same. A run ends where
+/// the bound is settled at all of these states.
 pub fn race<R: Threads + Sync, G: Gate + Sync>(
     rt: &R,
     alloc: Global,
@@ -33,7 +33,9 @@ pub fn race<R: Threads + Sync, G: Gate + Sync>(
     requires low { questions.now.low.game ≡ setting.game.now }
     requires high { (high_or questions.now.low questions.now.high).game ≡ setting.game.now }
     requires starts { All (λ s. s < length setting.game.now) starts.now }
-    ensures raced { IfOk result (λ bounds. AreRaced questions.now.low (high_or questions.now.low questions.now.high) bound starts.now setting.entry.rounds (band_in bounds) bounds.how) }
+    ensures raced { IfOk result (λ bounds. AreRaced questions.now.low
+        (high_or questions.now.low questions.now.high) bound starts.now setting.entry.rounds
+        (band_in bounds) bounds.how) }
     ensures band { IfOk result (λ bounds. IsBand (length setting.entry.game.now) (band_in bounds)) }
 {
     let found = run_of(rt, alloc, setting, &questions.low, bound, starts, gate)?;

@@ -28,8 +28,8 @@ use std::alloc::{AllocError, Global};
 use std::thread::Threads;
 
 /// The bounds of a formula about a game whose states have these labels and owners, after at most so many rounds of each
-/// run, or the first reason why it poses no question. A run ends early where its threshold is settled: that of a formula
-/// inside at every state, that of the outermost formula at the initial states.
+/// run, or the first reason why it poses no question. A run ends early where its threshold is settled: that of a
+/// formula inside at every state, that of the outermost formula at the initial states.
 pub fn nested<R: Threads + Sync, G: Gate + Sync>(
     rt: &R,
     alloc: Global,
@@ -47,11 +47,16 @@ pub fn nested<R: Threads + Sync, G: Gate + Sync>(
     requires few { formulas_inside (tree_of formula.now) ≤ longest }
     requires rounds { rounds ≤ most_rounds }
     requires workers { (1 ≤ workers) × (workers ≤ most_workers) }
-    ensures posed { AnswersOrWants IsOutOfMemory (λ nested. nested.initial.items) result (initial_said labels.now owners.now (tree_of formula.now)) }
-    ensures nested { IfOk result (λ nested. IsNested (record { game = game.now; labels = labels.now; owners = owners.now }) (tree_of formula.now) nested.initial.items rounds (band_of nested) nested.how nested.inner nested.undecided) }
+    ensures posed { AnswersOrWants IsOutOfMemory (λ nested. nested.initial.items) result
+        (initial_said labels.now owners.now (tree_of formula.now)) }
+    ensures nested { IfOk result (λ nested. IsNested (record
+        { game = game.now; labels = labels.now; owners = owners.now }) (tree_of formula.now) nested.initial.items rounds
+        (band_of nested) nested.how nested.inner nested.undecided) }
     ensures inside { IfOk result (λ nested. All (λ s. s < length game.now) nested.initial.items) }
-    ensures many { IfOk result (λ nested. (length nested.lower.items ≡ length game.now) × (length nested.upper.items ≡ length game.now)) }
-    ensures units { IfOk result (λ nested. All (λ v. v ≤ unit) nested.lower.items × All (λ v. v ≤ unit) nested.upper.items) }
+    ensures many { IfOk result (λ nested. (length nested.lower.items ≡ length game.now)
+        × (length nested.upper.items ≡ length game.now)) }
+    ensures units { IfOk result (λ nested. All (λ v. v ≤ unit) nested.lower.items
+        × All (λ v. v ≤ unit) nested.upper.items) }
 {
     labels.known();
     let initial = initial_of(alloc, labels, owners, formula)?;
@@ -84,7 +89,9 @@ fn answer<R: Threads + Sync, G: Gate + Sync>(
     requires workers { (1 ≤ workers) × (workers ≤ most_workers) }
     requires initial { All (λ s. s < length game.now) initial.items }
     ensures initial { IfOk result (λ nested. nested.initial.items ≡ initial.items) }
-    ensures nested { IfOk result (λ nested. IsNested (record { game = game.now; labels = labels.now; owners = owners.now }) (tree_of formula.now) initial.items rounds (band_of nested) nested.how nested.inner nested.undecided) }
+    ensures nested { IfOk result (λ nested. IsNested (record
+        { game = game.now; labels = labels.now; owners = owners.now }) (tree_of formula.now) initial.items rounds
+        (band_of nested) nested.how nested.inner nested.undecided) }
     ensures band { IfOk result (λ nested. IsBand (length game.now) (band_of nested)) }
 {
     let predecessors = Predecessors::of_game(alloc, game)?;
@@ -115,7 +122,9 @@ fn answer_in<R: Threads + Sync, G: Gate + Sync>(
     requires few { formulas_inside (tree_of formula.now) ≤ longest }
     requires initial { All (λ s. s < length setting.game.now) initial.items }
     ensures initial { IfOk result (λ nested. nested.initial.items ≡ initial.items) }
-    ensures nested { IfOk result (λ nested. IsNested (model_of setting.entry) (tree_of formula.now) initial.items setting.entry.rounds (band_of nested) nested.how nested.inner nested.undecided) }
+    ensures nested { IfOk result (λ nested. IsNested (model_of setting.entry)
+        (tree_of formula.now) initial.items setting.entry.rounds
+        (band_of nested) nested.how nested.inner nested.undecided) }
     ensures band { IfOk result (λ nested. IsBand (length setting.entry.game.now) (band_of nested)) }
 {
     setting.game.known();

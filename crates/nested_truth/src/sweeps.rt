@@ -23,8 +23,8 @@ use std::alloc::{AllocError, Global};
 use std::thread::Threads;
 use verdicts::How;
 
-/// The bounds after exactly so many steps: the lower ones of one question, the upper ones of another; one run, where they
-/// are the same.
+/// The bounds after exactly so many steps: the lower ones of one question, the upper ones of another; one run, where
+/// they are the same.
 pub fn sweep<R: Threads + Sync, G: Gate + Sync>(
     rt: &R,
     alloc: Global,
@@ -36,7 +36,9 @@ pub fn sweep<R: Threads + Sync, G: Gate + Sync>(
     requires low { questions.now.low.game ≡ setting.game.now }
     requires high { (high_or questions.now.low questions.now.high).game ≡ setting.game.now }
     requires steps { steps ≤ most_steps }
-    ensures swept { IfOk result (λ bounds. AreSwept questions.now.low (high_or questions.now.low questions.now.high) (opening questions.now.low) (opening (high_or questions.now.low questions.now.high)) steps (band_in bounds) bounds.how) }
+    ensures swept { IfOk result (λ bounds. AreSwept questions.now.low (high_or questions.now.low questions.now.high)
+        (opening questions.now.low) (opening (high_or questions.now.low questions.now.high)) steps
+        (band_in bounds) bounds.how) }
     ensures band { IfOk result (λ bounds. IsBand (length setting.entry.game.now) (band_in bounds)) }
 {
     let workers = setting.workers;
@@ -61,7 +63,9 @@ pub fn next_sweep<R: Threads + Sync, G: Gate + Sync>(
     gate: &G,
 ) -> Result<Bounds, OutOfMemory>
     requires right { length right.now.sure.items ≡ length setting.game.now }
-    ensures swept { IfOk result (λ bounds. AreSwept (next_question_of setting.entry.game.now setting.entry.owners.now (tree_of formula.now)) (next_question_of setting.entry.game.now setting.entry.owners.now (tree_of formula.now)) (units_at (seen right.now).sure) (units_at (seen right.now).possible) 1 (band_in bounds) bounds.how) }
+    ensures swept { IfOk result (λ bounds. AreSwept (next_question_of setting.entry.game.now setting.entry.owners.now
+        (tree_of formula.now)) (next_question_of setting.entry.game.now setting.entry.owners.now (tree_of formula.now))
+        (units_at (seen right.now).sure) (units_at (seen right.now).possible) 1 (band_in bounds) bounds.how) }
     ensures band { IfOk result (λ bounds. IsBand (length setting.entry.game.now) (band_in bounds)) }
 {
     let workers = setting.workers;
@@ -86,8 +90,10 @@ fn next_step<R: Threads + Sync, G: Gate + Sync>(
 ) -> Result<Sweep, OutOfMemory>
     requires marks { length marks.now ≡ states question.now }
     requires workers { (1 ≤ workers) × (workers ≤ most_workers) }
-    ensures sweep { IfOk result (λ sweep. IsSweep question.now (units_at (λ s. slice_index_or marks.now s false)) 1 sweep.lower.items sweep.upper.items) }
-    ensures units { IfOk result (λ sweep. All (λ v. v ≤ unit) sweep.lower.items × All (λ v. v ≤ unit) sweep.upper.items) }
+    ensures sweep { IfOk result (λ sweep. IsSweep question.now
+        (units_at (λ s. slice_index_or marks.now s false)) 1 sweep.lower.items sweep.upper.items) }
+    ensures units { IfOk result (λ sweep. All (λ v. v ≤ unit) sweep.lower.items
+        × All (λ v. v ≤ unit) sweep.upper.items) }
 {
     question.known();
     let table = units_of(alloc, marks)?;
@@ -96,7 +102,8 @@ fn next_step<R: Threads + Sync, G: Gate + Sync>(
 
 // The unit at the marked states, and 0 elsewhere.
 fn units_of(alloc: Global, marks: &[bool]) -> Result<Vec<u64>, AllocError>
-    ensures { IfOk result (λ table. table.items ≡ at_states (units_at (λ s. slice_index_or marks.now s false)) (length marks.now)) }
+    ensures { IfOk result (λ table. table.items ≡ at_states (units_at (λ s. slice_index_or marks.now s false))
+        (length marks.now)) }
 {
     let mut table = Vec::with_capacity(alloc, marks.len())?;
     for place in 0..marks.len() {

@@ -1,10 +1,10 @@
 //! Every call of the shelf and of the sink fails in turn.
 
+use crate::commands::COMMANDS;
 use expectations::same;
 use run_rows::{
-    AUDIT_OF_LOOP_OR_COIN, AUDIT_OF_TWO_PLAYERS, CHECK_OF_AGREEMENT, CHECK_OF_COIN_LOOP,
-    COIN_LOOP_OUT_OF_ORDER, Case, DRAWN_GAME, Ended, NO_COMMAND, OTHER_VERSION, Outside,
-    PLAN_OF_LOOP_OR_COIN, PLAN_OF_TWO_PLAYERS, STATE_OUT_OF_RANGE, STEP, ends_over,
+    CHECK_OF_COIN_LOOP, COIN_LOOP_OUT_OF_ORDER, Case, DRAWN_GAME, Ended, NO_COMMAND, Outside, STEP,
+    ends_over,
 };
 use std::alloc::Global;
 use std::test::Fail;
@@ -13,20 +13,6 @@ use stogame_app::Status;
 
 /// More calls than a command makes.
 const MOST_CALLS: u64 = 1000;
-
-const CASES: [Case<'static>; 11] = [
-    CHECK_OF_COIN_LOOP,
-    COIN_LOOP_OUT_OF_ORDER,
-    CHECK_OF_AGREEMENT,
-    PLAN_OF_LOOP_OR_COIN,
-    AUDIT_OF_LOOP_OR_COIN,
-    PLAN_OF_TWO_PLAYERS,
-    AUDIT_OF_TWO_PLAYERS,
-    STATE_OUT_OF_RANGE,
-    OTHER_VERSION,
-    DRAWN_GAME,
-    NO_COMMAND,
-];
 
 // A run without a fault is that of the case.
 fn is_whole(case: &Case<'_>, ended: &Ended) -> Result<(), Fail> {
@@ -110,13 +96,14 @@ fn each_writing_fails<R: Threads + Sync>(
 
 #[test]
 fn a_shelf_that_fails_leaves_nothing_written(rt: HostRuntime) -> Result<(), Fail> {
-    for case in CASES.as_slice() {
+    for (case, _names) in COMMANDS.as_slice() {
         let _calls = each_reading_fails(&rt, rt.alloc(), case)?;
     }
     Ok(())
 }
 
-// In pieces of 8 bytes the transition file, of 54 bytes, takes 9 calls with its beginning and its end, and the label file 6.
+// In pieces of 8 bytes the transition file, of 54 bytes, takes 9 calls with its beginning and its end, and the label
+// file 6.
 #[test]
 fn a_file_out_of_order_fails_in_each_call_of_both_readings(rt: HostRuntime) -> Result<(), Fail> {
     for (case, calls) in [
@@ -136,7 +123,7 @@ fn a_file_out_of_order_fails_in_each_call_of_both_readings(rt: HostRuntime) -> R
 
 #[test]
 fn a_sink_that_fails_leaves_a_front_of_the_text(rt: HostRuntime) -> Result<(), Fail> {
-    for case in CASES.as_slice() {
+    for (case, _names) in COMMANDS.as_slice() {
         each_writing_fails(&rt, rt.alloc(), case)?;
     }
     Ok(())

@@ -10,11 +10,15 @@ mod all_workers;
 #[cfg(test)]
 mod audit_faults;
 #[cfg(test)]
+mod commands;
+#[cfg(test)]
 mod damaged;
 #[cfg(test)]
 mod failing_calls;
 #[cfg(test)]
 mod hostile_files;
+#[cfg(test)]
+mod hostile_values;
 #[cfg(test)]
 mod late_workers;
 #[cfg(test)]

@@ -2,13 +2,11 @@
 
 ghost use Rattle.std.specs.Prelude.{None, false};
 
+use crate::commands::COMMANDS;
+use expectations::same;
 use game_outside::{Failed, OpenGate, Shelf, SteadyShelf, SteadySink};
-use run_rows::{
-    AUDIT_OF_LOOP_OR_COIN, CHECK_OF_AGREEMENT, CHECK_OF_COIN_LOOP, COIN_LOOP_OUT_OF_ORDER, Case,
-    DRAWN_GAME, NO_COMMAND, STATE_OUT_OF_RANGE,
-};
+use run_rows::Case;
 use std::alloc::Global;
-use std::process::Abort;
 use std::test::Fail;
 use std::thread::Threads;
 use stogame_app::run;
@@ -58,12 +56,13 @@ impl Shelf for NotingShelf {
     }
 }
 
-// The names that the run of a case begins.
-fn names_begun<R: Threads + Sync + Abort>(
+// The run of a case begins these names, and ends as it should.
+fn begins<R: Threads + Sync>(
     rt: &R,
     alloc: Global,
-    case: Case<'_>,
-) -> Result<String, Fail> {
+    case: &Case<'_>,
+    names: &str,
+) -> Result<(), Fail> {
     let words = case.command.words(alloc)?;
     let mut shelf = NotingShelf {
         shelf: SteadyShelf::new(case.command.files(alloc)?),
@@ -73,24 +72,17 @@ fn names_begun<R: Threads + Sync + Abort>(
     };
     let mut out = SteadySink::new(alloc);
     let ended = run(rt, alloc, &words, &mut shelf, &mut out, &OpenGate {});
-    assert!(rt; ended == case.status, "it ends with {ended:?}");
-    Ok(shelf.names)
+    same(
+        case.text,
+        (ended, shelf.names.as_str()),
+        (case.status, names),
+    )
 }
 
 #[test]
 fn only_the_named_texts_are_begun(rt: HostRuntime) -> Result<(), Fail> {
-    let alloc = rt.alloc();
-    for (case, names) in [
-        (CHECK_OF_COIN_LOOP, "m.tra m.lab "),
-        (CHECK_OF_AGREEMENT, "m.tra m.lab m.own "),
-        (AUDIT_OF_LOOP_OR_COIN, "m.tra m.lab c "),
-        (COIN_LOOP_OUT_OF_ORDER, "m.tra m.tra m.lab "),
-        (STATE_OUT_OF_RANGE, "m.tra "),
-        (DRAWN_GAME, ""),
-        (NO_COMMAND, ""),
-    ] {
-        let begun = names_begun(&rt, alloc, case)?;
-        assert_eq!(rt; begun.as_str(), names);
+    for (case, names) in COMMANDS.as_slice() {
+        begins(&rt, rt.alloc(), case, names)?;
     }
     Ok(())
 }

@@ -62,7 +62,8 @@ fn pieces_of_any_size_make_no_difference(rt: HostRuntime) -> Result<(), Fail> {
     Ok(())
 }
 
-// The transition file has 54 bytes, and a call more tells its end. The second piece of the label file fails, or its end.
+// The transition file has 54 bytes, and a call more tells its end. The second piece of the label file fails, or its
+// end.
 #[test]
 fn a_label_file_that_fails_writes_nothing(rt: HostRuntime) -> Result<(), Fail> {
     for (piece, call) in [(1, 59), (7, 13), (8, 12), (4096, 6)] {

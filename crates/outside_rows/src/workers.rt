@@ -1,5 +1,6 @@
 //! Rounds and workers.
 
+use expectations::same;
 use game_outside::{Gate, HoldGate, OpenGate};
 use run_rows::{COIN_LOOP_REPORT, MOST_OF_AGREEMENT, MOST_OF_COIN_LOOP, Row, runs, writes};
 use std::alloc::Global;
@@ -52,16 +53,43 @@ fn two_workers_run_at_once(rt: HostRuntime) -> Result<(), Fail> {
     Ok(())
 }
 
-// Counts who passes it, and who passes it before a state of another: three workers share three states.
+// Counts who passes it before each of three states, and who passes it before a state of another: three workers share
+// them.
 #[derive(Drop)]
 struct CountGate {
-    passed: AtomicU32,
+    passed: [AtomicU32; 3],
     strayed: AtomicU32,
+}
+
+impl CountGate {
+    fn new() -> CountGate {
+        CountGate {
+            passed: [AtomicU32::new(0), AtomicU32::new(0), AtomicU32::new(0)],
+            strayed: AtomicU32::new(0),
+        }
+    }
+
+    // How often it was passed before each state.
+    fn counts(&self) -> [u32; 3] {
+        let [first, second, third] = &self.passed;
+        [
+            first.load(Ordering::SeqCst),
+            second.load(Ordering::SeqCst),
+            third.load(Ordering::SeqCst),
+        ]
+    }
+
+    // How often a worker passed it before a state of another.
+    fn strays(&self) -> u32 {
+        self.strayed.load(Ordering::SeqCst)
+    }
 }
 
 impl Gate for CountGate {
     fn arrive(&self, worker: u32, state: u32) {
-        let _before = self.passed.fetch_add(1, Ordering::SeqCst);
+        if let Some(passed) = self.passed.get(state as usize) {
+            let _before = passed.fetch_add(1, Ordering::SeqCst);
+        }
         if worker != state {
             let _more = self.strayed.fetch_add(1, Ordering::SeqCst);
         }
@@ -76,22 +104,101 @@ fn coin_loop<'a>(numbers: &'a [&'a str]) -> Row<'a> {
     }
 }
 
-// Each round updates both tables. Only the first one of a small model has all workers.
+// The coin loop with another formula and these numbers.
+fn coin_loop_with<'a>(formula: &'a str, numbers: &'a [&'a str]) -> Row<'a> {
+    Row {
+        formula,
+        ..coin_loop(numbers)
+    }
+}
+
+// How often the gate is passed before each state of the coin loop, and how often by the worker of another.
+fn passes<R: Threads + Sync>(
+    rt: &R,
+    alloc: Global,
+    formula: &str,
+    rounds: &str,
+) -> Result<([u32; 3], u32), Fail> {
+    let gate = CountGate::new();
+    let numbers = ["--rounds", rounds, "--workers", "3"];
+    let row = coin_loop_with(formula, &numbers);
+    let (_ended, _written) = runs(rt, alloc, row, &gate)?;
+    Ok((gate.counts(), gate.strays()))
+}
+
+/// Formulas, the most rounds, and how often the gate is passed before each state. A round updates two tables.
+const PASSES: [(&str, &str, u32); 9] = [
+    ("Pmax=? [ F \"goal\" ]", "0", 0),
+    ("Pmax=? [ F \"goal\" ]", "1", 2),
+    ("Pmax=? [ F \"goal\" ]", "5", 10),
+    ("Pmax=? [ F \"goal\" ]", "10000", 100),
+    ("Pmax=? [ F<=0 \"goal\" ]", "1", 0),
+    ("Pmax=? [ F<=1 \"goal\" ]", "1", 1),
+    ("Pmax=? [ F<=2 \"goal\" ]", "1", 2),
+    ("Pmax=? [ F<=5 \"goal\" ]", "1", 5),
+    ("Pmax=? [ X \"goal\" ]", "1", 1),
+];
+
 #[test]
-fn each_worker_passes_the_gate_before_each_of_its_states(rt: HostRuntime) -> Result<(), Fail> {
-    let alloc = rt.alloc();
-    for (rounds, passed) in [("0", 0), ("1", 6), ("5", 30), ("10000", 300)] {
-        let gate = CountGate {
-            passed: AtomicU32::new(0),
-            strayed: AtomicU32::new(0),
-        };
-        let numbers = ["--rounds", rounds, "--workers", "3"];
-        let (ended, _written) = runs(&rt, alloc, coin_loop(&numbers), &gate)?;
-        assert!(rt; ended == Status::Fine);
-        assert_eq!(rt; gate.passed.load(Ordering::SeqCst), passed);
-        if rounds == "1" {
-            assert_eq!(rt; gate.strayed.load(Ordering::SeqCst), 0);
-        }
+fn workers_pass_the_gate_before_each_state_of_each_round_and_step(
+    rt: HostRuntime,
+) -> Result<(), Fail> {
+    for (formula, rounds, times) in PASSES {
+        let (counts, _strays) = passes(&rt, rt.alloc(), formula, rounds)?;
+        same(formula, counts, [times; 3])?;
+    }
+    Ok(())
+}
+
+// Only the first round of a small model, and the first step, has all workers.
+#[test]
+fn each_worker_passes_the_gate_before_its_own_state(rt: HostRuntime) -> Result<(), Fail> {
+    for formula in [
+        "Pmax=? [ F \"goal\" ]",
+        "Pmax=? [ F<=1 \"goal\" ]",
+        "Pmax=? [ X \"goal\" ]",
+    ] {
+        let (_counts, strays) = passes(&rt, rt.alloc(), formula, "1")?;
+        same(formula, strays, 0)?;
+    }
+    Ok(())
+}
+
+/// Formulas that stand inside, and after how many rounds of at most eight they are settled at each state, where a run
+/// asks for it after 1, 2, 4 and 8.
+const SETTLED: [(&str, u32); 5] = [
+    ("P>=0.25 [ F \"goal\" ]", 1),
+    ("P>=0.3 [ F \"goal\" ]", 2),
+    ("P>=0.4 [ F \"goal\" ]", 4),
+    ("P>=0.5 [ F \"goal\" ]", 8),
+    ("P>=0.6 [ F \"goal\" ]", 1),
+];
+
+// The rounds of a run inside, whose formula stands within one of no steps. The initial state is the goal, where each of
+// these formulas is settled at once.
+fn inner_passes<R: Threads + Sync>(rt: &R, alloc: Global, inside: &str) -> Result<[u32; 3], Fail> {
+    let formula = format!(in alloc; "Pmax=? [ F<=0 {inside} ]")?;
+    let row = Row {
+        formula: formula.as_str(),
+        lab: "0=\"init\" 1=\"goal\"\n1: 0 1\n",
+        numbers: &["--rounds", "8", "--workers", "1"],
+        ..MOST_OF_COIN_LOOP
+    };
+    let gate = CountGate::new();
+    let (_ended, _written) = runs(rt, alloc, row, &gate)?;
+    Ok(gate.counts())
+}
+
+#[test]
+fn runs_inside_end_where_their_threshold_is_settled_at_all_states(
+    rt: HostRuntime,
+) -> Result<(), Fail> {
+    for (inside, rounds) in SETTLED {
+        same(
+            inside,
+            inner_passes(&rt, rt.alloc(), inside)?,
+            [2 * rounds; 3],
+        )?;
     }
     Ok(())
 }

@@ -15,7 +15,8 @@ abbrev pub AreEntryLines : Version → ℕ → List (List ℕ) → List Entry �
 AreEntryLines version s [] [] = Unit {0}
 AreEntryLines version s [] (entry ∷ entries) = ⊥
 AreEntryLines version s (line ∷ lines) [] = ⊥
-AreEntryLines version s (line ∷ lines) (entry ∷ entries) = IsEntryLine version s line entry × AreEntryLines version (s + 1) lines entries
+AreEntryLines version s (line ∷ lines) (entry ∷ entries) =
+    IsEntryLine version s line entry × AreEntryLines version (s + 1) lines entries
 
 -- the first line of a certificate of so many states: `certificate`, its version, and their number
 pub record IsFirstLine (version : Version) (states : ℕ) (line : List ℕ) : Type 0 where
@@ -23,7 +24,8 @@ pub record IsFirstLine (version : Version) (states : ℕ) (line : List ℕ) : Ty
   pub fields : fields_of line ≡ codes "certificate" ∷ version_text version ∷ count ∷ []
   pub spelled : number_of count ≡ Some states
 
--- the text has a certificate of these entries: lines that do not begin with the word, its first line, a line for each entry, and blank lines
+-- the text has a certificate of these entries: lines that do not begin with the word, its first line, a line for each
+-- entry, and blank lines
 pub record IsCertificate (text : List ℕ) (entries : List Entry) : Type 0 where
   pub version : Version
   pub before : List (List ℕ)

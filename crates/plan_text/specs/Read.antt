@@ -25,4 +25,5 @@ first_said version s number (line ∷ lines) = then_at number (line_said version
 -- all of these lines are blank, or the first that is not is at fault
 abbrev pub end_said : ℕ → List (List ℕ) → Result (Unit {0}) PlanFault
 end_said number [] = Ok tt
-end_said number (line ∷ lines) = if is_nil (fields_of line) then end_said (number + 1) lines else Err (fault_at number BadLine)
+end_said number (line ∷ lines) = if is_nil (fields_of line) then end_said (number + 1) lines else Err
+    (fault_at number BadLine)

@@ -35,7 +35,8 @@ entry_from lower choice rank upper reply = None
 -- the entry of this state, where a line has six fields of the right form, and the first spells the state
 abbrev pub entry_in : Version → ℕ → List (List ℕ) → Option Entry
 entry_in version s (state ∷ lower ∷ choice ∷ rank ∷ upper ∷ reply ∷ []) =
-    if spells s (number_of state) then entry_from (units_of version lower) (choice_in choice) (number_of rank) (units_of version upper) (choice_in reply) else None
+    if spells s (number_of state) then entry_from (units_of version lower) (choice_in choice) (number_of rank)
+    (units_of version upper) (choice_in reply) else None
 entry_in version s fields = None
 
 abbrev pub is_small : Option ℕ → Bool
@@ -43,7 +44,8 @@ is_small None = true
 is_small (Some choice) = nat_le choice greatest_choice
 
 abbrev pub is_in_range : Entry → Bool
-is_in_range entry = nat_le entry.lower unit && nat_le entry.upper unit && is_small entry.choice && is_small entry.reply && nat_le entry.rank greatest_rank
+is_in_range entry = nat_le entry.lower unit && nat_le entry.upper unit && is_small entry.choice && is_small entry.reply
+    && nat_le entry.rank greatest_rank
 
 abbrev pub judged : Option Entry → Result Entry PlanCause
 judged None = Err BadLine
@@ -61,13 +63,17 @@ abbrev pub then_at : {X Y : Type 0} → ℕ → Result X PlanCause → (X → Re
 then_at number (Ok x) next = next x
 then_at number (Err cause) next = Err (fault_at number cause)
 
--- the entries before these lines, of which the first has this number, and those of the lines; behind the last state's line all is blank
+-- the entries before these lines, of which the first has this number, and those of the lines; behind the last state's
+-- line all is blank
 abbrev pub entries_from : Version → ℕ → List Entry → ℕ → List (List ℕ) → Result (List Entry) PlanFault
-entries_from version states before number [] = if length before == states then Ok before else Err (fault_at number MissingLine)
+entries_from version states before number [] = if length before ==
+    states then Ok before else Err (fault_at number MissingLine)
 entries_from version states before number (line ∷ lines) =
     if length before == states
-    then (if is_nil (fields_of line) then entries_from version states before (number + 1) lines else Err (fault_at number BadLine))
-    else then_at number (line_said version (length before) line) (λ entry. entries_from version states (before ++ entry ∷ []) (number + 1) lines)
+    then (if is_nil (fields_of line) then entries_from version states before (number + 1) lines else Err
+    (fault_at number BadLine))
+    else then_at number (line_said version (length before) line)
+    (λ entry. entries_from version states (before ++ entry ∷ []) (number + 1) lines)
 
 -- a version, of so many states in place of those that are asked for
 abbrev pub counted : ℕ → ℕ → Option Version → Result Version PlanCause
@@ -94,7 +100,8 @@ abbrev pub certificate_from : ℕ → ℕ → List (List ℕ) → Result (List E
 certificate_from states number [] = Err (fault_at 0 NoCertificate)
 certificate_from states number (line ∷ lines) =
     if is_heading (fields_of line)
-    then then_at number (header_said states (fields_of line)) (λ version. entries_from version states [] (number + 1) lines)
+    then then_at number (header_said states (fields_of line))
+    (λ version. entries_from version states [] (number + 1) lines)
     else certificate_from states (number + 1) lines
 
 -- The entries that a text has for so many states, or its first fault.

@@ -20,4 +20,5 @@ version_text Two = codes "2"
 
 -- the version that a field names
 abbrev pub version_in : List ℕ → Option Version
-version_in field = if bytes_eq field (codes "1") then Some One else (if bytes_eq field (codes "2") then Some Two else None)
+version_in field = if bytes_eq field (codes "1") then Some One else
+    (if bytes_eq field (codes "2") then Some Two else None)

@@ -14,7 +14,8 @@ behind_space field = 32 ∷ field
 
 -- the line of a state, as `0 0.500000000000000 1 1 0.500000000000000 -`
 abbrev pub entry_text : ℕ → Entry → List ℕ
-entry_text s entry = decimal s ++ (behind_space (fixed entry.lower) ++ (behind_space (choice_text entry.choice) ++ (behind_space (decimal entry.rank)
+entry_text s entry = decimal s ++ (behind_space (fixed entry.lower)
+    ++ (behind_space (choice_text entry.choice) ++ (behind_space (decimal entry.rank)
     ++ (behind_space (fixed entry.upper) ++ (behind_space (choice_text entry.reply) ++ codes "\n")))))
 
 -- the lines of these states, of which the first is s

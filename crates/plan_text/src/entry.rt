@@ -1,5 +1,5 @@
-//! The line of a state: its number, the lower bound, the maximiser's choice, the rank, the upper bound and the minimiser's
-//! choice.
+//! The line of a state: its number, the lower bound, the maximiser's choice, the rank, the upper bound and the
+//! minimiser's choice.
 
 ghost use Rattle.std.specs.Prelude.{◌≡◌, option_map, IfOk};
 ghost use Rattle.text_lines.specs.Text.{fields_of, saturated};
@@ -36,7 +36,13 @@ impl Model for StateLine {
 
     ghost Value = { Entry };
 
-    ghost view = { λ l. record { lower = l.lower; choice = l.choice; rank = l.rank; upper = l.upper; reply = l.reply } };
+    ghost view = { λ l. record {
+      lower = l.lower;
+      choice = l.choice;
+      rank = l.rank;
+      upper = l.upper;
+      reply = l.reply;
+    } };
 }
 
 impl StateLine {

@@ -9,12 +9,13 @@ use crate::fault::{PlanCause, PlanFault};
 use crate::version::Version;
 use text_lines::{first_field, first_line, whole};
 
-/// The version of the certificate, what stands behind its first line, and the number of the line that follows; or the first
-/// fault.
+/// The version of the certificate, what stands behind its first line, and the number of the line that follows; or the
+/// first fault.
 pub fn read_heading(text: &[u8], states: u32) -> Result<(Version, &[u8], u32), PlanFault>
     requires { length text.now ≤ most_bytes }
     ensures said { MatchResult result
-        (λ behind. entries_said text.now states ≡ entries_from behind.0 states [] behind.2 (significant (lines_of behind.1.now)))
+        (λ behind. entries_said text.now states
+        ≡ entries_from behind.0 states [] behind.2 (significant (lines_of behind.1.now)))
         (λ fault. entries_said text.now states ≡ Err fault) }
     ensures number { IfOk result (λ behind. behind.2 + length behind.1.now ≤ 1 + length text.now) }
 {

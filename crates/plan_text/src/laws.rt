@@ -32,13 +32,15 @@ pub fn old_values_have_three_zeros_less()
 
 /// A certificate that was written is read back, also behind lines that begin with another word.
 pub fn certificates_are_read_back()
-    ensures { (lines : List (List ℕ)) (entries : List Entry) → All IsPassedOver lines → length entries ≤ most_states → All IsInRange entries
+    ensures { (lines : List (List ℕ)) (entries : List Entry) → All IsPassedOver lines → length entries ≤ most_states
+        → All IsInRange entries
         → entries_said (as_lines lines ++ certificate_text entries) (length entries) ≡ Ok entries }
 {}
 
 /// No two certificates have the same text.
 pub fn certificates_have_one_reading()
-    ensures { (entries others : List Entry) → length entries ≤ most_states → length others ≤ most_states → All IsInRange entries → All IsInRange others
+    ensures { (entries others : List Entry) → length entries ≤ most_states → length others ≤ most_states
+        → All IsInRange entries → All IsInRange others
         → certificate_text entries ≡ certificate_text others → entries ≡ others }
 {}
 

@@ -17,8 +17,8 @@ use std::alloc::Global;
 use text_lines::{first_field, first_line, only_blank};
 
 /// Reads the certificate of so many states from a text. Lines before the first one whose first field is `certificate`
-/// are passed over. A value of the first version is as many units as its decimals say. What is read is what the text says,
-/// or its first fault, line by line; else memory was wanting.
+/// are passed over. A value of the first version is as many units as its decimals say. What is read is what the text
+/// says, or its first fault, line by line; else memory was wanting.
 pub fn read_plan(alloc: Global, bytes: &[u8], states: u32) -> Result<Plan, PlanFault>
     requires { length bytes.now ≤ most_bytes }
     ensures lists { IfOk result (λ plan. HasStates plan states) }
@@ -39,7 +39,8 @@ fn read_states(
 ) -> Result<Plan, PlanFault>
     requires { first + length text.now ≤ 1 + most_bytes }
     ensures lists { IfOk result (λ plan. HasStates plan states) }
-    ensures said { AnswersOrWants IsOutOfMemory entries_of result (entries_from version states [] first (significant (lines_of text.now))) }
+    ensures said { AnswersOrWants IsOutOfMemory entries_of result
+        (entries_from version states [] first (significant (lines_of text.now))) }
 {
     let Ok(mut plan) = Plan::with_room(alloc, states) else {
         return Err(PlanFault::out_of_memory());
@@ -66,7 +67,8 @@ fn read_state(
     number: u32,
 ) -> Result<(StateLine, &[u8]), PlanFault>
     ensures said { MatchResult result
-        (λ r. first_said version state number (significant (lines_of text.now)) ≡ Ok (r.0, significant (lines_of r.1.now)))
+        (λ r. first_said version state number (significant (lines_of text.now))
+        ≡ Ok (r.0, significant (lines_of r.1.now)))
         (λ fault. first_said version state number (significant (lines_of text.now)) ≡ Err fault) }
     ensures range { IfOk result (λ r. IsInRange r.0) }
     ensures shorter { IfOk result (λ r. length r.1.now < length text.now) }
@@ -88,7 +90,8 @@ fn read_state(
 
 // Why a line is refused: it is missing where it and all behind it are blank.
 fn cause_of(line: &[u8], after: &[u8], cause: PlanCause) -> PlanCause
-    ensures { result ≡ (if is_nil (fields_of line.now) && is_nil (significant (lines_of after.now)) then PlanCause.MissingLine else cause) }
+    ensures { result ≡ (if is_nil (fields_of line.now) && is_nil
+        (significant (lines_of after.now)) then PlanCause.MissingLine else cause) }
 {
     if first_field(line).is_none() && only_blank(after) {
         PlanCause::MissingLine

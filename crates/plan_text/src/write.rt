@@ -13,8 +13,8 @@ use game_outside::OutOfMemory;
 use std::alloc::Global;
 
 /// The text of a certificate: the line `certificate 2 N`, and for each of the N states, by rising number, the state,
-/// the lower bound, the maximiser's choice, the rank, the upper bound and the minimiser's choice, with one space between
-/// them. The only error is want of memory.
+/// the lower bound, the maximiser's choice, the rank, the upper bound and the minimiser's choice, with one space
+/// between them. The only error is want of memory.
 pub fn write_plan(alloc: Global, plan: &Plan) -> Result<Vec<u8>, OutOfMemory>
     requires lists { HasStates plan.now (length plan.now.lower.items) }
     requires some { 1 ≤ length plan.now.lower.items }
@@ -45,7 +45,8 @@ pub fn append_plan(text: &mut Vec<u8>, plan: &Plan) -> Result<(), OutOfMemory>
 
 // The first line, which says how many states there are.
 fn append_heading(text: &mut Vec<u8>, states: usize) -> Result<(), OutOfMemory>
-    ensures { OnOk result (text.new.items ≡ text.old.items ++ (codes "certificate 2 " ++ (decimal states ++ codes "\n"))) }
+    ensures { OnOk result (text.new.items ≡ text.old.items ++
+        (codes "certificate 2 " ++ (decimal states ++ codes "\n"))) }
 {
     append(text, b"certificate 2 ")?;
     append_count(text, states)?;

@@ -4,7 +4,8 @@ use Rattle.game_model.specs.Game.{Distribution}
 use Rattle.predecessors.specs.declared.lists.Move.{Move}
 use Rattle.predecessors.specs.Moves.{move, LeadsTo, moves_to}
 
--- a choice stands in the list of a state exactly where it leads there; the list is in the order of the game, with each choice as often as it has an edge there
+-- a choice stands in the list of a state exactly where it leads there; the list is in the order of the game, with each
+-- choice as often as it has an edge there
 pub record ArePredecessors (game : List (List Distribution)) (lists : List (List Move)) : Type 0 where
   pub many : length lists ≡ length game
   pub exact : (s c t : ℕ) → t < length game → Contains (slice_index_or lists t []) (move s c) ↔ LeadsTo game s c t

@@ -2,13 +2,15 @@
 use Rattle.std.proofs.Common.{◌≡◌, ◌∙◌, ℕ, Bool, true, false, cond, List, length, map, Ok, refl, ap, subst}
 use Rattle.std.specs.Prelude.{◌&&◌, IsSome}
 use Rattle.game_model.specs.Game.{Distribution}
-use Rattle.game_model.specs.Query.{Query}
+use Rattle.game_model.specs.Query.{Query, states}
 use Rattle.label_reader.specs.Labels.{Labelling}
 use Rattle.label_reader.specs.Owners.{Ownership}
 use Rattle.rpatl_syntax.specs.Formula.{Tree, is_flat}
-use Rattle.plan_text.specs.Entries.{Entry, entries_of}
-use Rattle.certificate_audit.specs.Accepted.{IsAccepted}
-use Rattle.verdicts.specs.declared.report.How.TheVariants.{Rounds}
+use Rattle.plan_text.specs.Entries.{Entry, HasStates, entries_of}
+use Rattle.certificate_audit.specs.Accepted.{IsAccepted, Passes}
+use Rattle.plan_text.specs.declared.plan.Plan.{Plan}
+use Rattle.verdicts.specs.declared.report.How.{How}
+use Rattle.verdicts.specs.declared.report.How.TheVariants.{Rounds, Solved}
 use Rattle.command_words.specs.Words.{Check}
 use Rattle.run_answers.specs.declared.status.Status.{Status}
 use Rattle.run_answers.specs.Printed.{line_for, output_of}
@@ -16,33 +18,44 @@ use Rattle.asked_files.specs.declared.problem.Paths.TheVariants.{Unbounded}
 use Rattle.asked_files.specs.Problems.{Problem, OfUntil, OfWithin, OfNext, OfAlways, OfNested, PosesProblem, posing_in, takes, takes_formula}
 use Rattle.rpatl_syntax.specs.Dual.{answered}
 use Rattle.question_reports.specs.Reports.{IsBracketReport}
+use Rattle.question_reports.specs.Solved.{IsSolved}
 use Rattle.run_answers.proofs.Passing.{AreReadBack, read-behind}
 use Rattle.run_answers.proofs.PlainParts.{HasPlainParts}
 use Rattle.plan_text.specs.Said.{entries_said}
 use Rattle.plan_text.specs.Certificate.{IsCertificate}
 use Rattle.run_answers.specs.Outputs.{output_text, IsInLimits}
 
--- 1. Of a report from a bracket.
+-- 1. Of a report with a plan.
 
 abbrev pub AreCertificates : Type 0
 AreCertificates = (text : List ℕ) (entries : List Entry) → entries_said text (length entries) ≡ Ok entries → IsCertificate text entries
 
+-- an output with a certificate of a plan that passes
+output-accepted : AreReadBack → AreCertificates → (q : Query) (initial : List ℕ) (f : Tree) (how : How) (asked : Bool) (plan : Plan) (text : List ℕ) → asked ≡ true → HasPlainParts (answered f)
+    → text ≡ output_text (output_of asked f how initial plan) → IsInLimits (output_of asked f how initial plan) → HasStates plan (states q) → Passes q plan → IsAccepted q text plan
+output-accepted read_back certificates q initial f how asked plan text planned parts written limits lists passes =
+    let entries = entries_of plan in
+    let lines = map (line_for f how plan.lower.items plan.upper.items) initial in
+    let whole = subst (λ (p : Bool). text ≡ output_text (output_of p f how initial plan)) planned written in
+    let small = subst (λ (p : Bool). IsInLimits (output_of p f how initial plan)) planned limits in
+    let said = read-behind read_back lines (answered f) entries small.lines parts small.entries.0 small.entries.1 in
+    record {
+      read = record {
+        lists = lists;
+        said = certificates text entries (ap (λ (t : List ℕ). entries_said t (length entries)) whole ∙ said);
+      };
+      passes = passes;
+    }
+
 pub report-accepted : AreReadBack → AreCertificates → (q : Query) (initial : List ℕ) (f : Tree) (check : Check) (text : List ℕ) (status : Status) → check.plan ≡ true → HasPlainParts (answered f)
     → (r : IsBracketReport q initial f check text status) → IsAccepted q text r.plan
 report-accepted read_back certificates q initial f check text status planned parts r =
-    let how = Rounds r.found.rounds in
-    let entries = entries_of r.plan in
-    let lines = map (line_for f how r.plan.lower.items r.plan.upper.items) initial in
-    let written = subst (λ (p : Bool). text ≡ output_text (output_of p f how initial r.plan)) planned r.written in
-    let limits = subst (λ (p : Bool). IsInLimits (output_of p f how initial r.plan)) planned r.limits in
-    let said = read-behind read_back lines (answered f) entries limits.lines parts limits.entries.0 limits.entries.1 in
-    record {
-      read = record {
-        lists = r.lists;
-        said = certificates text entries (ap (λ (t : List ℕ). entries_said t (length entries)) written ∙ said);
-      };
-      passes = r.passes;
-    }
+    output-accepted read_back certificates q initial f (Rounds r.found.rounds) check.plan r.plan text planned parts r.written r.limits r.lists r.passes
+
+pub solved-accepted : AreReadBack → AreCertificates → (q : Query) (initial : List ℕ) (f : Tree) (asked : Bool) (text : List ℕ) (status : Status) → asked ≡ true → HasPlainParts (answered f)
+    → (r : IsSolved q initial f asked text status) → IsAccepted q text r.plan
+solved-accepted read_back certificates q initial f asked text status planned parts r =
+    output-accepted read_back certificates q initial f Solved asked r.plan text planned parts r.written r.limits r.lists r.passes
 
 -- 2. Of the paths.
 

@@ -2,15 +2,12 @@
 use Rattle.std.proofs.Common.{◌≡◌, ◌<◌, ℕ, List, map, Result, Ok, Err, arith}
 use Rattle.std.specs.Prelude.{All, IfOk, slice_index}
 use Rattle.std.proofs.lemmas.List.Elements.{All-map, All-weaker}
-use Rattle.game_model.specs.Limits.{unit}
 use Rattle.game_model.specs.Query.{Query, IsQuery, states}
-use Rattle.game_model.specs.Bounds.{Reaches}
 use Rattle.rpatl_syntax.specs.Formula.{Tree}
 use Rattle.plan_text.specs.declared.plan.Plan.{Plan}
 use Rattle.plan_text.specs.Entries.{HasStates}
 use Rattle.certificate_audit.specs.Accepted.{Passes, IsSoundPlan}
 use Rattle.verdicts.specs.Report.{IsLine, report}
-use Rattle.verdicts.specs.Truth.{VerdictIsRight}
 use Rattle.verdicts.specs.Open.{LeavesOpen}
 use Rattle.verdicts.specs.declared.report.How.TheVariants.{Audited}
 use Rattle.verdicts.specs.declared.verdict.Verdict.TheVariants.{Undecided}
@@ -18,6 +15,7 @@ use Rattle.run_answers.specs.declared.status.Status.{Status}
 use Rattle.run_answers.specs.Printed.{is_mirrored, verdict_for, line_for, status_of}
 use Rattle.question_reports.specs.Audits.{IsAudited}
 use Rattle.rpatl_syntax.specs.Dual.{answered}
+use Rattle.question_reports.proofs.Valued.{told}
 use Rattle.question_reports.proofs.Limits.{plan-units, printed-units}
 
 module _ (q : Query) (posed : IsQuery q) (f : Tree) (plan : Plan) (lists : HasStates plan (states q)) (passes : Passes q plan) where
@@ -31,15 +29,18 @@ module _ (q : Query) (posed : IsQuery q) (f : Tree) (plan : Plan) (lists : HasSt
   pub lines-in_range : (initial : List ℕ) → All (λ s. s < states q) initial → All IsLine (map (line_for f Audited plan.lower.items plan.upper.items) initial)
   lines-in_range initial inside = All-map IsLine (line_for f Audited plan.lower.items plan.upper.items) initial (All-weaker (λ s. s < states q) (λ s. IsLine (line_for f Audited plan.lower.items plan.upper.items s)) line-in_range initial inside)
 
-pub audited : {X E : Type 0} (text : X → List ℕ) (ends : X → Status) (q : Query) (initial : List ℕ) (f : Tree) (plan : Plan)
+pub audited : {X E : Type 0} (text : X → List ℕ) (ends : X → Status) (q : Query) (posed : IsQuery q) (initial : List ℕ) (f : Tree) (plan : Plan)
     → All (λ s. s < states q) initial → IsSoundPlan q plan
-    → All (λ s. Reaches q (slice_index plan.lower.items s) unit s) initial
     → All IsLine (map (line_for f Audited plan.lower.items plan.upper.items) initial)
-    → All (λ s. VerdictIsRight q (answered f).bound s (verdict_for f plan.lower.items plan.upper.items s)) initial
     → All (λ s. verdict_for f plan.lower.items plan.upper.items s ≡ Undecided → LeavesOpen (answered f).bound (slice_index plan.lower.items s) (slice_index plan.upper.items s) 1 0) initial
     → (result : Result X E)
     → IfOk result (λ answer. text answer ≡ report (map (line_for f Audited plan.lower.items plan.upper.items) initial))
     → IfOk result (λ answer. ends answer ≡ status_of (map (verdict_for f plan.lower.items plan.upper.items) initial))
     → IfOk result (λ answer. IsAudited q initial f plan (text answer) (ends answer))
-audited text ends q initial f plan inside sound reached lines told left_open (Ok answer) written ended = record { inside = inside; sound = sound; reached = reached; written = written; lines = lines; ends = ended; right = told; left_open = left_open }
-audited text ends q initial f plan inside sound reached lines told left_open (Err error) written ended = tt
+audited text ends q posed initial f plan inside sound lines left_open (Ok answer) written ended = record {
+  told = told q posed f plan sound initial _ inside ended;
+  written = written;
+  lines = lines;
+  left_open = left_open;
+}
+audited text ends q posed initial f plan inside sound lines left_open (Err error) written ended = tt

@@ -8,3 +8,6 @@ pub mod Rests
 pub mod ShortReports
 pub mod Shown
 pub mod Swept
+pub mod Valued
+pub mod NextValues
+pub mod SolvedPlans

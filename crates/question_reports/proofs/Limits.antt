@@ -17,8 +17,8 @@ use Rattle.rpatl_syntax.specs.Formula.{Tree}
 use Rattle.plan_text.specs.declared.plan.Plan.{Plan}
 use Rattle.plan_text.specs.Entries.{IsSmall, IsInRange, HasStates, greatest_choice, greatest_rank, entry_at}
 use Rattle.certificate_audit.specs.Accepted.{Passes}
-use Rattle.verdicts.specs.Report.{IsLine}
-use Rattle.verdicts.specs.declared.report.How.TheVariants.{Rounds}
+use Rattle.verdicts.specs.Report.{IsLine, HasCount}
+use Rattle.verdicts.specs.declared.report.How.{How}
 use Rattle.bracket_engine.specs.Choices.{AreChoices}
 use Rattle.run_answers.specs.Outputs.{AreEntriesInLimits, IsInLimits}
 use Rattle.run_answers.specs.Printed.{is_mirrored, printed_lower, printed_upper, line_for, certificate_of, output_of}
@@ -89,7 +89,7 @@ pub record IsPrintable (q : Query) (plan : Plan) : Type 0 where
   pub replies : AreFirstReplies q table plan.replies.items
   pub ranks_fit : All (λ r. r ≤ greatest_rank) plan.ranks.items
 
-module _ (q : Query) (plan : Plan) (initial : List ℕ) (rounds : ℕ) (h : IsPrintable q plan) (few : rounds ≤ 1000000) (inside : All (λ s. s < states q) initial) where
+module _ (q : Query) (plan : Plan) (initial : List ℕ) (how : How) (h : IsPrintable q plan) (count : HasCount how) (inside : All (λ s. s < states q) initial) where
   entry-in_range : (s : ℕ) → s < states q → IsInRange (entry_at plan s)
   entry-in_range s within = record {
     lower = h.passes.ranked.units s within;
@@ -99,10 +99,10 @@ module _ (q : Query) (plan : Plan) (initial : List ℕ) (rounds : ℕ) (h : IsPr
     reply = reply-small q h.posed s within h.table _ (h.replies.each s within);
   }
 
-  line-in_range : (f : Tree) (s : ℕ) → s < states q → IsLine (line_for f (Rounds rounds) plan.lower.items plan.upper.items s)
+  line-in_range : (f : Tree) (s : ℕ) → s < states q → IsLine (line_for f how plan.lower.items plan.upper.items s)
   line-in_range f s within = record {
     state = omega (arith, within, h.posed.game.few);
-    count = omega (arith, few);
+    count = count;
     values = let units = plan-units q plan h.lists h.passes s within in printed-units (is_mirrored f.kind) _ _ units.0 units.1;
   }
 
@@ -116,9 +116,9 @@ module _ (q : Query) (plan : Plan) (initial : List ℕ) (rounds : ℕ) (h : IsPr
             subst (λ s. IsInRange (entry_at plan s)) (sym (get_or-range_with_len 0 n i d here)) (entry-in_range (0 + i) (omega (arith, here, h.lists.lower)))),
       )
 
-  pub printed-in_limits : (asked : Bool) (formula : Tree) → IsInLimits (output_of asked formula (Rounds rounds) initial plan)
+  pub printed-in_limits : (asked : Bool) (formula : Tree) → IsInLimits (output_of asked formula how initial plan)
   printed-in_limits asked formula = record {
-    lines = All-map IsLine (line_for formula (Rounds rounds) plan.lower.items plan.upper.items) initial
-        (All-weaker (λ s. s < states q) (λ s. IsLine (line_for formula (Rounds rounds) plan.lower.items plan.upper.items s)) (line-in_range formula) initial inside);
+    lines = All-map IsLine (line_for formula how plan.lower.items plan.upper.items) initial
+        (All-weaker (λ s. s < states q) (λ s. IsLine (line_for formula how plan.lower.items plan.upper.items s)) (line-in_range formula) initial inside);
     entries = entries-in_limits asked formula;
   }

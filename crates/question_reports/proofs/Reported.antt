@@ -3,23 +3,21 @@ use Rattle.std.proofs.Common.{◌≡◌, ◌≤◌, ◌<◌, ◌+◌, ◌-◌, �
 use Rattle.std.specs.Prelude.{All, IfOk, slice_index, slice_index_or}
 use Rattle.std.proofs.lemmas.List.Elements.{All-weaker}
 use Rattle.game_model.specs.Limits.{unit}
-use Rattle.game_model.specs.Query.{Query, states}
+use Rattle.game_model.specs.Query.{Query, IsQuery, states}
 use Rattle.game_model.specs.Values.{denominator, numerator}
 use Rattle.std.proofs.Math.Nat.{mul-le-mul_right}
 use Rattle.game_model.specs.Rounded.{down_steps, IsBelow}
 use Rattle.game_model.specs.Dual.{IsZeroSet, swapped}
-use Rattle.game_model.specs.Bounds.{IsNear}
 use Rattle.rpatl_syntax.specs.Formula.{Tree}
 use Rattle.plan_text.specs.declared.plan.Plan.{Plan}
 use Rattle.plan_text.specs.Entries.{HasStates}
 use Rattle.certificate_audit.specs.Accepted.{Passes, IsSoundPlan}
 use Rattle.rpatl_syntax.specs.declared.formula.Bound.{Bound}
 use Rattle.verdicts.specs.declared.verdict.Verdict.{Verdict}
-use Rattle.verdicts.specs.declared.verdict.Verdict.TheVariants.{Yes, No, Undecided, Bracket as Value}
+use Rattle.verdicts.specs.declared.verdict.Verdict.TheVariants.{Undecided}
 use Rattle.verdicts.specs.Verdict.{verdict_of, is_settling}
-use Rattle.verdicts.specs.Truth.{IsTrueOf, IsFalseOf, VerdictIsRight}
 use Rattle.verdicts.specs.declared.report.How.TheVariants.{Rounds}
-use Rattle.verdicts.specs.Open.{LeavesOpen}
+use Rattle.verdicts.specs.Open.{LeavesOpen, IsLeftOpen}
 use Rattle.verdicts.proofs.Staying.{settled-on}
 use Rattle.bracket_engine.specs.declared.bounds.Bracket.{Bracket}
 use Rattle.bracket_engine.specs.Bracket.{IsBracket, IsNarrow}
@@ -31,22 +29,11 @@ use Rattle.rpatl_syntax.specs.declared.formula.PathKind.TheVariants.{Until, With
 use Rattle.rpatl_syntax.specs.Dual.{IsAtMostOne, dual_bound, answered_by, answered}
 use Rattle.run_answers.specs.Printed.{is_mirrored, printed_verdict, verdict_for, status_of, output_of}
 use Rattle.bracket_engine.specs.Found.{IsFound}
-use Rattle.question_reports.specs.Reports.{IsShown, IsLeftOpen, IsBracketReport}
+use Rattle.question_reports.specs.Reports.{IsShown, IsBracketReport}
+use Rattle.question_reports.proofs.Valued.{told}
 use Rattle.run_answers.specs.Outputs.{output_text, IsInLimits}
 
--- 1. What verdicts say is so.
-
-is-told : (q : Query) (bound : Bound) (s : ℕ) (verdict : Verdict) → (verdict ≡ Yes → IsTrueOf q bound s) → (verdict ≡ No → IsFalseOf q bound s) → VerdictIsRight q bound s verdict
-is-told q bound s Yes if_yes if_no = if_yes refl
-is-told q bound s No if_yes if_no = if_no refl
-is-told q bound s Undecided if_yes if_no = tt
-is-told q bound s Value if_yes if_no = tt
-
-pub all-told : (q : Query) (bound : Bound) (verdict : ℕ → Verdict) (initial : List ℕ) → ((s : ℕ) → s < states q → verdict s ≡ Yes → IsTrueOf q bound s)
-    → ((s : ℕ) → s < states q → verdict s ≡ No → IsFalseOf q bound s)
-    → All (λ s. s < states q) initial → All (λ s. VerdictIsRight q bound s (verdict s)) initial
-all-told q bound verdict initial if_yes if_no inside =
-    All-weaker (λ s. s < states q) (λ s. VerdictIsRight q bound s (verdict s)) (λ s within. is-told q bound s (verdict s) (if_yes s within) (if_no s within)) initial inside
+-- 1. Verdicts of `G` and of its dual.
 
 -- what the printed bounds say is what the bounds of the question that is answered say of its bound
 abbrev pub Mirrors : Type 0
@@ -83,7 +70,7 @@ near-under u v p x near below = omega (arith, near, mul-le-mul_right p below)
 module _ (here : OpensHere) (wider : OpensWider) (q : Query) (zero : List Bool) (bound : Bound) (initial : List ℕ) (asked : ℕ) (found : Bracket) (plan : Plan)
     (above : IsBelow q (slice_index found.base.items) (slice_index plan.lower.items)) (below : IsBelow q (slice_index plan.upper.items) (slice_index found.upper.items)) where
   narrow-open : 1 ≤ denominator q.game ^ asked → IsNarrow q zero asked (slice_index found.base.items) (slice_index found.upper.items)
-      → (s : ℕ) → s < states q → plan_verdict bound plan s ≡ Undecided → IsLeftOpen q zero bound asked plan s
+      → (s : ℕ) → s < states q → plan_verdict bound plan s ≡ Undecided → IsLeftOpen q zero bound asked (slice_index plan.lower.items) (slice_index plan.upper.items) s
   narrow-open some narrow s inside undecided =
       let base = slice_index found.base.items s in
       let lower = slice_index plan.lower.items s in
@@ -97,7 +84,7 @@ module _ (here : OpensHere) (wider : OpensWider) (q : Query) (zero : List Bool) 
       }
 
   pub all-left_open : 1 ≤ denominator q.game ^ asked → IsBracket q zero bound initial asked found.base.items found.upper.items found.rounds found.stable → All (λ s. s < states q) initial
-      → All (λ s. plan_verdict bound plan s ≡ Undecided → IsLeftOpen q zero bound asked plan s) initial
+      → All (λ s. plan_verdict bound plan s ≡ Undecided → IsLeftOpen q zero bound asked (slice_index plan.lower.items) (slice_index plan.upper.items) s) initial
   all-left_open some bounds inside = elim bounds.narrow_asked [
     | inl settled ↦ All-weaker (λ s. is_settling (plan_verdict bound plan s) ≡ true) Q (λ s is undecided. let same : is_settling (plan_verdict bound plan s) ≡ is_settling Undecided = ap is_settling undecided in absurd (cc (same, is))) initial (settled-over settled inside)
     | inr narrow ↦ All-weaker (λ s. s < states q) Q (λ s within. narrow-open some narrow s within) initial inside
@@ -109,23 +96,22 @@ module _ (here : OpensHere) (wider : OpensWider) (q : Query) (zero : List Bool) 
           settled-on bound (slice_index found.base.items s) (slice_index plan.lower.items s) (slice_index found.upper.items s) (slice_index plan.upper.items s) (above s (within i d there)) (below s (within i d there)) (settled i d there)
 
       Q : ℕ → Type 0
-      Q s = plan_verdict bound plan s ≡ Undecided → IsLeftOpen q zero bound asked plan s
+      Q s = plan_verdict bound plan s ≡ Undecided → IsLeftOpen q zero bound asked (slice_index plan.lower.items) (slice_index plan.upper.items) s
 
 -- 3. The whole answer.
 
 -- what is known of a question before its answer is written
 pub record IsReady (q : Query) (initial : List ℕ) (f : Tree) (check : Check) (zero : List Bool) (found : Bracket) (plan : Plan) : Type 0 where
+  pub posed : IsQuery q
   pub inside : All (λ s. s < states q) initial
   pub is_zero : IsZeroSet q zero
   pub is_found : IsFound q zero (answered f).bound initial check.rounds found
   pub shown : IsShown q check.traps found plan
   pub lists : HasStates plan (states q)
-  pub near : IsNear q (slice_index plan.lower.items)
   pub sound : IsSoundPlan q plan
   pub passes : Passes q plan
   pub limits : IsInLimits (output_of check.plan f (Rounds found.rounds) initial plan)
-  pub right : All (λ s. VerdictIsRight q (answered f).bound s (verdict_for f plan.lower.items plan.upper.items s)) initial
-  pub left_open : All (λ s. verdict_for f plan.lower.items plan.upper.items s ≡ Undecided → IsLeftOpen q zero (answered f).bound check.rounds plan s) initial
+  pub left_open : All (λ s. verdict_for f plan.lower.items plan.upper.items s ≡ Undecided → IsLeftOpen q zero (answered f).bound check.rounds (slice_index plan.lower.items) (slice_index plan.upper.items) s) initial
 
 pub reported : {X E : Type 0} (text : X → List ℕ) (ends : X → Status) (q : Query) (initial : List ℕ) (f : Tree) (check : Check) (zero : List Bool) (found : Bracket) (plan : Plan)
     → IsReady q initial f check zero found plan
@@ -134,7 +120,7 @@ pub reported : {X E : Type 0} (text : X → List ℕ) (ends : X → Status) (q :
     → IfOk result (λ answer. ends answer ≡ status_of (map (verdict_for f plan.lower.items plan.upper.items) initial))
     → IfOk result (λ answer. IsBracketReport q initial f check (text answer) (ends answer))
 reported text ends q initial f check zero found plan ready (Ok answer) written ended = record {
-  inside = ready.inside;
+  posed = ready.posed;
   zero = zero;
   is_zero = ready.is_zero;
   found = found;
@@ -142,14 +128,10 @@ reported text ends q initial f check zero found plan ready (Ok answer) written e
   plan = plan;
   shown = ready.shown;
   lists = ready.lists;
-  near = ready.near;
-  high = ready.sound.high;
-  sound = ready.sound;
+  told = told q ready.posed f plan ready.sound initial _ ready.inside ended;
   passes = ready.passes;
   written = written;
   limits = ready.limits;
-  ends = ended;
-  right = ready.right;
   left_open = ready.left_open;
 }
 reported text ends q initial f check zero found plan ready (Err error) written ended = tt

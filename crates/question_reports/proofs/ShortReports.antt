@@ -1,5 +1,5 @@
 -- A report is no longer than a text may be.
-use Rattle.std.proofs.Common.{◌<◌, ◌≤◌, ◌+◌, ◌*◌, ◌^◌, ℕ, Bool, true, false, List, ◌++◌, length, map, ap, arith}
+use Rattle.std.proofs.Common.{◌≡◌, ◌<◌, ◌≤◌, ◌+◌, ◌*◌, ◌^◌, ℕ, Bool, true, false, List, ◌++◌, length, map, ap, arith}
 use Rattle.std.specs.Prelude.{All, codes, decimal}
 use Rattle.std.proofs.lemmas.List.{length-append, length-map}
 use Rattle.text_lines.specs.Limits.{most_bytes}
@@ -12,15 +12,17 @@ use Rattle.plan_text.specs.Written.{certificate_text}
 use Rattle.verdicts.specs.Report.{report}
 use Rattle.plan_text.specs.declared.plan.Plan.{Plan}
 use Rattle.verdicts.specs.declared.report.ReportLine.{ReportLine}
-use Rattle.verdicts.specs.declared.report.How.TheVariants.{Rounds, Steps}
+use Rattle.verdicts.specs.declared.report.How.TheVariants.{Rounds, Steps, Solved}
+use Rattle.verdicts.specs.declared.report.How.{How}
 use Rattle.verdicts.specs.Report.{IsLine}
 use Rattle.formula_sets.specs.Posing.{Model}
 use Rattle.command_words.specs.Words.{Check}
 use Rattle.run_answers.specs.declared.status.Status.{Status}
-use Rattle.run_answers.specs.Outputs.{certificate_part, AreEntriesInLimits}
-use Rattle.run_answers.specs.Printed.{line_over, line_for, certificate_of}
+use Rattle.run_answers.specs.Outputs.{certificate_part, output_text, AreEntriesInLimits, IsInLimits}
+use Rattle.run_answers.specs.Printed.{line_over, line_for, certificate_of, output_of}
 use Rattle.rpatl_syntax.specs.Dual.{answered}
 use Rattle.question_reports.specs.Reports.{IsBracketReport}
+use Rattle.question_reports.specs.Solved.{IsSolved}
 use Rattle.question_reports.specs.Sweeps.{IsSweepReport}
 use Rattle.question_reports.specs.Nested.{IsNestedReport, inside_text}
 use Rattle.run_answers.proofs.ShortLines.{entry_bytes, line_bytes, joined-short, decimal-short, report-short, certificate-short}
@@ -43,18 +45,27 @@ part-short true f plan small are =
 lines-short : (initial : List ℕ) (line : ℕ → ReportLine) → length initial ≤ most_states → All IsLine (map line initial) → length (report (map line initial)) ≤ line_bytes * most_states
 lines-short initial line few are = omega (arith, few, length-map initial line, report-short (map line initial) are)
 
-pub report-text-short : (q : Query) (initial : List ℕ) (f : Tree) (check : Check) (text : List ℕ) (status : Status) → length initial ≤ most_states → length (spelling (answered f)) ≤ most_spelled
-    → IsBracketReport q initial f check text status → length text ≤ most_bytes
-report-text-short q initial f check text status few small r =
-    let lines = map (line_for f (Rounds r.found.rounds) r.plan.lower.items r.plan.upper.items) initial in
-    let part = certificate_part (certificate_of check.plan f r.plan) in
+-- an output of a plan
+output-short : (initial : List ℕ) (f : Tree) (how : How) (asked : Bool) (plan : Plan) (text : List ℕ) → length initial ≤ most_states → length (spelling (answered f)) ≤ most_spelled
+    → text ≡ output_text (output_of asked f how initial plan) → IsInLimits (output_of asked f how initial plan) → length text ≤ most_bytes
+output-short initial f how asked plan text few small written limits =
+    let lines = map (line_for f how plan.lower.items plan.upper.items) initial in
+    let part = certificate_part (certificate_of asked f plan) in
     omega (
       arith,
-      ap (λ (t : List ℕ). length t) r.written,
+      ap (λ (t : List ℕ). length t) written,
       length-append (report lines) part,
-      lines-short initial (line_for f (Rounds r.found.rounds) r.plan.lower.items r.plan.upper.items) few r.limits.lines,
-      part-short check.plan f r.plan small r.limits.entries,
+      lines-short initial (line_for f how plan.lower.items plan.upper.items) few limits.lines,
+      part-short asked f plan small limits.entries,
     )
+
+pub report-text-short : (q : Query) (initial : List ℕ) (f : Tree) (check : Check) (text : List ℕ) (status : Status) → length initial ≤ most_states → length (spelling (answered f)) ≤ most_spelled
+    → IsBracketReport q initial f check text status → length text ≤ most_bytes
+report-text-short q initial f check text status few small r = output-short initial f (Rounds r.found.rounds) check.plan r.plan text few small r.written r.limits
+
+pub solved-text-short : (q : Query) (initial : List ℕ) (f : Tree) (asked : Bool) (text : List ℕ) (status : Status) → length initial ≤ most_states → length (spelling (answered f)) ≤ most_spelled
+    → IsSolved q initial f asked text status → length text ≤ most_bytes
+solved-text-short q initial f asked text status few small r = output-short initial f Solved asked r.plan text few small r.written r.limits
 
 pub sweep-text-short : (q : Query) (opening : ℕ → ℕ) (steps : ℕ) (numerators : ℕ → ℕ) (initial : List ℕ) (f : Tree) (text : List ℕ) (status : Status) → length initial ≤ most_states
     → IsSweepReport q opening steps numerators initial f text status → length text ≤ most_bytes

@@ -3,11 +3,12 @@ use Rattle.std.proofs.Common.{◌≤◌, ◌∙◌, ℕ, Bool, List, length, sym
 use Rattle.std.specs.Prelude.{All, Option, slice_index}
 use Rattle.game_model.specs.Query.{Query, IsQuery, states}
 use Rattle.game_model.specs.Rounded.{IsBelow}
-use Rattle.game_model.specs.Ranks.{Ranked, ReachesUnder}
+use Rattle.game_model.specs.Ranks.{Ranked}
 use Rattle.rpatl_syntax.specs.declared.formula.Bound.{Bound}
 use Rattle.plan_text.specs.declared.plan.Plan.{Plan}
 use Rattle.plan_text.specs.Entries.{HasStates, greatest_rank}
 use Rattle.certificate_audit.specs.Accepted.{Passes, IsSoundPlan}
+use Rattle.certificate_audit.proofs.Soundness.{sound}
 use Rattle.bracket_engine.specs.declared.bounds.Bracket.{Bracket}
 use Rattle.bracket_engine.specs.Choices.{AreChoices}
 use Rattle.bracket_engine.specs.Found.{IsFound}
@@ -44,14 +45,11 @@ module _ (q : Query) (zero : List Bool) (bound : Bound) (initial : List ℕ) (as
   ranked : Ranked q plan.lower.items plan.choices.items plan.ranks.items
   ranked = rw (shown.lower, shown.choices, shown.ranks) h.ranks.ranked
 
-  reached : ReachesUnder q plan.choices.items (slice_index plan.lower.items)
-  reached = rw (shown.lower, shown.choices) h.ranks.reached
-
   pub shown-passes : Passes q plan
   shown-passes = record { units = held.units; inductive = held.inductive; replies = held.good; ranked = ranked }
 
-  pub shown-sound : IsSoundPlan q plan
-  shown-sound = record { high = held.high; held = held.holds; reached = reached }
+  pub shown-sound : IsQuery q → IsSoundPlan q plan
+  shown-sound posed = sound q plan posed shown-passes
 
   pub shown-above : IsBelow q (slice_index found.base.items) (slice_index plan.lower.items)
   shown-above = rw (shown.lower) h.lower.above

@@ -2,3 +2,5 @@ pub mod Audits
 pub mod Nested
 pub mod Reports
 pub mod Sweeps
+pub mod Valued
+pub mod Solved

@@ -14,19 +14,24 @@ use Rattle.asked_files.specs.Posed.{HasSizes}
 use Rattle.run_answers.specs.Printed.{line_over, verdict_over, status_of}
 use Rattle.run_answers.specs.declared.status.Status.{Status}
 
--- the line `inner I undecided U`: so many formulas stand inside, and so many pairs of one and a state are left undecided
+-- the line `inner I undecided U`: so many formulas stand inside, and so many pairs of one and a state are left
+-- undecided
 abbrev pub inside_text : ℕ → ℕ → List ℕ
-inside_text inner undecided = numbered (codes "inner ") inner ++ (numbered (codes " undecided ") undecided ++ codes "\n")
+inside_text inner undecided = numbered (codes "inner ") inner
+    ++ (numbered (codes " undecided ") undecided ++ codes "\n")
 
--- The text and the status are the answer: the line about the formulas inside, and a report of bounds that are sound for the exact question. True is true and False is false. The bounds of a `G` are mirrored already.
-pub record IsNestedReport (m : Model) (initial : List ℕ) (f : Tree) (asked : ℕ) (text : List ℕ) (status : Status) : Type 0 where
+-- The text and the status are the answer: the line about the formulas inside, and a report of bounds that are sound for
+-- the exact question. True is true and False is false. The bounds of a `G` are mirrored already.
+pub record IsNestedReport (m : Model) (initial : List ℕ) (f : Tree) (asked : ℕ) (text : List ℕ)
+    (status : Status) : Type 0 where
   pub inside : All (λ s. s < length m.game) initial
   pub band : Band
   pub how : How
   pub inner : ℕ
   pub undecided : ℕ
   pub nested : IsNested m f initial asked band how inner undecided
-  pub written : text ≡ inside_text inner undecided ++ report (map (line_over false f.bound how band.lower band.upper) initial)
+  pub written : text ≡ inside_text inner undecided
+      ++ report (map (line_over false f.bound how band.lower band.upper) initial)
   pub lines : All IsLine (map (line_over false f.bound how band.lower band.upper) initial)
   pub counts : (inner < 2 ^ 32) × (undecided < 2 ^ 32)
   pub ends : status ≡ status_of (map (verdict_over false f.bound band.lower band.upper) initial)

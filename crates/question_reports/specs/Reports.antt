@@ -1,19 +1,17 @@
 -- The answer to a question: a report of its initial states, and its certificate where that is asked for.
-use Rattle.std.specs.Prelude.{◌≡◌, ℕ, ◌-◌, ◌*◌, ◌^◌, ◌<◌, ◌≤◌, Bool, true, false, List, length, map, slice_index, Option, All}
+use Rattle.std.specs.Prelude.{◌≡◌, ℕ, ◌≤◌, Bool, true, false, List, length, slice_index, Option, All}
 use Rattle.game_model.specs.Limits.{unit}
-use Rattle.game_model.specs.Query.{Query, states}
-use Rattle.game_model.specs.Values.{denominator, numerator}
-use Rattle.game_model.specs.Rounded.{down_steps, IsBelow, IsInductive}
-use Rattle.game_model.specs.Bounds.{IsNear, IsHigh}
-use Rattle.game_model.specs.Dual.{IsZeroSet, open_numerator, swapped}
+use Rattle.game_model.specs.Query.{Query, IsQuery, states}
+use Rattle.game_model.specs.Rounded.{IsBelow, IsInductive}
+use Rattle.game_model.specs.Bounds.{IsHigh}
+use Rattle.game_model.specs.Dual.{IsZeroSet}
 use Rattle.inductive_check.specs.Replies.{AreReplies, HoldsUnder}
 use Rattle.rpatl_syntax.specs.declared.formula.Bound.{Bound}
 use Rattle.rpatl_syntax.specs.Formula.{Tree}
 use Rattle.plan_text.specs.declared.plan.Plan.{Plan}
 use Rattle.plan_text.specs.Entries.{HasStates}
-use Rattle.certificate_audit.specs.Accepted.{Passes, IsSoundPlan}
-use Rattle.verdicts.specs.Truth.{VerdictIsRight}
-use Rattle.verdicts.specs.Open.{LeavesOpen}
+use Rattle.certificate_audit.specs.Accepted.{Passes}
+use Rattle.verdicts.specs.Open.{IsLeftOpen}
 use Rattle.verdicts.specs.declared.report.How.TheVariants.{Rounds}
 use Rattle.verdicts.specs.declared.verdict.Verdict.TheVariants.{Undecided}
 use Rattle.bracket_engine.specs.declared.bounds.Bracket.{Bracket}
@@ -22,8 +20,9 @@ use Rattle.trap_sets.specs.Lowered.{IsLoweredTable}
 use Rattle.rpatl_syntax.specs.Dual.{answered}
 use Rattle.command_words.specs.Words.{Check}
 use Rattle.run_answers.specs.Outputs.{output_text, IsInLimits}
-use Rattle.run_answers.specs.Printed.{verdict_for, output_of, status_of}
+use Rattle.run_answers.specs.Printed.{verdict_for, output_of}
 use Rattle.run_answers.specs.declared.status.Status.{Status}
+use Rattle.question_reports.specs.Valued.{IsTold}
 
 -- 1. What is printed of what was found.
 
@@ -51,17 +50,13 @@ pub record IsShown (q : Query) (traps : Bool) (found : Bracket) (plan : Plan) : 
   pub upper : IsUpperShown q traps found.replies.items found.upper.items plan.upper.items
   pub below : IsBelow q (slice_index plan.upper.items) (slice_index found.upper.items)
 
--- the threshold is left open at a state by the bounds of the plan, by the down steps of as many rounds as were asked for, and by the values of as many steps, with a unit for each round
-pub record IsLeftOpen (q : Query) (zero : List Bool) (bound : Bound) (asked : ℕ) (plan : Plan) (s : ℕ) : Type 0 where
-  pub printed : LeavesOpen bound (slice_index plan.lower.items s) (slice_index plan.upper.items s) 1 0
-  pub swept : LeavesOpen bound (down_steps q asked s) (unit - down_steps (swapped q zero) asked s) 1 0
-  pub near : LeavesOpen bound (unit * numerator q asked s) (unit * open_numerator q zero asked s) (denominator q.game ^ asked) asked
-
 -- 2. The answer.
 
--- the text and the status are the answer to a question: they are those of a bracket after at most the asked rounds. Of `G` the question is that of its dual, and the bounds are mirrored when they are printed.
-pub record IsBracketReport (q : Query) (initial : List ℕ) (f : Tree) (check : Check) (text : List ℕ) (status : Status) : Type 0 where
-  pub inside : All (λ s. s < states q) initial
+-- the text and the status are the answer to a question: they are those of a bracket after at most the asked rounds. Of
+-- `G` the question is that of its dual, and the bounds are mirrored when they are printed.
+pub record IsBracketReport (q : Query) (initial : List ℕ) (f : Tree) (check : Check) (text : List ℕ)
+    (status : Status) : Type 0 where
+  pub posed : IsQuery q
   pub zero : List Bool
   pub is_zero : IsZeroSet q zero
   pub found : Bracket
@@ -69,17 +64,12 @@ pub record IsBracketReport (q : Query) (initial : List ℕ) (f : Tree) (check : 
   pub plan : Plan
   pub shown : IsShown q check.traps found plan
   pub lists : HasStates plan (states q)
-  -- each lower bound of the plan, less any 1/m, is at most some k-step value
-  pub near : IsNear q (slice_index plan.lower.items)
-  -- each upper bound of the plan is at least every k-step value; `sound` says so too
-  pub high : IsHigh q (slice_index plan.upper.items)
-  -- the minimiser's choices hold every opponent to the upper bounds, and the maximiser's reach the lower ones, less any 1/m
-  pub sound : IsSoundPlan q plan
+  pub told : IsTold q initial f plan status
   pub passes : Passes q plan
   pub written : text ≡ output_text (output_of check.plan f (Rounds found.rounds) initial plan)
   pub limits : IsInLimits (output_of check.plan f (Rounds found.rounds) initial plan)
-  pub ends : status ≡ status_of (map (verdict_for f plan.lower.items plan.upper.items) initial)
-  -- True is true and False is false
-  pub right : All (λ s. VerdictIsRight q (answered f).bound s (verdict_for f plan.lower.items plan.upper.items s)) initial
-  -- Undecided is said only where no bracket that the asked rounds promise settles the threshold; of `G` that of the dual
-  pub left_open : All (λ s. verdict_for f plan.lower.items plan.upper.items s ≡ Undecided → IsLeftOpen q zero (answered f).bound check.rounds plan s) initial
+  -- Undecided is said only where no bracket that the asked rounds promise settles the threshold; of `G` that of the
+  -- dual
+  pub left_open : All (λ s. verdict_for f plan.lower.items plan.upper.items s ≡ Undecided
+      → IsLeftOpen q zero (answered f).bound check.rounds (slice_index plan.lower.items)
+      (slice_index plan.upper.items) s) initial

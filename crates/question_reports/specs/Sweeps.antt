@@ -2,9 +2,12 @@
 use Rattle.std.specs.Prelude.{◌≡◌, ◌<◌, ◌≤◌, ◌==◌, ◌*◌, ◌^◌, ℕ, Bool, false, List, length, map, slice_index, All}
 use Rattle.game_model.specs.Limits.{unit}
 use Rattle.game_model.specs.Query.{Query, states}
-use Rattle.game_model.specs.Values.{denominator}
+use Rattle.game_model.specs.Values.{denominator, numerator}
+use Rattle.game_model.specs.Rounded.{opening}
+use Rattle.strategies.specs.Strategies.{AreBest}
+use Rattle.strategies.specs.Next.{AreBestNext}
 use Rattle.rpatl_syntax.specs.Formula.{Tree}
-use Rattle.bounded_rounds.specs.Exact.{IsBracketed, IsNext}
+use Rattle.bounded_rounds.specs.Exact.{IsBracketed, IsNext, next_numerator}
 use Rattle.bounded_rounds.specs.Steps.{IsSweep}
 use Rattle.verdicts.specs.Exact.{IsRight}
 use Rattle.verdicts.specs.Report.{IsLine, report}
@@ -12,19 +15,30 @@ use Rattle.verdicts.specs.declared.report.How.TheVariants.{Steps}
 use Rattle.run_answers.specs.Printed.{line_over, verdict_over, status_of}
 use Rattle.run_answers.specs.declared.status.Status.{Status}
 
--- The text and the status are the answer on values of so many steps from an opening table: these numerators over that power of the denominator. The bounds are the rounded steps of the table.
-pub record IsSweepReport (q : Query) (opening : ℕ → ℕ) (steps : ℕ) (numerators : ℕ → ℕ) (initial : List ℕ) (f : Tree) (text : List ℕ) (status : Status) : Type 0 where
+-- The text and the status are the answer on values of so many steps from an opening table: these numerators over that
+-- power of the denominator. The bounds are the rounded steps of the table.
+pub record IsSweepReport (q : Query) (opening : ℕ → ℕ) (steps : ℕ) (numerators : ℕ → ℕ) (initial : List ℕ) (f : Tree)
+    (text : List ℕ) (status : Status) : Type 0 where
   pub inside : All (λ s. s < states q) initial
   pub lower : List ℕ
   pub upper : List ℕ
   pub sweep : IsSweep q opening steps lower upper
   -- the value lies between the bounds, and at most as many units as steps from each
-  pub bracketed : All (λ s. IsBracketed steps (denominator q.game ^ steps) (slice_index lower s) (slice_index upper s) (unit * numerators s)) initial
+  pub bracketed : All (λ s. IsBracketed steps (denominator q.game ^ steps) (slice_index lower s) (slice_index upper s)
+      (unit * numerators s)) initial
   pub written : text ≡ report (map (line_over false f.bound (Steps steps) lower upper) initial)
   pub lines : All IsLine (map (line_over false f.bound (Steps steps) lower upper) initial)
   pub ends : status ≡ status_of (map (verdict_over false f.bound lower upper) initial)
   -- True is true and False is false
-  pub right : All (λ s. IsRight f.bound (numerators s) (denominator q.game ^ steps) (verdict_over false f.bound lower upper s)) initial
+  pub right : All (λ s. IsRight f.bound (numerators s) (denominator q.game ^ steps)
+      (verdict_over false f.bound lower upper s)) initial
+
+-- of `F<=k` and `U<=k`: the values within so many steps, which are what both sides can be sure of by strategies with
+-- memory and dice
+pub record IsWithinReport (q : Query) (steps : ℕ) (initial : List ℕ) (f : Tree) (text : List ℕ)
+    (status : Status) : Type 0 where
+  pub report : IsSweepReport q (opening q) steps (numerator q steps) initial f text status
+  pub best : AreBest q steps
 
 -- the states to which an opening table gives the unit
 abbrev pub opens : List ℕ → ℕ → Bool
@@ -35,3 +49,9 @@ pub record IsOpening (q : Query) (opening : List ℕ) : Type 0 where
   pub many : length opening ≡ states q
   pub units : All (λ v. v ≤ unit) opening
   pub next : IsNext q (slice_index opening) (opens opening)
+
+-- of `X`: the probabilities of the next state, which are what both sides can be sure of
+pub record IsNextReport (q : Query) (table : List ℕ) (initial : List ℕ) (f : Tree) (text : List ℕ)
+    (status : Status) : Type 0 where
+  pub report : IsSweepReport q (slice_index table) 1 (next_numerator q (opens table)) initial f text status
+  pub best : AreBestNext q (opens table) (next_numerator q (opens table))

@@ -16,13 +16,10 @@ use rpatl_syntax::Formula;
 use run_answers::{Answer, is_mirrored, report_of};
 use std::alloc::Global;
 use verdicts::How;
-use verdicts::laws::{
-    mirrored_verdicts_are_those_of_the_dual, planned_values_are_reached,
-    undecided_thresholds_are_left_open, verdicts_are_true,
-};
+use verdicts::laws::{mirrored_verdicts_are_those_of_the_dual, undecided_thresholds_are_left_open};
 
-/// One line for each initial state, with the numbers of a certificate that was accepted, and what they say of a formula.
-/// The only error is want of memory.
+/// One line for each initial state, with the numbers of a certificate that was accepted, and what they say of a
+/// formula. The only error is want of memory.
 pub fn audit_report(
     alloc: Global,
     question: &Question,
@@ -35,13 +32,12 @@ pub fn audit_report(
     requires lists { HasStates plan.now (states question.now) }
     requires passes { Passes question.now plan.now }
     requires sound { IsSoundPlan question.now plan.now }
-    ensures audited { IfOk result (λ answer. IsAudited question.now initial.now (tree_of formula.now) plan.now answer.text.items answer.status) }
+    ensures audited { IfOk result (λ answer. IsAudited question.now initial.now
+        (tree_of formula.now) plan.now answer.text.items answer.status) }
     ensures answer { IfOk result (λ answer. IsAnswer answer.status) }
 {
-    // What a question keeps, and four laws: these calls do nothing.
+    // What a question keeps, and two laws: these calls do nothing.
     question.known();
-    planned_values_are_reached();
-    verdicts_are_true();
     undecided_thresholds_are_left_open();
     mirrored_verdicts_are_those_of_the_dual();
     report_of(

@@ -1,17 +1,20 @@
 //! What is reported of a question that is posed.
 //!
 //! [`bracket_report`] answers from a bracket, with its certificate where that is asked for; [`within_report`] and
-//! [`next_report`] from exactly so many steps; [`nested_report`] answers a formula with others inside; and [`audit_report`]
-//! a question from a certificate that was accepted, whoever made it.
+//! [`next_report`] from exactly so many steps; [`nested_report`] answers a formula with others inside; [`audit_report`]
+//! a question from a certificate that was accepted, whoever made it; and [`solved_report`] from a plan that tables of a
+//! solver led to.
 #![tactic(auto)]
 
 mod audits;
 pub mod laws;
 mod nested;
 mod reports;
+mod solved;
 mod sweeps;
 
 pub use audits::audit_report;
 pub use nested::nested_report;
 pub use reports::bracket_report;
+pub use solved::solved_report;
 pub use sweeps::{next_report, within_report};

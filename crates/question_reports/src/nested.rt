@@ -20,8 +20,8 @@ use std::alloc::{AllocError, Global};
 use std::thread::Threads;
 use verdicts::How;
 
-/// A line that says how many formulas stand inside and how many pairs of one and a state are left undecided, and a line for
-/// each of these initial states. The only error is want of memory.
+/// A line that says how many formulas stand inside and how many pairs of one and a state are left undecided, and a line
+/// for each of these initial states. The only error is want of memory.
 pub fn nested_report<R: Threads + Sync, G: Gate + Sync>(
     rt: &R,
     alloc: Global,
@@ -32,7 +32,9 @@ pub fn nested_report<R: Threads + Sync, G: Gate + Sync>(
 ) -> Result<Answer, OutOfMemory>
     requires in_range { AreInRange (check_of check.now) }
     requires answerable { IsAnswerable loaded.now initial.now }
-    ensures report { IfOk result (λ answer. IsNestedReport (record { game = loaded.now.game; labels = loaded.now.labels; owners = loaded.now.owners }) initial.now (tree_of loaded.now.formula) (check_of check.now).rounds answer.text.items answer.status) }
+    ensures report { IfOk result (λ answer. IsNestedReport (record
+        { game = loaded.now.game; labels = loaded.now.labels; owners = loaded.now.owners }) initial.now
+        (tree_of loaded.now.formula) (check_of check.now).rounds answer.text.items answer.status) }
     ensures answer { IfOk result (λ answer. IsAnswer answer.status) }
 {
     let Ok(found) = nested(
@@ -67,8 +69,12 @@ fn written(alloc: Global, loaded: &Loaded, found: &Nested) -> Result<Answer, Out
     requires as_many { length found.now.upper.items ≡ length found.now.lower.items }
     requires lower { All (λ v. v ≤ unit) found.now.lower.items }
     requires upper { All (λ v. v ≤ unit) found.now.upper.items }
-    ensures text { IfOk result (λ answer. answer.text.items ≡ inside_text found.now.inner found.now.undecided ++ report (map (line_over false loaded.now.formula.bound found.now.how found.now.lower.items found.now.upper.items) found.now.initial.items)) }
-    ensures status { IfOk result (λ answer. answer.status ≡ status_of (map (verdict_over false loaded.now.formula.bound found.now.lower.items found.now.upper.items) found.now.initial.items)) }
+    ensures text { IfOk result (λ answer. answer.text.items ≡ inside_text found.now.inner found.now.undecided
+        ++ report (map (line_over false loaded.now.formula.bound found.now.how found.now.lower.items
+        found.now.upper.items) found.now.initial.items)) }
+    ensures status { IfOk result (λ answer. answer.status ≡ status_of
+        (map (verdict_over false loaded.now.formula.bound found.now.lower.items found.now.upper.items)
+        found.now.initial.items)) }
     ensures answer { IfOk result (λ answer. IsAnswer answer.status) }
 {
     let line = inside_line(alloc, found.inner, found.undecided)?;

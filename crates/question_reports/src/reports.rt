@@ -27,21 +27,19 @@ use std::alloc::Global;
 use std::thread::Threads;
 use trap_sets::lower_traps_over;
 use verdicts::How;
-use verdicts::laws::{
-    mirrored_verdicts_are_those_of_the_dual, planned_values_are_reached,
-    undecided_thresholds_are_left_open, verdicts_are_true,
-};
+use verdicts::laws::{mirrored_verdicts_are_those_of_the_dual, undecided_thresholds_are_left_open};
 
 // A formula as the words spell it, and the one whose question is answered: of `G` the dual, else the same.
 #[derive(Clone, Copy)]
-struct Formulas<'a> {
-    spelled: &'a Formula,
-    answered: &'a Formula,
+pub struct Formulas<'a> {
+    pub spelled: &'a Formula,
+    pub answered: &'a Formula,
 }
 
-/// One line for each initial state, with the bounds after at most the asked rounds and what they say of the formula's bound;
-/// the upper ones lowered to the best exits of traps, where that is asked for; and behind them the certificate, where it is
-/// asked for. The question is that of the answered formula: of `G` the dual, else the same. The only error is want of memory.
+/// One line for each initial state, with the bounds after at most the asked rounds and what they say of the formula's
+/// bound; the upper ones lowered to the best exits of traps, where that is asked for; and behind them the certificate,
+/// where it is asked for. The question is that of the answered formula: of `G` the dual, else the same. The only error
+/// is want of memory.
 pub fn bracket_report<R: Threads + Sync, G: Gate + Sync>(
     rt: &R,
     alloc: Global,
@@ -55,7 +53,8 @@ pub fn bracket_report<R: Threads + Sync, G: Gate + Sync>(
     requires in_range { AreInRange (check_of check.now) }
     requires same { tree_of answered.now ≡ answered_of (tree_of spelled.now) }
     requires share { IsAtMostOne spelled.now.bound }
-    ensures report { IfOk result (λ answer. IsBracketReport posed.now.question posed.now.initial.items (tree_of spelled.now) (check_of check.now) answer.text.items answer.status) }
+    ensures report { IfOk result (λ answer. IsBracketReport posed.now.question posed.now.initial.items
+        (tree_of spelled.now) (check_of check.now) answer.text.items answer.status) }
     ensures answer { IfOk result (λ answer. IsAnswer answer.status) }
 {
     let question = &posed.question;
@@ -72,10 +71,8 @@ pub fn bracket_report<R: Threads + Sync, G: Gate + Sync>(
         check.workers,
         gate,
     )?;
-    // What a question keeps, and four laws: these calls do nothing.
+    // What a question keeps, and two laws: these calls do nothing.
     question.known();
-    planned_values_are_reached();
-    verdicts_are_true();
     undecided_thresholds_are_left_open();
     mirrored_verdicts_are_those_of_the_dual();
     let found = bracketed.bracket;
@@ -85,8 +82,8 @@ pub fn bracket_report<R: Threads + Sync, G: Gate + Sync>(
     make_answer(alloc, &plan, how, formulas, initial, check.plan)
 }
 
-// What is printed of a bracket: its tables with the strategies, and the upper one lowered to the best exits of traps, where
-// that is asked for.
+// What is printed of a bracket: its tables with the strategies, and the upper one lowered to the best exits of traps,
+// where that is asked for.
 fn shown(
     alloc: Global,
     question: &Question,
@@ -138,8 +135,8 @@ fn shown_upper(
     }
 }
 
-// The lines and the status of a plan, and its certificate where it is asked for.
-fn make_answer(
+/// The lines and the status of a plan, and its certificate where it is asked for.
+pub fn make_answer(
     alloc: Global,
     plan: &Plan,
     how: How,
@@ -154,9 +151,12 @@ fn make_answer(
     requires lower { All (λ v. v ≤ unit) plan.now.lower.items }
     requires upper { All (λ v. v ≤ unit) plan.now.upper.items }
     ensures ranks { All (λ r. r ≤ greatest_rank) plan.now.ranks.items }
-    ensures text { IfOk result (λ answer. answer.text.items ≡ output_text (output_of asked (tree_of formulas.entry.spelled.now) how initial.now plan.now)) }
+    ensures text { IfOk result (λ answer. answer.text.items ≡ output_text
+        (output_of asked (tree_of formulas.entry.spelled.now) how initial.now plan.now)) }
     ensures answer { IfOk result (λ answer. IsAnswer answer.status) }
-    ensures status { IfOk result (λ answer. answer.status ≡ status_of (map (verdict_for (tree_of formulas.entry.spelled.now) plan.now.lower.items plan.now.upper.items) initial.now)) }
+    ensures status { IfOk result (λ answer. answer.status ≡ status_of
+        (map (verdict_for (tree_of formulas.entry.spelled.now) plan.now.lower.items plan.now.upper.items)
+        initial.now)) }
 {
     known_ranks(&plan.ranks);
     let mut answer = report_of(
@@ -190,7 +190,8 @@ fn append_certificate(
     requires some { 1 ≤ length plan.now.lower.items }
     requires lower { All (λ v. v ≤ unit) plan.now.lower.items }
     requires upper { All (λ v. v ≤ unit) plan.now.upper.items }
-    ensures { OnOk result (text.new.items ≡ text.old.items ++ certificate_part (certificate_of asked (tree_of formulas.entry.spelled.now) plan.now)) }
+    ensures { OnOk result (text.new.items ≡ text.old.items ++ certificate_part
+        (certificate_of asked (tree_of formulas.entry.spelled.now) plan.now)) }
 {
     if !asked {
         return Ok(());

@@ -3,14 +3,12 @@
 ghost use Rattle.std.specs.Prelude.{◌≡◌, ◌*◌, ◌<◌, ◌≤◌, ℕ, All, IfOk, false, length, slice_index};
 ghost use Rattle.game_model.specs.Limits.{unit};
 ghost use Rattle.game_model.specs.Query.{states};
-ghost use Rattle.game_model.specs.Rounded.{opening};
-ghost use Rattle.game_model.specs.Values.{numerator};
 ghost use Rattle.rpatl_syntax.specs.Formula.{tree_of};
-ghost use Rattle.bounded_rounds.specs.Exact.{exact_from, next_numerator};
+ghost use Rattle.bounded_rounds.specs.Exact.{exact_from};
 ghost use Rattle.bounded_rounds.specs.Limits.{most_steps, most_workers};
 ghost use Rattle.bounded_rounds.specs.Steps.{IsSweep};
 ghost use Rattle.run_answers.specs.Status.{IsAnswer};
-ghost use Rattle.question_reports.specs.Sweeps.{IsOpening, IsSweepReport, opens};
+ghost use Rattle.question_reports.specs.Sweeps.{IsNextReport, IsOpening, IsSweepReport, IsWithinReport};
 
 use bounded_rounds::laws::{
     exact_values_are_k_step_values, one_step_is_the_next_value, rounded_steps_bracket_exact_values,
@@ -39,7 +37,8 @@ pub fn within_report<R: Threads + Sync, G: Gate + Sync>(
     requires inside { All (λ s. s < states posed.now.question) posed.now.initial.items }
     requires steps { steps ≤ most_steps }
     requires workers { (1 ≤ workers) × (workers ≤ most_workers) }
-    ensures report { IfOk result (λ answer. IsSweepReport posed.now.question (opening posed.now.question) steps (numerator posed.now.question steps) posed.now.initial.items (tree_of formula.now) answer.text.items answer.status) }
+    ensures report { IfOk result (λ answer. IsWithinReport posed.now.question steps posed.now.initial.items
+        (tree_of formula.now) answer.text.items answer.status) }
     ensures answer { IfOk result (λ answer. IsAnswer answer.status) }
 {
     // What a question keeps, and a law: these calls do nothing.
@@ -56,8 +55,8 @@ pub fn within_report<R: Threads + Sync, G: Gate + Sync>(
     )
 }
 
-/// The report on `X`: the probabilities that the next state is one of those of an opening table. The only error is want of
-/// memory.
+/// The report on `X`: the probabilities that the next state is one of those of an opening table. The only error is want
+/// of memory.
 pub fn next_report<R: Threads + Sync, G: Gate + Sync>(
     rt: &R,
     alloc: Global,
@@ -69,7 +68,8 @@ pub fn next_report<R: Threads + Sync, G: Gate + Sync>(
     requires inside { All (λ s. s < states posed.now.question) posed.now.initial.items }
     requires opening { IsOpening posed.now.question posed.now.opening.items }
     requires workers { (1 ≤ workers) × (workers ≤ most_workers) }
-    ensures report { IfOk result (λ answer. IsSweepReport posed.now.question (slice_index posed.now.opening.items) 1 (next_numerator posed.now.question (opens posed.now.opening.items)) posed.now.initial.items (tree_of formula.now) answer.text.items answer.status) }
+    ensures report { IfOk result (λ answer. IsNextReport posed.now.question posed.now.opening.items
+        posed.now.initial.items (tree_of formula.now) answer.text.items answer.status) }
     ensures answer { IfOk result (λ answer. IsAnswer answer.status) }
 {
     // What a question keeps, and a law: these calls do nothing.
@@ -91,11 +91,14 @@ fn sweep_report(
 ) -> Result<Answer, OutOfMemory>
     requires steps { steps ≤ most_steps }
     requires inside { All (λ s. s < states question.now) initial.now }
-    requires many { (length sweep.now.lower.items ≡ states question.now) × (length sweep.now.upper.items ≡ states question.now) }
+    requires many { (length sweep.now.lower.items ≡ states question.now)
+        × (length sweep.now.upper.items ≡ states question.now) }
     requires units { All (λ v. v ≤ unit) sweep.now.lower.items × All (λ v. v ≤ unit) sweep.now.upper.items }
-    ensures report { IfOk result (λ answer. (table numerators : ℕ → ℕ) → IsSweep question.now table steps sweep.now.lower.items sweep.now.upper.items
+    ensures report { IfOk result (λ answer. (table numerators : ℕ → ℕ)
+        → IsSweep question.now table steps sweep.now.lower.items sweep.now.upper.items
         → ((s : ℕ) → s < states question.now → exact_from question.now table steps s ≡ unit * numerators s)
-        → IsSweepReport question.now table steps numerators initial.now (tree_of formula.now) answer.text.items answer.status) }
+        → IsSweepReport question.now table steps numerators initial.now
+        (tree_of formula.now) answer.text.items answer.status) }
     ensures answer { IfOk result (λ answer. IsAnswer answer.status) }
 {
     // What a question keeps, and two laws: these calls do nothing.

@@ -1,9 +1,10 @@
 //! Almost-sure sets compared with a search over all memoryless strategies.
 //!
-//! Both sides have optimal strategies that take one choice at each state (Condon, The complexity of stochastic games, 1992). So a
-//! state is almost sure exactly where some such strategy of the maximiser reaches a goal with probability 1 against each of the
-//! minimiser. With both strategies fixed the game is a Markov chain, in which a goal is reached with probability 1 exactly where
-//! from each state that is reached some goal can be reached (Baier and Katoen 2008, section 10.1.2).
+//! Both sides have optimal strategies that take one choice at each state (Condon, The complexity of stochastic games,
+//! 1992). So a state is almost sure exactly where some such strategy of the maximiser reaches a goal with probability 1
+//! against each of the minimiser. With both strategies fixed the game is a Markov chain, in which a goal is reached
+//! with probability 1 exactly where from each state that is reached some goal can be reached (Baier and Katoen 2008,
+//! section 10.1.2).
 
 ghost use Rattle.std.specs.Prelude.{◌<◌};
 ghost use Rattle.game_model.specs.Query.{states};

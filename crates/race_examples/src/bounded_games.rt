@@ -25,8 +25,8 @@ const FEW_TOSSES: Shape = Shape {
     most_tosses: 4,
 };
 
-// Whether the bounds of a value lie around it, each at most so many units from it; none where a product does not fit. The
-// value is a numerator over the numerator of 1.
+// Whether the bounds of a value lie around it, each at most so many units from it; none where a product does not fit.
+// The value is a numerator over the numerator of 1.
 fn are_around(lower: u64, upper: u64, numerator: u128, one: u128, steps: u32) -> Option<bool> {
     let low = u128::from(lower).checked_mul(one)?;
     let high = u128::from(upper).checked_mul(one)?;

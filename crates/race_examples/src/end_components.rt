@@ -72,8 +72,8 @@ fn moves_in(
     Some(moves)
 }
 
-// Whether a set is an end component: it has states, none of them goal or dead, each with a choice that stays, and each is
-// reached from each other.
+// Whether a set is an end component: it has states, none of them goal or dead, each with a choice that stays, and each
+// is reached from each other.
 fn is_end_component(
     alloc: Global,
     question: &Question<'_>,

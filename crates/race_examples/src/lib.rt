@@ -1,5 +1,5 @@
-//! Tests of the crates below, beside their clauses, over random games and known ones: of worlds, workers, bounded values,
-//! almost-sure sets and traps.
+//! Tests of the crates below, beside their clauses, over random games and known ones: of worlds, workers, bounded
+//! values, almost-sure sets and traps.
 #![tactic(auto)]
 
 #[cfg(test)]

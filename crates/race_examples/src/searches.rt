@@ -44,8 +44,8 @@ fn spread(successors: &[Vec<u32>], marks: &mut [bool]) {
     }
 }
 
-/// The states that are reached from a state by its successors and theirs, with that state: in no more steps than there are
-/// states.
+/// The states that are reached from a state by its successors and theirs, with that state: in no more steps than there
+/// are states.
 pub fn reached(alloc: Global, successors: &[Vec<u32>], from: u32) -> Option<Vec<bool>> {
     let mut marks = vec![in alloc; false; successors.len()].ok()?;
     mark(&mut marks, &[from]);

@@ -194,7 +194,8 @@ fn has_the_lowered_table(
     is_lowered(alloc, question, upper, &sets, &found, count)
 }
 
-// The same over the table of units after so many up steps. These leave an end component as it was, however low its exits are.
+// The same over the table of units after so many up steps. These leave an end component as it was, however low its
+// exits are.
 fn has_the_lowered_units(
     alloc: Global,
     question: &Question<'_>,

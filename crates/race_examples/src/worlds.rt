@@ -41,7 +41,8 @@ fn takes_an_exchange(world: &mut World<'_>) -> Result<(), Fail>
     same("split", world.apply(Event::Split { view: 0 }), Ok(()))
 }
 
-// The second view loses no exchange of the word that it has seen, and wins one; the first loses one, and takes the second in.
+// The second view loses no exchange of the word that it has seen, and wins one; the first loses one, and takes the
+// second in.
 fn takes_a_race(world: &mut World<'_>) -> Result<(), Fail> {
     let quarter = pack(UNIT / 4, 0);
     let higher = pack(UNIT / 8 * 3, 0);

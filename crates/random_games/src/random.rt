@@ -6,8 +6,8 @@ use game_model::{Game, Question, Side};
 use sample_games::{Draft, merged, question};
 use std::alloc::Global;
 
-/// Numbers that are drawn one after another (a linear congruential generator: Knuth, The Art of Computer Programming, volume 2,
-/// section 3.2.1).
+/// Numbers that are drawn one after another (a linear congruential generator: Knuth, The Art of Computer Programming,
+/// volume 2, section 3.2.1).
 #[derive(Drop)]
 pub struct Draw {
     state: u64,

@@ -15,22 +15,9 @@ use Rattle.game_model.specs.Query.{Query, IsQuery, is_goal, is_dead, side_at}
 use Rattle.game_model.specs.Plans.{planned, planned_place, same_side}
 use Rattle.game_model.specs.Ranks.{IsRankedChoice, HasRankedChoice, Ranked, ReachesUnder}
 use Rattle.game_model.proofs.Choices.{AreChoicesOf-planned, denominator-pos}
-use Rattle.rank_certificate.proofs.Horizon.{certified-reached}
-
--- one element that satisfies it, as a list
-one-at : {X : Type 0} (P : X → Type 0) (xs : List X) (i : ℕ) (d : X) → i < length xs → P (get_or xs i d) → AllByRecursion P (take 1 (drop i xs))
-one-at P [] i d l h = absurd (omega arith)
-one-at P (x ∷ xs) zero d l h = (h, tt)
-one-at P (x ∷ xs) (suc i) d l h = one-at P xs i d (omega arith) h
-
-planned_place-given : (plan : List (Option ℕ)) (s count c : ℕ) → slice_index_or plan s None ≡ Some c → c < count → planned_place plan s count ≡ c
-planned_place-given plan s count c given inside = rw given (grind (arith, nat_tests))
-
-rank-most : (ranks : List ℕ) (s : ℕ) → slice_index ranks s ≤ sum ranks
-rank-most ranks s = elim (cases_lt s (length ranks)) [
-  | inl inside ↦ get_or-le-sum_by (λ (x : ℕ). x) ranks s 0 inside
-  | inr past ↦ rw (get_or_past ranks s 0 past) (omega arith)
-]
+use Rattle.game_model.specs.Limits.{unit}
+use Rattle.game_laws.proofs.Planned.{one-at, planned_place-given, rank-most}
+use Rattle.game_laws.proofs.Horizon.{certified-reached}
 
 -- each choice that is left under the plan is ranked
 planned-ranked : (q : Query) (values : List ℕ) (plan : List (Option ℕ)) (ranks : List ℕ) → Ranked q values plan ranks → (s : ℕ) → s < length q.game → is_goal q s ≡ false → is_dead q s ≡ false → 0 < slice_index values s
@@ -51,7 +38,7 @@ planned-ranked q values plan ranks h s inside no_goal alive some Min min =
 
 -- ranked values are reached under the plan
 pub Ranked-reached : (q : Query) (values : List ℕ) (plan : List (Option ℕ)) (ranks : List ℕ) → IsQuery q → Ranked q values plan ranks → ReachesUnder q plan (slice_index values)
-Ranked-reached q values plan ranks posed h = λ m some. certified-reached q (planned q Max plan) (slice_index values) (slice_index ranks) (sum ranks) (record {
+Ranked-reached q values plan ranks posed h = λ m some. certified-reached unit q (planned q Max plan) (slice_index values) (slice_index ranks) (sum ranks) (record {
   chosen = AreChoicesOf-planned q Max plan posed.game;
   positive = denominator-pos q.game posed.game;
   units = h.units;

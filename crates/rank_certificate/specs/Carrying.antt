@@ -1,4 +1,5 @@
--- Ranks and choices that make values ranked, where no choices are given: the least ranks, and at each state of the maximiser the first choice for its rank.
+-- Ranks and choices that make values ranked, where no choices are given: the least ranks, and at each state of the
+-- maximiser the first choice for its rank.
 use Rattle.std.specs.Prelude.{◌≡◌, ℕ, zero, suc, ◌<◌, ◌≤◌, ◌⊎◌, true, List, length, slice_index, slice_index_or, Option, None, IsSomeAnd}
 use Rattle.game_model.specs.declared.game.Side.{Side}
 use Rattle.game_model.specs.declared.game.Side.TheVariants.{Max, Min}
@@ -21,8 +22,10 @@ pub record Carries (value : ℕ → ℕ) (among : ℕ → Type 0) (s : ℕ) (cho
 
 -- some choice of the maximiser does, or every choice of the minimiser
 abbrev pub IsCarriedBy : Side → Query → (ℕ → ℕ) → (ℕ → Type 0) → ℕ → Type 0
-IsCarriedBy Max q value among s = (c : ℕ) × (c < length (choices_of q.game s)) × Carries value among s (choice_of q.game s c)
-IsCarriedBy Min q value among s = (c : ℕ) → c < length (choices_of q.game s) → Carries value among s (choice_of q.game s c)
+IsCarriedBy Max q value among s = (c : ℕ) × (c < length (choices_of q.game s))
+    × Carries value among s (choice_of q.game s c)
+IsCarriedBy Min q value among s = (c : ℕ) → c < length (choices_of q.game s)
+    → Carries value among s (choice_of q.game s c)
 
 -- the states of rank r or less: first those that need none, then each that is carried into those of smaller rank
 unfoldable pub IsCarried : Query → (ℕ → ℕ) → ℕ → ℕ → Type 0
@@ -55,7 +58,8 @@ pub record IsLayeredPlan (q : Query) (values : List ℕ) (choices : List (Option
   pub many : length ranks ≡ states q
   pub as_many : length choices ≡ states q
   pub each : (s : ℕ) → s < states q → IsCarriedAt q (slice_index values) s (slice_index ranks s)
-  pub chosen : (s : ℕ) → s < states q → IsChosenAt q (slice_index values) s (slice_index ranks s) (slice_index_or choices s None)
+  pub chosen : (s : ℕ) → s < states q → IsChosenAt q (slice_index values) s (slice_index ranks s)
+      (slice_index_or choices s None)
 
 -- no state refuses the values at sight: its entry is at most its down step, and that of a goal is the unit
 pub record Stands (q : Query) (value : ℕ → ℕ) (s : ℕ) : Type 0 where

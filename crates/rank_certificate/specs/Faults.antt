@@ -25,24 +25,30 @@ pub record IsNextToRank (q : Query) (value rank : ℕ → ℕ) (choices : List (
   pub needs : NeedsRank q value s
   pub inside : choice < length (choices_of q.game s)
   pub asked : HasToRank (side_at q s) (slice_index_or choices s None) choice
-  pub before : (c : ℕ) → c < choice → HasToRank (side_at q s) (slice_index_or choices s None) c → IsRankedChoice value rank s (choice_of q.game s c)
+  pub before : (c : ℕ) → c < choice → HasToRank (side_at q s) (slice_index_or choices s None) c
+      → IsRankedChoice value rank s (choice_of q.game s c)
 
--- what a choice lacks first: it falls short of the value, or gives it and leads to no greater value and to no equal one of smaller rank
+-- what a choice lacks first: it falls short of the value, or gives it and leads to no greater value and to no equal one
+-- of smaller rank
 abbrev pub IsLackOf : (ℕ → ℕ) → (ℕ → ℕ) → ℕ → Distribution → ℕ → RankCause → Type 0
 IsLackOf value rank s choice number Value = ⊥
 IsLackOf value rank s choice number Choice = ⊥
 IsLackOf value rank s choice number (Short c) = (c ≡ number) × IsShort value s choice
-IsLackOf value rank s choice number (NoStep c) = (c ≡ number) × IsEnough value s choice × ¬ LeadsOnward value rank s choice
+IsLackOf value rank s choice number (NoStep c) = (c ≡ number) × IsEnough value s choice
+    × ¬ LeadsOnward value rank s choice
 
 -- the first cause at a state
 abbrev pub IsCauseAt : Query → (ℕ → ℕ) → (ℕ → ℕ) → List (Option ℕ) → ℕ → RankCause → Type 0
 IsCauseAt q value rank choices s Value = IsMisvalued q value s
 IsCauseAt q value rank choices s Choice = NeedsRank q value s × (side_at q s ≡ Max) × ¬ HasChoice q choices s
-IsCauseAt q value rank choices s (Short c) = IsNextToRank q value rank choices s c × IsLackOf value rank s (choice_of q.game s c) c (Short c)
-IsCauseAt q value rank choices s (NoStep c) = IsNextToRank q value rank choices s c × IsLackOf value rank s (choice_of q.game s c) c (NoStep c)
+IsCauseAt q value rank choices s (Short c) =
+    IsNextToRank q value rank choices s c × IsLackOf value rank s (choice_of q.game s c) c (Short c)
+IsCauseAt q value rank choices s (NoStep c) =
+    IsNextToRank q value rank choices s c × IsLackOf value rank s (choice_of q.game s c) c (NoStep c)
 
 -- entries are at most the unit, and this is the first state where they do not go together, and why
-pub record IsFirstUnranked (q : Query) (values : List ℕ) (choices : List (Option ℕ)) (ranks : List ℕ) (s : ℕ) (cause : RankCause) : Type 0 where
+pub record IsFirstUnranked (q : Query) (values : List ℕ) (choices : List (Option ℕ)) (ranks : List ℕ) (s : ℕ)
+    (cause : RankCause) : Type 0 where
   pub units : All (λ v. v ≤ unit) values
   pub inside : s < states q
   pub caused : IsCauseAt q (slice_index values) (slice_index ranks) choices s cause

@@ -19,13 +19,16 @@ pub record LeadsInto (value : ℕ → ℕ) (among : ℕ → Type 0) (s : ℕ) (c
   pub place : ℕ
   pub inside : place < length choice.edges
   pub onward : (value s < value (slice_index_or choice.edges place no_edge).to)
-      ⊎ ((value (slice_index_or choice.edges place no_edge).to ≡ value s) × among (slice_index_or choice.edges place no_edge).to)
+      ⊎ ((value (slice_index_or choice.edges place no_edge).to ≡ value s)
+      × among (slice_index_or choice.edges place no_edge).to)
 
--- the states of rank r or less: first those that need none, then each whose choices that have to be ranked lead to a greater value, or to an equal one of smaller rank
+-- the states of rank r or less: first those that need none, then each whose choices that have to be ranked lead to a
+-- greater value, or to an equal one of smaller rank
 unfoldable pub IsWithin : Query → (ℕ → ℕ) → List (Option ℕ) → ℕ → ℕ → Type 0
 IsWithin q value choices zero s = ¬ NeedsRank q value s
 IsWithin q value choices (suc r) s =
-    ¬ NeedsRank q value s ⊎ ((c : ℕ) → IsAsked q choices s c → LeadsInto value (IsWithin q value choices r) s (choice_of q.game s c))
+    ¬ NeedsRank q value s ⊎ ((c : ℕ) → IsAsked q choices s c
+    → LeadsInto value (IsWithin q value choices r) s (choice_of q.game s c))
 
 -- the layer of a state: the least such r
 pub record IsLayer (q : Query) (value : ℕ → ℕ) (choices : List (Option ℕ)) (s r : ℕ) : Type 0 where

@@ -22,7 +22,8 @@ most_steps = 4
 
 -- the unit on goals, 0 on the zero set, and elsewhere the entry and the excess, at most the unit
 abbrev pub first_raised : Query → List Bool → (ℕ → ℕ) → ℕ → ℕ → ℕ
-first_raised q marks base e s = if is_goal q s then unit else (if slice_index_or marks s false then 0 else min unit (base s + e))
+first_raised q marks base e s = if is_goal q s then unit else
+    (if slice_index_or marks s false then 0 else min unit (base s + e))
 
 -- the lesser of a table and of its down step
 abbrev pub lesser_step : Query → (ℕ → ℕ) → ℕ → ℕ
@@ -57,12 +58,14 @@ pub record IsFirstGuess (q : Query) (marks : List Bool) (base : ℕ → ℕ) (ta
   pub earlier : (i : ℕ) → i < place → AreRefused q marks base (excess i)
 
 -- it is found, with the plan that makes it ranked
-pub record IsRaised (q : Query) (marks : List Bool) (base : List ℕ) (values : List ℕ) (choices : List (Option ℕ)) (ranks : List ℕ) : Type 0 where
+pub record IsRaised (q : Query) (marks : List Bool) (base : List ℕ) (values : List ℕ) (choices : List (Option ℕ))
+    (ranks : List ℕ) : Type 0 where
   pub first : IsFirstGuess q marks (slice_index base) values
   pub plan : IsLayeredPlan q values choices ranks
 
 -- there is none: the table is as it was, with the choices handed in and the layered ranks for them
-pub record IsUnraised (q : Query) (marks : List Bool) (base : List ℕ) (given : List (Option ℕ)) (values : List ℕ) (choices : List (Option ℕ)) (ranks : List ℕ) : Type 0 where
+pub record IsUnraised (q : Query) (marks : List Bool) (base : List ℕ) (given : List (Option ℕ)) (values : List ℕ)
+    (choices : List (Option ℕ)) (ranks : List ℕ) : Type 0 where
   pub refused : (place : ℕ) → place ≤ last_place → AreRefused q marks (slice_index base) (excess place)
   pub values_are : values ≡ base
   pub choices_are : choices ≡ given
@@ -70,4 +73,5 @@ pub record IsUnraised (q : Query) (marks : List Bool) (base : List ℕ) (given :
 
 -- the lower guess of a table
 abbrev pub IsLowerGuess : Query → List Bool → List ℕ → List (Option ℕ) → List ℕ → List (Option ℕ) → List ℕ → Type 0
-IsLowerGuess q marks base given values choices ranks = IsRaised q marks base values choices ranks ⊎ IsUnraised q marks base given values choices ranks
+IsLowerGuess q marks base given values choices ranks =
+    IsRaised q marks base values choices ranks ⊎ IsUnraised q marks base given values choices ranks

@@ -12,4 +12,5 @@ AreQuiet q marks table = (s : ℕ) → s < states q → slice_index_or marks s f
 
 -- each state with a move to one whose entry fell has a mark
 abbrev pub AreMarkedFor : List (List Distribution) → (ℕ → ℕ) → (ℕ → ℕ) → List Bool → Type 0
-AreMarkedFor game table next marks = (s c t : ℕ) → t < length game → next t < table t → LeadsTo game s c t → IsMarked marks s
+AreMarkedFor game table next marks = (s c t : ℕ) → t < length game → next t < table t → LeadsTo game s c t
+    → IsMarked marks s

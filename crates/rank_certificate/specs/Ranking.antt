@@ -39,4 +39,5 @@ pub record IsRankedAt (q : Query) (value rank : ℕ → ℕ) (choices : List (Op
   pub goal : is_goal q s ≡ true → value s ≡ unit
   pub dead : is_dead q s ≡ true → value s ≡ 0
   pub greatest : NeedsRank q value s → side_at q s ≡ Max → HasRankedChoice q value rank choices s
-  pub least : NeedsRank q value s → side_at q s ≡ Min → (c : ℕ) → c < length (choices_of q.game s) → IsRankedChoice value rank s (choice_of q.game s c)
+  pub least : NeedsRank q value s → side_at q s ≡ Min → (c : ℕ) → c < length (choices_of q.game s)
+      → IsRankedChoice value rank s (choice_of q.game s c)

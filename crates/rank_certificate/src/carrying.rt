@@ -26,7 +26,9 @@ pub fn first_carrying(
     requires ranks { length ranks.now ≡ states question.now }
     requires state { state < states question.now }
     ensures { MatchOption result
-        ((c : ℕ) → c < length (choices_of question.now.game state) → ¬ Carries (slice_index values.now) (HasRankWithin ranks.now level) state (choice_of question.now.game state c))
+        ((c : ℕ) → c < length (choices_of question.now.game state)
+        → ¬ Carries (slice_index values.now) (HasRankWithin ranks.now level) state
+        (choice_of question.now.game state c))
         (λ c. IsFirstCarrying question.now (slice_index values.now) (HasRankWithin ranks.now level) state c) }
 {
     question.known();
@@ -50,7 +52,9 @@ pub fn all_carry(
     requires units { All (λ v. v ≤ unit) values.now }
     requires ranks { length ranks.now ≡ states question.now }
     requires state { state < states question.now }
-    ensures { IsTrue result ↔ ((c : ℕ) → c < length (choices_of question.now.game state) → Carries (slice_index values.now) (HasRankWithin ranks.now level) state (choice_of question.now.game state c)) }
+    ensures { IsTrue result ↔ ((c : ℕ) → c < length (choices_of question.now.game state)
+        → Carries (slice_index values.now) (HasRankWithin ranks.now level) state
+        (choice_of question.now.game state c)) }
 {
     question.known();
     for choice in 0..question.game().choices_of(state) {
@@ -76,7 +80,8 @@ pub fn carries(
     requires ranks { length ranks.now ≡ states question.now }
     requires state { state < states question.now }
     requires choice { choice < length (choices_of question.now.game state) }
-    ensures { IsTrue result ↔ Carries (slice_index values.now) (HasRankWithin ranks.now level) state (choice_of question.now.game state choice) }
+    ensures { IsTrue result ↔ Carries (slice_index values.now) (HasRankWithin ranks.now level) state
+        (choice_of question.now.game state choice) }
 {
     leads_low(question, values, ranks, level, state, choice)
         && gives(question, values, state, choice)

@@ -59,7 +59,8 @@ pub fn check_ranks(
     requires ranks { length ranks.now ≡ states question.now }
     ensures ok { IsOk result ↔ Ranked question.now values.now choices.now ranks.now }
     ensures reached { IsOk result → ReachesUnder question.now choices.now (slice_index values.now) }
-    ensures fault { IfErr result (λ fault. IsRankFault question.now values.now choices.now ranks.now fault.state fault.cause) }
+    ensures fault { IfErr result (λ fault. IsRankFault question.now values.now choices.now ranks.now fault.state
+        fault.cause) }
 {
     question.known();
     if let Some(state) = first_over(values) {
@@ -103,8 +104,10 @@ fn check_state(
     requires choices { length choices.now ≡ states question.now }
     requires ranks { length ranks.now ≡ states question.now }
     requires state { state < states question.now }
-    ensures ok { IsOk result ↔ IsRankedAt question.now (slice_index values.now) (slice_index ranks.now) choices.now state }
-    ensures cause { IfErr result (IsCauseAt question.now (slice_index values.now) (slice_index ranks.now) choices.now state) }
+    ensures ok { IsOk result ↔ IsRankedAt question.now (slice_index values.now)
+        (slice_index ranks.now) choices.now state }
+    ensures cause { IfErr result (IsCauseAt question.now (slice_index values.now)
+        (slice_index ranks.now) choices.now state) }
 {
     question.known();
     let value = values[state as usize];
@@ -146,8 +149,10 @@ fn check_given(
     requires state { state < states question.now }
     requires needs { NeedsRank question.now (slice_index values.now) state }
     requires side { side_at question.now state ≡ Max }
-    ensures ok { IsOk result ↔ IsRankedAt question.now (slice_index values.now) (slice_index ranks.now) choices.now state }
-    ensures cause { IfErr result (IsCauseAt question.now (slice_index values.now) (slice_index ranks.now) choices.now state) }
+    ensures ok { IsOk result ↔ IsRankedAt question.now (slice_index values.now)
+        (slice_index ranks.now) choices.now state }
+    ensures cause { IfErr result (IsCauseAt question.now (slice_index values.now)
+        (slice_index ranks.now) choices.now state) }
 {
     question.known();
     let Some(choice) = choices[state as usize] else {
@@ -173,8 +178,10 @@ fn check_all(
     requires state { state < states question.now }
     requires needs { NeedsRank question.now (slice_index values.now) state }
     requires side { side_at question.now state ≡ Min }
-    ensures ok { IsOk result ↔ IsRankedAt question.now (slice_index values.now) (slice_index ranks.now) choices.now state }
-    ensures cause { IfErr result (IsCauseAt question.now (slice_index values.now) (slice_index ranks.now) choices.now state) }
+    ensures ok { IsOk result ↔ IsRankedAt question.now (slice_index values.now)
+        (slice_index ranks.now) choices.now state }
+    ensures cause { IfErr result (IsCauseAt question.now (slice_index values.now)
+        (slice_index ranks.now) choices.now state) }
 {
     question.known();
     for choice in 0..question.game().choices_of(state) {

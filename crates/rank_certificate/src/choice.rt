@@ -25,8 +25,10 @@ pub fn check_choice(
     requires ranks { length ranks.now ≡ states question.now }
     requires state { state < states question.now }
     requires choice { choice < length (choices_of question.now.game state) }
-    ensures ok { IsOk result ↔ IsRankedChoice (slice_index values.now) (slice_index ranks.now) state (choice_of question.now.game state choice) }
-    ensures lack { IfErr result (IsLackOf (slice_index values.now) (slice_index ranks.now) state (choice_of question.now.game state choice) choice) }
+    ensures ok { IsOk result ↔ IsRankedChoice (slice_index values.now) (slice_index ranks.now) state
+        (choice_of question.now.game state choice) }
+    ensures lack { IfErr result (IsLackOf (slice_index values.now) (slice_index ranks.now) state
+        (choice_of question.now.game state choice) choice) }
 {
     question.known();
     if down_choice(question, state, choice, values) < values[state as usize] {
@@ -44,7 +46,8 @@ fn leads_onward(question: &Question, values: &[u64], ranks: &[u32], state: u32, 
     requires ranks { length ranks.now ≡ states question.now }
     requires state { state < states question.now }
     requires choice { choice < length (choices_of question.now.game state) }
-    ensures { IsTrue result ↔ LeadsOnward (slice_index values.now) (slice_index ranks.now) state (choice_of question.now.game state choice) }
+    ensures { IsTrue result ↔ LeadsOnward (slice_index values.now) (slice_index ranks.now) state
+        (choice_of question.now.game state choice) }
 {
     question.known();
     for place in 0..question.game().edge_count(state, choice) {

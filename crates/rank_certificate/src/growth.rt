@@ -35,7 +35,8 @@ impl Growth {
         values: &[u64],
     ) -> Result<Growth, OutOfMemory>
         requires { length values.now ≡ states question.now }
-        ensures opened { IfOk result (λ g. IsOpened question.now (slice_index values.now) (states question.now) g.ranks.items g.order.items) }
+        ensures opened { IfOk result (λ g. IsOpened question.now (slice_index values.now)
+            (states question.now) g.ranks.items g.order.items) }
         ensures choices { IfOk result (λ g. length g.choices.items ≡ states question.now) }
         ensures none { IfOk result (λ g. (s : ℕ) → slice_index_or g.choices.items s None ≡ None) }
     {
@@ -54,9 +55,13 @@ impl Growth {
     pub fn start(&mut self, question: &Question, values: &[u64]) -> Result<(), OutOfMemory>
         requires values { length values.now ≡ states question.now }
         requires units { All (λ v. v ≤ unit) values.now }
-        requires growth { IsGrowth question.now (slice_index values.now) 0 0 self.old.order.items self.old.ranks.items self.old.choices.items self.old.order.items }
-        ensures growth { OnOk result (IsGrowth question.now (slice_index values.now) 0 0 self.old.order.items self.new.ranks.items self.new.choices.items self.new.order.items) }
-        ensures apart { OnOk result ((s : ℕ) → s < states question.now → IsApart question.now (slice_index values.now) 0 self.new.ranks.items s) }
+        requires growth { IsGrowth question.now
+            (slice_index values.now) 0 0 self.old.order.items self.old.ranks.items self.old.choices.items
+            self.old.order.items }
+        ensures growth { OnOk result (IsGrowth question.now (slice_index values.now) 0 0 self.old.order.items
+            self.new.ranks.items self.new.choices.items self.new.order.items) }
+        ensures apart { OnOk result ((s : ℕ) → s < states question.now
+            → IsApart question.now (slice_index values.now) 0 self.new.ranks.items s) }
     {
         question.known();
         for state in 0..question.game().states() {
@@ -81,9 +86,14 @@ impl Growth {
         requires level { level + 1 < 2 ^ 32 }
         requires begin { begin ≤ end }
         requires end { end ≡ length self.old.order.items }
-        requires growth { IsGrowth question.now (slice_index values.now) level begin self.old.order.items self.old.ranks.items self.old.choices.items self.old.order.items }
-        ensures growth { OnOk result (IsGrowth question.now (slice_index values.now) level begin self.old.order.items self.new.ranks.items self.new.choices.items self.new.order.items) }
-        ensures followed { OnOk result (AreFollowed question.now (slice_index values.now) level self.old.order.items begin (length self.old.order.items) self.new.ranks.items) }
+        requires growth { IsGrowth question.now
+            (slice_index values.now) level begin self.old.order.items self.old.ranks.items self.old.choices.items
+            self.old.order.items }
+        ensures growth { OnOk result (IsGrowth question.now (slice_index values.now) level begin self.old.order.items
+            self.new.ranks.items self.new.choices.items self.new.order.items) }
+        ensures followed { OnOk result (AreFollowed question.now
+            (slice_index values.now) level self.old.order.items begin
+            (length self.old.order.items) self.new.ranks.items) }
     {
         question.known();
         for place in begin..end {
@@ -109,8 +119,10 @@ impl Growth {
         requires ranks { length self.old.ranks.items ≡ states question.now }
         requires choices { length self.old.choices.items ≡ states question.now }
         requires hand { hand < states question.now }
-        ensures { OnOk result (Follows question.now (slice_index values.now) level hand (slice_index_or predecessors.now hand [])
-            self.old.ranks.items self.old.choices.items self.old.order.items self.new.ranks.items self.new.choices.items self.new.order.items) }
+        ensures { OnOk result (Follows question.now (slice_index values.now) level hand
+            (slice_index_or predecessors.now hand [])
+            self.old.ranks.items self.old.choices.items self.old.order.items self.new.ranks.items self.new.choices.items
+            self.new.order.items) }
     {
         question.known();
         for step in predecessors.of_state(hand) {
@@ -138,7 +150,8 @@ impl Growth {
         requires state { step.state < states question.now }
         requires choice { step.choice < length (choices_of question.now.game step.state) }
         ensures { OnOk result (Follows question.now (slice_index values.now) level hand (step ∷ [])
-            self.old.ranks.items self.old.choices.items self.old.order.items self.new.ranks.items self.new.choices.items self.new.order.items) }
+            self.old.ranks.items self.old.choices.items self.old.order.items self.new.ranks.items self.new.choices.items
+            self.new.order.items) }
     {
         question.known();
         if values[hand as usize] != values[step.state as usize] {
@@ -176,7 +189,8 @@ impl Growth {
         requires choices { length self.old.choices.items ≡ states question.now }
         requires state { state < states question.now }
         ensures { OnOk result (Looks question.now (slice_index values.now) level state
-            self.old.ranks.items self.old.choices.items self.old.order.items self.new.ranks.items self.new.choices.items self.new.order.items) }
+            self.old.ranks.items self.old.choices.items self.old.order.items self.new.ranks.items self.new.choices.items
+            self.new.order.items) }
     {
         if self.ranks[state as usize].is_some() {
             return Ok(());

@@ -51,7 +51,8 @@ pub fn lower_guess<'a>(
     requires base { length base.now ≡ states question.now }
     requires choices { length choices.now ≡ states question.now }
     requires rankable { IsRankable question.now base.now choices.now }
-    ensures guess { IfOk result (λ g. IsLowerGuess question.now zero.now base.now choices.now g.values.items g.plan.choices.items g.plan.ranks.items) }
+    ensures guess { IfOk result (λ g. IsLowerGuess question.now zero.now base.now choices.now g.values.items
+        g.plan.choices.items g.plan.ranks.items) }
     ensures ranked { IfOk result (λ g. Ranked question.now g.values.items g.plan.choices.items g.plan.ranks.items) }
     ensures length { IfOk result (λ g. length g.values.items ≡ states question.now) }
     ensures above { IfOk result (λ g. IsBelow question.now (slice_index base.now) (slice_index g.values.items)) }
@@ -76,7 +77,8 @@ pub fn lower_guess_over<'a>(
     requires choices { length choices.now ≡ states question.now }
     requires rankable { IsRankable question.now base.now choices.now }
     requires lists { ArePredecessors question.now.game predecessors.now }
-    ensures guess { IfOk result (λ g. IsLowerGuess question.now zero.now base.now choices.now g.values.items g.plan.choices.items g.plan.ranks.items) }
+    ensures guess { IfOk result (λ g. IsLowerGuess question.now zero.now base.now choices.now g.values.items
+        g.plan.choices.items g.plan.ranks.items) }
     ensures ranked { IfOk result (λ g. Ranked question.now g.values.items g.plan.choices.items g.plan.ranks.items) }
     ensures length { IfOk result (λ g. length g.values.items ≡ states question.now) }
     ensures above { IfOk result (λ g. IsBelow question.now (slice_index base.now) (slice_index g.values.items)) }

@@ -37,8 +37,8 @@ impl Guesses<'_> {
     ghost use Rattle.rank_certificate.specs.LowerGuess.{most_steps};
     ghost use Rattle.rank_certificate.specs.OfGuesses.{first_entry_of, IsTableOf, IsRefusedOf, AreRefusedOf, IsFirstOf};
 
-    /// The first of the tables of this excess that can be ranked, with its plan; none where each is refused. One of which
-    /// a state falls is refused. Where none falls, all later ones are the same, and the search for ranks decides.
+    /// The first of the tables of this excess that can be ranked, with its plan; none where each is refused. One of
+    /// which a state falls is refused. Where none falls, all later ones are the same, and the search for ranks decides.
     /// Behind the first step only predecessors of states that fell are looked at.
     pub fn first_ranked(
         &self,
@@ -46,9 +46,12 @@ impl Guesses<'_> {
         predecessors: &Predecessors,
     ) -> Result<Option<LowerGuess>, OutOfMemory>
         requires { ArePredecessors self.now.question.now.game predecessors.now }
-        ensures found { IfOk result (λ found. MatchOption found (AreRefusedOf self.now) (λ g. IsFirstOf self.now g.values.items)) }
-        ensures plan { IfOk result (λ found. IfSome found (λ g. IsLayeredPlan self.now.question.now g.values.items g.plan.choices.items g.plan.ranks.items)) }
-        ensures ranked { IfOk result (λ found. IfSome found (λ g. Ranked self.now.question.now g.values.items g.plan.choices.items g.plan.ranks.items)) }
+        ensures found { IfOk result (λ found. MatchOption found (AreRefusedOf self.now)
+            (λ g. IsFirstOf self.now g.values.items)) }
+        ensures plan { IfOk result (λ found. IfSome found (λ g.
+            IsLayeredPlan self.now.question.now g.values.items g.plan.choices.items g.plan.ranks.items)) }
+        ensures ranked { IfOk result (λ found. IfSome found (λ g.
+            Ranked self.now.question.now g.values.items g.plan.choices.items g.plan.ranks.items)) }
     {
         let states = self.question.game().states();
         let mut marks = vec![in alloc; true; states as usize]?;
@@ -84,11 +87,15 @@ impl Guesses<'_> {
         requires lists { ArePredecessors self.now.question.now.game predecessors.now }
         requires few { steps ≤ most_steps }
         requires table { IsTableOf self.now steps table.items }
-        requires stand { (s : ℕ) → s < states self.now.question.now → Stands self.now.question.now (slice_index table.items) s }
+        requires stand { (s : ℕ) → s < states self.now.question.now
+            → Stands self.now.question.now (slice_index table.items) s }
         requires refused { (j : ℕ) → j < steps → IsRefusedOf self.now j }
-        ensures found { IfOk result (λ found. MatchOption found (AreRefusedOf self.now) (λ g. IsFirstOf self.now g.values.items)) }
-        ensures plan { IfOk result (λ found. IfSome found (λ g. IsLayeredPlan self.now.question.now g.values.items g.plan.choices.items g.plan.ranks.items)) }
-        ensures ranked { IfOk result (λ found. IfSome found (λ g. Ranked self.now.question.now g.values.items g.plan.choices.items g.plan.ranks.items)) }
+        ensures found { IfOk result (λ found. MatchOption found (AreRefusedOf self.now)
+            (λ g. IsFirstOf self.now g.values.items)) }
+        ensures plan { IfOk result (λ found. IfSome found (λ g.
+            IsLayeredPlan self.now.question.now g.values.items g.plan.choices.items g.plan.ranks.items)) }
+        ensures ranked { IfOk result (λ found. IfSome found (λ g.
+            Ranked self.now.question.now g.values.items g.plan.choices.items g.plan.ranks.items)) }
     {
         let Some(plan) = rank_standing(alloc, self.question, &table, predecessors)? else {
             return Ok(None);

@@ -24,8 +24,10 @@ pub fn ranked_values_are_reached()
 
 /// Two faults of the same values, choices and ranks are the same.
 pub fn rank_faults_are_one()
-    ensures { (q : Query) (values : List ℕ) (choices : List (Option ℕ)) (ranks : List ℕ) (s t : ℕ) (cause other : RankCause) →
-        IsRankFault q values choices ranks s cause → IsRankFault q values choices ranks t other → (s ≡ t) × (cause ≡ other) }
+    ensures { (q : Query) (values : List ℕ) (choices : List (Option ℕ)) (ranks : List ℕ) (s t : ℕ)
+        (cause other : RankCause) →
+        IsRankFault q values choices ranks s cause → IsRankFault q values choices ranks t other
+        → (s ≡ t) × (cause ≡ other) }
 {}
 
 /// Ranked values of a program's own question are reached.
@@ -46,14 +48,18 @@ pub fn ranked_values_are_near()
 /// There is one lower guess of a table and choices: it does not depend on which tables were made, nor on the order of
 /// the search.
 pub fn one_lower_guess()
-    ensures { (q : Query) (marks : List Bool) (base : List ℕ) (given : List (Option ℕ)) (values other : List ℕ) (choices others : List (Option ℕ)) (ranks alike : List ℕ) →
-        IsLowerGuess q marks base given values choices ranks → IsLowerGuess q marks base given other others alike → (values ≡ other) × (choices ≡ others) × (ranks ≡ alike) }
+    ensures { (q : Query) (marks : List Bool) (base : List ℕ) (given : List (Option ℕ)) (values other : List ℕ)
+        (choices others : List (Option ℕ)) (ranks alike : List ℕ) →
+        IsLowerGuess q marks base given values choices ranks → IsLowerGuess q marks base given other others alike
+        → (values ≡ other) × (choices ≡ others) × (ranks ≡ alike) }
 {}
 
 /// The values of a lower guess do not depend on the choices that were handed in.
 pub fn one_lower_table()
-    ensures { (q : Query) (marks : List Bool) (base : List ℕ) (given instead : List (Option ℕ)) (values other : List ℕ) (choices others : List (Option ℕ)) (ranks alike : List ℕ) →
-        IsLowerGuess q marks base given values choices ranks → IsLowerGuess q marks base instead other others alike → values ≡ other }
+    ensures { (q : Query) (marks : List Bool) (base : List ℕ) (given instead : List (Option ℕ)) (values other : List ℕ)
+        (choices others : List (Option ℕ)) (ranks alike : List ℕ) →
+        IsLowerGuess q marks base given values choices ranks → IsLowerGuess q marks base instead other others alike
+        → values ≡ other }
 {}
 
 /// The limits of the code are those of the definitions.
@@ -92,10 +98,14 @@ pub fn layered_plans_choose(
 )
     requires { IsLayeredPlan question.now values.now choices.now ranks.now }
     ensures as_many { length choices.now ≡ states question.now }
-    ensures none_at_goals { (s : ℕ) → s < states question.now → is_goal question.now s ≡ true → slice_index_or choices.now s None ≡ None }
-    ensures none_at_deads { (s : ℕ) → s < states question.now → is_dead question.now s ≡ true → slice_index_or choices.now s None ≡ None }
-    ensures none_at_least { (s : ℕ) → s < states question.now → side_at question.now s ≡ Min → slice_index_or choices.now s None ≡ None }
-    ensures none_at_zero { (s : ℕ) → s < states question.now → slice_index values.now s ≡ 0 → slice_index_or choices.now s None ≡ None }
+    ensures none_at_goals { (s : ℕ) → s < states question.now → is_goal question.now s ≡ true
+        → slice_index_or choices.now s None ≡ None }
+    ensures none_at_deads { (s : ℕ) → s < states question.now → is_dead question.now s ≡ true
+        → slice_index_or choices.now s None ≡ None }
+    ensures none_at_least { (s : ℕ) → s < states question.now → side_at question.now s ≡ Min
+        → slice_index_or choices.now s None ≡ None }
+    ensures none_at_zero { (s : ℕ) → s < states question.now → slice_index values.now s ≡ 0
+        → slice_index_or choices.now s None ≡ None }
 {
     question.known();
 }

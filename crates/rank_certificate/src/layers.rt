@@ -32,7 +32,8 @@ impl Layers {
         values: &[u64],
     ) -> Result<Layers, OutOfMemory>
         requires { length values.now ≡ states question.now }
-        ensures opened { IfOk result (λ l. IsOpened question.now (slice_index values.now) (states question.now) l.ranks.items l.order.items) }
+        ensures opened { IfOk result (λ l. IsOpened question.now (slice_index values.now)
+            (states question.now) l.ranks.items l.order.items) }
         ensures awaited { IfOk result (λ l. length l.awaited.items ≡ states question.now) }
     {
         question.known();
@@ -64,9 +65,11 @@ impl Layers {
     ) -> Result<(), OutOfMemory>
         requires values { length values.now ≡ states question.now }
         requires choices { length choices.now ≡ states question.now }
-        requires opened { IsRanking question.now (slice_index values.now) choices.now 0 0 self.old.order.items (length self.old.order.items) 0 []
+        requires opened { IsRanking question.now (slice_index values.now) choices.now 0 0 self.old.order.items
+            (length self.old.order.items) 0 []
             self.old.ranks.items self.old.awaited.items self.old.order.items }
-        ensures { OnOk result (IsRanking question.now (slice_index values.now) choices.now (states question.now) 0 self.old.order.items (length self.old.order.items) 0 []
+        ensures { OnOk result (IsRanking question.now (slice_index values.now) choices.now
+            (states question.now) 0 self.old.order.items (length self.old.order.items) 0 []
             self.new.ranks.items self.new.awaited.items self.new.order.items) }
     {
         question.known();
@@ -89,8 +92,10 @@ impl Layers {
         requires ranks { length self.old.ranks.items ≡ states question.now }
         requires awaited { length self.old.awaited.items ≡ states question.now }
         requires state { state < states question.now }
-        ensures { OnOk result ((old : List ℕ) → IsRanking question.now (slice_index values.now) choices.now state 0 old (length old) 0 []
-            self.old.ranks.items self.old.awaited.items self.old.order.items → IsRanking question.now (slice_index values.now) choices.now (state + 1) 0 old (length old) 0 []
+        ensures { OnOk result ((old : List ℕ) → IsRanking question.now (slice_index values.now) choices.now state 0 old
+            (length old) 0 []
+            self.old.ranks.items self.old.awaited.items self.old.order.items
+            → IsRanking question.now (slice_index values.now) choices.now (state + 1) 0 old (length old) 0 []
             self.new.ranks.items self.new.awaited.items self.new.order.items) }
     {
         if !self.is_left(state) {
@@ -117,9 +122,11 @@ impl Layers {
         requires level { level + 1 < 2 ^ 32 }
         requires begin { begin ≤ end }
         requires end { end ≡ length self.old.order.items }
-        requires ranking { IsRanking question.now (slice_index values.now) choices.now (states question.now) level self.old.order.items begin 0 []
+        requires ranking { IsRanking question.now (slice_index values.now) choices.now
+            (states question.now) level self.old.order.items begin 0 []
             self.old.ranks.items self.old.awaited.items self.old.order.items }
-        ensures { OnOk result (IsRanking question.now (slice_index values.now) choices.now (states question.now) level self.old.order.items (length self.old.order.items) 0 []
+        ensures { OnOk result (IsRanking question.now (slice_index values.now) choices.now
+            (states question.now) level self.old.order.items (length self.old.order.items) 0 []
             self.new.ranks.items self.new.awaited.items self.new.order.items) }
     {
         question.known();
@@ -148,7 +155,8 @@ impl Layers {
         requires from { from ≤ length (choices_of question.now.game state) }
         requires level { level + 1 < 2 ^ 32 }
         ensures { OnOk result (MovesOn question.now (slice_index values.now) choices.now level state from
-            self.old.ranks.items self.old.awaited.items self.old.order.items self.new.ranks.items self.new.awaited.items self.new.order.items) }
+            self.old.ranks.items self.old.awaited.items self.old.order.items self.new.ranks.items self.new.awaited.items
+            self.new.order.items) }
     {
         let next = first_unmet(question, values, choices, &self.ranks, level, state, from);
         if next < question.game().choices_of(state) {
@@ -177,8 +185,10 @@ impl Layers {
         requires ranks { length self.old.ranks.items ≡ states question.now }
         requires awaited { length self.old.awaited.items ≡ states question.now }
         requires low { HasRankWithin self.old.ranks.items level hand }
-        ensures { OnOk result (Advances question.now (slice_index values.now) choices.now level hand [] (slice_index_or predecessors.now hand [])
-            self.old.ranks.items self.old.awaited.items self.old.order.items self.new.ranks.items self.new.awaited.items self.new.order.items) }
+        ensures { OnOk result (Advances question.now (slice_index values.now) choices.now level hand []
+            (slice_index_or predecessors.now hand [])
+            self.old.ranks.items self.old.awaited.items self.old.order.items self.new.ranks.items self.new.awaited.items
+            self.new.order.items) }
     {
         question.known();
         for step in predecessors.of_state(hand) {
@@ -206,8 +216,10 @@ impl Layers {
         requires low { HasRankWithin self.old.ranks.items level hand }
         requires hand { hand < states question.now }
         requires leads { LeadsTo question.now.game step.state step.choice hand }
-        ensures { OnOk result ((part : List Move) → Advances question.now (slice_index values.now) choices.now level hand part (part ++ step ∷ [])
-            self.old.ranks.items self.old.awaited.items self.old.order.items self.new.ranks.items self.new.awaited.items self.new.order.items) }
+        ensures { OnOk result ((part : List Move) → Advances question.now
+            (slice_index values.now) choices.now level hand part (part ++ step ∷ [])
+            self.old.ranks.items self.old.awaited.items self.old.order.items self.new.ranks.items self.new.awaited.items
+            self.new.order.items) }
     {
         question.known();
         if !self.waits_for(values, hand, step) {
@@ -240,7 +252,8 @@ impl Layers {
         requires awaited { length self.now.awaited.items ≡ length values.now }
         requires hand { hand < length values.now }
         requires state { step.state < length values.now }
-        ensures { IsTrue result ↔ ((slice_index_or self.now.ranks.items step.state None ≡ None) × (slice_index self.now.awaited.items step.state ≡ step.choice)
+        ensures { IsTrue result ↔ ((slice_index_or self.now.ranks.items step.state None ≡ None)
+            × (slice_index self.now.awaited.items step.state ≡ step.choice)
             × (slice_index values.now hand ≡ slice_index values.now step.state)) }
     {
         let state = step.state as usize;

@@ -27,7 +27,8 @@ pub fn first_unmet(
     requires from { from ≤ length (choices_of question.now.game state) }
     ensures from { from ≤ result }
     ensures met { AreMet question.now (slice_index values.now) choices.now ranks.now level state from result }
-    ensures unmet { result < length (choices_of question.now.game state) → IsUnmet question.now (slice_index values.now) choices.now ranks.now level state result }
+    ensures unmet { result < length (choices_of question.now.game state)
+        → IsUnmet question.now (slice_index values.now) choices.now ranks.now level state result }
 {
     question.known();
     match question.side(state) {
@@ -54,7 +55,8 @@ fn given_unmet(
     requires from { from ≤ length (choices_of question.now.game state) }
     ensures from { from ≤ result }
     ensures met { AreMet question.now (slice_index values.now) choices.now ranks.now level state from result }
-    ensures unmet { result < length (choices_of question.now.game state) → IsUnmet question.now (slice_index values.now) choices.now ranks.now level state result }
+    ensures unmet { result < length (choices_of question.now.game state)
+        → IsUnmet question.now (slice_index values.now) choices.now ranks.now level state result }
 {
     question.known();
     let count = question.game().choices_of(state);
@@ -85,8 +87,12 @@ fn next_unmet(
     requires state { state < states question.now }
     requires from { from ≤ length (choices_of question.now.game state) }
     ensures from { from ≤ result }
-    ensures met { (c : ℕ) → from ≤ c → c < result → LeadsInto (slice_index values.now) (HasRankWithin ranks.now level) state (choice_of question.now.game state c) }
-    ensures unmet { result < length (choices_of question.now.game state) → ¬ LeadsInto (slice_index values.now) (HasRankWithin ranks.now level) state (choice_of question.now.game state result) }
+    ensures met { (c : ℕ) → from ≤ c → c < result
+        → LeadsInto (slice_index values.now) (HasRankWithin ranks.now level) state
+        (choice_of question.now.game state c) }
+    ensures unmet { result < length (choices_of question.now.game state)
+        → ¬ LeadsInto (slice_index values.now) (HasRankWithin ranks.now level) state
+        (choice_of question.now.game state result) }
 {
     question.known();
     let count = question.game().choices_of(state);
@@ -111,7 +117,8 @@ pub fn leads_low(
     requires ranks { length ranks.now ≡ states question.now }
     requires state { state < states question.now }
     requires choice { choice < length (choices_of question.now.game state) }
-    ensures { IsTrue result ↔ LeadsInto (slice_index values.now) (HasRankWithin ranks.now level) state (choice_of question.now.game state choice) }
+    ensures { IsTrue result ↔ LeadsInto (slice_index values.now) (HasRankWithin ranks.now level) state
+        (choice_of question.now.game state choice) }
 {
     question.known();
     for place in 0..question.game().edge_count(state, choice) {

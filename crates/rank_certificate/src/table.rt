@@ -40,7 +40,8 @@ pub fn rank_table(
     requires { length values.now ≡ states question.now }
     ensures found { IfOk result (λ found. MatchOption found (¬ CanBeRanked question.now values.now)
         (λ plan. IsLayeredPlan question.now values.now plan.choices.items plan.ranks.items)) }
-    ensures ranked { IfOk result (λ found. IfSome found (λ plan. Ranked question.now values.now plan.choices.items plan.ranks.items)) }
+    ensures ranked { IfOk result (λ found. IfSome found (λ plan.
+        Ranked question.now values.now plan.choices.items plan.ranks.items)) }
 {
     let predecessors = Predecessors::of_game(alloc, question.game())?;
     rank_table_over(alloc, question, values, &predecessors)
@@ -58,7 +59,8 @@ pub fn rank_table_over(
     requires lists { ArePredecessors question.now.game predecessors.now }
     ensures found { IfOk result (λ found. MatchOption found (¬ CanBeRanked question.now values.now)
         (λ plan. IsLayeredPlan question.now values.now plan.choices.items plan.ranks.items)) }
-    ensures ranked { IfOk result (λ found. IfSome found (λ plan. Ranked question.now values.now plan.choices.items plan.ranks.items)) }
+    ensures ranked { IfOk result (λ found. IfSome found (λ plan.
+        Ranked question.now values.now plan.choices.items plan.ranks.items)) }
 {
     question.known();
     if let Some(_over) = first_over(values) {
@@ -83,7 +85,8 @@ pub fn rank_standing(
     requires stand { (s : ℕ) → s < states question.now → Stands question.now (slice_index values.now) s }
     ensures found { IfOk result (λ found. MatchOption found (¬ CanBeRanked question.now values.now)
         (λ plan. IsLayeredPlan question.now values.now plan.choices.items plan.ranks.items)) }
-    ensures ranked { IfOk result (λ found. IfSome found (λ plan. Ranked question.now values.now plan.choices.items plan.ranks.items)) }
+    ensures ranked { IfOk result (λ found. IfSome found (λ plan.
+        Ranked question.now values.now plan.choices.items plan.ranks.items)) }
 {
     question.known();
     let growth = whole_growth(alloc, question, values, predecessors)?;
@@ -124,8 +127,11 @@ fn whole_growth(
 
 /// The ranks as numbers; none where a state has none.
 fn all_ranks(alloc: Global, ranks: &[Option<u32>]) -> Result<Option<Vec<u32>>, OutOfMemory>
-    ensures { IfOk result (λ found. MatchOption found ((s : ℕ) × (s < length ranks.now) × (slice_index_or ranks.now s None ≡ None))
-        (λ numbers. (length numbers.items ≡ length ranks.now) × ((s : ℕ) → s < length ranks.now → slice_index_or ranks.now s None ≡ Some (slice_index numbers.items s)))) }
+    ensures { IfOk result (λ found. MatchOption found ((s : ℕ) × (s < length ranks.now)
+        × (slice_index_or ranks.now s None ≡ None))
+        (λ numbers. (length numbers.items ≡ length ranks.now)
+        × ((s : ℕ) → s < length ranks.now
+        → slice_index_or ranks.now s None ≡ Some (slice_index numbers.items s)))) }
 {
     let mut numbers = Vec::with_capacity(alloc, ranks.len())?;
     for rank in ranks {

@@ -27,7 +27,8 @@ pub fn denominator_of(game: &Game) -> Option<u128>
 /// The product of the totals of the choices of a state, where it fits.
 fn product_of(game: &Game, state: u32) -> Option<u128>
     requires { state < length game.now }
-    ensures { MatchOption result (2 ^ 128 ≤ total_product (choices_of game.now state)) (λ d. d ≡ total_product (choices_of game.now state)) }
+    ensures { MatchOption result (2 ^ 128 ≤ total_product (choices_of game.now state))
+        (λ d. d ≡ total_product (choices_of game.now state)) }
 {
     game.known();
     let mut product: u128 = 1;

@@ -23,7 +23,8 @@ pub fn step_of(
     requires below { All (λ n. n ≤ power) table.now }
     requires fits { power * common < 2 ^ 128 }
     ensures many { IfOk result (λ v. length v.items ≡ states question.now) }
-    ensures each { IfOk result (λ v. (s : ℕ) → s < states question.now → slice_index v.items s ≡ exact_step question.now (slice_index table.now) (power * common) s) }
+    ensures each { IfOk result (λ v. (s : ℕ) → s < states question.now
+        → slice_index v.items s ≡ exact_step question.now (slice_index table.now) (power * common) s) }
     ensures below { IfOk result (λ v. All (λ n. n ≤ power * common) v.items) }
 {
     let mut next = Vec::new(alloc);
@@ -62,7 +63,8 @@ fn greatest_of(question: &Question, state: u32, table: &[u128], common: u128, po
     requires common { common ≡ denominator question.now.game }
     requires below { All (λ n. n ≤ power) table.now }
     requires fits { power * common < 2 ^ 128 }
-    ensures value { result ≡ optimum Side.Max (exact_value question.now (slice_index table.now)) (choices_of question.now.game state) }
+    ensures value { result ≡ optimum Side.Max (exact_value question.now (slice_index table.now))
+        (choices_of question.now.game state) }
     ensures below { result ≤ power * common }
 {
     question.known();
@@ -80,7 +82,8 @@ fn least_of(question: &Question, state: u32, table: &[u128], common: u128, power
     requires common { common ≡ denominator question.now.game }
     requires below { All (λ n. n ≤ power) table.now }
     requires fits { power * common < 2 ^ 128 }
-    ensures value { result ≡ optimum Side.Min (exact_value question.now (slice_index table.now)) (choices_of question.now.game state) }
+    ensures value { result ≡ optimum Side.Min (exact_value question.now (slice_index table.now))
+        (choices_of question.now.game state) }
     ensures below { result ≤ power * common }
 {
     question.known();

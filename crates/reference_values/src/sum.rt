@@ -23,7 +23,8 @@ pub fn value_of(
     requires common { common ≡ denominator question.now.game }
     requires below { All (λ n. n ≤ power) table.now }
     requires fits { power * common < 2 ^ 128 }
-    ensures value { result ≡ exact_value question.now (slice_index table.now) (choice_of question.now.game state choice) }
+    ensures value { result ≡ exact_value question.now (slice_index table.now)
+        (choice_of question.now.game state choice) }
     ensures below { result ≤ power * common }
 {
     question.known();

@@ -21,10 +21,14 @@ pub record BeginsBlock (game : List (List Distribution)) (workers worker first :
   pub before : (s : ℕ) → s < first → worker_of game workers s < worker
   pub behind : (s : ℕ) → first ≤ s → s < length game → worker ≤ worker_of game workers s
 
--- after the states from `low` up to and not including `high`, by so many workers: each marked one is seen with at least the down step of what was seen before, and so many exchanges were won, no more than states; the pass has all its parts again, where it has one for each worker
-pub record IsSwept (q : Query) (marks : List Bool) (workers low high : ℕ) (old new : PassSeat) (raises : ℕ) : Type 0 where
+-- after the states from `low` up to and not including `high`, by so many workers: each marked one is seen with at least
+-- the down step of what was seen before, and so many exchanges were won, no more than states; the pass has all its
+-- parts again, where it has one for each worker
+pub record IsSwept (q : Query) (marks : List Bool) (workers low high : ℕ) (old new : PassSeat)
+    (raises : ℕ) : Type 0 where
   pub grew : GrewSeat old new
-  pub step : (s : ℕ) → low ≤ s → s < high → IsMarked marks s → down_step q (value_at old.me.0.seen) s ≤ value_at new.me.0.seen s
+  pub step : (s : ℕ) → low ≤ s → s < high → IsMarked marks s
+      → down_step q (value_at old.me.0.seen) s ≤ value_at new.me.0.seen s
   pub won : new.me.0.won ≡ old.me.0.won + raises
   pub few : low + raises ≤ high
   pub parts : workers ≤ old.me.0.parts → new.me.0.parts ≡ old.me.0.parts

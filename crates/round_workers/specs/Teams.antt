@@ -15,4 +15,5 @@ pub record AreHalves (game : List (List Distribution)) (team front back : Team) 
   pub back_team : IsTeam game back
   pub order : (front.low ≤ front.high) × (back.low ≤ back.high)
   pub lows : (front.low ≡ team.low) × (back.low ≡ front.high) × (back.high ≡ team.high)
-  pub firsts : (front.first ≡ team.first) × (front.last ≡ team.first + (team.last - team.first) / 2) × (back.first ≡ front.last) × (back.last ≡ team.last)
+  pub firsts : (front.first ≡ team.first) × (front.last ≡ team.first + (team.last - team.first) / 2)
+      × (back.first ≡ front.last) × (back.last ≡ team.last)

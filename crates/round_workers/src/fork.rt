@@ -23,8 +23,8 @@ use value_words::{Pass, Posing, ValueTable};
 /// among its own states, and updates these too: so one worker's round with marks raises what one over all states does,
 /// where each state without a mark would not rise. A round promises nothing of `more`.
 ///
-/// In a whole round each worker updates all of its states, once, and marks none: so it is to be asked for where all states
-/// are marked.
+/// In a whole round each worker updates all of its states, once, and marks none: so it is to be asked for where all
+/// states are marked.
 pub fn round<R: Threads + Sync, P: Posing + Send + Sync, G: Gate + Sync>(
     rt: &R,
     table: &ValueTable<'_, P>,
@@ -43,7 +43,8 @@ pub fn round<R: Threads + Sync, P: Posing + Send + Sync, G: Gate + Sync>(
     requires workers { (1 ≤ workers) × (workers ≤ most_workers) }
     ensures grew { Grew pass result.pass }
     // At each marked state at least the down step of what was seen before is seen now.
-    ensures step { (s : ℕ) → s < states P.posed → IsMarked marks.now s → down_step P.posed (seen_by pass) s ≤ seen_by result.pass s }
+    ensures step { (s : ℕ) → s < states P.posed → IsMarked marks.now s
+        → down_step P.posed (seen_by pass) s ≤ seen_by result.pass s }
     ensures raises { won_by result.pass ≡ won_by pass + result.raises }
     // No more exchanges than states.
     ensures few { result.raises ≤ states P.posed }
@@ -71,7 +72,8 @@ fn fork<R: Threads + Sync, P: Posing + Send + Sync, G: Gate + Sync>(
     requires pass { IsOf task.now.table.now pass }
     requires more { team.low + length more.old ≡ team.high }
     requires team { IsTeam P.posed.game team }
-    ensures { IsSwept P.posed task.now.marks.now (team.last - team.first) team.low team.high pass.seat result.pass.seat result.raises }
+    ensures { IsSwept P.posed task.now.marks.now
+        (team.last - team.first) team.low team.high pass.seat result.pass.seat result.raises }
 {
     if team.last - team.first == 1 {
         return sweep(task, pass, more, team.first, team.low, team.high);
@@ -82,12 +84,16 @@ fn fork<R: Threads + Sync, P: Posing + Send + Sync, G: Gate + Sync>(
     let (left, right) = join(
         rt,
         move || -> Rounded<P>
-            requires { IsSync R.row × IsSend P.row × IsSync P.row × IsSync G.row × IsOf task.now.table.now pass × (front.low + length mine.now ≡ front.high) × IsTeam P.posed.game front }
-            ensures { IsSwept P.posed task.entry.now.marks.now (front.last - front.first) front.low front.high pass.seat result.pass.seat result.raises }
+            requires { IsSync R.row × IsSend P.row × IsSync P.row × IsSync G.row × IsOf task.now.table.now pass
+                × (front.low + length mine.now ≡ front.high) × IsTeam P.posed.game front }
+            ensures { IsSwept P.posed task.entry.now.marks.now
+                (front.last - front.first) front.low front.high pass.seat result.pass.seat result.raises }
         { fork(rt, task, pass, mine, front) },
         move || -> Rounded<P>
-            requires { IsSync R.row × IsSend P.row × IsSync P.row × IsSync G.row × IsOf task.now.table.now other × (back.low + length others.now ≡ back.high) × IsTeam P.posed.game back }
-            ensures { IsSwept P.posed task.entry.now.marks.now (back.last - back.first) back.low back.high other.seat result.pass.seat result.raises }
+            requires { IsSync R.row × IsSend P.row × IsSync P.row × IsSync G.row × IsOf task.now.table.now other
+                × (back.low + length others.now ≡ back.high) × IsTeam P.posed.game back }
+            ensures { IsSwept P.posed task.entry.now.marks.now
+                (back.last - back.first) back.low back.high other.seat result.pass.seat result.raises }
         { fork(rt, task, other, others, back) },
     );
     meet(task.table, left, right)

@@ -13,6 +13,8 @@ pub fn limits()
 
 /// Each state has a worker, and the workers' states follow one another.
 pub fn workers_share_the_states()
-    ensures one { (game : List (List Distribution)) (workers s : ℕ) → IsGame game → 0 < workers → s < length game → worker_of game workers s < workers }
-    ensures rising { (game : List (List Distribution)) (workers s t : ℕ) → IsGame game → s ≤ t → t < length game → worker_of game workers s ≤ worker_of game workers t }
+    ensures one { (game : List (List Distribution)) (workers s : ℕ) → IsGame game → 0 < workers → s < length game
+        → worker_of game workers s < workers }
+    ensures rising { (game : List (List Distribution)) (workers s t : ℕ) → IsGame game → s ≤ t → t < length game
+        → worker_of game workers s ≤ worker_of game workers t }
 {}

@@ -118,8 +118,8 @@ fn walk<P: Posing, G: Gate>(
     raises
 }
 
-/// Updates a state that has a mark in either list; any state in a whole round. Whether an exchange won; then its predecessors
-/// behind it are marked, but in no whole round.
+/// Updates a state that has a mark in either list; any state in a whole round. Whether an exchange won; then its
+/// predecessors behind it are marked, but in no whole round.
 fn visit<P: Posing, G: Gate>(
     task: &Task<'_, P, G>,
     pass: &mut Pass<P>,
@@ -131,7 +131,8 @@ fn visit<P: Posing, G: Gate>(
     requires state { state < states P.posed }
     requires more { (first ≤ state) × (state < first + length more.old) }
     ensures grew { Grew pass.old pass.new }
-    ensures step { IsMarked task.now.marks.now state → down_step P.posed (seen_by pass.old) state ≤ seen_by pass.new state }
+    ensures step { IsMarked task.now.marks.now state
+        → down_step P.posed (seen_by pass.old) state ≤ seen_by pass.new state }
     ensures won { MatchBool result (won_by pass.new ≡ won_by pass.old + 1) (won_by pass.new ≡ won_by pass.old) }
     ensures parts { parts_of pass.new ≡ parts_of pass.old }
 {

@@ -36,7 +36,13 @@ dual_bound AskMin = AskMax
 
 -- of `G y` the dual bound on `F !y`
 abbrev pub dual_of : Tree → Tree
-dual_of f = record { coalition = f.coalition; bound = dual_bound f.bound; kind = Until; left = True; right = Not f.right }
+dual_of f = record {
+  coalition = f.coalition;
+  bound = dual_bound f.bound;
+  kind = Until;
+  left = True;
+  right = Not f.right;
+}
 
 -- the formula whose question is answered: of `G` the dual
 abbrev pub answered_by : PathKind → Tree → Tree

@@ -24,7 +24,8 @@ pub record Path : Type 0 where
   pub left : State
   pub right : State
 
--- A formula: a bound on the probability of the paths of a kind, `left U right` or its kin, for the players of a coalition where there is one.
+-- A formula: a bound on the probability of the paths of a kind, `left U right` or its kin, for the players of a
+-- coalition where there is one.
 pub record Tree : Type 0 where
   pub coalition : Option (List (List ℕ))
   pub bound : Bound
@@ -44,11 +45,18 @@ state_of (Negated' p x) = Not (state_of x)
 state_of (Both' p x q y) = And (state_of x) (state_of y)
 state_of (Either' p x q y) = Or (state_of x) (state_of y)
 state_of (Implied' p x q y) = Implies (state_of x) (state_of y)
-state_of (Inner' p team bound kind left right) = Inner (option_map names_of team) bound kind (state_of left) (state_of right)
+state_of (Inner' p team bound kind left right) =
+    Inner (option_map names_of team) bound kind (state_of left) (state_of right)
 
 -- The tree of a formula in memory.
 abbrev pub tree_of : Formula → Tree
-tree_of f = record { coalition = option_map names_of f.coalition; bound = f.bound; kind = f.kind; left = state_of f.left; right = state_of f.right }
+tree_of f = record {
+  coalition = option_map names_of f.coalition;
+  bound = f.bound;
+  kind = f.kind;
+  left = state_of f.left;
+  right = state_of f.right;
+}
 
 -- the formula, as a formula inside a state formula
 abbrev pub inner_of : Tree → State

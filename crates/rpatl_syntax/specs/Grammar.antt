@@ -67,7 +67,8 @@ where_next (Some after) without with_sign = with_sign after
 
 -- coalition = "<<" [ word { "," word } ] ">>"
 
-abbrev pub with_name : List ℕ → Result (List (List ℕ) × Tokens) FormulaFault → Result (List (List ℕ) × Tokens) FormulaFault
+abbrev pub with_name : List ℕ → Result (List (List ℕ) × Tokens) FormulaFault
+    → Result (List (List ℕ) × Tokens) FormulaFault
 with_name name read = read >>= λ names. Ok (name ∷ names.0, names.1)
 
 abbrev mutual
@@ -75,7 +76,8 @@ abbrev mutual
   pub names : Reading (List (List ℕ))
   names (Finish place) = Err (fault_at place End)
   names (Broken fault) = Err fault
-  names (Then place word rest) = if is_word word then with_name word (further_names rest) else Err (fault_at place Unexpected)
+  names (Then place word rest) = if is_word word then with_name word (further_names rest) else Err
+      (fault_at place Unexpected)
 
   -- `,` and a further name, or `>>`
   pub further_names : Reading (List (List ℕ))
@@ -86,7 +88,8 @@ abbrev mutual
       else if bytes_eq sign (codes ",") then names rest
       else Err (fault_at place Unexpected)
 
-abbrev pub some_names : Result (List (List ℕ) × Tokens) FormulaFault → Result (Option (List (List ℕ)) × Tokens) FormulaFault
+abbrev pub some_names : Result (List (List ℕ) × Tokens) FormulaFault
+    → Result (Option (List (List ℕ)) × Tokens) FormulaFault
 some_names read = read >>= λ names. Ok (Some names.0, names.1)
 
 abbrev pub coalition : Reading (Option (List (List ℕ)))
@@ -103,7 +106,8 @@ threshold_of token (Err TooLarge) = fails token ThresholdOutOfRange
 threshold_of token (Err fault) = fails token (BadNumber fault)
 
 abbrev pub threshold : Token → Result Fraction FormulaFault
-threshold token = if is_number token.spelling then threshold_of token (number_said token.spelling) else fails token Unexpected
+threshold token = if is_number token.spelling then threshold_of token
+    (number_said token.spelling) else fails token Unexpected
 
 abbrev pub compared : (Fraction → Bound) → Reading Bound
 compared bound ts = next ts >>= λ token. threshold token >>= λ value. Ok (bound value, token.after)
@@ -133,7 +137,8 @@ inner_bound ts = next ts >>= λ token.
     else if is token (codes "Pmax") || is token (codes "Pmin") then fails token AskInside
     else fails token Unexpected
 
--- path = "F" [ "<=" number ] state | state "U" [ "<=" number ] state | "X" state | "G" state, where state reads a state formula
+-- path = "F" [ "<=" number ] state | state "U" [ "<=" number ] state | "X" state | "G" state, where state reads a state
+-- formula
 
 -- a whole number, which is not too great
 abbrev pub steps_of : Token → Option ℕ → Result ℕ FormulaFault
@@ -174,7 +179,8 @@ bracketed state token = path state token.after >>= λ p. behind (codes "]") p.1 
 
 -- what begins a formula inside
 abbrev pub begins_formula : Token → Bool
-begins_formula token = is token (codes "P") || is token (codes "Pmax") || is token (codes "Pmin") || is token (codes "<<")
+begins_formula token = is token (codes "P") || is token (codes "Pmax") || is token (codes "Pmin")
+    || is token (codes "<<")
 
 abbrev pub plain : Token → Result (State × Tokens) FormulaFault
 plain token =
@@ -207,13 +213,16 @@ inner inside ts = do
   Ok (inner_of (tree_with team.0 asks.0 p.0), p.1)
 
 abbrev pub unary : Inside → Reading State
-unary inside ts = next ts >>= λ token. if opens token then inside.state token else if begins_formula token then inner inside ts else plain token
+unary inside ts = next ts >>= λ token. if opens token then inside.state token else if begins_formula token then inner
+    inside ts else plain token
 
--- Further operands, each behind a sign, which groups to the left. Their number is below the number of tokens that are left.
+-- Further operands, each behind a sign, which groups to the left. Their number is below the number of tokens that are
+-- left.
 abbrev pub further : List ℕ → (State → State → State) → Reading State → ℕ → State → Reading State
 further sign join operand zero left ts = Ok (left, ts)
 further sign join operand (suc most) left ts =
-    where_next (follows sign ts) (Ok (left, ts)) (λ after. operand after >>= λ right. further sign join operand most (join left right.0) right.1)
+    where_next (follows sign ts) (Ok (left, ts))
+    (λ after. operand after >>= λ right. further sign join operand most (join left right.0) right.1)
 
 -- operand { sign operand }
 abbrev pub joined : List ℕ → (State → State → State) → Reading State → Reading State
@@ -240,7 +249,8 @@ closed read = read >>= λ x. behind (codes ")") x.1 >>= λ after. Ok (x.0, after
 
 -- what a `!` or a `(` begins, where inside reads what stands in it
 abbrev pub inside_of : Inside → Token → Result (State × Tokens) FormulaFault
-inside_of inside token = if is token (codes "!") then negated (unary inside token.after) else closed (implied (unary inside) token.after)
+inside_of inside token = if is token (codes "!") then negated (unary inside token.after) else closed
+    (implied (unary inside) token.after)
 
 -- What they lead to where so many more `!`, `(` and `[` may be open at once.
 unfoldable pub nested : ℕ → Inside

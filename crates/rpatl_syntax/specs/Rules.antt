@@ -73,37 +73,47 @@ mutual
   -- state = either | state "=>" either
   pub data IsState : ℕ → List (List ℕ) → State → Type 0 where
     plain_state : (room : ℕ) (ts : List (List ℕ)) (x : State) → IsEither room ts x → IsState room ts x
-    implies : (room : ℕ) (ts us : List (List ℕ)) (x y : State) → IsState room ts x → IsEither room us y → IsState room (between ts (codes "=>") us) (Implies x y)
+    implies : (room : ℕ) (ts us : List (List ℕ)) (x y : State) → IsState room ts x → IsEither room us y
+        → IsState room (between ts (codes "=>") us) (Implies x y)
 
   -- either = both | either "|" both
   pub data IsEither : ℕ → List (List ℕ) → State → Type 0 where
     plain_either : (room : ℕ) (ts : List (List ℕ)) (x : State) → IsBoth room ts x → IsEither room ts x
-    or : (room : ℕ) (ts us : List (List ℕ)) (x y : State) → IsEither room ts x → IsBoth room us y → IsEither room (between ts (codes "|") us) (Or x y)
+    or : (room : ℕ) (ts us : List (List ℕ)) (x y : State) → IsEither room ts x → IsBoth room us y
+        → IsEither room (between ts (codes "|") us) (Or x y)
 
   -- both = unary | both "&" unary
   pub data IsBoth : ℕ → List (List ℕ) → State → Type 0 where
     plain_both : (room : ℕ) (ts : List (List ℕ)) (x : State) → IsUnary room ts x → IsBoth room ts x
-    and : (room : ℕ) (ts us : List (List ℕ)) (x y : State) → IsBoth room ts x → IsUnary room us y → IsBoth room (between ts (codes "&") us) (And x y)
+    and : (room : ℕ) (ts us : List (List ℕ)) (x y : State) → IsBoth room ts x → IsUnary room us y
+        → IsBoth room (between ts (codes "&") us) (And x y)
 
   -- unary = "!" unary | "(" state ")" | "true" | "false" | quoted name | formula, whose bound compares
   pub data IsUnary : ℕ → List (List ℕ) → State → Type 0 where
-    negation : (room : ℕ) (ts : List (List ℕ)) (x : State) → IsUnary room ts x → IsUnary (suc room) (codes "!" ∷ ts) (Not x)
-    brackets : (room : ℕ) (ts : List (List ℕ)) (x : State) → IsState room ts x → IsUnary (suc room) (codes "(" ∷ (ts ++ codes ")" ∷ [])) x
+    negation : (room : ℕ) (ts : List (List ℕ)) (x : State) → IsUnary room ts x
+        → IsUnary (suc room) (codes "!" ∷ ts) (Not x)
+    brackets : (room : ℕ) (ts : List (List ℕ)) (x : State) → IsState room ts x
+        → IsUnary (suc room) (codes "(" ∷ (ts ++ codes ")" ∷ [])) x
     everywhere : (room : ℕ) → IsUnary room (codes "true" ∷ []) True
     nowhere : (room : ℕ) → IsUnary room (codes "false" ∷ []) False
     label : (room : ℕ) (token : List ℕ) → is_quoted token ≡ true → IsUnary room (token ∷ []) (Label (unquoted token))
-    inside : (room : ℕ) (team asks sides : List (List ℕ)) (f : Tree) → IsCoalition team f.coalition → IsBound asks f.bound → Compares f.bound → IsPath room sides f.kind f.left f.right
+    inside : (room : ℕ) (team asks sides : List (List ℕ)) (f : Tree) → IsCoalition team f.coalition
+        → IsBound asks f.bound → Compares f.bound → IsPath room sides f.kind f.left f.right
         → IsUnary (suc room) (formula_of team asks sides) (inner_of f)
 
   -- path = "F" [ "<=" number ] state | state "U" [ "<=" number ] state | "X" state | "G" state
   pub data IsPath : ℕ → List (List ℕ) → PathKind → State → State → Type 0 where
     reach : (room : ℕ) (ts : List (List ℕ)) (y : State) → IsState room ts y → IsPath room (codes "F" ∷ ts) Until True y
-    reach_within : (room : ℕ) (token : List ℕ) (ts : List (List ℕ)) (k : ℕ) (y : State) → IsSteps token k → IsState room ts y → IsPath room (codes "F" ∷ codes "<=" ∷ token ∷ ts) (Within k) True y
-    until : (room : ℕ) (ts us : List (List ℕ)) (x y : State) → IsState room ts x → IsState room us y → IsPath room (between ts (codes "U") us) Until x y
-    until_within : (room : ℕ) (ts : List (List ℕ)) (token : List ℕ) (us : List (List ℕ)) (k : ℕ) (x y : State) → IsState room ts x → IsSteps token k → IsState room us y
+    reach_within : (room : ℕ) (token : List ℕ) (ts : List (List ℕ)) (k : ℕ) (y : State) → IsSteps token k
+        → IsState room ts y → IsPath room (codes "F" ∷ codes "<=" ∷ token ∷ ts) (Within k) True y
+    until : (room : ℕ) (ts us : List (List ℕ)) (x y : State) → IsState room ts x → IsState room us y
+        → IsPath room (between ts (codes "U") us) Until x y
+    until_within : (room : ℕ) (ts : List (List ℕ)) (token : List ℕ) (us : List (List ℕ)) (k : ℕ) (x y : State)
+        → IsState room ts x → IsSteps token k → IsState room us y
         → IsPath room (between ts (codes "U") (codes "<=" ∷ token ∷ us)) (Within k) x y
     next : (room : ℕ) (ts : List (List ℕ)) (y : State) → IsState room ts y → IsPath room (codes "X" ∷ ts) Next True y
-    always : (room : ℕ) (ts : List (List ℕ)) (y : State) → IsState room ts y → IsPath room (codes "G" ∷ ts) Always True y
+    always : (room : ℕ) (ts : List (List ℕ)) (y : State) → IsState room ts y
+        → IsPath room (codes "G" ∷ ts) Always True y
 
 -- formula = [ coalition ] bound "[" path "]"
 pub record IsFormula (ts : List (List ℕ)) (f : Tree) : Type 0 where

@@ -56,7 +56,9 @@ kind_spelling Always left x = codes "G"
 
 -- a coalition, a bound, and a path whose sides x and y spell
 abbrev pub spelling_with : Option (List (List ℕ)) → Bound → PathKind → State → List ℕ → List ℕ → List ℕ
-spelling_with team bound kind left x y = coalition_spelling team ++ (bound_spelling bound ++ (codes " [ " ++ (kind_spelling kind left x ++ (codes " " ++ (y ++ codes " ]")))))
+spelling_with team bound kind left x y =
+    coalition_spelling team ++ (bound_spelling bound ++ (codes " [ "
+    ++ (kind_spelling kind left x ++ (codes " " ++ (y ++ codes " ]")))))
 
 -- a right operand with the same sign is in brackets, since operators group to the left
 abbrev pub state_spelling : State → List ℕ
@@ -67,7 +69,8 @@ state_spelling (Not x) = codes "!" ++ in_place 3 x (state_spelling x)
 state_spelling (And x y) = in_place 2 x (state_spelling x) ++ (codes " & " ++ in_place 3 y (state_spelling y))
 state_spelling (Or x y) = in_place 1 x (state_spelling x) ++ (codes " | " ++ in_place 2 y (state_spelling y))
 state_spelling (Implies x y) = in_place 0 x (state_spelling x) ++ (codes " => " ++ in_place 1 y (state_spelling y))
-state_spelling (Inner team bound kind left right) = spelling_with team bound kind left (state_spelling left) (state_spelling right)
+state_spelling (Inner team bound kind left right) =
+    spelling_with team bound kind left (state_spelling left) (state_spelling right)
 
 -- The spelling of a formula.
 abbrev pub spelling : Tree → List ℕ

@@ -31,10 +31,13 @@ pub data IsSpelling : List ℕ → Type 0 where
 -- before rest this is a spelling, and no longer front of the two is
 pub record IsLongest (spelling rest : List ℕ) : Type 0 where
   pub is : IsSpelling spelling
-  pub longest : (other behind : List ℕ) → spelling ++ rest ≡ other ++ behind → IsSpelling other → length other ≤ length spelling
+  pub longest : (other behind : List ℕ) → spelling ++ rest ≡ other ++ behind → IsSpelling other
+      → length other ≤ length spelling
 
 -- A text, cut into tokens and blanks from its front on, each token as long as it can be.
 pub data AreCut : List ℕ → List (List ℕ) → Type 0 where
   nothing : AreCut [] []
-  blank : (b : ℕ) (rest : List ℕ) (tokens : List (List ℕ)) → is_blank b rest ≡ true → AreCut rest tokens → AreCut (b ∷ rest) tokens
-  token : (spelling rest : List ℕ) (tokens : List (List ℕ)) → IsLongest spelling rest → AreCut rest tokens → AreCut (spelling ++ rest) (spelling ∷ tokens)
+  blank : (b : ℕ) (rest : List ℕ) (tokens : List (List ℕ)) → is_blank b rest ≡ true → AreCut rest tokens
+      → AreCut (b ∷ rest) tokens
+  token : (spelling rest : List ℕ) (tokens : List (List ℕ)) → IsLongest spelling rest → AreCut rest tokens
+      → AreCut (spelling ++ rest) (spelling ∷ tokens)

@@ -22,7 +22,8 @@ in_word b = begins_word b || is_digit b
 
 -- a letter, a digit, `.` or `/`; or `+` or `-` directly after `e` or `E`
 abbrev pub in_number : ℕ → ℕ → Bool
-in_number before b = is_letter b || is_digit b || b == 46 || b == 47 || ((b == 43 || b == 45) && (before == 101 || before == 69))
+in_number before b = is_letter b || is_digit b || b == 46 || b ==
+    47 || ((b == 43 || b == 45) && (before == 101 || before == 69))
 
 -- from `!` to `~`
 abbrev pub in_name : ℕ → Bool
@@ -30,11 +31,13 @@ in_name b = nat_le 33 b && nat_le b 126
 
 -- `<<`, `<=`, `>>`, `>=`, `=>` and `=?`
 abbrev pub is_long_sign : ℕ → ℕ → Bool
-is_long_sign b c = (b == 60 && (c == 60 || c == 61)) || (b == 62 && (c == 62 || c == 61)) || (b == 61 && (c == 62 || c == 63))
+is_long_sign b c = (b == 60 && (c == 60 || c == 61)) || (b == 62 && (c == 62 || c == 61))
+    || (b == 61 && (c == 62 || c == 63))
 
 -- `<`, `>`, `,`, `[`, `]`, `(`, `)`, `!`, `&` and `|`
 abbrev pub is_short_sign : ℕ → Bool
-is_short_sign b = b == 60 || b == 62 || b == 44 || b == 91 || b == 93 || b == 40 || b == 41 || b == 33 || b == 38 || b == 124
+is_short_sign b = b == 60 || b == 62 || b == 44 || b == 91 || b == 93 || b == 40 || b == 41 || b == 33 || b ==
+    38 || b == 124
 
 -- What stands at the front of a text.
 
@@ -105,7 +108,8 @@ passed (suc count) here more = more count
 abbrev pub tokens_from : ℕ → ℕ → List ℕ → Tokens
 tokens_from place within [] = Finish place
 tokens_from place within (b ∷ bytes) =
-    passed within (in_front place (b ∷ bytes) (front_from b bytes) (λ more. tokens_from (place + 1) more bytes)) (λ more. tokens_from (place + 1) more bytes)
+    passed within (in_front place (b ∷ bytes) (front_from b bytes) (λ more. tokens_from (place + 1) more bytes))
+    (λ more. tokens_from (place + 1) more bytes)
 
 abbrev pub tokens_of : List ℕ → Tokens
 tokens_of text = tokens_from 0 0 text

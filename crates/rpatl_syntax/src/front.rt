@@ -7,7 +7,8 @@ ghost use Rattle.rpatl_syntax.specs.Tokens.{in_number, is_long_sign, short_sign,
 
 use crate::limits::LONGEST_NAME;
 
-/// What stands at the front of a text: a blank byte, a token of so many bytes, a quoted name that doesn't end, or bytes that begin no token.
+/// What stands at the front of a text: a blank byte, a token of so many bytes, a quoted name that doesn't end, or bytes
+/// that begin no token.
 #[derive(Clone, Copy, Debug, PartialEq, Eq)]
 pub enum Front {
     Blank,

@@ -31,7 +31,8 @@ pub fn tokens_are_the_longest_spellings()
 /// A blank parts tokens: behind a text of whole tokens stand these tokens, and then those of what follows the blank.
 pub fn blanks_part_tokens()
     ensures spellings { (front blank back : List ℕ) → IsBlank blank → cause_of (tokens_of front) ≡ None →
-        spellings_of (tokens_of (front ++ (blank ++ back))) ≡ spellings_of (tokens_of front) ++ spellings_of (tokens_of back) }
+        spellings_of (tokens_of (front ++ (blank ++ back))) ≡ spellings_of (tokens_of front)
+        ++ spellings_of (tokens_of back) }
     ensures cause { (front blank back : List ℕ) → IsBlank blank → cause_of (tokens_of front) ≡ None →
         cause_of (tokens_of (front ++ (blank ++ back))) ≡ cause_of (tokens_of back) }
 {}
@@ -44,9 +45,12 @@ pub fn blanks_before_tokens_are_free()
 
 /// A blank before a token or at the end of a text changes no formula, where the text does not get too long.
 pub fn blanks_change_no_formula()
-    ensures before { (front blank back : List ℕ) (tree : Tree) → IsBlank blank → StandsAt (tokens_of (front ++ back)) (length front) →
-        length (front ++ (blank ++ back)) ≤ longest → Denotes (front ++ back) tree → Denotes (front ++ (blank ++ back)) tree }
-    ensures end { (text blank : List ℕ) (tree : Tree) → IsBlank blank → length (text ++ blank) ≤ longest → Denotes text tree → Denotes (text ++ blank) tree }
+    ensures before { (front blank back : List ℕ) (tree : Tree) → IsBlank blank
+        → StandsAt (tokens_of (front ++ back)) (length front) →
+        length (front ++ (blank ++ back)) ≤ longest → Denotes (front ++ back) tree
+        → Denotes (front ++ (blank ++ back)) tree }
+    ensures end { (text blank : List ℕ) (tree : Tree) → IsBlank blank → length (text ++ blank) ≤ longest
+        → Denotes text tree → Denotes (text ++ blank) tree }
 {}
 
 /// The formula that is read from a text is the one that it denotes.
@@ -61,7 +65,8 @@ pub fn formulas_of_texts_are_spellable()
 
 /// No two formulas that can be spelled have the same spelling.
 pub fn spellings_have_one_reading()
-    ensures { (tree other : Tree) → IsSpellable tree → IsSpellable other → spelling tree ≡ spelling other → tree ≡ other }
+    ensures { (tree other : Tree) → IsSpellable tree → IsSpellable other → spelling tree ≡ spelling other
+        → tree ≡ other }
 {}
 
 /// A formula that a text denotes has no more formulas inside than a text may have bytes.
@@ -76,7 +81,8 @@ pub fn thresholds_are_at_most_one()
 
 /// What is left of a whole meets the dual of a bound exactly where the part that was taken meets the bound.
 pub fn rests_meet_duals()
-    ensures { (bound : Bound) (n whole : ℕ) → IsAtMostOne bound → n ≤ whole → IsMetBy (dual_bound bound) (whole - n) whole ↔ IsMetBy bound n whole }
+    ensures { (bound : Bound) (n whole : ℕ) → IsAtMostOne bound → n ≤ whole
+        → IsMetBy (dual_bound bound) (whole - n) whole ↔ IsMetBy bound n whole }
 {}
 
 /// The dual of the dual of a bound is the bound.

@@ -36,7 +36,8 @@ impl Level {
         left: StateFormula,
         right: StateFormula,
     ) -> Result<StateFormula, FormulaFault>
-        ensures { MatchResult result (λ whole. state_of whole ≡ join_of self (state_of left) (state_of right)) IsOutOfMemory }
+        ensures { MatchResult result (λ whole. state_of whole
+            ≡ join_of self (state_of left) (state_of right)) IsOutOfMemory }
     {
         let left = boxed(alloc, left)?;
         let right = boxed(alloc, right)?;
@@ -65,7 +66,8 @@ pub fn inner(
     left: StateFormula,
     right: StateFormula,
 ) -> Result<StateFormula, FormulaFault>
-    ensures { MatchResult result (λ whole. state_of whole ≡ Inner (option_map names_of coalition) bound kind (state_of left) (state_of right)) IsOutOfMemory }
+    ensures { MatchResult result (λ whole. state_of whole ≡ Inner (option_map names_of coalition) bound kind
+        (state_of left) (state_of right)) IsOutOfMemory }
 {
     let formula = Formula {
         coalition,

@@ -17,7 +17,8 @@ use std::alloc::Global;
 pub fn print_formula(alloc: Global, formula: &Formula) -> Result<Vec<u8>, OutOfMemory>
     ensures spelled { IfOk result (λ text. text.items ≡ spelling (tree_of formula.now)) }
     // What the grammar can spell is read again from what is printed, unless that is too long.
-    ensures again { IfOk result (λ text. IsSpellable (tree_of formula.now) → length text.items ≤ longest → formula_said text.items ≡ Ok (tree_of formula.now)) }
+    ensures again { IfOk result (λ text. IsSpellable (tree_of formula.now) → length text.items ≤ longest
+        → formula_said text.items ≡ Ok (tree_of formula.now)) }
 {
     spell(alloc, formula)
 }
@@ -105,7 +106,8 @@ fn put_number(out: &mut Vec<u8>, number: u128) -> Result<(), OutOfMemory>
 // What stands before the right side.
 #[cycle(printed)]
 fn put_kind(out: &mut Vec<u8>, kind: PathKind, left: &StateFormula) -> Result<(), OutOfMemory>
-    ensures { OnOk result (out.new.items ≡ out.old.items ++ kind_spelling kind (state_of left.now) (state_spelling (state_of left.now))) }
+    ensures { OnOk result (out.new.items ≡ out.old.items ++ kind_spelling kind (state_of left.now)
+        (state_spelling (state_of left.now))) }
 {
     match kind {
         PathKind::Until => put_until(out, left),
@@ -122,7 +124,8 @@ fn put_kind(out: &mut Vec<u8>, kind: PathKind, left: &StateFormula) -> Result<()
 // `F`, or the left side and `U`.
 #[cycle(printed)]
 fn put_until(out: &mut Vec<u8>, left: &StateFormula) -> Result<(), OutOfMemory>
-    ensures { OnOk result (out.new.items ≡ out.old.items ++ until_spelling (state_of left.now) (state_spelling (state_of left.now))) }
+    ensures { OnOk result (out.new.items ≡ out.old.items ++ until_spelling (state_of left.now)
+        (state_spelling (state_of left.now))) }
 {
     match left {
         StateFormula::All => put(out, "F"),
@@ -171,7 +174,8 @@ fn put_state(out: &mut Vec<u8>, state: &StateFormula) -> Result<(), OutOfMemory>
 // A state formula in a place for formulas that bind at least so tightly.
 #[cycle(printed)]
 fn put_operand(out: &mut Vec<u8>, least: u8, state: &StateFormula) -> Result<(), OutOfMemory>
-    ensures { OnOk result (out.new.items ≡ out.old.items ++ in_place least (state_of state.now) (state_spelling (state_of state.now))) }
+    ensures { OnOk result (out.new.items ≡ out.old.items ++ in_place least (state_of state.now)
+        (state_spelling (state_of state.now))) }
 {
     if strength(state) < least {
         put(out, "(")?;

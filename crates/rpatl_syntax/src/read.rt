@@ -45,14 +45,16 @@ fn whole(alloc: Global, cursor: Cursor<'_>) -> Result<Formula, FormulaFault>
     }
 }
 
-// The two sides, and the end of the text behind them. This `[` is not among those that are counted, so there is room for one more.
+// The two sides, and the end of the text behind them. This `[` is not among those that are counted, so there is room
+// for one more.
 fn behind_bound(
     alloc: Global,
     coalition: Option<Names>,
     bound: Bound,
     cursor: Cursor<'_>,
 ) -> Result<Formula, FormulaFault>
-    ensures { AnswersOrWants IsOutOfMemory tree_of result (behind_bound (option_map names_of coalition) bound (tokens_at cursor.entry)) }
+    ensures { AnswersOrWants IsOutOfMemory tree_of result
+        (behind_bound (option_map names_of coalition) bound (tokens_at cursor.entry)) }
 {
     let (kind, left, right, rest) = read_sides(alloc, MOST_NESTED + 1, cursor)?;
     match next_lead(rest) {

@@ -58,7 +58,8 @@ fn label(alloc: Global, spelling: &[u8]) -> Result<Name, FormulaFault>
 #[tactic(auto, using(crate::proofs::Joining::begun, crate::proofs::Joining::went_on, crate::proofs::Joining::broke_off, crate::proofs::Joining::ended))]
 #[cycle(state)]
 fn level_state<'a>(alloc: Global, level: Level, room: u32, cursor: Cursor<'a>) -> Read<'a>
-    ensures { AnswersOrWants IsOutOfMemory state_at result (level_of level (unary (nested room)) (tokens_at cursor.entry)) }
+    ensures { AnswersOrWants IsOutOfMemory state_at result
+        (level_of level (unary (nested room)) (tokens_at cursor.entry)) }
 {
     let (mut left, mut rest) = operand_state(alloc, level, room, cursor)?;
     while let Some(after) = behind_if(rest, level.sign()) {
@@ -72,7 +73,8 @@ fn level_state<'a>(alloc: Global, level: Level, room: u32, cursor: Cursor<'a>) -
 // What stands between the signs of a level.
 #[cycle(state)]
 fn operand_state<'a>(alloc: Global, level: Level, room: u32, cursor: Cursor<'a>) -> Read<'a>
-    ensures { AnswersOrWants IsOutOfMemory state_at result (operand_of level (unary (nested room)) (tokens_at cursor.entry)) }
+    ensures { AnswersOrWants IsOutOfMemory state_at result
+        (operand_of level (unary (nested room)) (tokens_at cursor.entry)) }
 {
     match level {
         Level::Implication => level_state(alloc, Level::Disjunction, room, cursor),
@@ -157,7 +159,8 @@ pub fn read_sides<'a>(alloc: Global, room: u32, cursor: Cursor<'a>) -> ReadPath<
 // A path. `F`, `X` and `G` have `true` on the left.
 #[cycle(state)]
 fn read_path<'a>(alloc: Global, room: u32, cursor: Cursor<'a>) -> ReadPath<'a>
-    ensures { AnswersOrWants IsOutOfMemory path_at result (path (implied (unary (nested room))) (tokens_at cursor.entry)) }
+    ensures { AnswersOrWants IsOutOfMemory path_at result
+        (path (implied (unary (nested room))) (tokens_at cursor.entry)) }
 {
     let token = next_token(cursor)?;
     if token.is("F") {
@@ -188,7 +191,8 @@ fn read_reached<'a>(
     left: StateFormula,
     cursor: Cursor<'a>,
 ) -> ReadPath<'a>
-    ensures { AnswersOrWants IsOutOfMemory path_at result (reached (implied (unary (nested room))) (state_of left) (tokens_at cursor.entry)) }
+    ensures { AnswersOrWants IsOutOfMemory path_at result
+        (reached (implied (unary (nested room))) (state_of left) (tokens_at cursor.entry)) }
 {
     match read_deadline(cursor) {
         Ok((kind, rest)) => read_right(alloc, room, kind, left, rest),
@@ -205,7 +209,8 @@ fn read_right<'a>(
     left: StateFormula,
     cursor: Cursor<'a>,
 ) -> ReadPath<'a>
-    ensures { AnswersOrWants IsOutOfMemory path_at result (right_side (implied (unary (nested room))) kind (state_of left) (tokens_at cursor.entry)) }
+    ensures { AnswersOrWants IsOutOfMemory path_at result
+        (right_side (implied (unary (nested room))) kind (state_of left) (tokens_at cursor.entry)) }
 {
     let (right, rest) = level_state(alloc, Level::Implication, room, cursor)?;
     Ok((kind, left, right, rest))

@@ -22,7 +22,7 @@ use Rattle.plan_text.proofs.WrittenFields.{AreFrom, IsField-fixed}
 use Rattle.verdicts.specs.declared.verdict.Verdict.{Verdict}
 use Rattle.verdicts.specs.declared.verdict.Verdict.TheVariants.{Yes, No, Undecided, Bracket}
 use Rattle.verdicts.specs.declared.report.How.{How}
-use Rattle.verdicts.specs.declared.report.How.TheVariants.{Rounds, Steps, Audited}
+use Rattle.verdicts.specs.declared.report.How.TheVariants.{Rounds, Steps, Audited, Solved}
 use Rattle.verdicts.specs.declared.report.ReportLine.{ReportLine}
 use Rattle.run_answers.proofs.PlainParts.{IsFine, HasFine, HasPlainParts, threshold-fine}
 use Rattle.verdicts.specs.Report.{HasCount, IsLine, how_text, ending, line_text}
@@ -85,6 +85,7 @@ how-HasNo : (how : How) → HasCount how → HasNo 10 (how_text how)
 how-HasNo (Rounds rounds) small = HasNo-append (codes " rounds ") (decimal rounds) (plain (codes " rounds ") refl) (decimal-HasNo rounds (omega arith))
 how-HasNo (Steps steps) small = HasNo-append (codes " steps ") (decimal steps) (plain (codes " steps ") refl) (decimal-HasNo steps (omega arith))
 how-HasNo Audited small = plain (codes " audited") refl
+how-HasNo Solved small = plain (codes " solved") refl
 
 ending-ended : (verdict : Verdict) → IsEnded (ending verdict)
 ending-ended Yes = record { front = codes " True"; none = plain (codes " True") refl; whole = refl }

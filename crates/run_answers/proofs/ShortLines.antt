@@ -11,7 +11,7 @@ use Rattle.plan_text.specs.Written.{choice_text, behind_space, entry_text, entry
 use Rattle.verdicts.specs.declared.verdict.Verdict.{Verdict}
 use Rattle.verdicts.specs.declared.verdict.Verdict.TheVariants.{Yes, No, Undecided, Bracket}
 use Rattle.verdicts.specs.declared.report.How.{How}
-use Rattle.verdicts.specs.declared.report.How.TheVariants.{Rounds, Steps, Audited}
+use Rattle.verdicts.specs.declared.report.How.TheVariants.{Rounds, Steps, Audited, Solved}
 use Rattle.verdicts.specs.declared.report.ReportLine.{ReportLine}
 use Rattle.verdicts.specs.Report.{HasCount, IsLine, labelled, how_text, ending, line_text, report}
 
@@ -43,6 +43,7 @@ how-short : (how : How) → HasCount how → length (how_text how) ≤ 18
 how-short (Rounds rounds) small = joined-short 8 10 (codes " rounds ") (decimal rounds) (omega arith) (decimal-short rounds (omega arith))
 how-short (Steps steps) small = joined-short 8 10 (codes " steps ") (decimal steps) (omega arith) (decimal-short steps (omega arith))
 how-short Audited small = omega arith
+how-short Solved small = omega arith
 
 ending-short : (verdict : Verdict) → length (ending verdict) ≤ 11
 ending-short Yes = omega arith

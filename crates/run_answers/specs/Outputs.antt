@@ -21,7 +21,8 @@ pub record Output : Type 0 where
 -- the line `formula F`, and the certificate
 abbrev pub certificate_part : Option Certificate → List ℕ
 certificate_part None = []
-certificate_part (Some certificate) = (codes "formula " ++ (spelling certificate.formula ++ codes "\n")) ++ certificate_text certificate.entries
+certificate_part (Some certificate) = (codes "formula " ++ (spelling certificate.formula ++ codes "\n"))
+    ++ certificate_text certificate.entries
 
 abbrev pub output_text : Output → List ℕ
 output_text output = report output.lines ++ certificate_part output.certificate

@@ -34,18 +34,26 @@ printed_upper mirrored lower upper = if mirrored then unit - lower else upper
 
 -- what the printed bounds say
 abbrev pub printed_verdict : Bool → Bound → ℕ → ℕ → Verdict
-printed_verdict mirrored bound lower upper = verdict_of bound (printed_lower mirrored lower upper) (printed_upper mirrored lower upper)
+printed_verdict mirrored bound lower upper =
+    verdict_of bound (printed_lower mirrored lower upper) (printed_upper mirrored lower upper)
 
 abbrev pub printed_line : Bool → Bound → How → ℕ → ℕ → ℕ → ReportLine
 printed_line mirrored bound how s lower upper =
-    record { state = s; lower = printed_lower mirrored lower upper; upper = printed_upper mirrored lower upper; how = how; verdict = printed_verdict mirrored bound lower upper }
+    record {
+      state = s;
+      lower = printed_lower mirrored lower upper;
+      upper = printed_upper mirrored lower upper;
+      how = how;
+      verdict = printed_verdict mirrored bound lower upper;
+    }
 
 -- the verdict and the line of a state, by two tables
 abbrev pub verdict_over : Bool → Bound → List ℕ → List ℕ → ℕ → Verdict
 verdict_over mirrored bound lower upper s = printed_verdict mirrored bound (slice_index lower s) (slice_index upper s)
 
 abbrev pub line_over : Bool → Bound → How → List ℕ → List ℕ → ℕ → ReportLine
-line_over mirrored bound how lower upper s = printed_line mirrored bound how s (slice_index lower s) (slice_index upper s)
+line_over mirrored bound how lower upper s =
+    printed_line mirrored bound how s (slice_index lower s) (slice_index upper s)
 
 -- those of a formula
 abbrev pub verdict_for : Tree → List ℕ → List ℕ → ℕ → Verdict
@@ -60,8 +68,12 @@ certificate_of asked f plan = if asked then Some (record { formula = answered f;
 
 -- one line for each initial state, and the certificate where it is asked for
 abbrev pub output_of : Bool → Tree → How → List ℕ → Plan → Output
-output_of asked f how initial plan = record { lines = map (line_for f how plan.lower.items plan.upper.items) initial; certificate = certificate_of asked f plan }
+output_of asked f how initial plan = record {
+  lines = map (line_for f how plan.lower.items plan.upper.items) initial;
+  certificate = certificate_of asked f plan;
+}
 
 -- some line is False; else some is Undecided; else all is well
 abbrev pub status_of : List Verdict → Status
-status_of verdicts = if list_any is_no verdicts then SomeFalse else (if list_any is_undecided verdicts then SomeUndecided else Fine)
+status_of verdicts = if list_any is_no verdicts then SomeFalse else
+    (if list_any is_undecided verdicts then SomeUndecided else Fine)

@@ -24,8 +24,9 @@ pub struct Answer {
     pub status: Status,
 }
 
-/// The report of some states: one line for each, with the bounds that two tables have, in units, and what these say of a
-/// bound. Where the tables are mirrored, those of the dual of `G`, 1 less their bounds is printed. The only error is want of memory.
+/// The report of some states: one line for each, with the bounds that two tables have, in units, and what these say of
+/// a bound. Where the tables are mirrored, those of the dual of `G`, 1 less their bounds is printed. The only error is
+/// want of memory.
 pub fn report_of(
     alloc: Global,
     mirrored: bool,
@@ -39,8 +40,10 @@ pub fn report_of(
     requires as_many { length upper.now ≡ length lower.now }
     requires lower { All (λ v. v ≤ unit) lower.now }
     requires upper { All (λ v. v ≤ unit) upper.now }
-    ensures text { IfOk result (λ answer. answer.text.items ≡ report (map (line_over mirrored bound.now how lower.now upper.now) states.now)) }
-    ensures status { IfOk result (λ answer. answer.status ≡ status_of (map (verdict_over mirrored bound.now lower.now upper.now) states.now)) }
+    ensures text { IfOk result (λ answer. answer.text.items ≡ report
+        (map (line_over mirrored bound.now how lower.now upper.now) states.now)) }
+    ensures status { IfOk result (λ answer. answer.status ≡ status_of
+        (map (verdict_over mirrored bound.now lower.now upper.now) states.now)) }
     ensures answer { IfOk result (λ answer. IsAnswer answer.status) }
 {
     let lines = lines_of(alloc, mirrored, bound, how, lower, upper, states)?;
@@ -75,7 +78,8 @@ fn lines_of(
     requires as_many { length upper.now ≡ length lower.now }
     requires lower { All (λ v. v ≤ unit) lower.now }
     requires upper { All (λ v. v ≤ unit) upper.now }
-    ensures lines { IfOk result (λ lines. lines.items ≡ map (line_over mirrored bound.now how lower.now upper.now) states.now) }
+    ensures lines { IfOk result (λ lines. lines.items ≡ map (line_over mirrored bound.now how lower.now upper.now)
+        states.now) }
     ensures values { IfOk result (λ lines. All HasValues lines.items) }
 {
     let mut lines = Vec::with_capacity(alloc, states.len())?;

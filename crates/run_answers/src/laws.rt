@@ -9,7 +9,8 @@ use verdicts::laws::reports_have_one_reading;
 
 /// No two outputs have the same text: it tells each line, and the formula and each entry of the certificate.
 pub fn outputs_have_one_reading()
-    ensures { (output other : Output) → IsWholeOutput output → IsWholeOutput other → output_text output ≡ output_text other → output ≡ other }
+    ensures { (output other : Output) → IsWholeOutput output → IsWholeOutput other
+        → output_text output ≡ output_text other → output ≡ other }
 {
     reports_have_one_reading();
     certificates_have_one_reading();

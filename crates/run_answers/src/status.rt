@@ -5,8 +5,8 @@ ghost use Rattle.std.specs.Prelude.{◌≡◌};
 /// How a run ends. The program's exit status is its number.
 #[derive(Clone, Copy, Debug, PartialEq, Eq)]
 pub enum Status {
-    /// Every initial state has its line, and none is false or undecided; or both tables of a made game are settled; or every
-    /// initial state is sure.
+    /// Every initial state has its line, and none is false or undecided; or both tables of a made game are settled; or
+    /// every initial state is sure.
     Fine,
     /// Some initial state's line is false, or some initial state is not sure.
     SomeFalse,

@@ -20,7 +20,9 @@ use Rattle.inductive_check.specs.declared.upper.UpperCause.{UpperCause}
 use Rattle.inductive_check.specs.declared.upper.UpperCause.TheVariants as upper
 use Rattle.rank_certificate.specs.declared.check.RankCause.{RankCause}
 use Rattle.rank_certificate.specs.declared.check.RankCause.TheVariants as ranks
-use Rattle.run_refusals.specs.Refusals.{number_text, choice_text, tra_text, lab_text, formula_text, question_text, plan_cause_text, upper_text, ranks_text}
+use Rattle.values_reader.specs.declared.fault.ValuesCause.{ValuesCause}
+use Rattle.values_reader.specs.declared.fault.ValuesCause.TheVariants as values
+use Rattle.run_refusals.specs.Refusals.{number_text, choice_text, tra_text, lab_text, values_text, formula_text, question_text, plan_cause_text, upper_text, ranks_text}
 use Rattle.run_refusals.specs.InFull.{IsInFull, AreInFull, ChoiceInFull, TraInFull, LabInFull, UpperInFull, RanksInFull}
 use Rattle.run_refusals.proofs.Labelled.{at, numbered-one, pair-one, place-onto}
 
@@ -55,6 +57,17 @@ formula-one formula.TooLong formula.TooLong e = refl
 formula-one formula.BadSteps formula.BadSteps e = refl
 formula-one formula.AskInside formula.AskInside e = refl
 formula-one a b e = absurd (omega (arith, at e 0, at e 3))
+
+pub values-one : (a b : ValuesCause) → values_text a ≡ values_text b → a ≡ b
+values-one values.BadField values.BadField e = refl
+values-one values.StateOutOfRange values.StateOutOfRange e = refl
+values-one values.DoubleState values.DoubleState e = refl
+values-one values.LineCount values.LineCount e = refl
+values-one a b e = absurd (omega (arith, at e 0))
+
+pub values-not_long : (cause : ValuesCause) → values_text cause ≡ codes "TooLong" → ⊥
+values-not_long values.BadField e = omega (arith, at e 0)
+values-not_long cause e = omega (arith, at e 0)
 
 pub lab-one : (a b : LabCause) → LabInFull a → LabInFull b → lab_text a ≡ lab_text b → a ≡ b
 lab-one lab.OutOfMemory lab.OutOfMemory ha hb e = refl

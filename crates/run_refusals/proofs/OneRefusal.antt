@@ -6,6 +6,8 @@ use Rattle.tra_reader.specs.declared.fault.TraCause.{TraCause}
 use Rattle.tra_reader.specs.declared.fault.TraFault.{TraFault}
 use Rattle.label_reader.specs.declared.faults.LabCause.{LabCause}
 use Rattle.label_reader.specs.declared.faults.LabFault.{LabFault}
+use Rattle.values_reader.specs.declared.fault.ValuesCause.{ValuesCause}
+use Rattle.values_reader.specs.declared.fault.ValuesFault.{ValuesFault}
 use Rattle.rpatl_syntax.specs.declared.fault.FormulaCause.{FormulaCause}
 use Rattle.rpatl_syntax.specs.declared.fault.FormulaFault.{FormulaFault}
 use Rattle.plan_text.specs.declared.fault.PlanCause.{PlanCause}
@@ -17,14 +19,14 @@ use Rattle.rank_certificate.specs.declared.check.RankFault.{RankFault}
 use Rattle.certificate_audit.specs.declared.fault.AuditFault.{AuditFault}
 use Rattle.certificate_audit.specs.declared.fault.AuditFault.TheVariants as audit
 use Rattle.run_refusals.specs.declared.refusal.Text.{Text}
-use Rattle.run_refusals.specs.declared.refusal.Text.TheVariants.{Tra, Lab, Own, Cert}
+use Rattle.run_refusals.specs.declared.refusal.Text.TheVariants.{Tra, Lab, Own, Cert, Values}
 use Rattle.run_refusals.specs.declared.refusal.Refusal.{Refusal}
-use Rattle.run_refusals.specs.declared.refusal.Refusal.TheVariants.{OfTra, OfLab, OfOwn, OfFormula, OfQuestion, WrongKind, OfCertificate, TooLong}
+use Rattle.run_refusals.specs.declared.refusal.Refusal.TheVariants.{OfTra, OfLab, OfOwn, OfFormula, OfQuestion, WrongKind, OfCertificate, OfValues, TooLong}
 use Rattle.run_refusals.specs.Refusals.{refused_line, certificate_refused, refusal_text, question_line, question_text, plan_cause_text, upper_text, ranks_text}
 use Rattle.run_refusals.specs.InFull.{IsInFull, CertificateInFull, RefusalInFull}
 use Rattle.verdicts.proofs.Numbers.{number-one}
 use Rattle.run_refusals.proofs.Labelled.{at}
-use Rattle.run_refusals.proofs.OneCause.{tra-one, lab-one, formula-one, question-one, question-not_kind, tra-not_long, lab-not_long, plan_cause-one, upper-one, ranks-one, plan_cause-not_upper, plan_cause-not_ranks, upper-not_ranks, plan_cause-not_long, upper-not_long, ranks-not_long}
+use Rattle.run_refusals.proofs.OneCause.{tra-one, lab-one, values-one, values-not_long, formula-one, question-one, question-not_kind, tra-not_long, lab-not_long, plan_cause-one, upper-one, ranks-one, plan_cause-not_upper, plan_cause-not_ranks, upper-not_ranks, plan_cause-not_long, upper-not_long, ranks-not_long}
 
 -- a number, and a cause to the end of the line
 numbered_cause-one : (m n : ℕ) (cause other : List ℕ) → IsInFull m → IsInFull n → decimal m ++ 32 ∷ (cause ++ codes "\n") ≡ decimal n ++ 32 ∷ (other ++ codes "\n") → (m ≡ n) × (cause ≡ other)
@@ -37,6 +39,7 @@ refused_line-one Tra Tra m n cause other hm hn e = let parts = numbered_cause-on
 refused_line-one Lab Lab m n cause other hm hn e = let parts = numbered_cause-one m n cause other hm hn (append_cancel_left (codes "refused lab line ") _ _ e) in (refl, parts.0, parts.1)
 refused_line-one Own Own m n cause other hm hn e = let parts = numbered_cause-one m n cause other hm hn (append_cancel_left (codes "refused own line ") _ _ e) in (refl, parts.0, parts.1)
 refused_line-one Cert Cert m n cause other hm hn e = let parts = numbered_cause-one m n cause other hm hn (append_cancel_left (codes "refused cert line ") _ _ e) in (refl, parts.0, parts.1)
+refused_line-one Values Values m n cause other hm hn e = let parts = numbered_cause-one m n cause other hm hn (append_cancel_left (codes "refused values line ") _ _ e) in (refl, parts.0, parts.1)
 refused_line-one text another m n cause other hm hn e = absurd (omega (arith, at e 8))
 
 -- 1. The line of a certificate.
@@ -143,6 +146,11 @@ lab_fault fault other line cause =
     let made : ℕ → LabCause → LabFault = λ l c. record { line = l; cause = c } in
     ap (λ l. made l fault.cause) line ∙ ap (λ c. made other.line c) cause
 
+values_fault : (fault other : ValuesFault) → fault.line ≡ other.line → fault.cause ≡ other.cause → fault ≡ other
+values_fault fault other line cause =
+    let made : ℕ → ValuesCause → ValuesFault = λ l c. record { line = l; cause = c } in
+    ap (λ l. made l fault.cause) line ∙ ap (λ c. made other.line c) cause
+
 formula_fault : (fault other : FormulaFault) → fault.place ≡ other.place → fault.cause ≡ other.cause → fault ≡ other
 formula_fault fault other place cause =
     let made : ℕ → FormulaCause → FormulaFault = λ l c. record { place = l; cause = c } in
@@ -161,19 +169,26 @@ refusal-one (OfLab fault) (OfLab other) ha hb e =
 refusal-one (OfOwn fault) (OfOwn other) ha hb e =
     let parts = refused_line-one Own Own fault.line other.line _ _ ha.0 hb.0 e in
     ap OfOwn (lab_fault fault other parts.1 (lab-one fault.cause other.cause ha.1 hb.1 parts.2))
+refusal-one (OfValues fault) (OfValues other) ha hb e =
+    let parts = refused_line-one Values Values fault.line other.line _ _ ha hb e in
+    ap OfValues (values_fault fault other parts.1 (values-one fault.cause other.cause parts.2))
 refusal-one (TooLong text) (TooLong another) ha hb e = ap TooLong (refused_line-one text another 0 0 (codes "TooLong") (codes "TooLong") (omega arith) (omega arith) e).0
 refusal-one (OfTra fault) (TooLong text) ha hb e = absurd (tra-not_long fault.cause (refused_line-one Tra text fault.line 0 _ _ ha.0 (omega arith) e).2)
 refusal-one (OfLab fault) (TooLong text) ha hb e = absurd (lab-not_long fault.cause (refused_line-one Lab text fault.line 0 _ _ ha.0 (omega arith) e).2)
 refusal-one (OfOwn fault) (TooLong text) ha hb e = absurd (lab-not_long fault.cause (refused_line-one Own text fault.line 0 _ _ ha.0 (omega arith) e).2)
+refusal-one (OfValues fault) (TooLong text) ha hb e = absurd (values-not_long fault.cause (refused_line-one Values text fault.line 0 _ _ ha (omega arith) e).2)
 refusal-one (TooLong text) (OfTra fault) ha hb e = absurd (tra-not_long fault.cause (sym (refused_line-one text Tra 0 fault.line _ _ (omega arith) hb.0 e).2))
 refusal-one (TooLong text) (OfLab fault) ha hb e = absurd (lab-not_long fault.cause (sym (refused_line-one text Lab 0 fault.line _ _ (omega arith) hb.0 e).2))
 refusal-one (TooLong text) (OfOwn fault) ha hb e = absurd (lab-not_long fault.cause (sym (refused_line-one text Own 0 fault.line _ _ (omega arith) hb.0 e).2))
+refusal-one (TooLong text) (OfValues fault) ha hb e = absurd (values-not_long fault.cause (sym (refused_line-one text Values 0 fault.line _ _ (omega arith) hb e).2))
 refusal-one (OfCertificate fault) (OfCertificate other) ha hb e = ap OfCertificate (certificate-one fault other ha hb e)
 refusal-one (OfCertificate fault) (TooLong text) ha hb e = absurd (certificate-not_long fault text ha e)
 refusal-one (TooLong text) (OfCertificate fault) ha hb e = absurd (certificate-not_long fault text hb (sym e))
 refusal-one (OfTra fault) (OfCertificate other) ha hb e = absurd (not_certificate Tra fault.line _ other (λ is. cc (is)) ha.0 hb e)
 refusal-one (OfLab fault) (OfCertificate other) ha hb e = absurd (not_certificate Lab fault.line _ other (λ is. cc (is)) ha.0 hb e)
 refusal-one (OfOwn fault) (OfCertificate other) ha hb e = absurd (not_certificate Own fault.line _ other (λ is. cc (is)) ha.0 hb e)
+refusal-one (OfValues fault) (OfCertificate other) ha hb e = absurd (not_certificate Values fault.line _ other (λ is. cc (is)) ha hb e)
+refusal-one (OfCertificate other) (OfValues fault) ha hb e = absurd (not_certificate Values fault.line _ other (λ is. cc (is)) hb ha (sym e))
 refusal-one (OfCertificate other) (OfTra fault) ha hb e = absurd (not_certificate Tra fault.line _ other (λ is. cc (is)) hb.0 ha (sym e))
 refusal-one (OfCertificate other) (OfLab fault) ha hb e = absurd (not_certificate Lab fault.line _ other (λ is. cc (is)) hb.0 ha (sym e))
 refusal-one (OfCertificate other) (OfOwn fault) ha hb e = absurd (not_certificate Own fault.line _ other (λ is. cc (is)) hb.0 ha (sym e))

@@ -13,7 +13,7 @@ use Rattle.rank_certificate.specs.declared.check.RankCause.TheVariants.{Short, N
 use Rattle.certificate_audit.specs.declared.fault.AuditFault.{AuditFault}
 use Rattle.certificate_audit.specs.declared.fault.AuditFault.TheVariants as audit
 use Rattle.run_refusals.specs.declared.refusal.Refusal.{Refusal}
-use Rattle.run_refusals.specs.declared.refusal.Refusal.TheVariants.{OfTra, OfLab, OfOwn, OfFormula, OfQuestion, WrongKind, OfCertificate, TooLong}
+use Rattle.run_refusals.specs.declared.refusal.Refusal.TheVariants.{OfTra, OfLab, OfOwn, OfFormula, OfQuestion, WrongKind, OfCertificate, OfValues, TooLong}
 
 -- `decimal` writes no more than the last 64 digits of a number; those of 128 bits have at most 39
 abbrev pub IsInFull : ℕ → Type 0
@@ -63,4 +63,5 @@ RefusalInFull (OfFormula fault) = IsInFull fault.place
 RefusalInFull (OfQuestion fault) = Unit {0}
 RefusalInFull WrongKind = Unit {0}
 RefusalInFull (OfCertificate fault) = CertificateInFull fault
+RefusalInFull (OfValues fault) = IsInFull fault.line
 RefusalInFull (TooLong text) = Unit {0}

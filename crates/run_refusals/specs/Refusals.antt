@@ -8,6 +8,8 @@ use Rattle.tra_reader.specs.declared.fault.TraCause.{TraCause}
 use Rattle.tra_reader.specs.declared.fault.TraCause.TheVariants as tra
 use Rattle.label_reader.specs.declared.faults.LabCause.{LabCause}
 use Rattle.label_reader.specs.declared.faults.LabCause.TheVariants as lab
+use Rattle.values_reader.specs.declared.fault.ValuesCause.{ValuesCause}
+use Rattle.values_reader.specs.declared.fault.ValuesCause.TheVariants as values
 use Rattle.rpatl_syntax.specs.declared.fault.FormulaCause.{FormulaCause}
 use Rattle.rpatl_syntax.specs.declared.fault.FormulaCause.TheVariants as formula
 use Rattle.rpatl_syntax.specs.declared.fault.FormulaFault.{FormulaFault}
@@ -22,9 +24,9 @@ use Rattle.rank_certificate.specs.declared.check.RankCause.TheVariants as ranks
 use Rattle.certificate_audit.specs.declared.fault.AuditFault.{AuditFault}
 use Rattle.certificate_audit.specs.declared.fault.AuditFault.TheVariants as audit
 use Rattle.run_refusals.specs.declared.refusal.Text.{Text}
-use Rattle.run_refusals.specs.declared.refusal.Text.TheVariants.{Tra, Lab, Own, Cert}
+use Rattle.run_refusals.specs.declared.refusal.Text.TheVariants.{Tra, Lab, Own, Cert, Values}
 use Rattle.run_refusals.specs.declared.refusal.Refusal.{Refusal}
-use Rattle.run_refusals.specs.declared.refusal.Refusal.TheVariants.{OfTra, OfLab, OfOwn, OfFormula, OfQuestion, WrongKind, OfCertificate, TooLong}
+use Rattle.run_refusals.specs.declared.refusal.Refusal.TheVariants.{OfTra, OfLab, OfOwn, OfFormula, OfQuestion, WrongKind, OfCertificate, OfValues, TooLong}
 
 -- a name and a number behind it
 abbrev pub numbered : List ℕ → ℕ → List ℕ
@@ -48,9 +50,11 @@ number_text number.TooLarge = codes "TooLarge"
 abbrev pub choice_text : ℕ → ℕ → ChoiceFault → List ℕ
 choice_text state k choice.OutOfMemory = codes "OutOfMemory" ++ choice_place state k
 choice_text state k (choice.TooFine first second) =
-    codes "TooFine" ++ (choice_place state k ++ (codes " first " ++ (decimal first ++ numbered (codes " second ") second)))
+    codes "TooFine" ++ (choice_place state k ++ (codes " first "
+    ++ (decimal first ++ numbered (codes " second ") second)))
 choice_text state k (choice.BadSum sum denominator) =
-    codes "BadSum" ++ (choice_place state k ++ (codes " sum " ++ (decimal sum ++ numbered (codes " denominator ") denominator)))
+    codes "BadSum" ++ (choice_place state k ++ (codes " sum "
+    ++ (decimal sum ++ numbered (codes " denominator ") denominator)))
 
 abbrev pub tra_text : TraCause → List ℕ
 tra_text tra.OutOfMemory = codes "OutOfMemory"
@@ -121,19 +125,28 @@ ranks_text state ranks.Choice = numbered (codes "Choice state ") state
 ranks_text state (ranks.Short k) = codes "Short" ++ choice_place state k
 ranks_text state (ranks.NoStep k) = codes "NoStep" ++ choice_place state k
 
+abbrev pub values_text : ValuesCause → List ℕ
+values_text values.BadField = codes "BadField"
+values_text values.StateOutOfRange = codes "StateOutOfRange"
+values_text values.DoubleState = codes "DoubleState"
+values_text values.LineCount = codes "LineCount"
+
 abbrev pub name_of_text : Text → List ℕ
 name_of_text Tra = codes "tra"
 name_of_text Lab = codes "lab"
 name_of_text Own = codes "own"
 name_of_text Cert = codes "cert"
+name_of_text Values = codes "values"
 
 -- a fault of a file, with its line
 abbrev pub refused_line : Text → ℕ → List ℕ → List ℕ
-refused_line text line cause = codes "refused " ++ (name_of_text text ++ (numbered (codes " line ") line ++ (32 ∷ (cause ++ codes "\n"))))
+refused_line text line cause = codes "refused " ++ (name_of_text text
+    ++ (numbered (codes " line ") line ++ (32 ∷ (cause ++ codes "\n"))))
 
 -- a fault of the formula, with its place
 abbrev pub formula_refused : FormulaFault → List ℕ
-formula_refused fault = codes "refused formula place " ++ (decimal fault.place ++ (32 ∷ (formula_text fault.cause ++ codes "\n")))
+formula_refused fault = codes "refused formula place " ++ (decimal fault.place
+    ++ (32 ∷ (formula_text fault.cause ++ codes "\n")))
 
 -- why a question is refused
 abbrev pub question_line : List ℕ → List ℕ
@@ -157,7 +170,8 @@ refusal_text (OfFormula fault) = formula_refused fault
 refusal_text (OfQuestion fault) = question_refused fault
 refusal_text WrongKind = question_line (codes "WrongKind")
 refusal_text (OfCertificate fault) = certificate_refused fault
+refusal_text (OfValues fault) = refused_line Values fault.line (values_text fault.cause)
 refusal_text (TooLong text) = refused_line text 0 (codes "TooLong")
 
 abbrev pub usage_text : List ℕ
-usage_text = codes "usage: stogame check TRA LAB FORMULA [--own FILE] [--rounds R] [--workers W] [--plan] [--traps] | audit TRA LAB FORMULA CERT [--own FILE] | make SEED STATES [--rounds R] [--workers W] | sure TRA LAB FORMULA [--own FILE]\n"
+usage_text = codes "usage: stogame check TRA LAB FORMULA [--own FILE] [--rounds R] [--workers W] [--plan] [--traps] | audit TRA LAB FORMULA CERT [--own FILE] | solve TRA LAB FORMULA [--own FILE] [--values FILE] [--plan] | make SEED STATES [--rounds R] [--workers W] | sure TRA LAB FORMULA [--own FILE]\n"

@@ -2,7 +2,7 @@
 
 ghost use Rattle.std.specs.Prelude.{◌≡◌, IfOk};
 ghost use Rattle.std.specs.String.{string_bytes};
-ghost use Rattle.run_refusals.specs.Refusals.{number_text, choice_text, choice_place as choice_place_text, tra_text, lab_text, formula_text, plan_cause_text, upper_text, ranks_text};
+ghost use Rattle.run_refusals.specs.Refusals.{number_text, choice_text, choice_place as choice_place_text, tra_text, lab_text, formula_text, plan_cause_text, upper_text, ranks_text, values_text};
 
 use distributions::{ChoiceFault, NumberFault};
 use inductive_check::UpperCause;
@@ -12,6 +12,7 @@ use rank_certificate::RankCause;
 use rpatl_syntax::FormulaCause;
 use std::alloc::{AllocError, Global};
 use tra_reader::TraCause;
+use values_reader::ValuesCause;
 
 /// Why a text spells no probability.
 pub fn number_cause(fault: NumberFault) -> &'static str
@@ -165,5 +166,17 @@ pub fn ranks_cause(alloc: Global, state: u32, cause: RankCause) -> Result<String
         RankCause::Choice => format!(in alloc; "Choice state {state}"),
         RankCause::Short { choice } => format!(in alloc; "Short state {state} choice {choice}"),
         RankCause::NoStep { choice } => format!(in alloc; "NoStep state {state} choice {choice}"),
+    }
+}
+
+/// Why a text has no values.
+pub fn values_cause(cause: ValuesCause) -> &'static str
+    ensures { result.now ≡ values_text cause }
+{
+    match cause {
+        ValuesCause::BadField => "BadField",
+        ValuesCause::StateOutOfRange => "StateOutOfRange",
+        ValuesCause::DoubleState => "DoubleState",
+        ValuesCause::LineCount => "LineCount",
     }
 }

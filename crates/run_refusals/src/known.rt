@@ -46,6 +46,7 @@ impl Refusal {
             }
             Refusal::OfFormula(fault) => known_of_number(fault.place),
             Refusal::OfCertificate(fault) => known_of_certificate(*fault),
+            Refusal::OfValues(fault) => known_of_number(fault.line),
             Refusal::OfQuestion(_) | Refusal::WrongKind | Refusal::TooLong(_) => {}
         }
     }

@@ -4,13 +4,16 @@ ghost use Rattle.std.specs.Prelude.{◌≡◌, ◌++◌, IfOk, codes};
 ghost use Rattle.std.specs.String.{string_bytes};
 ghost use Rattle.run_refusals.specs.Refusals.{refusal_text, refused_line, formula_refused, question_refused, certificate_refused, usage_text};
 
-use crate::causes::{formula_cause, lab_cause, plan_cause, ranks_cause, tra_cause, upper_cause};
+use crate::causes::{
+    formula_cause, lab_cause, plan_cause, ranks_cause, tra_cause, upper_cause, values_cause,
+};
 use certificate_audit::AuditFault;
 use formula_sets::PoseFault;
 use label_reader::LabFault;
 use rpatl_syntax::FormulaFault;
 use std::alloc::{AllocError, Global};
 use tra_reader::TraFault;
+use values_reader::ValuesFault;
 
 /// Which text of a run.
 #[derive(Clone, Copy, Debug, PartialEq, Eq)]
@@ -19,6 +22,7 @@ pub enum Text {
     Lab,
     Own,
     Cert,
+    Values,
 }
 
 impl Text {
@@ -33,6 +37,7 @@ impl Text {
             Text::Lab => "lab",
             Text::Own => "own",
             Text::Cert => "cert",
+            Text::Values => "values",
         }
     }
 }
@@ -54,6 +59,8 @@ pub enum Refusal {
     WrongKind,
     /// A fault of the certificate.
     OfCertificate(AuditFault),
+    /// A fault of the file of values.
+    OfValues(ValuesFault),
     /// A file has more bytes than are read.
     TooLong(Text),
 }
@@ -79,6 +86,9 @@ pub fn refusal_line(alloc: Global, refusal: &Refusal) -> Result<Vec<u8>, AllocEr
         Refusal::OfQuestion(fault) => question_line(alloc, fault),
         Refusal::WrongKind => question_cause(alloc, b"WrongKind", b""),
         Refusal::OfCertificate(fault) => certificate_line(alloc, *fault),
+        Refusal::OfValues(fault) => {
+            refused(alloc, Text::Values, fault.line, values_cause(fault.cause))
+        }
         Refusal::TooLong(text) => refused(alloc, *text, 0, "TooLong"),
     }
 }
@@ -106,7 +116,8 @@ fn question_line(alloc: Global, fault: &PoseFault) -> Result<Vec<u8>, AllocError
 }
 
 fn question_cause(alloc: Global, cause: &[u8], name: &[u8]) -> Result<Vec<u8>, AllocError>
-    ensures { IfOk result (λ line. line.items ≡ codes "refused question line 0 " ++ ((cause.now ++ name.now) ++ codes "\n")) }
+    ensures { IfOk result (λ line. line.items ≡ codes "refused question line 0 "
+        ++ ((cause.now ++ name.now) ++ codes "\n")) }
 {
     let mut line = Vec::from_slice(alloc, b"refused question line 0 ")?;
     line.extend_from_slice(cause)?;
@@ -147,6 +158,6 @@ pub fn usage_line(alloc: Global) -> Result<String, AllocError>
 {
     String::from_str(
         alloc,
-        "usage: stogame check TRA LAB FORMULA [--own FILE] [--rounds R] [--workers W] [--plan] [--traps] | audit TRA LAB FORMULA CERT [--own FILE] | make SEED STATES [--rounds R] [--workers W] | sure TRA LAB FORMULA [--own FILE]\n",
+        "usage: stogame check TRA LAB FORMULA [--own FILE] [--rounds R] [--workers W] [--plan] [--traps] | audit TRA LAB FORMULA CERT [--own FILE] | solve TRA LAB FORMULA [--own FILE] [--values FILE] [--plan] | make SEED STATES [--rounds R] [--workers W] | sure TRA LAB FORMULA [--own FILE]\n",
     )
 }

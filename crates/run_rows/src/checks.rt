@@ -1,6 +1,6 @@
 //! What is expected of rows: what they write, and how they end.
 
-use crate::rows::{Row, add_words, ends, files, runs, words};
+use crate::rows::{Row, ends, files, runs, sure_words};
 use game_outside::{OpenGate, SteadyShelf};
 use std::alloc::Global;
 use std::fmt::{Display, InlineText};
@@ -31,7 +31,8 @@ fn shown(bytes: &[u8], from: usize) -> InlineText<{ SHOWN }> {
     InlineText::of(rest.escape_ascii())
 }
 
-/// A run ended with this status and wrote this text. Else the failure says what it did in their place, and `of` which run it is.
+/// A run ended with this status and wrote this text. Else the failure says what it did in their place, and `of` which
+/// run it is.
 pub fn comes_to<D: Display + Drop>(
     of: D,
     ended: Status,
@@ -82,10 +83,7 @@ pub fn sure_writes<R: Threads + Sync>(
     text: &str,
     status: Status,
 ) -> Result<(), Fail> {
-    let mut owned = words(alloc, &["sure", "m.tra", "m.lab", row.formula])?;
-    if row.own.is_some() {
-        add_words(alloc, &mut owned, &["--own", "m.own"])?;
-    }
+    let owned = sure_words(alloc, row)?;
     let mut shelf = SteadyShelf::new(files(alloc, row)?);
     let (ended, written) = ends(rt, alloc, &owned, &mut shelf, &OpenGate {})?;
     let formula = row.formula;

@@ -4,7 +4,8 @@ ghost use Rattle.std.specs.Prelude.{◌<◌};
 
 use crate::audits::{CERTIFICATE, audit_words};
 use crate::checks::comes_to;
-use crate::rows::{Row, file, files, row_words, words};
+use crate::rows::{Row, file, files, row_words, sure_words, words};
+use crate::solutions::{solve_files, solve_words};
 use game_outside::{HeldFile, MemShelf, MemSink, OpenGate};
 use std::alloc::Global;
 use std::test::Fail;
@@ -14,11 +15,14 @@ use stogame_app::{Status, run};
 /// How many bytes the sink takes at once.
 pub const STEP: usize = 7;
 
-/// The check of a row, the audit of a certificate for its model and its formula, or words that name no file.
+/// The check of a row, the audit of a certificate for its model and its formula, its solution, from values where there
+/// are any, its almost-sure states, or words that name no file.
 #[derive(Clone, Copy)]
 pub enum Command<'a> {
     Check(Row<'a>),
     Audit(Row<'a>, &'a str),
+    Solve(Row<'a>, Option<&'a str>),
+    Sure(Row<'a>),
     Words(&'a [&'a str]),
 }
 
@@ -28,6 +32,8 @@ impl<'a> Command<'a> {
         match self {
             Command::Check(row) => row_words(alloc, row),
             Command::Audit(row, _) => audit_words(alloc, row),
+            Command::Solve(row, values) => solve_words(alloc, row, values),
+            Command::Sure(row) => sure_words(alloc, row),
             Command::Words(given) => words(alloc, given),
         }
     }
@@ -35,12 +41,13 @@ impl<'a> Command<'a> {
     /// The files that the words name.
     pub fn files(self, alloc: Global) -> Result<Vec<HeldFile>, Fail> {
         match self {
-            Command::Check(row) => files(alloc, row),
+            Command::Check(row) | Command::Sure(row) => files(alloc, row),
             Command::Audit(row, certificate) => {
                 let mut held = files(alloc, row)?;
                 held.push(file(alloc, CERTIFICATE, certificate)?)?;
                 Ok(held)
             }
+            Command::Solve(row, values) => solve_files(alloc, row, values),
             Command::Words(_) => Ok(Vec::new(alloc)),
         }
     }

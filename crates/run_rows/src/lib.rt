@@ -9,6 +9,7 @@ mod coin_loop;
 mod commands;
 mod models;
 mod rows;
+mod solutions;
 
 pub use audits::{CERTIFICATE, audit_refuses, audit_words, audit_writes};
 pub use cases::{
@@ -29,5 +30,6 @@ pub use models::{
 };
 pub use rows::{
     ONE_WORKER, Row, add_words, ends, file, file_of_bytes, files, plain_row, push_times, row_words,
-    runs, with_file, words,
+    runs, sure_words, with_file, words,
 };
+pub use solutions::{solve_writes, solves};

@@ -94,14 +94,25 @@ pub fn add_words(alloc: Global, owned: &mut Vec<String>, words: &[&str]) -> Resu
     Ok(())
 }
 
-/// The words that check a row.
-pub fn row_words(alloc: Global, row: Row<'_>) -> Result<Vec<String>, Fail> {
-    let mut owned = words(alloc, &["check", "m.tra", "m.lab", row.formula])?;
+/// The words that ask a command the question of a row.
+pub fn question_words(alloc: Global, command: &str, row: Row<'_>) -> Result<Vec<String>, Fail> {
+    let mut owned = words(alloc, &[command, "m.tra", "m.lab", row.formula])?;
     if row.own.is_some() {
         add_words(alloc, &mut owned, &["--own", "m.own"])?;
     }
+    Ok(owned)
+}
+
+/// The words that check a row.
+pub fn row_words(alloc: Global, row: Row<'_>) -> Result<Vec<String>, Fail> {
+    let mut owned = question_words(alloc, "check", row)?;
     add_words(alloc, &mut owned, row.numbers)?;
     Ok(owned)
+}
+
+/// The words that ask a row for its almost-sure states.
+pub fn sure_words(alloc: Global, row: Row<'_>) -> Result<Vec<String>, Fail> {
+    question_words(alloc, "sure", row)
 }
 
 /// How a row ends over a shelf and a sink that never fail, and what it writes.

@@ -108,7 +108,8 @@ impl Draft {
     }
 }
 
-/// The game of these states: each has these choices, and each choice these successors, by rising number, with these weights.
+/// The game of these states: each has these choices, and each choice these successors, by rising number, with these
+/// weights.
 pub fn game_of(alloc: Global, states: &[&[&[(u32, u64)]]]) -> Result<Game, Fail>
     ensures { IfOk result (λ game. length game ≡ length states.now) }
 {
@@ -217,7 +218,8 @@ pub fn question_with<'g>(
 // Whether no state is both.
 fn are_apart(goal: &[bool], dead: &[bool]) -> bool
     requires { length goal.now ≡ length dead.now }
-    ensures { OnTrue result ((s : ℕ) → slice_index_or goal.now s false ≡ true → slice_index_or dead.now s false ≡ false) }
+    ensures { OnTrue result ((s : ℕ) → slice_index_or goal.now s false ≡ true
+        → slice_index_or dead.now s false ≡ false) }
 {
     for state in 0..goal.len() {
         if goal[state] && dead[state] {

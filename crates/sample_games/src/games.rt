@@ -79,8 +79,8 @@ pub fn wait_or_coin(alloc: Global) -> Result<Game, Fail>
     )
 }
 
-/// Each state goes on to the next one, or falls back to the first with 1/3, or half of the way with 3/7; the last one stays or
-/// falls back.
+/// Each state goes on to the next one, or falls back to the first with 1/3, or half of the way with 3/7; the last one
+/// stays or falls back.
 pub fn ladder(alloc: Global, count: u32) -> Result<Game, Fail>
     ensures { IfOk result (λ game. length game ≡ count) }
 {

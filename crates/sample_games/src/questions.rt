@@ -64,7 +64,8 @@ pub fn question_of(
     question_of_sides(alloc, game, sides, goal)
 }
 
-/// How likely is this goal reached, where these sides choose? None is dead, and none is a goal where it is past the last.
+/// How likely is this goal reached, where these sides choose? None is dead, and none is a goal where it is past the
+/// last.
 pub fn question_of_sides(
     alloc: Global,
     game: &Game,
@@ -79,7 +80,8 @@ pub fn question_of_sides(
     Ok(Question::build(game, sides, goals, none_of(alloc, states)?))
 }
 
-/// How likely is this goal reached, where the minimiser chooses at one state and the maximiser at the others? None is dead.
+/// How likely is this goal reached, where the minimiser chooses at one state and the maximiser at the others? None is
+/// dead.
 pub fn question_with_minimiser_at(
     alloc: Global,
     game: &Game,
@@ -93,8 +95,8 @@ pub fn question_with_minimiser_at(
     question_of_sides(alloc, game, sides, goal)
 }
 
-/// How likely is this goal reached, where one side chooses at all states and one state is dead? None is a goal, or dead,
-/// where it is past the last.
+/// How likely is this goal reached, where one side chooses at all states and one state is dead? None is a goal, or
+/// dead, where it is past the last.
 pub fn question_with_dead(
     alloc: Global,
     game: &Game,

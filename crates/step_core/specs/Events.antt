@@ -28,7 +28,8 @@ pub record Raises (w : Configuration) (view state from to : ℕ) : Type 0 where
 abbrev pub Lawful : Configuration → Event → Type 0
 Lawful w (Load view state) = IsLive w view × (state < states w.question)
 Lawful w (Won view state from to) = Raises w view state from to
-Lawful w (Lost view state) = IsLive w view × (state < states w.question) × (slice_index w.words state ≢ slice_index (seen_by w view) state)
+Lawful w (Lost view state) = IsLive w view × (state < states w.question)
+    × (slice_index w.words state ≢ slice_index (seen_by w view) state)
 Lawful w (Split view) = IsLive w view
 Lawful w (Join view other) = IsLive w view × IsLive w other × (view ≢ other)
 
@@ -46,7 +47,8 @@ after w (Load view state) = looked w view state
 after w (Won view state from to) = looked (record w { words = slice_set w.words state to }) view state
 after w (Lost view state) = looked w view state
 after w (Split view) = record w { views = w.views ++ Some (seen_by w view) ∷ [] }
-after w (Join view other) = with_view (record w { views = slice_set w.views other None }) view (greater_words (seen_by w view) (seen_by w other))
+after w (Join view other) = with_view (record w { views = slice_set w.views other None }) view
+    (greater_words (seen_by w view) (seen_by w other))
 
 -- how many exchanges an event wins
 abbrev pub wins : Event → ℕ
@@ -70,7 +72,8 @@ given_by q table s choice = on_side (side_at q s) (down_value table (choice_of q
 
 -- before other reasons: there is no such live view, or no such state
 abbrev pub unless_there : Configuration → ℕ → ℕ → List (Bool × Refused) → List (Bool × Refused)
-unless_there w view state others = (is_none (view_of w view), NoView) ∷ (nat_le (states w.question) state, NoState) ∷ others
+unless_there w view state others = (is_none (view_of w view), NoView) ∷ (nat_le (states w.question) state, NoState)
+    ∷ others
 
 -- before other reasons: the word of the state may not be exchanged so
 abbrev pub unless_raised : Configuration → ℕ → ℕ → ℕ → List (Bool × Refused) → List (Bool × Refused)
@@ -88,9 +91,14 @@ reasons w (Won view state from to) =
     unless_there w view state
     (unless_raised w state from to
     ((nat_lt (given_by w.question (value_at (seen_by w view)) state (choice_in to)) (value_in to), TooHigh) ∷ []))
-reasons w (Lost view state) = unless_there w view state ((slice_index w.words state == slice_index (seen_by w view) state, SameWord) ∷ [])
+reasons w (Lost view state) = unless_there w view state ((
+  slice_index w.words state
+      == slice_index (seen_by w view) state,
+  SameWord,
+) ∷ [])
 reasons w (Split view) = (is_none (view_of w view), NoView) ∷ []
-reasons w (Join view other) = (is_none (view_of w view) || is_none (view_of w other), NoView) ∷ (view == other, SameView) ∷ []
+reasons w (Join view other) = (is_none (view_of w view) || is_none (view_of w other), NoView)
+    ∷ (view == other, SameView) ∷ []
 
 -- the first reason that holds
 abbrev pub first_of : List (Bool × Refused) → Option Refused

@@ -23,15 +23,18 @@ pub fn lawful_events_keep_the_invariant()
 
 /// The invariant holds after every list of lawful events from the opening configuration.
 pub fn all_worlds_meet_the_invariant()
-    ensures { (q : Query) (events : List Event) (w : Configuration) → IsQuery q → Leads (opening_configuration q) events w → IsWorld w }
+    ensures { (q : Query) (events : List Event) (w : Configuration) → IsQuery q
+        → Leads (opening_configuration q) events w → IsWorld w }
 {}
 
 /// After every list of lawful events from the opening configuration the words are within as many down steps as
 /// exchanges were won: one event adds as many as it wins.
 pub fn words_are_within_the_won_exchanges()
-    ensures one { (w : Configuration) (event : Event) (r : ℕ) → IsWorld w → Lawful w event → IsBelow w.question (value_at w.words) (down_steps w.question r)
+    ensures one { (w : Configuration) (event : Event) (r : ℕ) → IsWorld w → Lawful w event
+        → IsBelow w.question (value_at w.words) (down_steps w.question r)
         → IsBelow w.question (value_at (after w event).words) (down_steps w.question (r + wins event)) }
-    ensures all { (q : Query) (events : List Event) (w : Configuration) → IsQuery q → Leads (opening_configuration q) events w → IsBelow q (value_at w.words) (down_steps q (sum_by wins events)) }
+    ensures all { (q : Query) (events : List Event) (w : Configuration) → IsQuery q
+        → Leads (opening_configuration q) events w → IsBelow q (value_at w.words) (down_steps q (sum_by wins events)) }
 {}
 
 /// An event is lawful exactly where there is no reason against it.

@@ -32,7 +32,11 @@ impl<'q> Model for World<'q> {
 
     ghost view = { λ w. record { question = w.question.now; words = w.words.items; views = w.views.items } };
 
-    ghost invariant = { λ w. IsWorld (record { question = w.question.now; words = w.words.items; views = w.views.items }) };
+    ghost invariant = { λ w. IsWorld (record {
+      question = w.question.now;
+      words = w.words.items;
+      views = w.views.items;
+    }) };
 }
 
 impl<'q> World<'q> {
@@ -122,7 +126,8 @@ impl<'q> World<'q> {
     // Whether the view is live and there is such a state.
     fn named(&self, view: u32, state: u32) -> Result<(), Refused>
         ensures ok { OnOk result (IsLive self.now view × (state < states self.now.question)) }
-        ensures err { IfErr result (λ refused. (others : List (Bool × Refused)) → first_of (unless_there self.now view state others) ≡ Some refused) }
+        ensures err { IfErr result (λ refused. (others : List (Bool × Refused))
+            → first_of (unless_there self.now view state others) ≡ Some refused) }
     {
         if !self.is_live(view) {
             return Err(Refused::NoView);
@@ -182,8 +187,10 @@ impl<'q> World<'q> {
     fn raises(&self, state: u32, from: u64, to: u64) -> Result<(), Refused>
         requires { state < states self.now.question }
         ensures choice { OnOk result (is_bad_choice self.now.question state (choice_in to) ≡ false) }
-        ensures ok { OnOk result ((others : List (Bool × Refused)) → first_of (unless_raised self.now state from to others) ≡ first_of others) }
-        ensures err { IfErr result (λ refused. (others : List (Bool × Refused)) → first_of (unless_raised self.now state from to others) ≡ Some refused) }
+        ensures ok { OnOk result ((others : List (Bool × Refused))
+            → first_of (unless_raised self.now state from to others) ≡ first_of others) }
+        ensures err { IfErr result (λ refused. (others : List (Bool × Refused))
+            → first_of (unless_raised self.now state from to others) ≡ Some refused) }
     {
         if self.question.is_goal(state) || self.question.is_dead(state) {
             return Err(Refused::FixedState);
@@ -205,7 +212,8 @@ impl<'q> World<'q> {
         requires live { IsLive self.now view }
         requires state { state < states self.now.question }
         requires choice { is_bad_choice self.now.question state choice ≡ false }
-        ensures { IfOk result (λ value. value ≡ given_by self.now.question (value_at (seen_by self.now view)) state choice) }
+        ensures { IfOk result (λ value. value ≡ given_by self.now.question
+            (value_at (seen_by self.now view)) state choice) }
     {
         let seen = self.views[view as usize].values(self.alloc)?;
         match self.question.side(state) {

@@ -4,7 +4,7 @@ use Rattle.std.specs.Prelude.{IfOk, IsErrOf}
 use Rattle.text_lines.specs.Limits.{most_bytes}
 use Rattle.game_outside.specs.Outside.{Holding, KeepsShelf}
 use Rattle.game_model.specs.Query.{states}
-use Rattle.command_words.specs.Words.{Asked, Check, Audit, Command, OfCheck, OfAudit, OfSure, AreCommand}
+use Rattle.command_words.specs.Words.{Asked, Check, Audit, Solve, Command, OfCheck, OfAudit, OfSolve, OfSure, AreCommand}
 use Rattle.run_refusals.specs.declared.refusal.Refusal.{Refusal}
 use Rattle.run_refusals.specs.declared.refusal.Refusal.TheVariants.{TooLong}
 use Rattle.asked_files.specs.declared.load.End.{End}
@@ -18,7 +18,7 @@ use Rattle.asked_files.specs.Sources.{Sources, SourceWith, IfKnown, sources_of}
 use Rattle.asked_files.specs.Loading.{IsTooLong, LoadingLeaves, Loads, ReadsNothing, RefusesCaused, Takes}
 use Rattle.asked_files.specs.Posed.{Reading, posed, reading_said}
 use Rattle.asked_files.specs.Asks.{Asks}
-use Rattle.asked_files.specs.Questions.{LacksText, PosesIt, Reads, ReadsAs, RefusesCertificate, RefusesQuestion}
+use Rattle.asked_files.specs.Questions.{LacksText, LacksValues, PosesIt, Reads, ReadsAs, RefusesCertificate, RefusesQuestion, RefusesValues}
 use Rattle.run_answers.specs.declared.answer.Answer.{Answer}
 use Rattle.run_answers.specs.Status.{IsAnswer}
 use Rattle.stogame_app.specs.Commands.{IsMissing, ReadsFiles, RefusesIt, check_paths}
@@ -68,6 +68,11 @@ lacks_certificate : (holding : Option Holding) (audit : Audit) (problem : Proble
 lacks_certificate None audit problem poses none = tt
 lacks_certificate (Some held) audit problem poses none = inr ((problem, subst (λ (s : Sources). Asks Unbounded s audit.asked problem) poses.told poses.asks), none)
 
+-- or values to begin with are not held
+lacks_hints : (holding : Option Holding) (solve : Solve) (problem : Problem) → PosesIt holding solve.asked Unbounded problem → LacksValues holding solve.values → IfKnown holding (λ held. IsMissing held (OfSolve solve))
+lacks_hints None solve problem poses none = tt
+lacks_hints (Some held) solve problem poses none = inr ((problem, subst (λ (s : Sources). Asks Unbounded s solve.asked problem) poses.told poses.asks), none)
+
 -- the initial states of the question that is reached are its states
 pub reached-inside : (problem : Problem) (posing : Posing) → posing_in problem ≡ Some posing → All (λ s. s < states_of problem) (initial_of problem) → All (λ s. s < states posing.question) posing.initial
 reached-inside (OfUntil p) posing is inside = let same : p ≡ posing = cc (is) in subst (λ (q : Posing). All (λ s. s < states q.question) q.initial) same inside
@@ -93,6 +98,13 @@ audit_asks audit = record {
   reads = tt;
   refuses = λ holding refusal refused. inl refused;
   lacks = λ holding lacks. where_told holding (λ held. reading_said (sources_of held audit.asked) audit.asked ≡ NotHeld) (λ held. IsMissing held (OfAudit audit)) (λ held missing. inl missing) lacks;
+}
+
+pub solve_asks : (solve : Solve) → AsksQuestion (OfSolve solve) solve.asked Unbounded
+solve_asks solve = record {
+  reads = tt;
+  refuses = λ holding refusal refused. inl refused;
+  lacks = λ holding lacks. where_told holding (λ held. reading_said (sources_of held solve.asked) solve.asked ≡ NotHeld) (λ held. IsMissing held (OfSolve solve)) (λ held missing. inl missing) lacks;
 }
 
 -- what is made of what was read
@@ -214,6 +226,30 @@ module _ {S X : Type 0} {held : S → Option Holding} {steady : S → Bool} {fau
     read_fault = λ is. (omega (arith, leaves.kept.later, rest.read_fault (same_end end ReadFault is)), tt);
     steadily = λ is calm. lacks_certificate (held old) audit problem poses
         (subst (λ (h : Option Holding). IfKnown h (λ held. held audit.certificate ≡ None)) leaves.kept.held (steadily (same_end end ReadFault is) (leaves.kept.steady ∙ calm)));
+    takes = λ reads. same_takes end (took new) rest.takes;
+    untouched = λ none. absurd (none tt);
+    kept = keeps-then leaves.kept rest.kept;
+  }
+
+  -- where values to begin with were not loaded
+  pub unhinted : {Y : Type 0} {end : End} (solve : Solve) (problem : Problem) (posing : Posing) → PosesIt (held old) solve.asked Unbounded problem → posing_in problem ≡ Some posing
+      → ((refusal : Refusal) → ◌≡◌ {A = Result Y End} (Err end) (Err (Refused refusal)) → RefusesValues (held middle) solve.values (states posing.question) refusal)
+      → (IsErrOf {T = Y} (Err end) ReadFault → steady middle ≡ true → LacksValues (held middle) solve.values) → LoadingLeaves {X = Y} held steady faults took middle new (Err end) → RefusesCaused {X = Y} (Err end)
+      → IsAnswered held steady faults took (OfSolve solve) old new (Err end)
+  unhinted {Y} {end} solve problem posing poses reached refused steadily rest caused = record {
+    answered = λ words denoted. tt;
+    status = tt;
+    refused = λ refusal is. inr (record {
+      problem = problem;
+      posed = poses;
+      posing = posing;
+      reached = reached;
+      values = subst (λ (h : Option Holding). RefusesValues h solve.values (states posing.question) refusal) leaves.kept.held (refused refusal (same_end end (Refused refusal) is));
+    });
+    caused = same_caused Y Answer end caused;
+    read_fault = λ is. (omega (arith, leaves.kept.later, rest.read_fault (same_end end ReadFault is)), tt);
+    steadily = λ is calm. lacks_hints (held old) solve problem poses
+        (subst (λ (h : Option Holding). LacksValues h solve.values) leaves.kept.held (steadily (same_end end ReadFault is) (leaves.kept.steady ∙ calm)));
     takes = λ reads. same_takes end (took new) rest.takes;
     untouched = λ none. absurd (none tt);
     kept = keeps-then leaves.kept rest.kept;

@@ -2,15 +2,16 @@
 use Rattle.std.proofs.Common.{◌≡◌, ◌<◌, ◌≤◌, ◌⊎◌, ◌↔◌, ◌∙◌, inl, inr, ℕ, Bool, List, length, Option, Some, None, ap, refl, subst, sym, arith}
 use Rattle.text_lines.specs.Limits.{most_bytes}
 use Rattle.game_outside.specs.Outside.{Holding}
-use Rattle.game_model.specs.Query.{Query}
+use Rattle.game_model.specs.Query.{Query, states}
+use Rattle.values_reader.specs.Faults.{fault_of}
 use Rattle.plan_text.specs.declared.plan.Plan.{Plan}
 use Rattle.certificate_audit.specs.declared.fault.AuditFault.{AuditFault}
 use Rattle.certificate_audit.specs.Accepted.{IsAccepted}
 use Rattle.certificate_audit.specs.Refused.{IsRefused}
-use Rattle.command_words.specs.Words.{Asked, Command, OfCheck, OfAudit, OfMake, OfSure, AreCommand}
-use Rattle.run_refusals.specs.declared.refusal.Text.TheVariants.{Tra, Lab, Own, Cert}
+use Rattle.command_words.specs.Words.{Asked, Command, OfCheck, OfAudit, OfSolve, OfMake, OfSure, AreCommand}
+use Rattle.run_refusals.specs.declared.refusal.Text.TheVariants.{Tra, Lab, Own, Cert, Values}
 use Rattle.run_refusals.specs.declared.refusal.Refusal.{Refusal}
-use Rattle.run_refusals.specs.declared.refusal.Refusal.TheVariants.{OfTra, OfLab, OfOwn, OfFormula, OfQuestion, WrongKind, OfCertificate, TooLong}
+use Rattle.run_refusals.specs.declared.refusal.Refusal.TheVariants.{OfTra, OfLab, OfOwn, OfFormula, OfQuestion, WrongKind, OfCertificate, OfValues, TooLong}
 use Rattle.asked_files.specs.declared.problem.Paths.{Paths}
 use Rattle.asked_files.specs.declared.problem.Paths.TheVariants.{Unbounded, Reaching}
 use Rattle.formula_sets.specs.Posing.{Posing}
@@ -19,11 +20,11 @@ use Rattle.asked_files.specs.Said.{NotHeld, Denoted, and_then}
 use Rattle.asked_files.specs.Sources.{Sources, sources_of, IfKnown}
 use Rattle.asked_files.specs.Posed.{posed, problem_said, reading_said}
 use Rattle.asked_files.specs.Asks.{GivenTextWith, Asks}
-use Rattle.asked_files.specs.Questions.{PosesIt, RefusesQuestion, RefusesCertificate}
+use Rattle.asked_files.specs.Questions.{PosesIt, RefusesQuestion, RefusesCertificate, GivesValues, RefusesValues, RefusesValuesText, LacksValues}
 use Rattle.run_answers.specs.declared.status.Status.{Status}
 use Rattle.run_answers.specs.declared.status.Status.TheVariants.{Fine, SomeFalse, SomeUndecided, Usage, ModelRefused, ReadFault, WriteFault, OutOfMemory, CertificateRefused}
 use Rattle.run_answers.specs.Status.{IsAnswer}
-use Rattle.stogame_app.specs.Commands.{IsAcceptedOf, IsAcceptedFrom, IsMissing, ReadsFiles, RefusesBehind, RefusesIt, check_paths}
+use Rattle.stogame_app.specs.Commands.{IsAcceptedOf, IsAcceptedFrom, IsMissing, ReadsFiles, RefusesBehind, RefusesHints, RefusesIt, check_paths}
 use Rattle.stogame_app.specs.Run.{AsksShelf, IsAcceptedOfWords, IsEnding, IsMissingOfWords, IsReadable, RefusesWords}
 
 -- 1. A question, and a certificate.
@@ -79,17 +80,69 @@ accepted_not_refused apart q source plan (TooLong Cert) accepted refused =
 accepted_not_refused apart q source plan (TooLong Tra) accepted refused = refused
 accepted_not_refused apart q source plan (TooLong Lab) accepted refused = refused
 accepted_not_refused apart q source plan (TooLong Own) accepted refused = refused
+accepted_not_refused apart q source plan (TooLong Values) accepted refused = refused
 accepted_not_refused apart q source plan (OfTra fault) accepted refused = refused
 accepted_not_refused apart q source plan (OfLab fault) accepted refused = refused
 accepted_not_refused apart q source plan (OfOwn fault) accepted refused = refused
 accepted_not_refused apart q source plan (OfFormula fault) accepted refused = refused
 accepted_not_refused apart q source plan (OfQuestion fault) accepted refused = refused
 accepted_not_refused apart q source plan WrongKind accepted refused = refused
+accepted_not_refused apart q source plan (OfValues fault) accepted refused = refused
+
+-- no text of values both has a fault and has none
+values_not_refused : (states : ℕ) (source : Option (List ℕ)) (refusal : Refusal) → GivenTextWith source (λ text. fault_of states text ≡ None) → RefusesValuesText states source refusal → ⊥
+values_not_refused states source (OfValues fault) given refused =
+    let same = one_text source refused.text given.text refused.given given.given in
+    let none : fault_of states given.text ≡ None = given.is_so in
+    let some : fault_of states given.text ≡ Some fault = subst (λ (t : List ℕ). fault_of states t ≡ Some fault) same refused.is_so in
+    cc (none, some)
+values_not_refused states source (TooLong Values) given refused =
+    let same = one_text source refused.0 given.text refused.1 given.given in
+    let short : length given.text ≤ most_bytes = given.short in
+    let long : most_bytes < length given.text = subst (λ (t : List ℕ). most_bytes < length t) same refused.2 in
+    omega (arith, short, long)
+values_not_refused states source (TooLong Cert) given refused = refused
+values_not_refused states source (TooLong Tra) given refused = refused
+values_not_refused states source (TooLong Lab) given refused = refused
+values_not_refused states source (TooLong Own) given refused = refused
+values_not_refused states source (OfTra fault) given refused = refused
+values_not_refused states source (OfLab fault) given refused = refused
+values_not_refused states source (OfOwn fault) given refused = refused
+values_not_refused states source (OfFormula fault) given refused = refused
+values_not_refused states source (OfQuestion fault) given refused = refused
+values_not_refused states source WrongKind given refused = refused
+values_not_refused states source (OfCertificate fault) given refused = refused
+
+-- so of a file that is named
+given_not_refused : (held : Holding) (name : Option (List ℕ)) (states : ℕ) (refusal : Refusal) → GivesValues (Some held) name states → RefusesValues (Some held) name states refusal → ⊥
+given_not_refused held None states refusal given refused = refused
+given_not_refused held (Some name) states refusal given refused =
+    values_not_refused states given.source refusal given.is_so
+    (subst (λ (source : Option (List ℕ)). RefusesValuesText states source refusal) (refused.told ∙ sym given.told) refused.is_so)
+
+given_is_held : (held : Holding) (name : Option (List ℕ)) (states : ℕ) → GivesValues (Some held) name states → LacksValues (Some held) name → ⊥
+given_is_held held None states given lacks = lacks
+given_is_held held (Some name) states given lacks =
+    let text = given.is_so.given in
+    let told = given.told in
+    cc (text, told, lacks)
 
 question_not_refused : AreAsked → AreApart → (holding : Option Holding) (held : Holding) (command : Command) (refusal : Refusal) → holding ≡ Some held → IsAcceptedOf held command → RefusesIt holding command refusal → ⊥
 question_not_refused are apart holding held (OfMake make) refusal _ accepted refused = absurd refused
 question_not_refused are apart holding held (OfCheck check) refusal told accepted refused = asked_not_refused are holding held check.asked (check_paths check) accepted.0 refusal told accepted.1 refused
 question_not_refused are apart holding held (OfSure asked) refusal told accepted refused = asked_not_refused are holding held asked Reaching accepted.0 refusal told accepted.1 refused
+question_not_refused are apart holding held (OfSolve solve) refusal told accepted refused = elim refused [
+  | inl question ↦ asked_not_refused are holding held solve.asked Unbounded accepted.0 refusal told accepted.2 question
+  | inr behind ↦ by_hints (subst (λ (h : Option Holding). RefusesHints h solve refusal) told behind)
+]
+  where
+    by_hints : RefusesHints (Some held) solve refusal → ⊥
+    by_hints behind =
+        let same = asked_once are held solve.asked Unbounded accepted.0 behind.problem accepted.2 behind.posed in
+        let alike : Some behind.posing ≡ Some accepted.1 = sym behind.reached ∙ (ap posing_in same ∙ accepted.3) in
+        let posing : behind.posing ≡ accepted.1 = cc (alike) in
+        given_not_refused held solve.values (states (accepted.1).question) refusal accepted.4
+        (subst (λ (p : Posing). RefusesValues (Some held) solve.values (states p.question) refusal) posing behind.values)
 question_not_refused are apart holding held (OfAudit audit) refusal told accepted refused = elim refused [
   | inl question ↦ asked_not_refused are holding held audit.asked Unbounded accepted.0 refusal told accepted.3 question
   | inr behind ↦ by_behind (subst (λ (h : Option Holding). RefusesBehind h audit refusal) told behind)
@@ -112,6 +165,7 @@ command_not_refused : AreAsked → AreApart → (holding : Option Holding) (comm
 command_not_refused are apart holding (OfMake make) refusal accepted refused = absurd refused
 command_not_refused are apart holding (OfCheck check) refusal accepted refused = let a = accepted tt in question_not_refused are apart holding a.0 (OfCheck check) refusal a.1 a.2 refused
 command_not_refused are apart holding (OfSure asked) refusal accepted refused = let a = accepted tt in question_not_refused are apart holding a.0 (OfSure asked) refusal a.1 a.2 refused
+command_not_refused are apart holding (OfSolve solve) refusal accepted refused = let a = accepted tt in question_not_refused are apart holding a.0 (OfSolve solve) refusal a.1 a.2 refused
 command_not_refused are apart holding (OfAudit audit) refusal accepted refused = let a = accepted tt in question_not_refused are apart holding a.0 (OfAudit audit) refusal a.1 a.2 refused
 
 command_is_held : AreAsked → (holding : Option Holding) (held : Holding) (command : Command) → holding ≡ Some held → IsAcceptedOf held command → IfKnown holding (λ h. IsMissing h command) → ⊥
@@ -125,6 +179,10 @@ command_is_held are (Some other) held command told accepted missing = of_held co
     of_held (OfMake make) accepted missing = absurd missing
     of_held (OfCheck check) accepted missing = asked_is_held are held check.asked (check_paths check) accepted.0 accepted.1 missing
     of_held (OfSure asked) accepted missing = asked_is_held are held asked Reaching accepted.0 accepted.1 missing
+    of_held (OfSolve solve) accepted missing = elim missing [
+      | inl question ↦ asked_is_held are held solve.asked Unbounded accepted.0 accepted.2 question
+      | inr behind ↦ given_is_held held solve.values (states (accepted.1).question) accepted.4 behind.1
+    ]
     of_held (OfAudit audit) accepted missing = elim missing [
       | inl question ↦ asked_is_held are held audit.asked Unbounded accepted.0 accepted.3 question
       | inr behind ↦ let text = accepted.5 in let given = text.given in let certificate = behind.1 in cc (given, certificate)

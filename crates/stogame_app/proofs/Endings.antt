@@ -2,8 +2,8 @@
 use Rattle.std.proofs.Common.{◌≡◌, ◌<◌, ◌≤◌, ◌⊎◌, inl, inr, ℕ, Bool, List, Option, Result, Ok, Err, ap, refl, subst, sym, arith}
 use Rattle.text_lines.specs.Limits.{most_bytes}
 use Rattle.game_outside.specs.Outside.{Holding, GrowsBy, GrowsByPrefix}
-use Rattle.command_words.specs.Words.{Command, OfCheck, OfAudit, OfMake, OfSure, AreCommand}
-use Rattle.run_refusals.specs.declared.refusal.Text.TheVariants.{Tra, Lab, Own, Cert}
+use Rattle.command_words.specs.Words.{Command, OfCheck, OfAudit, OfSolve, OfMake, OfSure, AreCommand}
+use Rattle.run_refusals.specs.declared.refusal.Text.TheVariants.{Tra, Lab, Own, Cert, Values}
 use Rattle.run_refusals.specs.declared.refusal.Refusal.{Refusal}
 use Rattle.run_refusals.specs.declared.refusal.Refusal.TheVariants.{OfCertificate, TooLong}
 use Rattle.run_refusals.specs.InFull.{RefusalInFull}
@@ -38,12 +38,14 @@ refused_long refusal taken takes above = elim (takes.only_too_long above) [
 refused_reads : (holding : Option Holding) (command : Command) (refusal : Refusal) → RefusesIt holding command refusal → ReadsFiles command
 refused_reads holding (OfCheck check) refusal refused = tt
 refused_reads holding (OfAudit audit) refusal refused = tt
+refused_reads holding (OfSolve solve) refusal refused = tt
 refused_reads holding (OfSure asked) refusal refused = tt
 refused_reads holding (OfMake make) refusal refused = absurd refused
 
 reads_or_not : (command : Command) → ReadsFiles command ⊎ (ReadsFiles command → ⊥)
 reads_or_not (OfCheck check) = inl tt
 reads_or_not (OfAudit audit) = inl tt
+reads_or_not (OfSolve solve) = inl tt
 reads_or_not (OfSure asked) = inl tt
 reads_or_not (OfMake make) = inr (λ reads. reads)
 
@@ -104,6 +106,7 @@ module _ {words : List (List ℕ)} {holding : Option Holding} {taken : ℕ} (old
       refused_is (TooLong Tra) = inl refl
       refused_is (TooLong Lab) = inl refl
       refused_is (TooLong Own) = inl refl
+      refused_is (TooLong Values) = inl refl
       refused_is r = inl refl
 
   -- a text that was written to its end, or by a front

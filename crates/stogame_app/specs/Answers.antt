@@ -15,18 +15,23 @@ use Rattle.run_answers.specs.Status.{IsAnswer}
 use Rattle.stogame_app.specs.Commands.{IsMissing, ReadsFiles, RefusesIt}
 use Rattle.stogame_app.specs.Reports.{IsReportOfWords}
 
--- What is made for a command of what was read, where nothing more is asked of a shelf: its report and its status, or its first refusal.
+-- What is made for a command of what was read, where nothing more is asked of a shelf: its report and its status, or
+-- its first refusal.
 pub record IsMadeOf (command : Command) (asked : Asked) (reading : Reading) (result : Result Answer End) : Type 0 where
-  pub answered : (holding : Option Holding) (words : List (List ℕ)) (taken : ℕ) → Reads holding asked reading → AreCommand words command → taken ≤ most_bytes
+  pub answered : (holding : Option Holding) (words : List (List ℕ)) (taken : ℕ) → Reads holding asked reading
+      → AreCommand words command → taken ≤ most_bytes
       → IfOk result (λ answer. IsReportOfWords words holding taken answer.text.items answer.status)
   pub status : IfOk result (λ answer. IsAnswer answer.status)
-  pub refused : (holding : Option Holding) (refusal : Refusal) → Reads holding asked reading → result ≡ Err (Refused refusal) → RefusesIt holding command refusal
+  pub refused : (holding : Option Holding) (refusal : Refusal) → Reads holding asked reading
+      → result ≡ Err (Refused refusal) → RefusesIt holding command refusal
   pub nothing : ReadsNothing result
 
 -- The answer to a command, and what making it does to a shelf.
-pub record IsAnswered {S : Type 0} (held : S → Option Holding) (steady : S → Bool) (faults took : S → ℕ) (command : Command) (old new : S) (result : Result Answer End) : Type 0 where
+pub record IsAnswered {S : Type 0} (held : S → Option Holding) (steady : S → Bool) (faults took : S → ℕ)
+    (command : Command) (old new : S) (result : Result Answer End) : Type 0 where
   -- to words that denote it, its report, and its status
-  pub answered : (words : List (List ℕ)) → AreCommand words command → IfOk result (λ answer. IsReportOfWords words (held old) (took new) answer.text.items answer.status)
+  pub answered : (words : List (List ℕ)) → AreCommand words command
+      → IfOk result (λ answer. IsReportOfWords words (held old) (took new) answer.text.items answer.status)
   pub status : IfOk result (λ answer. IsAnswer answer.status)
   -- its first refusal, and never one for want of memory
   pub refused : (refusal : Refusal) → result ≡ Err (Refused refusal) → RefusesIt (held old) command refusal

@@ -1,10 +1,12 @@
--- What a command asks of texts: the limits of its numbers, its first refusal, that a text is not held, or that all is accepted.
+-- What a command asks of texts: the limits of its numbers, its first refusal, that a text is not held, or that all is
+-- accepted.
 use Rattle.std.specs.Prelude.{◌≡◌, ◌⊎◌, ◌||◌, Option, Some, None, if◌then◌else◌}
 use Rattle.game_outside.specs.Outside.{Holding}
+use Rattle.game_model.specs.Query.{states}
 use Rattle.formula_sets.specs.Posing.{Posing}
 use Rattle.plan_text.specs.declared.plan.Plan.{Plan}
 use Rattle.certificate_audit.specs.Accepted.{IsAccepted}
-use Rattle.command_words.specs.Words.{Check, Audit, Command, OfCheck, OfAudit, OfMake, OfSure, AreInRange, IsMakeInRange}
+use Rattle.command_words.specs.Words.{Check, Audit, Solve, Command, OfCheck, OfAudit, OfSolve, OfMake, OfSure, AreInRange, IsMakeInRange}
 use Rattle.run_refusals.specs.declared.refusal.Refusal.{Refusal}
 use Rattle.asked_files.specs.declared.problem.Paths.{Paths}
 use Rattle.asked_files.specs.declared.problem.Paths.TheVariants.{Any, Unbounded, Reaching}
@@ -13,12 +15,13 @@ use Rattle.asked_files.specs.Said.{NotHeld}
 use Rattle.asked_files.specs.Sources.{SourceWith, sources_of}
 use Rattle.asked_files.specs.Posed.{reading_said}
 use Rattle.asked_files.specs.Asks.{GivenTextWith, Asks}
-use Rattle.asked_files.specs.Questions.{PosesIt, RefusesQuestion, RefusesCertificate}
+use Rattle.asked_files.specs.Questions.{PosesIt, RefusesQuestion, RefusesCertificate, GivesValues, RefusesValues, LacksValues}
 
 -- the numbers of a command have their limits
 abbrev pub IsInRange : Command → Type 0
 IsInRange (OfCheck check) = AreInRange check
 IsInRange (OfAudit audit) = Unit {0}
+IsInRange (OfSolve solve) = Unit {0}
 IsInRange (OfMake make) = IsMakeInRange make
 IsInRange (OfSure asked) = Unit {0}
 
@@ -26,10 +29,12 @@ IsInRange (OfSure asked) = Unit {0}
 abbrev pub ReadsFiles : Command → Type 0
 ReadsFiles (OfCheck check) = Unit {0}
 ReadsFiles (OfAudit audit) = Unit {0}
+ReadsFiles (OfSolve solve) = Unit {0}
 ReadsFiles (OfMake make) = ⊥
 ReadsFiles (OfSure asked) = Unit {0}
 
--- a certificate, and upper bounds lowered at traps, are of paths without a bound on the steps, and of formulas with none inside
+-- a certificate, and upper bounds lowered at traps, are of paths without a bound on the steps, and of formulas with
+-- none inside
 abbrev pub check_paths : Check → Paths
 check_paths check = if check.plan || check.traps then Unbounded else Any
 
@@ -43,10 +48,22 @@ pub record RefusesBehind (holding : Option Holding) (audit : Audit) (refusal : R
   pub reached : posing_in problem ≡ Some posing
   pub certificate : SourceWith holding audit.certificate (λ source. RefusesCertificate posing.question source refusal)
 
--- the first refusal of a command: of the problem, or else, for an audit, of the certificate
+-- the problem is posed, and this is the first refusal of the text under the name of values to begin with
+pub record RefusesHints (holding : Option Holding) (solve : Solve) (refusal : Refusal) : Type 0 where
+  pub problem : Problem
+  pub posed : PosesIt holding solve.asked Unbounded problem
+  pub posing : Posing
+  pub reached : posing_in problem ≡ Some posing
+  pub values : RefusesValues holding solve.values (states posing.question) refusal
+
+-- the first refusal of a command: of the problem, or else, for an audit, of the certificate, and for a `solve`, of
+-- values to begin with
 abbrev pub RefusesIt : Option Holding → Command → Refusal → Type 0
 RefusesIt holding (OfCheck check) refusal = RefusesQuestion holding check.asked (check_paths check) refusal
-RefusesIt holding (OfAudit audit) refusal = RefusesQuestion holding audit.asked Unbounded refusal ⊎ RefusesBehind holding audit refusal
+RefusesIt holding (OfAudit audit) refusal =
+    RefusesQuestion holding audit.asked Unbounded refusal ⊎ RefusesBehind holding audit refusal
+RefusesIt holding (OfSolve solve) refusal =
+    RefusesQuestion holding solve.asked Unbounded refusal ⊎ RefusesHints holding solve refusal
 RefusesIt holding (OfMake make) refusal = ⊥
 RefusesIt holding (OfSure asked) refusal = RefusesQuestion holding asked Reaching refusal
 
@@ -56,18 +73,28 @@ RefusesIt holding (OfSure asked) refusal = RefusesQuestion holding asked Reachin
 abbrev pub IsMissing : Holding → Command → Type 0
 IsMissing held (OfCheck check) = reading_said (sources_of held check.asked) check.asked ≡ NotHeld
 IsMissing held (OfAudit audit) = (reading_said (sources_of held audit.asked) audit.asked ≡ NotHeld)
-    ⊎ (((problem : Problem) × Asks Unbounded (sources_of held audit.asked) audit.asked problem) × (held audit.certificate ≡ None))
+    ⊎ (((problem : Problem) × Asks Unbounded (sources_of held audit.asked) audit.asked problem)
+    × (held audit.certificate ≡ None))
+IsMissing held (OfSolve solve) = (reading_said (sources_of held solve.asked) solve.asked ≡ NotHeld)
+    ⊎ (((problem : Problem) × Asks Unbounded (sources_of held solve.asked) solve.asked problem)
+    × LacksValues (Some held) solve.values)
 IsMissing held (OfMake make) = ⊥
 IsMissing held (OfSure asked) = reading_said (sources_of held asked) asked ≡ NotHeld
 
 -- all that a command needs is held and accepted
 abbrev pub IsAcceptedOf : Holding → Command → Type 0
-IsAcceptedOf held (OfCheck check) = (problem : Problem) × Asks (check_paths check) (sources_of held check.asked) check.asked problem
+IsAcceptedOf held (OfCheck check) = (problem : Problem)
+    × Asks (check_paths check) (sources_of held check.asked) check.asked problem
 IsAcceptedOf held (OfAudit audit) = (problem : Problem) × (posing : Posing) × (plan : Plan)
-    × Asks Unbounded (sources_of held audit.asked) audit.asked problem × (posing_in problem ≡ Some posing) × GivenTextWith (held audit.certificate) (λ text. IsAccepted posing.question text plan)
+    × Asks Unbounded (sources_of held audit.asked) audit.asked problem × (posing_in problem ≡ Some posing)
+    × GivenTextWith (held audit.certificate) (λ text. IsAccepted posing.question text plan)
+IsAcceptedOf held (OfSolve solve) = (problem : Problem) × (posing : Posing)
+    × Asks Unbounded (sources_of held solve.asked) solve.asked problem × (posing_in problem ≡ Some posing)
+    × GivesValues (Some held) solve.values (states posing.question)
 IsAcceptedOf held (OfMake make) = Unit {0}
 IsAcceptedOf held (OfSure asked) = (problem : Problem) × Asks Reaching (sources_of held asked) asked problem
 
 -- where the command reads files, it is told what is held, and all that it needs is held and accepted
 abbrev pub IsAcceptedFrom : Option Holding → Command → Type 0
-IsAcceptedFrom holding command = ReadsFiles command → (held : Holding) × (holding ≡ Some held) × IsAcceptedOf held command
+IsAcceptedFrom holding command = ReadsFiles command
+    → (held : Holding) × (holding ≡ Some held) × IsAcceptedOf held command

@@ -6,7 +6,8 @@ use Rattle.asked_files.specs.declared.problem.Problem.TheVariants.{Until, Within
 use Rattle.question_reports.specs.Nested.{IsAnswerable}
 use Rattle.question_reports.specs.Sweeps.{IsOpening}
 
--- it can be reported on: with `X` the table is one of one step, and with formulas inside what was loaded poses it, and is of this formula
+-- it can be reported on: with `X` the table is one of one step, and with formulas inside what was loaded poses it, and
+-- is of this formula
 abbrev pub IsReportable : Problem → Tree → Type 0
 IsReportable (Until posed) f = Unit {0}
 IsReportable (Within posed steps) f = Unit {0}

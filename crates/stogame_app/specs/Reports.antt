@@ -1,32 +1,34 @@
 -- What is reported to words, by the command that they denote and the paths of its formula.
-use Rattle.std.specs.Prelude.{◌≡◌, ◌≤◌, ℕ, Bool, List, Option, Some, slice_index}
+use Rattle.std.specs.Prelude.{◌≡◌, ◌≤◌, ℕ, Bool, List, Option, Some}
 use Rattle.text_lines.specs.Limits.{most_bytes}
 use Rattle.game_outside.specs.Outside.{Holding}
-use Rattle.game_model.specs.Rounded.{opening}
-use Rattle.game_model.specs.Values.{numerator}
-use Rattle.bounded_rounds.specs.Exact.{next_numerator}
+use Rattle.game_model.specs.Query.{states}
 use Rattle.rpatl_syntax.specs.Formula.{Tree}
 use Rattle.rpatl_syntax.specs.Rules.{Denotes}
 use Rattle.formula_sets.specs.Posing.{Model, Posing, NextPosing}
-use Rattle.command_words.specs.Words.{Asked, Check, Audit, Make, Command, OfCheck, OfAudit, OfMake, OfSure, AreCommand}
+use Rattle.command_words.specs.Words.{Asked, Check, Audit, Solve, Make, Command, OfCheck, OfAudit, OfSolve, OfMake, OfSure, AreCommand}
 use Rattle.asked_files.specs.declared.problem.Paths.{Paths}
 use Rattle.asked_files.specs.declared.problem.Paths.TheVariants.{Unbounded, Reaching}
 use Rattle.asked_files.specs.Problems.{Problem, OfUntil, OfWithin, OfNext, OfAlways, OfNested, posing_in}
 use Rattle.asked_files.specs.Sources.{SourceWith}
 use Rattle.asked_files.specs.Asks.{GivenTextWith}
-use Rattle.asked_files.specs.Questions.{PosesIt}
+use Rattle.asked_files.specs.Questions.{PosesIt, GivesValues}
 use Rattle.run_answers.specs.declared.status.Status.{Status}
 use Rattle.question_reports.specs.Reports.{IsBracketReport}
-use Rattle.question_reports.specs.Sweeps.{IsSweepReport, opens}
+use Rattle.question_reports.specs.Sweeps.{IsWithinReport, IsNextReport}
 use Rattle.question_reports.specs.Nested.{IsNestedReport}
 use Rattle.question_reports.specs.Audits.{IsAudit}
+use Rattle.question_reports.specs.Solved.{IsSolved}
 use Rattle.drawn_report.specs.Made.{IsMade}
 use Rattle.sure_report.specs.Sure.{IsSure}
 use Rattle.stogame_app.specs.Status.{sure_status}
 use Rattle.stogame_app.specs.Commands.{check_paths}
 
--- the words denote this command, and spell this formula, which is so the one that poses the problem; there are texts, those that are held where this is told, that pose this problem with them; and no more than the limit was taken of the last one
-pub record WordsPose (words : List (List ℕ)) (holding : Option Holding) (taken : ℕ) (command : Command) (asked : Asked) (paths : Paths) (problem : Problem) (formula : Tree) : Type 0 where
+-- the words denote this command, and spell this formula, which is so the one that poses the problem; there are texts,
+-- those that are held where this is told, that pose this problem with them; and no more than the limit was taken of the
+-- last one
+pub record WordsPose (words : List (List ℕ)) (holding : Option Holding) (taken : ℕ) (command : Command) (asked : Asked)
+    (paths : Paths) (problem : Problem) (formula : Tree) : Type 0 where
   pub denoted : AreCommand words command
   pub posed : PosesIt holding asked paths problem
   pub spelled : Denotes asked.formula formula
@@ -34,10 +36,12 @@ pub record WordsPose (words : List (List ℕ)) (holding : Option Holding) (taken
 
 -- they do so for this `check`
 abbrev pub Checks : List (List ℕ) → Option Holding → ℕ → Check → Problem → Tree → Type 0
-Checks words holding taken check problem f = WordsPose words holding taken (OfCheck check) check.asked (check_paths check) problem f
+Checks words holding taken check problem f =
+    WordsPose words holding taken (OfCheck check) check.asked (check_paths check) problem f
 
 -- The text and the status are the report of the command that the words denote.
-pub data IsReportOfWords (words : List (List ℕ)) (holding : Option Holding) (taken : ℕ) (text : List ℕ) (status : Status) : Type 0 where
+pub data IsReportOfWords (words : List (List ℕ)) (holding : Option Holding) (taken : ℕ) (text : List ℕ)
+    (status : Status) : Type 0 where
   -- `check` of `F` and `U`: bounds of the k-step values of a question
   of_until : (check : Check) (p : Posing) (f : Tree) → Checks words holding taken check (OfUntil p) f
       → IsBracketReport p.question p.initial f check text status → IsReportOfWords words holding taken text status
@@ -45,19 +49,33 @@ pub data IsReportOfWords (words : List (List ℕ)) (holding : Option Holding) (t
   of_always : (check : Check) (p : Posing) (f : Tree) → Checks words holding taken check (OfAlways p) f
       → IsBracketReport p.question p.initial f check text status → IsReportOfWords words holding taken text status
   -- `check` of `F<=k` and `U<=k`: bounds of the values of exactly so many steps
-  of_within : (check : Check) (steps : ℕ) (p : Posing) (f : Tree) → Checks words holding taken check (OfWithin steps p) f
-      → IsSweepReport p.question (opening p.question) steps (numerator p.question steps) p.initial f text status → IsReportOfWords words holding taken text status
+  of_within : (check : Check) (steps : ℕ) (p : Posing) (f : Tree)
+      → Checks words holding taken check (OfWithin steps p) f
+      → IsWithinReport p.question steps p.initial f text status → IsReportOfWords words holding taken text status
   -- `check` of `X`: bounds of the values of the next step
   of_next : (check : Check) (p : NextPosing) (f : Tree) → Checks words holding taken check (OfNext p) f
-      → IsSweepReport p.question (slice_index p.opening) 1 (next_numerator p.question (opens p.opening)) p.initial f text status → IsReportOfWords words holding taken text status
+      → IsNextReport p.question p.opening p.initial f text status → IsReportOfWords words holding taken text status
   -- `check` of a formula with others inside: bounds that are sound for the exact question
-  of_nested : (check : Check) (model : Model) (initial : List ℕ) (f : Tree) → Checks words holding taken check (OfNested model initial) f
+  of_nested : (check : Check) (model : Model) (initial : List ℕ) (f : Tree)
+      → Checks words holding taken check (OfNested model initial) f
       → IsNestedReport model initial f check.rounds text status → IsReportOfWords words holding taken text status
   -- `audit`: the numbers of a certificate that the question accepts, from the text under its name
-  of_audit : (audit : Audit) (problem : Problem) (p : Posing) (f : Tree) → WordsPose words holding taken (OfAudit audit) audit.asked Unbounded problem f → posing_in problem ≡ Some p
-      → SourceWith holding audit.certificate (λ source. GivenTextWith source (λ bytes. IsAudit p.question p.initial f bytes text status)) → IsReportOfWords words holding taken text status
+  of_audit : (audit : Audit) (problem : Problem) (p : Posing) (f : Tree)
+      → WordsPose words holding taken (OfAudit audit) audit.asked Unbounded problem f → posing_in problem ≡ Some p
+      → SourceWith holding audit.certificate
+      (λ source. GivenTextWith source (λ bytes. IsAudit p.question p.initial f bytes text status))
+      → IsReportOfWords words holding taken text status
+  -- `solve`: a plan that tables of a solver led to; where a file of values to begin with is named, its text has no
+  -- fault
+  of_solve : (solve : Solve) (problem : Problem) (p : Posing) (f : Tree)
+      → WordsPose words holding taken (OfSolve solve) solve.asked Unbounded problem f → posing_in problem ≡ Some p
+      → GivesValues holding solve.values (states p.question) → IsSolved p.question p.initial f solve.plan text status
+      → IsReportOfWords words holding taken text status
   -- `sure`: the states that are almost sure of the question
-  of_sure : (asked : Asked) (problem : Problem) (p : Posing) (f : Tree) (all : Bool) → WordsPose words holding taken (OfSure asked) asked Reaching problem f → posing_in problem ≡ Some p
-      → IsSure p.question p.initial text all → status ≡ sure_status all → IsReportOfWords words holding taken text status
+  of_sure : (asked : Asked) (problem : Problem) (p : Posing) (f : Tree) (all : Bool)
+      → WordsPose words holding taken (OfSure asked) asked Reaching problem f → posing_in problem ≡ Some p
+      → IsSure p.question p.initial text all → status ≡ sure_status all
+      → IsReportOfWords words holding taken text status
   -- `make`: a line about the bracket of the game that a seed draws
-  of_make : (make : Make) → AreCommand words (OfMake make) → IsMade make.seed make.states make.rounds text status → IsReportOfWords words holding taken text status
+  of_make : (make : Make) → AreCommand words (OfMake make) → IsMade make.seed make.states make.rounds text status
+      → IsReportOfWords words holding taken text status

@@ -25,8 +25,10 @@ use Rattle.stogame_app.specs.Reports.{IsReportOfWords}
 abbrev pub IsLong : Refusal → Type 0
 IsLong refusal = (text : Text) × (refusal ≡ TooLong text)
 
--- the words denote a command of which this is the first refusal, and not for want of memory; it says that a text is too long where this many bytes were taken of the last one
-pub record RefusesWords (words : List (List ℕ)) (holding : Option Holding) (taken : ℕ) (refusal : Refusal) : Type 0 where
+-- the words denote a command of which this is the first refusal, and not for want of memory; it says that a text is too
+-- long where this many bytes were taken of the last one
+pub record RefusesWords (words : List (List ℕ)) (holding : Option Holding) (taken : ℕ)
+    (refusal : Refusal) : Type 0 where
   pub command : Command
   pub denoted : AreCommand words command
   pub said : RefusesIt holding command refusal
@@ -35,7 +37,8 @@ pub record RefusesWords (words : List (List ℕ)) (holding : Option Holding) (ta
   pub only_long : most_bytes < taken → IsLong refusal
 
 -- this is the line of such a refusal, whose numbers are written in full, and this is its status
-pub record IsRefusalOfWords (words : List (List ℕ)) (holding : Option Holding) (taken : ℕ) (text : List ℕ) (status : Status) : Type 0 where
+pub record IsRefusalOfWords (words : List (List ℕ)) (holding : Option Holding) (taken : ℕ) (text : List ℕ)
+    (status : Status) : Type 0 where
   pub refusal : Refusal
   pub refused : RefusesWords words holding taken refusal
   pub in_full : RefusalInFull refusal
@@ -56,7 +59,8 @@ pub record IsUsageOfWords (words : List (List ℕ)) (text : List ℕ) : Type 0 w
 
 -- the text that a run with these words makes
 abbrev pub IsOutput : List (List ℕ) → Option Holding → ℕ → List ℕ → Type 0
-IsOutput words holding taken text = ((status : Status) × IsReportOfWords words holding taken text status) ⊎ (((status : Status) × IsRefusalOfWords words holding taken text status) ⊎ IsUsageOfWords words text)
+IsOutput words holding taken text = ((status : Status) × IsReportOfWords words holding taken text status)
+    ⊎ (((status : Status) × IsRefusalOfWords words holding taken text status) ⊎ IsUsageOfWords words text)
 
 -- 2. How a run ends.
 
@@ -72,14 +76,19 @@ pub record WritesFront (old new : Option (List ℕ)) (IsText : List ℕ → Type
   pub is : IsText text
   pub grows : GrowsByPrefix old new text
 
--- How a run with these words ends, by its status, where the output was the first and is the second: with a report, a refusal or the usage line, which was written; with a fault of reading or want of
+-- How a run with these words ends, by its status, where the output was the first and is the second: with a report, a
+-- refusal or the usage line, which was written; with a fault of reading or want of
 -- memory, and nothing was written; or with a fault of writing.
 abbrev pub IsEnding : List (List ℕ) → Option Holding → ℕ → Option (List ℕ) → Option (List ℕ) → Status → Type 0
 IsEnding words holding taken old new Fine = Writes old new (λ text. IsReportOfWords words holding taken text Fine)
-IsEnding words holding taken old new SomeFalse = Writes old new (λ text. IsReportOfWords words holding taken text SomeFalse)
-IsEnding words holding taken old new SomeUndecided = Writes old new (λ text. IsReportOfWords words holding taken text SomeUndecided)
-IsEnding words holding taken old new ModelRefused = Writes old new (λ text. IsRefusalOfWords words holding taken text ModelRefused)
-IsEnding words holding taken old new CertificateRefused = Writes old new (λ text. IsRefusalOfWords words holding taken text CertificateRefused)
+IsEnding words holding taken old new SomeFalse =
+    Writes old new (λ text. IsReportOfWords words holding taken text SomeFalse)
+IsEnding words holding taken old new SomeUndecided =
+    Writes old new (λ text. IsReportOfWords words holding taken text SomeUndecided)
+IsEnding words holding taken old new ModelRefused =
+    Writes old new (λ text. IsRefusalOfWords words holding taken text ModelRefused)
+IsEnding words holding taken old new CertificateRefused =
+    Writes old new (λ text. IsRefusalOfWords words holding taken text CertificateRefused)
 IsEnding words holding taken old new Usage = Writes old new (λ text. IsUsageOfWords words text)
 IsEnding words holding taken old new ReadFault = IsUnreadOfWords words taken × (new ≡ old)
 IsEnding words holding taken old new WriteFault = WritesFront old new (λ text. IsOutput words holding taken text)
@@ -102,7 +111,8 @@ pub record IsMissingOfWords (words : List (List ℕ)) (holding : Option Holding)
   pub missing : IfKnown holding (λ held. IsMissing held command)
 
 -- What a run with these words does to a shelf, by the status with which it ends.
-pub record AsksShelf {S : Type 0} (held : S → Option Holding) (steady : S → Bool) (faults took : S → ℕ) (words : List (List ℕ)) (old new : S) (status : Status) : Type 0 where
+pub record AsksShelf {S : Type 0} (held : S → Option Holding) (steady : S → Bool) (faults took : S → ℕ)
+    (words : List (List ℕ)) (old new : S) (status : Status) : Type 0 where
   -- where no file is needed, it is not asked
   pub untouched : NeedNoFile words → new ≡ old
   -- what is held, and whether it is steady, stay, and the count of faults does not fall

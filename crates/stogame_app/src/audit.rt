@@ -36,7 +36,8 @@ fn audit_loaded<H: Shelf>(
 ) -> Result<Answer, End>
     requires sizes { HasSizes loaded.now.game loaded.now.labels loaded.now.owners }
     requires share { IsAtMostOne loaded.now.formula.bound }
-    ensures { (before : H) → Reads (H.held before) (audit_of audit.now).asked (reading_of loaded.now) → LoadingLeaves H.held H.steady H.faults H.taken before shelf.old (Ok loaded.now)
+    ensures { (before : H) → Reads (H.held before) (audit_of audit.now).asked (reading_of loaded.now)
+        → LoadingLeaves H.held H.steady H.faults H.taken before shelf.old (Ok loaded.now)
         → IsAnswered H.held H.steady H.faults H.taken (OfAudit (audit_of audit.now)) before shelf.new result }
 {
     let problem = pose_loaded(alloc, loaded, Paths::Unbounded)?;

@@ -41,7 +41,8 @@ pub fn answer_check<R: Threads + Sync, H: Shelf, G: Gate + Sync>(
     check_loaded(rt, alloc, &loaded, check, gate)
 }
 
-// The report on what was loaded. It does not hold the model: what a function holds is proved to be let go wherever it may leave.
+// The report on what was loaded. It does not hold the model: what a function holds is proved to be let go wherever it
+// may leave.
 fn check_loaded<R: Threads + Sync, G: Gate + Sync>(
     rt: &R,
     alloc: Global,
@@ -81,7 +82,8 @@ fn report_on<R: Threads + Sync, G: Gate + Sync>(
     requires share { IsAtMostOne formula.now.bound }
     requires steps { HasKind formula.now.kind (tree_of formula.now).left }
     requires reportable { IsReportable problem.now (tree_of formula.now) }
-    ensures report { IfOk result (λ answer. (words : List (List ℕ)) (holding : Option Holding) (taken : ℕ) → Checks words holding taken (check_of check.now) (problem_of problem.now) (tree_of formula.now)
+    ensures report { IfOk result (λ answer. (words : List (List ℕ)) (holding : Option Holding) (taken : ℕ)
+        → Checks words holding taken (check_of check.now) (problem_of problem.now) (tree_of formula.now)
         → IsReportOfWords words holding taken answer.text.items answer.status) }
     ensures answer { IfOk result (λ answer. IsAnswer answer.status) }
 {
@@ -98,7 +100,8 @@ fn report_on<R: Threads + Sync, G: Gate + Sync>(
     }
 }
 
-// Which formulas are taken: where a certificate or lowered upper bounds are asked for, those without a bound on the steps and with none inside.
+// Which formulas are taken: where a certificate or lowered upper bounds are asked for, those without a bound on the
+// steps and with none inside.
 fn check_paths(check: &CheckWords<'_>) -> Paths
     ensures { result ≡ check_paths (check_of check.now) }
 {

@@ -13,6 +13,7 @@ use crate::audit::answer_audit;
 use crate::check::answer_check;
 use crate::ends::{end_run, end_with_usage};
 use crate::make::answer_make;
+use crate::solve::answer_solve;
 use crate::sure::answer_sure;
 use asked_files::End;
 use asked_files::laws::questions_are_what_is_asked;
@@ -24,20 +25,21 @@ use run_answers::{Answer, Status};
 use std::alloc::Global;
 use std::thread::Threads;
 
-/// Reads the words and the texts that they name. `check` computes a bracket of the question that they pose, and writes one line
-/// for each initial state, rising, and the certificate where the words ask for it; `audit` writes these lines from a certificate
-/// of any origin that the question accepts, and computes no bracket; `sure` lists the states from which a goal is reached almost
-/// surely, whose k-step values come within any 1/m of 1; `make` writes one line about the bracket of a game that a seed draws.
-/// With `check` and `audit`, `F` and `U`, k-step values come within any 1/m of each printed lower bound, or are above it, and each
-/// upper bound is at least every one; with `--traps` it is lowered to the best exits of traps. The minimiser's choices of the
-/// certificate hold every opponent to the upper bounds, and the maximiser's reach the lower ones, less any 1/m, within some
-/// horizon; True and False are printed exactly where the bounds settle the threshold, and are then true and false, whatever the
-/// schedule of the workers, who pass a gate before states. Of `G` all this is so of its dual, and 1 less its bounds is printed.
-/// With `F<=k`, `U<=k` and `X` exactly so many steps are made, and the k-step value, or the next one, lies between the bounds.
-/// With formulas inside a first line counts them and what their bounds leave undecided; the bounds are sound, and True and
-/// False right, for the exact question, in which each formula inside holds where it is true.
-/// What is not accepted is refused by one line that names the cause and its place. The whole output is made in memory first and
-/// written once.
+/// Reads the words and the texts that they name. `check` computes a bracket of the question that they pose, and writes
+/// one line for each initial state, rising, and the certificate where the words ask for it; `audit` writes these lines
+/// from a certificate of any origin that the question accepts, and computes no bracket; `solve` from tables that a
+/// solver finds, where they pass the checks of an audit; `sure` lists the states from which a goal is reached almost
+/// surely; `make` writes one line about the bracket of a game that a seed draws. With `check`, `audit` and `solve`, `F`
+/// and `U`, the value of the question lies between the printed bounds; with `--traps` the upper one is lowered to the
+/// best exits of traps. The minimiser's choices of the certificate hold every strategy of the maximiser, with memory
+/// and dice, to the upper bounds, and the maximiser's reach the lower ones, less any 1/m, within some number of steps
+/// against every strategy of the minimiser. True and False are printed exactly where the bounds settle the threshold,
+/// and are then true and false of the value, whatever the schedule of the workers, who pass a gate before states. Of
+/// `G` all this is so of its dual, and 1 less its bounds is printed. With `F<=k`, `U<=k` and `X` exactly so many steps
+/// are made, and what both sides can be sure of within them, or next, lies between the bounds. With formulas inside a
+/// first line counts them and what their bounds leave undecided; the bounds are sound, and True and False right, for
+/// the exact question, in which each formula inside holds where it is true. What is not accepted is refused by one line
+/// that names the cause and its place. The whole output is made in memory first and written once.
 pub fn run<R: Threads + Sync, H: Shelf, K: Sink, G: Gate + Sync>(
     rt: &R,
     alloc: Global,
@@ -47,15 +49,17 @@ pub fn run<R: Threads + Sync, H: Shelf, K: Sink, G: Gate + Sync>(
     gate: &G,
 ) -> Status
     // How it ends, by its status, and what it has written then.
-    ensures ends { IsEnding (map string_bytes words.now) (H.held shelf.old) (H.taken shelf.new) (K.written out.old) (K.written out.new) result }
+    ensures ends { IsEnding (map string_bytes words.now) (H.held shelf.old) (H.taken shelf.new) (K.written out.old)
+        (K.written out.new) result }
 
     // What it asks of the shelf. A fault of the outside is answered only where its count rose.
     ensures shelf { AsksShelf H.held H.steady H.faults H.taken (map string_bytes words.now) shelf.old shelf.new result }
     ensures write_fault { result ≡ Status.WriteFault → Rose (K.faults out.old) (K.faults out.new) }
 
-    // It does not give up by itself: where what the words need is held and accepted, the shelf can be read, and no fault of
-    // writing arose, it answers, or lacks memory.
-    ensures complete { IsAcceptedOfWords (map string_bytes words.now) (H.held shelf.old) → IsReadable H.steady H.faults (map string_bytes words.now) shelf.old shelf.new
+    // It does not give up by itself: where what the words need is held and accepted, the shelf can be read, and no
+    // fault of writing arose, it answers, or lacks memory.
+    ensures complete { IsAcceptedOfWords (map string_bytes words.now) (H.held shelf.old)
+        → IsReadable H.steady H.faults (map string_bytes words.now) shelf.old shelf.new
         → ¬ Rose (K.faults out.old) (K.faults out.new) → IsAnswer result ⊎ (result ≡ Status.OutOfMemory) }
 {
     match read_words(alloc, words) {
@@ -86,6 +90,7 @@ fn answer<R: Threads + Sync, H: Shelf, G: Gate + Sync>(
     match command {
         CommandWords::Check(check) => answer_check(rt, alloc, check, shelf, gate),
         CommandWords::Audit(audit) => answer_audit(alloc, audit, shelf),
+        CommandWords::Solve(solve) => answer_solve(alloc, solve, shelf),
         CommandWords::Make(make) => answer_make(rt, alloc, make, gate),
         CommandWords::Sure(asked) => answer_sure(alloc, asked, shelf),
     }

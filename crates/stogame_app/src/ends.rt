@@ -18,7 +18,8 @@ pub fn say<K: Sink>(out: &mut K, text: &[u8], status: Status) -> Status
     requires { status ≢ Status.WriteFault }
     ensures either { (result ≡ status) ⊎ (result ≡ Status.WriteFault) }
     ensures all { result ≡ status → GrowsBy (K.written out.old) (K.written out.new) text.now }
-    ensures fault { result ≡ Status.WriteFault → Rose (K.faults out.old) (K.faults out.new) × GrowsByPrefix (K.written out.old) (K.written out.new) text.now }
+    ensures fault { result ≡ Status.WriteFault
+        → Rose (K.faults out.old) (K.faults out.new) × GrowsByPrefix (K.written out.old) (K.written out.new) text.now }
 {
     match write_all(out, text) {
         Ok(()) => status,
@@ -28,7 +29,8 @@ pub fn say<K: Sink>(out: &mut K, text: &[u8], status: Status) -> Status
 
 /// Ends a run whose words denote no command.
 pub fn end_with_usage<K: Sink>(alloc: Global, out: &mut K) -> Status
-    ensures ends { (words : List (List ℕ)) (holding : Option Holding) (taken : ℕ) → AreNoCommand words → IsEnding words holding taken (K.written out.old) (K.written out.new) result }
+    ensures ends { (words : List (List ℕ)) (holding : Option Holding) (taken : ℕ) → AreNoCommand words
+        → IsEnding words holding taken (K.written out.old) (K.written out.new) result }
     ensures read_fault { result ≢ Status.ReadFault }
     ensures write_fault { result ≡ Status.WriteFault → Rose (K.faults out.old) (K.faults out.new) }
 {
@@ -38,11 +40,13 @@ pub fn end_with_usage<K: Sink>(alloc: Global, out: &mut K) -> Status
     }
 }
 
-/// Writes the answer to a command, or the line of its refusal; a text that can't be read and want of memory are answered
-/// by the status alone.
+/// Writes the answer to a command, or the line of its refusal; a text that can't be read and want of memory are
+/// answered by the status alone.
 pub fn end_run<K: Sink>(alloc: Global, out: &mut K, made: Result<Answer, End>) -> Status
     requires { IfOk made (λ answer. IsAnswer answer.status) }
-    ensures ends { (words : List (List ℕ)) (holding : Option Holding) (taken : ℕ) → AnswersWords words holding taken made → IsEnding words holding taken (K.written out.old) (K.written out.new) result }
+    ensures ends { (words : List (List ℕ)) (holding : Option Holding) (taken : ℕ)
+        → AnswersWords words holding taken made
+        → IsEnding words holding taken (K.written out.old) (K.written out.new) result }
     ensures read_fault { result ≡ Status.ReadFault → made ≡ Err End.ReadFault }
     ensures write_fault { result ≡ Status.WriteFault → Rose (K.faults out.old) (K.faults out.new) }
 {
@@ -56,7 +60,9 @@ pub fn end_run<K: Sink>(alloc: Global, out: &mut K, made: Result<Answer, End>) -
 
 // Ends a run with the line of a refusal.
 fn end_with_refusal<K: Sink>(alloc: Global, out: &mut K, refusal: &Refusal) -> Status
-    ensures ends { (words : List (List ℕ)) (holding : Option Holding) (taken : ℕ) → RefusesWords words holding taken refusal.now → IsEnding words holding taken (K.written out.old) (K.written out.new) result }
+    ensures ends { (words : List (List ℕ)) (holding : Option Holding) (taken : ℕ)
+        → RefusesWords words holding taken refusal.now
+        → IsEnding words holding taken (K.written out.old) (K.written out.new) result }
     ensures read_fault { result ≢ Status.ReadFault }
     ensures write_fault { result ≡ Status.WriteFault → Rose (K.faults out.old) (K.faults out.new) }
 {

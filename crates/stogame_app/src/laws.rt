@@ -8,11 +8,13 @@ ghost use Rattle.stogame_app.specs.Reports.{IsReportOfWords};
 ghost use Rattle.stogame_app.specs.Run.{IsEnding, IsRefusalOfWords, Writes};
 ghost use Rattle.stogame_app.specs.Status.{IsRefusal};
 
-/// A run that ends with status 0, 1 or 2 has written the report of the command that its words denote, and one that ends with
-/// status 4 or 8 the line of its refusal.
+/// A run that ends with status 0, 1 or 2 has written the report of the command that its words denote, and one that ends
+/// with status 4 or 8 the line of its refusal.
 pub fn endings_are_told_by_their_status()
-    ensures reports { (words : List (List ℕ)) (holding : Option Holding) (taken : ℕ) (old new : Option (List ℕ)) (status : Status) → IsEnding words holding taken old new status
+    ensures reports { (words : List (List ℕ)) (holding : Option Holding) (taken : ℕ) (old new : Option (List ℕ))
+        (status : Status) → IsEnding words holding taken old new status
         → IsAnswer status → Writes old new (λ text. IsReportOfWords words holding taken text status) }
-    ensures refusals { (words : List (List ℕ)) (holding : Option Holding) (taken : ℕ) (old new : Option (List ℕ)) (status : Status) → IsEnding words holding taken old new status
+    ensures refusals { (words : List (List ℕ)) (holding : Option Holding) (taken : ℕ) (old new : Option (List ℕ))
+        (status : Status) → IsEnding words holding taken old new status
         → IsRefusal status → Writes old new (λ text. IsRefusalOfWords words holding taken text status) }
 {}

@@ -22,7 +22,9 @@ pub fn answer_make<R: Threads + Sync, G: Gate + Sync>(
     gate: &G,
 ) -> Result<Answer, End>
     requires { IsMakeInRange (make_of make.now) }
-    ensures made { (words : List (List ℕ)) (holding : Option Holding) (taken : ℕ) → AreCommand words (OfMake (make_of make.now)) → IfOk result (λ answer. IsReportOfWords words holding taken answer.text.items answer.status) }
+    ensures made { (words : List (List ℕ)) (holding : Option Holding) (taken : ℕ)
+        → AreCommand words (OfMake (make_of make.now))
+        → IfOk result (λ answer. IsReportOfWords words holding taken answer.text.items answer.status) }
     ensures answer { IfOk result (λ answer. IsAnswer answer.status) }
     ensures memory { (end : End) → result ≡ Err end → end ≡ End.OutOfMemory }
 {

@@ -21,7 +21,8 @@ pub fn answer_sure<H: Shelf>(
     asked: &AskedWords<'_>,
     shelf: &mut H,
 ) -> Result<Answer, End>
-    ensures { IsAnswered H.held H.steady H.faults H.taken (OfSure (asked_of_words asked.now)) shelf.old shelf.new result }
+    ensures { IsAnswered H.held H.steady H.faults H.taken
+        (OfSure (asked_of_words asked.now)) shelf.old shelf.new result }
 {
     let loaded = load_model(alloc, shelf, asked)?;
     sure_of_loaded(alloc, &loaded, asked)

@@ -3,13 +3,15 @@ use Rattle.std.specs.Prelude.{◌≡◌, ℕ, Bool, false, List, ◌++◌, lengt
 use Rattle.std.specs.List.{filter, flat_map, list_all, range_with_len}
 use Rattle.game_model.specs.Query.{Query}
 use Rattle.almost_sure.specs.Values.{AreAlmostSure}
+use Rattle.almost_sure.specs.Strategies.{HaveStrategies}
 
 abbrev pub is_marked : List Bool → ℕ → Bool
 is_marked marks s = slice_index_or marks s false
 
 -- the line `sure C of N`: so many states are marked, of so many
 abbrev pub head_line : List Bool → List ℕ
-head_line marks = codes "sure " ++ (decimal (count_by (λ marked. marked) marks) ++ (codes " of " ++ (decimal (length marks) ++ codes "\n")))
+head_line marks = codes "sure " ++ (decimal (count_by (λ marked. marked) marks)
+    ++ (codes " of " ++ (decimal (length marks) ++ codes "\n")))
 
 -- the marked states, rising
 abbrev pub marked_states : List Bool → List ℕ
@@ -22,9 +24,11 @@ state_line s = decimal s ++ codes "\n"
 abbrev pub marked_lines : List Bool → List ℕ
 marked_lines marks = flat_map state_line (marked_states marks)
 
--- the text lists the states from which a goal is reached almost surely, and this says whether all initial states are among them
+-- the text lists the states from which a goal is reached almost surely, by values and by strategies, and this says
+-- whether all initial states are among them
 pub record IsSure (q : Query) (initial text : List ℕ) (all : Bool) : Type 0 where
   pub marks : List Bool
   pub exact : AreAlmostSure q marks
+  pub strategies : HaveStrategies q marks
   pub written : text ≡ head_line marks ++ marked_lines marks
   pub listed : all ≡ list_all (is_marked marks) initial

@@ -1,7 +1,7 @@
 //! What `sure` says of a question: how many states reach a goal almost surely, and which.
 //!
-//! [`sure_report`] makes the text, `sure C of N` and a line for each of the C states, and says whether all initial states are
-//! among them.
+//! [`sure_report`] makes the text, `sure C of N` and a line for each of the C states, and says whether all initial
+//! states are among them.
 #![tactic(auto)]
 
 ghost use Rattle.std.specs.Prelude.{◌≡◌, ◌<◌, ◌++◌, [], All, IfOk, OnOk, length, if◌then◌else◌};
@@ -69,7 +69,8 @@ fn append_marked(text: &mut Vec<u8>, marks: &Marks, states: u32) -> Result<(), O
 // The line of a state, where it is marked.
 fn append_if_marked(text: &mut Vec<u8>, marks: &Marks, state: u32) -> Result<(), OutOfMemory>
     requires { state < length marks.now }
-    ensures { OnOk result (text.new.items ≡ text.old.items ++ (if is_marked marks.now state then state_line state else [])) }
+    ensures { OnOk result (text.new.items ≡ text.old.items ++
+        (if is_marked marks.now state then state_line state else [])) }
 {
     if !marks.has(state) {
         return Ok(());

@@ -1,7 +1,8 @@
-//! Real files and a real writer, as the shelf and the sink of a run. What they hold, no contract says: they are the trusted edge.
+//! Real files and a real writer, as the shelf and the sink of a run. What they hold, no contract says: they are the
+//! trusted edge.
 //!
-//! [`FileShelf`] and [`OutSink`] keep what `game_outside` asks of each shelf and each sink, and tell nothing of the bytes. Each
-//! remembers why its last call failed, for a line on standard error; no clause speaks of that.
+//! [`FileShelf`] and [`OutSink`] keep what `game_outside` asks of each shelf and each sink, and tell nothing of the
+//! bytes. Each remembers why its last call failed, for a line on standard error; no clause speaks of that.
 #![tactic(auto)]
 
 mod failure;

@@ -7,8 +7,8 @@ use game_model::Question;
 use std::thread::{Threads, for_each_chunk_mut};
 use upper_guess::{UpTables, fill_part};
 
-/// Workers who fill the up step of a table together. Where they are W, a part has the number of states over W, rounded up,
-/// and worker w the part from w times so many on; the last ones may have none.
+/// Workers who fill the up step of a table together. Where they are W, a part has the number of states over W, rounded
+/// up, and worker w the part from w times so many on; the last ones may have none.
 #[derive(Drop)]
 pub struct Team<'a, R: Threads + Sync> {
     /// What starts their threads.

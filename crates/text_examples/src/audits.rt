@@ -24,8 +24,8 @@ fn answer(
     Ok(audit(alloc, question, text))
 }
 
-// What the audit of a text says of a game of which one side has all states, state 1 is the goal, and one is dead, or none
-// where it is past the last.
+// What the audit of a text says of a game of which one side has all states, state 1 is the goal, and one is dead, or
+// none where it is past the last.
 fn answer_in(
     alloc: Global,
     game: &Game,

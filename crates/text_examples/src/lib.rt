@@ -1,5 +1,5 @@
-//! Worked examples of the crates that read and write texts: shelves and sinks, numbers, transition, label and owner files,
-//! formulas, the questions that they pose, words, verdicts and certificates.
+//! Worked examples of the crates that read and write texts: shelves and sinks, numbers, transition, label and owner
+//! files, values, formulas, the questions that they pose, words, verdicts and certificates.
 //!
 //! They stand over these crates, since a test in a crate proves that crate once more.
 #![tactic(auto)]
@@ -22,6 +22,8 @@ mod plans;
 mod questions;
 #[cfg(test)]
 mod transitions;
+#[cfg(test)]
+mod values;
 #[cfg(test)]
 mod verdict_lines;
 #[cfg(test)]

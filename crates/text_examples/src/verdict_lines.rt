@@ -89,9 +89,16 @@ fn a_report_has_a_line_for_each_state(rt: HostRuntime) -> Result<(), Fail> {
             how: How::Steps(2),
             verdict: Verdict::Yes,
         },
+        ReportLine {
+            state: 4,
+            lower: 0,
+            upper: 1,
+            how: How::Solved,
+            verdict: Verdict::Undecided,
+        },
     ];
     let text = report_text(rt.alloc(), &lines)?;
     let expected =
-        b"state 0 lower 0.499999999999999 upper 1.000000000000000 rounds 40 Bracket\nstate 12 lower 0.000000000000000 upper 0.000000000000000 audited False\nstate 3 lower 0.375000000000000 upper 0.375000000000000 steps 2 True\n";
+        b"state 0 lower 0.499999999999999 upper 1.000000000000000 rounds 40 Bracket\nstate 12 lower 0.000000000000000 upper 0.000000000000000 audited False\nstate 3 lower 0.375000000000000 upper 0.375000000000000 steps 2 True\nstate 4 lower 0.000000000000000 upper 0.000000000000001 solved Undecided\n";
     same("report", text.as_slice(), expected.as_slice())
 }

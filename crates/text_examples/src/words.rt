@@ -1,12 +1,12 @@
 //! Words, read whole. A line of a test has words that are parted by one space each.
 
-use command_words::{AuditWords, CheckWords, CommandWords, MakeWords, read_words};
+use command_words::{AuditWords, CheckWords, CommandWords, MakeWords, SolveWords, read_words};
 use expectations::same;
 use std::alloc::Global;
 use std::test::Fail;
 
 // Words that denote a command.
-const TAKEN: [&str; 25] = [
+const TAKEN: [&str; 29] = [
     "check m.tra m.lab F",
     "check m.tra m.lab ",
     "check --plan --own m.own m.tra --rounds=0 m.lab --traps F --workers 64",
@@ -21,6 +21,10 @@ const TAKEN: [&str; 25] = [
     "audit --own=m.own -- m.tra m.lab F --own",
     "audit m.tra m.lab F m.cert --own -",
     "audit check audit check audit",
+    "solve m.tra m.lab F",
+    "solve m.tra m.lab ",
+    "solve --values=m.val m.tra --plan m.lab --own m.own F",
+    "solve --plan -- m.tra m.lab --values",
     "make 1 3",
     "make 2147483646 1000000",
     "make +1 003",
@@ -108,6 +112,22 @@ const NO_AUDIT: [&str; 17] = [
     "audit m.tra m.lab F m.cert --help",
     "audit m.tra m.lab F m.cert -h",
     "audit m.tra m.lab F --certificate m.cert",
+];
+
+// Words that are no `solve`.
+const NO_SOLVE: [&str; 12] = [
+    "solve",
+    "solve m.tra m.lab",
+    "solve m.tra m.lab F m.val",
+    "solve  m.lab F",
+    "solve m.tra m.lab F --values",
+    "solve m.tra m.lab F --values ",
+    "solve m.tra m.lab F --values=",
+    "solve m.tra m.lab F --values a --values b",
+    "solve m.tra m.lab F --own=",
+    "solve m.tra m.lab F --rounds 5",
+    "solve m.tra m.lab F --workers=2",
+    "solve m.tra m.lab F --traps",
 ];
 
 // Words that are no `make`.
@@ -198,6 +218,7 @@ fn words_denote_no_command(rt: HostRuntime) -> Result<(), Fail> {
     are_taken(alloc, UNNAMED.as_slice(), false)?;
     are_taken(alloc, NO_CHECK.as_slice(), false)?;
     are_taken(alloc, NO_AUDIT.as_slice(), false)?;
+    are_taken(alloc, NO_SOLVE.as_slice(), false)?;
     are_taken(alloc, NO_MAKE.as_slice(), false)
 }
 
@@ -276,6 +297,40 @@ fn an_audit_says_its_words(rt: HostRuntime) -> Result<(), Fail> {
         ),
         ("m.tra", "m.lab", "F", Some("m.own"), "m.cert"),
     )
+}
+
+// The `solve` that words ask for.
+fn solve_in(alloc: Global, words: &[String]) -> Result<SolveWords<'_>, Fail> {
+    match read_words(alloc, words)? {
+        Some(CommandWords::Solve(solve)) => Ok(solve),
+        _ => Err(Fail::new("no solve")),
+    }
+}
+
+#[test]
+fn a_solve_says_its_words(rt: HostRuntime) -> Result<(), Fail> {
+    let line = "solve --own m.own m.tra m.lab --values=m.val F --plan";
+    let words = words(rt.alloc(), line)?;
+    let solve = solve_in(rt.alloc(), &words)?;
+    let asked = solve.asked;
+    same(
+        "words",
+        (
+            (asked.tra, asked.lab, asked.formula, asked.own),
+            (solve.values, solve.plan),
+        ),
+        (
+            ("m.tra", "m.lab", "F", Some("m.own")),
+            (Some("m.val"), true),
+        ),
+    )
+}
+
+#[test]
+fn a_solve_has_no_values_by_itself(rt: HostRuntime) -> Result<(), Fail> {
+    let words = words(rt.alloc(), "solve m.tra m.lab F")?;
+    let solve = solve_in(rt.alloc(), &words)?;
+    same("words", (solve.values, solve.plan), (None, false))
 }
 
 // The `make` that words ask for.

@@ -9,4 +9,5 @@ AreBlank (line ∷ lines) = (fields_of line ≡ []) × AreBlank lines
 
 -- This is true of the lines that count, where so many blank lines stand in front of these lines.
 abbrev pub BehindBlanks : ℕ → List (List ℕ) → (List (List ℕ) → Type 0) → Type 0
-BehindBlanks count lines Holds = (blanks : List (List ℕ)) → AreBlank blanks → length blanks ≡ count → Holds (significant (blanks ++ lines))
+BehindBlanks count lines Holds = (blanks : List (List ℕ)) → AreBlank blanks → length blanks ≡ count
+    → Holds (significant (blanks ++ lines))

@@ -14,7 +14,8 @@ begins_lf (b ∷ bytes) = b == 10
 -- The lines of a text. Each ends in LF or CRLF, or at the end of the text, and behind the last ending no line begins.
 abbrev pub lines_of : List ℕ → List (List ℕ)
 lines_of [] = []
-lines_of (b ∷ bytes) = if b == 10 then [] ∷ lines_of bytes else (if b == 13 && begins_lf bytes then lines_of bytes else prepend (b ∷ []) (lines_of bytes))
+lines_of (b ∷ bytes) = if b == 10 then [] ∷ lines_of bytes else
+    (if b == 13 && begins_lf bytes then lines_of bytes else prepend (b ∷ []) (lines_of bytes))
 
 abbrev pub is_blank : ℕ → Bool
 is_blank b = b == 32 || b == 9
@@ -27,7 +28,8 @@ ends_field (b ∷ bytes) = is_blank b
 -- The fields of a line: what stands between spaces and tabs.
 abbrev pub fields_of : List ℕ → List (List ℕ)
 fields_of [] = []
-fields_of (b ∷ bytes) = if is_blank b then fields_of bytes else (if ends_field bytes then (b ∷ []) ∷ fields_of bytes else prepend (b ∷ []) (fields_of bytes))
+fields_of (b ∷ bytes) = if is_blank b then fields_of bytes else
+    (if ends_field bytes then (b ∷ []) ∷ fields_of bytes else prepend (b ∷ []) (fields_of bytes))
 
 abbrev pub is_digit : ℕ → Bool
 is_digit b = nat_le 48 b && nat_le b 57

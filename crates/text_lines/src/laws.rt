@@ -14,7 +14,8 @@ pub fn limits()
 /// A line is what stands before its ending, LF or CRLF, or before the end of the text. With `lines_of [] ≡ []` these
 /// three determine the lines of every text.
 pub fn lines_end_in_lf_or_crlf()
-    ensures lf { (line rest : List ℕ) → HasNo 10 line → EndsInNoCr line → lines_of (line ++ 10 ∷ rest) ≡ line ∷ lines_of rest }
+    ensures lf { (line rest : List ℕ) → HasNo 10 line → EndsInNoCr line
+        → lines_of (line ++ 10 ∷ rest) ≡ line ∷ lines_of rest }
     ensures crlf { (line rest : List ℕ) → HasNo 10 line → lines_of (line ++ 13 ∷ 10 ∷ rest) ≡ line ∷ lines_of rest }
     ensures last { (line : List ℕ) → HasNo 10 line → 0 < length line → lines_of line ≡ line ∷ [] }
 {}
@@ -22,7 +23,8 @@ pub fn lines_end_in_lf_or_crlf()
 /// A blank parts a line, and what has no blank is one field. With `fields_of [] ≡ []` these two determine the fields of
 /// every line.
 pub fn fields_are_parted_by_blanks()
-    ensures parted { (front back : List ℕ) (b : ℕ) → is_blank b ≡ true → fields_of (front ++ b ∷ back) ≡ fields_of front ++ fields_of back }
+    ensures parted { (front back : List ℕ) (b : ℕ) → is_blank b ≡ true
+        → fields_of (front ++ b ∷ back) ≡ fields_of front ++ fields_of back }
     ensures field { (field : List ℕ) → HasNoBlank field → 0 < length field → fields_of field ≡ field ∷ [] }
 {}
 

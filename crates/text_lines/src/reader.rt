@@ -25,12 +25,15 @@ pub trait LineReader: Drop {
     /// no more.
     fn take(&mut self, number: u32, line: &[u8]) -> Result<(), Self::Fault>
         requires { fields_of line.now ≢ [] }
-        ensures ok { OnOk result ((lines : List (List ℕ)) (answer : Result Self.Made Self.Fault) → answers self.new (number + 1) lines answer → answers self.old number (line.now ∷ lines) answer) }
-        ensures fault { MatchResult result (λ _. Unit {0}) (λ fault. (lines : List (List ℕ)) → answers self.old number (line.now ∷ lines) (Err fault)) };
+        ensures ok { OnOk result ((lines : List (List ℕ)) (answer : Result Self.Made Self.Fault)
+            → answers self.new (number + 1) lines answer → answers self.old number (line.now ∷ lines) answer) }
+        ensures fault { MatchResult result (λ _. Unit {0})
+            (λ fault. (lines : List (List ℕ)) → answers self.old number (line.now ∷ lines) (Err fault)) };
 
     /// Why a text is refused in which a blank line comes next, and lines behind it that count.
     fn blank(&self, number: u32) -> Self::Fault
-        ensures { (line : List ℕ) (lines : List (List ℕ)) → fields_of line ≡ [] → answers self.now number (line ∷ lines) (Err result) };
+        ensures { (line : List ℕ) (lines : List (List ℕ)) → fields_of line ≡ []
+            → answers self.now number (line ∷ lines) (Err result) };
 
     /// What it makes of the text, which is at its end.
     fn finish(self) -> Result<Self::Made, Self::Fault>
@@ -65,9 +68,11 @@ impl<R: LineReader> Feed<R> {
         requires { self.old.next + self.old.blanks + 1 < 2 ^ 32 }
         ensures ok { OnOk result ((lines : List (List ℕ)) (answer : Result R.Made R.Fault) →
             BehindBlanks self.new.blanks lines (λ more. R.answers self.new.reader self.new.next more answer) →
-            BehindBlanks self.old.blanks (line.now ∷ lines) (λ more. R.answers self.old.reader self.old.next more answer)) }
+            BehindBlanks self.old.blanks (line.now ∷ lines)
+            (λ more. R.answers self.old.reader self.old.next more answer)) }
         ensures fault { MatchResult result (λ _. Unit {0}) (λ fault. (lines : List (List ℕ)) →
-            BehindBlanks self.old.blanks (line.now ∷ lines) (λ more. R.answers self.old.reader self.old.next more (Err fault))) }
+            BehindBlanks self.old.blanks (line.now ∷ lines)
+            (λ more. R.answers self.old.reader self.old.next more (Err fault))) }
         ensures count { OnOk result (self.new.next + self.new.blanks ≡ self.old.next + self.old.blanks + 1) }
     {
         if first_field(line).is_none() {

@@ -42,7 +42,8 @@ action_at rows place = option_map (λ row. row.action) (slice_get (filter (has r
 
 -- the action is another than that of the first row at its place
 abbrev pub clashes_at : List Row → Row → Bool
-clashes_at before row = option_map_or (λ action. not (bytes_eq action row.action)) (action_at before (row_place row)) false
+clashes_at before row = option_map_or (λ action. not (bytes_eq action row.action))
+    (action_at before (row_place row)) false
 
 -- each edge leads to one of n states
 abbrev pub LeadsInside : ℕ → Distribution → Type 0

@@ -53,12 +53,14 @@ sum_of_first f (suc n) = sum_of_first f n + f n
 -- one more than the greatest choice of the state that has a transition, 0 where none has
 abbrev pub choice_end : List Transition → ℕ → ℕ
 choice_end [] s = 0
-choice_end (transition ∷ transitions) s = if transition.source == s then max (transition.choice + 1) (choice_end transitions s) else choice_end transitions s
+choice_end (transition ∷ transitions) s = if transition.source ==
+    s then max (transition.choice + 1) (choice_end transitions s) else choice_end transitions s
 
 -- the least of the first `count` choices of a state that has no transition
 abbrev pub least_missing : List Transition → ℕ → ℕ → Option ℕ
 least_missing transitions s zero = None
-least_missing transitions s (suc k) = option_or (least_missing transitions s k) (if is_nil (transitions_of transitions s k) then Some k else None)
+least_missing transitions s (suc k) = option_or (least_missing transitions s k)
+    (if is_nil (transitions_of transitions s k) then Some k else None)
 
 abbrev pub of_state : ℕ → ℕ → ℕ × ℕ
 of_state s k = (s, k)
@@ -66,7 +68,8 @@ of_state s k = (s, k)
 -- the first state with a gap before its greatest choice, and the least missing choice there
 abbrev pub first_gap : List Transition → ℕ → Option (ℕ × ℕ)
 first_gap transitions zero = None
-first_gap transitions (suc s) = option_or (first_gap transitions s) (option_map (of_state s) (least_missing transitions s (choice_end transitions s)))
+first_gap transitions (suc s) = option_or (first_gap transitions s)
+    (option_map (of_state s) (least_missing transitions s (choice_end transitions s)))
 
 -- the state, if it has more choices than a state may have
 abbrev pub if_crowded : ℕ → ℕ → Option ℕ
@@ -89,30 +92,37 @@ choice_at s k (Err fault) = Err (fault_of_all (Choice s k fault))
 -- the first `count` choices of a state
 abbrev pub choices_said : List Transition → ℕ → ℕ → Result (List Distribution) TraFault
 choices_said transitions s zero = Ok []
-choices_said transitions s (suc k) = then_push (choices_said transitions s k) (choice_at s k (choice_said (parts_of transitions s k)))
+choices_said transitions s (suc k) = then_push (choices_said transitions s k)
+    (choice_at s k (choice_said (parts_of transitions s k)))
 
 abbrev pub state_said : List Transition → ℕ → Result (List Distribution) TraFault
-state_said transitions s = if choice_end transitions s == 0 then Ok (self_loop s ∷ []) else choices_said transitions s (choice_end transitions s)
+state_said transitions s = if choice_end transitions s ==
+    0 then Ok (self_loop s ∷ []) else choices_said transitions s (choice_end transitions s)
 
 -- the choices of the first n states
 abbrev pub states_said : List Transition → ℕ → Result (List (List Distribution)) TraFault
 states_said transitions zero = Ok []
 states_said transitions (suc s) = then_push (states_said transitions s) (state_said transitions s)
 
-abbrev pub unless_gap : Option (ℕ × ℕ) → Result (List (List Distribution)) TraFault → Result (List (List Distribution)) TraFault
+abbrev pub unless_gap : Option (ℕ × ℕ) → Result (List (List Distribution)) TraFault
+    → Result (List (List Distribution)) TraFault
 unless_gap (Some (s, k)) game = Err (fault_of_all (ChoiceGap s k))
 unless_gap None game = game
 
-abbrev pub unless_crowded : Option ℕ → Result (List (List Distribution)) TraFault → Result (List (List Distribution)) TraFault
+abbrev pub unless_crowded : Option ℕ → Result (List (List Distribution)) TraFault
+    → Result (List (List Distribution)) TraFault
 unless_crowded (Some s) game = Err (fault_of_all (TooManyChoices s))
 unless_crowded None game = game
 
 -- in an MDP the choices are as many as stated
-abbrev pub if_as_stated : Option ℕ → ℕ → Result (List (List Distribution)) TraFault → Result (List (List Distribution)) TraFault
+abbrev pub if_as_stated : Option ℕ → ℕ → Result (List (List Distribution)) TraFault
+    → Result (List (List Distribution)) TraFault
 if_as_stated None read game = game
 if_as_stated (Some stated) read game = if read == stated then game else Err (fault_of_all (ChoiceCount read stated))
 
 -- the game of n states with these transitions, or the first fault of the whole
 abbrev pub transitions_game : List Transition → ℕ → Option ℕ → Result (List (List Distribution)) TraFault
 transitions_game transitions n stated =
-    unless_gap (first_gap transitions n) (unless_crowded (first_crowded transitions n) (if_as_stated stated (sum_of_first (choice_end transitions) n) (states_said transitions n)))
+    unless_gap (first_gap transitions n)
+    (unless_crowded (first_crowded transitions n)
+    (if_as_stated stated (sum_of_first (choice_end transitions) n) (states_said transitions n)))

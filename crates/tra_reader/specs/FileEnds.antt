@@ -25,7 +25,8 @@ RefusesCaused (Err file.TooLong) = Unit {0}
 
 -- the same answer, but want of memory in place of a refusal for it
 abbrev pub without_want_of : {X : Type 0} → Result X (FileEnd TraFault) → Result X (FileEnd TraFault)
-without_want_of (Err (file.Refused fault)) = if is_out_of_memory fault.cause then Err file.OutOfMemory else Err (file.Refused fault)
+without_want_of (Err (file.Refused fault)) =
+    if is_out_of_memory fault.cause then Err file.OutOfMemory else Err (file.Refused fault)
 without_want_of (Ok x) = Ok x
 without_want_of (Err file.OutOfMemory) = Err file.OutOfMemory
 without_want_of (Err file.ReadFault) = Err file.ReadFault

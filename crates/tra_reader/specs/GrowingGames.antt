@@ -21,7 +21,8 @@ use Rattle.tra_reader.specs.Answers.{LeadsInside}
 
 -- 1. The whole choices: those of the first s states, and the first k of the next state.
 
--- None of them is missing, and they are this many. Of the states that are whole, this is the first with too many, or none has.
+-- None of them is missing, and they are this many. Of the states that are whole, this is the first with too many, or
+-- none has.
 pub record AreCounted (crowded : Option ℕ) (transitions : List Transition) (s k count : ℕ) : Type 0 where
   pub full : first_gap transitions s ≡ None
   pub few : first_crowded transitions s ≡ crowded
@@ -60,7 +61,8 @@ pub record HasGap (transitions : List Transition) (i j : ℕ) : Type 0 where
 
 -- what has come of the whole choices of n states
 abbrev pub IsMade : ℕ → List Transition → ℕ → ℕ → ℕ → Progress → Type 0
-IsMade n transitions s k count (Builds draft) = AreCounted None transitions s k count × AreDrafted n transitions s k draft
+IsMade n transitions s k count (Builds draft) =
+    AreCounted None transitions s k count × AreDrafted n transitions s k draft
 IsMade n transitions s k count (Faulty fault) = AreCounted None transitions s k count × HaveFault transitions s k fault
 IsMade n transitions s k count (Crowded i) = AreCounted (Some i) transitions s k count
 IsMade n transitions s k count (Gap i j) = HasGap transitions i j × (place_of i j < place_of s k)
@@ -75,7 +77,8 @@ place_behind whole = place_of whole.state whole.choice
 
 -- no transition stands from the one place to before the other
 abbrev pub NoneBetween : List Transition → ℕ → ℕ → Type 0
-NoneBetween transitions from to = (s k : ℕ) → k < most_stated_choices → from ≤ place_of s k → place_of s k < to → transitions_of transitions s k ≡ []
+NoneBetween transitions from to = (s k : ℕ) → k < most_stated_choices → from ≤ place_of s k → place_of s k < to
+    → transitions_of transitions s k ≡ []
 
 -- all choices before this place are whole
 pub record AreWholeBefore (n : ℕ) (transitions : List Transition) (place : ℕ) (whole : WholeChoices) : Type 0 where
@@ -88,12 +91,14 @@ pub record AreWholeBefore (n : ℕ) (transitions : List Transition) (place : ℕ
 
 -- the choice k of state s, which has these parts, is whole too
 abbrev pub EndsChoice : List Part → ℕ → ℕ → Progress → Progress → Type 0
-EndsChoice parts s k old new = (n count : ℕ) (transitions : List Transition) → parts ≡ parts_of transitions s k → 0 < length parts → All (IsWithin n) transitions
+EndsChoice parts s k old new = (n count : ℕ) (transitions : List Transition) → parts ≡ parts_of transitions s k
+    → 0 < length parts → All (IsWithin n) transitions
     → IsMade n transitions s k count old → IsMade n transitions s (k + 1) (count + 1) new
 
 -- the state s, which has k choices, is whole too
 abbrev pub EndsState : ℕ → ℕ → Progress → Progress → Type 0
-EndsState s k old new = (n count : ℕ) (transitions : List Transition) → s < n → k ≤ most_stated_choices → ((j : ℕ) → k ≤ j → transitions_of transitions s j ≡ []) → All (IsWithin n) transitions
+EndsState s k old new = (n count : ℕ) (transitions : List Transition) → s < n → k ≤ most_stated_choices
+    → ((j : ℕ) → k ≤ j → transitions_of transitions s j ≡ []) → All (IsWithin n) transitions
     → IsMade n transitions s k count old → IsMade n transitions (s + 1) 0 count new
 
 -- the state s, which has too many choices, is whole too
@@ -102,25 +107,31 @@ CrowdsState s old new = (k : ℕ) → most_choices < k → EndsState s k old new
 
 -- the choice k of state s is missing before a later one
 abbrev pub NotesGap : ℕ → ℕ → Progress → Progress → Type 0
-NotesGap s k old new = (n count later : ℕ) (transitions : List Transition) → k < later → transitions_of transitions s k ≡ [] → 0 < length (transitions_of transitions s later)
+NotesGap s k old new = (n count later : ℕ) (transitions : List Transition) → k < later
+    → transitions_of transitions s k ≡ [] → 0 < length (transitions_of transitions s later)
     → IsMade n transitions s k count old → IsMade n transitions s later count new
 
 -- the choice under way, which has these parts, is whole too
 abbrev pub AddsChoice : List Part → WholeChoices → WholeChoices → Type 0
-AddsChoice parts old new = (n : ℕ) (transitions : List Transition) → parts ≡ parts_of transitions old.state old.choice → 0 < length parts → All (IsWithin n) transitions → IsWhole n transitions old → IsWhole n transitions new
+AddsChoice parts old new = (n : ℕ) (transitions : List Transition) → parts ≡ parts_of transitions old.state old.choice
+    → 0 < length parts → All (IsWithin n) transitions → IsWhole n transitions old → IsWhole n transitions new
 
 -- the states before `to` are whole too
 abbrev pub EndsStates : ℕ → WholeChoices → WholeChoices → Type 0
-EndsStates to old new = (n place : ℕ) (transitions : List Transition) → to ≤ n → place_of to 0 ≤ place → AreWholeBefore n transitions place old → AreWholeBefore n transitions place new
+EndsStates to old new = (n place : ℕ) (transitions : List Transition) → to ≤ n → place_of to 0 ≤ place
+    → AreWholeBefore n transitions place old → AreWholeBefore n transitions place new
 
 -- All choices before state `to` are whole. The parts are those of the choice under way.
 abbrev pub EndsBefore : List Part → ℕ → WholeChoices → WholeChoices → Type 0
-EndsBefore parts to old new = (n place : ℕ) (transitions : List Transition) → to ≤ n → place_of to 0 ≤ place → parts ≡ parts_of transitions old.state old.choice → All (IsWithin n) transitions
-    → NoneBetween transitions (place_behind old + 1) place → IsWhole n transitions old → AreWholeBefore n transitions place new
+EndsBefore parts to old new = (n place : ℕ) (transitions : List Transition) → to ≤ n → place_of to 0 ≤ place
+    → parts ≡ parts_of transitions old.state old.choice → All (IsWithin n) transitions
+    → NoneBetween transitions (place_behind old + 1) place → IsWhole n transitions old
+    → AreWholeBefore n transitions place new
 
 -- The choice under way is this one, which has a transition.
 abbrev pub GoesTo : ℕ → WholeChoices → WholeChoices → Type 0
-GoesTo choice old new = (n : ℕ) (transitions : List Transition) → 0 < length (transitions_of transitions old.state choice) → choice < most_stated_choices
+GoesTo choice old new = (n : ℕ) (transitions : List Transition)
+    → 0 < length (transitions_of transitions old.state choice) → choice < most_stated_choices
     → AreWholeBefore n transitions (place_of old.state choice) old → IsWhole n transitions new
 
 -- the choice with these parts is put behind the others
@@ -162,11 +173,13 @@ IfBuilds OutOfMemory P = Unit {0}
 -- the choices are as many as stated, or this is the fault
 abbrev pub IsAsStated : Option ℕ → ℕ → Option TraFault → Type 0
 IsAsStated stated read None = (game : Result (List (List Distribution)) TraFault) → if_as_stated stated read game ≡ game
-IsAsStated stated read (Some fault) = (game : Result (List (List Distribution)) TraFault) → if_as_stated stated read game ≡ Err fault
+IsAsStated stated read (Some fault) = (game : Result (List (List Distribution)) TraFault)
+    → if_as_stated stated read game ≡ Err fault
 
 -- 3. The game.
 
--- what contracts see of a game under way: the number of states, the whole choices, and the parts of the choice under way
+-- what contracts see of a game under way: the number of states, the whole choices, and the parts of the choice under
+-- way
 pub record Growing : Type 0 where
   pub states : ℕ
   pub whole : WholeChoices

@@ -30,7 +30,8 @@ pub record IsHeader (line : List ℕ) (header : Header) : Type 0 where
   pub bounded : ForSome header.choices (λ c. c ≤ most_stated_choices)
   pub short : header.lines ≤ most_lines
 
--- The parts of a line: whole numbers where its fields spell them, the probability, and the action. An action is a field, or no byte where there is none.
+-- The parts of a line: whole numbers where its fields spell them, the probability, and the action. An action is a
+-- field, or no byte where there is none.
 pub record LineParts : Type 0 where
   pub source : Option ℕ
   pub choice : Option ℕ
@@ -40,14 +41,38 @@ pub record LineParts : Type 0 where
 
 -- in an MDP `i k j x` or `i k j x a`
 abbrev pub mdp_parts : List (List ℕ) → Option LineParts
-mdp_parts (i ∷ k ∷ j ∷ x ∷ []) = Some (record { source = number_of i; choice = number_of k; destination = number_of j; probability = x; action = [] })
-mdp_parts (i ∷ k ∷ j ∷ x ∷ a ∷ []) = Some (record { source = number_of i; choice = number_of k; destination = number_of j; probability = x; action = a })
+mdp_parts (i ∷ k ∷ j ∷ x ∷ []) = Some (record {
+  source = number_of i;
+  choice = number_of k;
+  destination = number_of j;
+  probability = x;
+  action = [];
+})
+mdp_parts (i ∷ k ∷ j ∷ x ∷ a ∷ []) = Some (record {
+  source = number_of i;
+  choice = number_of k;
+  destination = number_of j;
+  probability = x;
+  action = a;
+})
 mdp_parts fields = None
 
 -- in a DTMC `i j x` or `i j x a`; it counts as choice 0, and its action is passed over
 abbrev pub dtmc_parts : List (List ℕ) → Option LineParts
-dtmc_parts (i ∷ j ∷ x ∷ []) = Some (record { source = number_of i; choice = Some 0; destination = number_of j; probability = x; action = [] })
-dtmc_parts (i ∷ j ∷ x ∷ a ∷ []) = Some (record { source = number_of i; choice = Some 0; destination = number_of j; probability = x; action = [] })
+dtmc_parts (i ∷ j ∷ x ∷ []) = Some (record {
+  source = number_of i;
+  choice = Some 0;
+  destination = number_of j;
+  probability = x;
+  action = [];
+})
+dtmc_parts (i ∷ j ∷ x ∷ a ∷ []) = Some (record {
+  source = number_of i;
+  choice = Some 0;
+  destination = number_of j;
+  probability = x;
+  action = [];
+})
 dtmc_parts fields = None
 
 -- a header that states choices is that of an MDP
@@ -63,7 +88,13 @@ pub record Row : Type 0 where
 pub record IsRow (header : Header) (line : List ℕ) (row : Row) : Type 0 where
   pub probability : List ℕ
   pub parts : line_parts header.choices (fields_of line)
-      ≡ Some (record { source = Some row.transition.source; choice = Some row.transition.choice; destination = Some row.transition.destination; probability = probability; action = row.action })
+      ≡ Some (record {
+        source = Some row.transition.source;
+        choice = Some row.transition.choice;
+        destination = Some row.transition.destination;
+        probability = probability;
+        action = row.action;
+      })
   pub share : DenotesNumber probability row.transition.share
   pub source_in : row.transition.source < header.states
   pub choice_in : row.transition.choice < most_stated_choices
@@ -78,13 +109,15 @@ AreRows header (line ∷ lines) (row ∷ rows) = IsRow header line row × AreRow
 
 -- these are the actions of all choices
 abbrev pub HaveActions : List Row → (ℕ → ℕ → List ℕ) → Type 0
-HaveActions rows action_of = AllByRecursion (λ row. row.action ≡ action_of row.transition.source row.transition.choice) rows
+HaveActions rows action_of = AllByRecursion (λ row. row.action
+    ≡ action_of row.transition.source row.transition.choice) rows
 
 -- 2. By cases, with the first fault.
 
 abbrev pub header_checked : ℕ → Option ℕ → ℕ → Result Header TraCause
 header_checked n c m =
-    if nat_lt most_states n || (option_map_or (nat_lt most_stated_choices) c false || nat_lt most_lines m) then Err OverLimit
+    if nat_lt most_states n || (option_map_or (nat_lt most_stated_choices) c false
+    || nat_lt most_lines m) then Err OverLimit
     else (if n == 0 then Err NoStates else Ok (record { states = n; choices = c; lines = m }))
 
 abbrev pub mdp_header : Option ℕ → Option ℕ → Option ℕ → Result Header TraCause
@@ -106,10 +139,12 @@ transition_with i k j (Err fault) = Err (Number fault)
 
 abbrev pub transition_within : ℕ → ℕ → ℕ → ℕ → Result Fraction NumberFault → Result Transition TraCause
 transition_within n i k j share =
-    if nat_lt i n then (if nat_lt k most_stated_choices then (if nat_lt j n then transition_with i k j share else Err StateOutOfRange) else Err OverLimit)
+    if nat_lt i n then (if nat_lt k most_stated_choices then
+    (if nat_lt j n then transition_with i k j share else Err StateOutOfRange) else Err OverLimit)
     else Err StateOutOfRange
 
-abbrev pub transition_said : ℕ → Option ℕ → Option ℕ → Option ℕ → Result Fraction NumberFault → Result Transition TraCause
+abbrev pub transition_said : ℕ → Option ℕ → Option ℕ → Option ℕ → Result Fraction NumberFault
+    → Result Transition TraCause
 transition_said n (Some i) (Some k) (Some j) share = transition_within n i k j share
 transition_said n i k j share = Err BadField
 
@@ -119,7 +154,8 @@ row_with action (Err cause) = Err cause
 
 abbrev pub parts_said : ℕ → Option LineParts → Result Row TraCause
 parts_said n None = Err FieldCount
-parts_said n (Some parts) = row_with parts.action (transition_said n parts.source parts.choice parts.destination (number_said parts.probability))
+parts_said n (Some parts) = row_with parts.action (transition_said n parts.source parts.choice parts.destination
+    (number_said parts.probability))
 
 -- what a line says by itself
 abbrev pub row_said : Header → List (List ℕ) → Result Row TraCause
@@ -135,17 +171,20 @@ first_action rows s k = option_map (λ row. row.action) (slice_get (filter (λ r
 
 -- the action is another than that of the first line of the choice
 abbrev pub clashes : List Row → Row → Bool
-clashes before row = option_map_or (λ action. not (bytes_eq action row.action)) (first_action before row.transition.source row.transition.choice) false
+clashes before row = option_map_or (λ action. not (bytes_eq action row.action))
+    (first_action before row.transition.source row.transition.choice) false
 
 abbrev pub action_checked : List Row → Result Row TraCause → Result Row TraCause
-action_checked before (Ok row) = if clashes before row then Err (ActionClash row.transition.source row.transition.choice) else Ok row
+action_checked before (Ok row) = if clashes before row then Err
+    (ActionClash row.transition.source row.transition.choice) else Ok row
 action_checked before (Err cause) = Err cause
 
 -- what a line says behind these rows
 abbrev pub line_said : Header → List Row → List (List ℕ) → Result Row TraCause
 line_said header before fields =
     if is_nil fields then Err FieldCount
-    else (if nat_lt (length before) header.lines then action_checked before (row_said header fields) else Err (LineCount (header.lines + 1) header.lines))
+    else (if nat_lt (length before) header.lines then action_checked before (row_said header fields) else Err
+    (LineCount (header.lines + 1) header.lines))
 
 abbrev pub behind : ℕ → Result Row TraCause → (Row → Result (List Row) TraFault) → Result (List Row) TraFault
 behind number (Ok row) more = more row
@@ -153,5 +192,8 @@ behind number (Err cause) more = Err (fault_at number cause)
 
 -- all rows, or the first fault: the lines from this number on, behind these rows
 abbrev pub rows_said : Header → ℕ → List Row → List (List ℕ) → Result (List Row) TraFault
-rows_said header number before [] = if nat_lt (length before) header.lines then Err (fault_of_all (LineCount (length before) header.lines)) else Ok before
-rows_said header number before (line ∷ lines) = behind number (line_said header before (fields_of line)) (λ row. rows_said header (number + 1) (before ++ row ∷ []) lines)
+rows_said header number before [] = if nat_lt (length before) header.lines then Err
+    (fault_of_all (LineCount (length before) header.lines)) else Ok before
+rows_said header number before (line ∷ lines) =
+    behind number (line_said header before (fields_of line))
+    (λ row. rows_said header (number + 1) (before ++ row ∷ []) lines)

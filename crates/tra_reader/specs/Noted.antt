@@ -10,7 +10,8 @@ use Rattle.tra_reader.specs.Answers.{action_at}
 
 -- the action that is noted of the choice at this place
 abbrev pub noted : FirstActions → ℕ → Option (List ℕ)
-noted actions place = option_map (λ span. slice_range actions.bytes.items span.start span.end) (get nat_eq actions.spans place)
+noted actions place = option_map (λ span. slice_range actions.bytes.items span.start span.end)
+    (get nat_eq actions.spans place)
 
 -- what is noted of the rows: the first action at each place
 abbrev pub Notes : FirstActions → List Row → Type 0

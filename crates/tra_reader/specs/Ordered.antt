@@ -22,7 +22,8 @@ text_fault (Refused fault) = Some fault
 abbrev pub ordered_header : OrderedRows → Header
 ordered_header held = held.header
 
--- these rows of n states are held, which stand in the order of their choices: of their actions the first of the choice under way is kept
+-- these rows of n states are held, which stand in the order of their choices: of their actions the first of the choice
+-- under way is kept
 pub record AreInOrder (n read : ℕ) (game : Growing) (action : List ℕ) (rows : List Row) : Type 0 where
   pub holds : HoldsInOrder game n (transitions rows)
   pub within : All (λ row. IsWithin n row.transition) rows

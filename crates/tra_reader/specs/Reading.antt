@@ -33,49 +33,66 @@ pub record SaysNext (header : Header) (line : List ℕ) (rows : List Row) (Holds
 
 -- the row that a line says by itself where so many were read, or its fault
 abbrev pub RowAnswer : Header → ℕ → List ℕ → ℕ → Result (Transition × Bor (List ℕ)) TraFault → Type 0
-RowAnswer header read line number (Ok (transition, action)) = (read < header.lines) × (row_said header (fields_of line) ≡ Ok (record { transition = transition; action = action.now }))
-RowAnswer header read line number (Err fault) = (rows : List Row) → length rows ≡ read → HasFault header line rows number fault
+RowAnswer header read line number (Ok (transition, action)) = (read < header.lines)
+    × (row_said header (fields_of line) ≡ Ok (record { transition = transition; action = action.now }))
+RowAnswer header read line number (Err fault) = (rows : List Row) → length rows ≡ read
+    → HasFault header line rows number fault
 
 -- the answer agrees with what is said, or it tells no fault of the text
-abbrev pub IsAnswer : {Fault : Type 0} → (Fault → Option TraFault) → Result (List (List Distribution)) Fault → Result (List (List Distribution)) TraFault → Type 0
+abbrev pub IsAnswer : {Fault : Type 0} → (Fault → Option TraFault) → Result (List (List Distribution)) Fault
+    → Result (List (List Distribution)) TraFault → Type 0
 IsAnswer fault_of (Ok game) said = said ≡ Ok game
-IsAnswer fault_of (Err fault) said = ForSome (fault_of fault) (λ told. AnswersOrWants {X = List (List Distribution)} IsOutOfMemory (λ g. g) (Err told) said)
+IsAnswer fault_of (Err fault) said = ForSome (fault_of fault)
+    (λ told. AnswersOrWants {X = List (List Distribution)} IsOutOfMemory (λ g. g) (Err told) said)
 
-module _ {Rows Fault : Type 0} (header_of : Rows → Header) (Holds : Rows → List Row → Type 0) (fault_of : Fault → Option TraFault) where
-  -- The answer is right where these lines come next, of which the first has this number. Before the header nothing is held.
+module _ {Rows Fault : Type 0} (header_of : Rows → Header) (Holds : Rows → List Row → Type 0)
+    (fault_of : Fault → Option TraFault) where
+  -- The answer is right where these lines come next, of which the first has this number. Before the header nothing is
+  -- held.
   abbrev pub IsRight : Option Rows → ℕ → List (List ℕ) → Result (List (List Distribution)) Fault → Type 0
   IsRight None number lines answer = number ≡ 1 → IsAnswer fault_of answer (lines_game lines)
-  IsRight (Some held) number lines answer = (rows : List Row) → Holds held rows → IsAnswer fault_of answer (rows_game (header_of held) (rows_said (header_of held) number rows lines))
+  IsRight (Some held) number lines answer = (rows : List Row) → Holds held rows
+      → IsAnswer fault_of answer (rows_game (header_of held) (rows_said (header_of held) number rows lines))
 
 module _ {Rows : Type 0} (header_of : Rows → Header) (Holds : Rows → List Row → Type 0) where
   -- the first line has this header, behind which nothing is held, or this fault; or memory ran out
   abbrev pub Begins : List ℕ → Result Rows TraFault → Type 0
   Begins line (Ok held) = (at_first_line (header_said (fields_of line)) ≡ Ok (header_of held)) × Holds held []
-  Begins line (Err fault) = (fault ≡ fault_of_all OutOfMemory) ⊎ (at_first_line (header_said (fields_of line)) ≡ Err fault)
+  Begins line (Err fault) = (fault ≡ fault_of_all OutOfMemory)
+      ⊎ (at_first_line (header_said (fields_of line)) ≡ Err fault)
 
   -- the line says the next row, which is held from now on
   abbrev pub TakesLine : Rows → Rows → List ℕ → Type 0
-  TakesLine old new line = (header_of new ≡ header_of old) × ((rows : List Row) → Holds old rows → SaysNext (header_of old) line rows (Holds new))
+  TakesLine old new line = (header_of new ≡ header_of old)
+      × ((rows : List Row) → Holds old rows → SaysNext (header_of old) line rows (Holds new))
 
   -- the row clashes with none that is held, and is held from now on
   abbrev pub AddsRow : Rows → Rows → Row → Type 0
-  AddsRow old new row = (header_of new ≡ header_of old) × ((rows : List Row) → Holds old rows → (clashes rows row ≡ false) × Holds new (rows ++ row ∷ []))
+  AddsRow old new row = (header_of new ≡ header_of old)
+      × ((rows : List Row) → Holds old rows → (clashes rows row ≡ false) × Holds new (rows ++ row ∷ []))
 
 -- the fault of a row that clashes
 abbrev pub clash_of : ℕ → Row → TraFault
 clash_of number row = fault_at number (ActionClash row.transition.source row.transition.choice)
 
-module _ {Rows Fault : Type 0} (header_of : Rows → Header) (Holds : Rows → List Row → Type 0) (fault_of : Fault → Option TraFault) where
+module _ {Rows Fault : Type 0} (header_of : Rows → Header) (Holds : Rows → List Row → Type 0)
+    (fault_of : Fault → Option TraFault) where
   -- if the fault is one of the text, the line has it, or memory ran out
   abbrev pub RefusesLine : Rows → ℕ → List ℕ → Fault → Type 0
-  RefusesLine old number line fault = (rows : List Row) → Holds old rows → ForSome (fault_of fault) (λ told. (told ≡ fault_of_all OutOfMemory) ⊎ HasFault (header_of old) line rows number told)
+  RefusesLine old number line fault = (rows : List Row) → Holds old rows
+      → ForSome (fault_of fault) (λ told. (told ≡ fault_of_all OutOfMemory)
+      ⊎ HasFault (header_of old) line rows number told)
 
 module _ {Rows Fault : Type 0} (Holds : Rows → List Row → Type 0) (fault_of : Fault → Option TraFault) where
   -- if the fault is one of the text, the row clashes, or memory ran out
   abbrev pub RefusesRow : Rows → ℕ → Row → Fault → Type 0
-  RefusesRow old number row fault = (rows : List Row) → Holds old rows → ForSome (fault_of fault) (λ told. (told ≡ fault_of_all OutOfMemory) ⊎ ((clashes rows row ≡ true) × (told ≡ clash_of number row)))
+  RefusesRow old number row fault = (rows : List Row) → Holds old rows
+      → ForSome (fault_of fault) (λ told. (told ≡ fault_of_all OutOfMemory)
+      ⊎ ((clashes rows row ≡ true) × (told ≡ clash_of number row)))
 
 module _ {Rows : Type 0} (header_of : Rows → Header) (Holds : Rows → List Row → Type 0) where
   -- what is made of the rows at the end of the text
   abbrev pub Finishes : Rows → Result (List (List Distribution)) TraFault → Type 0
-  Finishes held result = (number : ℕ) (rows : List Row) → Holds held rows → AnswersOrWants IsOutOfMemory (λ g. g) result (rows_game (header_of held) (rows_said (header_of held) number rows []))
+  Finishes held result = (number : ℕ) (rows : List Row) → Holds held rows
+      → AnswersOrWants IsOutOfMemory (λ g. g) result
+      (rows_game (header_of held) (rows_said (header_of held) number rows []))

@@ -48,6 +48,7 @@ abbrev pub lines_game : List (List ℕ) → Result (List (List Distribution)) Tr
 lines_game [] = Err (fault_at 1 NoHeader)
 lines_game (line ∷ lines) = behind_header (header_said (fields_of line)) lines
 
--- The game of a transition text, or its first fault: the header's, then the lines' in their order, then the whole text's.
+-- The game of a transition text, or its first fault: the header's, then the lines' in their order, then the whole
+-- text's.
 unfoldable pub game_of : List ℕ → Result (List (List Distribution)) TraFault
 game_of text = lines_game (significant (lines_of text))

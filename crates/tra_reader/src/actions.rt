@@ -20,7 +20,8 @@ struct Span {
 pub struct FirstActions {
     bytes: Vec<u8>,
     spans: HashMap<u64, Span>,
-    ghost inside: { (place : ℕ) → ForSome (get nat_eq spans place) (λ span. (span.start ≤ span.end) × (span.end ≤ length bytes.items)) },
+    ghost inside: { (place : ℕ) → ForSome (get nat_eq spans place)
+        (λ span. (span.start ≤ span.end) × (span.end ≤ length bytes.items)) },
 }
 
 impl FirstActions {
@@ -41,7 +42,8 @@ impl FirstActions {
 
     /// Notes the action of a line, and says whether it clashes with that of the first line of its choice.
     pub fn note(&mut self, place: u64, action: &[u8]) -> Result<bool, AllocError>
-        ensures { IfOk result (λ clash. (rows : List Row) (row : Row) → row_place row ≡ place → row.action ≡ action.now → Notes self.old rows → (clash ≡ clashes_at rows row) × Notes self.new (rows ++ row ∷ [])) }
+        ensures { IfOk result (λ clash. (rows : List Row) (row : Row) → row_place row ≡ place → row.action ≡ action.now
+            → Notes self.old rows → (clash ≡ clashes_at rows row) × Notes self.new (rows ++ row ∷ [])) }
     {
         match self.spans.get(&place).copied() {
             Some(span) => Ok(&self.bytes[span.start..span.end] != action),
@@ -64,7 +66,8 @@ impl FirstActions {
 
     // Keeps the action of a choice that has none.
     fn put(&mut self, place: u64, action: &[u8]) -> Result<(), AllocError>
-        ensures { OnOk result ((q : ℕ) → noted self.new q ≡ (if place == q then Some action.now else noted self.old q)) }
+        ensures { OnOk result ((q : ℕ) → noted self.new q ≡ (if place
+            == q then Some action.now else noted self.old q)) }
     {
         let start = self.bytes.len();
         self.bytes.extend_from_slice(action)?;

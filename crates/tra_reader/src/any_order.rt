@@ -110,7 +110,8 @@ impl AnyRows {
     fn add(&mut self, number: u32, transition: Transition, action: &[u8]) -> Result<(), TraFault>
         requires { IsWithin self.old.header.states transition }
         ensures ok { OnOk result (AddsAny self.old self.new (record { transition = transition; action = action.now })) }
-        ensures fault { MatchResult result (λ _. Unit {0}) (λ fault. RefusesAnyRow self.old number (record { transition = transition; action = action.now }) fault) }
+        ensures fault { MatchResult result (λ _. Unit {0})
+            (λ fault. RefusesAnyRow self.old number (record { transition = transition; action = action.now }) fault) }
     {
         let place = transition.place();
         if self.actions.note(&self.transitions, place, action)? {

@@ -77,7 +77,8 @@ pub fn read_row<'a>(
 
 /// Whether no line is missing, where so many rows were read.
 pub fn check_count(header: &Header, read: usize) -> Result<(), TraFault>
-    ensures { MatchResult result (λ _. header.now.lines ≤ read) (λ fault. (read < header.now.lines) × (fault ≡ fault_of_all (TraCause.LineCount read header.now.lines))) }
+    ensures { MatchResult result (λ _. header.now.lines ≤ read)
+        (λ fault. (read < header.now.lines) × (fault ≡ fault_of_all (TraCause.LineCount read header.now.lines))) }
 {
     let stated = header.lines;
     if read < stated as usize {

@@ -19,7 +19,8 @@ use std::alloc::Global;
 pub fn build(alloc: Global, transitions: Vec<Transition>, header: &Header) -> Result<Game, TraFault>
     requires accepted { IsAccepted header.now }
     requires within { All (IsWithin header.now.states) transitions.items }
-    ensures { AnswersOrWants IsOutOfMemory (λ g. g) result (transitions_game transitions.items header.now.states header.now.choices) }
+    ensures { AnswersOrWants IsOutOfMemory (λ g. g) result
+        (transitions_game transitions.items header.now.states header.now.choices) }
 {
     let mut transitions = transitions;
     put_in_order(&mut transitions)?;
@@ -34,7 +35,8 @@ fn build_in_order(
     requires accepted { IsAccepted header.now }
     requires rises { Rises transition_place transitions.now }
     requires within { All (IsWithin header.now.states) transitions.now }
-    ensures { AnswersOrWants IsOutOfMemory (λ g. g) result (transitions_game transitions.now header.now.states header.now.choices) }
+    ensures { AnswersOrWants IsOutOfMemory (λ g. g) result
+        (transitions_game transitions.now header.now.states header.now.choices) }
 {
     let mut game = GameInOrder::new(alloc, header.states)?;
     for transition in transitions {

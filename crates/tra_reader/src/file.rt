@@ -19,8 +19,8 @@ use game_model::Game;
 use game_outside::{FileEnd, Shelf, read_lines_from};
 use std::alloc::Global;
 
-/// The game that the text under a name denotes, or its first fault, in whatever pieces the text comes. A text in the order
-/// of its choices is read in one pass; any other is begun and read once more.
+/// The game that the text under a name denotes, or its first fault, in whatever pieces the text comes. A text in the
+/// order of its choices is read in one pass; any other is begun and read once more.
 pub fn read_tra_from<H: Shelf>(
     alloc: Global,
     shelf: &mut H,
@@ -33,7 +33,8 @@ pub fn read_tra_from<H: Shelf>(
     ensures reads { ReadsFile (λ text answer. game_of text ≡ answer) (H.held shelf.old) name.now limit result }
     ensures caused { RefusesCaused result }
 
-    // It fails only where the shelf fails, takes little more than the limit, and changes nothing of what the shelf holds.
+    // It fails only where the shelf fails, takes little more than the limit, and changes nothing of what the shelf
+    // holds.
     ensures shelf { LeavesShelf H.held H.steady H.faults H.taken name.now limit shelf.old shelf.new result }
 {
     match in_order(read_in_order(alloc, shelf, name, limit)) {
@@ -50,7 +51,8 @@ fn read_in_order<H: Shelf>(
     limit: u64,
 ) -> Result<Game, FileEnd<Halt>>
     requires { limit ≤ most_bytes }
-    ensures reads { ReadsFile (λ text answer. IsAnswer text_fault answer (game_of text)) (H.held shelf.old) name.now limit result }
+    ensures reads { ReadsFile (λ text answer. IsAnswer text_fault answer (game_of text))
+        (H.held shelf.old) name.now limit result }
     ensures shelf { LeavesShelf H.held H.steady H.faults H.taken name.now limit shelf.old shelf.new result }
 {
     let reader = OrderedLines::new(alloc);
@@ -65,7 +67,8 @@ fn read_in_any_order<H: Shelf>(
     limit: u64,
 ) -> Result<Game, FileEnd<TraFault>>
     requires { limit ≤ most_bytes }
-    ensures reads { ReadsFile (λ text answer. AnswersOrWants IsOutOfMemory (λ g. g) answer (game_of text)) (H.held shelf.old) name.now limit result }
+    ensures reads { ReadsFile (λ text answer. AnswersOrWants IsOutOfMemory (λ g. g) answer (game_of text))
+        (H.held shelf.old) name.now limit result }
     ensures shelf { LeavesShelf H.held H.steady H.faults H.taken name.now limit shelf.old shelf.new result }
 {
     let reader = AnyLines::new(alloc);

@@ -17,8 +17,8 @@ use game_model::{Game, GameBuilder};
 use std::alloc::{AllocError, Global};
 use std::marker::Model;
 
-/// A game under way, made of transitions that come in the order of their choices. Only those of the choice under way are
-/// kept, as its parts.
+/// A game under way, made of transitions that come in the order of their choices. Only those of the choice under way
+/// are kept, as its parts.
 #[derive(Drop)]
 pub struct GameInOrder {
     states: u32,
@@ -76,12 +76,13 @@ impl GameInOrder {
         !self.parts.is_empty()
     }
 
-    /// Adds a transition that is not before the choice under way. The only error is want of memory; where a whole choice
-    /// finds none, `finish` says so.
+    /// Adds a transition that is not before the choice under way. The only error is want of memory; where a whole
+    /// choice finds none, `finish` says so.
     pub fn add(&mut self, alloc: Global, transition: &Transition) -> Result<(), AllocError>
         requires within { IsWithin self.old.states transition.now }
         requires order { place_under_way self.old ≤ transition_place transition.now }
-        ensures holds { OnOk result ((n : ℕ) (before : List Transition) → HoldsInOrder self.old n before → HoldsInOrder self.new n (before ++ transition.now ∷ [])) }
+        ensures holds { OnOk result ((n : ℕ) (before : List Transition) → HoldsInOrder self.old n before
+            → HoldsInOrder self.new n (before ++ transition.now ∷ [])) }
         ensures states { self.new.states ≡ self.old.states }
     {
         if transition.source != self.whole.state || transition.choice != self.whole.choice {
@@ -95,7 +96,8 @@ impl GameInOrder {
     fn begin(&mut self, alloc: Global, transition: &Transition) -> Result<(), AllocError>
         requires within { IsWithin self.old.states transition.now }
         requires order { place_under_way self.old < transition_place transition.now }
-        ensures holds { OnOk result ((n : ℕ) (before : List Transition) → HoldsInOrder self.old n before → HoldsInOrder self.new n (before ++ transition.now ∷ [])) }
+        ensures holds { OnOk result ((n : ℕ) (before : List Transition) → HoldsInOrder self.old n before
+            → HoldsInOrder self.new n (before ++ transition.now ∷ [])) }
         ensures states { self.new.states ≡ self.old.states }
     {
         self.whole.end_before(alloc, &self.parts, transition.source);
@@ -110,7 +112,8 @@ impl GameInOrder {
 
     /// The game of all transitions that were added, or the first fault of the whole.
     pub fn finish(self, alloc: Global, stated: Option<u32>) -> Result<Game, TraFault>
-        ensures { (n : ℕ) (all : List Transition) → HoldsInOrder self n all → AnswersOrWants IsOutOfMemory (λ g. g) result (transitions_game all n stated) }
+        ensures { (n : ℕ) (all : List Transition) → HoldsInOrder self n all
+            → AnswersOrWants IsOutOfMemory (λ g. g) result (transitions_game all n stated) }
     {
         let mut whole = self.whole;
         whole.end_before(alloc, &self.parts, self.states);

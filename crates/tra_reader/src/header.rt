@@ -69,7 +69,8 @@ fn mdp(states: &[u8], choices: &[u8], lines: &[u8]) -> Result<Header, TraCause>
 
 // The header with these numbers.
 fn checked(states: u64, choices: Option<u64>, lines: u64) -> Result<Header, TraCause>
-    ensures said { (n m : ℕ) (c : Option ℕ) → states ≡ saturated n → choices ≡ option_map saturated c → lines ≡ saturated m → result ≡ header_checked n c m }
+    ensures said { (n m : ℕ) (c : Option ℕ) → states ≡ saturated n → choices ≡ option_map saturated c
+        → lines ≡ saturated m → result ≡ header_checked n c m }
     ensures accepted { IfOk result IsAccepted }
 {
     if states > u64::from(MOST_STATES) || lines > u64::from(MOST_LINES) {

@@ -25,7 +25,8 @@ pub fn said_is_denoted()
 /// The order of the transition lines plays no part in which game a text denotes.
 pub fn order_of_lines()
     ensures { (text other first : List ℕ) (lines others : List (List ℕ)) (game : List (List Distribution)) →
-        significant (lines_of text) ≡ first ∷ lines → significant (lines_of other) ≡ first ∷ others → IsPermutation lines others → Denotes text game → Denotes other game }
+        significant (lines_of text) ≡ first ∷ lines → significant (lines_of other) ≡ first ∷ others
+        → IsPermutation lines others → Denotes text game → Denotes other game }
 {
     distributions::laws::said_is_denoted();
     distributions::laws::order_of_parts();

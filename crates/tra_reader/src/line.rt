@@ -147,7 +147,8 @@ fn transition_of(
     destination: Option<u64>,
     probability: &[u8],
 ) -> Result<Transition, TraCause>
-    ensures said { (i k j : Option ℕ) → source ≡ option_map saturated i → choice ≡ option_map saturated k → destination ≡ option_map saturated j → result ≡ transition_said states i k j (number_said probability.now) }
+    ensures said { (i k j : Option ℕ) → source ≡ option_map saturated i → choice ≡ option_map saturated k
+        → destination ≡ option_map saturated j → result ≡ transition_said states i k j (number_said probability.now) }
     ensures within { IfOk result (IsWithin states) }
 {
     let Some(i) = source else {
@@ -169,7 +170,8 @@ fn within(
     destination: u64,
     probability: &[u8],
 ) -> Result<Transition, TraCause>
-    ensures said { (i k j : ℕ) → source ≡ saturated i → choice ≡ saturated k → destination ≡ saturated j → result ≡ transition_within states i k j (number_said probability.now) }
+    ensures said { (i k j : ℕ) → source ≡ saturated i → choice ≡ saturated k → destination ≡ saturated j
+        → result ≡ transition_within states i k j (number_said probability.now) }
     ensures within { IfOk result (IsWithin states) }
 {
     if source >= u64::from(states) {

@@ -35,7 +35,8 @@ impl LineActions {
         place: u64,
         action: &[u8],
     ) -> Result<bool, AllocError>
-        ensures { IfOk result (λ clash. (rows : List Row) (row : Row) → transitions rows ≡ before.now → row_place row ≡ place → row.action ≡ action.now
+        ensures { IfOk result (λ clash. (rows : List Row) (row : Row) → transitions rows ≡ before.now
+            → row_place row ≡ place → row.action ≡ action.now
             → NotesLines self.old rows → (clash ≡ clashes_at rows row) × NotesLines self.new (rows ++ row ∷ [])) }
     {
         if self.silent && action.is_empty() {
@@ -47,7 +48,8 @@ impl LineActions {
 
     // Notes the lines so far, unless they are noted.
     fn note_all(&mut self, before: &[Transition]) -> Result<(), AllocError>
-        ensures noted { OnOk result ((rows : List Row) → transitions rows ≡ before.now → NotesLines self.old rows → Notes self.new.first rows) }
+        ensures noted { OnOk result ((rows : List Row) → transitions rows ≡ before.now → NotesLines self.old rows
+            → Notes self.new.first rows) }
         ensures told { OnOk result (self.new.silent ≡ false) }
     {
         if !self.silent {

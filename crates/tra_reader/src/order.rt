@@ -10,8 +10,10 @@ use std::alloc::AllocError;
 /// Puts the transitions in the order of their choices, those of one choice as they stood.
 pub fn put_in_order(transitions: &mut Vec<Transition>) -> Result<(), AllocError>
     ensures rises { OnOk result (Rises transition_place transitions.new.items) }
-    ensures same { OnOk result ((q : ℕ) → filter (has transition_place q) transitions.new.items ≡ filter (has transition_place q) transitions.old.items) }
-    ensures within { OnOk result ((n : ℕ) → All (IsWithin n) transitions.old.items → All (IsWithin n) transitions.new.items) }
+    ensures same { OnOk result ((q : ℕ) → filter (has transition_place q) transitions.new.items
+        ≡ filter (has transition_place q) transitions.old.items) }
+    ensures within { OnOk result ((n : ℕ) → All (IsWithin n) transitions.old.items
+        → All (IsWithin n) transitions.new.items) }
     ensures len { OnOk result (length transitions.new.items ≡ length transitions.old.items) }
 {
     transitions.sort_by_key(|transition| transition.place())?;

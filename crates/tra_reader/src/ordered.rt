@@ -19,8 +19,8 @@ use game_model::Game;
 use std::alloc::{AllocError, Global};
 use text_lines::LineReader;
 
-/// Reads a text whose transitions stand in the order of their choices. It keeps no row, and halts at the first line that
-/// stands before the choice under way.
+/// Reads a text whose transitions stand in the order of their choices. It keeps no row, and halts at the first line
+/// that stands before the choice under way.
 #[derive(Drop)]
 pub struct OrderedLines {
     alloc: Global,
@@ -124,8 +124,11 @@ impl OrderedRows {
     ) -> Result<(), Halt>
         requires within { IsWithin self.old.header.states transition.now }
         requires few { self.old.read < self.old.header.lines }
-        ensures ok { OnOk result (AddsOrdered self.old self.new (record { transition = transition.now; action = action.now })) }
-        ensures fault { MatchResult result (λ _. Unit {0}) (λ halt. RefusesOrderedRow self.old number (record { transition = transition.now; action = action.now }) halt) }
+        ensures ok { OnOk result (AddsOrdered self.old self.new
+            (record { transition = transition.now; action = action.now })) }
+        ensures fault { MatchResult result (λ _. Unit {0})
+            (λ halt. RefusesOrderedRow self.old number
+            (record { transition = transition.now; action = action.now }) halt) }
     {
         let place = transition.place();
         if place < self.game.place() {
@@ -156,7 +159,9 @@ fn compare(
     action: &[u8],
 ) -> Result<bool, AllocError>
     requires { place_under_way game.now ≤ place }
-    ensures { IfOk result (λ clash. (n : ℕ) (rows : List Row) (row : Row) → row_place row ≡ place → row.action ≡ action.now → HoldsInOrder game.now n (transitions rows) → IsActionUnderWay game.now kept.old.items rows
+    ensures { IfOk result (λ clash. (n : ℕ) (rows : List Row) (row : Row) → row_place row ≡ place
+        → row.action ≡ action.now → HoldsInOrder game.now n (transitions rows)
+        → IsActionUnderWay game.now kept.old.items rows
         → ComparesAction kept.new.items rows row clash) }
 {
     if game.has_begun() && place == game.place() {

@@ -44,7 +44,8 @@ impl WholeChoices {
     fn end_states(&mut self, alloc: Global, to: u32)
         requires { self.old.state ≤ to }
         ensures state { self.new.state ≡ to }
-        ensures place { (place : ℕ) → place_behind self.old ≤ place → place_of to 0 ≤ place → place_behind self.new ≤ place }
+        ensures place { (place : ℕ) → place_behind self.old ≤ place → place_of to 0 ≤ place
+            → place_behind self.new ≤ place }
         ensures made { EndsStates to self.old self.new }
     {
         while self.state < to {
@@ -54,12 +55,14 @@ impl WholeChoices {
         }
     }
 
-    /// All choices before this state are whole, where the choice under way has these parts, or no part where nothing has begun.
+    /// All choices before this state are whole, where the choice under way has these parts, or no part where nothing
+    /// has begun.
     pub fn end_before(&mut self, alloc: Global, parts: &[Part], to: u32)
         requires low { self.old.choice < most_stated_choices }
         requires ahead { self.old.state ≤ to }
         ensures state { self.new.state ≡ to }
-        ensures place { (place : ℕ) → place_behind self.old < place → place_of to 0 ≤ place → place_behind self.new ≤ place }
+        ensures place { (place : ℕ) → place_behind self.old < place → place_of to 0 ≤ place
+            → place_behind self.new ≤ place }
         ensures made { EndsBefore parts.now to self.old self.new }
     {
         if !parts.is_empty() {
@@ -85,7 +88,9 @@ impl WholeChoices {
     /// The game of the whole choices, which are those of all states, or the first fault of the whole.
     pub fn finish(self, stated: Option<u32>) -> Result<Game, TraFault>
         requires { IfBuilds self.progress IsReady }
-        ensures { (n : ℕ) (transitions : List Transition) → self.state ≡ n → self.choice ≡ 0 → IsWhole n transitions self → AnswersOrWants IsOutOfMemory (λ g. g) result (transitions_game transitions n stated) }
+        ensures { (n : ℕ) (transitions : List Transition) → self.state ≡ n → self.choice ≡ 0
+            → IsWhole n transitions self
+            → AnswersOrWants IsOutOfMemory (λ g. g) result (transitions_game transitions n stated) }
     {
         let otherwise = stated_otherwise(stated, self.count);
         match self.progress {

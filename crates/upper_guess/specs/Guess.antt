@@ -19,7 +19,8 @@ most_steps = 4
 
 -- 0 on the zero set, the unit on goals, and elsewhere the lower entry and the excess, at most the unit
 abbrev pub first_guess : Query → List Bool → (ℕ → ℕ) → ℕ → ℕ → ℕ
-first_guess q marks lower e s = if slice_index_or marks s false then 0 else (if is_goal q s then unit else min unit (lower s + e))
+first_guess q marks lower e s = if slice_index_or marks s false then 0 else
+    (if is_goal q s then unit else min unit (lower s + e))
 
 -- so many up steps of it
 unfoldable pub guess_table : Query → List Bool → (ℕ → ℕ) → ℕ → ℕ → ℕ → ℕ
@@ -57,8 +58,10 @@ pub record IsFirstAt (q : Query) (marks : List Bool) (lower : ℕ → ℕ) (e : 
 abbrev pub RoseBy : ℕ → ℕ → ℕ → Type 0
 RoseBy n before now = min (before + n) (2 ^ 64 - 1) ≤ now
 
--- a table of one excess whose up steps were counted: the count rose by at least their number and one, the step that accepts it
-pub record IsCounted (q : Query) (marks : List Bool) (lower : ℕ → ℕ) (e : ℕ) (table : List ℕ) (before now : ℕ) : Type 0 where
+-- a table of one excess whose up steps were counted: the count rose by at least their number and one, the step that
+-- accepts it
+pub record IsCounted (q : Query) (marks : List Bool) (lower : ℕ → ℕ) (e : ℕ) (table : List ℕ)
+    (before now : ℕ) : Type 0 where
   pub steps : ℕ
   pub entries : IsTable q (guess_table q marks lower e steps) table
   pub rose : RoseBy (steps + 1) before now

@@ -34,7 +34,8 @@ impl Guesses<'_> {
 
     /// The first of the tables of this excess that is accepted; none where each is refused. A table that is
     /// seen to be refused at the witness of its steps is not made. Where a table is made and refused, the
-    /// state that rises most from it becomes the witness. Its up steps and the one that accepts it are counted, at least.
+    /// state that rises most from it becomes the witness. Its up steps and the one that accepts it are counted, at
+    /// least.
     pub fn first_accepted<M: UpTables>(
         &self,
         maker: &M,
@@ -44,8 +45,10 @@ impl Guesses<'_> {
         requires can { M.can_fill }
         requires witnesses { AreWitnesses self.now.question.now witnesses.old.states }
         ensures witnesses { AreWitnesses self.now.question.now witnesses.new.states }
-        ensures found { IfOk result (λ found. MatchOption found (AreRefusedOf self.now) (λ table. IsFirstOf self.now table.items)) }
-        ensures counted { IfOk result (λ found. IfSome found (λ table. IsCountedOf self.now table.items witnesses.old.up_steps.count witnesses.new.up_steps.count)) }
+        ensures found { IfOk result (λ found. MatchOption found (AreRefusedOf self.now)
+            (λ table. IsFirstOf self.now table.items)) }
+        ensures counted { IfOk result (λ found. IfSome found
+            (λ table. IsCountedOf self.now table.items witnesses.old.up_steps.count witnesses.new.up_steps.count)) }
         ensures later { witnesses.old.up_steps.count ≤ witnesses.new.up_steps.count }
     {
         let mut made = None;

@@ -24,5 +24,6 @@ pub fn excesses()
 /// There is one first guess: it does not depend on which tables were made, or at which state a table was
 /// seen to be refused.
 pub fn one_first_guess()
-    ensures { (q : Query) (marks : List Bool) (lower : ℕ → ℕ) (table other : List ℕ) → IsFirstGuess q marks lower table → IsFirstGuess q marks lower other → table ≡ other }
+    ensures { (q : Query) (marks : List Bool) (lower : ℕ → ℕ) (table other : List ℕ) → IsFirstGuess q marks lower table
+        → IsFirstGuess q marks lower other → table ≡ other }
 {}

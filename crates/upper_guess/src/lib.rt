@@ -68,9 +68,9 @@ pub fn guess<'a>(
     )
 }
 
-/// The same guess, whose tables are made by this maker. The states that refused the last one of this question are looked
-/// at first, and those that refuse this one take their places. At least the up steps of the guess and the one that accepts
-/// it are counted.
+/// The same guess, whose tables are made by this maker. The states that refused the last one of this question are
+/// looked at first, and those that refuse this one take their places. At least the up steps of the guess and the one
+/// that accepts it are counted.
 pub fn guess_with<'a, M: UpTables>(
     maker: &M,
     alloc: Global,
@@ -85,7 +85,8 @@ pub fn guess_with<'a, M: UpTables>(
     requires units { All (λ v. v ≤ unit) lower.now }
     requires witnesses { AreWitnesses question.now witnesses.old.states }
     ensures witnesses { AreWitnesses question.now witnesses.new.states }
-    ensures counted { IfOk result (λ table. IsCountedGuess question.now zero.now (slice_index lower.now) table.items witnesses.old.up_steps.count witnesses.new.up_steps.count) }
+    ensures counted { IfOk result (λ table. IsCountedGuess question.now zero.now
+        (slice_index lower.now) table.items witnesses.old.up_steps.count witnesses.new.up_steps.count) }
     ensures later { witnesses.old.up_steps.count ≤ witnesses.new.up_steps.count }
     ensures first { IfOk result (λ table. IsFirstGuess question.now zero.now (slice_index lower.now) table.items) }
     ensures length { IfOk result (λ table. length table.items ≡ states question.now) }

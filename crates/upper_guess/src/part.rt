@@ -33,8 +33,8 @@ pub fn fill_part(question: &Question, table: &[u64], first: u32, part: &mut [u64
     }
 }
 
-/// Reads the entries of the successors of a stretch of states, so that the memory fetches them at once. No entry is above
-/// the unit, so it answers no; since the part would end at a yes, the compiler keeps the reads.
+/// Reads the entries of the successors of a stretch of states, so that the memory fetches them at once. No entry is
+/// above the unit, so it answers no; since the part would end at a yes, the compiler keeps the reads.
 fn look_ahead(question: &Question, table: &[u64], from: u32, to: u32) -> bool
     requires table { length table.now ≡ states question.now }
     requires units { All (λ v. v ≤ unit) table.now }

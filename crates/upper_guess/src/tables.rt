@@ -73,7 +73,8 @@ impl UpSteps {
         requires can { M.can_fill }
         requires length { length table.now ≡ states question.now }
         requires units { All (λ v. v ≤ unit) table.now }
-        ensures table { IfOk result (λ next. IsTable question.now (up_step question.now (slice_index table.now)) next.items) }
+        ensures table { IfOk result (λ next. IsTable question.now
+            (up_step question.now (slice_index table.now)) next.items) }
         ensures counted { self.new.count ≡ grown self.old.count 1 }
         ensures later { self.old.count ≤ self.new.count }
     {

@@ -37,18 +37,26 @@ copied v = record { live = v.live; seen = v.seen; won = 0; parts = other_half v.
 
 -- a join: state by state the seen word of greater value, and the sums of what was won and of the parts
 abbrev pub joined : Sight → Sight → Sight
-joined v w = record { live = v.live; seen = greater_words v.seen w.seen; won = v.won + w.won; parts = v.parts + w.parts }
+joined v w = record {
+  live = v.live;
+  seen = greater_words v.seen w.seen;
+  won = v.won + w.won;
+  parts = v.parts + w.parts;
+}
 
 -- what is left of a pass that another took in
 abbrev pub spent : Sight
 spent = record { live = false; seen = []; won = 0; parts = 0 }
 
--- at most all parts are with the passes; where they all are, a pass with none is spent, so that one with all of them is alone
+-- at most all parts are with the passes; where they all are, a pass with none is spent, so that one with all of them is
+-- alone
 pub record AreParts (views : List Sight) : Type 0 where
   pub most : sum_by (λ v. v.parts) views ≤ all_parts
-  pub idle : sum_by (λ v. v.parts) views ≡ all_parts → (id : ℕ) (v : Sight) → get_elem? views id ≡ some v → v.parts ≡ 0 → v ≡ spent
+  pub idle : sum_by (λ v. v.parts) views ≡ all_parts → (id : ℕ) (v : Sight) → get_elem? views id ≡ some v → v.parts ≡ 0
+      → v ≡ spent
 
--- the table shows a configuration that meets the invariant of the core, and its words are within as many down steps as exchanges were won
+-- the table shows a configuration that meets the invariant of the core, and its words are within as many down steps as
+-- exchanges were won
 pub record MeetsRule (q : Query) (s : Shared) : Type 0 where
   pub world : IsWorld (shown q s)
   pub within : IsBelow q (value_at s.words) (down_steps q (all_won s))
@@ -65,9 +73,12 @@ Loaded step m found n =
     × ((found ≡ slice_index m.0.seen step.word) ⊎ (value_in (slice_index m.0.seen step.word) < value_in found))
     × (value_in found ≤ unit)
 
--- an exchange: won where the word found is the one expected, and then the pass sees its own; else lost, and it sees the word found, whose value is greater
+-- an exchange: won where the word found is the one expected, and then the pass sees its own; else lost, and it sees the
+-- word found, whose value is greater
 abbrev pub WonOrLost : Step (Unit {0}) → Seated → ℕ → Seated → Type 0
 WonOrLost step m found n =
     (found ≡ step.first → n ≡ saw m step.word step.second (m.0.won + 1))
-    × (found ≢ step.first → (n ≡ saw m step.word found m.0.won) × (value_in (slice_index m.0.seen step.word) < value_in found))
-    × ((word : ℕ) × (won : ℕ) × (n ≡ saw m step.word word won) × (value_in (slice_index m.0.seen step.word) ≤ value_in word) × (value_in word ≤ unit))
+    × (found ≢ step.first → (n ≡ saw m step.word found m.0.won)
+    × (value_in (slice_index m.0.seen step.word) < value_in found))
+    × ((word : ℕ) × (won : ℕ) × (n ≡ saw m step.word word won)
+    × (value_in (slice_index m.0.seen step.word) ≤ value_in word) × (value_in word ≤ unit))

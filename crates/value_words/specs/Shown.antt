@@ -35,7 +35,8 @@ pub record IsPassOf (s : Shared) (id : ℕ) (v : Sight) : Type 0 where
 abbrev pub all_won : Shared → ℕ
 all_won s = sum_by (λ v. v.won) s.views
 
--- what led from one table to the other is this event of the core: it is lawful there, this is its effect, and what it wins is counted
+-- what led from one table to the other is this event of the core: it is lawful there, this is its effect, and what it
+-- wins is counted
 pub record IsEvent (q : Query) (before later : Shared) (event : Event) : Type 0 where
   pub lawful : Lawful (shown q before) event
   pub effect : shown q later ≡ after (shown q before) event

@@ -71,7 +71,8 @@ impl<'q, P: Posing> ValueTable<'q, P> {
         question: &'q Question<'q>,
     ) -> Result<(ValueTable<'q, P>, Pass<P>), OutOfMemory>
         requires { question.now ≡ P.posed }
-        ensures { IfOk result (λ r. IsOf r.0 r.1 × (words_seen r.1 ≡ opening_words P.posed) × (won_by r.1 ≡ 0) × (parts_of r.1 ≡ all_parts)) }
+        ensures { IfOk result (λ r. IsOf r.0 r.1 × (words_seen r.1 ≡ opening_words P.posed) × (won_by r.1 ≡ 0)
+            × (parts_of r.1 ≡ all_parts)) }
     {
         question.known();
         let words = opening_words(alloc, question)?;
@@ -109,9 +110,11 @@ impl<'q, P: Posing> ValueTable<'q, P> {
         ensures won { MatchBool result (won_by pass.new ≡ won_by pass.old + 1) (won_by pass.new ≡ won_by pass.old) }
         ensures parts { parts_of pass.new ≡ parts_of pass.old }
         // A word that this call exchanged names the first choice with its value.
-        ensures first { result ≡ true → NamesFirst P.posed (seen_by pass.old) state (slice_index (words_seen pass.new) state) }
+        ensures first { result ≡ true → NamesFirst P.posed (seen_by pass.old) state
+            (slice_index (words_seen pass.new) state) }
         // At a goal or a dead state nothing is done.
-        ensures fixed { (is_goal P.posed state ≡ true) ⊎ (is_dead P.posed state ≡ true) → (result ≡ false) × (words_seen pass.new ≡ words_seen pass.old) }
+        ensures fixed { (is_goal P.posed state ≡ true) ⊎ (is_dead P.posed state ≡ true)
+            → (result ≡ false) × (words_seen pass.new ≡ words_seen pass.old) }
     {
         if self.question.is_goal(state) || self.question.is_dead(state) {
             return false;
@@ -153,7 +156,8 @@ impl<'q, P: Posing> ValueTable<'q, P> {
         ensures grew { Grew pass.old pass.new }
         ensures seen { words_seen pass.new ≡ words_seen pass.old }
         ensures won { won_by pass.new ≡ won_by pass.old }
-        ensures parts { (parts_of pass.new ≡ parts_of pass.old / 2) × (parts_of result ≡ other_half (parts_of pass.old)) }
+        ensures parts { (parts_of pass.new ≡ parts_of pass.old / 2)
+            × (parts_of result ≡ other_half (parts_of pass.old)) }
         ensures new { IsOf self.now result × (words_seen result ≡ words_seen pass.old) × (won_by result ≡ 0) }
     {
         let seat = self.table.shared.split_seat::<Sharing>(&mut pass.seat);
@@ -183,7 +187,8 @@ impl<'q, P: Posing> ValueTable<'q, P> {
         ensures words { IfOk result (λ words. AreSoundWords P.posed words) }
         ensures seen { IfOk result (λ words. Sees P.posed words (words_seen pass)) }
         // A pass with all parts is the only one: the words are within as many down steps as it won exchanges.
-        ensures within { parts_of pass ≡ all_parts → IfOk result (λ words. IsBelow P.posed (value_at words) (down_steps P.posed (won_by pass))) }
+        ensures within { parts_of pass ≡ all_parts
+            → IfOk result (λ words. IsBelow P.posed (value_at words) (down_steps P.posed (won_by pass))) }
     {
         let Ruled {
             table,
@@ -230,8 +235,10 @@ impl<'q, P: Posing> ValueTable<'q, P> {
         requires offer { IsOffer P.posed (words_seen pass.old) state from to }
         ensures grew { Grew pass.old pass.new }
         ensures parts { parts_of pass.new ≡ parts_of pass.old }
-        ensures hit { result ≡ from → (won_by pass.new ≡ won_by pass.old + 1) × (slice_index (words_seen pass.new) state ≡ to) }
-        ensures lost { result ≢ from → (won_by pass.new ≡ won_by pass.old) × (result ≡ slice_index (words_seen pass.new) state) × (value_in from < value_in result) }
+        ensures hit { result ≡ from → (won_by pass.new ≡ won_by pass.old + 1)
+            × (slice_index (words_seen pass.new) state ≡ to) }
+        ensures lost { result ≢ from → (won_by pass.new ≡ won_by pass.old)
+            × (result ≡ slice_index (words_seen pass.new) state) × (value_in from < value_in result) }
     {
         self.table
             .shared
@@ -270,7 +277,8 @@ impl<'q, P: Posing> ValueTable<'q, P> {
         ensures step { down_step P.posed (seen_by pass.old) state ≤ seen_by pass.new state }
         ensures won { MatchBool result (won_by pass.new ≡ won_by pass.old + 1) (won_by pass.new ≡ won_by pass.old) }
         ensures parts { parts_of pass.new ≡ parts_of pass.old }
-        ensures first { result ≡ true → NamesFirst P.posed (seen_by pass.old) state (slice_index (words_seen pass.new) state) }
+        ensures first { result ≡ true → NamesFirst P.posed (seen_by pass.old) state
+            (slice_index (words_seen pass.new) state) }
     {
         let least = value_of(self.load(pass, state));
         let (value, choice) = step_above(self.question, self, pass, state, least);
@@ -298,9 +306,20 @@ impl<'q, P: Posing> Values for ValueTable<'q, P> {
         value_of(self.load(pass, state))
     }
 
-    ghost still = { λ _ a. record { grew = record { table = refl; up = λ s. le_refl (seen_by a s) }; won = refl; parts = refl } };
+    ghost still = { λ _ a. record {
+      grew = record { table = refl; up = λ s. le_refl (seen_by a s) };
+      won = refl;
+      parts = refl;
+    } };
 
-    ghost further = { λ _ a b c h k. record { grew = record { table = k.grew.table ∙ h.grew.table; up = λ s. le_trans (h.grew.up s) (k.grew.up s) }; won = k.won ∙ h.won; parts = k.parts ∙ h.parts } };
+    ghost further = { λ _ a b c h k. record {
+      grew = record {
+        table = k.grew.table ∙ h.grew.table;
+        up = λ s. le_trans (h.grew.up s) (k.grew.up s);
+      };
+      won = k.won ∙ h.won;
+      parts = k.parts ∙ h.parts;
+    } };
 
     ghost carried = { λ _ _ _ _ h k. (h.grew.table ∙ k.0, k.1) };
 

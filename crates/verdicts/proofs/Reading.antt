@@ -8,7 +8,7 @@ use Rattle.plan_text.specs.Fixed.{fixed, last_digits, unit_digits}
 use Rattle.verdicts.specs.declared.verdict.Verdict.{Verdict}
 use Rattle.verdicts.specs.declared.verdict.Verdict.TheVariants.{Yes, No, Undecided, Bracket}
 use Rattle.verdicts.specs.declared.report.How.{How}
-use Rattle.verdicts.specs.declared.report.How.TheVariants.{Rounds, Steps, Audited}
+use Rattle.verdicts.specs.declared.report.How.TheVariants.{Rounds, Steps, Audited, Solved}
 use Rattle.verdicts.specs.declared.report.ReportLine.{ReportLine}
 use Rattle.verdicts.specs.Report.{HasCount, IsLine, verdict_text, how_text, line_text, report}
 use Rattle.verdicts.proofs.Numbers.{number-one}
@@ -45,12 +45,15 @@ value-one one u v r s hu hv e =
 
 -- 2. The words are told apart by a byte.
 
--- the byte behind the first space: of ` rounds `, ` steps ` or ` audited`
+-- the byte behind the first space: of ` rounds `, ` steps `, ` audited` or ` solved`; and the one behind it
 read_how : List ℕ → ℕ
 read_how text = get_or text 1 0
 
+read_next : List ℕ → ℕ
+read_next text = get_or text 2 0
+
 how-one : (a b : How) (r s : List ℕ) → HasCount a → HasCount b → how_text a ++ 32 ∷ r ≡ how_text b ++ 32 ∷ s → (a ≡ b) × (r ≡ s)
-unfolding read_how
+unfolding read_how read_next
 how-one (Rounds m) (Rounds n) r s hm hn e =
     let parts = number-one m n r s (omega arith) (omega arith) (append_cancel_left (codes " rounds ") (decimal m ++ 32 ∷ r) (decimal n ++ 32 ∷ s) e) in
     (ap (λ k. Rounds k) parts.0, parts.1)
@@ -64,6 +67,13 @@ how-one (Steps m) Audited r s hm hn e = let second : ◌≡◌ {A = ℕ} 115 97 
 how-one Audited (Rounds n) r s hm hn e = let second : ◌≡◌ {A = ℕ} 97 114 = ap read_how e in absurd (omega arith)
 how-one Audited (Steps n) r s hm hn e = let second : ◌≡◌ {A = ℕ} 97 115 = ap read_how e in absurd (omega arith)
 how-one Audited Audited r s hm hn e = (refl, append_cancel_left (codes " audited ") r s e)
+how-one Audited Solved r s hm hn e = let second : ◌≡◌ {A = ℕ} 97 115 = ap read_how e in absurd (omega arith)
+how-one Solved Audited r s hm hn e = let second : ◌≡◌ {A = ℕ} 115 97 = ap read_how e in absurd (omega arith)
+how-one Solved (Rounds n) r s hm hn e = let second : ◌≡◌ {A = ℕ} 115 114 = ap read_how e in absurd (omega arith)
+how-one (Rounds m) Solved r s hm hn e = let second : ◌≡◌ {A = ℕ} 114 115 = ap read_how e in absurd (omega arith)
+how-one Solved (Steps n) r s hm hn e = let third : ◌≡◌ {A = ℕ} 111 116 = ap read_next e in absurd (omega arith)
+how-one (Steps m) Solved r s hm hn e = let third : ◌≡◌ {A = ℕ} 116 111 = ap read_next e in absurd (omega arith)
+how-one Solved Solved r s hm hn e = (refl, append_cancel_left (codes " solved ") r s e)
 
 read_verdict : ℕ → Option Verdict
 read_verdict b = if b == 84 then Some Yes else (if b == 70 then Some No else (if b == 85 then Some Undecided else Some Bracket))

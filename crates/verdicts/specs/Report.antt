@@ -5,7 +5,7 @@ use Rattle.plan_text.specs.Fixed.{fixed}
 use Rattle.verdicts.specs.declared.verdict.Verdict.{Verdict}
 use Rattle.verdicts.specs.declared.verdict.Verdict.TheVariants.{Yes, No, Undecided, Bracket}
 use Rattle.verdicts.specs.declared.report.How.{How}
-use Rattle.verdicts.specs.declared.report.How.TheVariants.{Rounds, Steps, Audited}
+use Rattle.verdicts.specs.declared.report.How.TheVariants.{Rounds, Steps, Audited, Solved}
 use Rattle.verdicts.specs.declared.report.ReportLine.{ReportLine}
 
 -- both bounds are values: at most the unit
@@ -17,6 +17,7 @@ abbrev pub HasCount : How → Type 0
 HasCount (Rounds rounds) = rounds < 2 ^ 32
 HasCount (Steps steps) = steps < 2 ^ 32
 HasCount Audited = Unit {0}
+HasCount Solved = Unit {0}
 
 -- a line as its types hold it, whose bounds are values
 pub record IsLine (line : ReportLine) : Type 0 where
@@ -34,6 +35,7 @@ abbrev pub how_text : How → List ℕ
 how_text (Rounds rounds) = codes " rounds " ++ decimal rounds
 how_text (Steps steps) = codes " steps " ++ decimal steps
 how_text Audited = codes " audited"
+how_text Solved = codes " solved"
 
 -- a label and a value
 abbrev pub labelled : List ℕ → ℕ → List ℕ

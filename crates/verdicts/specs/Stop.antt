@@ -13,7 +13,8 @@ Calls F = Shared F (ℕ × (ℕ × Unit {0})) Bool
 -- a closure that may be called on all values, and answers true exactly where they settle the bound
 pub record IsRuleOf {F : Type 0} (calls : Calls F) (bound : Bound) (rule : F) : Type 0 where
   pub callable : (lower upper : ℕ) → lower ≤ unit → upper ≤ unit → calls.pre rule (lower, (upper, tt))
-  pub answers : (lower upper : ℕ) (answer : Bool) → lower ≤ unit → upper ≤ unit → calls.post rule (lower, (upper, tt)) answer
+  pub answers : (lower upper : ℕ) (answer : Bool) → lower ≤ unit → upper ≤ unit
+      → calls.post rule (lower, (upper, tt)) answer
       → answer ≡ is_settling (verdict_of bound lower upper)
 
 -- the bound of a rule

@@ -16,7 +16,8 @@ IsTrueOf q (Below p) s = ¬ Reaches q p.num p.den s
 IsTrueOf q AskMax s = Unit {0}
 IsTrueOf q AskMin s = Unit {0}
 
--- it fails: no k-step values come near p, or none is above it; for an upper bound on the value, some k-step value is above p, or they come as near to it as one likes
+-- it fails: no k-step values come near p, or none is above it; for an upper bound on the value, some k-step value is
+-- above p, or they come as near to it as one likes
 abbrev pub IsFalseOf : Query → Bound → ℕ → Type 0
 IsFalseOf q (AtLeast p) s = ¬ Reaches q p.num p.den s
 IsFalseOf q (Above p) s = ¬ Exceeds q p.num p.den s

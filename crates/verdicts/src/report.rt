@@ -18,6 +18,8 @@ pub enum How {
     Steps(u32),
     /// A certificate was checked.
     Audited,
+    /// A solver found the tables, and they were checked.
+    Solved,
 }
 
 /// The bounds, in units, and the verdict at a state.
@@ -63,6 +65,7 @@ impl How {
                 append_number(text, steps)
             }
             How::Audited => append(text, b" audited"),
+            How::Solved => append(text, b" solved"),
         }
     }
 }

@@ -79,7 +79,8 @@ fn a_printed_text_without_its_last_line_is_refused(rt: HostRuntime) -> Result<()
     )
 }
 
-// The value of the coin loop is one half. A check comes near from below only, and leaves open what needs the value itself.
+// The value of the coin loop is one half. A check comes near from below only, and leaves open what needs the value
+// itself.
 #[test]
 fn a_nearer_certificate_settles_what_a_check_leaves_open(rt: HostRuntime) -> Result<(), Fail> {
     let alloc = rt.alloc();

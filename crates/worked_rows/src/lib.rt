@@ -25,6 +25,8 @@ mod other_certificates;
 #[cfg(test)]
 mod paths;
 #[cfg(test)]
+mod solve;
+#[cfg(test)]
 mod sure;
 #[cfg(test)]
 mod thresholds;

@@ -1,12 +1,12 @@
 //! Formulas with others inside.
 
-use game_outside::HoldGate;
+use expectations::same;
+use game_outside::{Gate, HoldGate, OpenGate};
 use run_rows::{
-    COIN_LOOP, GOAL_AT_1, ONE_WORKER, Row, audit_writes, plain_row, refuses, runs, sure_writes,
-    writes,
+    COIN_LOOP, GOAL_AT_1, ONE_WORKER, Row, audit_writes, comes_to, plain_row, refuses, runs,
+    sure_writes, writes,
 };
 use std::alloc::Global;
-use std::process::Abort;
 use std::test::Fail;
 use std::thread::Threads;
 use stogame_app::Status;
@@ -130,30 +130,56 @@ fn names_inside_are_looked_up(rt: HostRuntime) -> Result<(), Fail> {
     Ok(())
 }
 
-// The outermost run of two workers at once.
-fn nested_by<R: Threads + Sync + Abort>(
+// The coin loop with a formula and these numbers.
+fn coin_loop_with<'a>(formula: &'a str, numbers: &'a [&'a str]) -> Row<'a> {
+    Row {
+        numbers,
+        ..coin_loop(formula)
+    }
+}
+
+// How the coin loop ends with a formula and so many workers, and what it writes.
+fn nested_by<R: Threads + Sync, G: Gate + Sync>(
     rt: &R,
     alloc: Global,
+    formula: &str,
     workers: &str,
-    gate: &HoldGate,
-) -> Result<(), Fail> {
+    gate: &G,
+) -> Result<(Status, Vec<u8>), Fail> {
     let numbers = ["--workers", workers];
-    let row = Row {
-        numbers: &numbers,
-        ..coin_loop("Pmax=? [ F<=2 P>=1 [ F \"goal\" ] ]")
-    };
-    let (status, written) = runs(rt, alloc, row, gate)?;
-    assert!(rt; status == Status::Fine);
-    let text =
-        b"inner 1 undecided 0\nstate 0 lower 0.375000000000000 upper 0.375000000000000 steps 2 Bracket\n";
-    assert_eq!(rt; written.as_slice(), text.as_slice());
-    Ok(())
+    runs(rt, alloc, coin_loop_with(formula, &numbers), gate)
 }
 
 #[test]
 fn workers_of_every_number_write_the_same(rt: HostRuntime) -> Result<(), Fail> {
-    let gate = HoldGate::new();
-    nested_by(&rt, rt.alloc(), "2", &gate)?;
-    assert!(rt; !gate.gave_up(), "the workers ran one after another");
-    nested_by(&rt, rt.alloc(), "7", &HoldGate::new())
+    let formula = "Pmax=? [ F<=2 P>=1 [ F \"goal\" ] ]";
+    let text =
+        "inner 1 undecided 0\nstate 0 lower 0.375000000000000 upper 0.375000000000000 steps 2 Bracket\n";
+    for workers in ["1", "2", "7"] {
+        let (status, written) = nested_by(&rt, rt.alloc(), formula, workers, &OpenGate {})?;
+        comes_to(workers, status, &written, Status::Fine, text)?;
+    }
+    Ok(())
+}
+
+/// Formulas of which one run alone passes the gate, since with `F<=0` no step is made: that of the outermost formula,
+/// and that of the one inside.
+const OF_ONE_RUN: [&str; 7] = [
+    "Pmax=? [ F P>=1 [ F<=0 \"goal\" ] ]",
+    "Pmax=? [ G P<1 [ F<=0 \"goal\" ] ]",
+    "Pmax=? [ F<=2 P>=1 [ F<=0 \"goal\" ] ]",
+    "Pmax=? [ X P>=1 [ F<=0 \"goal\" ] ]",
+    "Pmax=? [ F<=0 P>=1 [ F \"goal\" ] ]",
+    "Pmax=? [ F<=0 P>=1 [ F<=2 \"goal\" ] ]",
+    "Pmax=? [ F<=0 P>=1 [ X \"goal\" ] ]",
+];
+
+#[test]
+fn two_workers_of_each_run_are_at_once(rt: HostRuntime) -> Result<(), Fail> {
+    for formula in OF_ONE_RUN {
+        let gate = HoldGate::new();
+        let (status, _written) = nested_by(&rt, rt.alloc(), formula, "2", &gate)?;
+        same(formula, (status, gate.gave_up()), (Status::Fine, false))?;
+    }
+    Ok(())
 }

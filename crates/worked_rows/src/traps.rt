@@ -5,16 +5,16 @@ use run_rows::{COIN_LOOP, GOAL_AT_1, Row, audit_writes, runs, writes};
 use std::test::Fail;
 use stogame_app::Status;
 
-/// State 0 stays where it is, or tosses a coin between the goal, state 2, and a lost state. State 1 tosses until its coin falls: no small guess
-/// is inductive there.
+/// State 0 stays where it is, or tosses a coin between the goal, state 2, and a lost state. State 1 tosses until its
+/// coin falls: no small guess is inductive there.
 pub const STAY_OR_COIN: &str =
     "4 5 8\n0 0 0 1\n0 1 2 0.5\n0 1 3 0.5\n1 0 1 0.5\n1 0 2 0.25\n1 0 3 0.25\n2 0 2 1\n3 0 3 1\n";
 
 /// State 2 is the goal.
 pub const GOAL_AT_2: &str = "0=\"init\" 1=\"goal\"\n0: 0\n2: 1\n";
 
-/// Two players send each other to and fro: the first one, at state 0, may toss a coin instead, and the second, at state 1,
-/// give the goal. State 2 tosses until its coin falls.
+/// Two players send each other to and fro: the first one, at state 0, may toss a coin instead, and the second, at state
+/// 1, give the goal. State 2 tosses until its coin falls.
 pub const TO_AND_FRO: &str =
     "5 7 10\n0 0 1 1\n0 1 3 0.5\n0 1 4 0.5\n1 0 0 1\n1 1 3 1\n2 0 2 0.5\n2 0 3 0.25\n2 0 4 0.25\n3 0 3 1\n4 0 4 1\n";
 

@@ -28,4 +28,5 @@ returns g c =
       kept = IsSettlingGuess-raised q c.args.ending.now.zero.now (bound_of c.args.ending.now.rule.now) c.args.ending.now.initial.now read (value_at c.in_ok-words.words) swapped_read (value_at c.in_ok-swapped_words.swapped_words) ended.kept inside one.below swapped_rise rounds.kept;
       none = rounds.none;
       early = rounds.early;
+      in_time = rounds.in_time;
     }

@@ -1,16 +1,14 @@
 use Rattle.std.proofs.Common.{◌≡◌, ◌<◌, ◌∙◌, ℕ, sym}
 use Rattle.std.specs.Prelude.{slice_index}
 use Rattle.std.proofs.lemmas.List.Elements.{All-weaker}
-use Rattle.game_model.specs.Limits.{unit}
 use Rattle.game_model.specs.Query.{states}
-use Rattle.game_model.specs.Bounds.{Reaches}
 use Rattle.rpatl_syntax.specs.Formula.{tree_of}
 use Rattle.verdicts.specs.Open.{LeavesOpen}
 use Rattle.verdicts.specs.declared.verdict.Verdict.TheVariants.{Undecided}
 use Rattle.rpatl_syntax.specs.Dual.{answered}
 use Rattle.run_answers.specs.Printed.{verdict_for}
 use Rattle.question_reports.proofs.Limits.{plan-units}
-use Rattle.question_reports.proofs.Reported.{all-told, verdict-answered, plan_verdict}
+use Rattle.question_reports.proofs.Reported.{verdict-answered, plan_verdict}
 use Rattle.question_reports.proofs.Audited.{lines-in_range, audited}
 use Rattle.question_reports.proofs.audits.audit_report.Goals as goal
 
@@ -24,14 +22,10 @@ returns-clause-audited c =
     let upper = plan.upper.items in
     let initial = c.args.initial.now in
     let sound = c.requires.sound in
-    let reached : (s : ℕ) → s < states q → Reaches q (slice_index lower s) unit s = λ s within. c.planned_values_are_reached.ensures q plan.choices.items (slice_index lower) s sound.reached within in
     let agree : (s : ℕ) → s < states q → verdict_for f lower upper s ≡ plan_verdict bound plan s = λ s within.
     let units = plan-units q plan c.requires.lists c.requires.passes s within in verdict-answered c.mirrored_verdicts_are_those_of_the_dual.ensures f c.requires.share (slice_index lower s) (slice_index upper s) units.0 units.1 in
-    audited (λ answer. answer.text.items) (λ answer. answer.status) q initial f plan c.requires.inside sound
-    (All-weaker (λ s. s < states q) (λ s. Reaches q (slice_index lower s) unit s) reached initial c.requires.inside)
+    audited (λ answer. answer.text.items) (λ answer. answer.status) q c.known.ensures initial f plan c.requires.inside sound
     (lines-in_range q c.known.ensures f plan c.requires.lists c.requires.passes initial c.requires.inside)
-    (all-told q bound (verdict_for f lower upper) initial (λ s within is. c.verdicts_are_true.ensures.yes q _ _ bound s c.known.ensures (reached s within) sound.high within (sym (agree s within) ∙ is))
-    (λ s within is. c.verdicts_are_true.ensures.no q _ _ bound s c.known.ensures (reached s within) sound.high within (sym (agree s within) ∙ is)) c.requires.inside)
     (All-weaker (λ s. s < states q) (λ s. verdict_for f lower upper s ≡ Undecided → LeavesOpen bound (slice_index lower s) (slice_index upper s) 1 0)
     (λ s within is. c.undecided_thresholds_are_left_open.ensures.here bound (slice_index lower s) (slice_index upper s) (sym (agree s within) ∙ is)) initial c.requires.inside)
     c.report_of.result (rw (c.is_mirrored.ensures, c.deref.ensures.value, c.deref-2.ensures.value) at c.report_of.ensures.text) (rw (c.is_mirrored.ensures, c.deref.ensures.value, c.deref-2.ensures.value) at c.report_of.ensures.status)

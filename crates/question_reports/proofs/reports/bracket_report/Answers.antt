@@ -1,7 +1,5 @@
 use Rattle.std.proofs.Common.{◌≡◌, ◌≤◌, ◌<◌, ◌^◌, ◌∙◌, ℕ, ap, sym, subst, arith}
 use Rattle.std.specs.Prelude.{slice_index}
-use Rattle.game_model.specs.Bounds.{Reaches}
-use Rattle.game_model.specs.Limits.{unit}
 use Rattle.game_model.specs.Query.{states}
 use Rattle.distributions.proofs.Powers.{pow-pos}
 use Rattle.game_model.specs.Values.{denominator}
@@ -12,8 +10,9 @@ use Rattle.command_words.specs.Words.{check_of}
 use Rattle.rpatl_syntax.specs.Dual.{answered}
 use Rattle.run_answers.specs.Printed.{verdict_for}
 use Rattle.bracket_engine.specs.Found.{IsFound}
+use Rattle.verdicts.specs.declared.report.How.TheVariants.{Rounds}
 use Rattle.question_reports.proofs.Limits.{plan-units, printed-in_limits}
-use Rattle.question_reports.proofs.Reported.{all-told, all-left_open, reported, verdict-answered, plan_verdict}
+use Rattle.question_reports.proofs.Reported.{all-left_open, reported, verdict-answered, plan_verdict}
 use Rattle.question_reports.proofs.Shown.{held-found, shown-lists, shown-passes, shown-sound, shown-above, shown-printable}
 use Rattle.question_reports.proofs.reports.bracket_report.Goals as goal
 
@@ -41,24 +40,21 @@ returns-clause-report g c =
     let held = c.in_ok-plan.ensures.held in
     let lists = shown-lists q zero bound initial asked check.traps found plan is_found shown held in
     let passes = shown-passes q zero bound initial asked check.traps found plan is_found shown held in
-    let sound = shown-sound q zero bound initial asked check.traps found plan is_found shown held in
+    let sound = shown-sound q zero bound initial asked check.traps found plan is_found shown held c.known.ensures in
     let some : 1 ≤ denominator q.game ^ asked = pow-pos (denominator q.game) asked (denominator-pos q.game c.known.ensures.game) in
-    let reached : (s : ℕ) → s < states q → Reaches q (slice_index lower s) unit s = λ s within. c.planned_values_are_reached.ensures q plan.choices.items (slice_index lower) s sound.reached within in
     let agree : (s : ℕ) → s < states q → verdict_for f lower upper s ≡ plan_verdict bound plan s = λ s within.
     let units = plan-units q plan lists passes s within in verdict-answered c.mirrored_verdicts_are_those_of_the_dual.ensures f c.requires.share (slice_index lower s) (slice_index upper s) units.0 units.1 in
     let left_open = all-left_open c.undecided_thresholds_are_left_open.ensures.here c.undecided_thresholds_are_left_open.ensures.wider q zero bound initial asked found plan
     (shown-above q zero bound initial asked check.traps found plan is_found shown held) shown.below some is_found.bounds c.requires.inside in
     reported (λ answer. answer.text.items) (λ answer. answer.status) q initial f check zero found plan (record {
+      posed = c.known.ensures;
       inside = c.requires.inside;
       is_zero = c.in_ok-bracketed.ensures.zero;
       is_found = is_found;
       shown = shown;
       lists = lists;
-      near = rw (shown.lower) is_found.lower.near;
       sound = sound;
       passes = passes;
-      limits = printed-in_limits q plan initial found.rounds (shown-printable q zero bound initial asked check.traps found plan is_found shown held c.known.ensures c.make_answer.ensures.ranks) (omega (arith, is_found.bounds.few, c.requires.in_range.few_rounds)) c.requires.inside check.plan f;
-      right = all-told q bound (verdict_for f lower upper) initial (λ s within is. c.verdicts_are_true.ensures.yes q _ _ bound s c.known.ensures (reached s within) sound.high within (sym (agree s within) ∙ is))
-          (λ s within is. c.verdicts_are_true.ensures.no q _ _ bound s c.known.ensures (reached s within) sound.high within (sym (agree s within) ∙ is)) c.requires.inside;
+      limits = printed-in_limits q plan initial (Rounds found.rounds) (shown-printable q zero bound initial asked check.traps found plan is_found shown held c.known.ensures c.make_answer.ensures.ranks) (omega (arith, is_found.bounds.few, c.requires.in_range.few_rounds)) c.requires.inside check.plan f;
       left_open = λ i d there undecided. left_open i d there (sym (agree _ (c.requires.inside i d there)) ∙ undecided);
     }) c.make_answer.result (rw c.deref-initial.ensures.value at c.make_answer.ensures.text) (rw c.deref-initial.ensures.value at c.make_answer.ensures.status)

@@ -1,0 +1,107 @@
+//! What an elimination did, to solve by.
+
+ghost use Rattle.std.specs.Prelude.{◌≡◌, ◌+◌, ◌*◌, ◌^◌, ◌<◌, ◌≤◌, IfOk, length, vec_len};
+ghost use Rattle.float_games.specs.Nodes.{nodes_in};
+
+use crate::elimination::{Shape, eliminate, row_of};
+use float_games::{Band, Chain};
+use game_outside::OutOfMemory;
+use std::alloc::Global;
+
+/// The factors of a chain: its matrix after the elimination, and what leaves each row.
+#[derive(Drop)]
+pub struct Factors {
+    shape: Shape,
+    cells: Vec<f64>,
+    outs: Vec<f64>,
+    ghost room: { vec_len cells ≡ shape.rows * shape.width },
+    ghost all: { vec_len outs ≡ shape.rows },
+}
+
+impl Factors {
+    ghost use Rattle.band_elimination.specs.Rows.{rows_of};
+
+    /// The factors of a chain whose edges stay in this band; others are left out. The only error is want of memory.
+    pub fn of_chain(alloc: Global, chain: &Chain, band: Band) -> Result<Factors, OutOfMemory>
+        requires { band.back + band.forth + 1 < 2 ^ 32 }
+        ensures { IfOk result (λ f. rows_of f ≡ nodes_in chain.now) }
+    {
+        let shape = Shape::of_band(chain.nodes(), band.back, band.forth);
+        let mut cells = vec![in alloc; 0.0; shape.cells()]?;
+        fill(shape, chain, &mut cells);
+        let mut leaks = chain.leaves(alloc)?;
+        let mut outs = vec![in alloc; 0.0; shape.rows]?;
+        eliminate(shape, &mut cells, &mut leaks, &mut outs);
+        Ok(Factors { shape, cells, outs })
+    }
+
+    /// Makes sums to values: each is the sum of its node, plus the values of its successors by their shares. Where
+    /// nothing leaves, the value is 0.
+    pub fn solve(&self, sums: &mut [f64])
+        requires { length sums.old ≡ rows_of self.now }
+    {
+        for row in (0..self.shape.rows).rev() {
+            sums[row] = self.sum(sums, row);
+        }
+        for row in 0..self.shape.rows {
+            sums[row] = self.value(sums, row);
+        }
+    }
+
+    /// The sum of a row, with those of the rows after it that were added to it.
+    fn sum(&self, sums: &[f64], row: usize) -> f64
+        requires row { row < rows_of self.now }
+        requires sums { length sums.now ≡ rows_of self.now }
+    {
+        let begin = self.shape.begin(row) + self.shape.back + 1;
+        let most = self.shape.forth().min(self.shape.rows - 1 - row);
+        let factors = &self.cells[begin..begin + most];
+        sums[row] + product(factors, &sums[row + 1..row + 1 + most])
+    }
+
+    /// The value of a row, by its sum and the values of the rows before it.
+    fn value(&self, values: &[f64], row: usize) -> f64
+        requires row { row < rows_of self.now }
+        requires values { length values.now ≡ rows_of self.now }
+    {
+        let out = self.outs[row];
+        if !(0.0 < out) {
+            return 0.0;
+        }
+        let end = self.shape.begin(row) + self.shape.back;
+        let most = self.shape.back.min(row);
+        let shares = &self.cells[end - most..end];
+        (values[row] + product(shares, &values[row - most..row])) / out
+    }
+}
+
+/// Puts the shares of a chain into the cells of a band.
+fn fill(shape: Shape, chain: &Chain, cells: &mut [f64])
+    requires cells { length cells.old ≡ shape.rows * shape.width }
+    requires rows { shape.rows ≡ nodes_in chain.now }
+{
+    for row in 0..shape.rows {
+        let target = row_of(cells, shape.width, row, shape.rows);
+        fill_row(shape.back, row, chain, target);
+    }
+}
+
+/// Puts the shares of a node into its row.
+fn fill_row(back: usize, row: usize, chain: &Chain, target: &mut [f64])
+    requires back { back < 2 ^ 32 }
+    requires row { row < nodes_in chain.now }
+{
+    for (to, share) in chain.successors(row).iter().zip(chain.shares(row)) {
+        let shifted = *to as usize + back;
+        if row <= shifted {
+            if let Some(cell) = target.get_mut(shifted - row) {
+                *cell += *share;
+            }
+        }
+    }
+}
+
+/// The sum of the products of two lists, entry by entry.
+fn product(factors: &[f64], values: &[f64]) -> f64 {
+    factors.iter().zip(values).map(|(a, b)| *a * *b).sum()
+}

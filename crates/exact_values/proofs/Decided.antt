@@ -1,0 +1,118 @@
+-- Facts that hold or don't, and how many numbers have one.
+use Rattle.std.proofs.Common.{◌≡◌, ℕ, zero, suc, ◌<◌, ◌≤◌, Bool, true, false, List, [], ◌∷◌, arith, refl, subst, inl, inr, ◌⊎◌}
+use Rattle.std.specs.List.{AllByRecursion}
+use Rattle.std.proofs.lemmas.Bool.{cases_lt, cases_eq}
+use Rattle.exact_values.proofs.Arena.{Some}
+
+abbrev pub Decided : Type 0 → Type 0
+Decided A = A ⊎ (A → ⊥)
+
+pub dec-some : {X : Type 0} (P : X → Type 0) → ((x : X) → Decided (P x)) → (xs : List X) → Decided (Some P xs)
+dec-some P d [] = inr (λ h. h)
+dec-some P d (x ∷ xs) = elim (d x) [
+  | inl has ↦ inl (inl has)
+  | inr hasnt ↦ elim (dec-some P d xs) [
+    | inl has ↦ inl (inr has)
+    | inr none ↦ inr (λ h. elim h [ inl here ↦ hasnt here | inr later ↦ none later ])
+  ]
+]
+
+pub dec-all : {X : Type 0} (P : X → Type 0) → ((x : X) → Decided (P x)) → (xs : List X) → Decided (AllByRecursion P xs)
+dec-all P d [] = inl tt
+dec-all P d (x ∷ xs) = elim (d x) [
+  | inr hasnt ↦ inr (λ h. hasnt h.0)
+  | inl here ↦ elim (dec-all P d xs) [
+    | inl later ↦ inl (here, later)
+    | inr none ↦ inr (λ h. none h.1)
+  ]
+]
+
+pub none-all : {X : Type 0} (P : X → Type 0) (xs : List X) → (Some P xs → ⊥) → AllByRecursion (λ x. P x → ⊥) xs
+none-all P [] h = tt
+none-all P (x ∷ xs) h = (λ here. h (inl here), none-all P xs (λ later. h (inr later)))
+
+pub not-all : {X : Type 0} (P : X → Type 0) → ((x : X) → Decided (P x)) → (xs : List X) → (AllByRecursion P xs → ⊥) → Some (λ x. P x → ⊥) xs
+not-all P d [] h = absurd (h tt)
+not-all P d (x ∷ xs) h = elim (d x) [
+  | inr hasnt ↦ inl hasnt
+  | inl here ↦ inr (not-all P d xs (λ later. h (here, later)))
+]
+
+pub dec-both : (A B : Type 0) → Decided A → Decided B → Decided (A × B)
+dec-both A B (inl a) (inl b) = inl (a, b)
+dec-both A B (inl a) (inr b) = inr (λ h. b h.1)
+dec-both A B (inr a) d = inr (λ h. a h.0)
+
+pub dec-either : (A B : Type 0) → Decided A → Decided B → Decided (A ⊎ B)
+dec-either A B (inl a) d = inl (inl a)
+dec-either A B (inr a) (inl b) = inl (inr b)
+dec-either A B (inr a) (inr b) = inr (λ h. elim h [ inl x ↦ a x | inr y ↦ b y ])
+
+pub dec-not : (A : Type 0) → Decided A → Decided (A → ⊥)
+dec-not A (inl a) = inr (λ h. h a)
+dec-not A (inr a) = inl a
+
+pub dec-lt : (a b : ℕ) → Decided (a < b)
+dec-lt a b = elim (cases_lt a b) [ inl h ↦ inl h | inr h ↦ inr (λ k. omega (arith, h, k)) ]
+
+pub dec-le : (a b : ℕ) → Decided (a ≤ b)
+dec-le a b = elim (cases_lt b a) [ inl h ↦ inr (λ k. omega (arith, h, k)) | inr h ↦ inl h ]
+
+pub dec-eq : (a b : ℕ) → Decided (a ≡ b)
+dec-eq a b = elim (cases_eq a b) [ inl h ↦ inl h | inr h ↦ inr h ]
+
+pub dec-false : (b : Bool) → Decided (b ≡ false)
+dec-false true = inr (λ h. absurd (cc))
+dec-false false = inl refl
+
+-- how many numbers below k have a fact
+pub tally : {A : ℕ → Type 0} → ((s : ℕ) → Decided (A s)) → ℕ → ℕ
+tally d zero = 0
+tally d (suc k) = elim (d k) [ inl has ↦ suc (tally d k) | inr none ↦ tally d k ]
+
+pub tally-most : {A : ℕ → Type 0} (d : (s : ℕ) → Decided (A s)) (k : ℕ) → tally d k ≤ k
+unfolding tally
+tally-most d zero = omega arith
+tally-most d (suc k) = elim (d k) as (λ c. elim c [ inl has ↦ suc (tally d k) | inr none ↦ tally d k ] ≤ suc k) [
+  | inl has ↦ omega (arith, tally-most d k)
+  | inr none ↦ omega (arith, tally-most d k)
+]
+
+-- where all that have the one fact have the other, both have the same, or the other has more
+pub tally-more : {A B : ℕ → Type 0} (d : (s : ℕ) → Decided (A s)) (e : (s : ℕ) → Decided (B s)) → ((s : ℕ) → A s → B s) → (k : ℕ)
+    → (tally d k ≤ tally e k) × (((s : ℕ) → s < k → B s → A s) ⊎ (tally d k < tally e k))
+unfolding tally
+tally-more d e h zero = (omega arith, inl (λ s l b. absurd (omega (arith, l))))
+tally-more {A} {B} d e h (suc k) =
+    let old : (tally d k ≤ tally e k) × (((s : ℕ) → s < k → B s → A s) ⊎ (tally d k < tally e k)) = tally-more d e h k in
+    elim (d k) as (λ c. (elim c [ inl has ↦ suc (tally d k) | inr none ↦ tally d k ] ≤ elim (e k) [ inl has ↦ suc (tally e k) | inr none ↦ tally e k ])
+    × (((s : ℕ) → s < suc k → B s → A s) ⊎ (elim c [ inl has ↦ suc (tally d k) | inr none ↦ tally d k ] < elim (e k) [ inl has ↦ suc (tally e k) | inr none ↦ tally e k ]))) [
+      | inl a ↦ elim (e k) as (λ c. (suc (tally d k) ≤ elim c [ inl has ↦ suc (tally e k) | inr none ↦ tally e k ])
+          × (((s : ℕ) → s < suc k → B s → A s) ⊎ (suc (tally d k) < elim c [ inl has ↦ suc (tally e k) | inr none ↦ tally e k ]))) [
+            | inl b ↦ (
+              omega (arith, old.0),
+              elim old.1 [
+                | inl same ↦ inl (λ s l there. elim (cases_lt s k) [
+                  | inl below ↦ same s below there
+                  | inr last ↦ subst A (let at : k ≡ s = omega (arith, l, last) in at) a
+                ])
+                | inr less ↦ inr (omega (arith, less))
+              ],
+            )
+            | inr b ↦ absurd (b (h k a))
+          ]
+      | inr a ↦ elim (e k) as (λ c. (tally d k ≤ elim c [ inl has ↦ suc (tally e k) | inr none ↦ tally e k ])
+          × (((s : ℕ) → s < suc k → B s → A s) ⊎ (tally d k < elim c [ inl has ↦ suc (tally e k) | inr none ↦ tally e k ]))) [
+            | inl b ↦ (omega (arith, old.0), inr (omega (arith, old.0)))
+            | inr b ↦ (
+              old.0,
+              elim old.1 [
+                | inl same ↦ inl (λ s l there. elim (cases_lt s k) [
+                  | inl below ↦ same s below there
+                  | inr last ↦ absurd (b (subst B (let at : s ≡ k = omega (arith, l, last) in at) there))
+                ])
+                | inr less ↦ inr less
+              ],
+            )
+          ]
+    ]

@@ -1,0 +1,4 @@
+//! The exact values of a question.
+#![tactic(auto)]
+
+pub mod laws;

@@ -1,0 +1,192 @@
+//! The chain of a policy.
+
+ghost use Rattle.std.specs.Prelude.{◌≡◌, ◌^◌, ◌<◌, ◌≤◌, IfOk, length, vec_len};
+
+use crate::game::FloatGame;
+use game_outside::OutOfMemory;
+use std::alloc::Global;
+
+/// How far the edges of a chain lead back and forth in the order of the nodes.
+#[derive(Clone, Copy, Debug, PartialEq, Eq)]
+pub struct Band {
+    /// The most that an edge leads back.
+    pub back: u32,
+    /// The most that an edge leads forth.
+    pub forth: u32,
+}
+
+/// What is left of a game under a policy: one choice a node. An entry that is no choice counts as the last one.
+#[derive(Drop)]
+pub struct Chain<'g> {
+    game: &'g FloatGame,
+    policy: &'g [u32],
+    ghost as_many: { length policy.now ≡ vec_len game.now.maximises },
+}
+
+/// Where the edges of a node begin and end.
+#[derive(Clone, Copy)]
+struct Row {
+    choice: usize,
+    begin: u32,
+    end: u32,
+}
+
+/// The greatest size of an edge: there are fewer nodes.
+const MOST: usize = 2_147_483_647;
+
+impl<'g> Chain<'g> {
+    ghost use Rattle.float_games.specs.Nodes.{nodes_of, nodes_in};
+
+    /// The chain of a policy.
+    pub fn of_policy(game: &'g FloatGame, policy: &'g [u32]) -> Chain<'g>
+        requires { length policy.now ≡ nodes_of game.now }
+        ensures { nodes_in result ≡ nodes_of game.now }
+    {
+        Chain { game, policy }
+    }
+
+    /// How many nodes there are.
+    pub fn nodes(&self) -> usize
+        ensures value { result ≡ nodes_in self.now }
+        ensures few { result < 2 ^ 31 }
+    {
+        self.game.maximises.len()
+    }
+
+    /// What each node gives, plus a cost.
+    pub fn gives(&self, alloc: Global, cost: f64) -> Result<Vec<f64>, OutOfMemory>
+        ensures { IfOk result (λ list. vec_len list ≡ nodes_in self.now) }
+    {
+        let mut list = Vec::with_capacity(alloc, self.nodes())?;
+        for node in 0..self.nodes() {
+            let row = self.row(node);
+            list.push(self.game.gives[row.choice] + cost)?;
+        }
+        Ok(list)
+    }
+
+    /// The share of probability with which each node leaves.
+    pub fn leaves(&self, alloc: Global) -> Result<Vec<f64>, OutOfMemory>
+        ensures { IfOk result (λ list. vec_len list ≡ nodes_in self.now) }
+    {
+        let mut list = Vec::with_capacity(alloc, self.nodes())?;
+        for node in 0..self.nodes() {
+            let row = self.row(node);
+            list.push(self.game.leaves[row.choice])?;
+        }
+        Ok(list)
+    }
+
+    /// The successors of a node.
+    pub fn successors(&self, node: usize) -> &[u32]
+        requires { node < nodes_in self.now }
+    {
+        let row = self.row(node);
+        if row.end < row.begin {
+            return &[];
+        }
+        &self.game.to[row.begin as usize..row.end as usize]
+    }
+
+    /// The shares of the edges of a node, in the order of its successors.
+    pub fn shares(&self, node: usize) -> &[f64]
+        requires { node < nodes_in self.now }
+    {
+        let row = self.row(node);
+        if row.end < row.begin {
+            return &[];
+        }
+        &self.game.share[row.begin as usize..row.end as usize]
+    }
+
+    /// Where the edges of a node lie.
+    fn row(&self, node: usize) -> Row
+        requires { node < nodes_in self.now }
+        ensures choice { result.choice < vec_len self.now.game.now.gives }
+        ensures end { result.end ≤ vec_len self.now.game.now.to }
+    {
+        let choice = (self.policy[node] as usize).min(self.game.gives.len() - 1);
+        Row {
+            choice,
+            begin: self.game.edge_starts[choice],
+            end: self.game.edge_starts[choice + 1],
+        }
+    }
+
+    /// One pass in place: each value becomes the node's sum, plus the values of its successors by their shares. Gives
+    /// the greatest change.
+    pub fn pass(&self, sums: &[f64], values: &mut [f64]) -> f64
+        requires sums { length sums.now ≡ nodes_in self.now }
+        requires values { length values.old ≡ nodes_in self.now }
+    {
+        let mut change = 0.0;
+        let choices = self.game.gives.len();
+        for node in 0..self.game.maximises.len() {
+            let choice = (self.policy[node] as usize).min(choices - 1);
+            let begin = self.game.edge_starts[choice];
+            let end = self.game.edge_starts[choice + 1];
+            let mut sum = sums[node];
+            for edge in begin..end {
+                sum += self.game.share[edge as usize]
+                    * values[self.game.to[edge as usize] as usize];
+            }
+            let by = (sum - values[node]).abs();
+            if by > change {
+                change = by;
+            }
+            values[node] = sum;
+        }
+        change
+    }
+
+    /// What each value misses: what its node gives and its successors have more, by their shares, less what the value
+    /// has where the node leaves. From differences it is nearly exact.
+    pub fn residuals(&self, alloc: Global, values: &[f64]) -> Result<Vec<f64>, OutOfMemory>
+        requires { length values.now ≡ nodes_in self.now }
+        ensures { IfOk result (λ list. vec_len list ≡ nodes_in self.now) }
+    {
+        let mut list = Vec::with_capacity(alloc, self.nodes())?;
+        for node in 0..self.nodes() {
+            list.push(self.residual(values, node))?;
+        }
+        Ok(list)
+    }
+
+    /// What the value of a node misses.
+    fn residual(&self, values: &[f64], node: usize) -> f64
+        requires values { length values.now ≡ nodes_in self.now }
+        requires node { node < nodes_in self.now }
+    {
+        let row = self.row(node);
+        let own = values[node];
+        let mut sum = self.game.gives[row.choice] - self.game.leaves[row.choice] * own;
+        for edge in row.begin..row.end {
+            let there = values[self.game.to[edge as usize] as usize];
+            sum += self.game.share[edge as usize] * (there - own);
+        }
+        sum
+    }
+
+    /// How far the edges lead back and forth.
+    pub fn band(&self) -> Band
+        ensures back { result.back < 2 ^ 31 }
+        ensures forth { result.forth < 2 ^ 31 }
+    {
+        let mut back: usize = 0;
+        let mut forth: usize = 0;
+        for node in 0..self.nodes() {
+            for to in self.successors(node) {
+                let to = *to as usize;
+                if to < node {
+                    back = back.max(node - to);
+                } else {
+                    forth = forth.max(to - node);
+                }
+            }
+        }
+        Band {
+            back: back.min(MOST) as u32,
+            forth: forth.min(MOST) as u32,
+        }
+    }
+}

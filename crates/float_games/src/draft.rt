@@ -1,0 +1,129 @@
+//! A game under way.
+
+ghost use Rattle.std.specs.Prelude.{◌≡◌, IfOk};
+
+use crate::game::{FloatGame, Lists, NO_MARK};
+use game_outside::OutOfMemory;
+use std::alloc::Global;
+
+/// A game under way: the nodes that have ended, the choices so far of the next one, and what the next choice has so
+/// far: the sum of its weights, of those that leave, and of these times their values.
+///
+/// The edges of a choice come first, and then its end; the choices of a node, and then its end. What leads back to its
+/// own node is left out: the rest is scaled up.
+#[derive(Drop)]
+pub struct Draft {
+    lists: Lists,
+    begin: usize,
+    total: f64,
+    left: f64,
+    given: f64,
+}
+
+impl Draft {
+    /// Nothing so far, with room for so many nodes, choices and edges. The only error of this and the other calls is
+    /// want of memory; more than 2^32 - 1 choices or edges count as that.
+    pub fn new(
+        alloc: Global,
+        nodes: usize,
+        choices: usize,
+        edges: usize,
+    ) -> Result<Draft, OutOfMemory> {
+        let mut choice_starts = Vec::with_capacity(alloc, nodes)?;
+        choice_starts.push(0)?;
+        let mut edge_starts = Vec::with_capacity(alloc, choices)?;
+        edge_starts.push(0)?;
+        Ok(Draft {
+            lists: Lists {
+                choice_starts,
+                edge_starts,
+                to: Vec::with_capacity(alloc, edges)?,
+                share: Vec::with_capacity(alloc, edges)?,
+                gives: Vec::with_capacity(alloc, choices)?,
+                leaves: Vec::with_capacity(alloc, choices)?,
+                marks: Vec::with_capacity(alloc, choices)?,
+                maximises: Vec::with_capacity(alloc, nodes)?,
+            },
+            begin: 0,
+            total: 0.0,
+            left: 0.0,
+            given: 0.0,
+        })
+    }
+
+    /// How many choices have ended: the number of the next one.
+    pub fn choices(&self) -> usize {
+        self.lists.gives.len()
+    }
+
+    /// An edge of the choice under way to a node, with its weight. Edges to the node under way are left out.
+    pub fn add_edge(&mut self, to: u32, weight: f64) -> Result<(), OutOfMemory> {
+        if to as usize == self.lists.maximises.len() {
+            return Ok(());
+        }
+        self.total += weight;
+        self.lists.to.push(to)?;
+        self.lists.share.push(weight)?;
+        Ok(())
+    }
+
+    /// What the choice under way gives where it leaves with this weight: a value in units.
+    pub fn add_exit(&mut self, weight: f64, value: f64) {
+        self.total += weight;
+        self.left += weight;
+        self.given += weight * value;
+    }
+
+    /// Ends the choice under way: weights become shares. By its mark who made the game knows it again, as by its place
+    /// among the choices of its state. One that leads nowhere but to its own node is left out; the answer is whether it
+    /// is in.
+    pub fn end_choice(&mut self, mark: u32) -> Result<bool, OutOfMemory> {
+        let total = self.total;
+        let is_in = 0.0 < total;
+        if is_in {
+            let begin = self.begin;
+            for share in self.lists.share.iter_mut().skip(begin) {
+                *share /= total;
+            }
+            self.lists.gives.push(self.given / total)?;
+            self.lists.leaves.push(self.left / total)?;
+            self.lists.marks.push(mark)?;
+            self.lists
+                .edge_starts
+                .push(number_of(self.lists.to.len())?)?;
+        }
+        self.begin = self.lists.to.len();
+        self.total = 0.0;
+        self.left = 0.0;
+        self.given = 0.0;
+        Ok(is_in)
+    }
+
+    /// Ends the node under way, which this side owns. One without a choice gets one that leaves with the value 0 and
+    /// has no mark.
+    pub fn end_node(&mut self, maximises: bool) -> Result<(), OutOfMemory> {
+        if self.lists.choice_starts.last().copied() == Some(number_of(self.choices())?) {
+            self.add_exit(1.0, 0.0);
+            let _is_in = self.end_choice(NO_MARK)?;
+        }
+        let end = number_of(self.choices())?;
+        self.lists.choice_starts.push(end)?;
+        self.lists.maximises.push(maximises)?;
+        Ok(())
+    }
+
+    /// The game of the nodes that have ended, or nothing where an edge leads to no node.
+    pub fn finish(self) -> Option<FloatGame> {
+        FloatGame::checked(self.lists)
+    }
+}
+
+/// A number that fits 32 bits.
+fn number_of(count: usize) -> Result<u32, OutOfMemory>
+    ensures { IfOk result (λ n. n ≡ count) }
+{
+    if count > 4_294_967_295 {
+        return Err(OutOfMemory {});
+    }
+    Ok(count as u32)
+}

@@ -1,0 +1,163 @@
+//! A game in flat lists.
+
+ghost use Rattle.std.specs.Prelude.{◌≡◌, ◌+◌, ◌^◌, ◌<◌, ◌≤◌, ◌↔◌, EachIndex, IfOk, IfSome, IsTrue, slice_index, vec_len};
+
+use game_outside::OutOfMemory;
+use std::alloc::Global;
+
+/// A game of nodes, choices and edges, in flat lists: the choices of a node are those from its entry in `choice_starts`
+/// up to the next one, and the edges of a choice those from its entry in `edge_starts` up to the next one. A choice
+/// gives so many units where it leaves, and leaves with this share of probability; its edges have the rest. Its mark
+/// says whose choice it is.
+#[derive(Drop)]
+pub struct FloatGame {
+    pub(crate) choice_starts: Vec<u32>,
+    pub(crate) edge_starts: Vec<u32>,
+    pub(crate) to: Vec<u32>,
+    pub(crate) share: Vec<f64>,
+    pub(crate) gives: Vec<f64>,
+    pub(crate) leaves: Vec<f64>,
+    pub(crate) marks: Vec<u32>,
+    pub(crate) maximises: Vec<bool>,
+    pub(crate) both: bool,
+    ghost few: { vec_len maximises < 2 ^ 31 },
+    ghost nodes: { vec_len choice_starts ≡ vec_len maximises + 1 },
+    ghost some: { vec_len maximises ≤ vec_len gives },
+    ghost choices: { EachIndex choice_starts.items (λ k. slice_index choice_starts.items k ≤ vec_len gives) },
+    ghost starts: { vec_len edge_starts ≡ vec_len gives + 1 },
+    ghost left: { vec_len leaves ≡ vec_len gives },
+    ghost marked: { vec_len marks ≡ vec_len gives },
+    ghost edges: { EachIndex edge_starts.items (λ k. slice_index edge_starts.items k ≤ vec_len to) },
+    ghost shares: { vec_len share ≡ vec_len to },
+    ghost inside: { EachIndex to.items (λ k. slice_index to.items k < vec_len maximises) },
+}
+
+/// The lists of a game, which need not fit each other.
+#[derive(Drop)]
+pub(crate) struct Lists {
+    pub choice_starts: Vec<u32>,
+    pub edge_starts: Vec<u32>,
+    pub to: Vec<u32>,
+    pub share: Vec<f64>,
+    pub gives: Vec<f64>,
+    pub leaves: Vec<f64>,
+    pub marks: Vec<u32>,
+    pub maximises: Vec<bool>,
+}
+
+/// The mark of a choice that has none.
+pub const NO_MARK: u32 = 4_294_967_295;
+
+/// The most nodes, and one more.
+const FEW: usize = 2_147_483_648;
+
+impl FloatGame {
+    ghost use Rattle.float_games.specs.Nodes.{nodes_of};
+
+    /// The game of these lists, if they fit each other and each index in them is in range.
+    pub(crate) fn checked(lists: Lists) -> Option<FloatGame>
+        ensures { IfSome result (λ g. nodes_of g ≡ vec_len lists.maximises) }
+    {
+        let nodes = lists.maximises.len();
+        let choices = lists.gives.len();
+        let edges = lists.to.len();
+        if nodes >= FEW
+            || choices < nodes
+            || lists.choice_starts.len().checked_sub(1) != Some(nodes)
+        {
+            return None;
+        }
+        if lists.edge_starts.len().checked_sub(1) != Some(choices) {
+            return None;
+        }
+        if lists.leaves.len() != choices || lists.marks.len() != choices {
+            return None;
+        }
+        if lists.share.len() != edges {
+            return None;
+        }
+        if !are_at_most(&lists.choice_starts, choices) || !are_at_most(&lists.edge_starts, edges) {
+            return None;
+        }
+        if !are_below(&lists.to, nodes) {
+            return None;
+        }
+        let both = has(&lists.maximises, true) && has(&lists.maximises, false);
+        Some(FloatGame {
+            choice_starts: lists.choice_starts,
+            edge_starts: lists.edge_starts,
+            to: lists.to,
+            share: lists.share,
+            gives: lists.gives,
+            leaves: lists.leaves,
+            marks: lists.marks,
+            maximises: lists.maximises,
+            both,
+        })
+    }
+
+    /// How many nodes there are.
+    pub fn nodes(&self) -> usize
+        ensures value { result ≡ nodes_of self.now }
+        ensures few { result < 2 ^ 31 }
+    {
+        self.maximises.len()
+    }
+
+    /// How many choices there are.
+    pub fn choices(&self) -> usize {
+        self.gives.len()
+    }
+
+    /// How many edges there are.
+    pub fn edges(&self) -> usize {
+        self.to.len()
+    }
+
+    /// The mark of a choice; [`NO_MARK`] where it is none of the game, or was put in for a node that had none.
+    pub fn mark(&self, choice: u32) -> u32 {
+        self.marks.get(choice as usize).copied().unwrap_or(NO_MARK)
+    }
+
+    /// Whether both sides own nodes.
+    pub fn has_both_sides(&self) -> bool {
+        self.both
+    }
+
+    /// Whether the maximiser owns a node.
+    pub fn maximises(&self, node: usize) -> bool
+        requires { node < nodes_of self.now }
+    {
+        self.maximises[node]
+    }
+
+    /// The policy of the first choices.
+    pub fn first_policy(&self, alloc: Global) -> Result<Vec<u32>, OutOfMemory>
+        ensures { IfOk result (λ p. vec_len p ≡ nodes_of self.now) }
+    {
+        let mut policy = Vec::with_capacity(alloc, self.maximises.len())?;
+        for node in 0..self.maximises.len() {
+            policy.push(self.choice_starts[node])?;
+        }
+        Ok(policy)
+    }
+}
+
+/// Whether some entry is this one.
+fn has(entries: &[bool], wanted: bool) -> bool {
+    entries.iter().any(|entry| *entry == wanted)
+}
+
+/// Whether each entry is at most this bound.
+fn are_at_most(entries: &[u32], bound: usize) -> bool
+    ensures { IsTrue result ↔ EachIndex entries.now (λ k. slice_index entries.now k ≤ bound) }
+{
+    entries.iter().all(|entry| *entry as usize <= bound)
+}
+
+/// Whether each entry is below this bound.
+fn are_below(entries: &[u32], bound: usize) -> bool
+    ensures { IsTrue result ↔ EachIndex entries.now (λ k. slice_index entries.now k < bound) }
+{
+    entries.iter().all(|entry| (*entry as usize) < bound)
+}

@@ -1,0 +1,101 @@
+//! Sweeps of rounded steps over whole units.
+
+ghost use Rattle.std.specs.Prelude.{◌≡◌, ◌<◌, length, vec_len};
+
+use crate::UNIT;
+use crate::game::FloatGame;
+
+/// Which bound a table is.
+#[derive(Clone, Copy, Debug, PartialEq, Eq)]
+pub enum Bound {
+    /// The lower one: an entry is at most what the maximiser's choice and each of the minimiser's give.
+    Lower,
+    /// The upper one: an entry is at least what the minimiser's choice and each of the maximiser's give.
+    Upper,
+}
+
+/// What a sweep of rounded steps did: how many values it changed, and how many choices it looked at.
+#[derive(Clone, Copy, Debug, PartialEq, Eq)]
+pub struct Rounded {
+    /// How many values changed.
+    pub changed: usize,
+    /// How many choices were looked at.
+    pub looked: u64,
+}
+
+/// What sums of differences may be off by: values are whole units.
+const OFF: f64 = 0.3;
+
+/// 2^52 and half of it: behind a sum with it a float below 2^51 in size has no fraction.
+const SHIFT: f64 = 6_755_399_441_055_744.0;
+
+/// The greatest whole number that is not above a float below 2^51 in size.
+pub fn floor_of(x: f64) -> f64 {
+    let whole = (x + SHIFT) - SHIFT;
+    if whole > x { whole - 1.0 } else { whole }
+}
+
+/// The least whole number that is not below a float below 2^51 in size.
+pub fn ceil_of(x: f64) -> f64 {
+    let whole = (x + SHIFT) - SHIFT;
+    if whole < x { whole + 1.0 } else { whole }
+}
+
+impl FloatGame {
+    ghost use Rattle.float_games.specs.Nodes.{nodes_of};
+
+    /// One sweep in place over whole units: each entry that is on the wrong side of what a choice gives moves there, a
+    /// lower one down and an upper one up, over the policy's choice at nodes of the side that plays it, and over each
+    /// choice of the other side.
+    pub fn sweep_rounded(&self, bound: Bound, values: &mut [f64], policy: &[u32]) -> Rounded
+        requires values { length values.old ≡ nodes_of self.now }
+        requires policy { length policy.now ≡ nodes_of self.now }
+    {
+        let lower = bound == Bound::Lower;
+        let choices = self.gives.len();
+        let mut changed: usize = 0;
+        let mut looked: u64 = 0;
+        for node in 0..self.maximises.len() {
+            let is_planned = self.maximises[node] == lower;
+            let own = values[node];
+            let planned = (policy[node] as usize).min(choices - 1);
+            let first = if is_planned {
+                planned
+            } else {
+                self.choice_starts[node] as usize
+            };
+            let end = if is_planned {
+                planned + 1
+            } else {
+                self.choice_starts[node + 1] as usize
+            };
+            let mut worst = 0.0;
+            for choice in first..end {
+                let begin = self.edge_starts[choice];
+                let stop = self.edge_starts[choice + 1];
+                let mut sum = self.gives[choice] - self.leaves[choice] * own;
+                for edge in begin..stop {
+                    let there = values[self.to[edge as usize] as usize];
+                    sum += self.share[edge as usize] * (there - own);
+                }
+                if lower {
+                    if sum < worst {
+                        worst = sum;
+                    }
+                } else if sum > worst {
+                    worst = sum;
+                }
+                looked = looked.wrapping_add(1);
+            }
+            if lower && worst < -OFF {
+                values[node] = (own + floor_of(worst + OFF)).max(0.0);
+                changed = changed.wrapping_add(1);
+            }
+            if !lower && worst > OFF {
+                values[node] = (own + ceil_of(worst - OFF)).min(UNIT);
+                changed = changed.wrapping_add(1);
+            }
+        }
+        Rounded { changed, looked }
+    }
+}

@@ -1,0 +1,51 @@
+//! The steps, one after another.
+
+ghost use Rattle.std.specs.Prelude.{◌≡◌, length};
+ghost use Rattle.float_games.specs.Nodes.{nodes_in};
+
+use crate::vectors::{add_scaled, copy};
+use crate::work::Work;
+use float_games::Chain;
+use game_outside::OutOfMemory;
+use std::alloc::Global;
+
+/// How many steps pass between two looks at what is kept as the best so far.
+const LOOK: u32 = 20;
+
+/// How much more than at first a pass may change before the steps count as astray.
+const ASTRAY: f64 = 1_000_000.0;
+
+/// Brings values nearer to those of a chain, by at most so many steps, until a pass changes none by more than is
+/// enough: each value is then about the sum of its node, plus the values of its successors by their shares. Gives what
+/// a pass still changes. The only error is want of memory.
+pub fn approach(
+    alloc: Global,
+    chain: &Chain,
+    sums: &[f64],
+    values: &mut [f64],
+    enough: f64,
+    most: u32,
+) -> Result<f64, OutOfMemory>
+    requires sums { length sums.now ≡ nodes_in chain.now }
+    requires values { length values.old ≡ nodes_in chain.now }
+{
+    let mut work = Work::begin(alloc, chain, sums, values)?;
+    let first = work.left;
+    let mut best = vec![in alloc; 0.0; chain.nodes()]?;
+    let mut least = first;
+    for count in 1..most.saturating_add(1) {
+        if work.left <= enough || !work.step(chain, first * ASTRAY) {
+            break;
+        }
+        if count % LOOK == 0 && work.left < least {
+            least = work.left;
+            copy(&mut best, &work.found);
+        }
+    }
+    if work.left <= first {
+        add_scaled(values, 1.0, &work.found);
+        return Ok(work.left);
+    }
+    add_scaled(values, 1.0, &best);
+    Ok(least)
+}

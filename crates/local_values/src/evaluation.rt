@@ -1,0 +1,133 @@
+//! The values of a policy.
+
+ghost use Rattle.std.specs.Prelude.{◌≡◌, IfOk, IfSome, length, vec_len};
+ghost use Rattle.float_games.specs.Nodes.{nodes_of, nodes_in};
+
+use crate::limits::{ENOUGH, is_narrow, products_of};
+use band_elimination::Factors;
+use float_games::{Chain, FloatGame, bounded};
+use game_outside::OutOfMemory;
+use krylov_steps::approach;
+use std::alloc::Global;
+
+/// What a sweep may still change after an elimination.
+const LEFT: f64 = 0.1;
+
+/// The most steps in a Krylov space.
+const STEPS: u32 = 400;
+
+/// The most products of an elimination that only refines.
+const REFINED: f64 = 30_000_000.0;
+
+/// Expected moves are near enough where a pass changes them by less than this.
+const MOVES: f64 = 0.1;
+
+/// Brings values to those of a policy, where each move costs so much. Gives about how much a sweep still changes.
+pub fn evaluate(
+    alloc: Global,
+    game: &FloatGame,
+    cost: f64,
+    policy: &[u32],
+    values: &mut [f64],
+) -> Result<f64, OutOfMemory>
+    requires policy { length policy.now ≡ nodes_of game.now }
+    requires values { length values.old ≡ nodes_of game.now }
+{
+    let chain = Chain::of_policy(game, policy);
+    let band = chain.band();
+    let mut sums = chain.gives(alloc, cost)?;
+    let mut left = LEFT;
+    if is_narrow(chain.nodes(), band) {
+        let factors = Factors::of_chain(alloc, &chain, band)?;
+        factors.solve(&mut sums);
+        replace(values, &sums);
+    } else {
+        let change = chain.pass(&sums, values);
+        let enough = ENOUGH.max(change * 0.0001);
+        left = approach(alloc, &chain, &sums, values, enough, STEPS)?;
+        bound(values);
+    }
+    Ok(left)
+}
+
+/// Adds to values of a policy what they miss, where an elimination takes little. What they miss is found from
+/// differences, which are nearly exact. The only error is want of memory.
+pub fn refine(
+    alloc: Global,
+    game: &FloatGame,
+    policy: &[u32],
+    values: &mut [f64],
+) -> Result<(), OutOfMemory>
+    requires policy { length policy.now ≡ nodes_of game.now }
+    requires values { length values.old ≡ nodes_of game.now }
+{
+    let chain = Chain::of_policy(game, policy);
+    let band = chain.band();
+    if products_of(chain.nodes(), band) > REFINED || !is_narrow(chain.nodes(), band) {
+        return Ok(());
+    }
+    let mut missed = chain.residuals(alloc, values)?;
+    let factors = Factors::of_chain(alloc, &chain, band)?;
+    factors.solve(&mut missed);
+    for (value, more) in values.iter_mut().zip(&missed) {
+        *value = bounded(*value + *more);
+    }
+    Ok(())
+}
+
+/// For each node how many moves a policy is expected to make before it leaves, or nothing where this is not found. Ten
+/// per cent off is near enough. The only error is want of memory.
+pub fn expected_moves(
+    alloc: Global,
+    game: &FloatGame,
+    policy: &[u32],
+) -> Result<Option<Vec<f64>>, OutOfMemory>
+    requires { length policy.now ≡ nodes_of game.now }
+    ensures { IfOk result (λ found. IfSome found (λ moves. vec_len moves ≡ nodes_of game.now)) }
+{
+    let chain = Chain::of_policy(game, policy);
+    let ones = vec![in alloc; 1.0; chain.nodes()]?;
+    let mut moves = vec![in alloc; 0.0; chain.nodes()]?;
+    if is_passed(&chain, &ones, &mut moves) {
+        return Ok(Some(moves));
+    }
+    let band = chain.band();
+    if is_narrow(chain.nodes(), band) {
+        let factors = Factors::of_chain(alloc, &chain, band)?;
+        let mut found = ones;
+        factors.solve(&mut found);
+        return Ok(Some(found));
+    }
+    let left = approach(alloc, &chain, &ones, &mut moves, MOVES, STEPS)?;
+    if left < 3.0 * MOVES {
+        return Ok(Some(moves));
+    }
+    Ok(None)
+}
+
+/// Whether a few passes are enough.
+fn is_passed(chain: &Chain, sums: &[f64], values: &mut [f64]) -> bool
+    requires sums { length sums.now ≡ nodes_in chain.now }
+    requires values { length values.old ≡ nodes_in chain.now }
+{
+    for _ in 0..30 {
+        if chain.pass(sums, values) < MOVES {
+            return true;
+        }
+    }
+    false
+}
+
+/// Each value becomes another one, from 0 to the unit.
+fn replace(values: &mut [f64], others: &[f64]) {
+    for (value, other) in values.iter_mut().zip(others) {
+        *value = bounded(*other);
+    }
+}
+
+/// Each value becomes the nearest one from 0 to the unit.
+fn bound(values: &mut [f64]) {
+    for value in values {
+        *value = bounded(*value);
+    }
+}

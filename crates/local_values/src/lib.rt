@@ -1,0 +1,23 @@
+//! Values and a policy of a local game, found in floating point: sweeps while these come near fast, and then strategy
+//! iteration (Hoffman and Karp, On nonterminating stochastic games, 1966; Condon, The complexity of stochastic games,
+//! 1992) with sweeps between the evaluations of policies.
+//!
+//! [`solve`] finds both, from values and a policy to begin with. The policy of the maximiser is exchanged for gains
+//! alone. So where it leaves for sure at first, it goes on to do so: in a closed set gains are 0 on average. The
+//! minimiser's replies are found before the maximiser's choices are exchanged.
+//!
+//! [`refine`] makes values of a policy nearer once more, from what they miss, and [`expected_moves`] says how many
+//! moves a policy makes before it leaves.
+//!
+//! A policy is evaluated by elimination where its band is narrow, and else by steps in a Krylov space. Nothing is
+//! promised of values: who hands them on tests what they are for. Each loop has its count.
+#![tactic(auto)]
+
+mod evaluation;
+mod iteration;
+mod limits;
+mod pace;
+mod solving;
+
+pub use evaluation::{expected_moves, refine};
+pub use solving::solve;

@@ -1,0 +1,27 @@
+//! When values are near enough, and how much work is spent.
+
+use float_games::Band;
+use std::num::nearest_usize_to_f64;
+
+/// Values are near enough where a sweep changes none by more: floats of this size are an eighth of a unit apart.
+pub const ENOUGH: f64 = 0.3;
+
+/// A policy is exchanged in sweeps for a gain of more than this.
+pub const GAIN: f64 = 0.25;
+
+/// The most products of an elimination.
+const MOST_PRODUCTS: f64 = 300_000_000.0;
+
+/// The most cells of a band.
+const MOST_CELLS: f64 = 30_000_000.0;
+
+/// How many products the elimination of a chain of so many nodes takes in a band.
+pub fn products_of(nodes: usize, band: Band) -> f64 {
+    nearest_usize_to_f64(nodes) * (f64::from(band.back) + 1.0) * (f64::from(band.forth) + 1.0)
+}
+
+/// Whether a band is narrow enough for an elimination.
+pub fn is_narrow(nodes: usize, band: Band) -> bool {
+    let width = f64::from(band.back) + f64::from(band.forth) + 1.0;
+    products_of(nodes, band) <= MOST_PRODUCTS && nearest_usize_to_f64(nodes) * width <= MOST_CELLS
+}

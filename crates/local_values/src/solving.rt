@@ -1,0 +1,90 @@
+//! Sweeps first, then strategy iteration.
+
+ghost use Rattle.std.specs.Prelude.{◌≡◌, length};
+ghost use Rattle.float_games.specs.Nodes.{nodes_of};
+
+use crate::iteration::iterate;
+use crate::limits::{ENOUGH, GAIN};
+use crate::pace::Pace;
+use float_games::FloatGame;
+use game_outside::OutOfMemory;
+use std::alloc::Global;
+
+/// The most rounds of sweeps.
+const ROUNDS: u32 = 200;
+
+/// How many sweeps of a policy a round has at most.
+const SWEEPS: u32 = 8;
+
+/// What the last sweeps may change where values count as found.
+const FOUND: f64 = 64.0;
+
+/// Brings values and a policy near those of the game where each move costs so many units: for lower values the policy
+/// of the maximiser should leave for sure, and values be low. True where a sweep changes little in the end. The only
+/// error is want of memory.
+pub fn solve(
+    alloc: Global,
+    game: &FloatGame,
+    cost: f64,
+    values: &mut [f64],
+    policy: &mut [u32],
+) -> Result<bool, OutOfMemory>
+    requires values { length values.old ≡ nodes_of game.now }
+    requires policy { length policy.old ≡ nodes_of game.now }
+{
+    if is_swept(game, cost, values, policy) {
+        return Ok(true);
+    }
+    let _swept = game.sweep(cost, GAIN, values, policy);
+    let is_found = iterate(alloc, game, cost, values, policy)?;
+    let mut other = policy.to_vec(alloc)?;
+    Ok(last_change(game, cost, values, &mut other) <= FOUND && is_found)
+}
+
+/// Sweeps while these come near fast. True where one changes little in the end.
+fn is_swept(game: &FloatGame, cost: f64, values: &mut [f64], policy: &mut [u32]) -> bool
+    requires values { length values.old ≡ nodes_of game.now }
+    requires policy { length policy.old ≡ nodes_of game.now }
+{
+    for round in 0..ROUNDS {
+        if game.sweep(cost, GAIN, values, policy).change <= ENOUGH {
+            return true;
+        }
+        let pace = follow(game, cost, values, policy);
+        if round > 0 && !pace.is_done() && pace.is_slow() {
+            return false;
+        }
+    }
+    false
+}
+
+/// Sweeps of a policy.
+fn follow(game: &FloatGame, cost: f64, values: &mut [f64], policy: &[u32]) -> Pace
+    requires values { length values.old ≡ nodes_of game.now }
+    requires policy { length policy.now ≡ nodes_of game.now }
+{
+    let first = game.sweep_policy(cost, values, policy);
+    let mut last = first;
+    for _ in 1..SWEEPS {
+        if last <= ENOUGH {
+            break;
+        }
+        last = game.sweep_policy(cost, values, policy);
+    }
+    Pace { first, last }
+}
+
+/// Sweeps until one changes little, at most eight. Gives what the last one changed.
+fn last_change(game: &FloatGame, cost: f64, values: &mut [f64], policy: &mut [u32]) -> f64
+    requires values { length values.old ≡ nodes_of game.now }
+    requires policy { length policy.old ≡ nodes_of game.now }
+{
+    let mut change = f64::MAX;
+    for _ in 0..SWEEPS {
+        change = game.sweep(cost, GAIN, values, policy).change;
+        if change <= ENOUGH {
+            break;
+        }
+    }
+    change
+}

@@ -1,0 +1,16 @@
+-- Where no formula inside is undecided, what surely holds is what holds in the truth.
+use Rattle.std.proofs.Common.{◌≡◌, ℕ}
+use Rattle.game_model.specs.Game.{IsGame}
+use Rattle.rpatl_syntax.specs.Formula.{State}
+use Rattle.rpatl_syntax.specs.Spellable.{HasParts}
+use Rattle.formula_sets.specs.Posing.{Model}
+use Rattle.nested_truth.specs.Truth.{Valuation, IsTruth, states, holds}
+use Rattle.nested_truth.specs.Bands.{Bands, known, exactly, undecided_in}
+use Rattle.nested_truth.specs.Runs.{AreFound}
+use Rattle.nested_truth.specs.Seen.{AreAlike}
+use Rattle.nested_truth.proofs.Around.{around}
+use Rattle.nested_truth.proofs.Exactly.{known-exactly, settled}
+
+pub decided-truth : (m : Model) → IsGame m.game → (truth : Valuation) → IsTruth m truth → (asked : ℕ) (x : State) (found : Bands x) → HasParts x → AreFound m asked x found → undecided_in x found (states m) ≡ 0
+    → AreAlike (states m) (known m.labels x found) (exactly (holds m.labels truth x))
+decided-truth m game truth is asked x found parts h none = known-exactly m (holds m.labels truth x) (known m.labels x found) (around m game truth is asked x found parts h) (settled m x found parts none)

@@ -1,0 +1,181 @@
+//! The bounds of a question, component by component.
+
+ghost use Rattle.std.specs.Prelude.{◌≡◌, ◌+◌, ◌<◌, IfOk, length};
+ghost use Rattle.game_model.specs.Query.{states};
+ghost use Rattle.predecessors.specs.Lists.{ArePredecessors};
+
+use crate::approach::Approach;
+use crate::frame::{Frame, is_open};
+use crate::groups::{end_components, open_components};
+use crate::lower::lower_component;
+use crate::replies::improve_replies;
+use crate::upper::upper_component;
+use almost_sure::almost_sure_over;
+use float_games::UNIT;
+use game_model::{Marks, Question};
+use game_outside::OutOfMemory;
+use predecessors::Predecessors;
+use solved_plans::Candidates;
+use std::alloc::Global;
+use std::num::nearest_u64_to_f64;
+use table_rounding::UnitTable;
+use zero_sets::zero_set_over;
+
+/// The most times that upper tables are found, each over better replies.
+const TURNS: u32 = 6;
+
+/// What a solver takes for lower and upper bounds of a question, over the predecessors in its game. Values to begin
+/// with, one for each state, are hints alone: upper values begin with them. The only error is want of memory.
+pub fn find_bounds(
+    alloc: Global,
+    question: &Question,
+    predecessors: &Predecessors,
+    hints: Option<&[f64]>,
+) -> Result<Candidates, OutOfMemory>
+    requires { ArePredecessors question.now.game predecessors.now }
+{
+    question.known();
+    let sure = almost_sure_over(alloc, question, predecessors)?;
+    let zero = zero_set_over(alloc, question, predecessors)?;
+    let approach = Approach::of_question(alloc, question, predecessors)?;
+    let components = open_components(alloc, question, &sure, &zero, &approach.order)?;
+    let frame = Frame {
+        question,
+        predecessors,
+        components: &components,
+        sure: &sure,
+        zero: &zero,
+    };
+    let states = question.game().states() as usize;
+    let mut replies = vec![in alloc; 0u32; states]?;
+    let lower = lower_table(alloc, &frame, &approach.toward, &mut replies)?;
+    let start = first_values(alloc, &lower, hints)?;
+    let upper = upper_table(alloc, &frame, &approach.order, &start, &mut replies)?;
+    Ok(Candidates {
+        lower: lower.into_entries(),
+        upper: upper.into_entries(),
+    })
+}
+
+/// The unit where the value is 1, else 0.
+fn known_table(alloc: Global, question: &Question, sure: &Marks) -> Result<UnitTable, OutOfMemory>
+    requires { length sure.now ≡ states question.now }
+    ensures { IfOk result (λ t. length t ≡ states question.now) }
+{
+    let mut table = UnitTable::zeros(alloc, question.game().states())?;
+    for state in 0..question.game().states() {
+        if sure.has(state) {
+            table.set(state, u64::MAX);
+        }
+    }
+    Ok(table)
+}
+
+/// The lower table, and the minimiser's best replies to it.
+fn lower_table(
+    alloc: Global,
+    frame: &Frame<'_, '_>,
+    toward: &[u32],
+    replies: &mut [u32],
+) -> Result<UnitTable, OutOfMemory>
+    requires { length replies.old ≡ states frame.now.question.now }
+    ensures table { IfOk result (λ t. length t ≡ states frame.now.question.now) }
+    ensures replies { length replies.new ≡ length replies.old }
+{
+    let mut table = known_table(alloc, frame.question, frame.sure)?;
+    let mut planned = vec![in alloc; 0u32; frame.question.game().states() as usize]?;
+    for component in 0..frame.components.count() {
+        if is_open_component(frame, component) {
+            lower_component(
+                alloc,
+                frame,
+                component,
+                toward,
+                &mut table,
+                &mut planned,
+                replies,
+            )?;
+        }
+    }
+    Ok(table)
+}
+
+/// The upper table: over the replies, and once more while these can be improved.
+fn upper_table(
+    alloc: Global,
+    frame: &Frame<'_, '_>,
+    order: &[u32],
+    start: &[f64],
+    replies: &mut [u32],
+) -> Result<UnitTable, OutOfMemory>
+    requires { length replies.old ≡ states frame.now.question.now }
+    ensures { IfOk result (λ t. length t ≡ states frame.now.question.now) }
+{
+    let mut table = known_table(alloc, frame.question, frame.sure)?;
+    for _ in 0..TURNS {
+        upper_turn(alloc, frame, order, start, &mut table, replies)?;
+        if !improve_replies(frame, &table, replies) {
+            break;
+        }
+    }
+    Ok(table)
+}
+
+/// Upper entries of all components, over these replies.
+fn upper_turn(
+    alloc: Global,
+    frame: &Frame<'_, '_>,
+    order: &[u32],
+    start: &[f64],
+    table: &mut UnitTable,
+    replies: &mut [u32],
+) -> Result<(), OutOfMemory>
+    requires table { length table.old ≡ states frame.now.question.now }
+    requires replies { length replies.old ≡ states frame.now.question.now }
+    ensures table { length table.new ≡ length table.old }
+    ensures replies { length replies.new ≡ length replies.old }
+{
+    let groups = end_components(
+        alloc,
+        frame.question,
+        frame.sure,
+        frame.zero,
+        replies,
+        order,
+    )?;
+    for component in 0..frame.components.count() {
+        if is_open_component(frame, component) {
+            upper_component(alloc, frame, component, &groups, start, table, replies)?;
+        }
+    }
+    Ok(())
+}
+
+/// Whether the states of a component have values that are neither 1 nor 0.
+fn is_open_component(frame: &Frame<'_, '_>, component: u32) -> bool
+    requires { component + 1 < length frame.now.components.now.starts }
+{
+    match frame.components.members(component).first().copied() {
+        Some(state) => state < frame.question.game().states()
+            && is_open(frame.sure, frame.zero, state),
+        None => false,
+    }
+}
+
+/// The values with which upper ones begin, in units: the hints, or else the lower entries.
+fn first_values(
+    alloc: Global,
+    lower: &UnitTable,
+    hints: Option<&[f64]>,
+) -> Result<Vec<f64>, OutOfMemory> {
+    let mut values = Vec::with_capacity(alloc, lower.entries().len())?;
+    for (place, entry) in lower.entries().iter().enumerate() {
+        let below = nearest_u64_to_f64(*entry);
+        let hint = hints.and_then(|list| list.get(place).copied());
+        values.push(match hint {
+            Some(value) if value * UNIT > below => (value * UNIT).min(UNIT),
+            _ => below,
+        })?;
+    }
+    Ok(values)
+}

@@ -1,0 +1,36 @@
+//! What stays the same from component to component.
+
+ghost use Rattle.std.specs.Prelude.{◌≡◌, ◌<◌, length};
+ghost use Rattle.game_model.specs.Query.{states};
+ghost use Rattle.play_components.specs.Division.{states_of};
+
+use game_model::{Marks, Question};
+use play_components::Components;
+use predecessors::Predecessors;
+
+/// A question with its components.
+#[derive(Drop)]
+pub struct Frame<'a, 'q> {
+    /// The question.
+    pub question: &'a Question<'q>,
+    /// The predecessors in its game.
+    pub predecessors: &'a Predecessors,
+    /// The components of the states whose value is neither 1 nor 0; each other state is one of its own.
+    pub components: &'a Components,
+    /// The states of value 1.
+    pub sure: &'a Marks,
+    /// The states of value 0.
+    pub zero: &'a Marks,
+    ghost predecessors_all: { length predecessors.now ≡ states question.now },
+    ghost components_all: { states_of components.now ≡ states question.now },
+    ghost sure_all: { length sure.now ≡ states question.now },
+    ghost zero_all: { length zero.now ≡ states question.now },
+}
+
+/// Whether the value of a state is neither 1 nor 0.
+pub fn is_open(sure: &Marks, zero: &Marks, state: u32) -> bool
+    requires sure { state < length sure.now }
+    requires zero { state < length zero.now }
+{
+    !sure.has(state) && !zero.has(state)
+}

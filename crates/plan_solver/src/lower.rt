@@ -1,0 +1,176 @@
+//! Lower tables of components.
+
+ghost use Rattle.std.specs.Prelude.{◌≡◌, ◌+◌, ◌<◌, length};
+ghost use Rattle.game_model.specs.Game.{choices_of};
+ghost use Rattle.game_model.specs.Query.{states};
+
+use crate::frame::Frame;
+use crate::weights::float_of;
+use float_games::{Bound, Draft, FloatGame};
+use game_model::Side;
+use game_outside::OutOfMemory;
+use local_values::{refine, solve};
+use std::alloc::Global;
+use std::num::nearest_u64_to_f64;
+use table_rounding::{Setting, UnitTable, round_component, single_entry};
+
+/// The local game of a component, and a policy to begin with.
+#[derive(Drop)]
+struct Local {
+    game: FloatGame,
+    policy: Vec<u32>,
+}
+
+/// Finds lower entries for the states of a component, the choices of the maximiser that they go by, and the minimiser's
+/// best replies. Values begin at 0, and the maximiser's choices with those that lead toward a goal, so that no value is
+/// kept up by play that stays for ever.
+pub fn lower_component(
+    alloc: Global,
+    frame: &Frame<'_, '_>,
+    component: u32,
+    toward: &[u32],
+    lower: &mut UnitTable,
+    planned: &mut [u32],
+    replies: &mut [u32],
+) -> Result<(), OutOfMemory>
+    requires counted { component + 1 < length frame.now.components.now.starts }
+    requires lower { length lower.old ≡ states frame.now.question.now }
+    requires planned { length planned.old ≡ states frame.now.question.now }
+    ensures lower { length lower.new ≡ length lower.old }
+    ensures planned { length planned.new ≡ length planned.old }
+    ensures replies { length replies.new ≡ length replies.old }
+{
+    let members = frame.components.members(component);
+    if members.len() == 1 {
+        let state = members[0];
+        let entry = single_entry(frame.question, lower, Bound::Lower, state);
+        lower.set(state, entry.value);
+        note(planned, state, entry.choice);
+        note(replies, state, entry.choice);
+        return Ok(());
+    }
+    let Some(local) = local_game(alloc, frame, component, toward, lower)? else {
+        return Ok(());
+    };
+    let game = local.game;
+    let mut policy = local.policy;
+    if policy.len() != game.nodes() {
+        return Ok(());
+    }
+    let mut values = vec![in alloc; 0.0; game.nodes()]?;
+    let _is_found = solve(alloc, &game, 0.0, &mut values, &mut policy)?;
+    refine(alloc, &game, &policy, &mut values)?;
+    for (place, state) in members.iter().enumerate() {
+        if let Some(choice) = policy.get(place) {
+            note(replies, *state, game.mark(*choice));
+        }
+    }
+    let nodes = numbers(alloc, members.len())?;
+    let setting = Setting {
+        question: frame.question,
+        predecessors: frame.predecessors,
+        components: frame.components,
+        component,
+        game: &game,
+        nodes: &nodes,
+        bound: Bound::Lower,
+    };
+    let _is_held = round_component(alloc, &setting, &values, &policy, planned, lower)?;
+    Ok(())
+}
+
+/// Notes a choice of a state.
+pub fn note(choices: &mut [u32], state: u32, choice: u32)
+    ensures { length choices.new ≡ length choices.old }
+{
+    if let Some(entry) = choices.get_mut(state as usize) {
+        *entry = choice;
+    }
+}
+
+/// The numbers below this one.
+fn numbers(alloc: Global, end: usize) -> Result<Vec<u32>, OutOfMemory> {
+    let mut list = Vec::with_capacity(alloc, end)?;
+    for number in 0..end {
+        list.push(u32::try_from(number).unwrap_or(u32::MAX))?;
+    }
+    Ok(list)
+}
+
+/// The local game: a node for each member, and what leaves gives what the table says.
+fn local_game(
+    alloc: Global,
+    frame: &Frame<'_, '_>,
+    component: u32,
+    toward: &[u32],
+    lower: &UnitTable,
+) -> Result<Option<Local>, OutOfMemory>
+    requires counted { component + 1 < length frame.now.components.now.starts }
+    requires lower { length lower.now ≡ states frame.now.question.now }
+{
+    let members = frame.components.members(component);
+    let mut draft = Draft::new(alloc, members.len(), members.len(), members.len())?;
+    let mut policy = Vec::with_capacity(alloc, members.len())?;
+    for state in members {
+        let first = add_state(frame, component, toward, lower, *state, &mut draft)?;
+        policy.push(first)?;
+    }
+    match draft.finish() {
+        Some(game) => Ok(Some(Local { game, policy })),
+        None => Ok(None),
+    }
+}
+
+/// Adds the node of a state. Gives the choice to begin with.
+fn add_state(
+    frame: &Frame<'_, '_>,
+    component: u32,
+    toward: &[u32],
+    lower: &UnitTable,
+    state: u32,
+    draft: &mut Draft,
+) -> Result<u32, OutOfMemory>
+    requires state { state < states frame.now.question.now }
+    requires lower { length lower.now ≡ states frame.now.question.now }
+{
+    let side = frame.question.side(state);
+    let wanted = toward.get(state as usize).copied();
+    let mut first = u32::try_from(draft.choices()).unwrap_or(0);
+    for choice in 0..frame.question.game().choices_of(state) {
+        add_edges(frame, component, lower, state, choice, draft)?;
+        let number = u32::try_from(draft.choices()).unwrap_or(0);
+        let is_in = draft.end_choice(choice)?;
+        if is_in && side == Side::Max && wanted == Some(choice) {
+            first = number;
+        }
+    }
+    draft.end_node(side == Side::Max)?;
+    Ok(first)
+}
+
+/// Adds the edges of a choice.
+fn add_edges(
+    frame: &Frame<'_, '_>,
+    component: u32,
+    lower: &UnitTable,
+    state: u32,
+    choice: u32,
+    draft: &mut Draft,
+) -> Result<(), OutOfMemory>
+    requires state { state < states frame.now.question.now }
+    requires choice { choice < length (choices_of frame.now.question.now.game state) }
+    requires lower { length lower.now ≡ states frame.now.question.now }
+{
+    frame.question.known();
+    let game = frame.question.game();
+    for place in 0..game.edge_count(state, choice) {
+        let edge = game.edge(state, choice, place);
+        let weight = float_of(edge.weight);
+        if frame.components.component_of(edge.to) == component {
+            draft.add_edge(frame.components.place_of(edge.to), weight)?;
+        } else {
+            draft.add_exit(weight, nearest_u64_to_f64(lower.get(edge.to)));
+        }
+    }
+    Ok(())
+}

@@ -1,0 +1,17 @@
+//! Numbers in floating point.
+
+use std::num::nearest_u64_to_f64;
+
+/// Two to the 64th.
+const HIGH: u128 = 18_446_744_073_709_551_616;
+
+/// A weight, as near as floats are.
+pub fn float_of(weight: u128) -> f64 {
+    let low = u64::try_from(weight % HIGH).unwrap_or(u64::MAX);
+    let high = u64::try_from(weight / HIGH).unwrap_or(u64::MAX);
+    if high == 0 {
+        nearest_u64_to_f64(low)
+    } else {
+        nearest_u64_to_f64(high) * 18_446_744_073_709_551_616.0 + nearest_u64_to_f64(low)
+    }
+}

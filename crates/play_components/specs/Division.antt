@@ -1,0 +1,52 @@
+-- The states of a question, divided into components.
+use Rattle.std.specs.Prelude.{◌≡◌, ℕ, ◌+◌, ◌^◌, ◌<◌, ◌≤◌, List, length, slice_index, slice_range}
+
+-- for each state the number of its component; the states, component after component; where each component begins among
+-- them, and last where they end; and where each state stands
+pub record Division : Type 0 where
+  pub component : List ℕ
+  pub members : List ℕ
+  pub starts : List ℕ
+  pub places : List ℕ
+
+-- how many states are divided
+abbrev pub states_of : Division → ℕ
+states_of d = length d.component
+
+-- where a component begins, and where it ends
+abbrev pub begin : Division → ℕ → ℕ
+begin d c = slice_index d.starts c
+
+abbrev pub end : Division → ℕ → ℕ
+end d c = slice_index d.starts (c + 1)
+
+-- the states of a component
+abbrev pub members_of : Division → ℕ → List ℕ
+members_of d c = slice_range d.members (begin d c) (end d c)
+
+-- a state stands in its component
+pub record Stands (d : Division) (s : ℕ) : Type 0 where
+  pub counted : slice_index d.component s + 1 < length d.starts
+  pub from : begin d (slice_index d.component s) ≤ slice_index d.places s
+  pub below : slice_index d.places s < end d (slice_index d.component s)
+  pub there : slice_index d.members (slice_index d.places s) ≡ s
+
+-- what stands at a place of a component is a state of it, and stands nowhere else
+pub record IsMember (d : Division) (c place : ℕ) : Type 0 where
+  pub state : slice_index d.members place < states_of d
+  pub own : slice_index d.component (slice_index d.members place) ≡ c
+  pub only : slice_index d.places (slice_index d.members place) ≡ place
+
+-- a component lies among the states, and each of its places has a member
+pub record IsComponent (d : Division) (c : ℕ) : Type 0 where
+  pub rising : begin d c ≤ end d c
+  pub inside : end d c ≤ length d.members
+  pub members : (place : ℕ) → begin d c ≤ place → place < end d c → IsMember d c place
+
+-- each state stands in exactly one component, and once
+pub record IsPartition (d : Division) : Type 0 where
+  pub some : 0 < length d.starts
+  pub few : length d.starts < 2 ^ 32
+  pub places : length d.places ≡ states_of d
+  pub states : (s : ℕ) → s < states_of d → Stands d s
+  pub components : (c : ℕ) → c + 1 < length d.starts → IsComponent d c

@@ -1,0 +1,237 @@
+//! Tarjan's search, without recursion.
+
+ghost use Rattle.std.specs.Prelude.{◌≡◌, ◌<◌, IfOk, EachIndex, length, slice_index, vec_len};
+ghost use Rattle.game_model.specs.Game.{choices_of};
+ghost use Rattle.game_model.specs.Query.{states};
+
+use crate::keeps::Keeps;
+use game_model::Question;
+use game_outside::OutOfMemory;
+use std::alloc::Global;
+
+/// The component of a state that has none yet.
+pub const NONE: u32 = 4_294_967_295;
+
+/// What a search knows of a state: its number, by the order in which states were met, which is 0 until it was; the
+/// least number of a state without a component that it is known to lead to; and the next edge to follow.
+#[derive(Clone, Copy)]
+struct Seen {
+    number: u32,
+    low: u32,
+    choice: u32,
+    place: u32,
+}
+
+/// A search under way: how many states it has met, and how many components it has closed; the path to the state at
+/// hand; and the states that were met and have no component yet.
+#[derive(Drop)]
+pub struct Search {
+    pub states: u32,
+    met: u32,
+    pub count: u32,
+    seen: Vec<Seen>,
+    pub component: Vec<u32>,
+    path: Vec<u32>,
+    waiting: Vec<u32>,
+    ghost all_seen: { vec_len seen ≡ states },
+    ghost components: { vec_len component ≡ states },
+    ghost path_inside: { EachIndex path.items (λ k. slice_index path.items k < states) },
+    ghost waiting_inside: { EachIndex waiting.items (λ k. slice_index waiting.items k < states) },
+}
+
+impl Search {
+    /// A search that has met no state.
+    fn new(alloc: Global, states: u32) -> Result<Search, OutOfMemory>
+        ensures { IfOk result (λ s. s.states ≡ states) }
+    {
+        let unseen = Seen {
+            number: 0,
+            low: 0,
+            choice: 0,
+            place: 0,
+        };
+        Ok(Search {
+            states,
+            met: 0,
+            count: 0,
+            seen: vec![in alloc; unseen; states as usize]?,
+            component: vec![in alloc; NONE; states as usize]?,
+            path: Vec::with_capacity(alloc, states as usize)?,
+            waiting: Vec::with_capacity(alloc, states as usize)?,
+        })
+    }
+
+    /// Whether a state was met.
+    fn has_met(&self, state: u32) -> bool
+        requires { state < self.now.states }
+    {
+        self.seen[state as usize].number != 0
+    }
+
+    /// Meets a state.
+    fn enter(&mut self, state: u32) -> Result<(), OutOfMemory>
+        requires { state < self.old.states }
+        ensures { self.new.states ≡ self.old.states }
+    {
+        self.met = self.met.saturating_add(1);
+        self.seen[state as usize] = Seen {
+            number: self.met,
+            low: self.met,
+            choice: 0,
+            place: 0,
+        };
+        self.path.push(state)?;
+        self.waiting.push(state)?;
+        Ok(())
+    }
+
+    /// Follows one edge of the last state of the path, passes to its next choice or leaves it. False where the path is
+    /// empty.
+    fn step<K: Keeps>(&mut self, question: &Question, kept: &K) -> Result<bool, OutOfMemory>
+        requires fits { K.fits kept.now question.now }
+        requires one { self.old.states ≡ states question.now }
+        ensures { self.new.states ≡ self.old.states }
+    {
+        let Some(state) = self.path.last().copied() else {
+            return Ok(false);
+        };
+        let seen = self.seen[state as usize];
+        if seen.choice < question.game().choices_of(state) {
+            self.look(question, kept, state, seen)?;
+        } else {
+            self.leave(state);
+        }
+        Ok(true)
+    }
+
+    /// Follows the next edge of a state, or passes to its next choice.
+    fn look<K: Keeps>(
+        &mut self,
+        question: &Question,
+        kept: &K,
+        state: u32,
+        seen: Seen,
+    ) -> Result<(), OutOfMemory>
+        requires fits { K.fits kept.now question.now }
+        requires one { self.old.states ≡ states question.now }
+        requires state { state < self.old.states }
+        requires choice { seen.choice < length (choices_of question.now.game state) }
+        ensures { self.new.states ≡ self.old.states }
+    {
+        question.known();
+        let kept = seen.place > 0 || kept.keeps(question, state, seen.choice);
+        if kept && seen.place < question.game().edge_count(state, seen.choice) {
+            self.seen[state as usize].place = seen.place + 1;
+            let to = question.game().edge(state, seen.choice, seen.place).to;
+            return self.follow(state, to);
+        }
+        let next = &mut self.seen[state as usize];
+        next.choice = seen.choice + 1;
+        next.place = 0;
+        Ok(())
+    }
+
+    /// Meets a successor, or lowers the low number of the state by it.
+    fn follow(&mut self, state: u32, to: u32) -> Result<(), OutOfMemory>
+        requires state { state < self.old.states }
+        requires to { to < self.old.states }
+        ensures { self.new.states ≡ self.old.states }
+    {
+        let number = self.seen[to as usize].number;
+        if number == 0 {
+            self.enter(to)?;
+        } else if self.component[to as usize] == NONE {
+            self.lower(state, number);
+        }
+        Ok(())
+    }
+
+    /// Lowers the low number of a state.
+    fn lower(&mut self, state: u32, number: u32)
+        requires { state < self.old.states }
+        ensures { self.new.states ≡ self.old.states }
+    {
+        let seen = &mut self.seen[state as usize];
+        if number < seen.low {
+            seen.low = number;
+        }
+    }
+
+    /// Leaves the last state of the path. If it is the first one met of its component, those that wait since then are
+    /// the others.
+    fn leave(&mut self, state: u32)
+        requires { state < self.old.states }
+        ensures { self.new.states ≡ self.old.states }
+    {
+        let seen = self.seen[state as usize];
+        let _left = self.path.pop();
+        if let Some(before) = self.path.last().copied() {
+            self.lower(before, seen.low);
+        }
+        if seen.low == seen.number {
+            self.close(state);
+        }
+    }
+
+    /// Makes a component of the states that wait, back to this one.
+    fn close(&mut self, state: u32)
+        ensures { self.new.states ≡ self.old.states }
+    {
+        while let Some(member) = self.waiting.pop() {
+            self.component[member as usize] = self.count;
+            if member == state {
+                break;
+            }
+        }
+        self.count = self.count.saturating_add(1);
+    }
+
+    /// Meets all states that this one leads to, and closes their components, in at most so many steps.
+    fn run<K: Keeps>(
+        &mut self,
+        question: &Question,
+        kept: &K,
+        state: u32,
+        most: u64,
+    ) -> Result<(), OutOfMemory>
+        requires fits { K.fits kept.now question.now }
+        requires one { self.old.states ≡ states question.now }
+        requires state { state < self.old.states }
+        ensures { self.new.states ≡ self.old.states }
+    {
+        self.enter(state)?;
+        for _ in 0..most {
+            if !self.step(question, kept)? {
+                break;
+            }
+        }
+        Ok(())
+    }
+
+    /// For each state the number of its component, as the search finds it over the kept choices.
+    pub fn of_question<K: Keeps>(
+        alloc: Global,
+        question: &Question,
+        kept: &K,
+    ) -> Result<Search, OutOfMemory>
+        requires { K.fits kept.now question.now }
+        ensures { IfOk result (λ s. s.states ≡ states question.now) }
+    {
+        let states = question.game().states();
+        let mut search = Search::new(alloc, states)?;
+        let most = most_steps(question);
+        for state in 0..states {
+            if !search.has_met(state) {
+                search.run(question, kept, state, most)?;
+            }
+        }
+        Ok(search)
+    }
+}
+
+/// The most steps of a search: one for each edge, choice and state, and one to see that the path is empty.
+fn most_steps(question: &Question) -> u64 {
+    let game = question.game();
+    let states = game.states();
+    game.edges_below(states) + game.choices_below(states) + u64::from(states) + 1
+}

@@ -1,0 +1,52 @@
+//! The answer of `solve`: a report of a plan that tables of a solver led to.
+
+ghost use Rattle.std.specs.Prelude.{◌≡◌, ◌<◌, All, IfOk};
+ghost use Rattle.game_model.specs.Query.{states};
+ghost use Rattle.rpatl_syntax.specs.Dual.{IsAtMostOne, answered as answered_of};
+ghost use Rattle.rpatl_syntax.specs.Formula.{tree_of};
+ghost use Rattle.run_answers.specs.Status.{IsAnswer};
+ghost use Rattle.question_reports.specs.Solved.{IsSolved};
+
+use crate::reports::{Formulas, make_answer};
+use formula_sets::Posed;
+use game_outside::OutOfMemory;
+use plan_solver::find_bounds;
+use predecessors::Predecessors;
+use rpatl_syntax::Formula;
+use run_answers::Answer;
+use solved_plans::hand_out;
+use std::alloc::Global;
+use verdicts::How;
+use verdicts::laws::{mirrored_verdicts_are_those_of_the_dual, undecided_thresholds_are_left_open};
+
+/// One line for each initial state, with the bounds of a plan that passes an audit and is sound, and what they say of
+/// the formula's bound; and behind them the certificate, where it is asked for. The question is that of the answered
+/// formula: of `G` the dual, else the same. Values to begin with, one for each state, are hints alone. The only error
+/// is want of memory.
+pub fn solved_report(
+    alloc: Global,
+    posed: &Posed<'_>,
+    spelled: &Formula,
+    answered: &Formula,
+    asked: bool,
+    hints: Option<&[f64]>,
+) -> Result<Answer, OutOfMemory>
+    requires inside { All (λ s. s < states posed.now.question) posed.now.initial.items }
+    requires same { tree_of answered.now ≡ answered_of (tree_of spelled.now) }
+    requires share { IsAtMostOne spelled.now.bound }
+    ensures report { IfOk result (λ answer. IsSolved posed.now.question posed.now.initial.items
+        (tree_of spelled.now) asked answer.text.items answer.status) }
+    ensures answer { IfOk result (λ answer. IsAnswer answer.status) }
+{
+    let question = &posed.question;
+    let initial: &[u32] = &posed.initial;
+    let predecessors = Predecessors::of_game(alloc, question.game())?;
+    let candidates = find_bounds(alloc, question, &predecessors, hints)?;
+    let plan = hand_out(alloc, question, &predecessors, &candidates)?;
+    // What a question keeps, and two laws: these calls do nothing.
+    question.known();
+    undecided_thresholds_are_left_open();
+    mirrored_verdicts_are_those_of_the_dual();
+    let formulas = Formulas { spelled, answered };
+    make_answer(alloc, &plan, How::Solved, formulas, initial, asked)
+}

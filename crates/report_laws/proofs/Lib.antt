@@ -1,0 +1,4 @@
+mod Saving
+mod Solving
+pub mod Closeness
+pub mod Plans

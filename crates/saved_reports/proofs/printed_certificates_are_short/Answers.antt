@@ -1,5 +1,0 @@
-use Rattle.saved_reports.proofs.Saved.{printed-short}
-use Rattle.saved_reports.proofs.printed_certificates_are_short.Goals as goal
-
-pub returns : goal.returns
-returns c = printed-short c.words_denote_one_command.ensures c.formulas_of_texts_are_spellable.ensures

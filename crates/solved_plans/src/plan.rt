@@ -1,0 +1,80 @@
+//! The plan that is handed out.
+
+ghost use Rattle.std.specs.Prelude.{IfOk, slice_index};
+ghost use Rattle.game_model.specs.Query.{states};
+ghost use Rattle.predecessors.specs.Lists.{ArePredecessors};
+ghost use Rattle.inductive_check.specs.Replies.{AreFirstReplies};
+ghost use Rattle.rank_certificate.specs.Carrying.{IsLayeredPlan};
+ghost use Rattle.plan_text.specs.Entries.{HasStates};
+ghost use Rattle.certificate_audit.specs.Accepted.{Passes, IsSoundPlan};
+ghost use Rattle.solved_plans.specs.Bounds.{AreBoundsOf};
+ghost use Rattle.solved_plans.specs.Plans.{IsSureExactly, IsZeroExactly};
+
+use crate::held::held_table;
+use crate::reached::reached_table;
+use almost_sure::almost_sure_over;
+use game_model::Question;
+use game_outside::OutOfMemory;
+use plan_text::Plan;
+use predecessors::Predecessors;
+use std::alloc::Global;
+use zero_sets::zero_set_over;
+
+/// The tables of a solver, in units, by state. A table that has another number of entries than there are states counts
+/// as missing.
+#[derive(Drop)]
+pub struct Candidates {
+    /// What the solver takes for lower bounds.
+    pub lower: Vec<u64>,
+    /// What the solver takes for upper bounds.
+    pub upper: Vec<u64>,
+}
+
+/// A plan of a question that passes the checks of an audit, whatever the candidates are: its replies hold every
+/// strategy of the maximiser to the upper table, and its choices reach the lower table, less any 1/m, against every
+/// strategy of the minimiser. The lower bound is 1 exactly at the almost-sure states, and the upper one 0 exactly in
+/// the zero set.
+///
+/// Elsewhere the lower table is the candidate's, less than 1, where some choices and ranks vouch for the whole table,
+/// and else 0. The upper table is the candidate's, from one unit to 1, where the whole table is inductive, and else 1.
+/// The choices and ranks are those of `rank_certificate::rank_table`: none of either player stands where none is
+/// needed. The only error is want of memory.
+pub fn hand_out(
+    alloc: Global,
+    question: &Question,
+    predecessors: &Predecessors,
+    candidates: &Candidates,
+) -> Result<Plan, OutOfMemory>
+    requires { ArePredecessors question.now.game predecessors.now }
+    ensures lists { IfOk result (λ plan. HasStates plan (states question.now)) }
+    ensures passes { IfOk result (λ plan. Passes question.now plan) }
+    ensures sound { IfOk result (λ plan. IsSoundPlan question.now plan) }
+    ensures sure { IfOk result (λ plan. IsSureExactly question.now plan) }
+    ensures zero { IfOk result (λ plan. IsZeroExactly question.now plan) }
+    ensures bounds { IfOk result (λ plan. AreBoundsOf question.now candidates.now.lower.items candidates.now.upper.items
+        plan.lower.items plan.upper.items) }
+    ensures choices { IfOk result (λ plan. IsLayeredPlan question.now plan.lower.items plan.choices.items
+        plan.ranks.items) }
+    ensures replies { IfOk result (λ plan. AreFirstReplies question.now
+        (slice_index plan.upper.items) plan.replies.items) }
+{
+    question.known();
+    let sure = almost_sure_over(alloc, question, predecessors)?;
+    let zero = zero_set_over(alloc, question, predecessors)?;
+    let reached = reached_table(
+        alloc,
+        question,
+        predecessors,
+        &sure,
+        &zero,
+        &candidates.lower,
+    )?;
+    let held = held_table(alloc, question, &sure, &zero, &candidates.upper)?;
+    Ok(Plan {
+        lower: reached.values,
+        choices: reached.plan.choices,
+        ranks: reached.plan.ranks,
+        upper: held.values,
+        replies: held.replies,
+    })
+}

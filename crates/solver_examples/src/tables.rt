@@ -1,0 +1,270 @@
+//! Worked tables of whole units.
+
+ghost use Rattle.std.specs.Prelude.{◌≡◌, ◌+◌, ◌<◌, IfOk, length, vec_len};
+ghost use Rattle.game_model.specs.Game.{choices_of};
+ghost use Rattle.game_model.specs.Query.{states};
+ghost use Rattle.play_components.specs.Division.{states_of};
+
+use choice_flags::ChoiceFlags;
+use expectations::{holds, same};
+use fixed_bellman::{down_state, up_state};
+use float_games::{Bound, Draft, FloatGame};
+use game_model::{Game, Question, Side, UNIT};
+use local_values::{refine, solve};
+use play_components::Components;
+use predecessors::Predecessors;
+use random_games::{Draw, Shape, random_game};
+use sample_games::{game_of, question_of};
+use std::alloc::Global;
+use std::num::nearest_u64_to_f64;
+use std::test::Fail;
+use table_rounding::{Setting, UnitTable, round_component, single_entry};
+
+/// A gambler with 1 to 3 of 4 coins, who bets one at a time; state 0 is ruin and 4 the goal.
+fn gambler(alloc: Global) -> Result<Game, Fail> {
+    game_of(
+        alloc,
+        &[
+            &[&[(0, 1)]],
+            &[&[(0, 1), (2, 1)]],
+            &[&[(1, 1), (3, 1)]],
+            &[&[(2, 1), (4, 1)]],
+            &[&[(4, 1)]],
+        ],
+    )
+}
+
+/// State 0 goes round by 1, or leaves to the goal 2 by a third and to 3 by two thirds.
+fn thirds(alloc: Global) -> Result<Game, Fail> {
+    game_of(
+        alloc,
+        &[
+            &[&[(1, 1)], &[(2, 1), (3, 2)]],
+            &[&[(0, 2), (2, 1), (3, 1)]],
+            &[&[(2, 1)]],
+            &[&[(3, 1)]],
+        ],
+    )
+}
+
+#[test]
+fn a_gambler_has_exact_quarters(rt: HostRuntime) -> Result<(), Fail> {
+    let game = gambler(rt.alloc())?;
+    let quarters = [0, UNIT / 4, UNIT / 2, UNIT / 4 * 3, UNIT];
+    let question = question_of(rt.alloc(), &game, Side::Max, 4)?;
+    for bound in [Bound::Lower, Bound::Upper] {
+        let found = table_of(rt.alloc(), &question, bound)?;
+        same("quarters", found.entries(), quarters.as_slice())?;
+    }
+    Ok(())
+}
+
+#[test]
+fn thirds_are_rounded_to_both_sides(rt: HostRuntime) -> Result<(), Fail> {
+    let game = thirds(rt.alloc())?;
+    let question = question_of(rt.alloc(), &game, Side::Max, 2)?;
+    let lower = table_of(rt.alloc(), &question, Bound::Lower)?;
+    let upper = table_of(rt.alloc(), &question, Bound::Upper)?;
+    let again = table_of(rt.alloc(), &question, Bound::Upper)?;
+    same("the same once more", again.entries(), upper.entries())?;
+    for (below, above) in lower.entries().iter().zip(upper.entries()) {
+        holds(format_args!("{below} is at most {above}"), *below <= *above)?;
+        holds(
+            format_args!("{above} is near {below}"),
+            above.saturating_sub(*below) <= 4,
+        )?;
+    }
+    Ok(())
+}
+
+/// The table of a question, component after component.
+fn table_of(alloc: Global, question: &Question<'_>, bound: Bound) -> Result<UnitTable, Fail>
+    ensures { IfOk result (λ table. length table ≡ states question.now) }
+{
+    let predecessors = Predecessors::of_game(alloc, question.game())?;
+    // A goal leads nowhere.
+    let kept = ChoiceFlags::of_game(alloc, question.game(), |state: u32, _choice: u32| {
+        !question.is_goal(state)
+    })?;
+    let components = Components::of_question(alloc, question, &kept, &[])?;
+    let mut table = UnitTable::zeros(alloc, question.game().states())?;
+    for component in 0..components.count() {
+        fill(
+            alloc,
+            question,
+            &predecessors,
+            &components,
+            component,
+            bound,
+            &mut table,
+        )?;
+    }
+    Ok(table)
+}
+
+/// Fills in the entries of a component.
+fn fill(
+    alloc: Global,
+    question: &Question<'_>,
+    predecessors: &Predecessors,
+    components: &Components,
+    component: u32,
+    bound: Bound,
+    table: &mut UnitTable,
+) -> Result<(), Fail>
+    requires predecessors { length predecessors.now ≡ states question.now }
+    requires components { states_of components.now ≡ states question.now }
+    requires component { component + 1 < length components.now.starts }
+    requires many { length table.old ≡ states question.now }
+    ensures { length table.new ≡ length table.old }
+{
+    let members = components.members(component);
+    if members.len() == 1 {
+        let state = members[0];
+        let entry = single_entry(question, table, bound, state);
+        table.set(
+            state,
+            if question.is_goal(state) {
+                UNIT
+            } else {
+                entry.value
+            },
+        );
+        return Ok(());
+    }
+    let game = local_game(alloc, question, components, component, table)?;
+    let mut nodes = Vec::new(alloc);
+    for node in 0..game.nodes() {
+        nodes.push(node as u32)?;
+    }
+    let mut values = vec![in alloc; 0.0; game.nodes()]?;
+    let mut policy = game.first_policy(alloc)?;
+    let _is_found = solve(alloc, &game, 0.0, &mut values, &mut policy)?;
+    refine(alloc, &game, &policy, &mut values)?;
+    let mut planned = vec![in alloc; 0u32; question.game().states() as usize]?;
+    plan(&game, members, &policy, &mut planned);
+    let setting = Setting {
+        question,
+        predecessors,
+        components,
+        component,
+        game: &game,
+        nodes: &nodes,
+        bound,
+    };
+    let _is_held = round_component(alloc, &setting, &values, &policy, &mut planned, table)?;
+    Ok(())
+}
+
+/// Plans the choices of a policy at the members of a component, a node for each.
+fn plan(game: &FloatGame, members: &[u32], policy: &[u32], planned: &mut [u32]) {
+    for (state, choice) in members.iter().zip(policy) {
+        if let Some(place) = planned.get_mut(*state as usize) {
+            *place = game.mark(*choice);
+        }
+    }
+}
+
+/// The local game of a component, a node for each member.
+fn local_game(
+    alloc: Global,
+    question: &Question<'_>,
+    components: &Components,
+    component: u32,
+    table: &UnitTable,
+) -> Result<FloatGame, Fail>
+    requires components { states_of components.now ≡ states question.now }
+    requires component { component + 1 < length components.now.starts }
+    requires many { length table.now ≡ states question.now }
+{
+    let mut draft = Draft::new(alloc, 0, 0, 0)?;
+    for state in components.members(component) {
+        for choice in 0..question.game().choices_of(*state) {
+            add_choice(
+                question, components, component, table, *state, choice, &mut draft,
+            )?;
+            let _is_in = draft.end_choice(choice)?;
+        }
+        draft.end_node(question.side(*state) == Side::Max)?;
+    }
+    Ok(draft.finish().ok_or("no game")?)
+}
+
+/// Adds the edges of a choice: those that leave the component give what the table says.
+fn add_choice(
+    question: &Question<'_>,
+    components: &Components,
+    component: u32,
+    table: &UnitTable,
+    state: u32,
+    choice: u32,
+    draft: &mut Draft,
+) -> Result<(), Fail>
+    requires components { states_of components.now ≡ states question.now }
+    requires many { length table.now ≡ states question.now }
+    requires state { state < states question.now }
+    requires choice { choice < length (choices_of question.now.game state) }
+{
+    question.known();
+    for place in 0..question.game().edge_count(state, choice) {
+        let edge = question.game().edge(state, choice, place);
+        let weight = nearest_u64_to_f64(u64::try_from(edge.weight).unwrap_or(1));
+        if components.component_of(edge.to) == component {
+            draft.add_edge(components.place_of(edge.to), weight)?;
+        } else {
+            draft.add_exit(weight, nearest_u64_to_f64(table.get(edge.to)));
+        }
+    }
+    Ok(())
+}
+
+/// Games of up to 40 states, most of whose choices have several successors.
+const GAMES: Shape = Shape {
+    least_states: 3,
+    most_states: 40,
+    most_choices: 3,
+    most_successors: 4,
+    most_weight: 9,
+    most_tosses: 120,
+};
+
+#[test]
+fn tables_of_random_games_hold(rt: HostRuntime) -> Result<(), Fail> {
+    let mut draw = Draw::new(53);
+    let mut wide: u32 = 0;
+    for number in 0..60u32 {
+        let game = random_game(rt.alloc(), &mut draw, &GAMES).ok_or("no game")?;
+        let side = if number % 2 == 0 {
+            Side::Max
+        } else {
+            Side::Min
+        };
+        wide = check_tables(rt.alloc(), &game, side)?.saturating_add(wide);
+    }
+    holds(format_args!("few are wide: {wide}"), wide < 10)
+}
+
+/// The bounds of the first state's chance, where one side chooses everywhere: the lower table holds, and so does the
+/// upper one. Gives whether they are far apart somewhere.
+fn check_tables(alloc: Global, game: &Game, side: Side) -> Result<u32, Fail> {
+    let question = question_of(alloc, game, side, 0)?;
+    let lower = table_of(alloc, &question, Bound::Lower)?;
+    let upper = table_of(alloc, &question, Bound::Upper)?;
+    lower.known();
+    upper.known();
+    let mut widest = 0;
+    for state in 0..game.states() {
+        let below = lower.get(state);
+        let above = upper.get(state);
+        let (down, _) = down_state(&question, state, lower.entries());
+        holds(
+            format_args!("{below} holds at {state}: {down}"),
+            below <= down,
+        )?;
+        let up = up_state(&question, state, upper.entries());
+        holds(format_args!("{above} holds at {state}: {up}"), up <= above)?;
+        holds(format_args!("{below} is at most {above}"), below <= above)?;
+        widest = above.saturating_sub(below).max(widest);
+    }
+    Ok(if widest > 1_000 { 1 } else { 0 })
+}

@@ -1,0 +1,4 @@
+pub mod Strategies
+pub mod Plays
+pub mod Next
+pub mod Stopping

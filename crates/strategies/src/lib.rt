@@ -1,0 +1,6 @@
+//! Strategies with memory and dice: the values of a question are the probabilities of the best of them.
+//!
+//! No function here does anything: a call tells a proof what its contract says.
+#![tactic(auto)]
+
+pub mod laws;

@@ -1,0 +1,183 @@
+//! Exact steps: what choices give by a table, in 128 bits.
+
+ghost use Rattle.std.specs.Prelude.{◌≡◌, ◌<◌, length};
+ghost use Rattle.game_model.specs.Game.{choices_of};
+ghost use Rattle.game_model.specs.Query.{states};
+
+use crate::table::UnitTable;
+use float_games::Bound;
+use game_model::{Question, Side, UNIT};
+
+/// What a choice gives by a table, against an entry of its state: the sums of the weights that lead to other states,
+/// times by how much their entries are above this one, and below it; and the sum of these weights.
+#[derive(Clone, Copy)]
+struct Excess {
+    above: u128,
+    below: u128,
+    moving: u128,
+}
+
+impl Excess {
+    /// With one more edge.
+    fn with(self, weight: u128, there: u64, own: u64) -> Excess {
+        let up = u128::from(there.saturating_sub(own));
+        let down = u128::from(own.saturating_sub(there));
+        Excess {
+            above: self.above.wrapping_add(weight.wrapping_mul(up)),
+            below: self.below.wrapping_add(weight.wrapping_mul(down)),
+            moving: self.moving.wrapping_add(weight),
+        }
+    }
+
+    /// By how many units the entry is above what the choice gives, rounded up.
+    fn fall(self) -> u64 {
+        quotient_up(self.below.saturating_sub(self.above), self.moving)
+    }
+
+    /// By how many units the entry is below what the choice gives, rounded up.
+    fn rise(self) -> u64 {
+        quotient_up(self.above.saturating_sub(self.below), self.moving)
+    }
+}
+
+/// A quotient rounded up, at most the unit; 0 where the divisor is 0.
+fn quotient_up(sum: u128, total: u128) -> u64 {
+    if total == 0 {
+        return 0;
+    }
+    if let (Ok(sum), Ok(total)) = (u64::try_from(sum), u64::try_from(total)) {
+        if total != 0 {
+            let whole = sum / total;
+            return if sum % total == 0 {
+                whole
+            } else {
+                whole.saturating_add(1)
+            };
+        }
+    }
+    let whole = sum / total;
+    let up = if sum % total == 0 {
+        whole
+    } else {
+        whole.saturating_add(1)
+    };
+    u64::try_from(up).unwrap_or(UNIT)
+}
+
+/// What a choice of a state gives, against this entry. Edges to the state itself are left out.
+fn excess_of(question: &Question, table: &UnitTable, state: u32, choice: u32, own: u64) -> Excess
+    requires state { state < states question.now }
+    requires choice { choice < length (choices_of question.now.game state) }
+{
+    let row = question.row(state);
+    let entries = table.entries();
+    let mut excess = Excess {
+        above: 0,
+        below: 0,
+        moving: 0,
+    };
+    if row.total(choice) < 18_446_744_073_709_551_616 {
+        for (to, weight) in row
+            .successors(choice)
+            .iter()
+            .zip(row.narrow_weights(choice))
+        {
+            if let (true, Some(there)) = (*to != state, entries.get(*to as usize).copied()) {
+                excess = excess.with(u128::from(*weight), there, own);
+            }
+        }
+        return excess;
+    }
+    for place in 0..row.edge_count(choice) {
+        let edge = row.edge(choice, place);
+        if let (true, Some(there)) = (edge.to != state, entries.get(edge.to as usize).copied()) {
+            excess = excess.with(edge.weight, there, own);
+        }
+    }
+    excess
+}
+
+/// The side whose planned choice a bound goes by.
+fn planner(bound: Bound) -> Side {
+    match bound {
+        Bound::Lower => Side::Max,
+        Bound::Upper => Side::Min,
+    }
+}
+
+/// The entry up to which, or from which on, that of a state holds, where the side of the bound plays this choice: the
+/// same where it holds, else the next one that does by the entries of the other states.
+pub fn held_entry(
+    question: &Question,
+    table: &UnitTable,
+    bound: Bound,
+    state: u32,
+    planned: u32,
+) -> u64
+    requires state { state < states question.now }
+    requires many { length table.now ≡ states question.now }
+{
+    let own = table.get(state);
+    let count = question.game().choices_of(state);
+    let is_planned = question.side(state) == planner(bound) && planned < count;
+    let first = if is_planned { planned } else { 0 };
+    let end = if is_planned { planned + 1 } else { count };
+    let mut most: u64 = 0;
+    for choice in first..end {
+        let excess = excess_of(question, table, state, choice, own);
+        most = most.max(match bound {
+            Bound::Lower => excess.fall(),
+            Bound::Upper => excess.rise(),
+        });
+    }
+    match bound {
+        Bound::Lower => own.saturating_sub(most),
+        Bound::Upper => own.saturating_add(most).min(UNIT),
+    }
+}
+
+/// An entry of a state, and the choice that it comes from.
+#[derive(Clone, Copy, Debug, PartialEq, Eq)]
+pub struct Entry {
+    /// The entry, in units.
+    pub value: u64,
+    /// The choice.
+    pub choice: u32,
+}
+
+/// The entry of a state that leads to no other state of its component: what its best choice gives by the table, rounded
+/// down or up. A choice that leads only back to the state counts for nothing. Where there is no other, the entry is 0.
+pub fn single_entry(question: &Question, table: &UnitTable, bound: Bound, state: u32) -> Entry
+    requires { state < states question.now }
+{
+    let mut best: Option<Entry> = None;
+    for choice in 0..question.game().choices_of(state) {
+        let excess = excess_of(question, table, state, choice, 0);
+        if excess.moving == 0 {
+            continue;
+        }
+        let up = excess.rise();
+        let is_whole = excess.above % excess.moving == 0;
+        let value = match bound {
+            Bound::Lower if !is_whole => up.saturating_sub(1),
+            _ => up,
+        };
+        best = Some(better(question.side(state), best, Entry { value, choice }));
+    }
+    best.unwrap_or(Entry {
+        value: 0,
+        choice: 0,
+    })
+}
+
+/// The better entry for a side, the first one of equal ones.
+fn better(side: Side, best: Option<Entry>, other: Entry) -> Entry {
+    let Some(best) = best else {
+        return other;
+    };
+    let is_better = match side {
+        Side::Max => best.value < other.value,
+        Side::Min => other.value < best.value,
+    };
+    if is_better { other } else { best }
+}

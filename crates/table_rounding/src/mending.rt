@@ -1,0 +1,118 @@
+//! Mending a table by exact steps.
+
+ghost use Rattle.std.specs.Prelude.{◌≡◌, ◌<◌, length};
+ghost use Rattle.game_model.specs.Query.{states};
+
+use crate::exact::held_entry;
+use crate::setting::Setting;
+use crate::table::UnitTable;
+use game_outside::OutOfMemory;
+use std::alloc::Global;
+use std::collections::VecDeque;
+
+/// The states of a component whose entries may no longer hold, each once; and by places which of them wait.
+#[derive(Drop)]
+struct Agenda {
+    waiting: VecDeque<u32>,
+    marks: Vec<bool>,
+}
+
+impl Agenda {
+    /// Of so many states, all of which are marked and none waits: they are looked at one after another first.
+    fn new(alloc: Global, members: usize) -> Result<Agenda, OutOfMemory> {
+        Ok(Agenda {
+            waiting: VecDeque::new(alloc),
+            marks: vec![in alloc; true; members]?,
+        })
+    }
+
+    /// Takes the mark of the state at this place.
+    fn unmark(&mut self, place: u32) {
+        if let Some(mark) = self.marks.get_mut(place as usize) {
+            *mark = false;
+        }
+    }
+
+    /// Lets the state at this place wait, if it does not.
+    fn add(&mut self, place: u32, state: u32) -> Result<(), OutOfMemory> {
+        let Some(mark) = self.marks.get_mut(place as usize) else {
+            return Ok(());
+        };
+        if !*mark {
+            *mark = true;
+            self.waiting.push_back(state)?;
+        }
+        Ok(())
+    }
+}
+
+/// Takes exact steps at the states of a component until each entry holds. False where that takes more of them than
+/// this, beyond one a state.
+pub fn mend(
+    alloc: Global,
+    setting: &Setting<'_, '_>,
+    planned: &[u32],
+    table: &mut UnitTable,
+    most: u64,
+) -> Result<bool, OutOfMemory>
+    requires planned { length planned.now ≡ states setting.now.question.now }
+    requires many { length table.old ≡ states setting.now.question.now }
+    ensures { length table.new ≡ length table.old }
+{
+    let members = setting.components.members(setting.component);
+    let mut agenda = Agenda::new(alloc, members.len())?;
+    for state in members {
+        mend_state(setting, planned, table, &mut agenda, *state)?;
+    }
+    for _ in 0..most {
+        let Some(state) = agenda.waiting.pop_front() else {
+            return Ok(true);
+        };
+        mend_state(setting, planned, table, &mut agenda, state)?;
+    }
+    Ok(agenda.waiting.is_empty())
+}
+
+/// Takes an exact step at a state. Where its entry moves, the states that lead to it wait.
+fn mend_state(
+    setting: &Setting<'_, '_>,
+    planned: &[u32],
+    table: &mut UnitTable,
+    agenda: &mut Agenda,
+    state: u32,
+) -> Result<(), OutOfMemory>
+    requires planned { length planned.now ≡ states setting.now.question.now }
+    requires many { length table.old ≡ states setting.now.question.now }
+    ensures { length table.new ≡ length table.old }
+{
+    if state >= setting.question.game().states() {
+        return Ok(());
+    }
+    agenda.unmark(setting.components.place_of(state));
+    let plan = planned[state as usize];
+    let held = held_entry(setting.question, table, setting.bound, state, plan);
+    if held == table.get(state) {
+        return Ok(());
+    }
+    table.set(state, held);
+    add_predecessors(setting, agenda, state)
+}
+
+/// Lets the states of the component that lead to a state wait.
+fn add_predecessors(
+    setting: &Setting<'_, '_>,
+    agenda: &mut Agenda,
+    state: u32,
+) -> Result<(), OutOfMemory>
+    requires { state < states setting.now.question.now }
+{
+    for step in setting.predecessors.of_state(state) {
+        let before = step.state;
+        if before < setting.question.game().states()
+            && setting.components.component_of(before) == setting.component
+        {
+            agenda.add(setting.components.place_of(before), before)?;
+        }
+    }
+    Ok(())
+}

@@ -1,0 +1,115 @@
+//! Rounding values: settled in floating point, and mended.
+
+ghost use Rattle.std.specs.Prelude.{◌≡◌, ◌<◌, IfOk, length, vec_len};
+ghost use Rattle.game_model.specs.Query.{states};
+ghost use Rattle.float_games.specs.Nodes.{nodes_of};
+
+use crate::mending::mend;
+use crate::setting::Setting;
+use crate::table::UnitTable;
+use float_games::{Bound, bounded, ceil_of, floor_of};
+use game_outside::OutOfMemory;
+use std::alloc::Global;
+use std::num::saturating_f64_to_u64;
+
+/// How much work a try may be.
+#[derive(Clone, Copy)]
+pub struct Effort {
+    /// The most choices that settling looks at.
+    pub looks: u64,
+    /// Whether it gives up where four sweeps do not halve what changes.
+    pub is_hasty: bool,
+}
+
+/// The most sweeps of a try.
+const SWEEPS: u64 = 1_000_000;
+
+/// Values count as settled where at most one in so many nodes changes: the rest is mended.
+const FEW: usize = 2_000;
+
+/// What values may be off by, in units: floats of this size are an eighth apart.
+const OFF: f64 = 0.25;
+
+/// Tries to round values to entries of the component that hold. False where that takes long; entries are then anything.
+pub fn try_values(
+    alloc: Global,
+    setting: &Setting<'_, '_>,
+    values: &[f64],
+    policy: &[u32],
+    planned: &[u32],
+    table: &mut UnitTable,
+    effort: Effort,
+) -> Result<bool, OutOfMemory>
+    requires values { length values.now ≡ nodes_of setting.now.game.now }
+    requires policy { length policy.now ≡ nodes_of setting.now.game.now }
+    requires planned { length planned.now ≡ states setting.now.question.now }
+    requires many { length table.old ≡ states setting.now.question.now }
+    ensures { length table.new ≡ length table.old }
+{
+    let mut units = rounded(alloc, setting.bound, values)?;
+    if !settle(setting, &mut units, policy, effort) {
+        return Ok(false);
+    }
+    store(setting, &units, table);
+    let nodes = setting.game.nodes() as u64;
+    let share = if effort.is_hasty {
+        nodes / 4
+    } else {
+        2 * nodes
+    };
+    mend(alloc, setting, planned, table, 1_000 + share)
+}
+
+/// The values as whole units, on the side of the bound.
+fn rounded(alloc: Global, bound: Bound, values: &[f64]) -> Result<Vec<f64>, OutOfMemory>
+    ensures { IfOk result (λ list. vec_len list ≡ length values.now) }
+{
+    let mut list = values.to_vec(alloc)?;
+    for value in &mut list {
+        *value = bounded(match bound {
+            Bound::Lower => floor_of(*value + OFF),
+            Bound::Upper => ceil_of(*value - OFF),
+        });
+    }
+    Ok(list)
+}
+
+/// Takes rounded steps until few values change. False where that takes long.
+fn settle(setting: &Setting<'_, '_>, units: &mut [f64], policy: &[u32], effort: Effort) -> bool
+    requires units { length units.old ≡ nodes_of setting.now.game.now }
+    requires policy { length policy.now ≡ nodes_of setting.now.game.now }
+{
+    let few = setting.game.nodes() / FEW;
+    let mut looked: u64 = 0;
+    let mut before: Option<usize> = None;
+    for sweep in 1..SWEEPS {
+        let rounded = setting.game.sweep_rounded(setting.bound, units, policy);
+        if rounded.changed <= few {
+            return true;
+        }
+        looked = looked.saturating_add(rounded.looked);
+        if looked > effort.looks {
+            return false;
+        }
+        if effort.is_hasty && sweep % 4 == 0 {
+            if before.is_some_and(|earlier| rounded.changed > earlier / 2) {
+                return false;
+            }
+            before = Some(rounded.changed);
+        }
+    }
+    false
+}
+
+/// Puts the units of nodes into the table, at the states of the component.
+fn store(setting: &Setting<'_, '_>, units: &[f64], table: &mut UnitTable)
+    requires many { length table.old ≡ states setting.now.question.now }
+    ensures { length table.new ≡ length table.old }
+{
+    let members = setting.components.members(setting.component);
+    for place in 0..members.len() {
+        let node = setting.nodes.get(place).copied().unwrap_or(0);
+        let value = units.get(node as usize).copied().unwrap_or(0.0);
+        table.set(members[place], saturating_f64_to_u64(value));
+    }
+}

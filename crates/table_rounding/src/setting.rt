@@ -1,0 +1,32 @@
+//! What is rounded: a component of a question, and its local game.
+
+ghost use Rattle.std.specs.Prelude.{◌≡◌, ◌+◌, ◌<◌, length};
+ghost use Rattle.game_model.specs.Query.{states};
+ghost use Rattle.play_components.specs.Division.{states_of};
+
+use float_games::{Bound, FloatGame};
+use game_model::Question;
+use play_components::Components;
+use predecessors::Predecessors;
+
+/// A component of a question, and the local game that its values come from.
+#[derive(Drop)]
+pub struct Setting<'a, 'q> {
+    /// The question.
+    pub question: &'a Question<'q>,
+    /// The predecessors in its game.
+    pub predecessors: &'a Predecessors,
+    /// Its components.
+    pub components: &'a Components,
+    /// The component.
+    pub component: u32,
+    /// The local game. For a lower table the mark of a choice is its place among the choices of its state.
+    pub game: &'a FloatGame,
+    /// For each member of the component its node in the local game.
+    pub nodes: &'a [u32],
+    /// Which bound is rounded.
+    pub bound: Bound,
+    ghost predecessors_all: { length predecessors.now ≡ states question.now },
+    ghost components_all: { states_of components.now ≡ states question.now },
+    ghost counted: { component + 1 < length components.now.starts },
+}

@@ -1,0 +1,295 @@
+//! Tries, one after another: the values themselves, then values that are moved away.
+
+ghost use Rattle.std.specs.Prelude.{◌≡◌, ◌<◌, IfOk, length, vec_len};
+ghost use Rattle.game_model.specs.Query.{states};
+ghost use Rattle.float_games.specs.Nodes.{nodes_of};
+
+use crate::rounding::{Effort, try_values};
+use crate::setting::Setting;
+use crate::table::UnitTable;
+use float_games::Bound;
+use game_model::{Side, UNIT};
+use game_outside::OutOfMemory;
+use local_values::{expected_moves, solve};
+use std::alloc::Global;
+
+/// Values of more nodes than this are not tried as they are.
+const MOST_BOLD: usize = 5_000;
+
+/// From so many nodes on the first try gives up soon.
+const MANY: usize = 1_000;
+
+/// How many units a move takes: a little more than rounding does.
+const SLOPE: f64 = 1.25;
+
+/// The first cost of a move, in units, and by what it grows from try to try.
+const COST: f64 = 1.5;
+
+const COST_GROWTH: f64 = 8.0;
+
+const COSTS: u32 = 4;
+
+/// Values are not brought nearer by less than this many units.
+const NEAR: f64 = 200.0;
+
+/// Rounds values of a component to entries that hold. The maximiser's choices of a lower table are planned by the
+/// policy, and by the one of other values where these are what is rounded. False where nothing holds soon: the entries
+/// are then 0, or the unit in an upper table. The only error is want of memory.
+pub fn round_component(
+    alloc: Global,
+    setting: &Setting<'_, '_>,
+    values: &[f64],
+    policy: &[u32],
+    planned: &mut [u32],
+    table: &mut UnitTable,
+) -> Result<bool, OutOfMemory>
+    requires values { length values.now ≡ nodes_of setting.now.game.now }
+    requires policy { length policy.now ≡ nodes_of setting.now.game.now }
+    requires planned { length planned.old ≡ states setting.now.question.now }
+    requires many { length table.old ≡ states setting.now.question.now }
+    ensures { length table.new ≡ length table.old }
+{
+    plan(setting, policy, planned);
+    let nodes = setting.game.nodes();
+    let bold = bold_effort(setting);
+    if nodes <= MOST_BOLD && try_values(alloc, setting, values, policy, planned, table, bold)? {
+        return Ok(true);
+    }
+    if try_slope(alloc, setting, values, policy, planned, table)? {
+        return Ok(true);
+    }
+    let mut cost = COST;
+    for _ in 0..COSTS {
+        if try_cost(alloc, setting, cost, values, policy, planned, table)? {
+            return Ok(true);
+        }
+        cost *= COST_GROWTH;
+    }
+    give_up(setting, table);
+    Ok(false)
+}
+
+/// Plans the maximiser's choices of a lower table by a policy. Those of an upper table are the minimiser's, whose
+/// replies the local game has alone.
+fn plan(setting: &Setting<'_, '_>, policy: &[u32], planned: &mut [u32])
+    requires { length planned.old ≡ states setting.now.question.now }
+{
+    if setting.bound == Bound::Upper {
+        return;
+    }
+    let members = setting.components.members(setting.component);
+    for place in 0..members.len() {
+        let state = members[place];
+        let choice = setting
+            .nodes
+            .get(place)
+            .and_then(|node| policy.get(*node as usize));
+        if let (Side::Max, Some(choice)) = (setting.question.side(state), choice) {
+            planned[state as usize] = setting.game.mark(*choice);
+        }
+    }
+}
+
+/// How much work a sweep is: the choices that it looks at, of both sides more.
+fn sweep_work(setting: &Setting<'_, '_>) -> u64 {
+    let both = if setting.game.has_both_sides() {
+        setting.game.edges() as u64 / 3
+    } else {
+        0
+    };
+    (setting.game.nodes() as u64).saturating_add(both)
+}
+
+/// The effort of the try of the values themselves.
+fn bold_effort(setting: &Setting<'_, '_>) -> Effort {
+    Effort {
+        looks: sweep_work(setting).saturating_mul(12).saturating_add(7_000),
+        is_hasty: setting.game.nodes() > MANY,
+    }
+}
+
+/// The effort of other tries.
+fn full_effort(setting: &Setting<'_, '_>) -> Effort {
+    Effort {
+        looks: sweep_work(setting)
+            .saturating_mul(40)
+            .saturating_add(33_000),
+        is_hasty: false,
+    }
+}
+
+/// Tries values that are moved away by some units for each move that the policy is expected to make.
+fn try_slope(
+    alloc: Global,
+    setting: &Setting<'_, '_>,
+    values: &[f64],
+    policy: &[u32],
+    planned: &[u32],
+    table: &mut UnitTable,
+) -> Result<bool, OutOfMemory>
+    requires values { length values.now ≡ nodes_of setting.now.game.now }
+    requires policy { length policy.now ≡ nodes_of setting.now.game.now }
+    requires planned { length planned.now ≡ states setting.now.question.now }
+    requires many { length table.old ≡ states setting.now.question.now }
+    ensures { length table.new ≡ length table.old }
+{
+    let Some(moves) = expected_moves(alloc, setting.game, policy)? else {
+        return Ok(false);
+    };
+    let slope = match setting.bound {
+        Bound::Lower => -SLOPE,
+        Bound::Upper => SLOPE,
+    };
+    let far = between(alloc, values, &moves, slope)?;
+    let effort = full_effort(setting);
+    if !try_values(alloc, setting, &far, policy, planned, table, effort)? {
+        return Ok(false);
+    }
+    narrow(
+        alloc, setting, values, &moves, slope, policy, planned, table,
+    )?;
+    Ok(true)
+}
+
+/// Tries values that are found anew where each move costs so many units.
+fn try_cost(
+    alloc: Global,
+    setting: &Setting<'_, '_>,
+    cost: f64,
+    values: &[f64],
+    policy: &[u32],
+    planned: &mut [u32],
+    table: &mut UnitTable,
+) -> Result<bool, OutOfMemory>
+    requires values { length values.now ≡ nodes_of setting.now.game.now }
+    requires policy { length policy.now ≡ nodes_of setting.now.game.now }
+    requires planned { length planned.old ≡ states setting.now.question.now }
+    requires many { length table.old ≡ states setting.now.question.now }
+    ensures { length table.new ≡ length table.old }
+{
+    let signed = match setting.bound {
+        Bound::Lower => -cost,
+        Bound::Upper => cost,
+    };
+    let mut away = values.to_vec(alloc)?;
+    let mut other = policy.to_vec(alloc)?;
+    let _is_found = solve(alloc, setting.game, signed, &mut away, &mut other)?;
+    plan(setting, &other, planned);
+    let effort = full_effort(setting);
+    if !try_values(alloc, setting, &away, &other, planned, table, effort)? {
+        return Ok(false);
+    }
+    for (far, near) in away.iter_mut().zip(values) {
+        *far -= *near;
+    }
+    narrow(alloc, setting, values, &away, 1.0, &other, planned, table)?;
+    Ok(true)
+}
+
+/// The values, moved by a multiple of how far others are.
+fn between(alloc: Global, values: &[f64], away: &[f64], part: f64) -> Result<Vec<f64>, OutOfMemory>
+    ensures { IfOk result (λ list. vec_len list ≡ length values.now) }
+{
+    let mut list = values.to_vec(alloc)?;
+    for (value, far) in list.iter_mut().zip(away) {
+        *value += part * *far;
+    }
+    Ok(list)
+}
+
+/// Brings entries that hold, rounded from values that are moved all the way, nearer by halves.
+fn narrow(
+    alloc: Global,
+    setting: &Setting<'_, '_>,
+    values: &[f64],
+    away: &[f64],
+    slope: f64,
+    policy: &[u32],
+    planned: &[u32],
+    table: &mut UnitTable,
+) -> Result<(), OutOfMemory>
+    requires values { length values.now ≡ nodes_of setting.now.game.now }
+    requires policy { length policy.now ≡ nodes_of setting.now.game.now }
+    requires planned { length planned.now ≡ states setting.now.question.now }
+    requires many { length table.old ≡ states setting.now.question.now }
+    ensures { length table.new ≡ length table.old }
+{
+    let width = slope.abs() * widest(away);
+    let effort = full_effort(setting);
+    let mut best = entries_of(alloc, setting, table)?;
+    let mut near = 0.0;
+    let mut end = 1.0;
+    for _ in 0..halves(setting) {
+        if !(width * (end - near) > NEAR) {
+            break;
+        }
+        let part = 0.5 * (near + end);
+        let middle = between(alloc, values, away, part * slope)?;
+        if try_values(alloc, setting, &middle, policy, planned, table, effort)? {
+            end = part;
+            best = entries_of(alloc, setting, table)?;
+        } else {
+            near = part;
+        }
+    }
+    put_back(setting, &best, table);
+    Ok(())
+}
+
+/// How many times entries are brought nearer: seldom where a try takes long.
+fn halves(setting: &Setting<'_, '_>) -> u32 {
+    if setting.game.nodes() < 100_000 {
+        14
+    } else {
+        2
+    }
+}
+
+/// The greatest size of an entry.
+fn widest(list: &[f64]) -> f64 {
+    list.iter()
+        .fold(0.0, |most, x| if x.abs() > most { x.abs() } else { most })
+}
+
+/// The entries of the members of the component.
+fn entries_of(
+    alloc: Global,
+    setting: &Setting<'_, '_>,
+    table: &UnitTable,
+) -> Result<Vec<u64>, OutOfMemory>
+    requires { length table.now ≡ states setting.now.question.now }
+{
+    let members = setting.components.members(setting.component);
+    let mut list = Vec::with_capacity(alloc, members.len())?;
+    for state in members {
+        list.push(table.get(*state))?;
+    }
+    Ok(list)
+}
+
+/// Gives the members of the component these entries.
+fn put_back(setting: &Setting<'_, '_>, entries: &[u64], table: &mut UnitTable)
+    requires { length table.old ≡ states setting.now.question.now }
+    ensures { length table.new ≡ length table.old }
+{
+    let members = setting.components.members(setting.component);
+    for place in 0..members.len() {
+        let entry = entries.get(place).copied().unwrap_or(0);
+        table.set(members[place], entry);
+    }
+}
+
+/// Gives the members of the component the entry that always holds.
+fn give_up(setting: &Setting<'_, '_>, table: &mut UnitTable)
+    requires { length table.old ≡ states setting.now.question.now }
+    ensures { length table.new ≡ length table.old }
+{
+    let entry = match setting.bound {
+        Bound::Lower => 0,
+        Bound::Upper => UNIT,
+    };
+    let members = setting.components.members(setting.component);
+    for place in 0..members.len() {
+        table.set(members[place], entry);
+    }
+}

@@ -1,0 +1,75 @@
+-- The first fault of a file of values.
+use Rattle.std.specs.Prelude.{ℕ, ◌==◌, ◌||◌, ◌+◌, nat_lt, Bool, false, List, [], ◌∷◌, length, Option, Some, None, Result, Ok, Err, slice_index_or, if◌then◌else◌}
+use Rattle.text_lines.specs.Text.{lines_of, fields_of, is_nil}
+use Rattle.values_reader.specs.declared.fault.ValuesCause.{ValuesCause}
+use Rattle.values_reader.specs.declared.fault.ValuesCause.TheVariants.{BadField, StateOutOfRange, DoubleState, LineCount}
+use Rattle.values_reader.specs.declared.fault.ValuesFault.{ValuesFault}
+use Rattle.values_reader.specs.Lines.{is_value, state_of, names_state}
+
+abbrev pub fault_at : ℕ → ValuesCause → ValuesFault
+fault_at line cause = record { line = line; cause = cause }
+
+-- a line with its number
+pub record Line : Type 0 where
+  pub number : ℕ
+  pub bytes : List ℕ
+
+-- The lines that are not blank, with their numbers, of which the first line has this one.
+abbrev pub counted : ℕ → List (List ℕ) → List Line
+counted number [] = []
+counted number (line ∷ lines) = if is_nil (fields_of line) then counted
+    (number + 1) lines else record { number = number; bytes = line } ∷ counted (number + 1) lines
+
+-- 1. One number a line.
+
+-- the first line that is no number
+abbrev pub first_bad : List Line → Option ValuesFault
+first_bad [] = None
+first_bad (line ∷ lines) = if is_value line.bytes then first_bad lines else Some (fault_at line.number BadField)
+
+abbrev pub or_count : Bool → Option ValuesFault → Option ValuesFault
+or_count as_many (Some fault) = Some fault
+or_count as_many None = if as_many then None else Some (fault_at 0 LineCount)
+
+-- each line is a number, and there are as many as states
+abbrev pub fault_in_order : ℕ → List Line → Option ValuesFault
+fault_in_order n lines = or_count (length lines == n) (first_bad lines)
+
+-- 2. A state and a number.
+
+-- the state of a line, which is below n and not named before, or why there is none
+abbrev pub new_state : ℕ → (ℕ → Bool) → Option ℕ → Result ℕ ValuesCause
+new_state n named None = Err BadField
+new_state n named (Some state) = if nat_lt state n then (if named state then Err DoubleState else Ok state) else Err
+    StateOutOfRange
+
+-- this state is named as well
+abbrev pub with_state : ℕ → (ℕ → Bool) → ℕ → Bool
+with_state state named other = other == state || named other
+
+-- the fault at the line of this number, or what comes behind it
+abbrev pub then_at : ℕ → Result ℕ ValuesCause → (ℕ → Option ValuesFault) → Option ValuesFault
+then_at number (Ok state) next = next state
+then_at number (Err cause) next = Some (fault_at number cause)
+
+-- each line is a state and a number, and no state stands twice; those before are named already
+abbrev pub fault_of_named : ℕ → (ℕ → Bool) → List Line → Option ValuesFault
+fault_of_named n named [] = None
+fault_of_named n named (line ∷ lines) = then_at line.number (new_state n named (state_of line.bytes))
+    (λ state. fault_of_named n (with_state state named) lines)
+
+-- 3. The text.
+
+-- the first line says which form all have; without a line it is the first form
+abbrev pub fault_of_lines : ℕ → List Line → Option ValuesFault
+fault_of_lines n [] = fault_in_order n []
+fault_of_lines n (line ∷ lines) = if names_state line.bytes then fault_of_named n (λ state. false)
+    (line ∷ lines) else fault_in_order n (line ∷ lines)
+
+-- The first fault of a text, or none where it gives values of n states.
+abbrev pub fault_of : ℕ → List ℕ → Option ValuesFault
+fault_of n text = fault_of_lines n (counted 1 (lines_of text))
+
+-- the states that are marked
+abbrev pub marked : List Bool → ℕ → Bool
+marked marks state = slice_index_or marks state false

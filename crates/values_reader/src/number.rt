@@ -1,0 +1,81 @@
+//! Numbers as tools write them.
+
+ghost use Rattle.std.specs.Prelude.{◌≡◌, ◌==◌, ◌<◌, Some, None, MatchOption, IfSome, is_some, position, length};
+ghost use Rattle.text_lines.specs.Text.{fields_of};
+ghost use Rattle.values_reader.specs.Lines.{is_fraction, is_number, is_value, split_first};
+
+use text_lines::{first_field, whole};
+
+fn place_of_byte(x: u8, bytes: &[u8]) -> Option<usize>
+    ensures place { result ≡ position (λ b. b == x) bytes.now }
+    ensures within { IfSome result (λ place. place < length bytes.now) }
+{
+    bytes.iter().position(|b| *b == x)
+}
+
+/// What stands before the first of a byte, and behind it.
+pub fn split_at_first(x: u8, bytes: &[u8]) -> Option<(&[u8], &[u8])>
+    ensures { MatchOption result (split_first x bytes.now ≡ None)
+        (λ r. split_first x bytes.now ≡ Some (r.0.now, r.1.now)) }
+{
+    match place_of_byte(x, bytes) {
+        Some(place) => {
+            let (front, _) = bytes.split_at(place);
+            let (_, back) = bytes.split_at(place + 1);
+            Some((front, back))
+        }
+        None => None,
+    }
+}
+
+// The float that digits write.
+fn float_of(digits: &[u8]) -> f64 {
+    fast_float::parse(digits).unwrap_or(0.0)
+}
+
+// The quotient of two whole numbers with `/`.
+fn fraction(field: &[u8]) -> Option<f64>
+    ensures { is_some result ≡ is_fraction field.now }
+{
+    let Some((front, back)) = split_at_first(b'/', field) else {
+        return None;
+    };
+    if whole(front).is_none() || whole(back).is_none() {
+        return None;
+    }
+    Some(float_of(front) / float_of(back))
+}
+
+// The number that a field spells.
+fn number(field: &[u8]) -> Option<f64>
+    ensures { is_some result ≡ is_number field.now }
+{
+    match fast_float::parse(field) {
+        Ok(value) => Some(value),
+        Err(_) => fraction(field),
+    }
+}
+
+// From 0 to 1: what is above counts as 1, and what is below, or no number, as 0.
+fn bounded(value: f64) -> f64 {
+    if value >= 1.0 {
+        1.0
+    } else if value > 0.0 {
+        value
+    } else {
+        0.0
+    }
+}
+
+/// The number that is the one field of some bytes, as a value from 0 to 1.
+pub fn value_in(bytes: &[u8]) -> Option<f64>
+    ensures { is_some result ≡ is_value bytes.now }
+{
+    let Some((field, rest)) = first_field(bytes) else {
+        return None;
+    };
+    if first_field(rest).is_some() {
+        return None;
+    }
+    number(field).map(bounded)
+}

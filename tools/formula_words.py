@@ -1,0 +1,74 @@
+"""Formulas of certificates: read with their thresholds and with `G`, whose moves they are, and in words."""
+
+import re
+from fractions import Fraction
+
+import explicit
+
+DUAL = {">=": "<=", ">": "<", "<=": ">=", "<": ">", "Pmax": "Pmin", "Pmin": "Pmax"}
+SIGNS = {">=": "at least", ">": "more than", "<=": "at most", "<": "less than"}
+JOINTS = {"&": "and", "|": "or", "=>": "implies"}
+
+
+class Asked(explicit.Parser):
+    """What a formula asks: coalition, bound, threshold or None, whether the path is `G`, and the formulas before and behind `U`."""
+
+    def __init__(self, text):
+        super().__init__(text)
+        self.threshold, self.always = None, False
+        self.coalition_names, self.bound_sign, self.left, self.right = self.formula()
+
+    def bound(self):
+        start = self.start
+        sign = super().bound()
+        number = re.fullmatch(r"P\s*[<>]=?\s*(\S+)\s*", self.text[start : self.start])
+        self.threshold = number and number[1]
+        return sign
+
+    def path(self):
+        self.always = self.is_word("G")
+        if not self.always:
+            return super().path()
+        self.move()
+        return ("true",), self.implied()
+
+    def sides(self, owners):
+        """A byte for each state, 1 where the maximiser moves: of `G` in the question of its dual, as a certificate has it."""
+        bound = DUAL[self.bound_sign] if self.always else self.bound_sign
+        return explicit.sides_of(explicit.Formula(self.coalition_names, bound, self.left, self.right), owners)
+
+    def words(self):
+        """The question as a sentence. For nobody's coalition all strategies are the others'."""
+        path, team = self.path_words(), ", ".join(self.coalition_names or ())
+        most = self.bound_sign == "Pmax"
+        if self.threshold:
+            bound = f"{SIGNS[self.bound_sign]} {Fraction(self.threshold)}"
+            if team:
+                return f"Can {team}, whatever the others do, make sure that the probability is {bound} that {path}?"
+            return f"Is the probability {bound}, under every strategy, that {path}?"
+        if team:
+            kind = "greatest" if most else "least"
+            return f"What is the {kind} probability that {team} can bring about, whatever the others do, that {path}?"
+        kind = "greatest" if most == (self.coalition_names is None) else "least"
+        return f"What is the {kind} probability, over all strategies, that {path}?"
+
+    def path_words(self):
+        if self.always:
+            return f"at every time {state_words(self.right)}"
+        reached = f"at some time {state_words(self.right)}"
+        return reached if self.left == ("true",) else f"{reached}, and at each time before {state_words(self.left)}"
+
+
+def state_words(formula):
+    """A state formula in words."""
+    kind = formula[0]
+    if kind == "label":
+        return f'"{formula[1]}" holds'
+    if kind in ("true", "false"):
+        return "anything holds" if kind == "true" else "nothing holds"
+    if kind == "!":
+        if formula[1][0] == "label":
+            return f'"{formula[1][1]}" does not hold'
+        return f"it is not so that ({state_words(formula[1])})"
+    parts = [state_words(part) if part[0] not in JOINTS else f"({state_words(part)})" for part in formula[1:]]
+    return f" {JOINTS[kind]} ".join(parts)

@@ -1,0 +1,122 @@
+"""Tests of tools/measure, over a program that is made up, and over the built one where there is one."""
+
+import stat
+import sys
+import unittest
+
+from trials import TOOLS, InFolder, load, needs_program, program, run_tool
+
+sys.path.insert(0, str(TOOLS.parent / "gallery"))
+
+import die
+import wind
+from exact import exact_values
+from question import Question
+
+measure = load("measure")
+
+# a program of three commands that answers the same of every model
+MADE_UP = """#!/bin/sh
+case "$1" in
+    "") echo 'usage: stogame check TRA LAB FORMULA | audit TRA LAB FORMULA CERT | sure TRA LAB FORMULA'; exit 3 ;;
+    sure) echo 'sure 1 of 5' ;;
+    audit) test -f "$5" && echo 'state 0 lower 0.250000000000000 upper 0.500000000000000 audited Bracket' ;;
+    check)
+        echo 'state 0 lower 0.250000000000000 upper 0.750000000000000 rounds 7 Bracket'
+        echo 'formula Pmax=? [ F "won" ]'
+        echo 'certificate 2 2'
+        echo '0 0.250000000000000 1 1 0.750000000000000 -'
+        echo '1 0.000000000000000 - 0 0.000000000000000 -' ;;
+esac
+"""
+STALL = measure.Entry("traps", "stall-1", "gallery/stall.py 1", '<<max>> Pmax=? [ F "won" ]')
+
+
+class MadeUp(InFolder):
+    def setUp(self):
+        super().setUp()
+        path = self.write("program", MADE_UP)
+        path.chmod(path.stat().st_mode | stat.S_IXUSR)
+        self.program = str(path)
+        self.files = measure.Files(STALL, self.folder)
+
+    def test_the_files_of_a_model(self):
+        """Two rooms, the play, and its two ends; each room has two choices, of which one pays with two moves."""
+        self.assertEqual((self.files.states, self.files.choices, self.files.moves), (5, 7, 9))
+        self.assertEqual(self.files.kind(), "game")
+
+    def test_a_row_of_a_model(self):
+        row = measure.model_row(self.files, self.program)
+        self.assertEqual(row, ["traps", "stall-1", "game", "5", "7", "9", "60.0 %"])
+
+    def test_only_commands_that_there_are(self):
+        names = [command.name for command in measure.offered(self.program)]
+        self.assertEqual(names, ["check", "check, 4 workers", "check --traps", "check --plan", "audit"])
+
+    def test_rows_of_runs(self):
+        rows = list(measure.run_rows(self.files, measure.offered(self.program), self.program, 60))
+        self.assertEqual([row["width"] for row in rows], ["5.0e-01"] * 4 + ["2.5e-01"])
+        self.assertEqual([row["rounds"] for row in rows], ["7"] * 4 + [""])
+        self.assertTrue(all(float(row["seconds"]) < 10 and float(row["megabytes"]) > 0 for row in rows))
+
+    def test_rows_of_widths(self):
+        rows = list(measure.width_rows(self.files, measure.offered(self.program), self.program, 60))
+        self.assertEqual({row["command"] for row in rows}, {"check", "check --traps"})
+        self.assertEqual(len(rows), 2 * len(measure.rounds_up_to(STALL.rounds)))
+
+    def test_a_run_that_takes_too_long_is_given_up(self):
+        run = measure.run_once(["sleep", "20"], 0.1, self.folder / "out")
+        self.assertEqual((run.status, run.is_answered(), run.width()), (None, False, None))
+        row = {**dict.fromkeys(measure.FIELDS["runs"], ""), "model": "m", "command": "check"}
+        self.assertEqual(measure.run_cells(row), ["m", "`check`", "", "given up", "", ""])
+
+    def test_a_table_takes_its_place(self):
+        document = self.write("MEASURED.md", "a\n<!-- measured: runs -->\nold\n<!-- end of measured: runs -->\nb\n")
+        measure.DOCUMENT, kept = document, measure.DOCUMENT
+        self.addCleanup(setattr, measure, "DOCUMENT", kept)
+        measure.store("| new |\n", "runs")
+        text = "a\n<!-- measured: runs -->\n| new |\n<!-- end of measured: runs -->\nb\n"
+        self.assertEqual(document.read_text(encoding="ascii"), text)
+        with self.assertRaises(SystemExit):
+            measure.store("", "widths")
+
+
+class Words(unittest.TestCase):
+    def test_words_of_a_script(self):
+        self.assertEqual(measure.arranged(["7", "--game", "2"], "name"), ["7", "2", "name", "--game"])
+
+    def test_rounds(self):
+        self.assertEqual(measure.rounds_up_to(100), [1, 3, 10, 30, 100])
+        self.assertEqual(measure.rounds_up_to(10), [1, 3, 10])
+
+    def test_faults(self):
+        self.assertEqual(run_tool("measure", "small", "--program", "none")[0], 1)
+        self.assertEqual(run_tool("measure", "--help")[0], 0)
+        status, _, errors = run_tool("measure", "small", "--store", "--program", sys.executable)
+        self.assertEqual((status, errors), (1, "measure: only what is measured in full is stored\n"))
+
+    def test_marks_of_the_document(self):
+        text = measure.DOCUMENT.read_text(encoding="utf-8")
+        for part in measure.HEADS:
+            self.assertIn(f"<!-- measured: {part} -->\n", text)
+            self.assertIn(f"<!-- end of measured: {part} -->\n", text)
+
+
+@needs_program
+class Shares(InFolder):
+    def test_states_strictly_between(self):
+        """The share by the program against values in fractions."""
+        for module, sizes, question in (
+            (die, (6,), Question("Pmax=?", "one")),
+            (wind, (4, 1), Question("Pmax=?", "goal", coalition=("robot",))),
+        ):
+            model = module.model(*sizes)
+            between = sum(0 < value < 1 for value in exact_values(model, question))
+            words = f"gallery/{module.__name__}.py {' '.join(map(str, sizes))}"
+            files = measure.Files(measure.Entry("", "", words, question.formula()), self.folder)
+            share = f"{100 * between / len(model):.1f} %"
+            self.assertEqual(measure.model_row(files, str(program()))[-1], share)
+
+
+if __name__ == "__main__":
+    unittest.main()

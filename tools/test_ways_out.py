@@ -1,0 +1,356 @@
+"""Tables and strategies of certificates, and strategies of one's own: read back, compared with the certificate, and valued."""
+
+import csv
+import io
+import json
+import os
+import re
+import sys
+import unittest
+from fractions import Fraction
+from pathlib import Path
+from types import SimpleNamespace
+
+import explicit
+from calls import call_tool
+from certified_models import certified_models, starts_of
+from choice_names import read_choice_names
+from state_lists import read_valuations
+from strategies import read_strategy
+from trials import SAMPLES, TOOLS, InFolder, needs_program, program, run, run_tool
+
+EXAMPLES = TOOLS.parent / "examples"
+SCHEMA = TOOLS.parent / "docs" / "table.schema.json"
+NAMED = [str(SAMPLES / f"named_game.{ending}") for ending in ("tra", "sta")]
+GAME = [str(EXAMPLES / f"two_players.{ending}") for ending in ("lab", "own")]
+FORMULA = '<<p1>> P>=0.6 [ F "goal" ]'
+
+CERTIFICATE = """formula <<p1>> P>=3/5 [ F "goal" ]
+certificate 2 4
+0 0.650000000000000 1 1 0.650000000000000 -
+1 0.200000000000000 - 1 0.200000000000000 1
+2 1.000000000000000 - 0 1.000000000000000 -
+3 0.000000000000000 - 0 0.000000000000000 -
+"""
+
+TABLE = """state,(turn),(over),owner,labels,lower,upper,mover,choice,action,rank
+0,1,false,p1,init,0.650000000000000,0.650000000000000,maximiser,1,throw,1
+1,2,false,p2,,0.200000000000000,0.200000000000000,minimiser,1,right,1
+2,1,true,p1,goal,1.000000000000000,1.000000000000000,maximiser,-,-,0
+3,2,true,p1,,0.000000000000000,0.000000000000000,maximiser,-,-,0
+"""
+
+# options behind the certificate, and what they write of the strategy
+WRITTEN = [
+    (["--side", "maximiser", "--prism-actions"], "0:throw\n2:0\n3:0\n"),
+    (["--side", "minimiser", "--prism-actions"], "1:right\n"),
+    (["--side", "maximiser", "--prism-actions", "--sta", NAMED[1]], "(1,false):throw\n(1,true):0\n(2,true):0\n"),
+    (["--side", "minimiser", "--storm-json"], '[\n    {"c": [{"index": 3, "prob": 1, "labels": ["right"]}], "s": 1}\n]\n'),
+    (["--side", "minimiser", "--storm-json", "--sta", NAMED[1]],
+     '[\n    {"c": [{"index": 3, "prob": 1, "labels": ["right"]}], "s": {"turn": 2, "over": false}}\n]\n'),
+]
+
+# an owner file, the side, and the transitions that are left of the game
+INDUCED = [
+    ("maximiser", "4 5 8\n0 0 2 0.65 throw\n0 0 3 0.35 throw\n1 0 2 0.5 left\n1 0 3 0.5 left\n1 1 2 0.2 right\n1 1 3 0.8 right\n2 0 2 1\n3 0 3 1\n"),
+    ("minimiser", "4 5 7\n0 0 1 1 pass\n0 1 2 0.65 throw\n0 1 3 0.35 throw\n1 0 2 0.2 right\n1 0 3 0.8 right\n2 0 2 1\n3 0 3 1\n"),
+]
+
+# a certificate's text, the words of a tool, and its one line
+REFUSED = [
+    ("table", "nothing\n", [], "no line begins with 'certificate'"),
+    ("table", "certificate 3 4\n", [], "line 1: 'certificate 3 4' is no 'certificate 2 N' and no 'certificate 1 N'"),
+    ("table", CERTIFICATE.replace("\n3 0", "\n4 0"), [], "line 6: no line of state 3: number, lower bound, choice, rank, upper bound, reply"),
+    ("table", CERTIFICATE.replace("0.650000000000000 1 1", "0.65 1 1"), [], "line 3: no line of state 0: number, lower bound, choice, rank, upper bound, reply"),
+    ("table", CERTIFICATE.replace("650000000000000 1 1", "650000000000000 16384 1"), [], "line 3: a number of state 0 is above its limit"),
+    ("table", CERTIFICATE.replace(" 1 1 0.65", " 1 " + "9" * 5000 + " 0.65"), [], "line 3: a number of state 0 is above its limit"),
+    ("table", CERTIFICATE + "4\n", [], "line 7: more behind the line of the last state, 3"),
+    ("table", "\n".join(CERTIFICATE.split("\n")[:4]), [], "lines of 2 states; the first line states 4"),
+    ("table", CERTIFICATE.replace(" 1 1 0.65", " 2 1 0.65"), ["--tra", NAMED[0]], "line 3: state 0 has 2 choices, counted from 0, and no choice 2"),
+    ("table", CERTIFICATE.replace("000 1\n", "000 2\n"), ["--tra", NAMED[0]], "line 4: state 1 has 2 choices, counted from 0, and no choice 2"),
+    ("strategy", CERTIFICATE, ["--tra", NAMED[0], "--own", GAME[1], "--prism-actions"],
+     "both sides move; --side maximiser or --side minimiser says whose choices are meant"),
+    ("strategy", CERTIFICATE.replace("certificate 2 4", "certificate 2 3"), ["--tra", NAMED[0], "--prism-actions"], "line 6: more behind the line of the last state, 2"),
+]
+
+# a strategy, and what is said of it
+GUARANTEED = [
+    ("0:throw\n", 0, "state 0 maximiser guarantees at least 0.650000000000000 and no more than 0.650000000000000 audited True\n"),
+    ("0=1\n", 0, "state 0 maximiser guarantees at least 0.650000000000000 and no more than 0.650000000000000 audited True\n"),
+    ("0 pass\n", 1, "state 0 maximiser guarantees at least 0.200000000000000 and no more than 0.200000000000000 audited False\n"),
+    ("(1,false):pass\n", 1, "state 0 maximiser guarantees at least 0.200000000000000 and no more than 0.200000000000000 audited False\n"),
+    ("1:left\n", 0, "state 0 minimiser guarantees at most 0.650000000000000 and no less than 0.650000000000000 audited True\n"),
+    ('[{"s": 0, "c": [{"index": 0, "prob": 1}]}]', 1, "state 0 maximiser guarantees at least 0.200000000000000 and no more than 0.200000000000000 audited False\n"),
+]
+
+# a strategy that is refused, and why
+NO_STRATEGY = [
+    ("0:2\n", "line 1: state 0 has 2 choices, counted from 0, and no choice 2"),
+    ("0:jump\n", "line 1: state 0 has no choice of the name jump"),
+    ("0:throw\n0:throw\n", "line 2: state 0 stands a second time"),
+    ("7:0\n", "line 1: 7 is no state"),
+    ("0:throw\n1:left\n", "line 2: state 1 is of another side than state 0; a strategy is of one side"),
+    ("3:0\n", "state 0 is reached, has 2 choices, and is not named"),
+    ("(9,9):0\n", "line 1: no state has the values (9,9); --sta names the list of states"),
+    ("throw\n", "line 1: no state and choice"),
+    ("\n", "no state is named"),
+    ("[{]", "line 1: no JSON: Expecting property name enclosed in double quotes"),
+    ('[{"s": 0, "c": [{"index": 0, "prob": 0.5}, {"index": 1, "prob": 0.5}]}]', "object 1: no state with one choice"),
+]
+
+
+def fits(schema, value):
+    """Whether a value is of a schema of the few kinds that the table's has."""
+    kinds = {"object": dict, "array": list, "string": str, "integer": int, "null": type(None)}
+    kind = schema.get("type", [])
+    if not any(isinstance(value, kinds[one]) for one in ([kind] if isinstance(kind, str) else kind)):
+        return "enum" in schema and value in schema["enum"]
+    if isinstance(value, dict):
+        known, other = schema.get("properties", {}), schema.get("additionalProperties", False)
+        if not set(schema.get("required", ())) <= set(value):
+            return False
+        return all(fits(known.get(name) or other, one) if name in known or other else False for name, one in value.items())
+    if isinstance(value, list):
+        return all(fits(schema["items"], one) for one in value)
+    return "pattern" not in schema or re.search(schema["pattern"], value) is not None
+
+
+class Small(InFolder):
+    """The game of two players, with names of actions and variables."""
+
+    def setUp(self):
+        super().setUp()
+        self.cert = str(self.write("cert", CERTIFICATE))
+
+    def test_table_as_csv(self):
+        words = ["--tra", NAMED[0], "--sta", NAMED[1], "--lab", GAME[0], "--own", GAME[1]]
+        self.assertEqual(call_tool("table", self.cert, *words, "--csv"), (0, TABLE, ""))
+        plain = call_tool("table", self.cert, *words)[1].splitlines()
+        self.assertEqual([line.split() for line in plain], [[field or "-" for field in line.split(",")] for line in TABLE.splitlines()])
+
+    def test_table_of_a_certificate_alone(self):
+        text = call_tool("table", self.cert, "--csv")[1]
+        self.assertEqual(text.splitlines()[:2], ["state,lower,upper,mover,choice,rank", "0,0.650000000000000,0.650000000000000,maximiser,1,1"])
+
+    def test_who_moves_has_to_be_known(self):
+        text = "certificate 2 1\n0 0.000000000000000 0 0 1.000000000000000 0\n"
+        cert, tra, lab = str(self.write("both", text)), self.write("m.tra", "1 1 1\n0 0 0 1\n"), None
+        status, output, errors = call_tool("table", cert)
+        self.assertEqual((status, output), (1, ""))
+        self.assertEqual(errors, f"table: {cert}: line 2: state 0 has a choice and a reply, so it takes --formula, and --own of a game, to say who moves\n")
+        self.assertIn("maximiser", call_tool("table", cert, "--formula", 'Pmax=? [ F "a" ]')[1])
+        self.assertIn("minimiser", call_tool("table", cert, "--formula", 'Pmax=? [ G "a" ]')[1])
+
+    def test_written_strategies(self):
+        for options, text in WRITTEN:
+            with self.subTest(options=options):
+                self.assertEqual(call_tool("strategy", self.cert, "--tra", NAMED[0], "--own", GAME[1], *options), (0, text, ""))
+
+    def test_induced_models(self):
+        for side, text in INDUCED:
+            with self.subTest(side=side):
+                out = str(self.folder / side)
+                words = ["--tra", NAMED[0], "--lab", GAME[0], "--own", GAME[1], "--side", side, "--induced", out]
+                self.assertEqual(call_tool("strategy", self.cert, *words)[1], f"{out}.tra\n{out}.lab\n{out}.own\n")
+                written = self.written()
+                self.assertEqual(written[f"{side}.tra"], text)
+                self.assertEqual([written[f"{side}.{ending}"] for ending in ("lab", "own")], [Path(name).read_text() for name in GAME])
+
+    def test_the_model_is_not_written_over(self):
+        tra, lab = self.write("m.tra", "1 1 1\n0 0 0 1\n"), self.write("m.lab", '0="init"\n0: 0\n')
+        cert = self.write("one", "certificate 2 1\n0 0.000000000000000 - 0 0.000000000000000 -\n")
+        status, _, errors = call_tool("strategy", cert, "--tra", tra, "--lab", lab, "--induced", self.folder / "m")
+        self.assertEqual((status, errors), (1, f"strategy: {self.folder / 'm'}: this would write over a file of the model\n"))
+
+    def test_refusals(self):
+        for tool, text, words, cause in REFUSED:
+            with self.subTest(cause=cause):
+                cert = str(self.write("changed", text))
+                status, output, errors = call_tool(tool, cert, *words)
+                self.assertEqual((status, output, errors), (1, "", f"{tool}: {cert}: {cause}\n"))
+
+    def test_a_second_action_is_refused(self):
+        tra = str(self.write("m.tra", Path(NAMED[0]).read_text().replace("0 1 3 0.35 throw", "0 1 3 0.35 jump")))
+        status, _, errors = call_tool("table", self.cert, "--tra", tra)
+        self.assertEqual((status, errors), (1, f"table: {tra}: line 4: state 0 choice 1 has a second action, 'jump'\n"))
+
+    def test_lists_of_states(self):
+        for text, cause in (
+            ("turn\n", "line 1: no names of variables in brackets"),
+            ("(turn)\n0:(1)\n1:(1,2)\n", "line 3: no state with 1 values"),
+            ("(turn)\n0:(1)\n0:(1)\n", "line 3: state 0 stands a second time"),
+            ("(turn)\n4:(1)\n", "line 2: 4 is no state"),
+            ("(turn)\n0:(1)\n2:(1)\n3:(1)\n", "no values of state 1"),
+        ):
+            with self.subTest(text=text):
+                name = str(self.write("m.sta", text))
+                self.assertEqual(call_tool("table", self.cert, "--sta", name)[2], f"table: {name}: {cause}\n")
+
+    def test_help_and_closed_pipes(self):
+        for tool in ("table", "strategy", "guarantee", "properties", "dossier", "reaudit"):
+            with self.subTest(tool=tool):
+                self.assertEqual(run_tool(tool, "--help")[0], 0)
+        self.write("long", "certificate 2 20000\n" + "".join(f"{state} 0.000000000000000 - 0 0.000000000000000 -\n" for state in range(20000)))
+        ended = run("bash", "-c", f"{sys.executable} {TOOLS / 'table'} {self.folder / 'long'} --csv | head -n 1")
+        self.assertEqual(ended[1:], ("state,lower,upper,mover,choice,rank\n", ""))
+        ended = run("bash", "-c", f"{sys.executable} {TOOLS / 'table'} {self.cert} >/dev/full")
+        self.assertEqual(ended, (1, "", "table: output: No space left on device\n"))
+
+
+@needs_program
+class Guarantees(InFolder):
+    """What strategies for the game of two players guarantee: 0.65 by throwing, else what the other player leaves."""
+
+    def setUp(self):
+        super().setUp()
+        os.environ["STOGAME"] = str(program())
+
+    def ask(self, text, *more):
+        words = [NAMED[0], GAME[0], FORMULA, "--own", GAME[1], "--sta", NAMED[1], "--strategy", self.write("mine", text)]
+        return call_tool("guarantee", *words, *more)
+
+    def test_rows(self):
+        for text, status, line in GUARANTEED:
+            with self.subTest(text=text):
+                self.assertEqual(self.ask(text), (status, line, ""))
+
+    def test_by_check_and_with_files(self):
+        out = str(self.folder / "out")
+        self.assertEqual(self.ask(GUARANTEED[0][0], "--by", "check", "--out", out), (0, GUARANTEED[0][2], ""))
+        self.assertEqual(sorted(self.written()), ["mine", "out.cert", "out.lab", "out.own", "out.tra"])
+        words = [f"{out}.tra", f"{out}.lab", FORMULA, f"{out}.cert", "--own", f"{out}.own"]
+        self.assertEqual(run(program(), "audit", *words)[0], 0)
+
+    def test_what_is_never_reached_need_not_be_named(self):
+        """One player at state 0, where it leaves for the goal or for state 1, in which it would have a choice."""
+        tra = self.write("m.tra", "4 5 6\n0 0 2 1\n0 1 1 1\n1 0 2 0.5\n1 0 3 0.5\n1 1 3 1\n2 0 2 1\n")
+        lab = self.write("m.lab", '0="init" 1="goal"\n0: 0\n2: 1\n')
+        for text, said in (
+            ("0:0\n", "state 0 maximiser guarantees at least 1.000000000000000 and no more than 1.000000000000000 audited Bracket\n"),
+            ("0:1\n1:0\n", "state 0 maximiser guarantees at least 0.500000000000000 and no more than 0.500000000000000 audited Bracket\n"),
+        ):
+            self.assertEqual(call_tool("guarantee", tra, lab, 'Pmax=? [ F "goal" ]', "--strategy", self.write("mine", text)), (0, said, ""))
+        name = self.write("mine", "0:1\n")
+        errors = call_tool("guarantee", tra, lab, 'Pmax=? [ F "goal" ]', "--strategy", name)[2]
+        self.assertEqual(errors, f"guarantee: {name}: state 1 is reached, has 2 choices, and is not named\n")
+
+    def test_always(self):
+        """Of G the side that wants it is the maximiser; the goals of the dual are where it fails."""
+        tra, lab = self.write("m.tra", "2 3 4\n0 0 0 1\n0 1 0 0.5\n0 1 1 0.5\n1 0 1 1\n"), self.write("m.lab", '0="init" 1="bad"\n0: 0\n1: 1\n')
+        said = "state 0 maximiser guarantees at least {0} and no more than {0} audited Bracket\n"
+        for text, value in (("0:0\n", "1.000000000000000"), ("0:1\n", "0.000000000000000")):
+            words = [tra, lab, 'Pmax=? [ G !"bad" ]', "--strategy", self.write("mine", text), "--by", "check"]
+            self.assertEqual(call_tool("guarantee", *words), (0, said.format(value), ""))
+
+    def test_refusals(self):
+        for text, cause in NO_STRATEGY:
+            with self.subTest(text=text):
+                self.assertEqual(self.ask(text), (1, "", f"guarantee: {self.folder / 'mine'}: {cause}\n"))
+
+@needs_program
+class OfTheGallery(InFolder):
+    """Each small model: tables and strategies are read back, and the induced models have values within the bounds."""
+
+    def test_tables(self):
+        schema = json.loads(SCHEMA.read_text())
+        for one in certified_models():
+            with self.subTest(model=one.name):
+                cert = self.write("cert", one.text)
+                rows = list(csv.DictReader(io.StringIO(call_tool("table", cert, *one.files(), "--csv")[1])))
+                made = json.loads(call_tool("table", cert, *one.files(), "--json")[1])
+                self.assertTrue(fits(schema, made))
+                self.assertEqual(made["formula"], one.formula)
+                self.assertEqual([as_csv(row) for row in made["states"]], rows)
+                self.assertEqual([entry_of(row) for row in rows], one.entries)
+                for label, states in one.model.labels.items():
+                    self.assertEqual([state for state, row in enumerate(rows) if label in row["labels"].split()], sorted(states))
+                owners = [one.model.players[owner] for owner in one.model.owners]
+                self.assertEqual([row["owner"] for row in rows if "owner" in row], owners)
+
+    def test_strategies(self):
+        for one in certified_models():
+            for side, wanted in strategies_of(one).items():
+                with self.subTest(model=one.name, side=side):
+                    cert, words = self.write("cert", one.text), [*one.files(), "--side", side]
+                    actions = call_tool("strategy", cert, *words, "--prism-actions")[1]
+                    scheduler = call_tool("strategy", cert, *words, "--storm-json")[1]
+                    self.assertEqual([tuple(map(int, line.split(":"))) for line in actions.splitlines()], wanted)
+                    starts = starts_of(one.words[0])
+                    objects = [(row["s"], row["c"][0]["index"] - starts[row["s"]]) for row in json.loads(scheduler)]
+                    self.assertEqual(objects, wanted)
+                    model = explicit.read_transitions(one.words[0])
+                    names = read_choice_names(one.words[0], model)
+                    for text in (actions, scheduler):
+                        found = read_strategy(str(self.write("mine", text)), names)
+                        self.assertEqual([(state, number) for state, (number, _) in sorted(found.items())], wanted)
+
+    def test_induced_models(self):
+        for one in certified_models():
+            for side in strategies_of(one):
+                with self.subTest(model=one.name, side=side):
+                    out = str(self.folder / "induced")
+                    call_tool("strategy", self.write("cert", one.text), *one.files(), "--side", side, "--induced", out)
+                    words = [f"{out}.tra", f"{out}.lab", one.words[2]] + (["--own", f"{out}.own"] if len(one.words) > 3 else [])
+                    _, output, _ = run(program(), "check", *words, "--workers", "1", "--rounds", "300")
+                    self.within(one, output)
+                    if one.states() <= 60:
+                        self.exactly_within(one, out)
+
+    def within(self, one, output):
+        """The printed bracket of the initial state has a number in common with the certificate's."""
+        fields = output.split()
+        lower, upper = (Fraction(one.entries[0][place]) for place in (1, 4))
+        self.assertTrue(Fraction(fields[3]) <= upper and lower <= Fraction(fields[5]), output)
+
+    def exactly_within(self, one, out):
+        """The exact values of the induced model lie between the bounds at every state."""
+        from exact import exact_values
+
+        values = exact_values(plain_model(out, one.model), one.question)
+        for state, value in enumerate(values):
+            lower, upper = (Fraction(one.entries[state][place]) for place in (1, 4))
+            self.assertTrue(lower <= value <= upper, (state, value))
+
+
+def as_csv(row):
+    """A row of the JSON as CSV has it."""
+    return {name: " ".join(value) if isinstance(value, list) else "-" if value is None else str(value) for name, value in row.items()}
+
+
+def entry_of(row):
+    """The fields of a certificate's line that a row of the table was made of."""
+    replies = row["mover"] == "minimiser"
+    choice, reply = ("-", row["choice"]) if replies else (row["choice"], "-")
+    return [row["state"], row["lower"], choice, row["rank"], row["upper"], reply]
+
+
+def strategies_of(one):
+    """The states of each side with the choices of a certificate, the first where none is named; of the sides that move."""
+    sides = {"maximiser": [], "minimiser": []}
+    players = [one.model.players[owner] for owner in one.model.owners] or ["p0"] * one.states()
+    for state, (player, entry) in enumerate(zip(players, one.entries)):
+        maximises = one.question.maximises(player)
+        named = entry[2 if maximises else 5]
+        sides["maximiser" if maximises else "minimiser"].append((state, 0 if named == "-" else int(named)))
+    return {side: pairs for side, pairs in sides.items() if pairs}
+
+
+def plain_model(out, model):
+    """A model that was written, as the gallery's exact values take it."""
+    made = explicit.read_transitions(f"{out}.tra")
+    choices = []
+    for state in range(made.states):
+        rows = [(made.weighted(choice), made.edges_of(choice)) for choice in made.choices_of(state)]
+        choices.append([{made.successor[edge]: Fraction(weight, total) for weight, edge in zip(weights, edges)} for (weights, total), edges in rows])
+
+    class Plain(SimpleNamespace):
+        def __len__(self):
+            return len(self.choices)
+
+        __hash__ = object.__hash__
+
+    return Plain(choices=choices, labels=model.labels, players=model.players, owners=model.owners)
+
+
+if __name__ == "__main__":
+    unittest.main()
