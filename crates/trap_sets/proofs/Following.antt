@@ -6,7 +6,7 @@ use Rattle.std.proofs.lemmas.List.{get_or_default, get_or-set_same, get_or-set_o
 use Rattle.std.proofs.lemmas.List.Elements.{All-more, All-weaker, All-contains}
 use Rattle.predecessors.specs.declared.lists.Move.{Move}
 use Rattle.predecessors.specs.Moves.{move, LeadsTo}
-use Rattle.predecessors.proofs.Moves.{Contains-moves_to}
+use Rattle.predecessors.proofs.Listed.{listed-exactly}
 use Rattle.trap_sets.specs.declared.inner.Inner.{Inner}
 use Rattle.trap_sets.specs.OfInner.{states_of, LeadsOf, IsInnerOf, IsStepOf}
 use Rattle.trap_sets.specs.Searching.{IsBehind, IsBefore, IsMarking, IsFurther, IsMet}
@@ -65,7 +65,7 @@ module _ (inner : Inner) (class : List ℕ) (pivot : ℕ) where
       → All (IsMet inner class seen pivot) (take i items) → IsStepOf inner s t → slice_index class s ≡ 0 → slice_index seen s ≡ pivot + 1
   met-all items seen i s t inside same all met step free =
       let leads : LeadsTo inner.cut.question.now.game s step.choice t = record { state = step.state; choice = step.inner.cut.inside; successor = step.leads } in
-      let in' : Contains items (move s step.choice) = subst (λ (xs : List Move). Contains xs (move s step.choice)) (sym (same ∙ inner.cut.lists.same t inside)) (Contains-moves_to inner.cut.question.now.game s step.choice t leads) in
+      let in' : Contains items (move s step.choice) = subst (λ (xs : List Move). Contains xs (move s step.choice)) (sym same) ((listed-exactly inner.cut.lists s step.choice t inside).1 leads) in
       All-contains (IsMet inner class seen pivot) items (move s step.choice) (subst (All (IsMet inner class seen pivot)) (take_all i items all) met) in' step.inner free
 
   -- a state from which an inner choice leads to one behind the pivot is behind it

@@ -2,7 +2,7 @@
 
 ghost use Rattle.std.specs.Prelude.{◌≡◌, length};
 ghost use Rattle.game_model.specs.Query.{IsQuery, states};
-ghost use Rattle.trap_sets.specs.Lists.{ListMoves};
+ghost use Rattle.predecessors.specs.Lists.{ArePredecessors};
 
 use crate::choices::stays;
 use game_model::{Question, Side};
@@ -17,7 +17,7 @@ pub struct Cut<'a> {
     pub predecessors: &'a Predecessors,
     ghost posed: { IsQuery question.now },
     ghost replied: { length replies.now ≡ states question.now },
-    ghost lists: { ListMoves question.now.game predecessors.now },
+    ghost lists: { ArePredecessors question.now.game predecessors.now },
 }
 
 impl Cut<'_> {
