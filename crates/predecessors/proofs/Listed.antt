@@ -1,5 +1,5 @@
 -- What stands in a list of predecessors.
-use Rattle.std.proofs.Common.{◌≡◌, ℕ, ◌<◌, List, [], length, sym, subst, slice_index_or}
+use Rattle.std.proofs.Common.{ℕ, ◌<◌, List, [], length, sym, subst, slice_index_or}
 use Rattle.std.specs.Prelude.{◌↔◌, Contains}
 use Rattle.game_model.specs.Game.{Distribution}
 use Rattle.predecessors.specs.declared.lists.Move.{Move}
