@@ -12,6 +12,7 @@ use Rattle.game_model.proofs.Longer.{longer-at, longer-length}
 use Rattle.predecessors.specs.declared.lists.Move.{Move}
 use Rattle.predecessors.specs.Moves.{move, LeadsTo}
 use Rattle.predecessors.specs.Lists.{ArePredecessors}
+use Rattle.predecessors.proofs.Listed.{listed-exactly}
 use Rattle.attractors.specs.Attractor.{Barred, meets, is_attracted, AreGoals, from_goals, IsAttractor}
 use Rattle.attractors.specs.Growing.{moves_into, LeadsIn, IsOrder, IsLeft, IsGrowth}
 use Rattle.attractors.proofs.Meeting.{meets-successor, destination-at}
@@ -53,7 +54,7 @@ all-followed q barred lists members awaited order s c posed are h ls lc meet =
     let u : ℕ = (get_or (choice_of q.game s c).edges one.0 no_edge).to in
     let inside : u < length q.game = posed.game.inside s c ls lc one.0 no_edge one.1 in
     let leads : LeadsTo q.game s c u = record { state = ls; choice = lc; successor = destination-at (choice_of q.game s c) one.0 one.1 } in
-    Contains-moves_into lists order u (move s c) (h.ordered.listed u (omega (arith, inside, h.many)) one.2) ((are.exact s c u inside).1 leads)
+    Contains-moves_into lists order u (move s c) (h.ordered.listed u (omega (arith, inside, h.many)) one.2) ((listed-exactly are s c u inside).1 leads)
 
 -- and then the side of a state that is left is not attracted
 side-left : (q : Query) (barred : Barred) (lists : List (List Move)) (members : List Bool) (awaited order : List ℕ) (s : ℕ) (side : Side) → side_at q s ≡ side → IsQuery q → ArePredecessors q.game lists → IsGrowth q barred (moves_into lists order) members awaited order
@@ -85,7 +86,7 @@ leads-in game lists members old order place member k list d are many ordered lon
     let m : Move = get_or list k d in
     record {
       to = member;
-      leads = (are.exact m.state m.choice member (omega (arith, inside, many))).0 (subst (λ (l : List Move). Contains l m) is_list (Contains-get_or list k d lk));
+      leads = (listed-exactly are m.state m.choice member (omega (arith, inside, many))).0 (subst (λ (l : List Move). Contains l m) is_list (Contains-get_or list k d lk));
       member = subst (λ u. slice_index_or members u false ≡ true) at (ordered.joined place there);
     }
 

@@ -10,6 +10,7 @@ use Rattle.game_model.specs.Query.{Query, states}
 use Rattle.predecessors.specs.declared.lists.Move.{Move}
 use Rattle.predecessors.specs.Moves.{move, LeadsTo}
 use Rattle.predecessors.specs.Lists.{ArePredecessors}
+use Rattle.predecessors.proofs.Listed.{listed-exactly}
 use Rattle.attractors.specs.Attractor.{Barred, meets, serves}
 use Rattle.attractors.specs.Growing.{moves_into, IsOrder, IsGrowth, IsLarger, IsTested, AreTested}
 use Rattle.attractors.proofs.Meeting.{meets-at, meets-more}
@@ -69,7 +70,7 @@ move-meets q lists set order s c are many ordered among =
     let at : slice_index order one.1.0 ≡ one.0 = get_or_default order one.1.0 0 one.0 one.1.1 ∙ one.1.2 in
     let inside : one.0 < length set = subst (λ u. u < length set) at (ordered.inside one.1.0 one.1.1) in
     let member : slice_index_or set one.0 false ≡ true = subst (λ u. slice_index_or set u false ≡ true) at (ordered.joined one.1.0 one.1.1) in
-    let leads : LeadsTo q.game s c one.0 = (are.exact s c one.0 (omega (arith, inside, many))).0 one.2 in
+    let leads : LeadsTo q.game s c one.0 = (listed-exactly are s c one.0 (omega (arith, inside, many))).0 one.2 in
     meets-at set (choice_of q.game s c) one.0 leads.successor member
 
 -- where each state that is left was tested, the moves to the tested set may count as followed

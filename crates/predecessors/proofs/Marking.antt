@@ -9,6 +9,7 @@ use Rattle.predecessors.specs.declared.lists.Move.{Move}
 use Rattle.predecessors.specs.Lists.{ArePredecessors}
 use Rattle.predecessors.specs.Marks.{IsMarked}
 use Rattle.predecessors.specs.Moves.{move, LeadsTo}
+use Rattle.predecessors.proofs.Listed.{listed-exactly}
 
 -- each move of the list leads to the state
 pub predecessor-leads : (game : List (List Distribution)) (lists : List (List Move)) (items : List Move) (t k : ℕ) → ArePredecessors game lists → t < length game → items ≡ slice_index_or lists t [] → k < length items
@@ -16,7 +17,7 @@ pub predecessor-leads : (game : List (List Distribution)) (lists : List (List Mo
 predecessor-leads game lists items t k are inside is within =
     let m : Move = slice_index_or items k (move 0 0) in
     let found : Contains (slice_index_or lists t []) m = subst (λ (l : List Move). Contains l m) is (Contains-get_or items k (move 0 0) within) in
-    (are.exact m.state m.choice t inside).0 found
+    (listed-exactly are m.state m.choice t inside).0 found
 
 -- each predecessor is a state
 pub predecessor-inside : (game : List (List Distribution)) (lists : List (List Move)) (items : List Move) (t k : ℕ) → ArePredecessors game lists → t < length game → items ≡ slice_index_or lists t [] → k < length items
@@ -27,7 +28,7 @@ predecessor-inside game lists items t k are inside is within = (predecessor-lead
 pub all-marked : (game : List (List Distribution)) (lists : List (List Move)) (items : List Move) (marks : List Bool) (t s c : ℕ) → ArePredecessors game lists → t < length game → items ≡ slice_index_or lists t []
     → ((k : ℕ) → k < length items → IsMarked marks (slice_index_or items k (move 0 0)).state) → LeadsTo game s c t → IsMarked marks s
 all-marked game lists items marks t s c are inside is each leads =
-    let found : Contains items (move s c) = subst (λ (l : List Move). Contains l (move s c)) (sym is) ((are.exact s c t inside).1 leads) in
+    let found : Contains items (move s c) = subst (λ (l : List Move). Contains l (move s c)) (sym is) ((listed-exactly are s c t inside).1 leads) in
     let same : slice_index_or items found.0 (move 0 0) ≡ move s c = get_or_default items found.0 (move 0 0) (move s c) found.1 ∙ found.2 in
     subst (λ (m : Move). IsMarked marks m.state) same (each found.0 found.1)
 

@@ -1,14 +1,13 @@
 -- What contracts see of the lists of predecessors.
-use Rattle.std.specs.Prelude.{◌≡◌, ℕ, ◌<◌, ◌≤◌, ◌↔◌, List, [], ◌∷◌, length, slice_index, slice_index_or, slice_range, Contains}
+use Rattle.std.specs.Prelude.{◌≡◌, ℕ, ◌<◌, ◌≤◌, List, [], ◌∷◌, length, slice_index, slice_index_or, slice_range}
 use Rattle.game_model.specs.Game.{Distribution}
 use Rattle.predecessors.specs.declared.lists.Move.{Move}
-use Rattle.predecessors.specs.Moves.{move, LeadsTo, moves_to}
+use Rattle.predecessors.specs.Moves.{moves_to}
 
--- a choice stands in the list of a state exactly where it leads there; the list is in the order of the game, with each
--- choice as often as it has an edge there
+-- the list of a state is that of the choices that lead there, in the order of the game, each as often as it has an edge
+-- there
 pub record ArePredecessors (game : List (List Distribution)) (lists : List (List Move)) : Type 0 where
   pub many : length lists ≡ length game
-  pub exact : (s c t : ℕ) → t < length game → Contains (slice_index_or lists t []) (move s c) ↔ LeadsTo game s c t
   pub same : (t : ℕ) → t < length game → slice_index_or lists t [] ≡ moves_to game t
 
 -- the lists that end at these places, of which the first begins at b

@@ -6,8 +6,9 @@ use Rattle.std.proofs.lemmas.List.{get_or_default, get_or-set_same, get_or-set_o
 use Rattle.std.proofs.lemmas.List.Elements.{All-more, All-weaker, All-contains}
 use Rattle.predecessors.specs.declared.lists.Move.{Move}
 use Rattle.predecessors.specs.Moves.{move, LeadsTo}
+use Rattle.predecessors.proofs.Listed.{listed-exactly}
 use Rattle.trap_sets.specs.declared.inner.Inner.{Inner}
-use Rattle.trap_sets.specs.OfInner.{states_of, HasLists, LeadsOf, IsInnerOf, IsStepOf}
+use Rattle.trap_sets.specs.OfInner.{states_of, LeadsOf, IsInnerOf, IsStepOf}
 use Rattle.trap_sets.specs.Searching.{IsBehind, IsBefore, IsMarking, IsFurther, IsMet}
 use Rattle.trap_sets.proofs.Walking.{reach-join, reach-step}
 use Rattle.trap_sets.proofs.Marking.{within, IsMarking-none, IsMarking-more, longer-at}
@@ -60,11 +61,11 @@ module _ (inner : Inner) (class : List ℕ) (pivot : ℕ) where
       All-more (IsMet inner class new pivot) items i d l (All-weaker (IsMet inner class old pivot) (IsMet inner class new pivot) (λ m met inner free. kept m.state (met inner free)) (take i items) before) here
 
   -- all moves of a list are met
-  pub met-all : (items : List Move) (seen : List ℕ) (i s t : ℕ) → HasLists inner → t < states_of inner → items ≡ slice_index_or inner.cut.predecessors.now t [] → length items ≤ i
+  pub met-all : (items : List Move) (seen : List ℕ) (i s t : ℕ) → t < states_of inner → items ≡ slice_index_or inner.cut.predecessors.now t [] → length items ≤ i
       → All (IsMet inner class seen pivot) (take i items) → IsStepOf inner s t → slice_index class s ≡ 0 → slice_index seen s ≡ pivot + 1
-  met-all items seen i s t h inside same all met step free =
+  met-all items seen i s t inside same all met step free =
       let leads : LeadsTo inner.cut.question.now.game s step.choice t = record { state = step.state; choice = step.inner.cut.inside; successor = step.leads } in
-      let in' : Contains items (move s step.choice) = subst (λ (xs : List Move). Contains xs (move s step.choice)) (sym same) ((h.exact s step.choice t inside).1 leads) in
+      let in' : Contains items (move s step.choice) = subst (λ (xs : List Move). Contains xs (move s step.choice)) (sym same) ((listed-exactly inner.cut.lists s step.choice t inside).1 leads) in
       All-contains (IsMet inner class seen pivot) items (move s step.choice) (subst (All (IsMet inner class seen pivot)) (take_all i items all) met) in' step.inner free
 
   -- a state from which an inner choice leads to one behind the pivot is behind it

@@ -9,7 +9,8 @@ use Rattle.game_model.specs.Game.{no_edge, destinations, choices_of, choice_of}
 use Rattle.game_model.specs.Query.{Query, IsQuery, states}
 use Rattle.predecessors.specs.declared.lists.Move.{Move}
 use Rattle.predecessors.specs.Moves.{LeadsTo}
-use Rattle.predecessors.specs.Lists.{ArePredecessors}
+use Rattle.predecessors.proofs.Listed.{listed-exactly}
+use Rattle.trap_sets.specs.declared.cut.Cut.{Cut}
 use Rattle.trap_sets.specs.Ends.{Leads}
 use Rattle.trap_sets.specs.Parts.{Stays, Leaves}
 
@@ -23,10 +24,10 @@ leads-listed q s c t to same h =
     (at.0, at.1, get_or_default to at.0 0 t at.1 ∙ at.2)
 
 -- a move in the list of a state leads to it
-pub listed-move : (q : Query) (lists : List (List Move)) (items : List Move) (t i : ℕ) (d : Move) → ArePredecessors q.game lists → t < states q → items ≡ slice_index_or lists t [] → i < length items
-    → LeadsTo q.game (get_or items i d).state (get_or items i d).choice t
-listed-move q lists items t i d h inside same l =
-    (h.exact (get_or items i d).state (get_or items i d).choice t inside).0 (subst (λ (xs : List Move). Contains xs (get_or items i d)) same (Contains-get_or items i d l))
+pub listed-move : (cut : Cut) (items : List Move) (t i : ℕ) (d : Move) → t < states cut.question.now → items ≡ slice_index_or cut.predecessors.now t [] → i < length items
+    → LeadsTo cut.question.now.game (get_or items i d).state (get_or items i d).choice t
+listed-move cut items t i d inside same l =
+    (listed-exactly cut.lists (get_or items i d).state (get_or items i d).choice t inside).0 (subst (λ (xs : List Move). Contains xs (get_or items i d)) same (Contains-get_or items i d l))
 
 -- a successor is a state
 pub leads-inside : (q : Query) (s c t : ℕ) → IsQuery q → s < states q → c < length (choices_of q.game s) → Leads q s c t → t < states q

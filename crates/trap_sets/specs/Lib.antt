@@ -2,6 +2,7 @@ pub mod Ends
 pub mod Exits
 pub mod Lowered
 pub mod Parts
+pub mod OfCut
 pub mod OfInner
 pub mod Searching
 pub mod Trimming

@@ -1,17 +1,12 @@
 -- The definitions, at the inner choices of a round.
 use Rattle.std.specs.Prelude.{ℕ, List}
 use Rattle.game_model.specs.Query.{states}
-use Rattle.predecessors.specs.Lists.{ArePredecessors}
 use Rattle.trap_sets.specs.declared.inner.Inner.{Inner}
 use Rattle.trap_sets.specs.Ends.{Leads}
 use Rattle.trap_sets.specs.Parts.{IsInner, IsStep, Comes, IsPlacing, AreClasses}
 
 abbrev pub states_of : Inner → ℕ
 states_of inner = states inner.cut.question.now
-
--- the lists of the cut question are those of its game
-abbrev pub HasLists : Inner → Type 0
-HasLists inner = ArePredecessors inner.cut.question.now.game inner.cut.predecessors.now
 
 -- choice c of state s leads to state t
 abbrev pub LeadsOf : Inner → ℕ → ℕ → ℕ → Type 0

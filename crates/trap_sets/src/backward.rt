@@ -2,7 +2,7 @@
 
 ghost use Rattle.std.specs.Prelude.{◌≡◌, ◌≢◌, ℕ, ◌+◌, ◌<◌, length, slice_index, OnOk};
 ghost use Rattle.game_model.specs.Game.{choices_of};
-ghost use Rattle.trap_sets.specs.OfInner.{states_of, HasLists, LeadsOf, IsStepOf};
+ghost use Rattle.trap_sets.specs.OfInner.{states_of, LeadsOf, IsStepOf};
 ghost use Rattle.trap_sets.specs.Searching.{IsBehind, IsMarking, IsFurther, IsMet, AreMarkedBack};
 
 use crate::inner::Inner;
@@ -17,7 +17,6 @@ pub fn go_back(
     seen: &mut [u32],
     list: &mut Vec<u32>,
 ) -> Result<(), OutOfMemory>
-    requires lists { HasLists inner.now }
     requires class { length class.now ≡ states_of inner.now }
     requires pivot { pivot < states_of inner.now }
     requires unplaced { slice_index class.now pivot ≡ 0 }
@@ -25,7 +24,6 @@ pub fn go_back(
     requires unseen { (s : ℕ) → slice_index seen.old s ≢ pivot + 1 }
     ensures { OnOk result (AreMarkedBack inner.now class.now pivot seen.old seen.new) }
 {
-    inner.cut.question.known();
     list.clear();
     seen[pivot as usize] = pivot + 1;
     list.push(pivot)?;
@@ -47,7 +45,6 @@ fn follow_back(
     seen: &mut [u32],
     list: &mut Vec<u32>,
 ) -> Result<(), OutOfMemory>
-    requires lists { HasLists inner.now }
     requires class { length class.now ≡ states_of inner.now }
     requires pivot { pivot < states_of inner.now }
     requires state { state < states_of inner.now }
@@ -87,7 +84,6 @@ fn meet_back(
     ensures further { OnOk result (IsFurther seen.old seen.new list.old.items list.new.items pivot) }
     ensures met { OnOk result (IsMet inner.now class.now seen.new pivot step) }
 {
-    inner.cut.question.known();
     let from = step.state as usize;
     if class[from] != 0 || seen[from] == pivot + 1 {
         return Ok(());

@@ -2,10 +2,9 @@
 
 ghost use Rattle.std.specs.Prelude.{◌≡◌, ◌≢◌, ℕ, ◌+◌, ◌<◌, length, slice_index, All, IfOk, OnOk};
 ghost use Rattle.game_model.specs.Query.{states};
-ghost use Rattle.predecessors.specs.Lists.{ArePredecessors};
-ghost use Rattle.trap_sets.specs.Parts.{AreClasses};
-ghost use Rattle.trap_sets.specs.OfInner.{states_of, HasLists, IsPlacingOf, AreClassesOf};
+ghost use Rattle.trap_sets.specs.OfInner.{states_of, IsPlacingOf, AreClassesOf};
 ghost use Rattle.trap_sets.specs.Searching.{AreSpent};
+ghost use Rattle.trap_sets.specs.OfCut.{states_in, AreClassesIn};
 
 use crate::backward::go_back;
 use crate::cut::Cut;
@@ -20,9 +19,8 @@ use std::alloc::Global;
 /// leaves them, backward, so each search backward meets one class alone (Kosaraju and Sharir); the classes are
 /// the same in each order.
 pub fn classes(alloc: Global, cut: &Cut<'_>, part: &[u32]) -> Result<Vec<u32>, OutOfMemory>
-    requires part { length part.now ≡ states cut.now.question.now }
-    requires lists { ArePredecessors cut.now.question.now.game cut.now.predecessors.now }
-    ensures { IfOk result (λ class. AreClasses cut.now.question.now cut.now.replies.now part.now class.items) }
+    requires part { length part.now ≡ states_in cut.now }
+    ensures { IfOk result (λ class. AreClassesIn cut.now part.now class.items) }
 {
     let inner = Inner::of_parts(alloc, cut, part)?;
     let order = leaving_order(alloc, &inner)?;
@@ -41,7 +39,6 @@ fn place_all(
     seen: &mut [u32],
     class: &mut [u32],
 ) -> Result<(), OutOfMemory>
-    requires lists { HasLists inner.now }
     requires order { All (λ s. s < states_of inner.now) order.now }
     requires many { length seen.old ≡ states_of inner.now }
     requires placing { IsPlacingOf inner.now class.old }
@@ -64,7 +61,6 @@ fn place_in_order(
     class: &mut [u32],
     list: &mut Vec<u32>,
 ) -> Result<(), OutOfMemory>
-    requires lists { HasLists inner.now }
     requires order { All (λ s. s < states_of inner.now) order.now }
     requires many { length seen.old ≡ states_of inner.now }
     requires placing { IsPlacingOf inner.now class.old }
@@ -88,7 +84,6 @@ fn place(
     class: &mut [u32],
     list: &mut Vec<u32>,
 ) -> Result<(), OutOfMemory>
-    requires lists { HasLists inner.now }
     requires pivot { pivot < states_of inner.now }
     requires many { length seen.old ≡ states_of inner.now }
     requires placing { IsPlacingOf inner.now class.old }

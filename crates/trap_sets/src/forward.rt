@@ -24,7 +24,6 @@ pub fn go_on(
     requires unplaced { (s : ℕ) → slice_index class.old s ≢ pivot + 1 }
     ensures { OnOk result (AreMarkedOn inner.now seen.now pivot class.old class.new) }
 {
-    inner.cut.question.known();
     list.clear();
     class[pivot as usize] = pivot + 1;
     list.push(pivot)?;
@@ -89,14 +88,9 @@ fn follow_choice(
     ensures met { OnOk result ((t : ℕ) → LeadsOf inner.now step.state step.choice t → slice_index seen.now t ≡ pivot + 1
         → slice_index class.new t ≡ pivot + 1) }
 {
-    inner.cut.question.known();
     let mark = pivot + 1;
-    for to in inner
-        .cut
-        .question
-        .game()
-        .successors(step.state, step.choice)
-    {
+    let game = inner.cut.question.game();
+    for to in game.successors(step.state, step.choice) {
         if seen[*to as usize] == mark && class[*to as usize] != mark {
             class[*to as usize] = mark;
             list.push(*to)?;

@@ -5,6 +5,7 @@ ghost use Rattle.game_model.specs.Game.{choices_of};
 ghost use Rattle.game_model.specs.Query.{states};
 ghost use Rattle.choice_flags.specs.Flags.{AreFlags};
 ghost use Rattle.trap_sets.specs.Parts.{IsInner};
+ghost use Rattle.trap_sets.specs.OfCut.{states_in};
 
 use crate::cut::Cut;
 use choice_flags::ChoiceFlags;
@@ -27,7 +28,7 @@ impl<'a> Inner<'a> {
 
     /// The inner choices of these parts. Each choice is tested once.
     pub fn of_parts(alloc: Global, cut: &Cut<'a>, part: &'a [u32]) -> Result<Inner<'a>, OutOfMemory>
-        requires { length part.now ≡ states cut.now.question.now }
+        requires { length part.now ≡ states_in cut.now }
         ensures cut { IfOk result (λ inner. inner.cut ≡ cut.now) }
         ensures part { IfOk result (λ inner. inner.part.now ≡ part.now) }
     {

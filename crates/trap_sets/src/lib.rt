@@ -26,6 +26,7 @@
 //! on backward at once. The time is no part of the contract.
 #![tactic(auto)]
 
+mod arena;
 mod backward;
 mod choices;
 mod classes;

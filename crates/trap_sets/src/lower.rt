@@ -11,6 +11,7 @@ ghost use Rattle.predecessors.specs.Lists.{ArePredecessors};
 ghost use Rattle.trap_sets.specs.Exits.{IsBestBefore, AreBestExits};
 ghost use Rattle.trap_sets.specs.Lowered.{IsLoweredEntry, IsLowered, IsLoweredTable, IsCapped};
 
+use crate::arena::Table;
 use crate::choices::stays;
 use crate::numbers::{TrapSets, traps_over};
 use fixed_bellman::up_choice;
@@ -74,58 +75,51 @@ pub fn lower_traps_over(
 {
     question.known();
     let sets = traps_over(alloc, question, predecessors, replies)?;
-    let exits = best_exits(alloc, question, upper, &sets)?;
-    let table = lowered(alloc, question, upper, &sets.of, &exits)?;
+    let handed = Table {
+        question,
+        entries: upper,
+    };
+    let exits = best_exits(alloc, &handed, &sets)?;
+    let table = lowered(alloc, &handed, &sets.of, &exits)?;
     inductive_is_high(question, &table);
     replies_hold(question, &table, replies);
     Ok(table)
 }
 
 /// For each trap its best exit.
-fn best_exits(
-    alloc: Global,
-    question: &Question,
-    upper: &[u64],
-    sets: &TrapSets,
-) -> Result<Vec<u64>, OutOfMemory>
-    requires length { length upper.now ≡ states question.now }
-    requires units { All (λ v. v ≤ unit) upper.now }
-    requires many { length sets.now.of.items ≡ states question.now }
+fn best_exits(alloc: Global, upper: &Table<'_>, sets: &TrapSets) -> Result<Vec<u64>, OutOfMemory>
+    requires many { length sets.now.of.items ≡ states upper.now.question.now }
     requires most { (s : ℕ) → slice_index sets.now.of.items s ≤ sets.now.count }
     ensures many { IfOk result (λ exits. length exits.items ≡ sets.now.count + 1) }
-    ensures best { IfOk result (λ exits. AreBestExits question.now
-        (slice_index upper.now) sets.now.of.items exits.items) }
+    ensures best { IfOk result (λ exits. AreBestExits upper.now.question.now
+        (slice_index upper.now.entries.now) sets.now.of.items exits.items) }
 {
-    question.known();
     let mut exits = vec![in alloc; 0u64; sets.count as usize + 1]?;
-    for state in 0..question.game().states() {
-        raise_exit(question, upper, &sets.of, state, &mut exits);
+    for state in 0..upper.question.game().states() {
+        raise_exit(upper, &sets.of, state, &mut exits);
     }
     Ok(exits)
 }
 
 /// Raises the exit of the trap of a state to those of the state.
-fn raise_exit(question: &Question, upper: &[u64], of: &[u32], state: u32, exits: &mut [u64])
-    requires length { length upper.now ≡ states question.now }
-    requires units { All (λ v. v ≤ unit) upper.now }
-    requires many { length of.now ≡ states question.now }
+fn raise_exit(upper: &Table<'_>, of: &[u32], state: u32, exits: &mut [u64])
+    requires many { length of.now ≡ states upper.now.question.now }
     requires most { slice_index of.now state < length exits.old }
-    requires state { state < states question.now }
-    requires best { IsBestBefore question.now (slice_index upper.now) of.now exits.old state 0 }
-    ensures { IsBestBefore question.now (slice_index upper.now) of.now exits.new (state + 1) 0 }
+    requires state { state < states upper.now.question.now }
+    requires best { IsBestBefore upper.now.question.now (slice_index upper.now.entries.now) of.now exits.old state 0 }
+    ensures { IsBestBefore upper.now.question.now (slice_index upper.now.entries.now) of.now exits.new (state + 1) 0 }
 {
-    question.known();
     let trap = of[state as usize] as usize;
     if trap == 0 {
         return;
     }
-    match question.side(state) {
+    match upper.question.side(state) {
         Side::Min => return,
         Side::Max => {}
     }
-    for choice in 0..question.game().choices_of(state) {
-        if !stays(question, of, state, choice) {
-            let value = up_choice(question, state, choice, upper);
+    for choice in 0..upper.question.game().choices_of(state) {
+        if !stays(upper.question, of, state, choice) {
+            let value = up_choice(upper.question, state, choice, upper.entries);
             if exits[trap] < value {
                 exits[trap] = value;
             }
@@ -136,35 +130,32 @@ fn raise_exit(question: &Question, upper: &[u64], of: &[u32], state: u32, exits:
 /// Each entry, in a trap at most its best exit.
 fn lowered(
     alloc: Global,
-    question: &Question,
-    upper: &[u64],
+    upper: &Table<'_>,
     of: &[u32],
     exits: &[u64],
 ) -> Result<Vec<u64>, OutOfMemory>
-    requires length { length upper.now ≡ states question.now }
-    requires many { length of.now ≡ states question.now }
+    requires many { length of.now ≡ states upper.now.question.now }
     requires most { (s : ℕ) → slice_index of.now s < length exits.now }
-    requires best { AreBestExits question.now (slice_index upper.now) of.now exits.now }
-    ensures { IfOk result (λ table. IsLowered question.now of.now upper.now table.items) }
+    requires best { AreBestExits upper.now.question.now (slice_index upper.now.entries.now) of.now exits.now }
+    ensures { IfOk result (λ table. IsLowered upper.now.question.now of.now upper.now.entries.now table.items) }
 {
     let mut table = Vec::new(alloc);
-    for state in 0..question.game().states() {
-        table.push(lowered_entry(question, upper, of, exits, state))?;
+    for state in 0..upper.question.game().states() {
+        table.push(lowered_entry(upper, of, exits, state))?;
     }
     Ok(table)
 }
 
 /// The entry of a state, in a trap at most its best exit.
-fn lowered_entry(question: &Question, upper: &[u64], of: &[u32], exits: &[u64], state: u32) -> u64
-    requires length { length upper.now ≡ states question.now }
-    requires many { length of.now ≡ states question.now }
+fn lowered_entry(upper: &Table<'_>, of: &[u32], exits: &[u64], state: u32) -> u64
+    requires many { length of.now ≡ states upper.now.question.now }
     requires most { (s : ℕ) → slice_index of.now s < length exits.now }
-    requires best { AreBestExits question.now (slice_index upper.now) of.now exits.now }
-    requires state { state < states question.now }
-    ensures { IsLoweredEntry question.now of.now upper.now state result }
+    requires best { AreBestExits upper.now.question.now (slice_index upper.now.entries.now) of.now exits.now }
+    requires state { state < states upper.now.question.now }
+    ensures { IsLoweredEntry upper.now.question.now of.now upper.now.entries.now state result }
 {
     let trap = of[state as usize];
-    let entry = upper[state as usize];
+    let entry = upper.entries[state as usize];
     if trap == 0 {
         return entry;
     }

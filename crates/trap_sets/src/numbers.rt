@@ -6,7 +6,8 @@ ghost use Rattle.game_model.specs.Query.{states};
 ghost use Rattle.predecessors.specs.Lists.{ArePredecessors};
 ghost use Rattle.trap_sets.specs.Ends.{AreTraps};
 ghost use Rattle.trap_sets.specs.Numbering.{IsNumbering};
-ghost use Rattle.trap_sets.specs.Parts.{AreSettled, IsRooted};
+ghost use Rattle.trap_sets.specs.Parts.{IsRooted};
+ghost use Rattle.trap_sets.specs.OfCut.{AreSettledOf};
 
 use crate::cut::Cut;
 use crate::rounds::settled_parts;
@@ -66,10 +67,9 @@ pub fn traps_over(
 
 /// Numbers the parts by their least states.
 fn numbered(alloc: Global, cut: &Cut<'_>, part: &[u32]) -> Result<TrapSets, OutOfMemory>
-    requires { AreSettled cut.now.question.now cut.now.replies.now part.now }
+    requires { AreSettledOf cut.now part.now }
     ensures { IfOk result (λ sets. AreTraps cut.now.question.now cut.now.replies.now sets.of.items sets.count) }
 {
-    cut.question.known();
     let mut names = vec![in alloc; 0u32; part.len()]?;
     let mut of = Vec::new(alloc);
     let count = number_all(part, &mut names, &mut of)?;

@@ -3,9 +3,9 @@
 ghost use Rattle.std.specs.Prelude.{◌≡◌, ◌≢◌, ℕ, ◌-◌, ◌<◌, ◌↔◌, length, slice_index, true, false, IsTrue, IfOk, OnOk};
 ghost use Rattle.game_model.specs.Query.{states};
 ghost use Rattle.fixed_bellman.specs.Given.{IsFree};
-ghost use Rattle.predecessors.specs.Lists.{ArePredecessors};
-ghost use Rattle.trap_sets.specs.Parts.{IsRooted, KeepsEnds, AreSettled};
+ghost use Rattle.trap_sets.specs.Parts.{IsRooted};
 ghost use Rattle.trap_sets.specs.Pairs.{pairs};
+ghost use Rattle.trap_sets.specs.OfCut.{KeepsEndsOf, AreSettledOf};
 
 use crate::classes::classes;
 use crate::cut::Cut;
@@ -16,8 +16,7 @@ use std::alloc::Global;
 
 /// The parts that no round changes.
 pub fn settled_parts(alloc: Global, cut: &Cut<'_>) -> Result<Vec<u32>, OutOfMemory>
-    requires lists { ArePredecessors cut.now.question.now.game cut.now.predecessors.now }
-    ensures { IfOk result (λ part. AreSettled cut.now.question.now cut.now.replies.now part.items) }
+    ensures { IfOk result (λ part. AreSettledOf cut.now part.items) }
 {
     let mut part = opening(alloc, cut)?;
     settle(alloc, cut, &mut part)?;
@@ -26,10 +25,9 @@ pub fn settled_parts(alloc: Global, cut: &Cut<'_>) -> Result<Vec<u32>, OutOfMemo
 
 /// Plays rounds until one changes nothing.
 fn settle(alloc: Global, cut: &Cut<'_>, part: &mut [u32]) -> Result<(), OutOfMemory>
-    requires lists { ArePredecessors cut.now.question.now.game cut.now.predecessors.now }
-    requires keeps { KeepsEnds cut.now.question.now cut.now.replies.now part.old }
+    requires keeps { KeepsEndsOf cut.now part.old }
     requires rooted { IsRooted part.old }
-    ensures { OnOk result (AreSettled cut.now.question.now cut.now.replies.now part.new) }
+    ensures { OnOk result (AreSettledOf cut.now part.new) }
 {
     let mut changes = true;
     while changes {
@@ -41,13 +39,11 @@ fn settle(alloc: Global, cut: &Cut<'_>, part: &mut [u32]) -> Result<(), OutOfMem
 /// Removes the states that have no inner choice, and makes the sets of mutual reachability the new parts.
 /// Tells whether that changed anything.
 fn next_round(alloc: Global, cut: &Cut<'_>, part: &mut [u32]) -> Result<bool, OutOfMemory>
-    requires lists { ArePredecessors cut.now.question.now.game cut.now.predecessors.now }
-    requires keeps { KeepsEnds cut.now.question.now cut.now.replies.now part.old }
+    requires keeps { KeepsEndsOf cut.now part.old }
     requires rooted { IsRooted part.old }
-    ensures keeps { OnOk result (KeepsEnds cut.now.question.now cut.now.replies.now part.new) }
+    ensures keeps { OnOk result (KeepsEndsOf cut.now part.new) }
     ensures rooted { OnOk result (IsRooted part.new) }
-    ensures settled { IfOk result (λ changes. changes ≡ false
-        → AreSettled cut.now.question.now cut.now.replies.now part.new) }
+    ensures settled { IfOk result (λ changes. changes ≡ false → AreSettledOf cut.now part.new) }
     ensures fewer { IfOk result (λ changes. changes ≡ true → pairs part.new < pairs part.old) }
 {
     let any = trim(alloc, cut, part)?;
@@ -59,7 +55,7 @@ fn next_round(alloc: Global, cut: &Cut<'_>, part: &mut [u32]) -> Result<bool, Ou
 
 /// One part of all states that are neither goal nor dead: its number is one more than the first of them.
 fn opening(alloc: Global, cut: &Cut<'_>) -> Result<Vec<u32>, OutOfMemory>
-    ensures keeps { IfOk result (λ part. KeepsEnds cut.now.question.now cut.now.replies.now part.items) }
+    ensures keeps { IfOk result (λ part. KeepsEndsOf cut.now part.items) }
     ensures rooted { IfOk result (λ part. IsRooted part.items) }
 {
     let mut part = Vec::new(alloc);

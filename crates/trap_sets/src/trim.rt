@@ -2,10 +2,7 @@
 
 ghost use Rattle.std.specs.Prelude.{◌≡◌, ◌≢◌, ℕ, ◌<◌, List, length, slice_index, true, false, IfOk, OnOk};
 ghost use Rattle.game_model.specs.Growing.{IsLonger};
-ghost use Rattle.game_model.specs.Query.{states};
-ghost use Rattle.predecessors.specs.Lists.{ArePredecessors};
-ghost use Rattle.trap_sets.specs.Parts.{IsInner, KeepsEnds, HaveInner};
-ghost use Rattle.trap_sets.specs.Trimming.{IsTrimmed};
+ghost use Rattle.trap_sets.specs.OfCut.{states_in, IsInnerIn, KeepsEndsOf, HaveInnerOf, IsTrimmedOf};
 
 use crate::cut::Cut;
 use game_outside::OutOfMemory;
@@ -15,15 +12,14 @@ use std::alloc::Global;
 /// on. Tells whether any state lost its part. A state waits for one choice at a time, so each choice is tested
 /// twice at most.
 pub fn trim(alloc: Global, cut: &Cut<'_>, part: &mut [u32]) -> Result<bool, OutOfMemory>
-    requires lists { ArePredecessors cut.now.question.now.game cut.now.predecessors.now }
-    requires keeps { KeepsEnds cut.now.question.now cut.now.replies.now part.old }
-    ensures keeps { OnOk result (KeepsEnds cut.now.question.now cut.now.replies.now part.new) }
+    requires keeps { KeepsEndsOf cut.now part.old }
+    ensures keeps { OnOk result (KeepsEndsOf cut.now part.new) }
     ensures refines { OnOk result ((s : ℕ) → slice_index part.new s ≢ 0
         → slice_index part.new s ≡ slice_index part.old s) }
     ensures still { IfOk result (λ any. any ≡ false → ((s : ℕ) → slice_index part.new s ≡ slice_index part.old s)
-        × HaveInner cut.now.question.now cut.now.replies.now part.new) }
-    ensures lost { IfOk result (λ any. any ≡ true → (s : ℕ) × (s < states cut.now.question.now)
-        × (slice_index part.old s ≢ 0) × (slice_index part.new s ≡ 0)) }
+        × HaveInnerOf cut.now part.new) }
+    ensures lost { IfOk result (λ any. any ≡ true → (s : ℕ) × (s < states_in cut.now) × (slice_index part.old s ≢ 0)
+        × (slice_index part.new s ≡ 0)) }
 {
     let states = cut.question.game().states();
     let mut awaited = vec![in alloc; 0u32; states as usize]?;
@@ -40,12 +36,9 @@ fn trim_all(
     awaited: &mut [u32],
     gone: &mut Vec<u32>,
 ) -> Result<(), OutOfMemory>
-    requires lists { ArePredecessors cut.now.question.now.game cut.now.predecessors.now }
-    requires trimmed { IsTrimmed cut.now.question.now cut.now.replies.now part.old part.old awaited.old gone.old.items }
-    ensures trimmed { OnOk result (IsTrimmed cut.now.question.now cut.now.replies.now part.old part.new awaited.new
-        gone.new.items) }
-    ensures inner { OnOk result (length gone.new.items ≡ 0 → HaveInner cut.now.question.now cut.now.replies.now
-        part.new) }
+    requires trimmed { IsTrimmedOf cut.now part.old part.old awaited.old gone.old.items }
+    ensures trimmed { OnOk result (IsTrimmedOf cut.now part.old part.new awaited.new gone.new.items) }
+    ensures inner { OnOk result (length gone.new.items ≡ 0 → HaveInnerOf cut.now part.new) }
 {
     test_all(cut, part, awaited, gone)?;
     for place in 0..cut.question.game().states() as usize {
@@ -65,11 +58,9 @@ fn test_all(
     awaited: &mut [u32],
     gone: &mut Vec<u32>,
 ) -> Result<(), OutOfMemory>
-    requires trimmed { IsTrimmed cut.now.question.now cut.now.replies.now part.old part.old awaited.old gone.old.items }
-    ensures trimmed { OnOk result (IsTrimmed cut.now.question.now cut.now.replies.now part.old part.new awaited.new
-        gone.new.items) }
-    ensures inner { OnOk result (length gone.new.items ≡ 0 → HaveInner cut.now.question.now cut.now.replies.now
-        part.new) }
+    requires trimmed { IsTrimmedOf cut.now part.old part.old awaited.old gone.old.items }
+    ensures trimmed { OnOk result (IsTrimmedOf cut.now part.old part.new awaited.new gone.new.items) }
+    ensures inner { OnOk result (length gone.new.items ≡ 0 → HaveInnerOf cut.now part.new) }
 {
     for state in 0..cut.question.game().states() {
         if part[state as usize] != 0 {
@@ -87,13 +78,10 @@ fn follow_gone(
     awaited: &mut [u32],
     gone: &mut Vec<u32>,
 ) -> Result<(), OutOfMemory>
-    requires lists { ArePredecessors cut.now.question.now.game cut.now.predecessors.now }
-    requires member { member < states cut.now.question.now }
-    requires kept { (old : List ℕ) × IsTrimmed cut.now.question.now cut.now.replies.now old part.old awaited.old
-        gone.old.items }
-    ensures trimmed { OnOk result ((old : List ℕ) → IsTrimmed cut.now.question.now cut.now.replies.now old part.old
-        awaited.old gone.old.items
-        → IsTrimmed cut.now.question.now cut.now.replies.now old part.new awaited.new gone.new.items) }
+    requires member { member < states_in cut.now }
+    requires kept { (old : List ℕ) × IsTrimmedOf cut.now old part.old awaited.old gone.old.items }
+    ensures trimmed { OnOk result ((old : List ℕ) → IsTrimmedOf cut.now old part.old awaited.old gone.old.items
+        → IsTrimmedOf cut.now old part.new awaited.new gone.new.items) }
     ensures longer { OnOk result (IsLonger gone.old.items gone.new.items) }
 {
     for step in cut.predecessors.of_state(member) {
@@ -114,16 +102,13 @@ fn test(
     awaited: &mut [u32],
     gone: &mut Vec<u32>,
 ) -> Result<(), OutOfMemory>
-    requires state { state < states cut.now.question.now }
+    requires state { state < states_in cut.now }
     requires some { slice_index part.old state ≢ 0 }
-    requires kept { (old : List ℕ) × IsTrimmed cut.now.question.now cut.now.replies.now old part.old awaited.old
-        gone.old.items }
-    ensures trimmed { OnOk result ((old : List ℕ) → IsTrimmed cut.now.question.now cut.now.replies.now old part.old
-        awaited.old gone.old.items
-        → IsTrimmed cut.now.question.now cut.now.replies.now old part.new awaited.new gone.new.items) }
+    requires kept { (old : List ℕ) × IsTrimmedOf cut.now old part.old awaited.old gone.old.items }
+    ensures trimmed { OnOk result ((old : List ℕ) → IsTrimmedOf cut.now old part.old awaited.old gone.old.items
+        → IsTrimmedOf cut.now old part.new awaited.new gone.new.items) }
     ensures longer { OnOk result (IsLonger gone.old.items gone.new.items) }
-    ensures inner { OnOk result (length gone.new.items ≡ 0 → (c : ℕ)
-        × IsInner cut.now.question.now cut.now.replies.now part.new state c) }
+    ensures inner { OnOk result (length gone.new.items ≡ 0 → (c : ℕ) × IsInnerIn cut.now part.new state c) }
 {
     let place = state as usize;
     let next = cut.next_inner(part, state, awaited[place]);

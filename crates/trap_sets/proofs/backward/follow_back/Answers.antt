@@ -7,16 +7,16 @@ use Rattle.trap_sets.proofs.backward.follow_back.Goals as goal
 
 pub meet_back-requires-clause-state : goal.meet_back-requires-clause-state
 meet_back-requires-clause-state c =
-    (listed-move c.args.inner.now.cut.question.now c.args.inner.now.cut.predecessors.now c.of_state-step-items.result.now c.args.state c.loop-step.step-index (move 0 0) c.requires.lists c.requires.state c.of_state-step-items.ensures c.loop-step-test.true).state
+    (listed-move c.args.inner.now.cut c.of_state-step-items.result.now c.args.state c.loop-step.step-index (move 0 0) c.requires.state c.of_state-step-items.ensures c.loop-step-test.true).state
 
 pub meet_back-requires-clause-choice : goal.meet_back-requires-clause-choice
 meet_back-requires-clause-choice c =
-    (listed-move c.args.inner.now.cut.question.now c.args.inner.now.cut.predecessors.now c.of_state-step-items.result.now c.args.state c.loop-step.step-index (move 0 0) c.requires.lists c.requires.state c.of_state-step-items.ensures c.loop-step-test.true).choice
+    (listed-move c.args.inner.now.cut c.of_state-step-items.result.now c.args.state c.loop-step.step-index (move 0 0) c.requires.state c.of_state-step-items.ensures c.loop-step-test.true).choice
 
 pub meet_back-requires-clause-leads : goal.meet_back-requires-clause-leads
 meet_back-requires-clause-leads c = (
   c.args.state,
-  (listed-move c.args.inner.now.cut.question.now c.args.inner.now.cut.predecessors.now c.of_state-step-items.result.now c.args.state c.loop-step.step-index (move 0 0) c.requires.lists c.requires.state c.of_state-step-items.ensures c.loop-step-test.true).successor,
+  (listed-move c.args.inner.now.cut c.of_state-step-items.result.now c.args.state c.loop-step.step-index (move 0 0) c.requires.state c.of_state-step-items.ensures c.loop-step-test.true).successor,
   c.loop-step.invariant.further.kept c.args.state c.requires.marked,
 )
 
@@ -30,5 +30,5 @@ loop-step-preserved c = record {
 
 pub returns-clause-closed : goal.returns-clause-closed
 returns-clause-closed c = λ s step free.
-    met-all c.args.inner.now c.args.class.now c.args.pivot c.of_state-step-items.result.now c.loop-step.seen c.loop-step.step-index s c.args.state c.requires.lists c.requires.state c.of_state-step-items.ensures
+    met-all c.args.inner.now c.args.class.now c.args.pivot c.of_state-step-items.result.now c.loop-step.seen c.loop-step.step-index s c.args.state c.requires.state c.of_state-step-items.ensures
     (omega (arith, c.loop-step-test.false)) c.loop-step.invariant.met step free

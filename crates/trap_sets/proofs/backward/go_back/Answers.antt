@@ -9,7 +9,7 @@ use Rattle.trap_sets.proofs.Following.{set-others, IsMarking-first, listed-insid
 use Rattle.trap_sets.proofs.backward.go_back.Goals as goal
 
 pub overflow_add-seen : goal.overflow_add-seen
-overflow_add-seen c = omega (arith, c.requires.pivot, c.known.ensures.game.few)
+overflow_add-seen c = omega (arith, c.requires.pivot, c.args.inner.now.cut.posed.game.few)
 
 pub loop-place-init : goal.loop-place-init
 loop-place-init c =

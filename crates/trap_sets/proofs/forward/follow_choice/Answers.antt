@@ -20,10 +20,10 @@ bounds-seen-to c =
     let n : ℕ = states_of inner in
     let pivot = c.args.pivot in
     let to : c.successors-to-items.result.now ≡ destinations (choice_of q.game c.args.step.state c.args.step.choice).edges =
-    c.successors-to-items.ensures ∙ ap (λ g. destinations (choice_of g c.args.step.state c.args.step.choice).edges) c.game.ensures in
+    c.successors-to-items.ensures ∙ ap (λ g. destinations (choice_of g c.args.step.state c.args.step.choice).edges) c.game-game.ensures in
     let t : ℕ = get_or c.successors-to-items.result.now c.loop-to.to-index 0 in
     let leads : Leads q c.args.step.state c.args.step.choice t = listed-leads q c.args.step.state c.args.step.choice c.loop-to.to-index c.successors-to-items.result.now to c.loop-to-test.true in
-    let inside : t < n = leads-inside q c.args.step.state c.args.step.choice t c.known.ensures c.requires.state c.requires.choice leads in
+    let inside : t < n = leads-inside q c.args.step.state c.args.step.choice t inner.cut.posed c.requires.state c.requires.choice leads in
     omega (arith, c.requires.seen, inside)
 
 pub loop-to-preserved : goal.loop-to-preserved
@@ -34,10 +34,10 @@ loop-to-preserved c =
     let n : ℕ = states_of inner in
     let pivot = c.args.pivot in
     let to : c.successors-to-items.result.now ≡ destinations (choice_of q.game c.args.step.state c.args.step.choice).edges =
-    c.successors-to-items.ensures ∙ ap (λ g. destinations (choice_of g c.args.step.state c.args.step.choice).edges) c.game.ensures in
+    c.successors-to-items.ensures ∙ ap (λ g. destinations (choice_of g c.args.step.state c.args.step.choice).edges) c.game-game.ensures in
     let t : ℕ = get_or c.successors-to-items.result.now c.loop-to.to-index 0 in
     let leads : Leads q c.args.step.state c.args.step.choice t = listed-leads q c.args.step.state c.args.step.choice c.loop-to.to-index c.successors-to-items.result.now to c.loop-to-test.true in
-    let inside : t < n = leads-inside q c.args.step.state c.args.step.choice t c.known.ensures c.requires.state c.requires.choice leads in
+    let inside : t < n = leads-inside q c.args.step.state c.args.step.choice t inner.cut.posed c.requires.state c.requires.choice leads in
     let G : ℕ → Type 0 = IsBefore inner seen pivot in
     let old = c.loop-to.class in
     let before : G c.args.step.state = c.loop-to.invariant.marking.good c.args.step.state (c.loop-to.invariant.further.kept c.args.step.state c.requires.member) in

@@ -6,5 +6,5 @@ use Rattle.trap_sets.proofs.lower.best_exits.Given as goal
 abbrev pub invariant-loop-state : goal.invariant-loop-state
 invariant-loop-state l = record {
   many : length l.exits.items ≡ l.sets.count + 1;
-  best : IsBestBefore l.question (slice_index l.upper) l.sets.of.items l.exits.items l.state 0;
+  best : IsBestBefore l.upper.question.now (slice_index l.upper.entries.now) l.sets.of.items l.exits.items l.state 0;
 }

@@ -10,8 +10,8 @@ use Rattle.trap_sets.proofs.lower.raise_exit.Goals.{then-not-stays+then-exits-tr
 
 pub loop-choice-preserved : goal.loop-choice-preserved
 loop-choice-preserved c =
-    let q = c.args.question.now in
-    let v = slice_index c.args.upper.now in
+    let q = c.args.upper.now.question.now in
+    let v = slice_index c.args.upper.now.entries.now in
     let greatest : side_at q c.args.state ≡ Max = sym c.in-Max.ensures in
     let inside : c.loop-choice.choice < length (choices_of q.game c.args.state) = omega (arith, c.loop-choice-test.true, c.choices_of-choice-end.ensures, ap (λ g. length (choices_of g c.args.state)) c.game.ensures) in
     elim c.if-not-stays.branch [

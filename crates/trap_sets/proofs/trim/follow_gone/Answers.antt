@@ -13,7 +13,7 @@ bounds-part-state c =
     let q = c.args.cut.now.question.now in
     let step = get_or c.of_state-step-items.result.now c.loop-step.step-index (move 0 0) in
     let leads : LeadsTo q.game step.state step.choice c.args.member =
-    listed-move q c.args.cut.now.predecessors.now c.of_state-step-items.result.now c.args.member c.loop-step.step-index (move 0 0) c.requires.lists c.requires.member c.of_state-step-items.ensures c.loop-step-test.true in
+    listed-move c.args.cut.now c.of_state-step-items.result.now c.args.member c.loop-step.step-index (move 0 0) c.requires.member c.of_state-step-items.ensures c.loop-step-test.true in
     omega (arith, leads.state, c.loop-step.auto.part, c.requires.kept.1.keeps.many)
 
 pub test-requires-clause-kept : goal.test-requires-clause-kept
