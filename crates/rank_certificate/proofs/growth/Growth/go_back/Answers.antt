@@ -2,6 +2,7 @@ use Rattle.std.proofs.Common.{ℕ, List, take, get_or, subst, sym}
 use Rattle.std.specs.Prelude.{option_copied, slice_index, Contains}
 use Rattle.std.proofs.lemmas.List.{take_more}
 use Rattle.std.proofs.lemmas.List.Elements.{Contains-get_or}
+use Rattle.predecessors.proofs.Listed.{listed-exactly}
 use Rattle.predecessors.specs.declared.lists.Move.{Move}
 use Rattle.predecessors.specs.Moves.{LeadsTo}
 use Rattle.rank_certificate.specs.Growth.{Follows}
@@ -14,7 +15,7 @@ follow-requires-clause-state c =
     let d : Move = record { state = 0; choice = 0 } in
     let m : Move = get_or items c.loop-step.step-index d in
     let leads : LeadsTo c.args.question.now.game m.state m.choice c.args.hand =
-    (c.requires.lists.exact m.state m.choice c.args.hand c.requires.hand).0 (subst (λ list. Contains list m) c.of_state-step-items.ensures (Contains-get_or items c.loop-step.step-index d c.loop-step-test.true)) in
+    (listed-exactly c.requires.lists m.state m.choice c.args.hand c.requires.hand).0 (subst (λ list. Contains list m) c.of_state-step-items.ensures (Contains-get_or items c.loop-step.step-index d c.loop-step-test.true)) in
     leads.state
 
 pub follow-requires-clause-choice : goal.follow-requires-clause-choice
@@ -23,7 +24,7 @@ follow-requires-clause-choice c =
     let d : Move = record { state = 0; choice = 0 } in
     let m : Move = get_or items c.loop-step.step-index d in
     let leads : LeadsTo c.args.question.now.game m.state m.choice c.args.hand =
-    (c.requires.lists.exact m.state m.choice c.args.hand c.requires.hand).0 (subst (λ list. Contains list m) c.of_state-step-items.ensures (Contains-get_or items c.loop-step.step-index d c.loop-step-test.true)) in
+    (listed-exactly c.requires.lists m.state m.choice c.args.hand c.requires.hand).0 (subst (λ list. Contains list m) c.of_state-step-items.ensures (Contains-get_or items c.loop-step.step-index d c.loop-step-test.true)) in
     leads.choice
 
 pub loop-step-preserved : goal.loop-step-preserved

@@ -4,6 +4,7 @@ use Rattle.std.proofs.lemmas.Bool.{cases_lt}
 use Rattle.std.proofs.lemmas.List.{get_or_read}
 use Rattle.game_model.specs.Query.{states}
 use Rattle.game_model.proofs.Longer.{longer-at, longer-length}
+use Rattle.predecessors.proofs.Listed.{listed-exactly}
 use Rattle.predecessors.specs.Moves.{LeadsTo}
 use Rattle.rank_certificate.proofs.growth.Growth.spread.Goals as goal
 
@@ -26,7 +27,7 @@ loop-place-preserved c =
         | inr last ↦
             let same : k ≡ place = omega (arith, upto, last) in
             let at : slice_index old k ≡ c.index-hand.result.now = ap (slice_index old) same ∙ is in
-            go.apart c.args.begin old h s c' ((c.requires.lists.exact s c' c.index-hand.result.now inside).1 (subst (λ t. LeadsTo q.game s c' t) at leads)) (ap (slice_index c.args.values.now) (sym at) ∙ equal) left carried
+            go.apart c.args.begin old h s c' ((listed-exactly c.requires.lists s c' c.index-hand.result.now inside).1 (subst (λ t. LeadsTo q.game s c' t) at leads)) (ap (slice_index c.args.values.now) (sym at) ∙ equal) left carried
       ];
     }
 
