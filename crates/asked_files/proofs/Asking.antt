@@ -109,7 +109,8 @@ module _ (game : List (List Distribution)) (labels : Labelling) (owners : Owners
   poses_by : (kind : PathKind) (formula : Tree) (problem : Problem) → IsFlat formula → formula.kind ≡ kind → posed_by kind (reading_with game labels owners formula) ≡ Denoted problem → PosesProblem game labels owners formula problem
   poses_by Until formula problem flat of is =
       let r = posed_ok OfQuestion (pose_said game labels owners formula) OfReach problem is in
-      subst (PosesProblem game labels owners formula) r.2 (flat, reaches formula r.0 (sym of) (tt, pose-found game labels owners formula r.0 r.1))
+      let at = reaches formula r.0 (sym of) (tt, pose-found game labels owners formula r.0 r.1) in
+      subst (PosesProblem game labels owners formula) r.2 (flat, at.0, at.1)
   poses_by (Within k) formula problem flat of is =
       let r = posed_ok OfQuestion (pose_said game labels owners formula) (OfWithin k) problem is in
       subst (PosesProblem game labels owners formula) r.2 (flat, of, pose-found game labels owners formula r.0 r.1)
@@ -118,7 +119,8 @@ module _ (game : List (List Distribution)) (labels : Labelling) (owners : Owners
       subst (PosesProblem game labels owners formula) r.2 (flat, of, pose_next-found game labels owners formula r.0 r.1)
   poses_by Always formula problem flat of is =
       let r = posed_ok OfQuestion (pose_said game labels owners (dual_of formula)) OfReach problem is in
-      subst (PosesProblem game labels owners formula) r.2 (flat, reaches formula r.0 (sym of) (tt, pose-found game labels owners (dual_of formula) r.0 r.1))
+      let at = reaches formula r.0 (sym of) (tt, pose-found game labels owners (dual_of formula) r.0 r.1) in
+      subst (PosesProblem game labels owners formula) r.2 (flat, at.0, at.1)
 
   -- with formulas inside, or with none
   any_poses : (formula : Tree) (problem : Problem) (flat : Bool) → (is_flat formula.left && is_flat formula.right) ≡ flat
@@ -141,7 +143,7 @@ module _ (game : List (List Distribution)) (labels : Labelling) (owners : Owners
   reach_again Always formula p (reaching, poses) = ap (λ r. and_then (read_said OfQuestion r) (λ x. Denoted (OfReach x))) (pose-again game labels owners (dual_of formula) p poses)
 
   posed_again : (formula : Tree) (problem : Problem) → PosesProblem game labels owners formula problem → any_posed (reading_with game labels owners formula) ≡ Denoted problem
-  posed_again formula (OfReach p) (flat, reaching) = flat_again formula (OfReach p) flat (reach_again formula.kind formula p reaching)
+  posed_again formula (OfReach p) (flat, reaching, poses) = flat_again formula (OfReach p) flat (reach_again formula.kind formula p (reaching, poses))
   posed_again formula (OfWithin k p) (flat, of, poses) = flat_again formula (OfWithin k p) flat (rw of (ap (λ r. and_then (read_said OfQuestion r) (λ x. Denoted (OfWithin k x))) (pose-again game labels owners formula p poses)))
   posed_again formula (OfNext p) (flat, of, poses) = flat_again formula (OfNext p) flat (rw of (ap (λ r. and_then (read_said OfQuestion r) (λ x. Denoted (OfNext x))) (pose_next-again game labels owners formula p poses)))
   posed_again formula (OfNested m initial) (nested, of, said) =

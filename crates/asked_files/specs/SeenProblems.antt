@@ -1,5 +1,5 @@
 -- What contracts see of a problem that was posed.
-use Rattle.std.specs.Prelude.{◌≡◌, Option, Some, None, Ok}
+use Rattle.std.specs.Prelude.{◌≡◌, Some, None, Ok}
 use Rattle.rpatl_syntax.specs.declared.formula.PathKind.{PathKind}
 use Rattle.rpatl_syntax.specs.declared.formula.PathKind.TheVariants as kind_of
 use Rattle.rpatl_syntax.specs.Dual.{dual_of}

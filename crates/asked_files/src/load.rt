@@ -25,8 +25,9 @@ pub enum End {
 
 impl From<OutOfMemory> for End {
     ghost use Rattle.std.specs.Prelude.{◌≡◌};
+    ghost use Rattle.asked_files.specs.declared.load.End.TheVariants.{OutOfMemory};
 
-    ghost from_gives = { λ _ end. end ≡ End.OutOfMemory };
+    ghost from_gives = { λ _ end. end ≡ OutOfMemory };
 
     fn from(_: OutOfMemory) -> End {
         End::OutOfMemory
