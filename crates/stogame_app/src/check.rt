@@ -60,7 +60,8 @@ fn check_loaded<R: Threads + Sync, G: Gate + Sync>(
     formulas_of_texts_are_spellable();
     formulas_inside_are_few();
     let problem = pose_loaded(alloc, loaded, check_paths(check))?;
-    Ok(report_on(rt, alloc, &problem, &loaded.formula, check, gate)?)
+    let answer = report_on(rt, alloc, &problem, &loaded.formula, check, gate)?;
+    Ok(answer)
 }
 
 // The report on a problem, by the kind of its paths, with its certificate where that is asked for.

@@ -28,5 +28,6 @@ pub fn answer_make<R: Threads + Sync, G: Gate + Sync>(
     ensures answer { IfOk result (λ answer. IsAnswer answer.status) }
     ensures memory { (end : End) → result ≡ Err end → end ≡ End.OutOfMemory }
 {
-    Ok(drawn_report(rt, alloc, make, gate)?)
+    let answer = drawn_report(rt, alloc, make, gate)?;
+    Ok(answer)
 }

@@ -30,9 +30,9 @@ returns-in_err-plan g c before reads leaves =
 pub audit_report-requires-clause-inside : goal.audit_report-requires-clause-inside
 audit_report-requires-clause-inside g c = rw (c.deref.ensures.value) (reached-inside (problem_of c.in_ok-problem.problem) (posing_of c.reached-posed.result.now) c.reached-posed.ensures c.in_ok-problem.ensures.inside)
 
-pub returns-in-Ok : goal.returns-in-Ok
-returns-in-Ok g c before reads leaves =
-    let answer = c.in-Ok.answer in
+pub returns : goal.returns
+returns g c before reads leaves =
+    let answer = c.in_ok-answer.answer in
     let holding = g.H.Shelf.held before in
     let name = c.args.audit.now.certificate.now in
     let problem = problem_of c.in_ok-problem.problem in
@@ -44,7 +44,9 @@ returns-in-Ok g c before reads leaves =
     reported (audit_asks (audit_of c.args.audit.now)) (more_loaded leaves c.in_ok-plan.ensures.shelf) answer (λ words denoted short. of_audit (audit_of c.args.audit.now) problem posing formula
     (record { denoted = denoted; posed = reads.asks Unbounded problem c.in_ok-problem.ensures.says; spelled = reads.spelled; short = short }) c.reached-posed.ensures
     (accepted_audited holding name question posing.initial formula plan answer.text.items answer.status
-    (subst Q leaves.kept.held c.in_ok-plan.ensures.accepted) (rw c.deref.ensures.value at c.in-Ok.ensures.audited))) c.in-Ok.ensures.answer
+    (subst Q leaves.kept.held c.in_ok-plan.ensures.accepted) (rw c.deref.ensures.value at c.in_ok-answer.ensures.audited))) c.in_ok-answer.ensures.answer
 
-pub returns : goal.returns
-returns g c before reads leaves = wanting (audit_asks (audit_of c.args.audit.now)) (more_loaded leaves c.in_ok-plan.ensures.shelf)
+pub returns-in_err-answer : goal.returns-in_err-answer
+returns-in_err-answer g c before reads leaves =
+    let p = err_from_is_err_and c.from_residual-in_err-answer.result c.from_residual-in_err-answer.ensures.1 in
+    rw (p.1, p.2) (wanting (audit_asks (audit_of c.args.audit.now)) (more_loaded leaves c.in_ok-plan.ensures.shelf))

@@ -22,11 +22,13 @@ report_on-requires-clause-reportable g c =
 pub report_on-requires-clause-steps : goal.report_on-requires-clause-steps
 report_on-requires-clause-steps g c = λ κs live. (c.formulas_of_texts_are_spellable.ensures _ _ c.requires.read.1.spelled).kind
 
-pub returns-in-Ok : goal.returns-in-Ok
-returns-in-Ok g c =
-    let problem = problem_of c.in_ok-problem.problem in
-    report_made c.in-Ok.answer (λ holding words taken reads denoted short. c.in-Ok.ensures.report words holding taken
-    (record { denoted = denoted; posed = reads.asks (check_paths (check_of c.args.check.now)) problem (rw c.check_paths.ensures at c.in_ok-problem.ensures.says); spelled = reads.spelled; short = short })) c.in-Ok.ensures.answer
-
 pub returns : goal.returns
-returns g c = want_made
+returns g c =
+    let problem = problem_of c.in_ok-problem.problem in
+    report_made c.in_ok-answer.answer (λ holding words taken reads denoted short. c.in_ok-answer.ensures.report words holding taken
+    (record { denoted = denoted; posed = reads.asks (check_paths (check_of c.args.check.now)) problem (rw c.check_paths.ensures at c.in_ok-problem.ensures.says); spelled = reads.spelled; short = short })) c.in_ok-answer.ensures.answer
+
+pub returns-in_err-answer : goal.returns-in_err-answer
+returns-in_err-answer g c =
+    let p = err_from_is_err_and c.from_residual-in_err-answer.result c.from_residual-in_err-answer.ensures.1 in
+    rw (p.1, p.2) (want_made)

@@ -28,16 +28,18 @@ returns-in_err-read g c before reads leaves =
 pub solved_report-requires-clause-inside : goal.solved_report-requires-clause-inside
 solved_report-requires-clause-inside g c = reached-inside (problem_of c.in_ok-problem.problem) (posing_of c.reached-posed.result.now) c.reached-posed.ensures c.in_ok-problem.ensures.inside
 
-pub returns-in-Ok : goal.returns-in-Ok
-returns-in-Ok g c before reads leaves =
-    let answer = c.in-Ok.answer in
+pub returns : goal.returns
+returns g c before reads leaves =
+    let answer = c.in_ok-answer.answer in
     let solve = solve_of c.args.solve.now in
     let problem = problem_of c.in_ok-problem.problem in
     let posing = posing_of c.reached-posed.result.now in
     let formula = tree_of c.args.loaded.now.formula in
     reported (solve_asks solve) (more_loaded leaves c.in_ok-read.ensures.shelf) answer (λ words denoted short. of_solve solve problem posing formula
     (record { denoted = denoted; posed = reads.asks Unbounded problem c.in_ok-problem.ensures.says; spelled = reads.spelled; short = short }) c.reached-posed.ensures
-    (subst (λ (h : Option Holding). GivesValues h solve.values (states posing.question)) leaves.kept.held (rw (c.states.ensures, c.game.ensures) at c.in_ok-read.ensures.accepted)) c.in-Ok.ensures.report) c.in-Ok.ensures.answer
+    (subst (λ (h : Option Holding). GivesValues h solve.values (states posing.question)) leaves.kept.held (rw (c.states.ensures, c.game.ensures) at c.in_ok-read.ensures.accepted)) c.in_ok-answer.ensures.report) c.in_ok-answer.ensures.answer
 
-pub returns : goal.returns
-returns g c before reads leaves = wanting (solve_asks (solve_of c.args.solve.now)) (more_loaded leaves c.in_ok-read.ensures.shelf)
+pub returns-in_err-answer : goal.returns-in_err-answer
+returns-in_err-answer g c before reads leaves =
+    let p = err_from_is_err_and c.from_residual-in_err-answer.result c.from_residual-in_err-answer.ensures.1 in
+    rw (p.1, p.2) (wanting (solve_asks (solve_of c.args.solve.now)) (more_loaded leaves c.in_ok-read.ensures.shelf))
