@@ -13,13 +13,13 @@ use fixed_bellman::Quotient;
 use game_model::{Side, UNIT};
 
 /// Where the question has fewer states than this, a test at one state may look into as many as this, and into no more
-/// than the up steps of the table would.
+/// than twice as many as the up steps of the table would: a table is allocated, too.
 const LEAST_BUDGET: u32 = 1_000;
 
 impl Guesses<'_> {
     /// Whether a table is seen to be refused at this state alone, where one after `made` up steps is at hand. It is not
     /// seen where the recursion would look into more states than the question has and, where these are few, into more
-    /// than the up steps from that table on: then the table costs no more.
+    /// than twice as many as the up steps from that table on: then the table costs no more.
     pub fn refuses_at(&self, steps: u32, state: u32, made: u32) -> bool
         requires steps { steps ≤ most_steps }
         requires state { state < states self.now.question.now }
@@ -27,7 +27,8 @@ impl Guesses<'_> {
     {
         let states = self.question.game().states();
         let up_steps = steps.saturating_sub(made).saturating_add(1);
-        let mut budget = states.max(LEAST_BUDGET.min(states.saturating_mul(up_steps)));
+        let few = states.saturating_mul(up_steps).saturating_mul(2);
+        let mut budget = states.max(LEAST_BUDGET.min(few));
         let Some(entry) = self.entry(steps, state, &mut budget) else {
             return false;
         };
