@@ -15,6 +15,7 @@ mod frame;
 mod groups;
 mod lower;
 mod replies;
+mod staying;
 mod upper;
 mod weights;
 

@@ -1,6 +1,6 @@
 use Rattle.std.proofs.Common.{◌≡◌, length}
 use Rattle.game_model.specs.Query.{states}
-use Rattle.plan_solver.proofs.bounds.lower_table.Given as goal
+use Rattle.plan_solver.proofs.bounds.lower_bounds.Given as goal
 
 abbrev pub invariant-loop-component : goal.invariant-loop-component
 invariant-loop-component l = record {
