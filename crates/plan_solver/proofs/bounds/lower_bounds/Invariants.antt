@@ -1,4 +1,4 @@
-use Rattle.std.proofs.Common.{◌≡◌, length}
+use Rattle.std.proofs.Common.{◌≡◌, length, vec_len}
 use Rattle.game_model.specs.Query.{states}
 use Rattle.plan_solver.proofs.bounds.lower_bounds.Given as goal
 
@@ -6,4 +6,5 @@ abbrev pub invariant-loop-component : goal.invariant-loop-component
 invariant-loop-component l = record {
   table : length l.table ≡ states l.frame.question.now;
   replies : length l.replies ≡ states l.frame.question.now;
+  planned : vec_len l.planned ≡ states l.frame.question.now;
 }
