@@ -27,8 +27,8 @@ pub struct Start<'a> {
     pub planned: &'a [u32],
 }
 
-/// What a local game is made by: for each member of the component its node, the end components, the choices to begin with,
-/// and the minimiser's replies.
+/// What a local game is made by: for each member of the component its node, the end components, the choices to begin
+/// with, and the minimiser's replies.
 #[derive(Drop)]
 struct Shape<'a> {
     component: u32,
@@ -203,8 +203,8 @@ fn local_game(
     }
 }
 
-/// Adds the node of an end component of at most so many states, or of a state that is in none. Gives the choice to begin
-/// with.
+/// Adds the node of an end component of at most so many states, or of a state that is in none. Gives the choice to
+/// begin with.
 fn add_group(
     frame: &Frame<'_, '_>,
     shape: &Shape<'_>,

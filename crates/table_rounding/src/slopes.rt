@@ -29,7 +29,7 @@ const COST_GROWTH: f64 = 8.0;
 
 const COSTS: u32 = 4;
 
-/// Values are not brought nearer by less than this many units where there are few nodes, and else by less than this many.
+/// Values of few nodes are not brought nearer by less than this many units, and others by less than the next number.
 const NEAR_OF_FEW: f64 = 10.0;
 
 const NEAR: f64 = 200.0;
