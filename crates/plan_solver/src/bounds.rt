@@ -23,8 +23,8 @@ use zero_sets::zero_set_over;
 /// The most times that upper tables are found, each over better replies.
 const TURNS: u32 = 6;
 
-/// What a solver takes for lower and upper bounds of a question, over the predecessors in its game. Values to begin with, one
-/// for each state, are hints alone: upper values begin with them. The only error is want of memory.
+/// What a solver takes for lower and upper bounds of a question, over the predecessors in its game. Values to begin
+/// with, one for each state, are hints alone: upper values begin with them. The only error is want of memory.
 pub fn find_bounds(
     alloc: Global,
     question: &Question,

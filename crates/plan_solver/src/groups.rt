@@ -101,8 +101,8 @@ fn nexts_of(alloc: Global, parts: &Components, states: u32) -> Result<Vec<u32>, 
     Ok(nexts)
 }
 
-/// Divides components until no choice that stays in one of them leaves its part: a part of more than one state is an end
-/// component. Mostly no choice can stay for ever, and nothing is searched. The only error is want of memory.
+/// Divides components until no choice that stays in one of them leaves its part: a part of more than one state is an
+/// end component. Mostly no choice can stay for ever, and nothing is searched. The only error is want of memory.
 pub fn end_components(
     alloc: Global,
     frame: &Frame<'_, '_>,

@@ -21,9 +21,9 @@ struct Local {
     policy: Vec<u32>,
 }
 
-/// Finds lower entries for the states of a component, the choices of the maximiser that they go by, the best replies of the
-/// minimiser, and the values that the entries were rounded from. Values begin at 0, and the maximiser's choices with those
-/// that lead toward a goal, so that no value is kept up by play that stays for ever.
+/// Finds lower entries for the states of a component, the choices of the maximiser that they go by, the best replies of
+/// the minimiser, and the values that the entries were rounded from. Values begin at 0, and the maximiser's choices
+/// with those that lead toward a goal, so that no value is kept up by play that stays for ever.
 pub fn lower_component(
     alloc: Global,
     frame: &Frame<'_, '_>,

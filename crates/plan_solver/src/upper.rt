@@ -45,8 +45,8 @@ struct Local {
     policy: Vec<u32>,
 }
 
-/// Finds upper entries for the states of a component, where the minimiser plays these replies. The states of an end component
-/// have one node, with the choices that leave it. Where no values are found, the entries are the unit.
+/// Finds upper entries for the states of a component, where the minimiser plays these replies. The states of an end
+/// component have one node, with the choices that leave it. Where no values are found, the entries are the unit.
 pub fn upper_component(
     alloc: Global,
     frame: &Frame<'_, '_>,

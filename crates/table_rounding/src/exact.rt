@@ -8,8 +8,8 @@ use crate::table::UnitTable;
 use float_games::Bound;
 use game_model::{Question, Side, UNIT};
 
-/// What a choice gives by a table, against an entry of its state: the sums of the weights that lead to other states, times
-/// by how much their entries are above this one, and below it; and the sum of these weights.
+/// What a choice gives by a table, against an entry of its state: the sums of the weights that lead to other states,
+/// times by how much their entries are above this one, and below it; and the sum of these weights.
 #[derive(Clone, Copy)]
 struct Excess {
     above: u128,
@@ -105,8 +105,8 @@ fn planner(bound: Bound) -> Side {
     }
 }
 
-/// The entry up to which, or from which on, that of a state holds, where the side of the bound plays this choice: the same
-/// where it holds, else the next one that does by the entries of the other states.
+/// The entry up to which, or from which on, that of a state holds, where the side of the bound plays this choice: the
+/// same where it holds, else the next one that does by the entries of the other states.
 pub fn held_entry(
     question: &Question,
     table: &UnitTable,

@@ -46,8 +46,8 @@ impl Agenda {
     }
 }
 
-/// Takes exact steps at the states of a component until each entry holds. False where that takes more of them than this,
-/// beyond one a state.
+/// Takes exact steps at the states of a component until each entry holds. False where that takes more of them than
+/// this, beyond one a state.
 pub fn mend(
     alloc: Global,
     setting: &Setting<'_, '_>,

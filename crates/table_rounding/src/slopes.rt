@@ -34,9 +34,9 @@ const NEAR_OF_FEW: f64 = 10.0;
 
 const NEAR: f64 = 200.0;
 
-/// Rounds values of a component to entries that hold. The maximiser's choices of a lower table are planned by the policy, and
-/// by the one of other values where these are what is rounded. False where nothing holds soon: the entries are then 0, or the
-/// unit in an upper table. The only error is want of memory.
+/// Rounds values of a component to entries that hold. The maximiser's choices of a lower table are planned by the
+/// policy, and by the one of other values where these are what is rounded. False where nothing holds soon: the entries
+/// are then 0, or the unit in an upper table. The only error is want of memory.
 pub fn round_component(
     alloc: Global,
     setting: &Setting<'_, '_>,
@@ -71,8 +71,8 @@ pub fn round_component(
     Ok(false)
 }
 
-/// Plans the maximiser's choices of a lower table by a policy. Those of an upper table are the minimiser's, whose replies
-/// the local game has alone.
+/// Plans the maximiser's choices of a lower table by a policy. Those of an upper table are the minimiser's, whose
+/// replies the local game has alone.
 fn plan(setting: &Setting<'_, '_>, policy: &[u32], planned: &mut [u32])
     requires { length planned.old ≡ states setting.now.question.now }
 {
