@@ -9,7 +9,7 @@ use crate::frame::{Frame, is_open};
 use crate::groups::{end_components, open_components};
 use crate::lower::lower_component;
 use crate::replies::improve_replies;
-use crate::upper::upper_component;
+use crate::upper::{Start, upper_component};
 use almost_sure::almost_sure_over;
 use float_games::UNIT;
 use game_model::{Marks, Question};
@@ -17,7 +17,6 @@ use game_outside::OutOfMemory;
 use predecessors::Predecessors;
 use solved_plans::Candidates;
 use std::alloc::Global;
-use std::num::nearest_u64_to_f64;
 use table_rounding::UnitTable;
 use zero_sets::zero_set_over;
 
@@ -48,11 +47,15 @@ pub fn find_bounds(
     };
     let states = question.game().states() as usize;
     let mut replies = vec![in alloc; 0u32; states]?;
-    let lower = lower_table(alloc, &frame, &approach.toward, &mut replies)?;
-    let start = first_values(alloc, &lower, hints)?;
+    let lower = lower_bounds(alloc, &frame, &approach.toward, &mut replies)?;
+    let values = first_values(alloc, &lower.values, hints)?;
+    let start = Start {
+        values: &values,
+        planned: &lower.planned,
+    };
     let upper = upper_table(alloc, &frame, &approach.order, &start, &mut replies)?;
     Ok(Candidates {
-        lower: lower.into_entries(),
+        lower: lower.table.into_entries(),
         upper: upper.into_entries(),
     })
 }
@@ -71,19 +74,28 @@ fn known_table(alloc: Global, question: &Question, sure: &Marks) -> Result<UnitT
     Ok(table)
 }
 
+/// The lower table, the maximiser's choices that it goes by, and the values that it was rounded from, in units.
+#[derive(Drop)]
+struct Lower {
+    table: UnitTable,
+    planned: Vec<u32>,
+    values: Vec<f64>,
+}
+
 /// The lower table, and the minimiser's best replies to it.
-fn lower_table(
+fn lower_bounds(
     alloc: Global,
     frame: &Frame<'_, '_>,
     toward: &[u32],
     replies: &mut [u32],
-) -> Result<UnitTable, OutOfMemory>
+) -> Result<Lower, OutOfMemory>
     requires { length replies.old ≡ states frame.now.question.now }
-    ensures table { IfOk result (λ t. length t ≡ states frame.now.question.now) }
-    ensures replies { length replies.new ≡ length replies.old }
+    ensures { length replies.new ≡ length replies.old }
 {
+    let states = frame.question.game().states() as usize;
     let mut table = known_table(alloc, frame.question, frame.sure)?;
-    let mut planned = vec![in alloc; 0u32; frame.question.game().states() as usize]?;
+    let mut planned = vec![in alloc; 0u32; states]?;
+    let mut values = vec![in alloc; 0.0; states]?;
     for component in 0..frame.components.count() {
         if is_open_component(frame, component) {
             lower_component(
@@ -94,10 +106,15 @@ fn lower_table(
                 &mut table,
                 &mut planned,
                 replies,
+                &mut values,
             )?;
         }
     }
-    Ok(table)
+    Ok(Lower {
+        table,
+        planned,
+        values,
+    })
 }
 
 /// The upper table: over the replies, and once more while these can be improved.
@@ -105,7 +122,7 @@ fn upper_table(
     alloc: Global,
     frame: &Frame<'_, '_>,
     order: &[u32],
-    start: &[f64],
+    start: &Start<'_>,
     replies: &mut [u32],
 ) -> Result<UnitTable, OutOfMemory>
     requires { length replies.old ≡ states frame.now.question.now }
@@ -126,7 +143,7 @@ fn upper_turn(
     alloc: Global,
     frame: &Frame<'_, '_>,
     order: &[u32],
-    start: &[f64],
+    start: &Start<'_>,
     table: &mut UnitTable,
     replies: &mut [u32],
 ) -> Result<(), OutOfMemory>
@@ -135,14 +152,7 @@ fn upper_turn(
     ensures table { length table.new ≡ length table.old }
     ensures replies { length replies.new ≡ length replies.old }
 {
-    let groups = end_components(
-        alloc,
-        frame.question,
-        frame.sure,
-        frame.zero,
-        replies,
-        order,
-    )?;
+    let groups = end_components(alloc, frame, replies, order)?;
     for component in 0..frame.components.count() {
         if is_open_component(frame, component) {
             upper_component(alloc, frame, component, &groups, start, table, replies)?;
@@ -162,20 +172,20 @@ fn is_open_component(frame: &Frame<'_, '_>, component: u32) -> bool
     }
 }
 
-/// The values with which upper ones begin, in units: the hints, or else the lower entries.
+/// The values with which upper ones begin, in units: the hints, or else those of the lower table, where these are more.
 fn first_values(
     alloc: Global,
-    lower: &UnitTable,
+    lower: &[f64],
     hints: Option<&[f64]>,
 ) -> Result<Vec<f64>, OutOfMemory> {
-    let mut values = Vec::with_capacity(alloc, lower.entries().len())?;
-    for (place, entry) in lower.entries().iter().enumerate() {
-        let below = nearest_u64_to_f64(*entry);
-        let hint = hints.and_then(|list| list.get(place).copied());
-        values.push(match hint {
-            Some(value) if value * UNIT > below => (value * UNIT).min(UNIT),
-            _ => below,
-        })?;
+    let mut values = lower.to_vec(alloc)?;
+    let Some(hints) = hints else {
+        return Ok(values);
+    };
+    for (value, hint) in values.iter_mut().zip(hints) {
+        if *hint * UNIT > *value {
+            *value = (*hint * UNIT).min(UNIT);
+        }
     }
     Ok(values)
 }

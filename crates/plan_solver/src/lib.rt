@@ -16,6 +16,7 @@ mod frame;
 mod groups;
 mod lower;
 mod replies;
+mod staying;
 mod upper;
 mod weights;
 

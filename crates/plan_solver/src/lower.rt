@@ -21,9 +21,9 @@ struct Local {
     policy: Vec<u32>,
 }
 
-/// Finds lower entries for the states of a component, the choices of the maximiser that they go by, and the minimiser's
-/// best replies. Values begin at 0, and the maximiser's choices with those that lead toward a goal, so that no value is
-/// kept up by play that stays for ever.
+/// Finds lower entries for the states of a component, the choices of the maximiser that they go by, the best replies of
+/// the minimiser, and the values that the entries were rounded from. Values begin at 0, and the maximiser's choices
+/// with those that lead toward a goal, so that no value is kept up by play that stays for ever.
 pub fn lower_component(
     alloc: Global,
     frame: &Frame<'_, '_>,
@@ -32,6 +32,7 @@ pub fn lower_component(
     lower: &mut UnitTable,
     planned: &mut [u32],
     replies: &mut [u32],
+    found: &mut [f64],
 ) -> Result<(), OutOfMemory>
     requires counted { component + 1 < length frame.now.components.now.starts }
     requires lower { length lower.old ≡ states frame.now.question.now }
@@ -47,6 +48,7 @@ pub fn lower_component(
         lower.set(state, entry.value);
         note(planned, state, entry.choice);
         note(replies, state, entry.choice);
+        note_value(found, state, nearest_u64_to_f64(entry.value));
         return Ok(());
     }
     let Some(local) = local_game(alloc, frame, component, toward, lower)? else {
@@ -61,8 +63,9 @@ pub fn lower_component(
     let _is_found = solve(alloc, &game, 0.0, &mut values, &mut policy)?;
     refine(alloc, &game, &policy, &mut values)?;
     for (place, state) in members.iter().enumerate() {
-        if let Some(choice) = policy.get(place) {
+        if let (Some(choice), Some(value)) = (policy.get(place), values.get(place)) {
             note(replies, *state, game.mark(*choice));
+            note_value(found, *state, *value);
         }
     }
     let nodes = numbers(alloc, members.len())?;
@@ -88,8 +91,15 @@ pub fn note(choices: &mut [u32], state: u32, choice: u32)
     }
 }
 
+/// Notes a value of a state.
+fn note_value(values: &mut [f64], state: u32, value: f64) {
+    if let Some(entry) = values.get_mut(state as usize) {
+        *entry = value;
+    }
+}
+
 /// The numbers below this one.
-fn numbers(alloc: Global, end: usize) -> Result<Vec<u32>, OutOfMemory> {
+pub fn numbers(alloc: Global, end: usize) -> Result<Vec<u32>, OutOfMemory> {
     let mut list = Vec::with_capacity(alloc, end)?;
     for number in 0..end {
         list.push(u32::try_from(number).unwrap_or(u32::MAX))?;

@@ -3,34 +3,60 @@
 ghost use Rattle.std.specs.Prelude.{◌≡◌, ◌+◌, ◌<◌, length};
 ghost use Rattle.game_model.specs.Game.{choices_of};
 ghost use Rattle.game_model.specs.Query.{states};
-ghost use Rattle.play_components.specs.Division.{states_of};
 
+use crate::approach::NONE;
 use crate::frame::Frame;
-use crate::groups::{is_played, stays};
-use crate::lower::note;
+use crate::groups::Groups;
+use crate::lower::{note, numbers};
+use crate::staying::is_played;
 use crate::weights::float_of;
 use float_games::{Bound, Draft, FloatGame};
 use game_model::Side;
 use game_outside::OutOfMemory;
 use local_values::{refine, solve};
-use play_components::Components;
 use std::alloc::Global;
 use std::num::nearest_u64_to_f64;
 use table_rounding::{Setting, UnitTable, round_component, single_entry};
 
+/// What upper values begin with: for each state a value, in units, and a choice of the maximiser.
+#[derive(Drop)]
+pub struct Start<'a> {
+    /// The values.
+    pub values: &'a [f64],
+    /// The choices.
+    pub planned: &'a [u32],
+}
+
+/// What a local game is made by: for each member of the component its node, the end components, the choices to begin
+/// with, and the minimiser's replies.
+#[derive(Drop)]
+struct Shape<'a> {
+    component: u32,
+    nodes: &'a [u32],
+    groups: &'a Groups,
+    planned: &'a [u32],
+    replies: &'a [u32],
+}
+
+/// The local game of a component, and a policy to begin with.
+#[derive(Drop)]
+struct Local {
+    game: FloatGame,
+    policy: Vec<u32>,
+}
+
 /// Finds upper entries for the states of a component, where the minimiser plays these replies. The states of an end
-/// component have one node, with the choices that leave it. Values begin with these, one for each state.
+/// component have one node, with the choices that leave it. Where no values are found, the entries are the unit.
 pub fn upper_component(
     alloc: Global,
     frame: &Frame<'_, '_>,
     component: u32,
-    groups: &Components,
-    start: &[f64],
+    groups: &Groups,
+    start: &Start<'_>,
     upper: &mut UnitTable,
     replies: &mut [u32],
 ) -> Result<(), OutOfMemory>
     requires counted { component + 1 < length frame.now.components.now.starts }
-    requires groups { states_of groups.now ≡ states frame.now.question.now }
     requires upper { length upper.old ≡ states frame.now.question.now }
     requires replies { length replies.old ≡ states frame.now.question.now }
     ensures upper { length upper.new ≡ length upper.old }
@@ -44,12 +70,21 @@ pub fn upper_component(
         note(replies, state, entry.choice);
         return Ok(());
     }
+    give_up(frame, component, upper);
     let nodes = nodes_of_members(alloc, frame, component, groups)?;
-    let Some(game) = local_game(alloc, frame, component, groups, &nodes, upper, replies)? else {
+    let shape = Shape {
+        component,
+        nodes: &nodes,
+        groups,
+        planned: start.planned,
+        replies,
+    };
+    let Some(local) = local_game(alloc, frame, &shape, upper)? else {
         return Ok(());
     };
-    let mut values = first_values(alloc, frame, component, &nodes, start, game.nodes())?;
-    let mut policy = game.first_policy(alloc)?;
+    let game = local.game;
+    let mut policy = local.policy;
+    let mut values = first_values(alloc, frame, component, &nodes, start.values, game.nodes())?;
     if values.len() != game.nodes() || policy.len() != game.nodes() {
         return Ok(());
     }
@@ -68,39 +103,45 @@ pub fn upper_component(
     Ok(())
 }
 
+/// The entry that always holds, for the states of a component.
+fn give_up(frame: &Frame<'_, '_>, component: u32, upper: &mut UnitTable)
+    requires counted { component + 1 < length frame.now.components.now.starts }
+    requires upper { length upper.old ≡ states frame.now.question.now }
+    ensures { length upper.new ≡ length upper.old }
+{
+    let members = frame.components.members(component);
+    for place in 0..members.len() {
+        upper.set(members[place], u64::MAX);
+    }
+}
+
 /// For each member its node: one for each end component, in the order of their first members.
 fn nodes_of_members(
     alloc: Global,
     frame: &Frame<'_, '_>,
     component: u32,
-    groups: &Components,
+    groups: &Groups,
 ) -> Result<Vec<u32>, OutOfMemory>
-    requires counted { component + 1 < length frame.now.components.now.starts }
-    requires groups { states_of groups.now ≡ states frame.now.question.now }
+    requires { component + 1 < length frame.now.components.now.starts }
 {
     let members = frame.components.members(component);
+    if groups.are_alone() {
+        return numbers(alloc, members.len());
+    }
     let mut leads = vec![in alloc; 0u32; members.len()]?;
     let mut next: u32 = 0;
     for (place, state) in members.iter().enumerate() {
-        if lead_of(groups, *state) == *state {
+        if groups.lead_of(*state) == *state {
             note(&mut leads, u32::try_from(place).unwrap_or(u32::MAX), next);
             next = next.saturating_add(1);
         }
     }
     let mut nodes = Vec::with_capacity(alloc, members.len())?;
     for state in members {
-        let lead = lead_of(groups, *state);
+        let lead = groups.lead_of(*state);
         nodes.push(node_of(frame, component, &leads, lead))?;
     }
     Ok(nodes)
-}
-
-/// The first state of a state's end component.
-fn lead_of(groups: &Components, state: u32) -> u32
-    requires { state < states_of groups.now }
-{
-    let members = groups.members(groups.component_of(state));
-    members.first().copied().unwrap_or(state)
 }
 
 /// What stands for a state in a list over the members of its component.
@@ -141,62 +182,88 @@ fn first_values(
 fn local_game(
     alloc: Global,
     frame: &Frame<'_, '_>,
-    component: u32,
-    groups: &Components,
-    nodes: &[u32],
+    shape: &Shape<'_>,
     upper: &UnitTable,
-    replies: &[u32],
-) -> Result<Option<FloatGame>, OutOfMemory>
-    requires counted { component + 1 < length frame.now.components.now.starts }
-    requires groups { states_of groups.now ≡ states frame.now.question.now }
+) -> Result<Option<Local>, OutOfMemory>
+    requires counted { shape.now.component + 1 < length frame.now.components.now.starts }
     requires upper { length upper.now ≡ states frame.now.question.now }
 {
-    let members = frame.components.members(component);
+    let members = frame.components.members(shape.component);
     let mut draft = Draft::new(alloc, members.len(), members.len(), members.len())?;
+    let mut policy = Vec::with_capacity(alloc, members.len())?;
     for state in members {
-        if lead_of(groups, *state) == *state {
-            add_group(
-                frame, component, groups, nodes, upper, replies, *state, &mut draft,
-            )?;
+        if shape.groups.lead_of(*state) == *state {
+            let first = add_group(frame, shape, upper, *state, members.len(), &mut draft)?;
+            policy.push(first)?;
         }
     }
-    Ok(draft.finish())
+    match draft.finish() {
+        Some(game) => Ok(Some(Local { game, policy })),
+        None => Ok(None),
+    }
 }
 
-/// Adds the node of an end component, or of a state that is in none.
+/// Adds the node of an end component of at most so many states, or of a state that is in none. Gives the choice to
+/// begin with.
 fn add_group(
     frame: &Frame<'_, '_>,
-    component: u32,
-    groups: &Components,
-    nodes: &[u32],
+    shape: &Shape<'_>,
     upper: &UnitTable,
-    replies: &[u32],
     lead: u32,
+    most: usize,
     draft: &mut Draft,
-) -> Result<(), OutOfMemory>
-    requires groups { states_of groups.now ≡ states frame.now.question.now }
+) -> Result<u32, OutOfMemory>
     requires upper { length upper.now ≡ states frame.now.question.now }
     requires lead { lead < states frame.now.question.now }
 {
-    let group = groups.members(groups.component_of(lead));
-    let is_merged = group.len() > 1;
-    for state in group {
-        for choice in 0..frame.question.game().choices_of(*state) {
-            let is_inner = is_merged && stays(frame.question, groups, *state, choice);
-            if !is_inner && is_played(frame.question, replies, *state, choice) {
-                add_edges(frame, component, nodes, upper, *state, choice, draft)?;
-                let _is_in = draft.end_choice(choice)?;
+    let is_merged = shape.groups.next_of(lead) != NONE;
+    let mut first = u32::try_from(draft.choices()).unwrap_or(0);
+    let mut state = lead;
+    for _ in 0..most {
+        if state >= frame.question.game().states() {
+            break;
+        }
+        if let Some(planned) = add_state(frame, shape, upper, state, is_merged, draft)? {
+            first = planned;
+        }
+        state = shape.groups.next_of(state);
+    }
+    draft.end_node(is_merged || frame.question.side(lead) == Side::Max)?;
+    Ok(first)
+}
+
+/// Adds the choices of a state: those of an end component that leave it. Gives the one that the maximiser begins with.
+fn add_state(
+    frame: &Frame<'_, '_>,
+    shape: &Shape<'_>,
+    upper: &UnitTable,
+    state: u32,
+    is_merged: bool,
+    draft: &mut Draft,
+) -> Result<Option<u32>, OutOfMemory>
+    requires upper { length upper.now ≡ states frame.now.question.now }
+    requires state { state < states frame.now.question.now }
+{
+    let maximises = frame.question.side(state) == Side::Max;
+    let wanted = shape.planned.get(state as usize).copied();
+    let mut planned = None;
+    for choice in 0..frame.question.game().choices_of(state) {
+        let is_inner = is_merged && shape.groups.hold(frame.question, state, choice);
+        if !is_inner && is_played(frame.question, shape.replies, state, choice) {
+            add_edges(frame, shape, upper, state, choice, draft)?;
+            let number = u32::try_from(draft.choices()).unwrap_or(0);
+            if draft.end_choice(choice)? && maximises && wanted == Some(choice) {
+                planned = Some(number);
             }
         }
     }
-    draft.end_node(is_merged || frame.question.side(lead) == Side::Max)
+    Ok(planned)
 }
 
 /// Adds the edges of a choice.
 fn add_edges(
     frame: &Frame<'_, '_>,
-    component: u32,
-    nodes: &[u32],
+    shape: &Shape<'_>,
     upper: &UnitTable,
     state: u32,
     choice: u32,
@@ -211,8 +278,9 @@ fn add_edges(
     for place in 0..game.edge_count(state, choice) {
         let edge = game.edge(state, choice, place);
         let weight = float_of(edge.weight);
-        if frame.components.component_of(edge.to) == component {
-            draft.add_edge(node_of(frame, component, nodes, edge.to), weight)?;
+        if frame.components.component_of(edge.to) == shape.component {
+            let place = frame.components.place_of(edge.to) as usize;
+            draft.add_edge(shape.nodes.get(place).copied().unwrap_or(0), weight)?;
         } else {
             draft.add_exit(weight, nearest_u64_to_f64(upper.get(edge.to)));
         }

@@ -16,7 +16,7 @@ use std::alloc::Global;
 /// Values of more nodes than this are not tried as they are.
 const MOST_BOLD: usize = 5_000;
 
-/// From so many nodes on the first try gives up soon.
+/// Of more nodes than this the first try gives up soon, and tries are few.
 const MANY: usize = 1_000;
 
 /// How many units a move takes: a little more than rounding does.
@@ -29,7 +29,9 @@ const COST_GROWTH: f64 = 8.0;
 
 const COSTS: u32 = 4;
 
-/// Values are not brought nearer by less than this many units.
+/// Values of few nodes are not brought nearer by less than this many units, and others by less than the next number.
+const NEAR_OF_FEW: f64 = 10.0;
+
 const NEAR: f64 = 200.0;
 
 /// Rounds values of a component to entries that hold. The maximiser's choices of a lower table are planned by the
@@ -216,11 +218,12 @@ fn narrow(
 {
     let width = slope.abs() * widest(away);
     let effort = full_effort(setting);
+    let least = least_step(setting);
     let mut best = entries_of(alloc, setting, table)?;
     let mut near = 0.0;
     let mut end = 1.0;
     for _ in 0..halves(setting) {
-        if !(width * (end - near) > NEAR) {
+        if !(width * (end - near) > least) {
             break;
         }
         let part = 0.5 * (near + end);
@@ -234,6 +237,15 @@ fn narrow(
     }
     put_back(setting, &best, table);
     Ok(())
+}
+
+/// By how many units values are brought nearer at least: a try of few nodes takes little.
+fn least_step(setting: &Setting<'_, '_>) -> f64 {
+    if setting.game.nodes() <= MANY {
+        NEAR_OF_FEW
+    } else {
+        NEAR
+    }
 }
 
 /// How many times entries are brought nearer: seldom where a try takes long.

@@ -1,9 +1,10 @@
-use Rattle.std.proofs.Common.{◌≡◌, length}
+use Rattle.std.proofs.Common.{◌≡◌, length, vec_len}
 use Rattle.game_model.specs.Query.{states}
-use Rattle.plan_solver.proofs.bounds.lower_table.Given as goal
+use Rattle.plan_solver.proofs.bounds.lower_bounds.Given as goal
 
 abbrev pub invariant-loop-component : goal.invariant-loop-component
 invariant-loop-component l = record {
   table : length l.table ≡ states l.frame.question.now;
   replies : length l.replies ≡ states l.frame.question.now;
+  planned : vec_len l.planned ≡ states l.frame.question.now;
 }
