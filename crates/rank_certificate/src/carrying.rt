@@ -6,7 +6,7 @@ ghost use Rattle.game_model.specs.Query.{states, side_at};
 ghost use Rattle.game_model.specs.Limits.{unit};
 ghost use Rattle.rank_certificate.specs.Ranking.{IsEnough};
 ghost use Rattle.rank_certificate.specs.Faults.{HasToRank};
-ghost use Rattle.rank_certificate.specs.Carrying.{AreOfStates, Carries, IsFirstCarrying};
+ghost use Rattle.rank_certificate.specs.Carrying.{AreOfStates, MayTake, Carries, IsFirstCarrying};
 ghost use Rattle.rank_certificate.specs.Growth.{HasRankWithin};
 
 use crate::met::leads_low;
@@ -35,12 +35,27 @@ pub fn first_carrying(
         (HasRankWithin ranks.now level) state c) }
 {
     question.known();
-    for choice in 0..question.game().choices_of(state) {
+    for choice in first_taken(question, only, state)..question.game().choices_of(state) {
         if carries(question, values, only, ranks, level, state, choice) {
             return Some(choice);
         }
     }
     None
+}
+
+/// A choice of a state below which none may be taken: the given one of the maximiser, and else 0.
+fn first_taken(question: &Question, only: Option<&[Option<u32>]>, state: u32) -> u32
+    requires only { AreOfStates question.now (option_copied only) }
+    requires state { state < states question.now }
+    ensures { (value : ℕ → ℕ) (c : ℕ) → c < result → ¬ MayTake question.now value (option_copied only.entry) state c }
+{
+    let Some(choices) = only else {
+        return 0;
+    };
+    match question.side(state) {
+        Side::Max => choices[state as usize].unwrap_or(0),
+        Side::Min => 0,
+    }
 }
 
 /// Whether every choice of a state does so.

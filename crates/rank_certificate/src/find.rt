@@ -15,9 +15,8 @@ use std::alloc::Global;
 /// The layered ranks of values and choices that some ranks vouch for: 0 at goals, dead states and states of
 /// value 0; elsewhere the least number from 1 up such that the choice of the maximiser, or every choice of
 /// the minimiser, has a successor of greater value, or one of equal value and smaller rank. They vouch for the
-/// values and choices ([`crate::check_ranks`]). The search is that of [`crate::rank_table`], with these choices as the
-/// only ones that a state of the maximiser may take; the time is no part of the contract. The only error is want of
-/// memory.
+/// values and choices ([`crate::check_ranks`]). The search is that of [`crate::rank_table`], where the maximiser may
+/// take these choices alone; the time is no part of the contract. The only error is want of memory.
 pub fn find_ranks(
     alloc: Global,
     question: &Question,
