@@ -130,7 +130,7 @@ class Picture:
     def words(self, across, up, words, anchor="end"):
         """Words to the left of a point, or with the anchor `start` to the right, lower where others stand there."""
         x, y = self.place(across, up)
-        x += 10 if anchor == "start" else -10
+        x, y = x + (10 if anchor == "start" else -10), min(y, BOTTOM - ROW)
         left = x if anchor == "start" else x - LETTER * len(words)
         right = left + LETTER * len(words)
         while any(low < right and left < high and abs(y - row) < ROW for low, high, row in self.worded):

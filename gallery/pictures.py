@@ -161,7 +161,8 @@ def draw_widths():
         logarithmic("width of the bracket, a probability", -15, 0, 3),
     )
     for command, (colour, dashes) in COMMANDS.items():
-        found = sorted((timed(row), row["width"]) for row in rows if row["command"] == command)
+        found = [(timed(row), row["width"]) for row in rows if row["command"] == command]
+        found.sort(key=lambda pair: (pair[0], -float(pair[1])))
         pairs = [(seconds, max(float(width), float(LEAST_WIDTH))) for seconds, width in found]
         if len(pairs) == 1:
             picture.points(command, pairs, colour, "circle")
