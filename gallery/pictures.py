@@ -118,7 +118,8 @@ def rows_of(path):
 
 
 def draw_times():
-    """The time of `check` by the number of states, and that of `solve`, with a line that joins the two of one model."""
+    """The time of `check` by the number of states, and that of `solve`, with a line that joins the two of one model. Of
+    models with as many states the slowest is named."""
     rows = [row for row in rows_of(TIMES) if row["seconds"] and row["command"] in TIMED]
     highest = max(float(row["seconds"]) for row in rows)
     seconds = logarithmic(SECONDS, -3, 3 if highest > 100 else 2)
@@ -131,7 +132,10 @@ def draw_times():
             if pairs:
                 picture.points(f"{command}, {kind}", pairs, colour, shape, hollow=command == "solve")
     slowest = sorted((row for row in rows if row["command"] == "check"), key=lambda row: -float(row["seconds"]))
-    for row in slowest[:MOST_NAMED]:
+    named = {}
+    for row in slowest:
+        named.setdefault(row["states"], row)
+    for row in list(named.values())[:MOST_NAMED]:
         picture.words(*measured(row), row["model"])
     finish(picture, "times")
 
