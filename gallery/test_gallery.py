@@ -224,15 +224,20 @@ class Pictures(unittest.TestCase):
 
     def test_times(self):
         rows = "group,model,kind,states,command,status,rounds,seconds,clock,megabytes,width\n" + "".join(
-            f"g,{model},{kind},1000,{command},0,,{seconds},1,1,0.0e+00\n"
-            for model, kind in (("a", "DTMC"), ("b", "game"))
-            for command, seconds in (("check", "3.5"), ("check --traps", "4"), ("solve", "0.2" if model == "a" else ""))
+            f"g,{model},{kind},{states},{command},0,,{seconds},1,1,0.0e+00\n"
+            for model, kind, states in (("a", "DTMC", 1000), ("b", "game", 2000), ("faster", "game", 2000))
+            for command, seconds in (
+                ("check", "1" if model == "faster" else "3.5"),
+                ("check --traps", "4"),
+                ("solve", "0.2" if model == "a" else ""),
+            )
         )
         words, tags = self.drawn(pictures.draw_times, "times", times=rows)
         for word in ("Time by number of states", "states", "processor time, seconds", "check, DTMC", "solve, DTMC", "a", "b"):
             self.assertIn(word, words)
-        self.assertNotIn("solve, game", words)
-        self.assertEqual((tags.count("circle"), tags.count("polygon")), (4, 2))
+        for word in ("solve, game", "faster"):
+            self.assertNotIn(word, words)
+        self.assertEqual((tags.count("circle"), tags.count("polygon")), (4, 3))
 
     def test_widths(self):
         rows = "model,states,command,rounds,seconds,width\n" + "".join(
