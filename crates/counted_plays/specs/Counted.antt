@@ -40,8 +40,10 @@ only s t = t == s
 abbrev pub bold_plan : List (Option ℕ)
 bold_plan = Some 0 ∷ None ∷ None ∷ None ∷ []
 
+-- in the game of give and take: the minimiser's plan to be harsh
 abbrev pub harsh_plan : List (Option ℕ)
 harsh_plan = None ∷ Some 1 ∷ None ∷ None ∷ []
 
+-- the values of the four states of the game of give and take, in thirds
 abbrev pub thirds : List ℕ
 thirds = 2 ∷ 1 ∷ 3 ∷ 0 ∷ []

@@ -48,6 +48,7 @@ pub record SpellsPower (text : List ℕ) (exponent : Exponent) : Type 0 where
 abbrev pub SpellsExponent : List ℕ → Exponent → Type 0
 SpellsExponent text exponent = ((text ≡ []) × (exponent ≡ no_exponent)) ⊎ SpellsPower text exponent
 
+-- the text is a decimal: one or more digits, then a point and any digits or neither, then an exponent or none
 pub record SpellsDecimal (text front back : List ℕ) (exponent : Exponent) : Type 0 where
   pub middle : List ℕ
   pub end : List ℕ
@@ -56,6 +57,7 @@ pub record SpellsDecimal (text front back : List ℕ) (exponent : Exponent) : Ty
   pub point : SpellsBack middle back
   pub power : SpellsExponent end exponent
 
+-- the text is a fraction: digits, the line `/`, and digits
 pub record SpellsQuotient (text above below : List ℕ) : Type 0 where
   pub parts : text ≡ above ++ 47 ∷ below
   pub numerator : AreDigits above
@@ -76,6 +78,7 @@ value_of (Decimal front back exponent) = record {
 }
 value_of (Quotient above below) = record { num = value_onto 0 above; den = value_onto 0 below }
 
+-- the number has more digits than may be read, or an exponent of too many digits or too far from 0
 abbrev pub is_long : Spelling → Bool
 is_long (Decimal front back exponent) = nat_lt most_digits (length front + length back)
     || (nat_lt most_exponent_digits (length exponent.digits) || nat_lt most_exponent (value_onto 0 exponent.digits))
@@ -105,6 +108,7 @@ leading_digits text = take (digits_len text) text
 abbrev pub behind_digits : List ℕ → List ℕ
 behind_digits text = drop (digits_len text) text
 
+-- the exponent of this sign whose digits are all that is left, and at least one
 abbrev pub exponent_digits : Bool → List ℕ → Option Exponent
 exponent_digits below [] = None
 exponent_digits below (b ∷ bytes) = if all_digits (b ∷ bytes) then Some
@@ -134,6 +138,7 @@ behind_front front (b ∷ bytes) = if b ==
     46 then decimal_of front (leading_digits bytes) (behind_digits bytes) else
     (if b == 47 then quotient_of front bytes else decimal_of front [] (b ∷ bytes))
 
+-- how a text spells a number, as a decimal or as a fraction, where it spells one
 abbrev pub spelling_of : List ℕ → Option Spelling
 spelling_of text = if is_nil (leading_digits text) then None else behind_front (leading_digits text)
     (behind_digits text)
@@ -143,9 +148,11 @@ abbrev pub in_range : Fraction → Result Fraction NumberFault
 in_range f = if nat_lt finest f.den then Err TooFine else
     (if nat_lt (most_value * f.den) f.num then Err TooLarge else Ok f)
 
+-- the fraction of the same value in lowest terms, or its first fault: its denominator is 0, or it is out of range
 abbrev pub fraction_said : Fraction → Result Fraction NumberFault
 fraction_said f = if f.den == 0 then Err ZeroDenominator else in_range (lowest f)
 
+-- the fraction that a spelling stands for, or its first fault; without a spelling the text is no number
 abbrev pub spelling_said : Option Spelling → Result Fraction NumberFault
 spelling_said None = Err NotANumber
 spelling_said (Some spelling) = if is_long spelling then Err TooManyDigits else fraction_said (value_of spelling)

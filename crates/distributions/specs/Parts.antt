@@ -13,6 +13,7 @@ use Rattle.distributions.specs.Divisors.{lcm}
 abbrev pub edge_of_part : ℕ → Part → Edge
 edge_of_part common part = record { to = part.to; weight = part.share.num * common / part.share.den }
 
+-- the edges of the parts, one each, with their shares as whole weights over a common denominator
 abbrev pub weighted : ℕ → List Part → List Edge
 weighted common parts = map (λ part. edge_of_part common part) parts
 
@@ -28,6 +29,8 @@ pub record IsCommonDenominator (common : ℕ) (parts : List Part) : Type 0 where
   pub multiple : All (λ part. part.share.den ∣ common) parts
   pub least : (m : ℕ) → All (λ part. part.share.den ∣ m) parts → common ∣ m
 
+-- the distribution of these parts: a weight is the sum of the shares of its destination, counted in parts of their
+-- least common denominator, and the weights come to 1 but for at most one part in 100,000
 pub record Denotes (parts : List Part) (distribution : Distribution) : Type 0 where
   pub common : ℕ
   pub denominator : IsCommonDenominator common parts
@@ -71,6 +74,8 @@ sum_said common edges =
     if nat_lt common (distance (total_of edges) common * tolerance) then Err (BadSum (total_of edges) common) else Ok
     (record { total = total_of edges; edges = edges })
 
+-- the distribution of these parts over a common denominator, or the first fault, of which that of the denominator is
+-- first
 abbrev pub choice_over : Result ℕ ChoiceFault → List Part → Result Distribution ChoiceFault
 choice_over (Ok common) parts = sum_said common (gathered (weighted common parts))
 choice_over (Err fault) parts = Err fault
@@ -79,5 +84,6 @@ choice_over (Err fault) parts = Err fault
 abbrev pub choice_said : List Part → Result Distribution ChoiceFault
 choice_said parts = choice_over (denominator_said 1 parts) parts
 
+-- memory was wanting, which is no fault of the parts
 abbrev pub IsOutOfMemory : ChoiceFault → Type 0
 IsOutOfMemory fault = fault ≡ OutOfMemory

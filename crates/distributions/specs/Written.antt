@@ -7,9 +7,11 @@ use Rattle.distributions.specs.declared.number.Written.{Written}
 use Rattle.distributions.specs.declared.number.Written.TheVariants.{Point, Line}
 use Rattle.distributions.specs.Number.{Exponent, Spelling, Decimal, Quotient}
 
+-- the exponent of a number as it is written: whether it is below zero, and its digits
 abbrev pub exponent_in : Power → Exponent
 exponent_in power = record { below = power.below; digits = power.digits.now }
 
+-- the digits before and behind the point with the exponent, or those above and below the line, of a number as written
 abbrev pub spelling_in : Written → Spelling
 spelling_in (Point front back power) = Decimal front.now back.now (exponent_in power)
 spelling_in (Line above below) = Quotient above.now below.now

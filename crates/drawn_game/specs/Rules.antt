@@ -11,6 +11,7 @@ use Rattle.drawn_game.specs.Parts.{choice_of_parts}
 abbrev pub goal_of : ℕ → ℕ
 goal_of n = n - 2
 
+-- of n states the last, from which the goal is never reached
 abbrev pub sink_of : ℕ → ℕ
 sink_of n = n - 1
 

@@ -16,6 +16,7 @@ pub record TextUnderWay : Type 0 where
   pub closed : Bool
   pub ended : Bool
 
+-- a text under way as contracts see it: of the piece that is kept, the bytes from `begin` to `end` are held
 abbrev pub under_way : Inside → TextUnderWay
 under_way t = record {
   held = take (t.end - t.begin) (drop t.begin t.piece.items);
@@ -31,6 +32,7 @@ pub record IsUnderWay (t : Inside) : Type 0 where
   pub piece : length t.piece.items ≡ piece_size
   pub begins : t.begin ≤ t.end
   pub ends : t.end ≤ piece_size
+  -- so a count of bytes that passes the limit still fits 64 bits
   pub bounded : t.limit < 2 ^ 64 - 1
   pub within : t.closed ≡ false → t.taken ≤ t.limit
   pub over : t.ended ≡ true → t.begin ≡ t.end

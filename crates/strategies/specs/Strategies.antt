@@ -64,6 +64,7 @@ ReachesOver top q plan table = (m : ℕ) → 1 ≤ m
 abbrev pub HoldsAgainstAll : Query → List (Option ℕ) → (ℕ → ℕ) → Type 0
 HoldsAgainstAll q plan table = HoldsOver unit q plan table
 
+-- in the units of tables: the maximiser's plan reaches the table, less any 1/m, against every strategy of the minimiser
 abbrev pub ReachesAgainstAll : Query → List (Option ℕ) → (ℕ → ℕ) → Type 0
 ReachesAgainstAll q plan table = ReachesOver unit q plan table
 

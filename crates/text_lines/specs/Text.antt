@@ -17,6 +17,7 @@ lines_of [] = []
 lines_of (b ∷ bytes) = if b == 10 then [] ∷ lines_of bytes else
     (if b == 13 && begins_lf bytes then lines_of bytes else prepend (b ∷ []) (lines_of bytes))
 
+-- a space or a tab, which part the fields of a line
 abbrev pub is_blank : ℕ → Bool
 is_blank b = b == 32 || b == 9
 
@@ -31,13 +32,16 @@ fields_of [] = []
 fields_of (b ∷ bytes) = if is_blank b then fields_of bytes else
     (if ends_field bytes then (b ∷ []) ∷ fields_of bytes else prepend (b ∷ []) (fields_of bytes))
 
+-- a digit, `0` to `9`
 abbrev pub is_digit : ℕ → Bool
 is_digit b = nat_le 48 b && nat_le b 57
 
+-- nothing but digits stands there, or nothing at all
 abbrev pub all_digits : List ℕ → Bool
 all_digits [] = true
 all_digits (b ∷ bytes) = is_digit b && all_digits bytes
 
+-- nothing stands in the list
 abbrev pub is_nil : {X : Type 0} → List X → Bool
 is_nil [] = true
 is_nil (x ∷ xs) = false
