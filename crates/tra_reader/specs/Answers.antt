@@ -33,6 +33,7 @@ IsLastField None [] = ⊥
 IsLastField None (a ∷ []) = ⊥
 IsLastField None (a ∷ b ∷ fields) = Unit {0}
 
+-- the place of the row's choice in the order of all choices
 abbrev pub row_place : Row → ℕ
 row_place row = transition_place row.transition
 

@@ -13,6 +13,7 @@ use Rattle.tra_reader.specs.Order.{IsWithin}
 use Rattle.tra_reader.specs.Noted.{NotesLines}
 use Rattle.tra_reader.specs.Reading.{IsRight, Begins, TakesLine, RefusesLine, AddsRow, RefusesRow, Finishes}
 
+-- the header behind which these rows stand
 abbrev pub any_header : AnyRows → Header
 any_header held = held.header
 
@@ -22,26 +23,36 @@ pub record AreHeld (n : ℕ) (kept : List Transition) (actions : LineActions) (r
   pub within : All (λ row. IsWithin n row.transition) rows
   pub notes : NotesLines actions rows
 
+-- these rows have been read behind the header, in whatever order their choices stand
 abbrev pub HoldsAny : AnyRows → List Row → Type 0
 HoldsAny held rows = AreHeld held.header.states held.transitions.items held.actions rows
 
+-- the answer is right for a text that goes on with these lines, of which the first has this number; a fault is one of
+-- the text, or want of memory
 abbrev pub AnyRight : Option AnyRows → ℕ → List (List ℕ) → Result (List (List Distribution)) TraFault → Type 0
 AnyRight = IsRight any_header HoldsAny (λ fault. Some fault)
 
+-- the line is the header, behind which no row is held yet, or it has this fault; or memory ran out
 abbrev pub BeginsAny : List ℕ → Result AnyRows TraFault → Type 0
 BeginsAny = Begins any_header HoldsAny
 
+-- the line says the next row, which is held with the others from now on
 abbrev pub TakesAny : AnyRows → AnyRows → List ℕ → Type 0
 TakesAny = TakesLine any_header HoldsAny
 
+-- the line of this number has this fault behind the rows that are held, or memory ran out
 abbrev pub RefusesAny : AnyRows → ℕ → List ℕ → TraFault → Type 0
 RefusesAny = RefusesLine any_header HoldsAny (λ fault. Some fault)
 
+-- the row has no other action than the rows of its choice that are held, and is held with them from now on
 abbrev pub AddsAny : AnyRows → AnyRows → Row → Type 0
 AddsAny = AddsRow any_header HoldsAny
 
+-- the row, of the line of this number, has another action than its choice has by the rows that are held; or memory ran
+-- out
 abbrev pub RefusesAnyRow : AnyRows → ℕ → Row → TraFault → Type 0
 RefusesAnyRow = RefusesRow HoldsAny (λ fault. Some fault)
 
+-- at the end of the text the rows that are held make this game, or have this first fault; or memory ran out
 abbrev pub FinishesAny : AnyRows → Result (List (List Distribution)) TraFault → Type 0
 FinishesAny = Finishes any_header HoldsAny

@@ -20,9 +20,11 @@ use Rattle.tra_reader.specs.Lines.{is_of}
 abbrev pub transitions_of : List Transition → ℕ → ℕ → List Transition
 transitions_of transitions s k = filter (is_of s k) transitions
 
+-- what a transition gives to its choice: the destination and the probability of going there
 abbrev pub part_of : Transition → Part
 part_of transition = record { to = transition.destination; share = transition.share }
 
+-- the parts of choice k of state s, in the order of their lines
 abbrev pub parts_of : List Transition → ℕ → ℕ → List Part
 parts_of transitions s k = map part_of (transitions_of transitions s k)
 
@@ -62,6 +64,7 @@ least_missing transitions s zero = None
 least_missing transitions s (suc k) = option_or (least_missing transitions s k)
     (if is_nil (transitions_of transitions s k) then Some k else None)
 
+-- choice k of state s, as the pair of both numbers
 abbrev pub of_state : ℕ → ℕ → ℕ × ℕ
 of_state s k = (s, k)
 
@@ -80,11 +83,13 @@ abbrev pub first_crowded : List Transition → ℕ → Option ℕ
 first_crowded transitions zero = None
 first_crowded transitions (suc s) = option_or (first_crowded transitions s) (if_crowded s (choice_end transitions s))
 
+-- the list with this behind it, or the first fault of the two
 abbrev pub then_push : {X : Type 0} → Result (List X) TraFault → Result X TraFault → Result (List X) TraFault
 then_push (Ok xs) (Ok x) = Ok (xs ++ x ∷ [])
 then_push (Ok xs) (Err fault) = Err fault
 then_push (Err fault) x = Err fault
 
+-- the distribution of choice k of state s, or its fault, which is of no one line
 abbrev pub choice_at : ℕ → ℕ → Result Distribution ChoiceFault → Result Distribution TraFault
 choice_at s k (Ok distribution) = Ok distribution
 choice_at s k (Err fault) = Err (fault_of_all (Choice s k fault))
@@ -95,6 +100,7 @@ choices_said transitions s zero = Ok []
 choices_said transitions s (suc k) = then_push (choices_said transitions s k)
     (choice_at s k (choice_said (parts_of transitions s k)))
 
+-- the choices of a state, or the first fault of one; a state without a transition has a move to itself
 abbrev pub state_said : List Transition → ℕ → Result (List Distribution) TraFault
 state_said transitions s = if choice_end transitions s ==
     0 then Ok (self_loop s ∷ []) else choices_said transitions s (choice_end transitions s)
@@ -104,11 +110,13 @@ abbrev pub states_said : List Transition → ℕ → Result (List (List Distribu
 states_said transitions zero = Ok []
 states_said transitions (suc s) = then_push (states_said transitions s) (state_said transitions s)
 
+-- the game, unless choice k of state s is missing before a later one: then this is the fault
 abbrev pub unless_gap : Option (ℕ × ℕ) → Result (List (List Distribution)) TraFault
     → Result (List (List Distribution)) TraFault
 unless_gap (Some (s, k)) game = Err (fault_of_all (ChoiceGap s k))
 unless_gap None game = game
 
+-- the game, unless state s has more choices than a state may have: then this is the fault
 abbrev pub unless_crowded : Option ℕ → Result (List (List Distribution)) TraFault
     → Result (List (List Distribution)) TraFault
 unless_crowded (Some s) game = Err (fault_of_all (TooManyChoices s))

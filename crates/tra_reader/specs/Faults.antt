@@ -6,6 +6,7 @@ use Rattle.distributions.specs.declared.choice.ChoiceFault.TheVariants.{OutOfMem
 use Rattle.tra_reader.specs.declared.fault.TraCause.TheVariants.{OutOfMemory, Choice}
 use Rattle.tra_reader.specs.declared.fault.TraFault.{TraFault}
 
+-- the fault of a line, by its number, which counts from 1; that of line 0 is of the whole text
 abbrev pub fault_at : ℕ → TraCause → TraFault
 fault_at line cause = record { line = line; cause = cause }
 
@@ -13,6 +14,7 @@ fault_at line cause = record { line = line; cause = cause }
 abbrev pub fault_of_all : TraCause → TraFault
 fault_of_all cause = fault_at 0 cause
 
+-- memory ran out, which is no fault of the text
 abbrev pub IsOutOfMemory : TraFault → Type 0
 IsOutOfMemory fault = fault ≡ fault_of_all OutOfMemory
 

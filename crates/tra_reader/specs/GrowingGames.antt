@@ -68,6 +68,7 @@ IsMade n transitions s k count (Crowded i) = AreCounted (Some i) transitions s k
 IsMade n transitions s k count (Gap i j) = HasGap transitions i j × (place_of i j < place_of s k)
 IsMade n transitions s k count OutOfMemory = Unit {0}
 
+-- this is what has come of the choices before the one under way, which these transitions between n states make
 abbrev pub IsWhole : ℕ → List Transition → WholeChoices → Type 0
 IsWhole n transitions whole = IsMade n transitions whole.state whole.choice whole.count whole.progress
 
@@ -163,6 +164,8 @@ pub record IsReady (draft : Draft) : Type 0 where
   pub bounded : All (λ choices. length choices ≤ most_choices) draft.done
   pub inside : All (λ choices. All (LeadsInside (length draft.done)) choices) draft.done
 
+-- this is true of the draft, where one is built: no choice is faulty or missing, no state has too many, and memory
+-- sufficed
 abbrev pub IfBuilds : Progress → (Draft → Type 0) → Type 0
 IfBuilds (Builds draft) P = P draft
 IfBuilds (Faulty fault) P = Unit {0}
@@ -203,7 +206,9 @@ pub record HoldsInOrder (game : Growing) (n : ℕ) (transitions : List Transitio
   pub few : n ≤ most_states
   pub within : All (IsWithin n) transitions
   pub order : Rises transition_place transitions
+  -- no transition is of a choice behind the one under way
   pub upto : All (λ t. transition_place t ≤ place_under_way game) transitions
+  -- the last transition is of the choice under way; where that has no part, none has come
   pub begun : 0 < length game.parts → EndsAt (place_under_way game) transitions
   pub none : game.parts ≡ [] → transitions ≡ []
   pub parts : game.parts ≡ parts_of transitions game.whole.state game.whole.choice

@@ -23,6 +23,8 @@ abbrev pub header_numbers : ℕ → Option ℕ → ℕ → List ℕ
 header_numbers n (Some c) m = n ∷ c ∷ m ∷ []
 header_numbers n None m = n ∷ m ∷ []
 
+-- the line is this header: the numbers of states, at least one, of choices in an MDP, and of lines, each within its
+-- limit
 pub record IsHeader (line : List ℕ) (header : Header) : Type 0 where
   pub numbers : map number_of (fields_of line) ≡ map Some (header_numbers header.states header.choices header.lines)
   pub some : 0 < header.states
@@ -85,6 +87,8 @@ pub record Row : Type 0 where
   pub transition : Transition
   pub action : List ℕ
 
+-- the line says this row of a text with this header: a transition between states that there are, with its probability,
+-- and an action
 pub record IsRow (header : Header) (line : List ℕ) (row : Row) : Type 0 where
   pub probability : List ℕ
   pub parts : line_parts header.choices (fields_of line)
@@ -114,44 +118,55 @@ HaveActions rows action_of = AllByRecursion (λ row. row.action
 
 -- 2. By cases, with the first fault.
 
+-- the header with n states, c choices and m lines, or its fault: a number is above its limit, or there is no state
 abbrev pub header_checked : ℕ → Option ℕ → ℕ → Result Header TraCause
 header_checked n c m =
     if nat_lt most_states n || (option_map_or (nat_lt most_stated_choices) c false
     || nat_lt most_lines m) then Err OverLimit
     else (if n == 0 then Err NoStates else Ok (record { states = n; choices = c; lines = m }))
 
+-- the header of an MDP, of three whole numbers for states, choices and lines, or its fault
 abbrev pub mdp_header : Option ℕ → Option ℕ → Option ℕ → Result Header TraCause
 mdp_header (Some n) (Some c) (Some m) = header_checked n (Some c) m
 mdp_header n c m = Err NoHeader
 
+-- the header of a DTMC, of two whole numbers for states and lines, or its fault
 abbrev pub dtmc_header : Option ℕ → Option ℕ → Result Header TraCause
 dtmc_header (Some n) (Some m) = header_checked n None m
 dtmc_header n m = Err NoHeader
 
+-- the header that the fields of a line say, three in an MDP and two in a DTMC, or its fault
 abbrev pub header_said : List (List ℕ) → Result Header TraCause
 header_said (n ∷ m ∷ []) = dtmc_header (number_of n) (number_of m)
 header_said (n ∷ c ∷ m ∷ []) = mdp_header (number_of n) (number_of c) (number_of m)
 header_said fields = Err NoHeader
 
+-- the transition from state i by choice k to state j with this probability, or the fault of the probability
 abbrev pub transition_with : ℕ → ℕ → ℕ → Result Fraction NumberFault → Result Transition TraCause
 transition_with i k j (Ok share) = Ok (record { source = i; choice = k; destination = j; share = share })
 transition_with i k j (Err fault) = Err (Number fault)
 
+-- the transition from state i by choice k to state j, or the first fault: a state is not below n, the choice is not
+-- below its limit, or the probability is refused
 abbrev pub transition_within : ℕ → ℕ → ℕ → ℕ → Result Fraction NumberFault → Result Transition TraCause
 transition_within n i k j share =
     if nat_lt i n then (if nat_lt k most_stated_choices then
     (if nat_lt j n then transition_with i k j share else Err StateOutOfRange) else Err OverLimit)
     else Err StateOutOfRange
 
+-- the transition between n states that the numbers of a line say, or the first fault; each has to be a whole number
 abbrev pub transition_said : ℕ → Option ℕ → Option ℕ → Option ℕ → Result Fraction NumberFault
     → Result Transition TraCause
 transition_said n (Some i) (Some k) (Some j) share = transition_within n i k j share
 transition_said n i k j share = Err BadField
 
+-- the row of a transition and its action, or the fault of the transition
 abbrev pub row_with : List ℕ → Result Transition TraCause → Result Row TraCause
 row_with action (Ok transition) = Ok (record { transition = transition; action = action })
 row_with action (Err cause) = Err cause
 
+-- the row that the parts of a line say where there are n states, or the first fault; without parts it has too few
+-- fields or too many
 abbrev pub parts_said : ℕ → Option LineParts → Result Row TraCause
 parts_said n None = Err FieldCount
 parts_said n (Some parts) = row_with parts.action (transition_said n parts.source parts.choice parts.destination
@@ -174,6 +189,7 @@ abbrev pub clashes : List Row → Row → Bool
 clashes before row = option_map_or (λ action. not (bytes_eq action row.action))
     (first_action before row.transition.source row.transition.choice) false
 
+-- the row, unless it has another action than the first row of its choice: then this is the fault
 abbrev pub action_checked : List Row → Result Row TraCause → Result Row TraCause
 action_checked before (Ok row) = if clashes before row then Err
     (ActionClash row.transition.source row.transition.choice) else Ok row
@@ -186,6 +202,7 @@ line_said header before fields =
     else (if nat_lt (length before) header.lines then action_checked before (row_said header fields) else Err
     (LineCount (header.lines + 1) header.lines))
 
+-- what comes of the lines behind a line of this number, or its fault
 abbrev pub behind : ℕ → Result Row TraCause → (Row → Result (List Row) TraFault) → Result (List Row) TraFault
 behind number (Ok row) more = more row
 behind number (Err cause) more = Err (fault_at number cause)

@@ -30,5 +30,6 @@ abbrev pub NotesIf : Bool → FirstActions → List Row → Type 0
 NotesIf true actions rows = Notes actions [] × AreSilent rows
 NotesIf false actions rows = Notes actions rows
 
+-- of each choice the first action in these rows is known: it is noted, or no row has an action and none is noted
 abbrev pub NotesLines : LineActions → List Row → Type 0
 NotesLines actions rows = NotesIf actions.silent actions.first rows

@@ -13,10 +13,12 @@ pub record IsWithin (n : ℕ) (transition : Transition) : Type 0 where
 abbrev pub place_of : ℕ → ℕ → ℕ
 place_of s k = most_stated_choices * s + k
 
+-- the place of the choice of a transition, in the order of all choices
 abbrev pub transition_place : Transition → ℕ
 transition_place transition = place_of transition.source transition.choice
 
 module _ {X : Type 0} (key : X → ℕ) where
+  -- its key is q
   abbrev pub has : ℕ → X → Bool
   has q x = key x == q
 

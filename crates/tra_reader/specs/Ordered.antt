@@ -19,6 +19,7 @@ abbrev pub text_fault : Halt → Option TraFault
 text_fault OutOfOrder = None
 text_fault (Refused fault) = Some fault
 
+-- the header behind which these rows stand
 abbrev pub ordered_header : OrderedRows → Header
 ordered_header held = held.header
 
@@ -30,26 +31,36 @@ pub record AreInOrder (n read : ℕ) (game : Growing) (action : List ℕ) (rows 
   pub count : length rows ≡ read
   pub first : IsActionUnderWay game action rows
 
+-- these rows have been read behind the header, and stand in the order of their choices
 abbrev pub HoldsOrdered : OrderedRows → List Row → Type 0
 HoldsOrdered held rows = AreInOrder held.header.states held.read held.game held.action.items rows
 
+-- the answer is right for a text that goes on with these lines, of which the first has this number; that a line is out
+-- of order says nothing of the text
 abbrev pub OrderedRight : Option OrderedRows → ℕ → List (List ℕ) → Result (List (List Distribution)) Halt → Type 0
 OrderedRight = IsRight ordered_header HoldsOrdered text_fault
 
+-- the line is the header, behind which no row is held yet, or it has this fault; or memory ran out
 abbrev pub BeginsOrdered : List ℕ → Result OrderedRows TraFault → Type 0
 BeginsOrdered = Begins ordered_header HoldsOrdered
 
+-- the line says the next row, which is held with the others from now on
 abbrev pub TakesOrdered : OrderedRows → OrderedRows → List ℕ → Type 0
 TakesOrdered = TakesLine ordered_header HoldsOrdered
 
+-- unless it is out of order, the line of this number has this fault behind the rows that are held, or memory ran out
 abbrev pub RefusesOrdered : OrderedRows → ℕ → List ℕ → Halt → Type 0
 RefusesOrdered = RefusesLine ordered_header HoldsOrdered text_fault
 
+-- the row has no other action than the rows of its choice that are held, and is held with them from now on
 abbrev pub AddsOrdered : OrderedRows → OrderedRows → Row → Type 0
 AddsOrdered = AddsRow ordered_header HoldsOrdered
 
+-- unless it is out of order, the row has another action than its choice has by the rows that are held; or memory ran
+-- out
 abbrev pub RefusesOrderedRow : OrderedRows → ℕ → Row → Halt → Type 0
 RefusesOrderedRow = RefusesRow HoldsOrdered text_fault
 
+-- at the end of the text the rows that are held make this game, or have this first fault; or memory ran out
 abbrev pub FinishesOrdered : OrderedRows → Result (List (List Distribution)) TraFault → Type 0
 FinishesOrdered = Finishes ordered_header HoldsOrdered
