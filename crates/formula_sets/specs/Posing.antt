@@ -71,9 +71,11 @@ pub record IsSetUp (game : List (List Distribution)) (l : Labelling) (o : Owners
   pub goal_count : length question.goals ≡ length game
   pub dead_count : length question.deads ≡ length game
   pub sides : (s : ℕ) → s < length game → side_at question s ≡ side_of f.coalition f.bound o s
+  -- the initial states are those with the label `init`, and there is one
   pub starts : initial ≡ states_with l init
   pub some : initial ≢ []
 
+-- with `U`: goals are the states where the right side holds, and dead those where neither side does
 pub record Poses (game : List (List Distribution)) (l : Labelling) (o : Ownership) (f : Tree)
     (p : Posing) : Type 0 where
   pub set_up : IsSetUp game l o f p.question p.initial
@@ -105,20 +107,26 @@ question_with game o f goals deads = record {
   deads = deads;
 }
 
+-- the question of a formula with `U`: to reach a state where the right side holds, through states where the left one
+-- does
 abbrev pub question_of : List (List Distribution) → Labelling → Ownership → Tree → Query
 question_of game l o f = question_with game o f (at_states (holds l f.right) (length game))
     (at_states (neither_holds l f) (length game))
 
+-- no mark at any of so many states
 abbrev pub unmarked : ℕ → List Bool
 unmarked states = at_states (λ s. false) states
 
+-- the question of a formula with `X`, with no goal and no dead state: its opening table says which states are wanted
 abbrev pub next_question_of : List (List Distribution) → Ownership → Tree → Query
 next_question_of game o f = question_with game o f (unmarked (length game)) (unmarked (length game))
 
+-- these initial states, unless there is none: then this is the fault
 abbrev pub some_state : List ℕ → Result (List ℕ) PoseFault
 some_state [] = Err NoInit
 some_state (s ∷ states) = Ok (s ∷ states)
 
+-- what is said of the initial states, unless there is a label or a player that is not known: then this is the fault
 abbrev pub known_with : Option (List ℕ) → Option (List ℕ) → Result (List ℕ) PoseFault → Result (List ℕ) PoseFault
 known_with (Some label) player initial = Err (UnknownLabel label)
 known_with None (Some player) initial = Err (UnknownPlayer player)
@@ -147,5 +155,6 @@ pose_next_said game l o f = made_of (λ initial. record {
   initial = initial;
 }) (initial_said l o f)
 
+-- memory was wanting, which is no fault of the formula
 abbrev pub IsOutOfMemory : PoseFault → Type 0
 IsOutOfMemory fault = fault ≡ OutOfMemory

@@ -27,6 +27,7 @@ common_side (Below p) = Max
 common_side AskMax = Max
 common_side AskMin = Min
 
+-- the name is one of these
 abbrev pub is_member : List (List ℕ) → List ℕ → Bool
 is_member names name = list_any (λ other. bytes_eq name other) names
 

@@ -10,6 +10,7 @@ use Rattle.label_reader.specs.Lines.{StateLine}
 use Rattle.label_reader.specs.Labels.{Label, Labelling}
 use Rattle.label_reader.specs.Owners.{Ownership}
 
+-- the field is the whole number n, in digits
 abbrev pub Spells : List ℕ → ℕ → Type 0
 Spells field n = number_of field ≡ Some n
 
@@ -21,6 +22,7 @@ pub record IsItem (kind : FileKind) (field : List ℕ) (item : Item) : Type 0 wh
   pub name : is_name kind item.name ≡ true
   pub small : item.index ≤ greatest_index
 
+-- each field is the item in its place
 abbrev pub AreItems : FileKind → List (List ℕ) → List Item → Type 0
 AreItems kind [] [] = Unit {0}
 AreItems kind [] (item ∷ items) = ⊥
@@ -37,6 +39,8 @@ abbrev pub AreApart : List Item → Type 0
 AreApart [] = Unit {0}
 AreApart (item ∷ items) = IsNew item items × AreApart items
 
+-- the line is a header of these items: at least one, no more than files of this kind have, and no two with one index or
+-- one name
 pub record IsHeader (kind : FileKind) (line : List ℕ) (items : List Item) : Type 0 where
   pub fields : AreItems kind (fields_of line) items
   pub some : 0 < length items
@@ -55,6 +59,7 @@ abbrev pub IsIndex : List Item → ℕ → Type 0
 IsIndex [] number = ⊥
 IsIndex (item ∷ items) number = (item.index ≡ number) ⊎ IsIndex items number
 
+-- each number is the index of some item
 abbrev pub AreIndices : List Item → List ℕ → Type 0
 AreIndices items [] = Unit {0}
 AreIndices items (number ∷ numbers) = IsIndex items number × AreIndices items numbers
@@ -65,6 +70,7 @@ pub record IsStateLine (n : ℕ) (items : List Item) (bytes : List ℕ) (line : 
   pub field : List ℕ
   pub back : List ℕ
   pub form : bytes ≡ front ++ 58 ∷ back
+  -- the colon is the first of the line
   pub first : HasNo 58 front
   pub alone : fields_of front ≡ field ∷ []
   pub state : Spells field line.state
@@ -72,6 +78,7 @@ pub record IsStateLine (n : ℕ) (items : List Item) (bytes : List ℕ) (line : 
   pub in_range : line.state < n
   pub known : AreIndices items line.numbers
 
+-- each line says what stands in its place: a state below n, and indices of the header
 abbrev pub AreStateLines : ℕ → List Item → List (List ℕ) → List StateLine → Type 0
 AreStateLines n items [] [] = Unit {0}
 AreStateLines n items [] (line ∷ lines) = ⊥
@@ -104,6 +111,7 @@ pub record IsLabel (n : ℕ) (lines : List StateLine) (item : Item) (label : Lab
   pub holds : (state : ℕ) → state < n → (slice_index_or label.marks state false
       ≡ true) ↔ LineNames lines item.index state
 
+-- each label is that of the item in its place: it holds at the states of which the lines say its index
 abbrev pub AreLabels : ℕ → List StateLine → List Item → List Label → Type 0
 AreLabels n lines [] [] = Unit {0}
 AreLabels n lines [] (label ∷ labels) = ⊥
@@ -124,6 +132,7 @@ pub record DenotesOwners (text : List ℕ) (n : ℕ) (o : Ownership) : Type 0 wh
   pub items : List Item
   pub lines : List StateLine
   pub text_is : IsText OwnerFile n text items lines
+  -- no state has two owners
   pub one : (state first second : ℕ) → LineNames lines first state → LineNames lines second state → first ≡ second
   pub players : o.players ≡ map (λ item. item.name) items
   pub owners : length o.owners ≡ n

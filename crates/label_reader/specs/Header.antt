@@ -43,14 +43,17 @@ abbrev pub has_name_bytes : FileKind → List ℕ → Bool
 has_name_bytes LabelFile name = list_all is_label_byte name
 has_name_bytes OwnerFile name = not (is_digit (slice_index name 0)) && list_all is_word_byte name
 
+-- a name that a file of this kind may have: not empty, of at most 255 bytes, and spelled as the kind allows
 abbrev pub is_name : FileKind → List ℕ → Bool
 is_name kind name = nat_le 1 (length name) && nat_le (length name) longest_name && has_name_bytes kind name
 
+-- the item of an index and a name, where there are both and a file of this kind may have the name
 abbrev pub item_named : FileKind → Option ℕ → Option (List ℕ) → Option Item
 item_named kind (Some index) (Some name) =
     if is_name kind name then Some (record { index = index; name = name }) else None
 item_named kind index name = None
 
+-- the item whose index stands in the first part, and whose name stands in the second between quotes
 abbrev pub item_parts : FileKind → Option (List ℕ × List ℕ) → Option Item
 item_parts kind None = None
 item_parts kind (Some parts) = item_named kind (number_of parts.0) (quoted parts.1)
@@ -59,6 +62,7 @@ item_parts kind (Some parts) = item_named kind (number_of parts.0) (quoted parts
 abbrev pub item_of : FileKind → List ℕ → Option Item
 item_of kind field = item_parts kind (split_first 61 field)
 
+-- how many items a header of this kind has at most
 abbrev pub most_items : FileKind → ℕ
 most_items LabelFile = most_labels
 most_items OwnerFile = most_players
@@ -72,12 +76,15 @@ place_of (item ∷ items) index = if item.index == index then Some 0 else option
 abbrev pub place_in : List Item → List ℕ → Option ℕ
 place_in items field = option_and_then (place_of items) (number_of field)
 
+-- the field spells the index of some item
 abbrev pub has_place : List Item → List ℕ → Bool
 has_place items field = is_some (place_in items field)
 
+-- some item has this index
 abbrev pub has_index : List Item → ℕ → Bool
 has_index items index = is_some (place_of items index)
 
+-- some item has this name
 abbrev pub has_name : List Item → List ℕ → Bool
 has_name items name = list_any (λ item. bytes_eq name item.name) items
 

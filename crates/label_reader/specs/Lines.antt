@@ -13,6 +13,7 @@ pub record StateLine : Type 0 where
   pub state : ℕ
   pub numbers : List ℕ
 
+-- the field is a whole number
 abbrev pub is_number : List ℕ → Bool
 is_number field = is_some (number_of field)
 
@@ -25,11 +26,13 @@ abbrev pub only_number : List (List ℕ) → Option ℕ
 only_number (field ∷ []) = number_of field
 only_number fields = None
 
+-- the line of this state and of the numbers that the fields spell, where each spells one
 abbrev pub numbered : Option ℕ → List (List ℕ) → Option StateLine
 numbered None fields = None
 numbered (Some state) fields = if list_all is_number fields then Some
     (record { state = state; numbers = map number_in fields }) else None
 
+-- the line whose state is all that stands before the colon, and whose numbers stand behind it
 abbrev pub line_parts : Option (List ℕ × List ℕ) → Option StateLine
 line_parts None = None
 line_parts (Some parts) = numbered (only_number (fields_of parts.0)) (fields_of parts.1)
@@ -49,6 +52,7 @@ abbrev pub said_of : List StateLine → ℕ → List ℕ
 said_of [] state = []
 said_of (line ∷ lines) state = if line.state == state then line.numbers ++ said_of lines state else said_of lines state
 
+-- no two of the numbers differ
 abbrev pub all_same : List ℕ → Bool
 all_same [] = true
 all_same (number ∷ numbers) = list_all (λ other. other == number) numbers

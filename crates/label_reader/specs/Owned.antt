@@ -21,6 +21,7 @@ abbrev pub owner_then : Option ℕ → Option ℕ → Option ℕ
 owner_then None next = next
 owner_then (Some place) next = Some place
 
+-- there is a place, and it is this one
 abbrev pub is_at : ℕ → Option ℕ → Bool
 is_at place None = false
 is_at place (Some other) = other == place

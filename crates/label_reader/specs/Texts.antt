@@ -12,6 +12,7 @@ use Rattle.label_reader.specs.Lines.{StateLine, said_of, add_line}
 use Rattle.label_reader.specs.Labels.{Label, Labelling}
 use Rattle.label_reader.specs.Owners.{Ownership}
 
+-- the fault of a line, by its number, which counts from 1; line 0 is that of no line
 abbrev pub fault_at : ℕ → LabCause → LabFault
 fault_at line cause = record { line = line; cause = cause }
 
@@ -38,6 +39,7 @@ said_by_lines kind n make [] = Err (fault_at 1 NoHeader)
 said_by_lines kind n make (header ∷ lines) =
     then_at 1 (header_of kind (fields_of header)) (λ items. made_of (make items) (lines_from kind n items [] 2 lines))
 
+-- what a text says, made into a value, or its first fault; blank lines at the end say nothing
 abbrev pub said_by : {Y : Type 0} → FileKind → ℕ → (List Item → List StateLine → Y) → List ℕ → Result Y LabFault
 said_by kind n make text = said_by_lines kind n make (significant (lines_of text))
 
@@ -49,6 +51,7 @@ is_said lines number state = list_any (λ other. other == number) (said_of lines
 abbrev pub label_from : ℕ → List StateLine → Item → Label
 label_from n lines item = record { name = item.name; marks = map (is_said lines item.index) (range_with_len 0 n) }
 
+-- the labels of the header at n states: each holds where some line says its index
 abbrev pub labelling : ℕ → List Item → List StateLine → Labelling
 labelling n items lines = record { states = n; labels = map (label_from n lines) items }
 
@@ -61,6 +64,8 @@ abbrev pub owner_place : List Item → List ℕ → ℕ
 owner_place items [] = 0
 owner_place items (number ∷ numbers) = unwrap_or (place_of items number) 0
 
+-- the players of the header, and for each of n states its owner: the player that is said first of it, or the first of
+-- all
 abbrev pub ownership : ℕ → List Item → List StateLine → Ownership
 ownership n items lines = record {
   players = map (λ item. item.name) items;
@@ -71,6 +76,7 @@ ownership n items lines = record {
 abbrev pub owners_of : List ℕ → ℕ → Result Ownership LabFault
 owners_of text n = said_by OwnerFile n (ownership n) text
 
+-- memory was wanting, which is no fault of the text
 abbrev pub IsOutOfMemory : LabFault → Type 0
 IsOutOfMemory fault = fault ≡ fault_at 0 OutOfMemory
 

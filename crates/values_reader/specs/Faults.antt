@@ -6,6 +6,7 @@ use Rattle.values_reader.specs.declared.fault.ValuesCause.TheVariants.{BadField,
 use Rattle.values_reader.specs.declared.fault.ValuesFault.{ValuesFault}
 use Rattle.values_reader.specs.Lines.{is_value, state_of, names_state}
 
+-- the fault of a line, by its number, which counts from 1; that of line 0 is of no one line
 abbrev pub fault_at : ℕ → ValuesCause → ValuesFault
 fault_at line cause = record { line = line; cause = cause }
 
@@ -27,6 +28,8 @@ abbrev pub first_bad : List Line → Option ValuesFault
 first_bad [] = None
 first_bad (line ∷ lines) = if is_value line.bytes then first_bad lines else Some (fault_at line.number BadField)
 
+-- the fault of a line where one has a fault, and else, where the lines are not as many as states, that of the whole
+-- text
 abbrev pub or_count : Bool → Option ValuesFault → Option ValuesFault
 or_count as_many (Some fault) = Some fault
 or_count as_many None = if as_many then None else Some (fault_at 0 LineCount)

@@ -13,6 +13,7 @@ parted_at bytes k = (take k bytes, drop (k + 1) bytes)
 abbrev pub split_first : ℕ → List ℕ → Option (List ℕ × List ℕ)
 split_first x bytes = option_map (parted_at bytes) (position (λ b. b == x) bytes)
 
+-- there are two parts, and both are whole numbers
 abbrev pub are_whole : Option (List ℕ × List ℕ) → Bool
 are_whole None = false
 are_whole (Some parts) = is_some (number_of parts.0) && is_some (number_of parts.1)
@@ -27,6 +28,7 @@ is_fraction field = are_whole (split_first 47 field)
 abbrev pub is_number : List ℕ → Bool
 is_number field = is_float_text field || is_fraction field
 
+-- there is one field, and it is a number
 abbrev pub is_one_number : List (List ℕ) → Bool
 is_one_number [] = false
 is_one_number (field ∷ []) = is_number field
@@ -53,6 +55,7 @@ abbrev pub split_last : List ℕ → Option (List ℕ × List ℕ)
 split_last [] = None
 split_last (b ∷ bytes) = behind_byte b bytes (split_last bytes)
 
+-- the bytes begin with `(` and end in `)`
 abbrev pub is_bracketed : List ℕ → Bool
 is_bracketed bytes = nat_le 2 (length bytes) && slice_index bytes 0 == 40 && slice_index bytes (length bytes - 1) == 41
 
@@ -60,6 +63,7 @@ is_bracketed bytes = nat_le 2 (length bytes) && slice_index bytes 0 == 40 && sli
 abbrev pub without_brackets : List ℕ → List ℕ
 without_brackets bytes = if is_bracketed bytes then take (length bytes - 2) (drop 1 bytes) else bytes
 
+-- the state that is named by one field alone, in brackets or without
 abbrev pub one_state : List (List ℕ) → Option ℕ
 one_state [] = None
 one_state (field ∷ []) = number_of (without_brackets field)
@@ -81,9 +85,11 @@ abbrev pub state_of_parts : List ℕ → Option (List ℕ × List ℕ) → Optio
 state_of_parts bytes None = one_state (fields_of bytes)
 state_of_parts bytes (Some parts) = if is_valuation (fields_of parts.1) then one_state (fields_of parts.0) else None
 
+-- the state that is named before the last mark, with a valuation behind a colon or without
 abbrev pub state_before : List ℕ → Option ℕ
 state_before bytes = state_of_parts bytes (split_first 58 bytes)
 
+-- the state before the last mark, where one number stands behind it
 abbrev pub state_with_value : Option (List ℕ × List ℕ) → Option ℕ
 state_with_value None = None
 state_with_value (Some parts) = if is_value parts.1 then state_before parts.0 else None
