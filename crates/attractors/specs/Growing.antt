@@ -46,6 +46,7 @@ pub record IsGrowth (q : Query) (barred : Barred) (followed : List Move) (member
   pub as_many : length awaited ≡ states q
   pub ordered : IsOrder members order
   pub grew : Grew q barred members
+  -- each move that was followed leads to a member
   pub leads : (s c : ℕ) → Contains followed (move s c) → meets members (choice_of q.game s c) ≡ true
   pub left : (s : ℕ) → s < states q → slice_index_or members s false ≡ false → barred.states s ≡ false
       → IsLeft q barred followed members awaited s
