@@ -41,7 +41,7 @@ entry_in version s (state ∷ lower ∷ choice ∷ rank ∷ upper ∷ reply ∷ 
     (units_of version upper) (choice_in reply) else None
 entry_in version s fields = None
 
--- whether a choice, where one is given, has at most the greatest number
+-- whether the number of a choice, where one is given, is at most the greatest
 abbrev pub is_small : Option ℕ → Bool
 is_small None = true
 is_small (Some choice) = nat_le choice greatest_choice

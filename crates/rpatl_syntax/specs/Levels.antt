@@ -23,6 +23,6 @@ operand_of Implication unary = either unary
 operand_of Disjunction unary = both unary
 operand_of Conjunction unary = unary
 
--- one operand or more with the operator between each two, where unary reads what stands between all operators
+-- one operand or more with the operator between each two, where unary reads what has no operator
 abbrev pub level_of : Level → Reading State → Reading State
 level_of level unary = joined (sign_of level) (join_of level) (operand_of level unary)
