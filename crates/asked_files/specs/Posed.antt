@@ -43,6 +43,7 @@ reading_of loaded = record {
   formula = tree_of loaded.formula;
 }
 
+-- the reading of a game, its labels and owners, and a formula
 abbrev pub reading_with : List (List Distribution) → Labelling → Ownership → Tree → Reading
 reading_with game labels owners formula = record { game = game; labels = labels; owners = owners; formula = formula }
 
@@ -51,14 +52,17 @@ abbrev pub behind_owners : Asked → List (List Distribution) → Labelling → 
 behind_owners asked game labels owners =
     and_then (formula_read asked.formula) (λ formula. Denoted (reading_with game labels owners formula))
 
+-- what is said where a game and its labels are known: the owners and then the formula are read
 abbrev pub behind_labels : Sources → Asked → List (List Distribution) → Labelling → Said Reading
 behind_labels sources asked game labels =
     and_then (owners_said asked.own sources.own (length game)) (λ owners. behind_owners asked game labels owners)
 
+-- what is said where a game is known: labels, owners and then the formula are read
 abbrev pub behind_game : Sources → Asked → List (List Distribution) → Said Reading
 behind_game sources asked game = and_then (labels_said sources.lab (length game))
     (λ labels. behind_labels sources asked game labels)
 
+-- what the texts and words of a command say together, or the first refusal, in the order game, labels, owners, formula
 abbrev pub reading_said : Sources → Asked → Said Reading
 reading_said sources asked = and_then (game_said sources.tra) (λ game. behind_game sources asked game)
 
@@ -81,6 +85,7 @@ abbrev pub nested_posed : Reading → Said Problem
 nested_posed r = and_then (read_said OfQuestion (initial_said r.labels r.owners r.formula))
     (λ initial. Denoted (OfNested (record { game = r.game; labels = r.labels; owners = r.owners }) initial))
 
+-- the problem that a reading poses, whichever command asks
 abbrev pub any_posed : Reading → Said Problem
 any_posed r = if is_flat r.formula.left && is_flat r.formula.right then posed_by r.formula.kind r else nested_posed r
 
@@ -88,6 +93,7 @@ any_posed r = if is_flat r.formula.left && is_flat r.formula.right then posed_by
 abbrev pub where_taken : Bool → Problem → Said Problem
 where_taken taken problem = if taken then Denoted problem else Refuses WrongKind
 
+-- the problem that a reading poses to a command that takes such paths, or why it poses none
 abbrev pub posed : Paths → Reading → Said Problem
 posed paths reading = and_then (any_posed reading) (λ problem.
     where_taken (takes_formula paths reading.formula) problem)

@@ -22,6 +22,7 @@ pub data Problem : Type 0 where
   OfNext : (posing : NextPosing) → Problem
   OfNested : (model : Model) → (initial : List ℕ) → Problem
 
+-- the initial states of a problem
 abbrev pub initial_of : Problem → List ℕ
 initial_of (OfReach p) = p.initial
 initial_of (OfWithin k p) = p.initial

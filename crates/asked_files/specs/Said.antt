@@ -8,6 +8,7 @@ pub data Said (X : Type 0) : Type 0 where
   Refuses : Refusal → Said X
   Denoted : X → Said X
 
+-- what is said with what was said before; the first text that is not held, or the first refusal, ends it
 abbrev pub and_then : {X Y : Type 0} → Said X → (X → Said Y) → Said Y
 and_then NotHeld next = NotHeld
 and_then (Refuses refusal) next = Refuses refusal

@@ -11,6 +11,7 @@ use Rattle.asked_files.specs.declared.problem.Problem.{Problem as Posed}
 use Rattle.asked_files.specs.declared.problem.Problem.TheVariants.{Reach, Within, Next, Nested}
 use Rattle.asked_files.specs.Problems.{Problem, OfReach, OfWithin, OfNext, OfNested, IsReaching}
 
+-- what contracts see of a problem that was posed
 abbrev pub problem_of : Posed → Problem
 problem_of (Reach posed dual) = OfReach (posing_of posed)
 problem_of (Within posed steps) = OfWithin steps (posing_of posed)

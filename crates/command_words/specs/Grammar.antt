@@ -43,19 +43,25 @@ abbrev pub with_run_limits : App → App
 with_run_limits app = with_rule (with_rule app (with_range (option (codes "rounds")) 0 most_rounds))
     (with_range (option (codes "workers")) 1 most_workers)
 
+-- the words of `check`: a question, how far the run goes, whether the certificate is to be written, and whether upper
+-- bounds are to be lowered to the best exits of traps
 abbrev pub check_app : App
 check_app = with_rule (with_rule (with_run_limits (asked_app (codes "check"))) (flag (codes "plan")))
     (flag (codes "traps"))
 
+-- the words of `audit`: a question, and the file of a certificate
 abbrev pub audit_app : App
 audit_app = with_rule (asked_app (codes "audit")) (positional (codes "certificate"))
 
+-- the words of `solve`: a question, a file of values to begin with, and whether the certificate is to be written
 abbrev pub solve_app : App
 solve_app = with_rule (with_rule (asked_app (codes "solve")) (option (codes "values"))) (flag (codes "plan"))
 
+-- the words of `sure`: a question alone
 abbrev pub sure_app : App
 sure_app = asked_app (codes "sure")
 
+-- the words of `make`: the seed of a game and how many states it is to have, and how far the run goes
 abbrev pub make_app : App
 make_app = with_run_limits (with_rule (with_rule (bare_app (codes "make"))
     (with_range (positional (codes "seed")) 1 most_seed))

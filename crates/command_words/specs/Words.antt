@@ -47,6 +47,7 @@ pub record Make : Type 0 where
   pub rounds : ℕ
   pub workers : ℕ
 
+-- one of the five commands, with what its words say
 pub data Command : Type 0 where
   OfCheck : (check : Check) → Command
   OfAudit : (audit : Audit) → Command
@@ -193,11 +194,13 @@ pub record AreCommand (words : List Text) (command : Command) : Type 0 where
   pub words_are : words ≡ name_of command ∷ rest
   pub behind : AreWordsOf command rest
 
+-- these words denote no command
 abbrev pub AreNoCommand : List Text → Type 0
 AreNoCommand words = (command : Command) → AreCommand words command → ⊥
 
 -- What contracts see of words that were read.
 
+-- what contracts see of the words that ask a question
 abbrev pub asked_of_words : AskedWords → Asked
 asked_of_words words = record {
   tra = words.tra.now;
@@ -206,6 +209,7 @@ asked_of_words words = record {
   own = option_map (λ file. file.now) words.own;
 }
 
+-- what contracts see of the words of `check`
 abbrev pub check_of : CheckWords → Check
 check_of words = record {
   asked = asked_of_words words.asked;
@@ -215,9 +219,11 @@ check_of words = record {
   traps = words.traps;
 }
 
+-- what contracts see of the words of `audit`
 abbrev pub audit_of : AuditWords → Audit
 audit_of words = record { asked = asked_of_words words.asked; certificate = words.certificate.now }
 
+-- what contracts see of the words of `solve`
 abbrev pub solve_of : SolveWords → Solve
 solve_of words = record {
   asked = asked_of_words words.asked;
@@ -225,9 +231,11 @@ solve_of words = record {
   plan = words.plan;
 }
 
+-- what contracts see of the words of `make`
 abbrev pub make_of : MakeWords → Make
 make_of words = record { seed = words.seed; states = words.states; rounds = words.rounds; workers = words.workers }
 
+-- what contracts see of the words of a command
 abbrev pub command_of : CommandWords → Command
 command_of (variant.Check check) = OfCheck (check_of check)
 command_of (variant.Audit audit) = OfAudit (audit_of audit)

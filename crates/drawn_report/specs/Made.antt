@@ -38,6 +38,7 @@ drawn_question seed states = question_of (drawn_game seed states)
 -- The text and the status are the answer of `make`: they are those of a bracket of the drawn question after at most the
 -- asked rounds, and all of these were made where it is not settled.
 pub record IsMade (seed states asked : ℕ) (text : List ℕ) (status : Status) : Type 0 where
+  -- the states whose every k-step value is 0
   pub zero : List Bool
   pub is_zero : IsZeroSet (drawn_question seed states) zero
   pub found : Bracket

@@ -4,9 +4,11 @@ use Rattle.game_model.specs.Game.{Distribution}
 use Rattle.game_model.specs.Values.{weighted_sum}
 use Rattle.fixed_bellman.specs.declared.quotient.Quotient.{Quotient}
 
+-- the value of a choice in whole units, rounded toward zero
 abbrev pub rounded_down : Quotient → ℕ
 rounded_down q = q.sum / q.total
 
+-- the value of a choice in whole units, rounded away from zero
 abbrev pub rounded_up : Quotient → ℕ
 rounded_up q = (q.sum + (q.total - 1)) / q.total
 

@@ -12,9 +12,11 @@ IsHeld table entry choice = weighted_sum table choice.edges ≤ entry * choice.t
 abbrev pub IsHeldAt : Query → (ℕ → ℕ) → ℕ → ℕ → Type 0
 IsHeldAt q table s c = IsHeld table (table s) (choice_of q.game s c)
 
+-- each choice of a state is held to the entry of the state
 abbrev pub AllHeld : Query → (ℕ → ℕ) → ℕ → Type 0
 AllHeld q table s = (c : ℕ) → c < length (choices_of q.game s) → IsHeldAt q table s c
 
+-- no choice of a state is held to the entry of the state
 abbrev pub NoneHeld : Query → (ℕ → ℕ) → ℕ → Type 0
 NoneHeld q table s = (c : ℕ) → c < length (choices_of q.game s) → ¬ IsHeldAt q table s c
 

@@ -17,6 +17,7 @@ pub record IsRacingSeat (q : Query) (rounds : ℕ) (seat : PassSeat) (agenda : A
   pub won : seat.me.0.won ≤ rounds * states q
   pub swept : IsBelow q (down_steps q rounds) (read_of agenda)
 
+-- a pass and an agenda after this many rounds
 abbrev pub IsRacing : {P : Type 0} {h : _} → Query → ℕ → Pass P h → Agenda → Type 0
 IsRacing q rounds pass agenda = IsRacingSeat q rounds pass.seat agenda
 

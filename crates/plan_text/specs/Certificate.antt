@@ -28,6 +28,7 @@ pub record IsFirstLine (version : Version) (states : ℕ) (line : List ℕ) : Ty
 -- entry, and blank lines
 pub record IsCertificate (text : List ℕ) (entries : List Entry) : Type 0 where
   pub version : Version
+  -- the lines that are passed over, the first line, those of the entries, and those that are blank
   pub before : List (List ℕ)
   pub first : List ℕ
   pub states : List (List ℕ)

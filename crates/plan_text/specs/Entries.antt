@@ -16,9 +16,11 @@ pub record Entry : Type 0 where
 abbrev pub greatest_choice : ℕ
 greatest_choice = 16383
 
+-- the greatest rank: the greatest number of 32 bits
 abbrev pub greatest_rank : ℕ
 greatest_rank = 4294967295
 
+-- the number of a choice, where one is given, is at most the greatest
 abbrev pub IsSmall : Option ℕ → Type 0
 IsSmall None = Unit {0}
 IsSmall (Some choice) = choice ≤ greatest_choice

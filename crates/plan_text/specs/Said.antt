@@ -23,10 +23,12 @@ units_of version (whole ∷ point ∷ digits) =
 abbrev pub choice_in : List ℕ → Option (Option ℕ)
 choice_in field = if bytes_eq field (codes "-") then Some None else option_map Some (number_of field)
 
+-- the number that a field spells, where it spells one, is n
 abbrev pub spells : ℕ → Option ℕ → Bool
 spells n None = false
 spells n (Some number) = number == n
 
+-- the entry of what five fields say: lower bound, choice, rank, upper bound and reply; none where a field says nothing
 abbrev pub entry_from : Option ℕ → Option (Option ℕ) → Option ℕ → Option ℕ → Option (Option ℕ) → Option Entry
 entry_from (Some lower) (Some choice) (Some rank) (Some upper) (Some reply) =
     Some (record { lower = lower; choice = choice; rank = rank; upper = upper; reply = reply })
@@ -39,14 +41,17 @@ entry_in version s (state ∷ lower ∷ choice ∷ rank ∷ upper ∷ reply ∷ 
     (units_of version upper) (choice_in reply) else None
 entry_in version s fields = None
 
+-- whether the number of a choice, where one is given, is at most the greatest
 abbrev pub is_small : Option ℕ → Bool
 is_small None = true
 is_small (Some choice) = nat_le choice greatest_choice
 
+-- whether the bounds are values, and choices and the rank have their limits
 abbrev pub is_in_range : Entry → Bool
 is_in_range entry = nat_le entry.lower unit && nat_le entry.upper unit && is_small entry.choice && is_small entry.reply
     && nat_le entry.rank greatest_rank
 
+-- the entry of a line, or why the line has none: it is not of the form of an entry, or a number is out of range
 abbrev pub judged : Option Entry → Result Entry PlanCause
 judged None = Err BadLine
 judged (Some entry) = if is_in_range entry then Ok entry else Err NumberOutOfRange
@@ -55,6 +60,7 @@ judged (Some entry) = if is_in_range entry then Ok entry else Err NumberOutOfRan
 abbrev pub line_said : Version → ℕ → List ℕ → Result Entry PlanCause
 line_said version s line = judged (entry_in version s (fields_of line))
 
+-- the fault of this cause, at the line of this number, from 1; line 0 says the whole text
 abbrev pub fault_at : ℕ → PlanCause → PlanFault
 fault_at line cause = record { line = line; cause = cause }
 
@@ -108,5 +114,6 @@ certificate_from states number (line ∷ lines) =
 abbrev pub entries_said : List ℕ → ℕ → Result (List Entry) PlanFault
 entries_said text states = certificate_from states 1 (significant (lines_of text))
 
+-- memory was wanting, which is no fault of the text
 abbrev pub IsOutOfMemory : PlanFault → Type 0
 IsOutOfMemory fault = fault ≡ fault_at 0 OutOfMemory

@@ -17,6 +17,7 @@ states_of d = length d.component
 abbrev pub begin : Division → ℕ → ℕ
 begin d c = slice_index d.starts c
 
+-- the place behind the last state of a component
 abbrev pub end : Division → ℕ → ℕ
 end d c = slice_index d.starts (c + 1)
 

@@ -27,6 +27,7 @@ pub record IsNestedReport (m : Model) (initial : List ℕ) (f : Tree) (asked : �
   pub inside : All (λ s. s < length m.game) initial
   pub band : Band
   pub how : How
+  -- how many formulas stand inside, and how many pairs of one and a state are left undecided
   pub inner : ℕ
   pub undecided : ℕ
   pub nested : IsNested m f initial asked band how inner undecided

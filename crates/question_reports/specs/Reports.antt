@@ -33,6 +33,7 @@ pub record IsUpperHeld (q : Query) (upper : List ℕ) (replies : List (Option �
   pub units : All (λ v. v ≤ unit) upper
   pub inductive : IsInductive q (slice_index upper)
   pub high : IsHigh q (slice_index upper)
+  -- each state that needs a reply has one that is held to its entry
   pub good : AreReplies q (slice_index upper) replies
   pub holds : HoldsUnder q replies (slice_index upper)
 
@@ -48,6 +49,7 @@ pub record IsShown (q : Query) (traps : Bool) (found : Bracket) (plan : Plan) : 
   pub ranks : plan.ranks.items ≡ found.ranks.items
   pub replies : plan.replies.items ≡ found.replies.items
   pub upper : IsUpperShown q traps found.replies.items found.upper.items plan.upper.items
+  -- the upper table that is shown is nowhere above the one that was found
   pub below : IsBelow q (slice_index plan.upper.items) (slice_index found.upper.items)
 
 -- 2. The answer.
@@ -57,6 +59,7 @@ pub record IsShown (q : Query) (traps : Bool) (found : Bracket) (plan : Plan) : 
 pub record IsBracketReport (q : Query) (initial : List ℕ) (f : Tree) (check : Check) (text : List ℕ)
     (status : Status) : Type 0 where
   pub posed : IsQuery q
+  -- the states whose every k-step value is 0
   pub zero : List Bool
   pub is_zero : IsZeroSet q zero
   pub found : Bracket

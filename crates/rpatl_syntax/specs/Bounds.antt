@@ -5,6 +5,7 @@ use Rattle.rpatl_syntax.specs.declared.formula.Comparison.TheVariants.{AtLeast a
 use Rattle.rpatl_syntax.specs.declared.formula.Bound.{Bound}
 use Rattle.rpatl_syntax.specs.declared.formula.Bound.TheVariants.{AtLeast, Above, AtMost, Below}
 
+-- the bound that compares a probability so with this threshold
 abbrev pub bound_with : Comparison → Fraction → Bound
 bound_with at_least p = AtLeast p
 bound_with above p = Above p

@@ -51,5 +51,6 @@ answered_by (Within k) f = f
 answered_by Next f = f
 answered_by Always f = dual_of f
 
+-- the formula that is answered in place of this one: of `G` its dual on `F`, else the formula itself
 abbrev pub answered : Tree → Tree
 answered f = answered_by f.kind f

@@ -4,9 +4,11 @@ use Rattle.rpatl_syntax.specs.declared.fault.FormulaFault.{FormulaFault}
 use Rattle.rpatl_syntax.specs.declared.fault.FormulaCause.{FormulaCause}
 use Rattle.rpatl_syntax.specs.declared.fault.FormulaCause.TheVariants.{OutOfMemory}
 
+-- the fault of this cause, at the token that stands so many bytes into the text
 abbrev pub fault_at : ℕ → FormulaCause → FormulaFault
 fault_at place cause = record { place = place; cause = cause }
 
+-- memory was wanting, which is no fault of the text
 abbrev pub IsOutOfMemory : FormulaFault → Type 0
 IsOutOfMemory fault = fault ≡ fault_at 0 OutOfMemory
 

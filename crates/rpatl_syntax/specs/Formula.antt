@@ -33,6 +33,7 @@ pub record Tree : Type 0 where
   pub left : State
   pub right : State
 
+-- names in memory, each as its bytes
 abbrev pub names_of : Names → List (List ℕ)
 names_of names = names.list.items
 
@@ -88,5 +89,6 @@ formulas_in (Or x y) = formulas_in x + formulas_in y
 formulas_in (Implies x y) = formulas_in x + formulas_in y
 formulas_in (Inner team bound kind left right) = suc (formulas_in left + formulas_in right)
 
+-- how many formulas stand inside the two sides of a formula, at any depth
 abbrev pub formulas_inside : Tree → ℕ
 formulas_inside f = formulas_in f.left + formulas_in f.right

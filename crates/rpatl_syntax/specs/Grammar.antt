@@ -27,9 +27,11 @@ next (Finish place) = Err (fault_at place End)
 next (Broken fault) = Err fault
 next (Then place spelling rest) = Ok (record { place = place; spelling = spelling; after = rest })
 
+-- nothing is read, and the token is at fault for this cause
 abbrev pub fails : {X : Type 0} → Token → FormulaCause → Result X FormulaFault
 fails token cause = Err (fault_at token.place cause)
 
+-- the token has this spelling
 abbrev pub is : Token → List ℕ → Bool
 is token spelling = bytes_eq token.spelling spelling
 
@@ -37,16 +39,20 @@ is token spelling = bytes_eq token.spelling spelling
 abbrev pub behind : List ℕ → Tokens → Result Tokens FormulaFault
 behind spelling ts = next ts >>= λ token. if is token spelling then Ok token.after else fails token Unexpected
 
+-- there is a first byte, and it passes the test
 abbrev pub begins_with : (ℕ → Bool) → List ℕ → Bool
 begins_with test [] = false
 begins_with test (b ∷ bytes) = test b
 
+-- a token of this spelling is a word: it begins with a letter or `_`
 abbrev pub is_word : List ℕ → Bool
 is_word spelling = begins_with begins_word spelling
 
+-- a token of this spelling is a number: it begins with a digit
 abbrev pub is_number : List ℕ → Bool
 is_number spelling = begins_with is_digit spelling
 
+-- a token of this spelling is a quoted name: it begins with `"`
 abbrev pub is_quoted : List ℕ → Bool
 is_quoted spelling = begins_with (λ b. b == 34) spelling
 
@@ -67,6 +73,7 @@ where_next (Some after) without with_sign = with_sign after
 
 -- coalition = "<<" [ word { "," word } ] ">>"
 
+-- a name, and the names that are read behind it
 abbrev pub with_name : List ℕ → Result (List (List ℕ) × Tokens) FormulaFault
     → Result (List (List ℕ) × Tokens) FormulaFault
 with_name name read = read >>= λ names. Ok (name ∷ names.0, names.1)
@@ -88,10 +95,12 @@ abbrev mutual
       else if bytes_eq sign (codes ",") then names rest
       else Err (fault_at place Unexpected)
 
+-- the names that are read, as those of a coalition
 abbrev pub some_names : Result (List (List ℕ) × Tokens) FormulaFault
     → Result (Option (List (List ℕ)) × Tokens) FormulaFault
 some_names read = read >>= λ names. Ok (Some names.0, names.1)
 
+-- the players of a coalition between `<<` and `>>`, and none where no `<<` stands next
 abbrev pub coalition : Reading (Option (List (List ℕ)))
 coalition ts =
     where_next (follows (codes "<<") ts) (Ok (None, ts))
@@ -105,13 +114,16 @@ threshold_of token (Ok value) = if nat_lt value.den value.num then fails token T
 threshold_of token (Err TooLarge) = fails token ThresholdOutOfRange
 threshold_of token (Err fault) = fails token (BadNumber fault)
 
+-- the threshold that a token spells, or what is wrong with it
 abbrev pub threshold : Token → Result Fraction FormulaFault
 threshold token = if is_number token.spelling then threshold_of token
     (number_said token.spelling) else fails token Unexpected
 
+-- the threshold behind a sign of comparison, as a bound of this kind
 abbrev pub compared : (Fraction → Bound) → Reading Bound
 compared bound ts = next ts >>= λ token. threshold token >>= λ value. Ok (bound value, token.after)
 
+-- what stands behind `P`: a sign of comparison and a threshold
 abbrev pub comparison : Reading Bound
 comparison ts = next ts >>= λ sign.
     if is sign (codes ">=") then compared (λ p. AtLeast p) sign.after
@@ -120,9 +132,11 @@ comparison ts = next ts >>= λ sign.
     else if is sign (codes "<") then compared (λ p. Below p) sign.after
     else fails sign Unexpected
 
+-- what stands behind `Pmax` and `Pmin`: `=?`, which asks for the value
 abbrev pub asked : Bound → Reading Bound
 asked bound ts = behind (codes "=?") ts >>= λ after. Ok (bound, after)
 
+-- of a formula that stands inside no other: a comparison with a threshold, or a question for a value
 abbrev pub bound : Reading Bound
 bound ts = next ts >>= λ token.
     if is token (codes "P") then comparison token.after
@@ -145,6 +159,7 @@ abbrev pub steps_of : Token → Option ℕ → Result ℕ FormulaFault
 steps_of token None = fails token BadSteps
 steps_of token (Some k) = if nat_lt most_steps k then fails token BadSteps else Ok k
 
+-- the number of steps that a token spells, or what is wrong with it
 abbrev pub steps : Token → Result ℕ FormulaFault
 steps token = if is_number token.spelling then steps_of token (number_of token.spelling) else fails token Unexpected
 
@@ -164,6 +179,7 @@ right_side state kind left ts = state ts >>= λ right. Ok (record { kind = kind;
 abbrev pub reached : Reading State → State → Reading Path
 reached state left ts = deadline ts >>= λ kind. right_side state kind.0 left kind.1
 
+-- what is asked of a path, and its two sides, which state reads; of `F`, `X` and `G` the left side is `true`
 abbrev pub path : Reading State → Reading Path
 path state ts = next ts >>= λ token.
     if is token (codes "F") then reached state True token.after
@@ -182,6 +198,7 @@ abbrev pub begins_formula : Token → Bool
 begins_formula token = is token (codes "P") || is token (codes "Pmax") || is token (codes "Pmin")
     || is token (codes "<<")
 
+-- a state formula of one token: `true`, `false` or the name of a label
 abbrev pub plain : Token → Result (State × Tokens) FormulaFault
 plain token =
     if is token (codes "true") then Ok (True, token.after)
@@ -189,6 +206,7 @@ plain token =
     else if is_quoted token.spelling then Ok (Label (unquoted token.spelling), token.after)
     else fails token Unexpected
 
+-- the token is a sign that opens a state formula: `!` or `(`
 abbrev pub opens : Token → Bool
 opens token = is token (codes "!") || is token (codes "(")
 
@@ -205,6 +223,7 @@ sides inside ts = next ts >>= λ token. if is token (codes "[") then inside.path
 abbrev pub tree_with : Option (List (List ℕ)) → Bound → Path → Tree
 tree_with team asks p = record { coalition = team; bound = asks; kind = p.kind; left = p.left; right = p.right }
 
+-- a formula inside a state formula: a coalition where there is one, a comparison, and a path
 abbrev pub inner : Inside → Reading State
 inner inside ts = do
   team ← coalition ts
@@ -212,6 +231,7 @@ inner inside ts = do
   p ← sides inside asks.1
   Ok (inner_of (tree_with team.0 asks.0 p.0), p.1)
 
+-- an operand, which has no operator outside of brackets but `!`
 abbrev pub unary : Inside → Reading State
 unary inside ts = next ts >>= λ token. if opens token then inside.state token else if begins_formula token then inner
     inside ts else plain token
@@ -240,6 +260,7 @@ either operand = joined (codes "|") Or (both operand)
 abbrev pub implied : Reading State → Reading State
 implied operand = joined (codes "=>") Implies (either operand)
 
+-- the negation of the state formula that is read
 abbrev pub negated : Result (State × Tokens) FormulaFault → Result (State × Tokens) FormulaFault
 negated read = read >>= λ x. Ok (Not x.0, x.1)
 
@@ -259,6 +280,7 @@ nested (suc room) = record { state = inside_of (nested room); path = bracketed (
 
 -- formula = [ coalition ] bound "[" path "]", and nothing behind it
 
+-- the tree of a formula, behind which no token may stand
 abbrev pub finished : Tree → Tokens → Result Tree FormulaFault
 finished tree (Finish place) = Ok tree
 finished tree (Broken fault) = Err fault
@@ -268,6 +290,7 @@ finished tree (Then place spelling rest) = Err (fault_at place Unexpected)
 abbrev pub behind_bound : Option (List (List ℕ)) → Bound → Tokens → Result Tree FormulaFault
 behind_bound team asks ts = sides (nested (suc most_nested)) ts >>= λ p. finished (tree_with team asks p.0) p.1
 
+-- the formula that the tokens spell from the first to the last, or the first fault
 abbrev pub formula : Tokens → Result Tree FormulaFault
 formula ts = do
   team ← coalition ts

@@ -11,6 +11,7 @@ AreTokens (Broken fault) ts = ⊥
 AreTokens (Then place spelling rest) [] = ⊥
 AreTokens (Then place spelling rest) (t ∷ ts) = (spelling ≡ t) × AreTokens rest ts
 
+-- the spellings of the tokens, up to the end of the text or to bytes that form none
 abbrev pub spellings_of : Tokens → List (List ℕ)
 spellings_of (Finish place) = []
 spellings_of (Broken fault) = []

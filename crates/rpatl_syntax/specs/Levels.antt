@@ -5,11 +5,13 @@ use Rattle.rpatl_syntax.specs.declared.levels.Level.TheVariants.{Implication, Di
 use Rattle.rpatl_syntax.specs.Formula.{State, And, Or, Implies}
 use Rattle.rpatl_syntax.specs.Grammar.{Reading, joined, both, either}
 
+-- how the operator is spelt
 abbrev pub sign_of : Level → List ℕ
 sign_of Implication = codes "=>"
 sign_of Disjunction = codes "|"
 sign_of Conjunction = codes "&"
 
+-- the state formula that the operator makes of its two operands
 abbrev pub join_of : Level → State → State → State
 join_of Implication x y = Implies x y
 join_of Disjunction x y = Or x y
@@ -21,5 +23,6 @@ operand_of Implication unary = either unary
 operand_of Disjunction unary = both unary
 operand_of Conjunction unary = unary
 
+-- one operand or more with the operator between each two, where unary reads what has no operator
 abbrev pub level_of : Level → Reading State → Reading State
 level_of level unary = joined (sign_of level) (join_of level) (operand_of level unary)

@@ -23,6 +23,7 @@ with_commas [] = []
 with_commas (name ∷ []) = name ∷ []
 with_commas (name ∷ other ∷ names) = name ∷ codes "," ∷ with_commas (other ∷ names)
 
+-- the token is a word, as the name of a player is
 abbrev pub IsWord : List ℕ → Type 0
 IsWord token = is_word token ≡ true
 

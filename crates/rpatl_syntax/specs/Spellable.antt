@@ -28,6 +28,7 @@ pub record IsShare (p : Fraction) : Type 0 where
   pub fraction : IsFraction p
   pub small : p.num ≤ p.den
 
+-- the bound compares with such a threshold, or it asks for a value
 abbrev pub HasShare : Bound → Type 0
 HasShare (AtLeast p) = IsShare p
 HasShare (Above p) = IsShare p

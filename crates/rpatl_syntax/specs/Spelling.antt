@@ -22,18 +22,22 @@ strength_of (Inner team bound kind left right) = 3
 abbrev pub in_place : ℕ → State → List ℕ → List ℕ
 in_place least x spelling = if nat_lt (strength_of x) least then codes "(" ++ (spelling ++ codes ")") else spelling
 
+-- names with a comma between each two
 abbrev pub names_spelling : List (List ℕ) → List ℕ
 names_spelling [] = []
 names_spelling (name ∷ []) = name
 names_spelling (name ∷ other ∷ names) = name ++ (codes "," ++ names_spelling (other ∷ names))
 
+-- the names of a coalition between `<<` and `>>`, with a blank behind them; nothing where there is none
 abbrev pub coalition_spelling : Option (List (List ℕ)) → List ℕ
 coalition_spelling None = []
 coalition_spelling (Some names) = codes "<<" ++ (names_spelling names ++ codes ">> ")
 
+-- the numerator, and, unless the denominator is 1, a `/` and the denominator
 abbrev pub fraction_spelling : Fraction → List ℕ
 fraction_spelling p = if p.den == 1 then decimal p.num else decimal p.num ++ (codes "/" ++ decimal p.den)
 
+-- `P`, a sign of comparison and a threshold, or `Pmax=?` or `Pmin=?`
 abbrev pub bound_spelling : Bound → List ℕ
 bound_spelling (AtLeast p) = codes "P>=" ++ fraction_spelling p
 bound_spelling (Above p) = codes "P>" ++ fraction_spelling p
@@ -60,6 +64,7 @@ spelling_with team bound kind left x y =
     coalition_spelling team ++ (bound_spelling bound ++ (codes " [ "
     ++ (kind_spelling kind left x ++ (codes " " ++ (y ++ codes " ]")))))
 
+-- a state formula with no brackets but those that it needs:
 -- a right operand with the same sign is in brackets, since operators group to the left
 abbrev pub state_spelling : State → List ℕ
 state_spelling True = codes "true"

@@ -10,6 +10,7 @@ use Rattle.rpatl_syntax.specs.Limits.{longest_name}
 
 -- Bytes.
 
+-- from `A` to `Z` and from `a` to `z`
 abbrev pub is_letter : ℕ → Bool
 is_letter b = (nat_le 65 b && nat_le b 90) || (nat_le 97 b && nat_le b 122)
 
@@ -17,6 +18,7 @@ is_letter b = (nat_le 65 b && nat_le b 90) || (nat_le 97 b && nat_le b 122)
 abbrev pub begins_word : ℕ → Bool
 begins_word b = is_letter b || b == 95
 
+-- a letter, a digit or `_`
 abbrev pub in_word : ℕ → Bool
 in_word b = begins_word b || is_digit b
 
@@ -58,6 +60,7 @@ name_from read (b ∷ bytes) =
     if b == 34 then (if read == 0 then Strange else Spelling (read + 2))
     else (if in_name b && nat_lt read longest_name then name_from (read + 1) bytes else Strange)
 
+-- the sign of this byte alone, where it is one
 abbrev pub short_sign : ℕ → Front
 short_sign b = if is_short_sign b then Spelling 1 else Strange
 
@@ -70,6 +73,7 @@ sign_from b (c ∷ bytes) = if is_long_sign b c then Spelling 2 else short_sign 
 abbrev pub is_blank : ℕ → List ℕ → Bool
 is_blank b bytes = b == 32 || b == 9 || b == 10 || (b == 13 && begins_lf bytes)
 
+-- what a text begins with whose first byte is this: a blank, a token and its length, or bytes that form none
 abbrev pub front_from : ℕ → List ℕ → Front
 front_from b bytes =
     if is_blank b bytes then Blank
@@ -111,6 +115,7 @@ tokens_from place within (b ∷ bytes) =
     passed within (in_front place (b ∷ bytes) (front_from b bytes) (λ more. tokens_from (place + 1) more bytes))
     (λ more. tokens_from (place + 1) more bytes)
 
+-- the tokens of a whole text
 abbrev pub tokens_of : List ℕ → Tokens
 tokens_of text = tokens_from 0 0 text
 

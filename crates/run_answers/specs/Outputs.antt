@@ -14,6 +14,7 @@ pub record Certificate : Type 0 where
   pub formula : Tree
   pub entries : List Entry
 
+-- what a run writes of an answer: the lines of a report, and the certificate where it is asked for
 pub record Output : Type 0 where
   pub lines : List ReportLine
   pub certificate : Option Certificate
@@ -24,6 +25,7 @@ certificate_part None = []
 certificate_part (Some certificate) = (codes "formula " ++ (spelling certificate.formula ++ codes "\n"))
     ++ certificate_text certificate.entries
 
+-- the bytes that are written
 abbrev pub output_text : Output → List ℕ
 output_text output = report output.lines ++ certificate_part output.certificate
 

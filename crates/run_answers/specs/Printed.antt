@@ -37,6 +37,7 @@ abbrev pub printed_verdict : Bool → Bound → ℕ → ℕ → Verdict
 printed_verdict mirrored bound lower upper =
     verdict_of bound (printed_lower mirrored lower upper) (printed_upper mirrored lower upper)
 
+-- the line of a state: its printed bounds, where they come from, and what they say of the bound
 abbrev pub printed_line : Bool → Bound → How → ℕ → ℕ → ℕ → ReportLine
 printed_line mirrored bound how s lower upper =
     record {
@@ -51,6 +52,7 @@ printed_line mirrored bound how s lower upper =
 abbrev pub verdict_over : Bool → Bound → List ℕ → List ℕ → ℕ → Verdict
 verdict_over mirrored bound lower upper s = printed_verdict mirrored bound (slice_index lower s) (slice_index upper s)
 
+-- the line of a state, by its entries in a lower and an upper table
 abbrev pub line_over : Bool → Bound → How → List ℕ → List ℕ → ℕ → ReportLine
 line_over mirrored bound how lower upper s =
     printed_line mirrored bound how s (slice_index lower s) (slice_index upper s)
@@ -59,6 +61,7 @@ line_over mirrored bound how lower upper s =
 abbrev pub verdict_for : Tree → List ℕ → List ℕ → ℕ → Verdict
 verdict_for f lower upper s = verdict_over (is_mirrored f.kind) f.bound lower upper s
 
+-- the line of a state in the report of a formula, by two tables; of `G` these are tables of the dual
 abbrev pub line_for : Tree → How → List ℕ → List ℕ → ℕ → ReportLine
 line_for f how lower upper s = line_over (is_mirrored f.kind) f.bound how lower upper s
 

@@ -19,14 +19,17 @@ use Rattle.run_refusals.specs.declared.refusal.Refusal.TheVariants.{OfTra, OfLab
 abbrev pub IsInFull : ℕ → Type 0
 IsInFull n = n < 10 ^ 64
 
+-- both numbers are written in full
 abbrev pub AreInFull : ℕ → ℕ → Type 0
 AreInFull m n = IsInFull m × IsInFull n
 
+-- the numbers that say why a choice is no distribution are written in full
 abbrev pub ChoiceInFull : ChoiceFault → Type 0
 ChoiceInFull choice.OutOfMemory = Unit {0}
 ChoiceInFull (choice.TooFine first second) = AreInFull first second
 ChoiceInFull (choice.BadSum sum denominator) = AreInFull sum denominator
 
+-- the numbers that say why a transition text is refused are written in full
 abbrev pub TraInFull : TraCause → Type 0
 TraInFull (tra.ActionClash state k) = AreInFull state k
 TraInFull (tra.LineCount read stated) = AreInFull read stated
@@ -36,19 +39,23 @@ TraInFull (tra.ChoiceCount read stated) = AreInFull read stated
 TraInFull (tra.Choice state k fault) = AreInFull state k × ChoiceInFull fault
 TraInFull cause = Unit {0}
 
+-- the number that says why a label or owner text is refused, where there is one, is written in full
 abbrev pub LabInFull : LabCause → Type 0
 LabInFull (lab.TwoOwners state) = IsInFull state
 LabInFull cause = Unit {0}
 
+-- the number of the choice for which an upper table is refused, where there is one, is written in full
 abbrev pub UpperInFull : UpperCause → Type 0
 UpperInFull (Above k) = IsInFull k
 UpperInFull cause = Unit {0}
 
+-- the number of the choice for which a lower table or its ranks are refused, where there is one, is written in full
 abbrev pub RanksInFull : RankCause → Type 0
 RanksInFull (Short k) = IsInFull k
 RanksInFull (NoStep k) = IsInFull k
 RanksInFull cause = Unit {0}
 
+-- the numbers that say where and why a certificate is refused are written in full
 abbrev pub CertificateInFull : AuditFault → Type 0
 CertificateInFull (audit.Text fault) = IsInFull fault.line
 CertificateInFull (audit.Upper fault) = IsInFull fault.state × UpperInFull fault.cause

@@ -36,9 +36,11 @@ numbered name n = name ++ decimal n
 abbrev pub choice_place : ℕ → ℕ → List ℕ
 choice_place state k = numbered (codes " state ") state ++ numbered (codes " choice ") k
 
+-- how many lines or choices there are, and how many the header states
 abbrev pub counts_text : ℕ → ℕ → List ℕ
 counts_text read stated = numbered (codes " read ") read ++ numbered (codes " stated ") stated
 
+-- why a text spells no probability
 abbrev pub number_text : NumberFault → List ℕ
 number_text number.NotANumber = codes "NotANumber"
 number_text number.TooManyDigits = codes "TooManyDigits"
@@ -56,6 +58,7 @@ choice_text state k (choice.BadSum sum denominator) =
     codes "BadSum" ++ (choice_place state k ++ (codes " sum "
     ++ (decimal sum ++ numbered (codes " denominator ") denominator)))
 
+-- why a transition text denotes no game
 abbrev pub tra_text : TraCause → List ℕ
 tra_text tra.OutOfMemory = codes "OutOfMemory"
 tra_text tra.NoHeader = codes "NoHeader"
@@ -72,6 +75,7 @@ tra_text (tra.TooManyChoices state) = numbered (codes "TooManyChoices state ") s
 tra_text (tra.ChoiceCount read stated) = codes "ChoiceCount" ++ counts_text read stated
 tra_text (tra.Choice state k fault) = choice_text state k fault
 
+-- why a label text denotes no labels, or an owner text no owners
 abbrev pub lab_text : LabCause → List ℕ
 lab_text lab.OutOfMemory = codes "OutOfMemory"
 lab_text lab.NoHeader = codes "NoHeader"
@@ -84,6 +88,7 @@ lab_text lab.UnknownIndex = codes "UnknownIndex"
 lab_text lab.OverLimit = codes "OverLimit"
 lab_text (lab.TwoOwners state) = numbered (codes "TwoOwners state ") state
 
+-- why a text spells no formula
 abbrev pub formula_text : FormulaCause → List ℕ
 formula_text formula.OutOfMemory = codes "OutOfMemory"
 formula_text formula.Unexpected = codes "Unexpected"
@@ -95,12 +100,14 @@ formula_text formula.TooLong = codes "TooLong"
 formula_text formula.BadSteps = codes "BadSteps"
 formula_text formula.AskInside = codes "AskInside"
 
+-- why a formula poses no question: a label or player that there is not, by the bytes of its name, or no initial state
 abbrev pub question_text : PoseFault → List ℕ
 question_text question.OutOfMemory = codes "OutOfMemory"
 question_text (question.UnknownLabel name) = codes "UnknownLabel " ++ name
 question_text (question.UnknownPlayer name) = codes "UnknownPlayer " ++ name
 question_text question.NoInit = codes "NoInit"
 
+-- why a text has no certificate for so many states
 abbrev pub plan_cause_text : PlanCause → List ℕ
 plan_cause_text plan.OutOfMemory = codes "OutOfMemory"
 plan_cause_text plan.NoCertificate = codes "NoCertificate"
@@ -125,12 +132,14 @@ ranks_text state ranks.Choice = numbered (codes "Choice state ") state
 ranks_text state (ranks.Short k) = codes "Short" ++ choice_place state k
 ranks_text state (ranks.NoStep k) = codes "NoStep" ++ choice_place state k
 
+-- why a text has no values for so many states
 abbrev pub values_text : ValuesCause → List ℕ
 values_text values.BadField = codes "BadField"
 values_text values.StateOutOfRange = codes "StateOutOfRange"
 values_text values.DoubleState = codes "DoubleState"
 values_text values.LineCount = codes "LineCount"
 
+-- how a refusal names the text that is at fault
 abbrev pub name_of_text : Text → List ℕ
 name_of_text Tra = codes "tra"
 name_of_text Lab = codes "lab"
@@ -162,6 +171,7 @@ certificate_refused (audit.Text fault) = refused_line Cert fault.line (plan_caus
 certificate_refused (audit.Upper fault) = refused_line Cert 0 (upper_text fault.state fault.cause)
 certificate_refused (audit.Ranks fault) = refused_line Cert 0 (ranks_text fault.state fault.cause)
 
+-- the line that a run writes when it is refused
 abbrev pub refusal_text : Refusal → List ℕ
 refusal_text (OfTra fault) = refused_line Tra fault.line (tra_text fault.cause)
 refusal_text (OfLab fault) = refused_line Lab fault.line (lab_text fault.cause)
@@ -173,5 +183,6 @@ refusal_text (OfCertificate fault) = certificate_refused fault
 refusal_text (OfValues fault) = refused_line Values fault.line (values_text fault.cause)
 refusal_text (TooLong text) = refused_line text 0 (codes "TooLong")
 
+-- the line that a run writes when its words denote no command
 abbrev pub usage_text : List ℕ
 usage_text = codes "usage: stogame check TRA LAB FORMULA [--own FILE] [--rounds R] [--workers W] [--plan] [--traps] | audit TRA LAB FORMULA CERT [--own FILE] | solve TRA LAB FORMULA [--own FILE] [--values FILE] [--plan] | make SEED STATES [--rounds R] [--workers W] | sure TRA LAB FORMULA [--own FILE]\n"

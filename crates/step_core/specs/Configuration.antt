@@ -10,6 +10,7 @@ pub record Configuration : Type 0 where
   pub words : List ℕ
   pub views : List (Option (List ℕ))
 
+-- the words that a view has seen; none where it is spent, or where there is no such view
 abbrev pub view_of : Configuration → ℕ → Option (List ℕ)
 view_of w view = slice_index_or w.views view None
 

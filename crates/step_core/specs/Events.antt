@@ -13,6 +13,7 @@ use Rattle.step_core.specs.Word.{value_in, choice_in, value_at, greater_words}
 use Rattle.fixed_bellman.specs.Given.{IsFree, IsGivenBy}
 use Rattle.step_core.specs.Configuration.{Configuration, view_of, seen_by}
 
+-- there is such a view, and it is not spent
 abbrev pub IsLive : Configuration → ℕ → Type 0
 IsLive w view = IsSome (view_of w view)
 
@@ -25,6 +26,8 @@ pub record Raises (w : Configuration) (view state from to : ℕ) : Type 0 where
   pub raised : value_in from < value_in to
   pub given : IsGivenBy w.question (value_at (seen_by w view)) state (value_in to) (choice_in to)
 
+-- what may happen: the views are live, and the state is one of the question; an exchange that is won raises the word,
+-- one that is lost finds another word than the view has seen, and a join is of two different views
 abbrev pub Lawful : Configuration → Event → Type 0
 Lawful w (Load view state) = IsLive w view × (state < states w.question)
 Lawful w (Won view state from to) = Raises w view state from to
@@ -63,6 +66,8 @@ abbrev pub on_side : {X : Type 0} → Side → X → X → X
 on_side Max greatest least = greatest
 on_side Min greatest least = least
 
+-- a raised word may not name this choice: at a state of the maximiser the state has no such choice, and at one of the
+-- minimiser it is not 0
 abbrev pub is_bad_choice : Query → ℕ → ℕ → Bool
 is_bad_choice q s choice = on_side (side_at q s) (nat_le (length (choices_of q.game s)) choice) (not (choice == 0))
 

@@ -7,12 +7,15 @@ use Rattle.game_model.specs.Query.{Query, is_goal}
 abbrev pub choice_space : ℕ
 choice_space = 16384
 
+-- the word of a value, in units, and of a choice that is below the choice space
 abbrev pub packed : ℕ → ℕ → ℕ
 packed value choice = value * choice_space + choice
 
+-- the value in a word, in units
 abbrev pub value_in : ℕ → ℕ
 value_in word = word / choice_space
 
+-- the number of the choice in a word
 abbrev pub choice_in : ℕ → ℕ
 choice_in word = word % choice_space
 
@@ -24,6 +27,7 @@ value_at words s = value_in (slice_index words s)
 abbrev pub values_of : List ℕ → List ℕ
 values_of words = map value_in words
 
+-- for each state the choice that its word names, as a plan of the maximiser
 abbrev pub picks_of : List ℕ → List (Option ℕ)
 picks_of words = map (λ word. Some (choice_in word)) words
 
@@ -31,6 +35,7 @@ picks_of words = map (λ word. Some (choice_in word)) words
 abbrev pub opening_words : Query → List ℕ
 opening_words q = map (λ goal. if goal then packed unit 0 else 0) q.goals
 
+-- the word of one state in the opening table
 abbrev pub opening_word : Query → ℕ → ℕ
 opening_word q s = if is_goal q s then packed unit 0 else 0
 

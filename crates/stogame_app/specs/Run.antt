@@ -22,6 +22,7 @@ use Rattle.stogame_app.specs.Reports.{IsReportOfWords}
 
 -- 1. What is written.
 
+-- the refusal is that some text is too long
 abbrev pub IsLong : Refusal → Type 0
 IsLong refusal = (text : Text) × (refusal ≡ TooLong text)
 

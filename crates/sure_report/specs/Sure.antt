@@ -5,6 +5,7 @@ use Rattle.game_model.specs.Query.{Query}
 use Rattle.almost_sure.specs.Values.{AreAlmostSure}
 use Rattle.almost_sure.specs.Strategies.{HaveStrategies}
 
+-- the state has a mark
 abbrev pub is_marked : List Bool → ℕ → Bool
 is_marked marks s = slice_index_or marks s false
 
@@ -17,6 +18,7 @@ head_line marks = codes "sure " ++ (decimal (count_by (λ marked. marked) marks)
 abbrev pub marked_states : List Bool → List ℕ
 marked_states marks = filter (is_marked marks) (range_with_len 0 (length marks))
 
+-- a line with the number of a state
 abbrev pub state_line : ℕ → List ℕ
 state_line s = decimal s ++ codes "\n"
 

@@ -5,23 +5,31 @@ use Rattle.trap_sets.specs.declared.cut.Cut.{Cut}
 use Rattle.trap_sets.specs.Parts.{IsInner, KeepsEnds, HaveInner, AreSettled, AreClasses}
 use Rattle.trap_sets.specs.Trimming.{IsTrimmed}
 
+-- how many states a cut question has
 abbrev pub states_in : Cut → ℕ
 states_in cut = states cut.question.now
 
+-- a choice of the cut question whose successors are in the part of its state
 abbrev pub IsInnerIn : Cut → List ℕ → ℕ → ℕ → Type 0
 IsInnerIn cut = IsInner cut.question.now cut.replies.now
 
+-- the states with a part are neither goal nor dead, and each end component of the cut question lies in one part
 abbrev pub KeepsEndsOf : Cut → List ℕ → Type 0
 KeepsEndsOf cut = KeepsEnds cut.question.now cut.replies.now
 
+-- each state with a part has an inner choice of the cut question
 abbrev pub HaveInnerOf : Cut → List ℕ → Type 0
 HaveInnerOf cut = HaveInner cut.question.now cut.replies.now
 
+-- each part is an end component of the cut question, and each end component lies in one
 abbrev pub AreSettledOf : Cut → List ℕ → Type 0
 AreSettledOf cut = AreSettled cut.question.now cut.replies.now
 
+-- each state with a part has a class, and two states are in one class where inner choices lead from each to the other
 abbrev pub AreClassesIn : Cut → List ℕ → List ℕ → Type 0
 AreClassesIn cut = AreClasses cut.question.now cut.replies.now
 
+-- some states have lost their part, and no end component of the cut question has; the choices of a state before the
+-- awaited one are not inner
 abbrev pub IsTrimmedOf : Cut → List ℕ → List ℕ → List ℕ → List ℕ → Type 0
 IsTrimmedOf cut = IsTrimmed cut.question.now cut.replies.now

@@ -5,6 +5,7 @@ use Rattle.trap_sets.specs.declared.inner.Inner.{Inner}
 use Rattle.trap_sets.specs.Ends.{Leads}
 use Rattle.trap_sets.specs.Parts.{IsInner, IsStep, Comes, IsPlacing, AreClasses}
 
+-- how many states the cut question has
 abbrev pub states_of : Inner → ℕ
 states_of inner = states inner.cut.question.now
 
@@ -12,6 +13,7 @@ states_of inner = states inner.cut.question.now
 abbrev pub LeadsOf : Inner → ℕ → ℕ → ℕ → Type 0
 LeadsOf inner = Leads inner.cut.question.now
 
+-- a choice of the cut question whose successors are in the part of its state
 abbrev pub IsInnerOf : Inner → ℕ → ℕ → Type 0
 IsInnerOf inner = IsInner inner.cut.question.now inner.cut.replies.now inner.part.now
 
@@ -23,8 +25,11 @@ IsStepOf inner = IsStep inner.cut.question.now inner.cut.replies.now inner.part.
 abbrev pub ComesOf : Inner → ℕ → ℕ → Type 0
 ComesOf inner = Comes inner.cut.question.now inner.cut.replies.now inner.part.now
 
+-- the classes so far: states of one class reach each other by inner choices, and states that do are in one class, or
+-- have none yet
 abbrev pub IsPlacingOf : Inner → List ℕ → Type 0
 IsPlacingOf inner = IsPlacing inner.cut.question.now inner.cut.replies.now inner.part.now
 
+-- each state with a part has a class, and two states the same where inner choices lead from each to the other
 abbrev pub AreClassesOf : Inner → List ℕ → Type 0
 AreClassesOf inner = AreClasses inner.cut.question.now inner.cut.replies.now inner.part.now

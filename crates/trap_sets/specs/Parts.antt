@@ -46,6 +46,7 @@ IsRooted part = (s : ℕ) → slice_index part s ≢ 0 → slice_index part (sli
 pub record IsPlacing (q : Query) (replies : List (Option ℕ)) (part class : List ℕ) : Type 0 where
   pub many : length class ≡ states q
   pub live : (s : ℕ) → slice_index class s ≢ 0 → slice_index part s ≢ 0
+  -- each class is named after one of its states, which comes to each of them and to which each comes
   pub rooted : IsRooted class
   pub back : (s : ℕ) → slice_index class s ≢ 0 → Comes q replies part s (slice_index class s - 1)
   pub on : (s : ℕ) → slice_index class s ≢ 0 → Comes q replies part (slice_index class s - 1) s

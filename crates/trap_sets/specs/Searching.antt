@@ -23,6 +23,7 @@ pub record IsMarking (n : ℕ) (Good : ℕ → Type 0) (marks list : List ℕ) (
   pub good : (s : ℕ) → slice_index marks s ≡ pivot + 1 → Good s
   pub listed : (s : ℕ) → slice_index marks s ≡ pivot + 1 → Contains list s
   pub marked : (i : ℕ) → i < length list → slice_index marks (slice_index list i) ≡ pivot + 1
+  -- the list is as long as there are states with the mark, so it names each once
   pub sized : length list + sum_by (off (pivot + 1)) marks ≡ n
 
 -- more states have the mark, and all others what they had
@@ -46,6 +47,7 @@ pub record AreMarkedBack (inner : Inner) (class : List ℕ) (pivot : ℕ) (old s
   pub root : slice_index seen pivot ≡ pivot + 1
   pub behind : (s : ℕ) → slice_index seen s ≡ pivot + 1 → IsBehind inner class pivot s
   pub others : (s : ℕ) → slice_index seen s ≢ pivot + 1 → slice_index seen s ≡ slice_index old s
+  -- a state without a class that steps to one with the mark has it too
   pub closed : (s t : ℕ) → IsStepOf inner s t → slice_index seen t ≡ pivot + 1 → slice_index class s ≡ 0
       → slice_index seen s ≡ pivot + 1
 
@@ -55,5 +57,6 @@ pub record AreMarkedOn (inner : Inner) (seen : List ℕ) (pivot : ℕ) (old clas
   pub root : slice_index class pivot ≡ pivot + 1
   pub before : (s : ℕ) → slice_index class s ≡ pivot + 1 → IsBefore inner seen pivot s
   pub others : (s : ℕ) → slice_index class s ≢ pivot + 1 → slice_index class s ≡ slice_index old s
+  -- a state behind the pivot to which one of the class steps is in the class too
   pub closed : (s t : ℕ) → IsStepOf inner s t → slice_index class s ≡ pivot + 1 → slice_index seen t ≡ pivot + 1
       → slice_index class t ≡ pivot + 1

@@ -17,6 +17,7 @@ IsOf table pass = pass.seat.table_id ≡ table.table.shared.table_id
 abbrev pub words_seen : {P : Type 0} {h : _} → Pass P h → List ℕ
 words_seen pass = pass.seat.me.0.seen
 
+-- the value in the word that a pass has seen of a state, in units
 abbrev pub seen_by : {P : Type 0} {h : _} → Pass P h → ℕ → ℕ
 seen_by pass = value_at pass.seat.me.0.seen
 
@@ -28,6 +29,7 @@ won_by pass = pass.seat.me.0.won
 abbrev pub parts_of : {P : Type 0} {h : _} → Pass P h → ℕ
 parts_of pass = pass.seat.me.0.parts
 
+-- the seat of a pass: of which table it is, and what it has seen of the words
 abbrev pub PassSeat : Type 0
 PassSeat = Seat (Unit {0}) Sight
 
@@ -46,8 +48,10 @@ pub record LookedSeat (old new : PassSeat) : Type 0 where
   pub won : new.me.0.won ≡ old.me.0.won
   pub parts : new.me.0.parts ≡ old.me.0.parts
 
+-- the pass has only looked at words: it has seen no less anywhere, has won nothing and kept its parts
 abbrev pub Looked : {P : Type 0} {h : _} → Pass P h → Pass P h → Type 0
 Looked old new = LookedSeat old.seat new.seat
 
+-- the pass is of the same table, and has seen no less anywhere
 abbrev pub Grew : {P : Type 0} {h : _} → Pass P h → Pass P h → Type 0
 Grew old new = GrewSeat old.seat new.seat

@@ -12,6 +12,7 @@ use Rattle.step_core.specs.Configuration.{IsWorld}
 use Rattle.value_words.specs.declared.rule.Sight.{Sight}
 use Rattle.value_words.specs.Shown.{Shared, Seated, shown, all_won}
 
+-- a question without states: it stands where no call has named the question of a table
 abbrev pub no_question : Query
 no_question = record { game = []; sides = []; goals = []; deads = [] }
 

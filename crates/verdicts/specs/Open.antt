@@ -13,6 +13,7 @@ use Rattle.rpatl_syntax.specs.declared.formula.Bound.TheVariants.{AtLeast, Above
 abbrev pub IsBelowLess : Fraction → ℕ → ℕ → ℕ → Type 0
 IsBelowLess p n d r = n * p.den < (p.num * unit + r * p.den) * d
 
+-- n/d units, less r units, are at most p
 abbrev pub IsAtMostLess : Fraction → ℕ → ℕ → ℕ → Type 0
 IsAtMostLess p n d r = n * p.den ≤ (p.num * unit + r * p.den) * d
 
@@ -20,6 +21,7 @@ IsAtMostLess p n d r = n * p.den ≤ (p.num * unit + r * p.den) * d
 abbrev pub IsAtLeastMore : Fraction → ℕ → ℕ → ℕ → Type 0
 IsAtLeastMore p n d r = p.num * unit * d ≤ (n + r * d) * p.den
 
+-- n/d units, and r units more, are above p
 abbrev pub IsAboveMore : Fraction → ℕ → ℕ → ℕ → Type 0
 IsAboveMore p n d r = p.num * unit * d < (n + r * d) * p.den
 

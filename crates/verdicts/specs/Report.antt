@@ -25,12 +25,14 @@ pub record IsLine (line : ReportLine) : Type 0 where
   pub count : HasCount line.how
   pub values : HasValues line
 
+-- the word of a verdict, with which a line ends
 abbrev pub verdict_text : Verdict → List ℕ
 verdict_text Yes = codes "True"
 verdict_text No = codes "False"
 verdict_text Undecided = codes "Undecided"
 verdict_text Bracket = codes "Bracket"
 
+-- where the bounds of a line come from: so many rounds or steps, a certificate, or the tables of a solver
 abbrev pub how_text : How → List ℕ
 how_text (Rounds rounds) = codes " rounds " ++ decimal rounds
 how_text (Steps steps) = codes " steps " ++ decimal steps

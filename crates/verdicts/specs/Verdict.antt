@@ -35,12 +35,14 @@ is_yes No = false
 is_yes Undecided = false
 is_yes Bracket = false
 
+-- the verdict is that the bound fails
 abbrev pub is_no : Verdict → Bool
 is_no Yes = false
 is_no No = true
 is_no Undecided = false
 is_no Bracket = false
 
+-- the verdict is that the bounds leave the threshold open
 abbrev pub is_undecided : Verdict → Bool
 is_undecided Yes = false
 is_undecided No = false
