@@ -14,8 +14,8 @@ use Rattle.asked_files.specs.declared.problem.Paths.TheVariants.{Any, Unbounded,
 
 -- 1. Problems.
 
--- to reach a goal, of `G` one of the dual; within so many steps; in the next step; and of a formula with others inside a
--- game whose states have labels and owners, with its initial states
+-- to reach a goal, of `G` one of the dual; within so many steps; in the next step; and of a formula with others inside
+-- a game whose states have labels and owners, with its initial states
 pub data Problem : Type 0 where
   OfReach : (posing : Posing) → Problem
   OfWithin : (steps : ℕ) → (posing : Posing) → Problem
