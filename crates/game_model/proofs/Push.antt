@@ -1,12 +1,14 @@
 -- A choice more.
-use Rattle.std.proofs.Common.{◌≡◌, ℕ, suc, ◌+◌, ◌-◌, ◌%◌, ◌^◌, ◌<◌, List, [], ◌∷◌, ◌++◌, length, map, take, sum_by, arith, refl, sym, ◌∙◌, ap, subst, inl, inr}
-use Rattle.std.specs.Prelude.{slice_index}
+use Rattle.std.proofs.Common.{◌≡◌, ℕ, suc, ◌+◌, ◌-◌, ◌%◌, ◌^◌, ◌<◌, List, [], ◌∷◌, ◌++◌, length, map, take, arith, refl, sym, ◌∙◌, ap, subst, inl, inr}
+use Rattle.std.specs.Prelude.{slice_index, ◌==◌}
+use Rattle.std.specs.Bool.{if◌then◌else◌}
+use Rattle.std.proofs.lemmas.Bool.Decides.{nat_tests}
 use Rattle.std.proofs.lemmas.Bool.{cases_lt}
 use Rattle.std.proofs.lemmas.List.{get_or_push, length_push, length-append, length-map, length-take-le}
 use Rattle.game_model.specs.declared.game.Edge.{Edge}
-use Rattle.game_model.specs.Game.{IsDistribution}
+use Rattle.game_model.specs.Game.{IsDistribution, total_of}
 use Rattle.game_model.specs.Span.{span}
-use Rattle.game_model.specs.Flat.{edge_at, distribution_at, game_at, under_way_at, last_of, IsAscending, AreFlatLists}
+use Rattle.game_model.specs.Flat.{edge_at, kept_total, total_with, choice_with, distribution_at, game_at, under_way_at, last_of, IsAscending, AreFlatLists}
 use Rattle.game_model.specs.Draft.{Draft, distribution_of, with_choice}
 use Rattle.game_model.specs.Growing.{IsLonger, IsSameBelow, HasHighWords}
 use Rattle.game_model.proofs.Span.{span-more}
@@ -15,6 +17,14 @@ use Rattle.game_model.proofs.Same.{last-push, push-below, ascending-push, distri
 
 abbrev pub draft_at : List ℕ → List ℕ → List ℕ → List ℕ → List ℕ → List ℕ → Draft
 draft_at fc fe totals to low high = record { done = game_at fc fe totals to low high; under_way = under_way_at fc fe totals to low high }
+
+kept-is : (total : ℕ) → (if kept_total total == 0 then total else kept_total total) ≡ total
+kept-is total = grind (arith, nat_tests)
+
+-- what is kept for a total gives it back
+kept-with : (edges : List Edge) → choice_with (kept_total (total_of edges)) edges ≡ distribution_of edges
+unfolding total_with
+kept-with edges = ap (λ n. record { total = n; edges = edges }) (kept-is (total_of edges))
 
 -- nothing that is in use has changed
 module _ (fc fe totals to low high totals' to' low' high' : List ℕ) (h : AreFlatLists fc fe totals to low high)
@@ -48,7 +58,7 @@ module _ (fc fe totals to low high totals' to' low' high' : List ℕ) (h : AreFl
 
 -- one more choice
 module _ (fc fe totals to low high fe' totals' to' low' high' : List ℕ) (edges : List Edge) (h : AreFlatLists fc fe totals to low high)
-    (is_fe : fe' ≡ fe ++ (last_of fe + length edges) ∷ []) (is_totals : totals' ≡ take (length fe - 1) totals ++ sum_by (λ e. e.weight) edges ∷ [])
+    (is_fe : fe' ≡ fe ++ (last_of fe + length edges) ∷ []) (is_totals : totals' ≡ take (length fe - 1) totals ++ kept_total (total_of edges) ∷ [])
     (is_to : to' ≡ take (last_of fe) to ++ map (λ e. e.to) edges) (is_low : low' ≡ take (last_of fe) low ++ map (λ e. e.weight % 2 ^ 64) edges) (push_high : IsSameBelow (last_of fe) high high') (is_high : HasHighWords (last_of fe) edges high') where
   some : 0 < length fe
   some = h.laid_out.choices.some
@@ -60,7 +70,7 @@ module _ (fc fe totals to low high fe' totals' to' low' high' : List ℕ) (edges
   length-before = length-take-le (length fe - 1) totals (omega (arith, h.laid_out.enough))
 
   length-totals : length totals' ≡ length fe - 1 + 1
-  length-totals = ap length is_totals ∙ length_push (take (length fe - 1) totals) (sum_by (λ (e : Edge). e.weight) edges) ∙ ap (λ n. n + 1) length-before
+  length-totals = ap length is_totals ∙ length_push (take (length fe - 1) totals) (kept_total (total_of edges)) ∙ ap (λ n. n + 1) length-before
 
   length-to : length to' ≡ last_of fe + length edges
   length-to = ap length is_to ∙ length-append (take (last_of fe) to) (map (λ (e : Edge). e.to) edges)
@@ -86,19 +96,20 @@ module _ (fc fe totals to low high fe' totals' to' low' high' : List ℕ) (edges
   new-choice : distribution_at fe' totals' to' low' high' (length fe - 1) ≡ distribution_of edges
   new-choice =
       let some_here : 0 < length fe = some in
-      let total_is : slice_index totals' (length fe - 1) ≡ sum_by (λ (e : Edge). e.weight) edges =
-      ap (λ xs. slice_index xs (length fe - 1)) is_totals ∙ get_or_push (take (length fe - 1) totals) (sum_by (λ (e : Edge). e.weight) edges) 0 (length fe - 1) length-before in
+      let total_is : slice_index totals' (length fe - 1) ≡ kept_total (total_of edges) =
+      ap (λ xs. slice_index xs (length fe - 1)) is_totals ∙ get_or_push (take (length fe - 1) totals) (kept_total (total_of edges)) 0 (length fe - 1) length-before in
       let begin_is : slice_index fe' (length fe - 1) ≡ last_of fe = push_fe (length fe - 1) (omega arith) in
       let end_is : slice_index fe' (length fe - 1 + 1) ≡ last_of fe + length edges =
       ap (λ xs. slice_index xs (length fe - 1 + 1)) is_fe ∙ get_or_push fe (last_of fe + length edges) 0 (length fe - 1 + 1) (omega arith) in
       let count_is : slice_index fe' (length fe - 1 + 1) - slice_index fe' (length fe - 1) ≡ length edges = omega arith in
-      ap (λ n. record { total = n; edges = span (edge_at to' low' high') (slice_index fe' (length fe - 1)) (slice_index fe' (length fe - 1 + 1) - slice_index fe' (length fe - 1)) }) total_is
-      ∙ ap (λ es. record { total = sum_by (λ (e : Edge). e.weight) edges; edges = es })
+      ap (λ n. choice_with n (span (edge_at to' low' high') (slice_index fe' (length fe - 1)) (slice_index fe' (length fe - 1 + 1) - slice_index fe' (length fe - 1)))) total_is
+      ∙ ap (choice_with (kept_total (total_of edges)))
       (ap (λ n. span (edge_at to' low' high') (slice_index fe' (length fe - 1)) n) count_is
       ∙ ap (λ n. span (edge_at to' low' high') n (length edges)) begin_is
       ∙ ap (λ xs. span (edge_at xs low' high') (last_of fe) (length edges)) is_to
       ∙ ap (λ xs. span (edge_at (take (last_of fe) to ++ map (λ (e : Edge). e.to) edges) xs high') (last_of fe) (length edges)) is_low
       ∙ edges-added (take (last_of fe) to) (take (last_of fe) low) high' (last_of fe) edges (length-take-le (last_of fe) to h.laid_out.to_within) (length-take-le (last_of fe) low h.laid_out.low_within) is_high)
+      ∙ kept-with edges
 
   pub pushed-draft : draft_at fc fe' totals' to' low' high' ≡ with_choice (draft_at fc fe totals to low high) (distribution_of edges)
   pushed-draft =

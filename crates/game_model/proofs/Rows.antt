@@ -3,10 +3,11 @@ use Rattle.std.proofs.Common.{◌≡◌, ℕ, ◌+◌, ◌-◌, ◌*◌, ◌^◌
 use Rattle.std.specs.Prelude.{slice_index}
 use Rattle.std.proofs.lemmas.List.{same_lists, length-map, get_or-map, get_or-take, get_or-drop, length-take-le, length-drop}
 use Rattle.std.proofs.lemmas.List.Sums.{get_or-le-sum_by}
+use Rattle.std.proofs.lemmas.Bool.Decides.{nat_tests}
 use Rattle.game_model.specs.declared.game.Edge.{Edge}
 use Rattle.game_model.specs.Game.{Distribution, IsDistribution, IsGame, choices_of, choice_among, no_distribution, no_edge}
 use Rattle.game_model.specs.Span.{span}
-use Rattle.game_model.specs.Flat.{edge_at, distribution_at, game_at, last_of, IsLaidOut}
+use Rattle.game_model.specs.Flat.{edge_at, total_with, choice_with, distribution_at, game_at, last_of, IsLaidOut}
 use Rattle.game_model.specs.Row.{row_at, IsRow}
 use Rattle.game_model.proofs.Span.{map-span, length-span, get_or-span, span-moved}
 use Rattle.game_model.proofs.Read.{choices_of-game, read}
@@ -27,6 +28,11 @@ low-same low high to a k edges is small =
     ∙ low-word (get_or edges i no_edge).weight (slice_index low (a + i)) (slice_index high (a + i)) (ap (λ (e : Edge). e.weight) at) (omega arith)
     ∙ sym (get_or-map (λ (e : Edge). e.weight) edges i no_edge d (omega arith)))
 
+-- a number that is kept for a total is the total, where it is not 0
+with-kept : (kept : ℕ) (edges : List Edge) → 0 < kept → total_with kept edges ≡ kept
+unfolding total_with
+with-kept kept edges some = grind (arith, nat_tests)
+
 module _ (bounds totals to low high : List ℕ) (row : List Distribution) (is : row_at bounds totals to low high ≡ row) where
   pub row-count : length bounds - 1 ≡ length row
   row-count = sym (length-span (distribution_at bounds totals to low high) 0 (length bounds - 1)) ∙ ap length is
@@ -39,6 +45,11 @@ module _ (bounds totals to low high : List ℕ) (row : List Distribution) (is : 
       let at : 0 + c ≡ c = omega arith in
       sym (ap (λ ms. get_or ms c no_distribution) (sym is) ∙ get_or-span (distribution_at bounds totals to low high) 0 (length bounds - 1) c no_distribution (omega (arith, row-count))
       ∙ ap (distribution_at bounds totals to low high) at)
+
+  pub total-in : (c : ℕ) → c < length row → 0 < slice_index totals c → slice_index totals c ≡ (choice_among row c).total
+  total-in c l some =
+      sym (with-kept (slice_index totals c) (span (edge_at to low high) (slice_index bounds c) (slice_index bounds (c + 1) - slice_index bounds c)) some)
+      ∙ ap (λ (m : Distribution). m.total) (choice-in c l)
 
   pub edges-count : (c : ℕ) → c < length row → slice_index bounds (c + 1) - slice_index bounds c ≡ length (choice_among row c).edges
   edges-count c l = sym (length-span (edge_at to low high) (slice_index bounds c) (slice_index bounds (c + 1) - slice_index bounds c)) ∙ ap (λ (m : Distribution). length m.edges) (choice-in c l)
@@ -98,9 +109,9 @@ module _ (fc fe totals to low high : List ℕ) (game : List (List Distribution))
       let next : first + (c + 1) ≡ first + c + 1 = omega arith in
       let begin = bound-at c (omega arith) in
       let end : slice_index (take (last + 1 - first) (drop first fe)) (c + 1) ≡ slice_index fe (first + c + 1) = bound-at (c + 1) (omega arith) ∙ ap (slice_index fe) next in
-      ap (λ n. record { total = n; edges = span (edge_at to low high) (slice_index (take (last + 1 - first) (drop first fe)) c) (slice_index (take (last + 1 - first) (drop first fe)) (c + 1) - slice_index (take (last + 1 - first) (drop first fe)) c) }) (part-read totals first (last - first) c l)
-      ∙ ap (λ n. record { total = slice_index totals (first + c); edges = span (edge_at to low high) n (slice_index (take (last + 1 - first) (drop first fe)) (c + 1) - n) }) begin
-      ∙ ap (λ n. record { total = slice_index totals (first + c); edges = span (edge_at to low high) (slice_index fe (first + c)) (n - slice_index fe (first + c)) }) end
+      ap (λ n. choice_with n (span (edge_at to low high) (slice_index (take (last + 1 - first) (drop first fe)) c) (slice_index (take (last + 1 - first) (drop first fe)) (c + 1) - slice_index (take (last + 1 - first) (drop first fe)) c))) (part-read totals first (last - first) c l)
+      ∙ ap (λ n. choice_with (slice_index totals (first + c)) (span (edge_at to low high) n (slice_index (take (last + 1 - first) (drop first fe)) (c + 1) - n))) begin
+      ∙ ap (λ n. choice_with (slice_index totals (first + c)) (span (edge_at to low high) (slice_index fe (first + c)) (n - slice_index fe (first + c)))) end
 
   choices-span : span (distribution_at fe totals to low high) first (last - first) ≡ choices_of game s
   choices-span =

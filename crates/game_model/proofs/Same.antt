@@ -7,7 +7,7 @@ use Rattle.game_model.specs.declared.game.Edge.{Edge}
 use Rattle.game_model.specs.Game.{no_edge}
 use Rattle.game_model.specs.Span.{span}
 use Rattle.game_model.specs.Growing.{HasHighWords}
-use Rattle.game_model.specs.Flat.{edge_at, distribution_at, choices_at, game_at, under_way_at, last_of, IsAscending, IsLaidOut}
+use Rattle.game_model.specs.Flat.{edge_at, choice_with, distribution_at, choices_at, game_at, under_way_at, last_of, IsAscending, IsLaidOut}
 use Rattle.game_model.proofs.Span.{length-span, get_or-span, span-same}
 
 -- an entry more
@@ -49,10 +49,10 @@ module _ (fc fe totals to low high fe' totals' to' low' high' : List ℕ) (h : I
   pub distribution-same : (c : ℕ) → c + 1 < length fe → distribution_at fe' totals' to' low' high' c ≡ distribution_at fe totals to low high c
   distribution-same c l =
       let last : slice_index fe (c + 1) ≤ last_of fe = h.choices.last (c + 1) l in
-      ap (λ n. record { total = n; edges = span (edge_at to' low' high') (slice_index fe' c) (slice_index fe' (c + 1) - slice_index fe' c) }) (same_totals c l)
-      ∙ ap (λ n. record { total = slice_index totals c; edges = span (edge_at to' low' high') n (slice_index fe' (c + 1) - n) }) (same_fe c (omega arith))
-      ∙ ap (λ n. record { total = slice_index totals c; edges = span (edge_at to' low' high') (slice_index fe c) (n - slice_index fe c) }) (same_fe (c + 1) l)
-      ∙ ap (λ es. record { total = slice_index totals c; edges = es })
+      ap (λ n. choice_with n (span (edge_at to' low' high') (slice_index fe' c) (slice_index fe' (c + 1) - slice_index fe' c))) (same_totals c l)
+      ∙ ap (λ n. choice_with (slice_index totals c) (span (edge_at to' low' high') n (slice_index fe' (c + 1) - n))) (same_fe c (omega arith))
+      ∙ ap (λ n. choice_with (slice_index totals c) (span (edge_at to' low' high') (slice_index fe c) (n - slice_index fe c))) (same_fe (c + 1) l)
+      ∙ ap (choice_with (slice_index totals c))
       (span-same (edge_at to' low' high') (edge_at to low high) (slice_index fe c) (slice_index fe (c + 1) - slice_index fe c) (λ i from upto. edge-same i (omega arith)))
 
   pub game-same : game_at fc fe' totals' to' low' high' ≡ game_at fc fe totals to low high

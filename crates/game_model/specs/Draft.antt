@@ -3,6 +3,7 @@ use Rattle.std.specs.Prelude.{List, [], ◌∷◌, ◌++◌}
 use Rattle.game_model.specs.declared.game.Edge.{Edge}
 use Rattle.game_model.specs.Game.{Distribution, total_of}
 
+-- the states that have ended, and the choices so far of the next one
 pub record Draft : Type 0 where
   pub done : List (List Distribution)
   pub under_way : List Distribution

@@ -1,21 +1,31 @@
 -- A game in flat lists: where the choices of each state begin, where the edges of each choice begin, the totals, the
 -- successors and the weights.
-use Rattle.std.specs.Prelude.{◌≡◌, ℕ, ◌+◌, ◌-◌, ◌*◌, ◌^◌, ◌<◌, ◌≤◌, List, length, slice_index}
+use Rattle.std.specs.Prelude.{◌≡◌, ℕ, ◌+◌, ◌-◌, ◌*◌, ◌^◌, ◌<◌, ◌≤◌, ◌==◌, nat_lt, if◌then◌else◌, List, length, slice_index}
 use Rattle.game_model.specs.declared.game.Edge.{Edge}
-use Rattle.game_model.specs.Game.{Distribution, IsDistribution}
+use Rattle.game_model.specs.Game.{Distribution, IsDistribution, total_of}
 use Rattle.game_model.specs.Span.{span}
 
 -- the edge at a place
 abbrev pub edge_at : List ℕ → List ℕ → List ℕ → ℕ → Edge
 edge_at to low high i = record { to = slice_index to i; weight = slice_index low i + 2 ^ 64 * slice_index high i }
 
+-- the number that is kept for a total: the total where it is below 2^64, else 0
+abbrev pub kept_total : ℕ → ℕ
+kept_total total = if nat_lt total (2 ^ 64) then total else 0
+
+-- the total of a choice with these edges for which this number is kept: where that is 0, the sum of the weights
+unfoldable pub total_with : ℕ → List Edge → ℕ
+total_with kept edges = if kept == 0 then total_of edges else kept
+
+-- the choice with these edges for whose total this number is kept
+abbrev pub choice_with : ℕ → List Edge → Distribution
+choice_with kept edges = record { total = total_with kept edges; edges = edges }
+
 -- the choice at a place
 abbrev pub distribution_at : List ℕ → List ℕ → List ℕ → List ℕ → List ℕ → ℕ → Distribution
-distribution_at first_edge totals to low high c = record {
-  total = slice_index totals c;
-  edges = span (edge_at to low high) (slice_index first_edge c)
-      (slice_index first_edge (c + 1) - slice_index first_edge c);
-}
+distribution_at first_edge totals to low high c =
+    choice_with (slice_index totals c)
+    (span (edge_at to low high) (slice_index first_edge c) (slice_index first_edge (c + 1) - slice_index first_edge c))
 
 -- the choices of the state at a place
 abbrev pub choices_at : List ℕ → List ℕ → List ℕ → List ℕ → List ℕ → List ℕ → ℕ → List Distribution

@@ -8,6 +8,7 @@ pub record Distribution : Type 0 where
   pub total : ℕ
   pub edges : List Edge
 
+-- the successors of edges, in order
 abbrev pub destinations : List Edge → List ℕ
 destinations edges = map (λ e. e.to) edges
 
@@ -19,6 +20,7 @@ weight_to edges to = sum_by (λ e. if e.to == to then e.weight else 0) edges
 abbrev pub total_of : List Edge → ℕ
 total_of edges = sum_by (λ e. e.weight) edges
 
+-- each edge leads to a greater state than those before it
 abbrev pub IsRising : List Edge → Type 0
 IsRising edges = (i j : ℕ) → i < j → j < length edges
     → slice_index (destinations edges) i < slice_index (destinations edges) j

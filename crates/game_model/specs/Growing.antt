@@ -2,7 +2,7 @@
 use Rattle.std.specs.Prelude.{◌≡◌, ℕ, ◌+◌, ◌-◌, List, [], ◌∷◌, ◌++◌, length, map, take, replicate, slice_index, slice_index_or, ◌<◌, ◌/◌, ◌%◌, ◌^◌}
 use Rattle.game_model.specs.declared.game.Edge.{Edge}
 use Rattle.game_model.specs.Game.{no_edge, total_of}
-use Rattle.game_model.specs.Flat.{last_of}
+use Rattle.game_model.specs.Flat.{kept_total, last_of}
 
 -- ys begins with xs
 abbrev pub IsLonger : List ℕ → List ℕ → Type 0
@@ -25,7 +25,8 @@ IsPadded xs ys = (n : ℕ) × (ys ≡ xs ++ replicate n 0)
 abbrev pub IsPushed : List ℕ → List ℕ → List ℕ → List ℕ → List ℕ → List Edge → List ℕ → List ℕ → List ℕ → List ℕ
     → List ℕ → Type 0
 IsPushed fe totals to low high edges fe' totals' to' low' high' =
-    (fe' ≡ fe ++ (last_of fe + length edges) ∷ []) × (totals' ≡ take (length fe - 1) totals ++ total_of edges ∷ [])
+    (fe' ≡ fe ++ (last_of fe + length edges) ∷ [])
+    × (totals' ≡ take (length fe - 1) totals ++ kept_total (total_of edges) ∷ [])
     × (to' ≡ take (last_of fe) to ++ map (λ e. e.to) edges)
     × (low' ≡ take (last_of fe) low ++ map (λ e. e.weight % 2 ^ 64) edges)
     × IsSameBelow (last_of fe) high high' × HasHighWords (last_of fe) edges high'

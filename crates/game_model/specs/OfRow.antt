@@ -4,8 +4,10 @@ use Rattle.game_model.specs.Game.{Distribution}
 use Rattle.game_model.specs.declared.row.Row.TheInside.{Inside}
 use Rattle.game_model.specs.Row.{row_at, IsRow}
 
+-- the choices that the lists of a row hold
 abbrev pub row_of : Inside → List Distribution
 row_of r = row_at r.bounds.now r.totals.now r.to.now r.low.now r.high.now
 
+-- the lists of a row hold the choices of a state
 abbrev pub IsRowOf : Inside → Type 0
 IsRowOf r = IsRow r.bounds.now r.totals.now r.to.now r.low.now r.high.now

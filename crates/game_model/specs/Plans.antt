@@ -6,6 +6,7 @@ use Rattle.game_model.specs.Game.{Distribution, choices_of}
 use Rattle.game_model.specs.Query.{Query, side_at}
 use Rattle.game_model.specs.Values.{numerator_of}
 
+-- whether two sides are the same
 abbrev pub same_side : Side → Side → Bool
 same_side Max Max = true
 same_side Max Min = false

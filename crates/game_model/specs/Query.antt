@@ -11,15 +11,19 @@ pub record Query : Type 0 where
   pub goals : List Bool
   pub deads : List Bool
 
+-- how many states a question has
 abbrev pub states : Query → ℕ
 states q = length q.game
 
+-- whether a state is a goal
 abbrev pub is_goal : Query → ℕ → Bool
 is_goal q s = slice_index_or q.goals s false
 
+-- whether a state is dead
 abbrev pub is_dead : Query → ℕ → Bool
 is_dead q s = slice_index_or q.deads s false
 
+-- who chooses at a state
 abbrev pub side_at : Query → ℕ → Side
 side_at q s = slice_index_or q.sides s Max
 

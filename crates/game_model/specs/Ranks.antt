@@ -36,6 +36,7 @@ pub record RankedIn (top : ℕ) (q : Query) (values : List ℕ) (choices : List 
       → (c : ℕ) → c < length (choices_of q.game s)
       → IsRankedChoice (slice_index values) (slice_index ranks) s (choice_of q.game s c)
 
+-- values, choices and ranks that go together, in units
 abbrev pub Ranked : Query → List ℕ → List (Option ℕ) → List ℕ → Type 0
 Ranked q values choices ranks = RankedIn unit q values choices ranks
 

@@ -22,6 +22,7 @@ down_step q table s = bellman q (choices_of q.game) unit (down_value table) s
 abbrev pub up_step_in : ℕ → Query → (ℕ → ℕ) → ℕ → ℕ
 up_step_in top q table s = bellman q (choices_of q.game) top (up_value table) s
 
+-- the up step of a table of units
 abbrev pub up_step : Query → (ℕ → ℕ) → ℕ → ℕ
 up_step q table s = up_step_in unit q table s
 
@@ -51,6 +52,7 @@ IsSettled q table = IsBelow q (down_step q table) table
 abbrev pub IsInductiveIn : ℕ → Query → (ℕ → ℕ) → Type 0
 IsInductiveIn top q table = IsBelow q (up_step_in top q table) table
 
+-- inductive, in units
 abbrev pub IsInductive : Query → (ℕ → ℕ) → Type 0
 IsInductive q table = IsInductiveIn unit q table
 

@@ -3,7 +3,7 @@
 ghost use Rattle.std.specs.Prelude.{◌≡◌, ◌+◌, ◌-◌, ◌/◌, ◌%◌, ◌^◌, ◌<◌, ◌≤◌, [], ◌∷◌, ◌++◌, length, map, All, IfOk, OnErr};
 ghost use Rattle.game_model.specs.Game.{total_of};
 ghost use Rattle.game_model.specs.Limits.{most_states, most_choices};
-ghost use Rattle.game_model.specs.Flat.{last_of};
+ghost use Rattle.game_model.specs.Flat.{kept_total, last_of};
 ghost use Rattle.game_model.specs.Draft.{no_states, between, with_choice, with_state};
 ghost use Rattle.game_model.specs.Growing.{IsLonger, IsPadded, IsSameBelow, HasHighWords, IsPushed, IsStill};
 
@@ -17,7 +17,7 @@ use std::marker::Model;
 pub struct GameBuilder {
     first_choice: Vec<u32>,
     first_edge: Vec<u32>,
-    totals: Vec<u128>,
+    totals: Vec<u64>,
     to: Vec<u32>,
     low: Vec<u64>,
     high: Vec<u64>,
@@ -118,7 +118,7 @@ impl GameBuilder {
 /// Puts a choice behind the others, or leaves the lists as they are where they are in use.
 fn add_choice(
     first_edge: &mut Vec<u32>,
-    totals: &mut Vec<u128>,
+    totals: &mut Vec<u64>,
     to: &mut Vec<u32>,
     low: &mut Vec<u64>,
     high: &mut Vec<u64>,
@@ -144,12 +144,23 @@ fn add_choice(
     let total = choice.total();
     add_high(high, begin, total, choice.edges())?;
     add_edges(to, low, choice.edges())?;
-    totals.push(total)?;
+    totals.push(kept(total))?;
     if to.len() > 4_294_967_295 {
         return Err(OutOfMemory {});
     }
     first_edge.push(to.len() as u32)?;
     Ok(())
+}
+
+/// What is kept for a total: the total where it fits 64 bits, else 0.
+fn kept(total: u128) -> u64
+    ensures { result ≡ kept_total total }
+{
+    if total < 18_446_744_073_709_551_616 {
+        total as u64
+    } else {
+        0
+    }
 }
 
 /// Puts edges behind the others, with the low words of their weights.

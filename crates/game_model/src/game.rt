@@ -101,14 +101,15 @@ impl Choice {
 /// choices of a state and the edges of a choice.
 ///
 /// It lies in flat lists: where the choices of each state begin, where the edges of each choice begin and
-/// its total, and for each edge its successor and its weight. A weight has a low word, and a high word only
-/// where some total is 2^64 or more; behind the end of the high words each is 0. So an edge takes 12 bytes, and
-/// 8 more up to the last choice whose weights are that wide.
+/// its total, and for each edge its successor and its weight. For a total of 2^64 or more 0 is kept, and it is
+/// added up when it is asked for. A weight has a low word, and a high word only where some total is 2^64 or more; behind
+/// the end of the high words each is 0. So a choice takes 12 bytes and an edge 12, and an edge 8 more up to the last
+/// choice whose weights are that wide.
 #[derive(Debug, Drop)]
 pub struct Game {
     pub(crate) first_choice: Vec<u32>,
     pub(crate) first_edge: Vec<u32>,
-    pub(crate) totals: Vec<u128>,
+    pub(crate) totals: Vec<u64>,
     pub(crate) to: Vec<u32>,
     pub(crate) low: Vec<u64>,
     pub(crate) high: Vec<u64>,

@@ -7,12 +7,12 @@ use crate::game::Edge;
 use std::marker::Model;
 
 /// The choices of a state, after one look at the lists of its game: the bounds of the edges of each choice, its
-/// total, and the successors and weights of all edges. Who goes over the choices of a state takes its row first:
+/// total, or 0 where that is 2^64 or more, and the successors and weights of all edges. Who goes over the choices of a state takes its row first:
 /// between loads of words that threads share, what lies behind the game would be read anew.
 #[derive(Drop)]
 pub struct Row<'g> {
     pub(crate) bounds: &'g [u32],
-    pub(crate) totals: &'g [u128],
+    pub(crate) totals: &'g [u64],
     pub(crate) to: &'g [u32],
     pub(crate) low: &'g [u64],
     pub(crate) high: &'g [u64],
@@ -73,7 +73,25 @@ impl<'g> Row<'g> {
         ensures positive { 0 < result }
         ensures small { result < total_bound }
     {
-        self.totals[choice as usize]
+        let total = self.totals[choice as usize];
+        if total == 0 {
+            return self.again().added_total(choice);
+        }
+        u128::from(total)
+    }
+
+    /// The total of a choice, added up anew.
+    #[inline(never)]
+    fn added_total(&self, choice: u32) -> u128
+        requires { choice < length self.now }
+        ensures { result ≡ (choice_among self.now choice).total }
+    {
+        self.known();
+        let mut total: u128 = 0;
+        for place in 0..self.edge_count(choice) {
+            total += self.edge(choice, place).weight;
+        }
+        total
     }
 
     /// How many edges a choice has, at least 1.
