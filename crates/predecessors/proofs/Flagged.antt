@@ -3,8 +3,8 @@ use Rattle.std.proofs.Common.{◌≡◌, ℕ, ◌+◌, ◌<◌, Bool, false, Lis
 use Rattle.std.proofs.lemmas.Bool.{cases_lt}
 use Rattle.std.proofs.lemmas.List.{get_or_append_left, get_or_push, length_push}
 use Rattle.game_model.specs.Game.{Distribution, choices_of}
-use Rattle.choice_flags.specs.Flags.{number, flag, AreAnswers, AreAnswersBefore}
-use Rattle.choice_flags.proofs.Numbers.{choices_below-more, number-below}
+use Rattle.predecessors.specs.Flags.{number, flag, AreAnswers, AreAnswersBefore}
+use Rattle.predecessors.proofs.Numbers.{choices_below-more, number-below}
 
 -- what each answer says, of a game that was found to be this one
 pub AreAnswers-say : (game found : List (List Distribution)) (Answers Says : ℕ → ℕ → Bool → Type 0) (flags : List Bool) → found ≡ game → AreAnswers found Answers flags

@@ -2,7 +2,7 @@
 use Rattle.std.proofs.Common.{◌≡◌, ℕ, zero, suc, ◌+◌, ◌-◌, ◌<◌, ◌≤◌, List, [], length, arith, sym, subst, add-zero}
 use Rattle.std.proofs.lemmas.List.Sums.{sum_by_more}
 use Rattle.game_model.specs.Game.{Distribution, choices_of, choices_below}
-use Rattle.choice_flags.specs.Flags.{number}
+use Rattle.predecessors.specs.Flags.{number}
 
 -- one more state
 pub choices_below-more : (game : List (List Distribution)) (s : ℕ) → s < length game → choices_below game (s + 1) ≡ choices_below game s + length (choices_of game s)

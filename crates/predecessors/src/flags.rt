@@ -2,7 +2,7 @@
 
 ghost use Rattle.std.specs.Prelude.{◌≡◌, ℕ, ◌+◌, ◌<◌, length, IfOk, OnOk};
 ghost use Rattle.game_model.specs.Game.{choices_of, choices_below};
-ghost use Rattle.choice_flags.specs.Flags.{number, flag, AreAnswers, AreAnswersBefore};
+ghost use Rattle.predecessors.specs.Flags.{number, flag, AreAnswers, AreAnswersBefore};
 
 use game_model::Game;
 use game_outside::OutOfMemory;

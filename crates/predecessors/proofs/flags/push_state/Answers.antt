@@ -1,7 +1,7 @@
 use Rattle.std.proofs.Common.{◌≡◌, arith, length}
 use Rattle.game_model.specs.Game.{choices_of}
-use Rattle.choice_flags.proofs.Answers.{answers-push, answers-end}
-use Rattle.choice_flags.proofs.flags.push_state.Goals as goal
+use Rattle.predecessors.proofs.Flagged.{answers-push, answers-end}
+use Rattle.predecessors.proofs.flags.push_state.Goals as goal
 
 pub loop-choice-preserved : goal.loop-choice-preserved
 loop-choice-preserved g c =
