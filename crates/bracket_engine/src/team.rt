@@ -1,4 +1,5 @@
-//! Workers who fill tables together.
+//! Workers who fill tables together, each the entries of some states in a row. Nothing is said of which worker runs
+//! when, nor that two of them run at once.
 
 ghost use Rattle.std.specs.Prelude.{◌≤◌};
 ghost use Rattle.std.specs.Thread.{IsSync};
