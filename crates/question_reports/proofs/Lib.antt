@@ -11,3 +11,4 @@ pub mod Swept
 pub mod Valued
 pub mod NextValues
 pub mod SolvedPlans
+pub mod SureLines

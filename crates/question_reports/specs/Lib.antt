@@ -4,3 +4,4 @@ pub mod Reports
 pub mod Sweeps
 pub mod Valued
 pub mod Solved
+pub mod Sure

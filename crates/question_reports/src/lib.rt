@@ -2,8 +2,8 @@
 //!
 //! [`bracket_report`] answers from a bracket, with its certificate where that is asked for; [`within_report`] and
 //! [`next_report`] from exactly so many steps; [`nested_report`] answers a formula with others inside; [`audit_report`]
-//! a question from a certificate that was accepted, whoever made it; and [`solved_report`] from a plan that tables of a
-//! solver led to.
+//! a question from a certificate that was accepted, whoever made it; [`solved_report`] from a plan that tables of a
+//! solver led to; and [`sure_report`] lists the almost-sure states.
 #![tactic(auto)]
 
 mod audits;
@@ -11,10 +11,12 @@ pub mod laws;
 mod nested;
 mod reports;
 mod solved;
+mod sure;
 mod sweeps;
 
 pub use audits::audit_report;
 pub use nested::nested_report;
 pub use reports::bracket_report;
 pub use solved::solved_report;
+pub use sure::{SureReport, sure_report};
 pub use sweeps::{next_report, within_report};

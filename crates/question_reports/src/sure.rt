@@ -2,12 +2,11 @@
 //!
 //! [`sure_report`] makes the text, `sure C of N` and a line for each of the C states, and says whether all initial
 //! states are among them.
-#![tactic(auto)]
 
 ghost use Rattle.std.specs.Prelude.{◌≡◌, ◌<◌, ◌++◌, [], All, IfOk, OnOk, length, if◌then◌else◌};
 ghost use Rattle.std.specs.List.{list_all};
 ghost use Rattle.game_model.specs.Query.{states};
-ghost use Rattle.sure_report.specs.Sure.{IsSure, head_line, is_marked, marked_lines, state_line};
+ghost use Rattle.question_reports.specs.Sure.{IsSure, head_line, is_marked, marked_lines, state_line};
 
 use almost_sure::almost_sure;
 use game_model::{Marks, Question};

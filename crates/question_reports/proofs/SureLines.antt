@@ -4,7 +4,7 @@ use Rattle.std.specs.Prelude.{if◌then◌else◌}
 use Rattle.std.specs.List.{filter, flat_map, range_with_len}
 use Rattle.std.proofs.lemmas.Grind.{flat_map-append}
 use Rattle.std.proofs.lemmas.List.FromFn.{filter_of_map_range_with_len_more}
-use Rattle.sure_report.specs.Sure.{is_marked, state_line}
+use Rattle.question_reports.specs.Sure.{is_marked, state_line}
 
 -- the lines of the marked states below this one
 abbrev pub lines_before : List Bool → ℕ → List ℕ

@@ -1,8 +1,8 @@
 use Rattle.std.proofs.Common.{◌∙◌, ◌++◌, [], List, ℕ, Bool, ap, sym, append_assoc}
 use Rattle.std.specs.Prelude.{if◌then◌else◌}
-use Rattle.sure_report.specs.Sure.{is_marked, state_line}
-use Rattle.sure_report.proofs.Lines.{lines_before, lines-more}
-use Rattle.sure_report.proofs.append_marked.Goals as goal
+use Rattle.question_reports.specs.Sure.{is_marked, state_line}
+use Rattle.question_reports.proofs.SureLines.{lines_before, lines-more}
+use Rattle.question_reports.proofs.sure.append_marked.Goals as goal
 
 pub loop-state-preserved : goal.loop-state-preserved
 loop-state-preserved c =
