@@ -12,3 +12,4 @@ pub mod Valued
 pub mod NextValues
 pub mod SolvedPlans
 pub mod SureLines
+pub mod DrawnReports

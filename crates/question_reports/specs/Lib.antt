@@ -5,3 +5,4 @@ pub mod Sweeps
 pub mod Valued
 pub mod Solved
 pub mod Sure
+pub mod Made

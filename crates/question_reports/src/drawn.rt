@@ -1,16 +1,13 @@
 //! What `make` says of a game that a seed draws.
 //!
 //! [`drawn_report`] writes one line on the bracket of its question: the number of states of value 0, and the sums of
-//! both tables where these are settled. [`laws`] says that the line of settled tables is the same on every run.
-#![tactic(auto)]
+//! both tables where these are settled. That the line of settled tables is the same on every run is a law in `laws.rt`.
 
 ghost use Rattle.std.specs.Prelude.{◌≡◌, ◌<◌, ◌^◌, IfOk, count_by};
 ghost use Rattle.std.specs.String.{string_bytes};
 ghost use Rattle.command_words.specs.Words.{IsMakeInRange, make_of};
-ghost use Rattle.drawn_report.specs.Made.{IsMade, ending, status_made, sum_of, summary_text};
+ghost use Rattle.question_reports.specs.Made.{IsMade, ending, status_made, sum_of, summary_text};
 ghost use Rattle.run_answers.specs.Status.{IsAnswer};
-
-pub mod laws;
 
 use bracket_engine::{Bracket, bracket_for};
 use command_words::MakeWords;

@@ -1,8 +1,8 @@
 use Rattle.std.proofs.Common.{◌≡◌, ◌∙◌, ap, arith}
 use Rattle.drawn_game.specs.Asked.{question_of}
-use Rattle.drawn_report.specs.Made.{drawn_question}
-use Rattle.drawn_report.proofs.Drawn.{made, sum-fits}
-use Rattle.drawn_report.proofs.drawn_report.Goals as goal
+use Rattle.question_reports.specs.Made.{drawn_question}
+use Rattle.question_reports.proofs.DrawnReports.{made, sum-fits}
+use Rattle.question_reports.proofs.drawn.drawn_report.Goals as goal
 
 pub returns-clause-made : goal.returns-clause-made
 returns-clause-made g c =

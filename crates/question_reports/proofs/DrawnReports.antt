@@ -17,7 +17,7 @@ use Rattle.bracket_engine.specs.Lower.{IsLowerTable}
 use Rattle.bracket_engine.specs.Stop.{AreSettledAt}
 use Rattle.run_answers.specs.declared.status.Status.{Status}
 use Rattle.run_answers.specs.declared.status.Status.TheVariants.{Fine}
-use Rattle.drawn_report.specs.Made.{sum_of, summary_text, status_made, drawn_question, IsMade}
+use Rattle.question_reports.specs.Made.{sum_of, summary_text, status_made, drawn_question, IsMade}
 
 -- 1. A bracket that asks for a value ends early only where it is stable.
 
