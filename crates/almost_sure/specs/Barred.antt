@@ -2,7 +2,7 @@
 use Rattle.std.specs.Prelude.{◌≡◌, Bool, false, List, slice_index_or}
 use Rattle.game_model.specs.Game.{Distribution, choice_of}
 use Rattle.attractors.specs.Attractor.{Barred, meets}
-use Rattle.choice_flags.specs.Flags.{AreAnswers}
+use Rattle.predecessors.specs.Flags.{AreAnswers}
 
 -- the states that are gone, and the choices of which some successor is gone
 abbrev pub gone_barred : List Bool → Barred

@@ -7,10 +7,9 @@ ghost use Rattle.attractors.specs.Attractor.{IsAttractor};
 ghost use Rattle.almost_sure.specs.Barred.{gone_barred, AreLeaving};
 
 use attractors::{Bars, attractor_of, meets};
-use choice_flags::ChoiceFlags;
 use game_model::Question;
 use game_outside::OutOfMemory;
-use predecessors::Predecessors;
+use predecessors::{ChoiceFlags, Predecessors};
 use std::alloc::Global;
 
 /// Bars the states that are gone, and the choices that lead to one.

@@ -18,13 +18,13 @@ use crate::race::{Ended, Raced};
 use crate::sides::both_sides;
 use crate::stopping::Ending;
 use crate::tables::values_of_words;
+use crate::team::Team;
 use fixed_bellman::settled;
 use game_model::Question;
 use game_outside::OutOfMemory;
 use predecessors::Predecessors;
 use std::alloc::Global;
 use std::thread::Threads;
-use team_tables::Team;
 
 /// The bracket of two races that are over: the tables, and the strategies for them. The swapped question and the
 /// swapped words are let go once they are read.

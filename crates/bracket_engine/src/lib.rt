@@ -8,6 +8,9 @@
 //! at the initial states. It says nothing of how near the two tables come to each other beyond the values of as many
 //! steps, nor that two workers ran at once, nor that a run ends as early as it may. [`bracket_over`] gives the same
 //! over lists of predecessors that the caller has, and [`bracket_for`] for a bound, with the zero set.
+//!
+//! A [`Team`] fills the tables of a guess by several workers: the table is the same for every number of them and every
+//! schedule. One worker costs no thread.
 #![tactic(auto)]
 
 mod bounds;
@@ -20,8 +23,10 @@ mod run;
 mod sides;
 mod stopping;
 mod tables;
+mod team;
 mod upper;
 
 pub use bounds::Bracket;
 pub use bracketed::{Bracketed, bracket_for};
 pub use run::{MOST_ROUNDS, bracket, bracket_over};
+pub use team::Team;

@@ -14,13 +14,13 @@ ghost use Rattle.bracket_engine.specs.Race.{AreOver};
 ghost use Rattle.bracket_engine.specs.Stop.{EndsWhereSettled, IsSettlingGuess};
 
 use crate::stopping::{Ending, SettlingGuess};
+use crate::team::Team;
 use game_model::Question;
 use game_outside::{Gate, OutOfMemory};
 use marked_rounds::{Runner, close, one_round, open};
 use predecessors::Predecessors;
 use std::alloc::Global;
 use std::thread::Threads;
-use team_tables::Team;
 use upper_guess::Witnesses;
 use value_words::{Posing, Words};
 

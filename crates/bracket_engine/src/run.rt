@@ -16,6 +16,7 @@ use crate::bounds::Bracket;
 use crate::closing::bracket_of;
 use crate::race::race;
 use crate::stopping::Ending;
+use crate::team::Team;
 use game_model::{Marks, Question};
 use game_outside::{Gate, OutOfMemory};
 use inductive_check::swap;
@@ -24,7 +25,6 @@ use predecessors::Predecessors;
 use std::alloc::Global;
 use std::marker::Brand;
 use std::thread::Threads;
-use team_tables::Team;
 use verdicts::StopRule;
 
 /// The most rounds that may be asked for.

@@ -15,6 +15,7 @@ ghost use Rattle.bracket_engine.specs.Stop.{IsUpper};
 
 use crate::lower::lower_side;
 use crate::stopping::SettlingGuess;
+use crate::team::Team;
 use crate::upper::{UpperSide, upper_side};
 use game_model::{Marks, Question};
 use game_outside::OutOfMemory;
@@ -22,7 +23,6 @@ use predecessors::Predecessors;
 use rank_certificate::LowerGuess;
 use std::alloc::Global;
 use std::thread::{Threads, join};
-use team_tables::Team;
 use value_words::Words;
 
 /// Both sides over a base, the values of these words. Where the team has several workers, one of them makes the lower

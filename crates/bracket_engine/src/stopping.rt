@@ -5,11 +5,11 @@ ghost use Rattle.game_model.specs.Query.{states};
 ghost use Rattle.game_model.specs.Limits.{unit};
 ghost use Rattle.game_model.specs.Dual.{IsZeroSet};
 
+use crate::team::Team;
 use game_model::{Marks, Question, UNIT};
 use game_outside::OutOfMemory;
 use std::alloc::Global;
 use std::thread::Threads;
-use team_tables::Team;
 use upper_guess::{Witnesses, guess_with};
 use verdicts::StopRule;
 

@@ -11,12 +11,12 @@ ghost use Rattle.bracket_engine.specs.Stop.{IsUpper, IsLeastGuess, IsUpperFrom};
 
 use crate::stopping::SettlingGuess;
 use crate::tables::{lesser, rests};
+use crate::team::Team;
 use game_model::{Marks, Question};
 use game_outside::OutOfMemory;
 use inductive_check::replies;
 use std::alloc::Global;
 use std::thread::Threads;
-use team_tables::Team;
 use upper_guess::{Witnesses, guess_with};
 
 /// An upper table, and the minimiser's replies to it.

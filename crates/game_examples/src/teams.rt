@@ -6,6 +6,7 @@ ghost use Rattle.drawn_game.specs.Limits.{fewest_states, most_seed};
 ghost use Rattle.game_model.specs.Dual.{IsZeroSet};
 ghost use Rattle.game_model.specs.Query.{states};
 
+use bracket_engine::Team;
 use drawn_game::draw_game;
 use expectations::same;
 use game_model::{Game, Marks, Question, Side, UNIT};
@@ -13,7 +14,6 @@ use sample_games::{chain, four_states, question_of};
 use std::alloc::{AllocError, Global};
 use std::test::Fail;
 use std::thread::Threads;
-use team_tables::Team;
 use upper_guess::{Alone, UpTables, Witnesses, guess_with};
 use zero_sets::zero_set;
 

@@ -8,10 +8,10 @@ ghost use Rattle.play_components.specs.Division.{states_of};
 use crate::approach::NONE;
 use crate::frame::{Frame, is_open};
 use crate::staying::{Staying, stays};
-use choice_flags::ChoiceFlags;
 use game_model::{Marks, Question};
 use game_outside::OutOfMemory;
 use play_components::Components;
+use predecessors::ChoiceFlags;
 use std::alloc::Global;
 
 /// The most times that components are divided once more.

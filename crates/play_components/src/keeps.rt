@@ -3,10 +3,10 @@
 ghost use Rattle.std.specs.Prelude.{◌≡◌, ℕ, ◌<◌, Bool, true, length};
 ghost use Rattle.game_model.specs.Game.{choices_of, choices_below};
 ghost use Rattle.game_model.specs.Query.{Query, states};
-ghost use Rattle.choice_flags.specs.Flags.{flag};
+ghost use Rattle.predecessors.specs.Flags.{flag};
 
-use choice_flags::ChoiceFlags;
 use game_model::Question;
+use predecessors::ChoiceFlags;
 
 /// What keeps choices of a question.
 pub trait Keeps {

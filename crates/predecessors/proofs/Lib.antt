@@ -6,3 +6,5 @@ pub mod Cuts
 pub mod Listed
 pub mod Successors
 pub mod Marking
+pub mod Numbers
+pub mod Flagged

@@ -11,3 +11,5 @@ pub mod Swept
 pub mod Valued
 pub mod NextValues
 pub mod SolvedPlans
+pub mod SureLines
+pub mod DrawnReports

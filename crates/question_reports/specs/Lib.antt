@@ -4,3 +4,5 @@ pub mod Reports
 pub mod Sweeps
 pub mod Valued
 pub mod Solved
+pub mod Sure
+pub mod Made

@@ -1,6 +1,6 @@
 //! Laws of reports. Each function does nothing; its contract is the law.
 
-ghost use Rattle.std.specs.Prelude.{◌<◌, ◌-◌, ℕ, slice_index};
+ghost use Rattle.std.specs.Prelude.{◌≡◌, ◌<◌, ◌-◌, ℕ, List, slice_index};
 ghost use Rattle.game_model.specs.Bounds.{Reaches};
 ghost use Rattle.game_model.specs.Limits.{unit};
 ghost use Rattle.game_model.specs.Query.{Query, states};
@@ -8,6 +8,10 @@ ghost use Rattle.plan_text.specs.declared.plan.Plan.{Plan};
 ghost use Rattle.plan_text.specs.Entries.{HasStates};
 ghost use Rattle.certificate_audit.specs.Accepted.{IsSoundPlan, Passes};
 ghost use Rattle.nested_truth.specs.Rest.{IsBelowRest, IsNearRest};
+ghost use Rattle.run_answers.specs.declared.status.Status.TheVariants.{Fine};
+ghost use Rattle.question_reports.specs.Made.{IsMade};
+
+use bracket_engine::laws::{lower_tables_agree, settled_bases_agree, settled_upper_bounds_agree};
 
 /// Bounds that are mirrored when they are printed, of `G`, are sound: the lower one is at most 1 less every k-step
 /// value of the dual, and 1 less some k-step value, less any 1/m, is at most the upper one. So it is of every plan that
@@ -18,3 +22,14 @@ pub fn mirrored_bounds_are_sound()
         → IsBelowRest q s (unit - slice_index plan.upper.items s)
         × IsNearRest q s (unit - slice_index plan.lower.items s) }
 {}
+
+/// With status 0 the line of `make` is the same for the same seed and number of states, whatever the rounds that were
+/// asked for, the workers and their schedules.
+pub fn settled_games_agree()
+    ensures { (seed states asked other_asked : ℕ) (text other : List ℕ) → IsMade seed states asked text Fine
+        → IsMade seed states other_asked other Fine → text ≡ other }
+{
+    settled_bases_agree();
+    lower_tables_agree();
+    settled_upper_bounds_agree();
+}

@@ -2,10 +2,10 @@
 
 ghost use Rattle.std.specs.Prelude.{◌≡◌, IfOk, length};
 
-use choice_flags::ChoiceFlags;
 use expectations::{holds, same};
 use game_model::{Game, Side};
 use play_components::{Components, KeepsAll};
+use predecessors::ChoiceFlags;
 use sample_games::{coin_loop, game_of, question_of};
 use std::alloc::Global;
 use std::test::Fail;

@@ -5,14 +5,13 @@ ghost use Rattle.game_model.specs.Game.{choices_of};
 ghost use Rattle.game_model.specs.Query.{states};
 ghost use Rattle.play_components.specs.Division.{states_of};
 
-use choice_flags::ChoiceFlags;
 use expectations::{holds, same};
 use fixed_bellman::{down_state, up_state};
 use float_games::{Bound, Draft, FloatGame};
 use game_model::{Game, Question, Side, UNIT};
 use local_values::{refine, solve};
 use play_components::Components;
-use predecessors::Predecessors;
+use predecessors::{ChoiceFlags, Predecessors};
 use random_games::{Draw, Shape, random_game};
 use sample_games::{game_of, question_of};
 use std::alloc::Global;

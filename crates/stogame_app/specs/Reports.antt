@@ -19,8 +19,8 @@ use Rattle.question_reports.specs.Sweeps.{IsWithinReport, IsNextReport}
 use Rattle.question_reports.specs.Nested.{IsNestedReport}
 use Rattle.question_reports.specs.Audits.{IsAudit}
 use Rattle.question_reports.specs.Solved.{IsSolved}
-use Rattle.drawn_report.specs.Made.{IsMade}
-use Rattle.sure_report.specs.Sure.{IsSure}
+use Rattle.question_reports.specs.Made.{IsMade}
+use Rattle.question_reports.specs.Sure.{IsSure}
 use Rattle.stogame_app.specs.Status.{sure_status}
 use Rattle.stogame_app.specs.Commands.{check_paths}
 

@@ -8,7 +8,7 @@
 //! what is reported in
 //! `specs/Reports.antt`, and what is refused, missing or accepted in `specs/Commands.antt`. The reports themselves are
 //! made in
-//! `question_reports`, `sure_report` and `drawn_report`.
+//! `question_reports`.
 #![tactic(auto)]
 
 mod audit;

@@ -8,8 +8,8 @@ ghost use Rattle.stogame_app.specs.Reports.{IsReportOfWords};
 
 use asked_files::End;
 use command_words::MakeWords;
-use drawn_report::drawn_report;
 use game_outside::Gate;
+use question_reports::drawn_report;
 use run_answers::Answer;
 use std::alloc::Global;
 use std::thread::Threads;

@@ -11,9 +11,9 @@ ghost use Rattle.stogame_app.specs.Answers.{IsAnswered, IsMadeOf};
 use asked_files::{End, Loaded, Paths, load_model, pose_loaded};
 use command_words::AskedWords;
 use game_outside::Shelf;
+use question_reports::sure_report;
 use run_answers::{Answer, Status};
 use std::alloc::Global;
-use sure_report::sure_report;
 
 /// The report of `sure`, or why there is none.
 pub fn answer_sure<H: Shelf>(

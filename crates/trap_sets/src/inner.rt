@@ -3,13 +3,13 @@
 ghost use Rattle.std.specs.Prelude.{◌≡◌, ◌<◌, length};
 ghost use Rattle.game_model.specs.Game.{choices_of};
 ghost use Rattle.game_model.specs.Query.{states};
-ghost use Rattle.choice_flags.specs.Flags.{AreFlags};
+ghost use Rattle.predecessors.specs.Flags.{AreFlags};
 ghost use Rattle.trap_sets.specs.Parts.{IsInner};
 ghost use Rattle.trap_sets.specs.OfCut.{states_in};
 
 use crate::cut::Cut;
-use choice_flags::ChoiceFlags;
 use game_outside::OutOfMemory;
+use predecessors::ChoiceFlags;
 use std::alloc::Global;
 
 /// The parts of a cut question, and for each choice, in the order of the game, whether it is inner.

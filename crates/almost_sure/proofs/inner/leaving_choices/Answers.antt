@@ -1,6 +1,6 @@
 use Rattle.std.proofs.Common.{rules}
 use Rattle.std.proofs.lemmas.Result.{IfOk-weaker}
-use Rattle.choice_flags.proofs.Answers.{AreAnswers-say}
+use Rattle.predecessors.proofs.Flagged.{AreAnswers-say}
 use Rattle.almost_sure.proofs.inner.leaving_choices.Goals as goal
 
 pub returns : goal.returns

@@ -1,5 +1,5 @@
 use Rattle.std.proofs.Common.{rules}
-use Rattle.choice_flags.proofs.Answers.{AreAnswers-say}
+use Rattle.predecessors.proofs.Flagged.{AreAnswers-say}
 use Rattle.trap_sets.proofs.inner.Inner.of_parts.Goals as goal
 
 pub invariant_of-result-clause-flagged : goal.invariant_of-result-clause-flagged

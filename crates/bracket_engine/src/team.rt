@@ -1,0 +1,36 @@
+//! Workers who fill tables together, each the entries of some states in a row. Nothing is said of which worker runs
+//! when, nor that two of them run at once.
+
+ghost use Rattle.std.specs.Prelude.{◌≤◌};
+ghost use Rattle.std.specs.Thread.{IsSync};
+
+use game_model::Question;
+use std::thread::{Threads, for_each_chunk_mut};
+use upper_guess::{UpTables, fill_part};
+
+/// Workers who fill the up step of a table together. Where they are W, a part has the number of states over W, rounded
+/// up, and worker w the part from w times so many on; the last ones may have none.
+#[derive(Drop)]
+pub struct Team<'a, R: Threads + Sync> {
+    /// What starts their threads.
+    pub rt: &'a R,
+    /// How many they are.
+    pub workers: u32,
+    ghost some: { 1 ≤ workers },
+}
+
+impl<R: Threads + Sync> UpTables for Team<'_, R> {
+    // They share what starts threads.
+    ghost can_fill = { IsSync R.row };
+
+    fn fill(&self, question: &Question, table: &[u64], next: &mut [u64]) {
+        question.known();
+        let size = question.game().states().div_ceil(self.workers);
+        for_each_chunk_mut(
+            self.rt,
+            next,
+            size as usize,
+            &|first, part| fill_part(question, table, first as u32, part),
+        );
+    }
+}
