@@ -12,7 +12,7 @@ use Rattle.game_model.specs.Rounded.{down_step, up_step}
 use Rattle.fixed_bellman.specs.declared.bounds.Bounds.{Bounds}
 use Rattle.fixed_bellman.specs.Bounds.{lowers, uppers, AreUnits}
 use Rattle.bounded_rounds.specs.Steps.{IsSweep}
-use Rattle.bounded_rounds.specs.Parts.{opened, IsBoundsTable, IsStretch, IsStepped}
+use Rattle.bounded_rounds.specs.inside.Parts.{opened, IsBoundsTable, IsStretch, IsStepped}
 use Rattle.bounded_rounds.proofs.Stepping.{Agree, steps_from-next, steps_from-rests, steps_from-same}
 
 -- the bounds past the end of a list

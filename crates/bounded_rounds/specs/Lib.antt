@@ -1,5 +1,4 @@
 pub mod Limits
 pub mod Steps
 pub mod Exact
-pub mod Parts
-pub mod OfTables
+pub mod inside

@@ -2,7 +2,7 @@
 
 ghost use Rattle.std.specs.Prelude.{◌*◌, ◌≤◌, length};
 ghost use Rattle.std.specs.Thread.{IsSync};
-ghost use Rattle.bounded_rounds.specs.OfTables.{IsPartFrom, IsStepOf};
+ghost use Rattle.bounded_rounds.specs.inside.OfTables.{IsPartFrom, IsStepOf};
 
 use crate::part::step_part;
 use crate::tables::Tables;

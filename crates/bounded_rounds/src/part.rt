@@ -4,7 +4,7 @@ ghost use Rattle.std.specs.Prelude.{◌≡◌, ◌+◌, ◌<◌, ◌≤◌, leng
 ghost use Rattle.game_model.specs.Query.{states};
 ghost use Rattle.game_model.specs.Rounded.{down_step, up_step};
 ghost use Rattle.fixed_bellman.specs.Bounds.{lowers, uppers, AreUnits};
-ghost use Rattle.bounded_rounds.specs.OfTables.{IsPartFrom, IsStepOf};
+ghost use Rattle.bounded_rounds.specs.inside.OfTables.{IsPartFrom, IsStepOf};
 
 use crate::tables::Tables;
 use fixed_bellman::{Bounds, step_bounds};

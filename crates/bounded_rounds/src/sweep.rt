@@ -5,7 +5,7 @@ ghost use Rattle.game_model.specs.Query.{states};
 ghost use Rattle.game_model.specs.Limits.{unit};
 ghost use Rattle.fixed_bellman.specs.Bounds.{lowers, uppers, AreUnits};
 ghost use Rattle.bounded_rounds.specs.Limits.{most_steps, most_workers};
-ghost use Rattle.bounded_rounds.specs.Parts.{opened, IsBoundsTable, IsStepped};
+ghost use Rattle.bounded_rounds.specs.inside.Parts.{opened, IsBoundsTable, IsStepped};
 ghost use Rattle.bounded_rounds.specs.Steps.{IsSweep};
 
 use crate::fork::step_chunks;

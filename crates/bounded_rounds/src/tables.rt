@@ -1,6 +1,6 @@
 //! The table that a step reads.
 
-ghost use Rattle.bounded_rounds.specs.Parts.{IsBoundsTable};
+ghost use Rattle.bounded_rounds.specs.inside.Parts.{IsBoundsTable};
 
 use fixed_bellman::Bounds;
 use game_model::Question;

@@ -10,7 +10,7 @@ use Rattle.game_model.specs.Game.{no_edge, weight_to, total_of}
 use Rattle.game_model.specs.Rising.{RiseFrom}
 use Rattle.game_model.proofs.RisingEdges.{RiseFrom-less}
 use Rattle.distributions.specs.Parts.{keep_edge, edges_from, span, gathered}
-use Rattle.distributions.specs.Merging.{heavier, merged_from, StandFrom}
+use Rattle.distributions.specs.inside.Merging.{heavier, merged_from, StandFrom}
 
 -- what an edge gives to a destination
 abbrev pub gives : ℕ → Edge → ℕ

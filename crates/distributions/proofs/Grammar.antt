@@ -10,7 +10,7 @@ use Rattle.std.proofs.Common.{Bor}
 use Rattle.distributions.specs.declared.number.Power.{Power}
 use Rattle.distributions.specs.declared.number.Written.{Written}
 use Rattle.distributions.specs.declared.number.Written.TheVariants.{Point, Line}
-use Rattle.distributions.specs.Written.{exponent_in, spelling_in}
+use Rattle.distributions.specs.inside.Written.{exponent_in, spelling_in}
 use Rattle.distributions.specs.Number.{Exponent, no_exponent, Spelling, Decimal, Quotient, AreDigits, SpellsBack, SpellsSign, SpellsExponent, SpellsDecimal, SpellsQuotient, Spells, digits_len, leading_digits, behind_digits, exponent_digits, exponent_of, decimal_of, quotient_of, behind_front, spelling_of}
 
 -- which way a test went

@@ -5,7 +5,7 @@ use Rattle.std.proofs.lemmas.List.{take_all, append-nil}
 use Rattle.text_lines.specs.Text.{is_digit, all_digits, value_onto}
 use Rattle.distributions.specs.declared.tens.Tens.{Tens}
 use Rattle.distributions.specs.Fraction.{Fraction}
-use Rattle.distributions.specs.Written.{AreDecimal}
+use Rattle.distributions.specs.inside.Written.{AreDecimal}
 use Rattle.distributions.specs.Number.{Decimal, Spells, no_exponent, fraction_said, spelling_said, number_said}
 use Rattle.distributions.proofs.Grammar.{spelling_of-again}
 use Rattle.distributions.proofs.Said.{point-said}

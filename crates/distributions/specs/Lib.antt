@@ -2,6 +2,5 @@ pub mod Limits
 pub mod Divisors
 pub mod Fraction
 pub mod Number
-pub mod Written
 pub mod Parts
-pub mod Merging
+pub mod inside

@@ -4,7 +4,7 @@ ghost use Rattle.std.specs.Prelude.{◌≡◌, ◌<◌, ◌≤◌, ◌+◌, ◌^
 ghost use Rattle.game_model.specs.declared.game.Edge.{Edge};
 ghost use Rattle.game_model.specs.Game.{IsRising, no_edge, total_of, weight_to};
 ghost use Rattle.distributions.specs.Parts.{gathered, keep_edge};
-ghost use Rattle.distributions.specs.Merging.{merged_from, StandFrom};
+ghost use Rattle.distributions.specs.inside.Merging.{merged_from, StandFrom};
 ghost use Rattle.game_model.specs.Rising.{RiseFrom};
 
 use game_model::Edge;

@@ -4,7 +4,7 @@ ghost use Rattle.std.specs.Prelude.{◌≡◌, ◌≤◌, ◌<◌, ◌+◌, ◌*
 ghost use Rattle.text_lines.specs.Text.{is_nil, all_digits, value_onto};
 ghost use Rattle.distributions.specs.Limits.{most_digits};
 ghost use Rattle.distributions.specs.Number.{number_said, leading_digits, behind_digits, digits_len, exponent_digits, exponent_of, decimal_of, behind_front, spelling_of, quotient_of, spelling_said, Decimal, Quotient};
-ghost use Rattle.distributions.specs.Written.{exponent_in, spelling_in};
+ghost use Rattle.distributions.specs.inside.Written.{exponent_in, spelling_in};
 
 use crate::fraction::Frac;
 use crate::limits::{MOST_DIGITS, MOST_EXPONENT, MOST_EXPONENT_DIGITS};

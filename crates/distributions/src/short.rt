@@ -2,7 +2,7 @@
 
 ghost use Rattle.std.specs.Prelude.{◌≡◌, IfSome};
 ghost use Rattle.distributions.specs.Number.{number_said, fraction_said};
-ghost use Rattle.distributions.specs.Written.{AreDecimal};
+ghost use Rattle.distributions.specs.inside.Written.{AreDecimal};
 
 use crate::tens::Tens;
 

@@ -6,7 +6,7 @@ use Rattle.std.proofs.lemmas.List.{set_split, get_or_default}
 use Rattle.std.proofs.lemmas.List.Sums.{sum_by-cons}
 use Rattle.game_model.specs.declared.game.Edge.{Edge}
 use Rattle.game_model.specs.Game.{total_of}
-use Rattle.drawn_game.specs.Adding.{with_part}
+use Rattle.drawn_game.specs.inside.Adding.{with_part}
 
 pub with_part-before : (e part : Edge) (edges : List Edge) → part.to < e.to → with_part (e ∷ edges) part ≡ part ∷ e ∷ edges
 with_part-before e part edges h =

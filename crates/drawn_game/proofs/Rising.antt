@@ -10,7 +10,7 @@ use Rattle.game_model.specs.Game.{IsRising, weight_to, total_of}
 use Rattle.game_model.specs.Rising.{RiseFrom}
 use Rattle.game_model.proofs.RisingEdges.{RiseFrom-less, IsRising-from, weighty-from}
 use Rattle.drawn_game.specs.Parts.{added_up}
-use Rattle.drawn_game.specs.Adding.{with_part}
+use Rattle.drawn_game.specs.inside.Adding.{with_part}
 use Rattle.drawn_game.proofs.Adding.{with_part-before, with_part-at, with_part-behind, with_part-some, total_of-with_part}
 
 -- the edges of these weights to n states from `first` on

@@ -3,6 +3,6 @@ pub mod Drawings
 pub mod Parts
 pub mod Rules
 pub mod Asked
-pub mod Adding
 pub mod Ends
 pub mod Worked
+pub mod inside

@@ -3,7 +3,7 @@
 ghost use Rattle.std.specs.Prelude.{◌≡◌, ◌+◌, ◌^◌, ◌<◌, ◌≤◌, IfOk, OnOk};
 ghost use Rattle.game_model.specs.Game.{total_of};
 ghost use Rattle.drawn_game.specs.Limits.{fewest_states};
-ghost use Rattle.drawn_game.specs.Adding.{with_part};
+ghost use Rattle.drawn_game.specs.inside.Adding.{with_part};
 ghost use Rattle.drawn_game.specs.Rules.{drawn_choice};
 
 use crate::draws::Draws;

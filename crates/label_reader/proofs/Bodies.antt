@@ -7,7 +7,7 @@ use Rattle.label_reader.specs.Header.{Item, and_then}
 use Rattle.label_reader.specs.Lines.{StateLine, state_line, known_line, with_line, add_line}
 use Rattle.game_outside.specs.Answers.{AnswersOrWants}
 use Rattle.label_reader.specs.Texts.{fault_at, then_at, lines_from, made_of, IsOutOfMemory}
-use Rattle.label_reader.specs.Behind.{AnswersBehind}
+use Rattle.label_reader.specs.inside.Behind.{AnswersBehind}
 
 -- a line that is added to those before it
 pub record IsAdded (kind : FileKind) (n : ℕ) (items : List Item) (read : List StateLine) (line : List ℕ) (After : List StateLine → Type 0) : Type 0 where

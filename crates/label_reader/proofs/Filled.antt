@@ -5,13 +5,13 @@ use Rattle.std.specs.List.{range_with_len}
 use Rattle.std.proofs.lemmas.List.{length-map, get_or-map, ext_get_or}
 use Rattle.std.proofs.lemmas.List.FromFn.{get_or-map-range_with_len, length-map-range_with_len}
 use Rattle.label_reader.specs.Header.{Item}
-use Rattle.label_reader.specs.Placed.{items_of, item_at, indices_of}
+use Rattle.label_reader.specs.inside.Placed.{items_of, item_at, indices_of}
 use Rattle.label_reader.specs.Labels.{Label}
 use Rattle.label_reader.specs.Named.{names_of, labels_named, places_of}
 use Rattle.label_reader.specs.Lines.{StateLine, said_of}
 use Rattle.label_reader.specs.Texts.{is_said, label_from, owner_place}
-use Rattle.label_reader.specs.Marked.{AreMarked}
-use Rattle.label_reader.specs.Owned.{first_of, AreRead}
+use Rattle.label_reader.specs.inside.Marked.{AreMarked}
+use Rattle.label_reader.specs.inside.Owned.{first_of, AreRead}
 
 abbrev Entries : Type 0
 Entries = List (Vec ℕ Global × ℕ)

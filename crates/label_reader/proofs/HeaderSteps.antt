@@ -13,7 +13,7 @@ use Rattle.label_reader.specs.declared.kind.FileKind.{FileKind}
 use Rattle.label_reader.specs.declared.faults.LabCause.TheVariants.{OverLimit, DoubleIndex, DoubleName}
 use Rattle.label_reader.specs.Limits.{greatest_index}
 use Rattle.label_reader.specs.Header.{Item, place_of, has_index, has_name, passes_limit, most_items, with_item, saturated_item}
-use Rattle.label_reader.specs.Placed.{item_at, items_of, indices_of, Places, AreSingle, ArePlaced}
+use Rattle.label_reader.specs.inside.Placed.{item_at, items_of, indices_of, Places, AreSingle, ArePlaced}
 use Rattle.label_reader.specs.Named.{names_of}
 use Rattle.label_reader.proofs.Indexed.{place_of-push_other, place_of-push_new}
 

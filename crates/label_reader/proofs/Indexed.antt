@@ -6,7 +6,7 @@ use Rattle.std.proofs.lemmas.Bool.Decides.{nat_tests}
 use Rattle.text_lines.specs.Text.{saturated}
 use Rattle.label_reader.specs.Limits.{greatest_index}
 use Rattle.label_reader.specs.Header.{Item, place_of}
-use Rattle.label_reader.specs.Placed.{indices_of}
+use Rattle.label_reader.specs.inside.Placed.{indices_of}
 
 abbrev pub place_step : Item → List Item → ℕ → Bool → Option ℕ
 place_step item items index v = cond v (Some 0) (option_map (λ k. k + 1) (place_of items index))

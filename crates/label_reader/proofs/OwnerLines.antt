@@ -6,7 +6,7 @@ use Rattle.label_reader.specs.declared.faults.LabCause.{LabCause}
 use Rattle.label_reader.specs.declared.faults.LabCause.TheVariants.{TwoOwners}
 use Rattle.label_reader.specs.Header.{Item, and_then}
 use Rattle.label_reader.specs.Lines.{StateLine, numbered, state_line, known_fields, with_line, add_line}
-use Rattle.label_reader.specs.Owned.{all_at, owner_behind, AreRead}
+use Rattle.label_reader.specs.inside.Owned.{all_at, owner_behind, AreRead}
 use Rattle.label_reader.proofs.Bodies.{IsAdded, add_line-known, add_line-unknown}
 use Rattle.label_reader.proofs.KnownLines.{line_with, known_line-known, known_line-fault, known_fields-all}
 use Rattle.label_reader.proofs.Owning.{owner_next, owner_next-known, with_line-agrees, with_line-clashes, AreRead-line}

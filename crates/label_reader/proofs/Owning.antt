@@ -13,7 +13,7 @@ use Rattle.label_reader.specs.declared.faults.LabCause.{LabCause}
 use Rattle.label_reader.specs.declared.faults.LabCause.TheVariants.{TwoOwners}
 use Rattle.label_reader.specs.Header.{Item, place_of, has_place, has_index, and_then}
 use Rattle.label_reader.specs.Lines.{StateLine, number_in, said_of, all_same, with_line, known_fields}
-use Rattle.label_reader.specs.Owned.{first_of, first_in, owner_then, is_at, all_at, AreRead}
+use Rattle.label_reader.specs.inside.Owned.{first_of, first_in, owner_then, is_at, all_at, AreRead}
 use Rattle.label_reader.proofs.Indexed.{place_of-within, index_at_place}
 use Rattle.label_reader.proofs.KnownLines.{line_with}
 use Rattle.label_reader.proofs.Marking.{placed_field}

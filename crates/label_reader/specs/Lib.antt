@@ -1,7 +1,3 @@
-pub mod Marked
-pub mod Owned
-pub mod Behind
-pub mod Placed
 pub mod Named
 pub mod Labels
 pub mod Limits
@@ -11,3 +7,4 @@ pub mod Lines
 pub mod Texts
 pub mod Refused
 pub mod Denotes
+pub mod inside

@@ -26,7 +26,7 @@ pub struct Header {
 impl Model for Header {
     ghost use Rattle.std.specs.Prelude.{List};
     ghost use Rattle.label_reader.specs.Header.{Item};
-    ghost use Rattle.label_reader.specs.Placed.{items_of, ArePlaced};
+    ghost use Rattle.label_reader.specs.inside.Placed.{items_of, ArePlaced};
 
     ghost Value = { List Item };
 
@@ -36,7 +36,7 @@ impl Model for Header {
 }
 
 impl Header {
-    ghost use Rattle.label_reader.specs.Placed.{AreSingle, items_of};
+    ghost use Rattle.label_reader.specs.inside.Placed.{AreSingle, items_of};
 
     /// No item.
     pub fn new(alloc: Global) -> Header

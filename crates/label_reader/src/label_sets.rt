@@ -3,10 +3,10 @@
 ghost use Rattle.std.specs.Prelude.{◌≡◌, ◌<◌, false, Some, length, replicate, slice_index_or, All, IfOk, OnOk, ℕ};
 ghost use Rattle.text_lines.specs.Text.{fields_of};
 ghost use Rattle.label_reader.specs.declared.kind.FileKind.TheVariants.{LabelFile};
-ghost use Rattle.label_reader.specs.Behind.{AnswersBehind};
+ghost use Rattle.label_reader.specs.inside.Behind.{AnswersBehind};
 ghost use Rattle.label_reader.specs.Lines.{known_fields};
-ghost use Rattle.label_reader.specs.Marked.{with_mark, with_marks, AreMarked};
-ghost use Rattle.label_reader.specs.Placed.{AreSingle};
+ghost use Rattle.label_reader.specs.inside.Marked.{with_mark, with_marks, AreMarked};
+ghost use Rattle.label_reader.specs.inside.Placed.{AreSingle};
 ghost use Rattle.label_reader.specs.Texts.{labelling, is_said};
 
 use crate::faults::{LabCause, LabFault};

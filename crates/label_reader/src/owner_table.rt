@@ -3,8 +3,8 @@
 ghost use Rattle.std.specs.Prelude.{◌≡◌, ◌<◌, Some, None, length, slice_index_or, slice_set, unwrap_or, All};
 ghost use Rattle.text_lines.specs.Text.{fields_of};
 ghost use Rattle.label_reader.specs.declared.kind.FileKind.TheVariants.{OwnerFile};
-ghost use Rattle.label_reader.specs.Behind.{AnswersBehind};
-ghost use Rattle.label_reader.specs.Owned.{owner_behind, AreRead};
+ghost use Rattle.label_reader.specs.inside.Behind.{AnswersBehind};
+ghost use Rattle.label_reader.specs.inside.Owned.{owner_behind, AreRead};
 ghost use Rattle.label_reader.specs.Texts.{ownership};
 
 use crate::faults::{LabCause, LabFault};

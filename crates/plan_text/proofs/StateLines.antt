@@ -8,7 +8,7 @@ use Rattle.plan_text.specs.declared.fault.PlanCause.TheVariants.{BadLine, Missin
 use Rattle.plan_text.specs.declared.version.Version.{Version}
 use Rattle.plan_text.specs.Entries.{Entry}
 use Rattle.plan_text.specs.Said.{fault_at, then_at, line_said, entries_from}
-use Rattle.plan_text.specs.Read.{first_said, end_said}
+use Rattle.plan_text.specs.inside.Read.{first_said, end_said}
 
 -- one more entry is read
 abbrev pub more_from : Version → ℕ → List Entry → ℕ → List (List ℕ) → Entry → Result (List Entry) PlanFault

@@ -11,7 +11,7 @@ use Rattle.plan_text.specs.declared.fault.PlanCause.TheVariants.{MissingLine}
 use Rattle.plan_text.specs.declared.version.Version.{Version}
 use Rattle.plan_text.specs.Entries.{Entry}
 use Rattle.plan_text.specs.Said.{fault_at, then_at, line_said, entries_from}
-use Rattle.plan_text.specs.Read.{end_said}
+use Rattle.plan_text.specs.inside.Read.{end_said}
 use Rattle.plan_text.specs.Certificate.{IsEntryLine, AreEntryLines}
 use Rattle.plan_text.proofs.StateLines.{more_from, all_read, entries_from-end}
 use Rattle.plan_text.proofs.CertificatesReadBack.{keep_line-some}

@@ -4,5 +4,5 @@ pub mod Entries
 pub mod Written
 pub mod Said
 pub mod Certificate
-pub mod Read
 pub mod Laws
+pub mod inside

@@ -5,7 +5,7 @@ ghost use Rattle.std.specs.Prelude.{◌≡◌, option_map, IfOk};
 ghost use Rattle.text_lines.specs.Text.{fields_of, saturated};
 ghost use Rattle.plan_text.specs.Entries.{IsInRange};
 ghost use Rattle.plan_text.specs.Said.{line_said, entry_in, units_of, choice_in, is_small, is_in_range};
-ghost use Rattle.plan_text.specs.Read.{saturated_entry};
+ghost use Rattle.plan_text.specs.inside.Read.{saturated_entry};
 
 use crate::fault::PlanCause;
 use crate::version::Version;

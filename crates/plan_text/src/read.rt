@@ -6,7 +6,7 @@ ghost use Rattle.text_lines.specs.Text.{lines_of, fields_of, is_nil, significant
 ghost use Rattle.plan_text.specs.Entries.{HasStates, IsInRange, entries_of};
 ghost use Rattle.plan_text.specs.Said.{IsOutOfMemory, entries_said, entries_from};
 ghost use Rattle.game_outside.specs.Answers.{AnswersOrWants};
-ghost use Rattle.plan_text.specs.Read.{first_said, end_said};
+ghost use Rattle.plan_text.specs.inside.Read.{first_said, end_said};
 
 use crate::entry::StateLine;
 use crate::fault::{PlanCause, PlanFault};

@@ -6,7 +6,7 @@ ghost use Rattle.game_model.specs.Rounded.{down_step};
 ghost use Rattle.value_words.specs.Passes.{IsOf, Grew, seen_by, won_by, parts_of};
 ghost use Rattle.predecessors.specs.Marks.{IsMarked};
 ghost use Rattle.round_workers.specs.Share.{IsSwept, most_workers};
-ghost use Rattle.round_workers.specs.Teams.{IsTeam, AreHalves};
+ghost use Rattle.round_workers.specs.inside.Teams.{IsTeam, AreHalves};
 
 use crate::sweep::{Rounded, Task, meet, sweep};
 use crate::team::Team;

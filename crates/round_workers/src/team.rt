@@ -22,7 +22,7 @@ pub struct Team {
 
 impl Team {
     ghost use Rattle.std.specs.Prelude.{◌≡◌, ◌-◌, length};
-    ghost use Rattle.round_workers.specs.Teams.{IsTeam, AreHalves};
+    ghost use Rattle.round_workers.specs.inside.Teams.{IsTeam, AreHalves};
 
     /// All workers of a round.
     pub fn all(game: &Game, workers: u32) -> Team

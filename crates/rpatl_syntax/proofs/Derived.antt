@@ -6,7 +6,7 @@ use Rattle.rpatl_syntax.specs.declared.levels.Level.{Level}
 use Rattle.rpatl_syntax.specs.declared.levels.Level.TheVariants.{Implication, Disjunction, Conjunction}
 use Rattle.rpatl_syntax.specs.Fault.{◌>>=◌}
 use Rattle.rpatl_syntax.specs.Formula.{State, True, False, Label, Not, And, Or, Implies, Path, Tree, inner_of}
-use Rattle.rpatl_syntax.specs.Levels.{operand_of}
+use Rattle.rpatl_syntax.specs.inside.Levels.{operand_of}
 use Rattle.rpatl_syntax.specs.Tokens.{Tokens, Then, Token, count_of}
 use Rattle.rpatl_syntax.specs.Grammar.{Reading, next, behind, is, is_quoted, unquoted, begins_formula, fails, plain, opens, coalition, inner_bound, tree_with, inner, sides, bracketed, path, unary, follows, where_next, further, joined, both, either, implied, negated, closed, inside_of, nested}
 use Rattle.rpatl_syntax.specs.Rules.{between, IsCoalition, IsState, IsEither, IsBoth, IsUnary, IsPath, plain_state, implies, plain_either, or, plain_both, and, negation, brackets, everywhere, nowhere, label, inside}

@@ -1,7 +1,7 @@
 -- The tokens behind a token.
 use Rattle.std.proofs.Common.{◌≡◌, ◌∙◌, ◌+◌, ◌-◌, ◌<◌, ◌≤◌, ℕ, zero, suc, List, [], ◌∷◌, length, take, drop, ap, sym, subst, arith}
 use Rattle.rpatl_syntax.specs.declared.tokens.Lead.{Lead}
-use Rattle.rpatl_syntax.specs.Cursor.{Leads}
+use Rattle.rpatl_syntax.specs.inside.Cursor.{Leads}
 use Rattle.rpatl_syntax.specs.declared.front.Front.TheVariants.{Spelling}
 use Rattle.rpatl_syntax.specs.Tokens.{Tokens, Then, in_front, tokens_from, front_from}
 

@@ -3,7 +3,7 @@
 ghost use Rattle.std.specs.Prelude.{◌≡◌};
 ghost use Rattle.rpatl_syntax.specs.Fault.{IsResult};
 ghost use Rattle.rpatl_syntax.specs.Grammar.{steps, deadline};
-ghost use Rattle.rpatl_syntax.specs.Cursor.{tokens_at, token_of, kind_at};
+ghost use Rattle.rpatl_syntax.specs.inside.Cursor.{tokens_at, token_of, kind_at};
 
 use crate::cursor::Cursor;
 use crate::fault::{FormulaCause, FormulaFault};

@@ -54,7 +54,7 @@ pub enum Comparison {
 }
 
 impl Comparison {
-    ghost use Rattle.rpatl_syntax.specs.Bounds.{bound_with};
+    ghost use Rattle.rpatl_syntax.specs.inside.Bounds.{bound_with};
 
     /// The bound that compares with this threshold.
     pub fn bound(self, threshold: Frac) -> Bound

@@ -1,7 +1,7 @@
 //! What stands at the front of a text.
 
 ghost use Rattle.std.specs.Prelude.{◌≡◌, ◌≤◌, ◌<◌, ◌+◌, length};
-ghost use Rattle.rpatl_syntax.specs.Cursor.{Fits};
+ghost use Rattle.rpatl_syntax.specs.inside.Cursor.{Fits};
 ghost use Rattle.rpatl_syntax.specs.Limits.{longest};
 ghost use Rattle.rpatl_syntax.specs.Tokens.{in_number, is_long_sign, short_sign, word_length, number_length, name_from, sign_from, is_blank, front_from};
 

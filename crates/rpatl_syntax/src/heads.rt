@@ -3,9 +3,9 @@
 ghost use Rattle.std.specs.Prelude.{◌≡◌, ◌++◌, ◌∷◌, [], OnOk, IfErr};
 ghost use Rattle.game_outside.specs.Answers.{AnswersOrWants};
 ghost use Rattle.rpatl_syntax.specs.Fault.{IsResult, IsOutOfMemory};
-ghost use Rattle.rpatl_syntax.specs.Bounds.{bound_with};
+ghost use Rattle.rpatl_syntax.specs.inside.Bounds.{bound_with};
 ghost use Rattle.rpatl_syntax.specs.Grammar.{names, coalition, threshold, comparison, bound, inner_bound, compared, is_word};
-ghost use Rattle.rpatl_syntax.specs.Cursor.{tokens_at, token_of, names_at, team_at, bound_at};
+ghost use Rattle.rpatl_syntax.specs.inside.Cursor.{tokens_at, token_of, names_at, team_at, bound_at};
 
 use crate::cursor::Cursor;
 use crate::fault::{FormulaCause, FormulaFault};

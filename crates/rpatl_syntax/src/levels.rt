@@ -3,7 +3,7 @@
 ghost use Rattle.std.specs.Prelude.{◌≡◌, MatchResult, option_map};
 ghost use Rattle.rpatl_syntax.specs.Fault.{IsOutOfMemory};
 ghost use Rattle.rpatl_syntax.specs.Formula.{state_of, names_of, Not, Inner};
-ghost use Rattle.rpatl_syntax.specs.Levels.{sign_of, join_of};
+ghost use Rattle.rpatl_syntax.specs.inside.Levels.{sign_of, join_of};
 
 use crate::fault::{FormulaCause, FormulaFault};
 use crate::formula::{Bound, Formula, Names, PathKind, StateFormula};

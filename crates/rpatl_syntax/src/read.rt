@@ -5,7 +5,7 @@ ghost use Rattle.game_outside.specs.Answers.{AnswersOrWants};
 ghost use Rattle.rpatl_syntax.specs.Fault.{IsOutOfMemory};
 ghost use Rattle.rpatl_syntax.specs.Formula.{tree_of, names_of};
 ghost use Rattle.rpatl_syntax.specs.Grammar.{formula, formula_said, behind_bound};
-ghost use Rattle.rpatl_syntax.specs.Cursor.{tokens_at};
+ghost use Rattle.rpatl_syntax.specs.inside.Cursor.{tokens_at};
 
 use crate::cursor::Cursor;
 use crate::fault::{FormulaCause, FormulaFault};

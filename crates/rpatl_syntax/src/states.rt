@@ -5,8 +5,8 @@ ghost use Rattle.game_outside.specs.Answers.{AnswersOrWants};
 ghost use Rattle.rpatl_syntax.specs.Fault.{IsOutOfMemory};
 ghost use Rattle.rpatl_syntax.specs.Formula.{state_of, names_of};
 ghost use Rattle.rpatl_syntax.specs.Grammar.{plain, begins_formula, unary, inner, sides, nested, implied, right_side, reached, path, unquoted};
-ghost use Rattle.rpatl_syntax.specs.Levels.{level_of, operand_of};
-ghost use Rattle.rpatl_syntax.specs.Cursor.{tokens_at, token_of, state_at, path_at};
+ghost use Rattle.rpatl_syntax.specs.inside.Levels.{level_of, operand_of};
+ghost use Rattle.rpatl_syntax.specs.inside.Cursor.{tokens_at, token_of, state_at, path_at};
 
 use crate::cursor::Cursor;
 use crate::deadlines::read_deadline;

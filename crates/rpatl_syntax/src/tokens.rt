@@ -5,7 +5,7 @@ ghost use Rattle.rpatl_syntax.specs.Fault.{IsResult, fault_at};
 ghost use Rattle.rpatl_syntax.specs.Grammar.{next, behind, follows, is_number};
 ghost use Rattle.rpatl_syntax.specs.Tokens.{Finish, Broken, Then, tokens_from};
 ghost use Rattle.rpatl_syntax.specs.Limits.{longest};
-ghost use Rattle.rpatl_syntax.specs.Cursor.{tokens_at, token_of, Leads};
+ghost use Rattle.rpatl_syntax.specs.inside.Cursor.{tokens_at, token_of, Leads};
 
 use crate::cursor::Cursor;
 use crate::fault::{FormulaCause, FormulaFault};

@@ -23,7 +23,7 @@ use Rattle.run_answers.specs.declared.answer.Answer.{Answer}
 use Rattle.run_answers.specs.Status.{IsAnswer}
 use Rattle.stogame_app.specs.Commands.{IsMissing, ReadsFiles, RefusesIt, check_paths}
 use Rattle.stogame_app.specs.Reports.{IsReportOfWords}
-use Rattle.stogame_app.specs.Answers.{IsAnswered, IsMadeOf}
+use Rattle.stogame_app.specs.inside.Answers.{IsAnswered, IsMadeOf}
 
 -- 1. An end is the same of another answer.
 

@@ -17,7 +17,7 @@ use Rattle.run_answers.specs.declared.status.Status.TheVariants.{Fine, SomeFalse
 use Rattle.stogame_app.specs.Status.{IsRefusal, refused_status}
 use Rattle.run_answers.specs.Status.{IsAnswer}
 use Rattle.stogame_app.specs.Commands.{ReadsFiles, RefusesIt}
-use Rattle.stogame_app.specs.Answers.{IsAnswered}
+use Rattle.stogame_app.specs.inside.Answers.{IsAnswered}
 use Rattle.stogame_app.specs.Reports.{IsReportOfWords}
 use Rattle.stogame_app.specs.Run.{AnswersWords, AsksShelf, IsEnding, IsLong, IsOutput, IsRefusalOfWords, RefusesWords, Writes}
 

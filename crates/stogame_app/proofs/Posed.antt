@@ -19,7 +19,7 @@ use Rattle.asked_files.specs.Posed.{HasSizes}
 use Rattle.asked_files.specs.SeenProblems.{IsOfLoaded, problem_of}
 use Rattle.question_reports.specs.Sweeps.{IsOpening, opens}
 use Rattle.question_reports.specs.Nested.{IsAnswerable}
-use Rattle.stogame_app.specs.Posed.{IsReportable}
+use Rattle.stogame_app.specs.inside.Posed.{IsReportable}
 
 -- the unit or 0, and which of them it is
 opens-at : (held : Bool) (value : ℕ) → value ≡ cond held unit 0 → (value ≤ unit) × (value ≡ cond (value == unit) unit 0)

@@ -6,7 +6,7 @@ ghost use Rattle.command_words.specs.Words.{OfAudit, audit_of};
 ghost use Rattle.asked_files.specs.Loading.{LoadingLeaves};
 ghost use Rattle.asked_files.specs.Posed.{HasSizes, reading_of};
 ghost use Rattle.asked_files.specs.Questions.{Reads};
-ghost use Rattle.stogame_app.specs.Answers.{IsAnswered};
+ghost use Rattle.stogame_app.specs.inside.Answers.{IsAnswered};
 
 use asked_files::{End, Loaded, Paths, load_certificate, load_model, pose_loaded};
 use command_words::AuditWords;

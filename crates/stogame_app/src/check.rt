@@ -11,9 +11,9 @@ ghost use Rattle.asked_files.specs.Problems.{initial_of, states_of};
 ghost use Rattle.asked_files.specs.Questions.{Reads};
 ghost use Rattle.asked_files.specs.SeenProblems.{HasDual, IsOfKind, problem_of};
 ghost use Rattle.run_answers.specs.Status.{IsAnswer};
-ghost use Rattle.stogame_app.specs.Answers.{IsAnswered, IsMadeOf};
+ghost use Rattle.stogame_app.specs.inside.Answers.{IsAnswered, IsMadeOf};
 ghost use Rattle.stogame_app.specs.Commands.{check_paths};
-ghost use Rattle.stogame_app.specs.Posed.{IsReportable};
+ghost use Rattle.stogame_app.specs.inside.Posed.{IsReportable};
 ghost use Rattle.stogame_app.specs.Reports.{Checks, IsReportOfWords};
 
 use asked_files::{End, Loaded, Paths, Problem, load_model, pose_loaded};

@@ -6,7 +6,7 @@ ghost use Rattle.game_outside.specs.Outside.{Holding, Rose};
 ghost use Rattle.command_words.specs.Words.{command_of};
 ghost use Rattle.run_answers.specs.Status.{IsAnswer};
 ghost use Rattle.stogame_app.specs.Commands.{IsInRange};
-ghost use Rattle.stogame_app.specs.Answers.{IsAnswered};
+ghost use Rattle.stogame_app.specs.inside.Answers.{IsAnswered};
 ghost use Rattle.stogame_app.specs.Run.{AsksShelf, IsAcceptedOfWords, IsEnding, IsReadable};
 
 use crate::audit::answer_audit;

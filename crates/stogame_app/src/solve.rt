@@ -7,7 +7,7 @@ ghost use Rattle.command_words.specs.Words.{OfSolve, solve_of};
 ghost use Rattle.asked_files.specs.Loading.{LoadingLeaves};
 ghost use Rattle.asked_files.specs.Posed.{HasSizes, reading_of};
 ghost use Rattle.asked_files.specs.Questions.{Reads};
-ghost use Rattle.stogame_app.specs.Answers.{IsAnswered};
+ghost use Rattle.stogame_app.specs.inside.Answers.{IsAnswered};
 
 use asked_files::{End, Loaded, Paths, load_model, load_values, pose_loaded};
 use command_words::SolveWords;

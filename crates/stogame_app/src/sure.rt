@@ -6,7 +6,7 @@ ghost use Rattle.command_words.specs.Words.{OfSure, asked_of_words};
 ghost use Rattle.asked_files.specs.Posed.{HasSizes, reading_of};
 ghost use Rattle.stogame_app.specs.Status.{sure_status};
 ghost use Rattle.run_answers.specs.Status.{IsAnswer};
-ghost use Rattle.stogame_app.specs.Answers.{IsAnswered, IsMadeOf};
+ghost use Rattle.stogame_app.specs.inside.Answers.{IsAnswered, IsMadeOf};
 
 use asked_files::{End, Loaded, Paths, load_model, pose_loaded};
 use command_words::AskedWords;

@@ -9,8 +9,8 @@ use Rattle.tra_reader.specs.Limits.{most_stated_choices}
 use Rattle.tra_reader.specs.declared.line.Transition.{Transition}
 use Rattle.tra_reader.specs.Lines.{is_of}
 use Rattle.tra_reader.specs.Choices.{transitions_of, part_of, parts_of}
-use Rattle.tra_reader.specs.Order.{From, Rises, IsWithin, place_of, transition_place}
-use Rattle.tra_reader.specs.GrowingGames.{NoneBetween}
+use Rattle.tra_reader.specs.inside.Order.{From, Rises, IsWithin, place_of, transition_place}
+use Rattle.tra_reader.specs.inside.GrowingGames.{NoneBetween}
 use Rattle.tra_reader.proofs.Ends.{AreSmall, small_more}
 use Rattle.tra_reader.proofs.Stays.{same_other}
 

@@ -9,7 +9,7 @@ use Rattle.tra_reader.specs.Limits.{most_stated_choices}
 use Rattle.tra_reader.specs.declared.line.Transition.{Transition}
 use Rattle.tra_reader.specs.Lines.{is_of}
 use Rattle.tra_reader.specs.Choices.{transitions_of, choice_end, least_missing, first_gap, of_state}
-use Rattle.tra_reader.specs.Order.{has, place_of, transition_place}
+use Rattle.tra_reader.specs.inside.Order.{has, place_of, transition_place}
 use Rattle.tra_reader.proofs.Decisions.{cases_lt}
 use Rattle.tra_reader.proofs.Rows.{same_place}
 

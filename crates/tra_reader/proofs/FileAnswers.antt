@@ -10,8 +10,8 @@ use Rattle.tra_reader.specs.declared.halt.Halt.{Halt}
 use Rattle.tra_reader.specs.declared.halt.Halt.TheVariants as halt
 use Rattle.game_outside.specs.Answers.{AnswersOrWants}
 use Rattle.tra_reader.specs.Faults.{IsOutOfMemory}
-use Rattle.tra_reader.specs.Reading.{IsAnswer}
-use Rattle.tra_reader.specs.Ordered.{text_fault}
+use Rattle.tra_reader.specs.inside.Reading.{IsAnswer}
+use Rattle.tra_reader.specs.inside.Ordered.{text_fault}
 use Rattle.tra_reader.specs.FileEnds.{is_out_of_memory, without_want_of, in_order_of}
 
 of_text : (holding : Option Holding) (name : List ℕ) (limit : ℕ) (P Q : List ℕ → Type 0) → ((text : List ℕ) → P text → Q text) → HeldTextWith holding name limit P → HeldTextWith holding name limit Q

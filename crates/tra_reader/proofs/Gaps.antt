@@ -14,9 +14,9 @@ use Rattle.tra_reader.specs.declared.whole_choices.WholeChoices.{WholeChoices}
 use Rattle.tra_reader.specs.Faults.{fault_of_all}
 use Rattle.distributions.specs.declared.choice.Part.{Part}
 use Rattle.tra_reader.specs.Choices.{part_of, parts_of, transitions_of, choice_end, sum_of_first, first_crowded, states_said, unless_gap, unless_crowded, if_as_stated, transitions_game}
-use Rattle.tra_reader.specs.Order.{IsWithin, place_of}
-use Rattle.tra_reader.specs.Answers.{LeadsInside}
-use Rattle.tra_reader.specs.GrowingGames.{AreCounted, AreDrafted, HaveFault, HasGap, IsMade, IsWhole, place_behind, NoneBetween, AreWholeBefore, IsReady, IfBuilds, IsAsStated}
+use Rattle.tra_reader.specs.inside.Order.{IsWithin, place_of}
+use Rattle.tra_reader.specs.inside.Answers.{LeadsInside}
+use Rattle.tra_reader.specs.inside.GrowingGames.{AreCounted, AreDrafted, HaveFault, HasGap, IsMade, IsWhole, place_behind, NoneBetween, AreWholeBefore, IsReady, IfBuilds, IsAsStated}
 use Rattle.tra_reader.proofs.Decisions.{cases_lt}
 use Rattle.tra_reader.proofs.Ends.{AreSmall, none_of_high, above_of, one_missing, gap_here, gap_stays}
 

@@ -11,8 +11,8 @@ use Rattle.tra_reader.specs.declared.progress.Progress.TheVariants.{Builds, OutO
 use Rattle.tra_reader.specs.declared.whole_choices.WholeChoices.{WholeChoices}
 use Rattle.tra_reader.specs.Lines.{is_of}
 use Rattle.tra_reader.specs.Choices.{transitions_of, part_of, parts_of}
-use Rattle.tra_reader.specs.Order.{IsWithin, place_of, transition_place}
-use Rattle.tra_reader.specs.GrowingGames.{IsWhole, IsMade, place_behind, AreWholeBefore, EndsBefore, GoesTo, Growing, place_under_way, HoldsInOrder}
+use Rattle.tra_reader.specs.inside.Order.{IsWithin, place_of, transition_place}
+use Rattle.tra_reader.specs.inside.GrowingGames.{IsWhole, IsMade, place_behind, AreWholeBefore, EndsBefore, GoesTo, Growing, place_under_way, HoldsInOrder}
 use Rattle.std.proofs.lemmas.List.Elements.{All-push, All-weaker}
 use Rattle.tra_reader.proofs.Ends.{AreSmall}
 use Rattle.tra_reader.proofs.Stays.{same_other, made_stays}

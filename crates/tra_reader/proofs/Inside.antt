@@ -8,7 +8,7 @@ use Rattle.game_model.specs.Game.{Distribution, weight_to}
 use Rattle.distributions.specs.Parts.{Denotes, weighted}
 use Rattle.tra_reader.specs.declared.line.Transition.{Transition}
 use Rattle.tra_reader.specs.Choices.{part_of}
-use Rattle.tra_reader.specs.Answers.{LeadsInside}
+use Rattle.tra_reader.specs.inside.Answers.{LeadsInside}
 use Rattle.tra_reader.proofs.Decisions.{cases_lt, below_ne}
 
 at_least : {X : Type 0} (f : X → ℕ) (xs : List X) (i : ℕ) (d : X) → i < length xs → f (get_or xs i d) ≤ sum_by f xs

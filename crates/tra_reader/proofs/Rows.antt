@@ -9,8 +9,8 @@ use Rattle.tra_reader.specs.Limits.{most_stated_choices}
 use Rattle.tra_reader.specs.declared.header.Header.{Header}
 use Rattle.tra_reader.specs.declared.fault.TraCause.TheVariants.{FieldCount, LineCount, ActionClash}
 use Rattle.tra_reader.specs.Lines.{Row, is_of, first_action, clashes, row_said, action_checked, line_said}
-use Rattle.tra_reader.specs.Order.{IsWithin, has, place_of}
-use Rattle.tra_reader.specs.Answers.{row_place, action_at, clashes_at}
+use Rattle.tra_reader.specs.inside.Order.{IsWithin, has, place_of}
+use Rattle.tra_reader.specs.inside.Answers.{row_place, action_at, clashes_at}
 use Rattle.tra_reader.proofs.Decisions.{lt_test}
 
 pub same_place : (s c i k : ℕ) → c < 4000000 → k < 4000000 → ((s == i) && (c == k)) ≡ ((4000000 * s + c) == (4000000 * i + k))

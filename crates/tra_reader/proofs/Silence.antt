@@ -8,9 +8,9 @@ use Rattle.std.specs.Str.{bytes_eq}
 use Rattle.tra_reader.specs.declared.line.Transition.{Transition}
 use Rattle.tra_reader.specs.Lines.{Row}
 use Rattle.tra_reader.specs.Text.{transitions}
-use Rattle.tra_reader.specs.Order.{has}
-use Rattle.tra_reader.specs.Answers.{row_place, clashes_at}
-use Rattle.tra_reader.specs.Noted.{AreSilent, silent_rows}
+use Rattle.tra_reader.specs.inside.Order.{has}
+use Rattle.tra_reader.specs.inside.Answers.{row_place, clashes_at}
+use Rattle.tra_reader.specs.inside.Noted.{AreSilent, silent_rows}
 
 abbrev pub with_action : Transition → List ℕ → Row
 with_action transition action = record { transition = transition; action = action }

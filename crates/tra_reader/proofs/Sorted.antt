@@ -4,7 +4,7 @@ use Rattle.std.specs.List.{filter}
 use Rattle.tra_reader.specs.Limits.{most_stated_choices}
 use Rattle.tra_reader.specs.declared.line.Transition.{Transition}
 use Rattle.tra_reader.specs.Choices.{transitions_of}
-use Rattle.tra_reader.specs.Order.{From, has, place_of, transition_place}
+use Rattle.tra_reader.specs.inside.Order.{From, has, place_of, transition_place}
 use Rattle.tra_reader.proofs.Decisions.{cases_lt}
 use Rattle.tra_reader.proofs.Ends.{AreSmall, of_at, none_of_high}
 

@@ -11,8 +11,8 @@ use Rattle.tra_reader.specs.declared.progress.Progress.{Progress}
 use Rattle.tra_reader.specs.declared.progress.Progress.TheVariants.{Builds, Faulty, Crowded, Gap, OutOfMemory}
 use Rattle.tra_reader.specs.Lines.{is_of}
 use Rattle.tra_reader.specs.Choices.{transitions_of, choice_end}
-use Rattle.tra_reader.specs.Order.{place_of, transition_place}
-use Rattle.tra_reader.specs.GrowingGames.{AreCounted, AreDrafted, HaveFault, HasGap, IsMade}
+use Rattle.tra_reader.specs.inside.Order.{place_of, transition_place}
+use Rattle.tra_reader.specs.inside.GrowingGames.{AreCounted, AreDrafted, HaveFault, HasGap, IsMade}
 use Rattle.tra_reader.proofs.Ends.{end_alike}
 use Rattle.tra_reader.proofs.Alike.{SameFirst, choices_alike, states_alike, gap_alike, crowded_alike, sum_alike}
 

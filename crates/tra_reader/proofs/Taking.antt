@@ -10,7 +10,7 @@ use Rattle.game_outside.specs.Answers.{AnswersOrWants}
 use Rattle.tra_reader.specs.Faults.{fault_at, fault_of_all, IsOutOfMemory}
 use Rattle.tra_reader.specs.Lines.{Row, row_said, header_said, behind, rows_said, clashes}
 use Rattle.tra_reader.specs.Text.{lines_game, rows_game, behind_header}
-use Rattle.tra_reader.specs.Reading.{HasFault, IsAnswer, IsRight, Begins, TakesLine, AddsRow, RefusesLine, RefusesRow, Finishes, clash_of, at_first_line}
+use Rattle.tra_reader.specs.inside.Reading.{HasFault, IsAnswer, IsRight, Begins, TakesLine, AddsRow, RefusesLine, RefusesRow, Finishes, clash_of, at_first_line}
 use Rattle.tra_reader.proofs.Rows.{said_with}
 
 pub filled : (fields : List (List ℕ)) → fields ≢ [] → is_nil fields ≡ false

@@ -9,10 +9,10 @@ use Rattle.distributions.specs.declared.choice.Part.{Part}
 use Rattle.tra_reader.specs.declared.line.Transition.{Transition}
 use Rattle.tra_reader.specs.Lines.{Row}
 use Rattle.tra_reader.specs.Text.{transitions}
-use Rattle.tra_reader.specs.Order.{has, transition_place}
-use Rattle.tra_reader.specs.Answers.{row_place, action_at}
-use Rattle.tra_reader.specs.GrowingGames.{Growing, HoldsInOrder, place_under_way}
-use Rattle.tra_reader.specs.ActionUnderWay.{IsActionUnderWay, ComparesAction}
+use Rattle.tra_reader.specs.inside.Order.{has, transition_place}
+use Rattle.tra_reader.specs.inside.Answers.{row_place, action_at}
+use Rattle.tra_reader.specs.inside.GrowingGames.{Growing, HoldsInOrder, place_under_way}
+use Rattle.tra_reader.specs.inside.ActionUnderWay.{IsActionUnderWay, ComparesAction}
 use Rattle.tra_reader.proofs.Decisions.{below_ne}
 use Rattle.tra_reader.proofs.Noting.{noted_stays, newly_noted}
 

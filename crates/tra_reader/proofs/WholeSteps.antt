@@ -21,9 +21,9 @@ use Rattle.tra_reader.specs.Lines.{is_of}
 use Rattle.tra_reader.specs.declared.fault.TraCause.TheVariants.{Choice}
 use Rattle.tra_reader.specs.Faults.{fault_of_all}
 use Rattle.tra_reader.specs.Choices.{transitions_of, part_of, parts_of, choice_end, first_gap, first_crowded, if_crowded, least_missing, self_loop, sum_of_first, then_push, choice_at, choices_said, state_said, states_said}
-use Rattle.tra_reader.specs.Order.{IsWithin}
-use Rattle.tra_reader.specs.Answers.{LeadsInside}
-use Rattle.tra_reader.specs.GrowingGames.{AreCounted, AreDrafted, HaveFault, IsMade, IsBuilt, IsChoiceFault, progress_of, ended}
+use Rattle.tra_reader.specs.inside.Order.{IsWithin}
+use Rattle.tra_reader.specs.inside.Answers.{LeadsInside}
+use Rattle.tra_reader.specs.inside.GrowingGames.{AreCounted, AreDrafted, HaveFault, IsMade, IsBuilt, IsChoiceFault, progress_of, ended}
 use Rattle.tra_reader.proofs.Decisions.{cases_lt, lt_test, ge_test}
 use Rattle.tra_reader.proofs.Ends.{end_is, none_missing, no_gap}
 use Rattle.tra_reader.proofs.Inside.{inside}

@@ -4,12 +4,4 @@ pub mod FileEnds
 pub mod Lines
 pub mod Choices
 pub mod Text
-pub mod Order
-pub mod Answers
-pub mod GrowingGames
-pub mod OfGrowing
-pub mod Reading
-pub mod Noted
-pub mod ActionUnderWay
-pub mod Ordered
-pub mod AnyOrder
+pub mod inside

@@ -27,8 +27,8 @@ pub struct FirstActions {
 impl FirstActions {
     ghost use Rattle.std.specs.Prelude.{◌==◌, ◌++◌, ◌∷◌, [], IfOk, OnOk, List, Some, if◌then◌else◌};
     ghost use Rattle.tra_reader.specs.Lines.{Row};
-    ghost use Rattle.tra_reader.specs.Answers.{clashes_at, row_place};
-    ghost use Rattle.tra_reader.specs.Noted.{noted, silent_rows, Notes};
+    ghost use Rattle.tra_reader.specs.inside.Answers.{clashes_at, row_place};
+    ghost use Rattle.tra_reader.specs.inside.Noted.{noted, silent_rows, Notes};
 
     /// No action so far.
     pub fn new(alloc: Global) -> FirstActions

@@ -3,8 +3,8 @@
 ghost use Rattle.std.specs.Prelude.{◌≡◌, ◌≢◌, ◌≤◌, ◌<◌, [], ℕ, List, IfOk, OnOk, MatchResult, length};
 ghost use Rattle.std.specs.List.{All};
 ghost use Rattle.text_lines.specs.Text.{fields_of};
-ghost use Rattle.tra_reader.specs.Order.{IsWithin};
-ghost use Rattle.tra_reader.specs.Answers.{IsAccepted};
+ghost use Rattle.tra_reader.specs.inside.Order.{IsWithin};
+ghost use Rattle.tra_reader.specs.inside.Answers.{IsAccepted};
 
 use crate::body::{blank_between, check_count, first_line, no_header, read_row};
 use crate::build::build;
@@ -35,7 +35,7 @@ impl AnyLines {
 }
 
 impl LineReader for AnyLines {
-    ghost use Rattle.tra_reader.specs.AnyOrder.{AnyRight};
+    ghost use Rattle.tra_reader.specs.inside.AnyOrder.{AnyRight};
 
     type Made = Game;
 
@@ -80,7 +80,7 @@ pub struct AnyRows {
 }
 
 impl AnyRows {
-    ghost use Rattle.tra_reader.specs.AnyOrder.{BeginsAny, TakesAny, RefusesAny, AddsAny, RefusesAnyRow, FinishesAny};
+    ghost use Rattle.tra_reader.specs.inside.AnyOrder.{BeginsAny, TakesAny, RefusesAny, AddsAny, RefusesAnyRow, FinishesAny};
 
     /// No row behind the header of this line.
     pub fn begin(alloc: Global, line: &[u8]) -> Result<AnyRows, TraFault>

@@ -5,9 +5,9 @@ ghost use Rattle.text_lines.specs.Text.{fields_of};
 ghost use Rattle.tra_reader.specs.Limits.{most_lines};
 ghost use Rattle.tra_reader.specs.Faults.{fault_at, fault_of_all};
 ghost use Rattle.tra_reader.specs.Lines.{header_said};
-ghost use Rattle.tra_reader.specs.Order.{IsWithin};
-ghost use Rattle.tra_reader.specs.Answers.{IsAccepted};
-ghost use Rattle.tra_reader.specs.Reading.{RowAnswer, at_first_line};
+ghost use Rattle.tra_reader.specs.inside.Order.{IsWithin};
+ghost use Rattle.tra_reader.specs.inside.Answers.{IsAccepted};
+ghost use Rattle.tra_reader.specs.inside.Reading.{RowAnswer, at_first_line};
 
 use crate::fault::{TraCause, TraFault};
 use crate::header::{Header, read_header};

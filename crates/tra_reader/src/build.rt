@@ -4,8 +4,8 @@ ghost use Rattle.std.specs.List.{All};
 ghost use Rattle.game_outside.specs.Answers.{AnswersOrWants};
 ghost use Rattle.tra_reader.specs.Faults.{IsOutOfMemory};
 ghost use Rattle.tra_reader.specs.Choices.{transitions_game};
-ghost use Rattle.tra_reader.specs.Order.{IsWithin, Rises, transition_place};
-ghost use Rattle.tra_reader.specs.Answers.{IsAccepted};
+ghost use Rattle.tra_reader.specs.inside.Order.{IsWithin, Rises, transition_place};
+ghost use Rattle.tra_reader.specs.inside.Answers.{IsAccepted};
 
 use crate::fault::TraFault;
 use crate::game_in_order::GameInOrder;

@@ -6,8 +6,8 @@ ghost use Rattle.game_outside.specs.Files.{LeavesShelf, ReadsFile};
 ghost use Rattle.game_outside.specs.Answers.{AnswersOrWants};
 ghost use Rattle.tra_reader.specs.Faults.{IsOutOfMemory};
 ghost use Rattle.tra_reader.specs.Text.{game_of};
-ghost use Rattle.tra_reader.specs.Reading.{IsAnswer};
-ghost use Rattle.tra_reader.specs.Ordered.{text_fault};
+ghost use Rattle.tra_reader.specs.inside.Reading.{IsAnswer};
+ghost use Rattle.tra_reader.specs.inside.Ordered.{text_fault};
 ghost use Rattle.tra_reader.specs.FileEnds.{RefusesCaused, is_out_of_memory, in_order_of, without_want_of};
 
 use crate::any_order::AnyLines;

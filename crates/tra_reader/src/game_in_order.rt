@@ -5,8 +5,8 @@ ghost use Rattle.game_model.specs.Limits.{most_states};
 ghost use Rattle.game_outside.specs.Answers.{AnswersOrWants};
 ghost use Rattle.tra_reader.specs.Faults.{IsOutOfMemory};
 ghost use Rattle.tra_reader.specs.Choices.{transitions_game};
-ghost use Rattle.tra_reader.specs.Order.{IsWithin, transition_place};
-ghost use Rattle.tra_reader.specs.GrowingGames.{place_under_way, HoldsInOrder};
+ghost use Rattle.tra_reader.specs.inside.Order.{IsWithin, transition_place};
+ghost use Rattle.tra_reader.specs.inside.GrowingGames.{place_under_way, HoldsInOrder};
 
 use crate::fault::TraFault;
 use crate::line::{Transition, place_at};
@@ -27,11 +27,11 @@ pub struct GameInOrder {
 }
 
 impl Model for GameInOrder {
-    ghost use Rattle.tra_reader.specs.GrowingGames.{Growing};
+    ghost use Rattle.tra_reader.specs.inside.GrowingGames.{Growing};
 
     ghost Value = { Growing };
 
-    ghost use Rattle.tra_reader.specs.OfGrowing.{growing_of, IsGrowing};
+    ghost use Rattle.tra_reader.specs.inside.OfGrowing.{growing_of, IsGrowing};
 
     ghost view = { growing_of };
 

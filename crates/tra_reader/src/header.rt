@@ -3,7 +3,7 @@
 ghost use Rattle.std.specs.Prelude.{◌≡◌, ◌<◌, ℕ, Option, Result, Ok, Err, option_map, IfOk};
 ghost use Rattle.text_lines.specs.Text.{fields_of, number_of, saturated};
 ghost use Rattle.tra_reader.specs.Lines.{header_said, header_checked, mdp_header, dtmc_header};
-ghost use Rattle.tra_reader.specs.Answers.{IsAccepted};
+ghost use Rattle.tra_reader.specs.inside.Answers.{IsAccepted};
 
 use crate::fault::TraCause;
 use crate::limits::{MOST_LINES, MOST_STATED_CHOICES};

@@ -4,8 +4,8 @@ ghost use Rattle.std.specs.Prelude.{◌≡◌, ◌<◌, [], ℕ, Option, Some, R
 ghost use Rattle.text_lines.specs.Text.{fields_of, saturated};
 ghost use Rattle.distributions.specs.Number.{number_said};
 ghost use Rattle.tra_reader.specs.Lines.{mdp_parts, dtmc_parts, parts_said, row_said, transition_said, transition_within};
-ghost use Rattle.tra_reader.specs.Order.{IsWithin, place_of};
-ghost use Rattle.tra_reader.specs.Answers.{SaysRow, IsLastField};
+ghost use Rattle.tra_reader.specs.inside.Order.{IsWithin, place_of};
+ghost use Rattle.tra_reader.specs.inside.Answers.{SaysRow, IsLastField};
 
 use crate::fault::TraCause;
 use crate::header::Header;
@@ -23,7 +23,7 @@ pub struct Transition {
 }
 
 impl Transition {
-    ghost use Rattle.tra_reader.specs.Order.{transition_place};
+    ghost use Rattle.tra_reader.specs.inside.Order.{transition_place};
     ghost use Rattle.tra_reader.specs.Choices.{part_of};
 
     /// The place of the line's choice in the order of all choices.

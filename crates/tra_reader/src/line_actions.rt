@@ -3,8 +3,8 @@
 ghost use Rattle.std.specs.Prelude.{◌≡◌, ◌++◌, ◌∷◌, [], List, IfOk, OnOk, false};
 ghost use Rattle.tra_reader.specs.Lines.{Row};
 ghost use Rattle.tra_reader.specs.Text.{transitions};
-ghost use Rattle.tra_reader.specs.Answers.{clashes_at, row_place};
-ghost use Rattle.tra_reader.specs.Noted.{Notes, NotesLines};
+ghost use Rattle.tra_reader.specs.inside.Answers.{clashes_at, row_place};
+ghost use Rattle.tra_reader.specs.inside.Noted.{Notes, NotesLines};
 
 use crate::actions::FirstActions;
 use crate::line::Transition;

@@ -2,7 +2,7 @@
 
 ghost use Rattle.std.specs.Prelude.{◌≡◌, ℕ, OnOk, length};
 ghost use Rattle.std.specs.List.{filter, All};
-ghost use Rattle.tra_reader.specs.Order.{Rises, IsWithin, has, transition_place};
+ghost use Rattle.tra_reader.specs.inside.Order.{Rises, IsWithin, has, transition_place};
 
 use crate::line::Transition;
 use std::alloc::AllocError;

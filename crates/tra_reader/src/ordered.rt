@@ -2,12 +2,12 @@
 
 ghost use Rattle.std.specs.Prelude.{◌≡◌, ◌≢◌, ◌≤◌, ◌<◌, [], ℕ, List, IfOk, OnOk, MatchResult, length};
 ghost use Rattle.text_lines.specs.Text.{fields_of};
-ghost use Rattle.tra_reader.specs.Order.{IsWithin, transition_place};
+ghost use Rattle.tra_reader.specs.inside.Order.{IsWithin, transition_place};
 ghost use Rattle.tra_reader.specs.Lines.{Row};
 ghost use Rattle.tra_reader.specs.Text.{transitions};
-ghost use Rattle.tra_reader.specs.Answers.{IsAccepted, row_place};
-ghost use Rattle.tra_reader.specs.GrowingGames.{HoldsInOrder, place_under_way};
-ghost use Rattle.tra_reader.specs.ActionUnderWay.{IsActionUnderWay, ComparesAction};
+ghost use Rattle.tra_reader.specs.inside.Answers.{IsAccepted, row_place};
+ghost use Rattle.tra_reader.specs.inside.GrowingGames.{HoldsInOrder, place_under_way};
+ghost use Rattle.tra_reader.specs.inside.ActionUnderWay.{IsActionUnderWay, ComparesAction};
 
 use crate::body::{blank_between, check_count, first_line, no_header, read_row};
 use crate::fault::TraFault;
@@ -39,7 +39,7 @@ impl OrderedLines {
 }
 
 impl LineReader for OrderedLines {
-    ghost use Rattle.tra_reader.specs.Ordered.{OrderedRight};
+    ghost use Rattle.tra_reader.specs.inside.Ordered.{OrderedRight};
 
     type Made = Game;
 
@@ -86,7 +86,7 @@ pub struct OrderedRows {
 
 impl OrderedRows {
     ghost use Rattle.std.specs.Prelude.{false, true, ◌==◌, ◌++◌, ◌∷◌, Some};
-    ghost use Rattle.tra_reader.specs.Ordered.{BeginsOrdered, TakesOrdered, RefusesOrdered, AddsOrdered, RefusesOrderedRow, FinishesOrdered};
+    ghost use Rattle.tra_reader.specs.inside.Ordered.{BeginsOrdered, TakesOrdered, RefusesOrdered, AddsOrdered, RefusesOrderedRow, FinishesOrdered};
 
     /// No row behind the header of this line.
     pub fn begin(alloc: Global, line: &[u8]) -> Result<OrderedRows, TraFault>

@@ -3,7 +3,7 @@
 ghost use Rattle.std.specs.Prelude.{◌≡◌, ◌≤◌, IfOk, IfErr};
 ghost use Rattle.game_model.specs.Limits.{most_choices};
 ghost use Rattle.tra_reader.specs.Choices.{self_loop};
-ghost use Rattle.tra_reader.specs.GrowingGames.{IsBuilt, IsChoiceFault, EndsChoice, EndsState, CrowdsState, NotesGap, ended, progress_of};
+ghost use Rattle.tra_reader.specs.inside.GrowingGames.{IsBuilt, IsChoiceFault, EndsChoice, EndsState, CrowdsState, NotesGap, ended, progress_of};
 
 use crate::fault::TraFault;
 use crate::limits::MOST_LINES;

@@ -6,8 +6,8 @@ ghost use Rattle.tra_reader.specs.Limits.{most_stated_choices};
 ghost use Rattle.game_outside.specs.Answers.{AnswersOrWants};
 ghost use Rattle.tra_reader.specs.Faults.{IsOutOfMemory};
 ghost use Rattle.tra_reader.specs.Choices.{transitions_game};
-ghost use Rattle.tra_reader.specs.Order.{place_of};
-ghost use Rattle.tra_reader.specs.GrowingGames.{IsWhole, place_behind, AddsChoice, EndsStates, EndsBefore, GoesTo, IsReady, IfBuilds, IsAsStated};
+ghost use Rattle.tra_reader.specs.inside.Order.{place_of};
+ghost use Rattle.tra_reader.specs.inside.GrowingGames.{IsWhole, place_behind, AddsChoice, EndsStates, EndsBefore, GoesTo, IsReady, IfBuilds, IsAsStated};
 
 use crate::fault::{TraCause, TraFault};
 use crate::progress::Progress;

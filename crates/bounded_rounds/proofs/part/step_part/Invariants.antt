@@ -1,5 +1,5 @@
 use Rattle.std.proofs.Common.{◌-◌, ◌≤◌, length}
-use Rattle.bounded_rounds.specs.Parts.{IsStepped}
+use Rattle.bounded_rounds.specs.inside.Parts.{IsStepped}
 use Rattle.bounded_rounds.proofs.part.step_part.Given as goal
 
 abbrev pub invariant-loop-from : goal.invariant-loop-from

@@ -1,4 +1,4 @@
-use Rattle.bounded_rounds.specs.Parts.{IsStepped}
+use Rattle.bounded_rounds.specs.inside.Parts.{IsStepped}
 use Rattle.bounded_rounds.proofs.part.step_stretch.Given as goal
 
 abbrev pub invariant-loop-place : goal.invariant-loop-place

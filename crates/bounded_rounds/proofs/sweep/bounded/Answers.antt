@@ -3,7 +3,7 @@ use Rattle.std.specs.Prelude.{slice_index, All}
 use Rattle.game_model.specs.Limits.{unit}
 use Rattle.fixed_bellman.specs.declared.bounds.Bounds.{Bounds}
 use Rattle.fixed_bellman.specs.Bounds.{lowers, uppers}
-use Rattle.bounded_rounds.specs.Parts.{IsBoundsTable}
+use Rattle.bounded_rounds.specs.inside.Parts.{IsBoundsTable}
 use Rattle.bounded_rounds.specs.Steps.{IsSweep}
 use Rattle.bounded_rounds.proofs.Parts.{IsBoundsTable-opened, lowers-opened, uppers-opened, lowers-units, uppers-units}
 use Rattle.bounded_rounds.proofs.sweep.bounded.Goals as goal

@@ -3,7 +3,7 @@ use Rattle.std.proofs.lemmas.List.{length-map, take_at}
 use Rattle.fixed_bellman.specs.declared.bounds.Bounds.{Bounds}
 use Rattle.fixed_bellman.specs.Bounds.{lowers}
 use Rattle.game_model.specs.Query.{states}
-use Rattle.bounded_rounds.specs.Parts.{IsStepped}
+use Rattle.bounded_rounds.specs.inside.Parts.{IsStepped}
 use Rattle.bounded_rounds.specs.Steps.{steps_from}
 use Rattle.bounded_rounds.proofs.Parts.{IsSweep-next, IsSweep-rests, IsBoundsTable-step}
 use Rattle.bounded_rounds.proofs.sweep.iterate.Goals as goal

@@ -2,7 +2,7 @@ use Rattle.std.proofs.Common.{◌≡◌, ◌≤◌, length}
 use Rattle.std.specs.Prelude.{slice_index}
 use Rattle.game_model.specs.Query.{states}
 use Rattle.fixed_bellman.specs.Bounds.{lowers, uppers}
-use Rattle.bounded_rounds.specs.Parts.{IsBoundsTable}
+use Rattle.bounded_rounds.specs.inside.Parts.{IsBoundsTable}
 use Rattle.bounded_rounds.specs.Steps.{IsSweep}
 use Rattle.bounded_rounds.proofs.sweep.iterate.Given as goal
 

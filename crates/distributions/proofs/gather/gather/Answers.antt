@@ -2,7 +2,7 @@ use Rattle.std.proofs.Common.{◌≡◌, ◌∙◌, ◌≤◌, List, sym, ap, su
 use Rattle.std.specs.Prelude.{All}
 use Rattle.game_model.specs.declared.game.Edge.{Edge}
 use Rattle.game_model.specs.Game.{IsRising, no_edge, total_of}
-use Rattle.distributions.specs.Merging.{merged_from}
+use Rattle.distributions.specs.inside.Merging.{merged_from}
 use Rattle.game_model.specs.Rising.{RiseFrom}
 use Rattle.distributions.proofs.Gathering.{gathered-only, merged-rises, merged-gathered, merged-total}
 use Rattle.game_model.proofs.RisingEdges.{IsRising-from, weighty-from}

@@ -1,5 +1,5 @@
 use Rattle.std.proofs.Common.{drop}
-use Rattle.distributions.specs.Merging.{StandFrom}
+use Rattle.distributions.specs.inside.Merging.{StandFrom}
 use Rattle.distributions.proofs.gather.is_ordered.Given as goal
 
 abbrev pub invariant-loop-edge : goal.invariant-loop-edge

@@ -1,6 +1,6 @@
 use Rattle.std.proofs.Common.{◌≡◌, ◌≤◌, ◌+◌, ◌++◌, drop}
 use Rattle.game_model.specs.Game.{no_edge, total_of}
-use Rattle.distributions.specs.Merging.{merged_from}
+use Rattle.distributions.specs.inside.Merging.{merged_from}
 use Rattle.distributions.proofs.gather.merge.Given as goal
 
 abbrev pub invariant-loop-edge : goal.invariant-loop-edge

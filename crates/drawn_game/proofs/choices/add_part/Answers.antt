@@ -1,6 +1,6 @@
 use Rattle.std.proofs.Common.{◌∙◌, ◌++◌, List, sym, ap, take, drop, arith}
 use Rattle.game_model.specs.declared.game.Edge.{Edge}
-use Rattle.drawn_game.specs.Adding.{with_part}
+use Rattle.drawn_game.specs.inside.Adding.{with_part}
 use Rattle.drawn_game.proofs.Adding.{set_added}
 use Rattle.drawn_game.proofs.choices.add_part.Goals as goal
 

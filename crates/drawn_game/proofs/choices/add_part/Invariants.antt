@@ -1,5 +1,5 @@
 use Rattle.std.proofs.Common.{◌≡◌, ◌++◌, take, drop}
-use Rattle.drawn_game.specs.Adding.{with_part}
+use Rattle.drawn_game.specs.inside.Adding.{with_part}
 use Rattle.drawn_game.proofs.choices.add_part.Given as goal
 
 -- the edges are as they were, and the part belongs behind those so far

@@ -3,7 +3,7 @@ use Rattle.std.specs.Prelude.{All}
 use Rattle.game_model.specs.declared.game.Edge.{Edge}
 use Rattle.game_model.specs.Game.{IsRising}
 use Rattle.drawn_game.specs.Drawings.{times}
-use Rattle.drawn_game.specs.Adding.{with_part}
+use Rattle.drawn_game.specs.inside.Adding.{with_part}
 use Rattle.drawn_game.specs.Rules.{other_part}
 use Rattle.drawn_game.proofs.Repeating.{value-times_more, last-times_more}
 use Rattle.drawn_game.proofs.Rising.{AreOfParts, IsPart, first_of_parts, more_of_parts, added_up-rises, added_up-weighty}

@@ -1,8 +1,8 @@
 use Rattle.text_lines.specs.Text.{lines_of, significant}
 use Rattle.label_reader.specs.declared.kind.FileKind.TheVariants.{LabelFile}
-use Rattle.label_reader.specs.Behind.{AnswersBehind}
+use Rattle.label_reader.specs.inside.Behind.{AnswersBehind}
 use Rattle.label_reader.specs.Texts.{labelling, is_said}
-use Rattle.label_reader.specs.Marked.{AreMarked}
+use Rattle.label_reader.specs.inside.Marked.{AreMarked}
 use Rattle.label_reader.proofs.FileAnswers.{says_exactly}
 use Rattle.label_reader.proofs.FileSizes.{labels_of_text_sized}
 use Rattle.label_reader.proofs.label_text.read_labels.Goals as goal

@@ -1,6 +1,6 @@
 use Rattle.std.proofs.Common.{◌≡◌, length}
 use Rattle.text_lines.specs.Text.{fields_of}
-use Rattle.label_reader.specs.Owned.{owner_behind}
+use Rattle.label_reader.specs.inside.Owned.{owner_behind}
 use Rattle.label_reader.proofs.Owning.{owner_if}
 use Rattle.label_reader.proofs.owner_table.owner_behind.Given as goal
 

@@ -1,8 +1,8 @@
 use Rattle.text_lines.specs.Text.{lines_of, significant}
 use Rattle.label_reader.specs.declared.kind.FileKind.TheVariants.{OwnerFile}
-use Rattle.label_reader.specs.Behind.{AnswersBehind}
+use Rattle.label_reader.specs.inside.Behind.{AnswersBehind}
 use Rattle.label_reader.specs.Texts.{ownership}
-use Rattle.label_reader.specs.Owned.{AreRead}
+use Rattle.label_reader.specs.inside.Owned.{AreRead}
 use Rattle.label_reader.proofs.FileAnswers.{says_exactly}
 use Rattle.label_reader.proofs.FileSizes.{owners_of_text_sized}
 use Rattle.label_reader.proofs.owner_text.read_owners.Goals as goal

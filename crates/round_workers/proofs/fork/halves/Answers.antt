@@ -1,7 +1,7 @@
 use Rattle.std.proofs.Common.{ap, sym, ◌∙◌, List, subst}
 use Rattle.game_model.specs.Game.{Distribution}
 use Rattle.game_model.specs.Query.{Query}
-use Rattle.round_workers.specs.Teams.{IsTeam, AreHalves}
+use Rattle.round_workers.specs.inside.Teams.{IsTeam, AreHalves}
 use Rattle.round_workers.proofs.fork.halves.Goals as goal
 
 pub halves-requires-clause-team : goal.halves-requires-clause-team

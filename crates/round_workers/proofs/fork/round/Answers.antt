@@ -1,7 +1,7 @@
 use Rattle.std.proofs.Common.{◌≡◌, ap, ◌∙◌, List, length, subst, arith}
 use Rattle.game_model.specs.Game.{Distribution}
 use Rattle.game_model.specs.Query.{Query, states}
-use Rattle.round_workers.specs.Teams.{IsTeam}
+use Rattle.round_workers.specs.inside.Teams.{IsTeam}
 use Rattle.round_workers.proofs.fork.round.Goals as goal
 
 pub fork-requires-clause-team : goal.fork-requires-clause-team

@@ -1,7 +1,7 @@
 use Rattle.std.proofs.Common.{rules, ◌≡◌, sym, ap, ◌∙◌, inr, Err, true, false, subst, List, ℕ}
 use Rattle.std.specs.Prelude.{bytes_eq, codes}
 use Rattle.rpatl_syntax.specs.Grammar.{names, is_word}
-use Rattle.rpatl_syntax.specs.Cursor.{tokens_at, token_of}
+use Rattle.rpatl_syntax.specs.inside.Cursor.{tokens_at, token_of}
 use Rattle.rpatl_syntax.proofs.Naming.{with_names, no_comma, more_names}
 use Rattle.rpatl_syntax.proofs.heads.read_names.Goals as goal
 

@@ -1,7 +1,7 @@
 use Rattle.std.proofs.Common.{◌≡◌}
 use Rattle.rpatl_syntax.specs.Grammar.{names}
 use Rattle.rpatl_syntax.specs.Tokens.{count_of}
-use Rattle.rpatl_syntax.specs.Cursor.{tokens_at}
+use Rattle.rpatl_syntax.specs.inside.Cursor.{tokens_at}
 use Rattle.rpatl_syntax.proofs.Naming.{with_names}
 use Rattle.rpatl_syntax.proofs.heads.read_names.Given as goal
 

@@ -2,8 +2,8 @@ use Rattle.std.proofs.Common.{◌≡◌, ◌∙◌, ap, sym, subst, arith, Some,
 use Rattle.std.proofs.lemmas.Result.{err_from_is_err_and}
 use Rattle.rpatl_syntax.specs.Formula.{State}
 use Rattle.rpatl_syntax.specs.Grammar.{unary, nested, follows}
-use Rattle.rpatl_syntax.specs.Levels.{sign_of, join_of, level_of, operand_of}
-use Rattle.rpatl_syntax.specs.Cursor.{tokens_at}
+use Rattle.rpatl_syntax.specs.inside.Levels.{sign_of, join_of, level_of, operand_of}
+use Rattle.rpatl_syntax.specs.inside.Cursor.{tokens_at}
 use Rattle.rpatl_syntax.proofs.Derived.{operand_shortens}
 use Rattle.rpatl_syntax.proofs.Joining.{Stands, one_less, went_on, broke_off}
 use Rattle.rpatl_syntax.proofs.states.+state.Goals as goal

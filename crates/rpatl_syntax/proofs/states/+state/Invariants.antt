@@ -1,9 +1,9 @@
 use Rattle.std.proofs.Common.{◌+◌, ◌*◌}
 use Rattle.rpatl_syntax.specs.Formula.{state_of}
 use Rattle.rpatl_syntax.specs.Grammar.{unary, nested}
-use Rattle.rpatl_syntax.specs.Levels.{sign_of, join_of, operand_of, level_of}
+use Rattle.rpatl_syntax.specs.inside.Levels.{sign_of, join_of, operand_of, level_of}
 use Rattle.rpatl_syntax.specs.Tokens.{count_of}
-use Rattle.rpatl_syntax.specs.Cursor.{tokens_at}
+use Rattle.rpatl_syntax.specs.inside.Cursor.{tokens_at}
 use Rattle.rpatl_syntax.proofs.Joining.{rank_of, Stands}
 use Rattle.rpatl_syntax.proofs.states.+state.Given as goal
 

@@ -1,6 +1,6 @@
 use Rattle.std.proofs.Common.{rules, ◌≡◌, ◌∷◌, sym, subst}
 use Rattle.rpatl_syntax.specs.Tokens.{Tokens}
-use Rattle.rpatl_syntax.specs.Cursor.{Leads}
+use Rattle.rpatl_syntax.specs.inside.Cursor.{Leads}
 use Rattle.rpatl_syntax.proofs.Passing.{led_by}
 use Rattle.rpatl_syntax.proofs.tokens.next_lead.Goals as goal
 

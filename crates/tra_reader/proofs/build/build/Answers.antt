@@ -7,7 +7,7 @@ use Rattle.tra_reader.specs.declared.fault.TraFault.{TraFault}
 use Rattle.game_outside.specs.Answers.{AnswersOrWants}
 use Rattle.tra_reader.specs.Faults.{IsOutOfMemory}
 use Rattle.tra_reader.specs.Choices.{transitions_game}
-use Rattle.tra_reader.specs.Order.{IsWithin}
+use Rattle.tra_reader.specs.inside.Order.{IsWithin}
 use Rattle.tra_reader.proofs.Sorted.{same_transitions}
 use Rattle.tra_reader.proofs.Ends.{AreSmall}
 use Rattle.std.proofs.lemmas.List.Elements.{All-weaker}

@@ -4,7 +4,7 @@ use Rattle.tra_reader.specs.declared.fault.TraFault.{TraFault}
 use Rattle.game_outside.specs.Answers.{AnswersOrWants}
 use Rattle.tra_reader.specs.Faults.{IsOutOfMemory}
 use Rattle.tra_reader.specs.Text.{game_of}
-use Rattle.tra_reader.specs.AnyOrder.{any_header, HoldsAny, AnyRight}
+use Rattle.tra_reader.specs.inside.AnyOrder.{any_header, HoldsAny, AnyRight}
 use Rattle.tra_reader.proofs.Taking.{right_whole, given}
 use Rattle.tra_reader.proofs.FileAnswers.{reads_so}
 use Rattle.tra_reader.proofs.file.read_in_any_order.Goals as goal

@@ -1,7 +1,7 @@
 use Rattle.text_lines.specs.Text.{lines_of, significant}
 use Rattle.tra_reader.specs.Text.{game_of}
-use Rattle.tra_reader.specs.Reading.{IsAnswer}
-use Rattle.tra_reader.specs.Ordered.{ordered_header, HoldsOrdered, text_fault, OrderedRight}
+use Rattle.tra_reader.specs.inside.Reading.{IsAnswer}
+use Rattle.tra_reader.specs.inside.Ordered.{ordered_header, HoldsOrdered, text_fault, OrderedRight}
 use Rattle.tra_reader.proofs.Taking.{right_whole}
 use Rattle.tra_reader.proofs.FileAnswers.{reads_so}
 use Rattle.tra_reader.proofs.file.read_in_order.Goals as goal

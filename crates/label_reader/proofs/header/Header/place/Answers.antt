@@ -2,7 +2,7 @@ use Rattle.std.proofs.Common.{◌<◌, ◌∙◌, ap, sym, subst, length, List, 
 use Rattle.std.specs.Option.{IfSome}
 use Rattle.text_lines.specs.Text.{number_of}
 use Rattle.label_reader.specs.Header.{Item, place_of, place_in}
-use Rattle.label_reader.specs.Placed.{items_of}
+use Rattle.label_reader.specs.inside.Placed.{items_of}
 use Rattle.label_reader.proofs.Indexed.{place_in-whole, place_of-within}
 use Rattle.label_reader.proofs.header.Header.place.Goals as goal
 

@@ -2,7 +2,7 @@ use Rattle.std.proofs.Common.{◌≡◌, ◌∙◌, ◌++◌, ◌∷◌, [], ℕ
 use Rattle.std.specs.HashMap.{get}
 use Rattle.std.proofs.lemmas.List.{length-map}
 use Rattle.label_reader.specs.Header.{Item, has_name}
-use Rattle.label_reader.specs.Placed.{item_at, items_of, ArePlaced}
+use Rattle.label_reader.specs.inside.Placed.{item_at, items_of, ArePlaced}
 use Rattle.label_reader.proofs.HeaderSteps.{insert_entry-last, items_of-push, ArePlaced-push, has_index-none}
 use Rattle.label_reader.proofs.header.Header.with.Goals as goal
 

@@ -1,6 +1,6 @@
 use Rattle.label_reader.specs.declared.kind.FileKind.TheVariants.{LabelFile}
 use Rattle.label_reader.specs.declared.faults.LabCause.TheVariants.{BadField}
-use Rattle.label_reader.specs.Marked.{AreMarked}
+use Rattle.label_reader.specs.inside.Marked.{AreMarked}
 use Rattle.label_reader.specs.Texts.{labelling, is_said}
 use Rattle.label_reader.proofs.Blanks.{add_line-blank}
 use Rattle.label_reader.proofs.Bodies.{AnswersBehind-fault}

@@ -1,6 +1,6 @@
 use Rattle.label_reader.specs.declared.kind.FileKind.TheVariants.{OwnerFile}
 use Rattle.label_reader.specs.declared.faults.LabCause.TheVariants.{BadField}
-use Rattle.label_reader.specs.Owned.{AreRead}
+use Rattle.label_reader.specs.inside.Owned.{AreRead}
 use Rattle.label_reader.specs.Texts.{ownership}
 use Rattle.label_reader.proofs.Blanks.{add_line-blank}
 use Rattle.label_reader.proofs.Bodies.{AnswersBehind-fault}

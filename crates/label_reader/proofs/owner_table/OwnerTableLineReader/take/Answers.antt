@@ -2,7 +2,7 @@ use Rattle.std.proofs.Common.{◌≡◌, ◌<◌, None, Ok, Err, List, Option, �
 use Rattle.std.proofs.lemmas.List.{length-set, get_or_default}
 use Rattle.text_lines.specs.Text.{fields_of}
 use Rattle.label_reader.specs.declared.kind.FileKind.TheVariants.{OwnerFile}
-use Rattle.label_reader.specs.Owned.{owner_behind, AreRead}
+use Rattle.label_reader.specs.inside.Owned.{owner_behind, AreRead}
 use Rattle.label_reader.specs.Texts.{ownership}
 use Rattle.label_reader.proofs.Bodies.{AnswersBehind-line, AnswersBehind-fault}
 use Rattle.label_reader.proofs.OwnerLines.{owner_behind-known, owner_behind-line}

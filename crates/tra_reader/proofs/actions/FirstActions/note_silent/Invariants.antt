@@ -1,5 +1,5 @@
 use Rattle.std.proofs.Common.{take, []}
-use Rattle.tra_reader.specs.Noted.{Notes, silent_rows}
+use Rattle.tra_reader.specs.inside.Noted.{Notes, silent_rows}
 use Rattle.tra_reader.proofs.actions.FirstActions.note_silent.Given as goal
 
 abbrev pub invariant-loop-line : goal.invariant-loop-line

@@ -2,7 +2,7 @@ use Rattle.std.proofs.Common.{rules, ◌≡◌, ◌∙◌, List, length, Some, s
 use Rattle.tra_reader.specs.declared.line.Transition.{Transition}
 use Rattle.tra_reader.specs.declared.fault.TraFault.{TraFault}
 use Rattle.tra_reader.specs.Lines.{Row}
-use Rattle.tra_reader.specs.AnyOrder.{any_header, HoldsAny}
+use Rattle.tra_reader.specs.inside.AnyOrder.{any_header, HoldsAny}
 use Rattle.tra_reader.proofs.Steps.{transitions_length}
 use Rattle.tra_reader.proofs.Taking.{takes_row, refuses_row}
 use Rattle.tra_reader.proofs.Outcomes.{ok_further, fault_further}

@@ -1,7 +1,7 @@
 use Rattle.std.proofs.Common.{rules, ◌≡◌, ◌∙◌, [], ◌∷◌, ◌++◌, refl, sym, ap, subst}
 use Rattle.tra_reader.specs.Choices.{part_of}
-use Rattle.tra_reader.specs.GrowingGames.{Growing, HoldsInOrder}
-use Rattle.tra_reader.specs.OfGrowing.{growing_of}
+use Rattle.tra_reader.specs.inside.GrowingGames.{Growing, HoldsInOrder}
+use Rattle.tra_reader.specs.inside.OfGrowing.{growing_of}
 use Rattle.tra_reader.proofs.Growing.{holds_same, within_held}
 use Rattle.tra_reader.proofs.game_in_order.GameInOrder.add.Goals as goal
 

@@ -1,7 +1,7 @@
 use Rattle.std.proofs.Common.{ℕ, List, sym, subst}
 use Rattle.distributions.specs.declared.choice.Part.{Part}
-use Rattle.tra_reader.specs.GrowingGames.{Growing, EndsBefore, HoldsInOrder, IsMade}
-use Rattle.tra_reader.specs.OfGrowing.{growing_of}
+use Rattle.tra_reader.specs.inside.GrowingGames.{Growing, EndsBefore, HoldsInOrder, IsMade}
+use Rattle.tra_reader.specs.inside.OfGrowing.{growing_of}
 use Rattle.tra_reader.proofs.Gaps.{all_ready}
 use Rattle.tra_reader.proofs.Growing.{all_whole}
 use Rattle.tra_reader.proofs.game_in_order.GameInOrder.finish.Goals as goal

@@ -2,7 +2,7 @@ use Rattle.std.proofs.Common.{rules, ◌≡◌, ◌+◌, sym, subst}
 use Rattle.game_model.specs.Draft.{Draft}
 use Rattle.tra_reader.specs.declared.progress.Progress.{Progress}
 use Rattle.tra_reader.specs.declared.progress.Progress.TheVariants.{Builds}
-use Rattle.tra_reader.specs.GrowingGames.{IsMade, ended}
+use Rattle.tra_reader.specs.inside.GrowingGames.{IsMade, ended}
 use Rattle.tra_reader.proofs.WholeSteps.{built_state, other_state}
 use Rattle.tra_reader.proofs.progress.Progress.end_few.Goals as goal
 

@@ -1,6 +1,6 @@
 use Rattle.std.proofs.Common.{inl, inr, subst}
 use Rattle.tra_reader.specs.declared.progress.Progress.{Progress}
-use Rattle.tra_reader.specs.GrowingGames.{IsMade}
+use Rattle.tra_reader.specs.inside.GrowingGames.{IsMade}
 use Rattle.tra_reader.proofs.WholeSteps.{crowded_state, later_state}
 use Rattle.tra_reader.proofs.progress.Progress.note_crowded.Goals as goal
 

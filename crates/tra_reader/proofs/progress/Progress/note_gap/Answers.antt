@@ -1,6 +1,6 @@
 use Rattle.std.proofs.Common.{inl, inr, None, Some, subst}
 use Rattle.tra_reader.specs.declared.progress.Progress.{Progress}
-use Rattle.tra_reader.specs.GrowingGames.{IsMade}
+use Rattle.tra_reader.specs.inside.GrowingGames.{IsMade}
 use Rattle.tra_reader.proofs.Gaps.{noted}
 use Rattle.tra_reader.proofs.progress.Progress.note_gap.Goals as goal
 

@@ -1,6 +1,6 @@
 use Rattle.std.proofs.Common.{◌+◌, sym, subst}
 use Rattle.tra_reader.specs.declared.progress.Progress.{Progress}
-use Rattle.tra_reader.specs.GrowingGames.{IsMade}
+use Rattle.tra_reader.specs.inside.GrowingGames.{IsMade}
 use Rattle.tra_reader.proofs.WholeSteps.{built_choice, fault_choice, some_of_parts}
 use Rattle.tra_reader.proofs.progress.Progress.push.Goals as goal
 

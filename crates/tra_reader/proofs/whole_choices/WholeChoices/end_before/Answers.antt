@@ -2,7 +2,7 @@ use Rattle.std.proofs.Common.{rules, ◌≡◌, ◌<◌, [], length, sym, subst,
 use Rattle.std.proofs.lemmas.List.{nil_from_length}
 use Rattle.std.proofs.lemmas.Bool.Decides.{nat_tests}
 use Rattle.tra_reader.specs.declared.whole_choices.WholeChoices.{WholeChoices}
-use Rattle.tra_reader.specs.GrowingGames.{AreWholeBefore}
+use Rattle.tra_reader.specs.inside.GrowingGames.{AreWholeBefore}
 use Rattle.tra_reader.proofs.Gaps.{before_next, before_first}
 use Rattle.tra_reader.proofs.whole_choices.WholeChoices.end_before.Goals as goal
 use Rattle.tra_reader.proofs.whole_choices.WholeChoices.end_before.Goals.{then-not-is_empty, else-not-is_empty}

@@ -1,5 +1,5 @@
 use Rattle.std.proofs.Common.{rules, ◌≡◌, ℕ, ◌+◌, sym, subst}
-use Rattle.tra_reader.specs.GrowingGames.{IsMade}
+use Rattle.tra_reader.specs.inside.GrowingGames.{IsMade}
 use Rattle.tra_reader.proofs.whole_choices.WholeChoices.end_choice.Goals as goal
 
 pub returns-in-Some-clause-made : goal.returns-in-Some-clause-made

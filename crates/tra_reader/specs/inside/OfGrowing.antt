@@ -1,6 +1,6 @@
 -- What contracts see of a game under way.
 use Rattle.tra_reader.specs.declared.game_in_order.GameInOrder.TheInside.{Inside}
-use Rattle.tra_reader.specs.GrowingGames.{Growing, HoldsSome}
+use Rattle.tra_reader.specs.inside.GrowingGames.{Growing, HoldsSome}
 
 -- the number of states, the whole choices, and the parts of the choice under way
 abbrev pub growing_of : Inside → Growing

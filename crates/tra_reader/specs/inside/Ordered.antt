@@ -9,10 +9,10 @@ use Rattle.tra_reader.specs.declared.halt.Halt.TheVariants.{OutOfOrder, Refused}
 use Rattle.tra_reader.specs.declared.ordered.OrderedRows.{OrderedRows}
 use Rattle.tra_reader.specs.Lines.{Row}
 use Rattle.tra_reader.specs.Text.{transitions}
-use Rattle.tra_reader.specs.Order.{IsWithin}
-use Rattle.tra_reader.specs.ActionUnderWay.{IsActionUnderWay}
-use Rattle.tra_reader.specs.GrowingGames.{Growing, HoldsInOrder}
-use Rattle.tra_reader.specs.Reading.{IsRight, Begins, TakesLine, RefusesLine, AddsRow, RefusesRow, Finishes}
+use Rattle.tra_reader.specs.inside.Order.{IsWithin}
+use Rattle.tra_reader.specs.inside.ActionUnderWay.{IsActionUnderWay}
+use Rattle.tra_reader.specs.inside.GrowingGames.{Growing, HoldsInOrder}
+use Rattle.tra_reader.specs.inside.Reading.{IsRight, Begins, TakesLine, RefusesLine, AddsRow, RefusesRow, Finishes}
 
 -- the fault that is told of the text, if one is
 abbrev pub text_fault : Halt → Option TraFault

@@ -9,9 +9,9 @@ use Rattle.tra_reader.specs.declared.line_actions.LineActions.{LineActions}
 use Rattle.tra_reader.specs.declared.any_order.AnyRows.{AnyRows}
 use Rattle.tra_reader.specs.Lines.{Row}
 use Rattle.tra_reader.specs.Text.{transitions}
-use Rattle.tra_reader.specs.Order.{IsWithin}
-use Rattle.tra_reader.specs.Noted.{NotesLines}
-use Rattle.tra_reader.specs.Reading.{IsRight, Begins, TakesLine, RefusesLine, AddsRow, RefusesRow, Finishes}
+use Rattle.tra_reader.specs.inside.Order.{IsWithin}
+use Rattle.tra_reader.specs.inside.Noted.{NotesLines}
+use Rattle.tra_reader.specs.inside.Reading.{IsRight, Begins, TakesLine, RefusesLine, AddsRow, RefusesRow, Finishes}
 
 -- the header behind which these rows stand
 abbrev pub any_header : AnyRows → Header

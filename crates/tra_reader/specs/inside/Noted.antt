@@ -6,7 +6,7 @@ use Rattle.tra_reader.specs.declared.line.Transition.{Transition}
 use Rattle.tra_reader.specs.declared.actions.FirstActions.{FirstActions}
 use Rattle.tra_reader.specs.declared.line_actions.LineActions.{LineActions}
 use Rattle.tra_reader.specs.Lines.{Row}
-use Rattle.tra_reader.specs.Answers.{action_at}
+use Rattle.tra_reader.specs.inside.Answers.{action_at}
 
 -- the action that is noted of the choice at this place
 abbrev pub noted : FirstActions → ℕ → Option (List ℕ)

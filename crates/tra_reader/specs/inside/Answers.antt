@@ -11,7 +11,7 @@ use Rattle.tra_reader.specs.declared.line.Transition.{Transition}
 use Rattle.tra_reader.specs.declared.fault.TraCause.{TraCause}
 use Rattle.tra_reader.specs.Limits.{most_lines}
 use Rattle.tra_reader.specs.Lines.{Row}
-use Rattle.tra_reader.specs.Order.{transition_place, has}
+use Rattle.tra_reader.specs.inside.Order.{transition_place, has}
 
 -- what every header keeps that is read
 pub record IsAccepted (header : Header) : Type 0 where

@@ -3,7 +3,7 @@ use Rattle.std.specs.Prelude.{ℕ, ◌+◌, ◌≤◌, Bool, List, length}
 use Rattle.game_model.specs.Query.{states}
 use Rattle.fixed_bellman.specs.declared.bounds.Bounds.{Bounds}
 use Rattle.bounded_rounds.specs.declared.tables.Tables.{Tables}
-use Rattle.bounded_rounds.specs.Parts.{IsStepped}
+use Rattle.bounded_rounds.specs.inside.Parts.{IsStepped}
 
 -- the part has an entry for each of these states
 abbrev pub IsPartFrom : Tables → ℕ → List Bounds → Type 0

@@ -16,8 +16,8 @@ use Rattle.tra_reader.specs.declared.whole_choices.WholeChoices.{WholeChoices}
 use Rattle.tra_reader.specs.Faults.{fault_of_choice}
 use Rattle.tra_reader.specs.Limits.{most_stated_choices}
 use Rattle.tra_reader.specs.Choices.{transitions_of, parts_of, self_loop, sum_of_first, choice_end, first_gap, first_crowded, choices_said, states_said, if_as_stated}
-use Rattle.tra_reader.specs.Order.{Rises, IsWithin, place_of, transition_place}
-use Rattle.tra_reader.specs.Answers.{LeadsInside}
+use Rattle.tra_reader.specs.inside.Order.{Rises, IsWithin, place_of, transition_place}
+use Rattle.tra_reader.specs.inside.Answers.{LeadsInside}
 
 -- 1. The whole choices: those of the first s states, and the first k of the next state.
 
