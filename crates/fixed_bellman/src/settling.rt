@@ -46,7 +46,7 @@ fn rises(question: &Question, state: u32, table: &[u64]) -> bool
 }
 
 /// Whether some choice of a row is above a floor, rounded down.
-fn some_above(row: &Row<'_>, table: &[u64], floor: u64) -> bool
+pub fn some_above(row: &Row<'_>, table: &[u64], floor: u64) -> bool
     requires inside { All (λ m. All (λ e. e.to < length table.now) m.edges) row.now }
     requires units { All (λ v. v ≤ unit) table.now }
     requires floor { floor ≤ unit }
@@ -61,7 +61,7 @@ fn some_above(row: &Row<'_>, table: &[u64], floor: u64) -> bool
 }
 
 /// Whether all choices of a row are above a floor, rounded down.
-fn all_above(row: &Row<'_>, table: &[u64], floor: u64) -> bool
+pub fn all_above(row: &Row<'_>, table: &[u64], floor: u64) -> bool
     requires inside { All (λ m. All (λ e. e.to < length table.now) m.edges) row.now }
     requires units { All (λ v. v ≤ unit) table.now }
     requires floor { floor ≤ unit }

@@ -1,12 +1,13 @@
 -- Moves that are followed to a state of a layer.
-use Rattle.std.proofs.Common.{ℕ, ◌<◌, List, [], ◌∷◌, ◌++◌, length, arith, refl, ◌∙◌, subst, inl, inr, Option}
-use Rattle.std.specs.Prelude.{slice_index_or}
+use Rattle.std.proofs.Common.{◌≡◌, ℕ, ◌+◌, ◌<◌, List, [], ◌∷◌, ◌++◌, length, arith, refl, sym, ◌∙◌, subst, inl, inr, Option, Some, None}
+use Rattle.std.specs.Prelude.{slice_index_or, slice_set, unwrap_or, MatchOption}
 use Rattle.std.proofs.lemmas.List.Elements.{Contains-push_cases}
 use Rattle.game_model.specs.Game.{choices_of, choice_of, no_edge}
-use Rattle.game_model.specs.Query.{Query, IsQuery, states}
+use Rattle.game_model.specs.declared.game.Side.TheVariants.{Max}
+use Rattle.game_model.specs.Query.{Query, IsQuery, states, side_at}
 use Rattle.predecessors.specs.declared.lists.Move.{Move}
 use Rattle.predecessors.specs.Moves.{move}
-use Rattle.rank_certificate.specs.Carrying.{Carries, IsCarried}
+use Rattle.rank_certificate.specs.Carrying.{Carries, IsCarriedBy, IsCarried, IsFirstCarrying, IsChosen}
 use Rattle.rank_certificate.specs.Growth.{HasRankWithin, IsApartBy, Looks, Follows}
 use Rattle.rank_certificate.proofs.Looked.{Looks-many, Looks-kept, Looks-apart, Looks-grown}
 use Rattle.rank_certificate.proofs.Carried.{Carries-more, next-whole}
@@ -60,3 +61,26 @@ module _ (q : Query) (value : ℕ → ℕ) (only : Option (List (Option ℕ))) (
               (λ left carried by. Looks-apart q value only level begin old ranks choices order posed h m.state inside ranks' choices' order' looks left (next-whole q value only level m.state by))
         ];
       }
+
+-- a choice that carries its state, and the first below it: the first of both
+pub first-taken : (q : Query) (value : ℕ → ℕ) (only : Option (List (Option ℕ))) (among : ℕ → Type 0) (s c : ℕ) → c < length (choices_of q.game s) → Carries q value only among s c
+    → (earlier : Option ℕ) → MatchOption earlier ((d : ℕ) → d < c → ¬ Carries q value only among s d) (λ d. IsFirstCarrying q value only among s d) → IsFirstCarrying q value only among s (unwrap_or earlier c)
+first-taken q value only among s c inside carried None none = record { inside = inside; carries = carried; before = none }
+first-taken q value only among s c inside carried (Some d) first = first
+
+-- a state of the maximiser that joins the next layer with it was looked at
+pub taken-looks : (q : Query) (value : ℕ → ℕ) (only : Option (List (Option ℕ))) (level s first : ℕ) (ranks choices : List (Option ℕ)) (order : List ℕ) (ranks' choices' : List (Option ℕ)) (order' : List ℕ) → side_at q s ≡ Max
+    → slice_index_or ranks s None ≡ None → IsFirstCarrying q value only (HasRankWithin ranks level) s first
+    → ranks' ≡ slice_set ranks s (Some (level + 1)) → choices' ≡ slice_set choices s (Some first) → order' ≡ order ++ s ∷ [] → Looks q value only level s ranks choices order ranks' choices' order'
+taken-looks q value only level s first ranks choices order ranks' choices' order' max none is new_ranks new_choices new_order =
+    let among = HasRankWithin ranks level in
+    let by : IsCarriedBy Max q value only among s = (first, is.inside, is.carries) in
+    inr (record {
+      none = none;
+      carried = subst (λ side. IsCarriedBy side q value only among s) (sym max) by;
+      choice = Some first;
+      chosen = subst (λ side. IsChosen side q value only among s (Some first)) (sym max) is;
+      new_ranks = new_ranks;
+      new_choices = new_choices;
+      new_order = new_order;
+    })

@@ -1,6 +1,7 @@
 -- Ranks and choices that make values ranked: the least ranks, and at each state of the maximiser the first choice for
 -- its rank.
-use Rattle.std.specs.Prelude.{◌≡◌, ℕ, zero, suc, ◌<◌, ◌≤◌, ◌⊎◌, true, List, length, slice_index, slice_index_or, Option, Some, None, IfSome, IsSomeAnd}
+use Rattle.std.specs.Prelude.{◌≡◌, ℕ, zero, suc, ◌<◌, ◌≤◌, ◌⊎◌, true, List, length, slice_index, slice_index_or, Option, Some, None, IsSomeAnd}
+use Rattle.std.specs.Option.{ForSome}
 use Rattle.game_model.specs.declared.game.Side.{Side}
 use Rattle.game_model.specs.declared.game.Side.TheVariants.{Max, Min}
 use Rattle.game_model.specs.Game.{choices_of, choice_of}
@@ -24,7 +25,7 @@ MayTake q value (Some choices) s c = HasToRank (side_at q s) (slice_index_or cho
 
 -- given choices are one a state
 abbrev pub AreOfStates : Query → Option (List (Option ℕ)) → Type 0
-AreOfStates q only = IfSome only (λ choices. length choices ≡ states q)
+AreOfStates q only = ForSome only (λ choices. length choices ≡ states q)
 
 -- a choice that may be taken, and leads to a greater value, or to an equal one of these states
 pub record Carries (q : Query) (value : ℕ → ℕ) (only : Option (List (Option ℕ))) (among : ℕ → Type 0)

@@ -49,7 +49,7 @@ IsApartBy q value only level ranks s c =
     slice_index_or ranks s None ≡ None → Carries q value only (IsCarried q value only level) s c
     → ¬ IsCarriedBy (side_at q s) q value only (IsCarried q value only level) s
 
--- a state was looked at: it stays as it is, or joins the next layer
+-- a state stays as it is: it has a rank, or is not carried on
 pub record Stays (q : Query) (value : ℕ → ℕ) (only : Option (List (Option ℕ))) (level s : ℕ)
     (ranks choices : List (Option ℕ)) (order : List ℕ) (ranks' choices' : List (Option ℕ))
     (order' : List ℕ) : Type 0 where
@@ -58,6 +58,7 @@ pub record Stays (q : Query) (value : ℕ → ℕ) (only : Option (List (Option 
   pub new_choices : choices' ≡ choices
   pub new_order : order' ≡ order
 
+-- a state without a rank that is carried on joins the next layer, with a choice for it
 pub record Joins (q : Query) (value : ℕ → ℕ) (only : Option (List (Option ℕ))) (level s : ℕ)
     (ranks choices : List (Option ℕ)) (order : List ℕ) (ranks' choices' : List (Option ℕ))
     (order' : List ℕ) : Type 0 where
@@ -69,6 +70,7 @@ pub record Joins (q : Query) (value : ℕ → ℕ) (only : Option (List (Option 
   pub new_choices : choices' ≡ slice_set choices s choice
   pub new_order : order' ≡ order ++ s ∷ []
 
+-- a state was looked at: it stays as it is, or joins the next layer
 abbrev pub Looks : Query → (ℕ → ℕ) → Option (List (Option ℕ)) → ℕ → ℕ → List (Option ℕ) → List (Option ℕ) → List ℕ
     → List (Option ℕ) → List (Option ℕ) → List ℕ → Type 0
 Looks q value only level s ranks choices order ranks' choices' order' =

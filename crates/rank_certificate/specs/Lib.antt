@@ -6,3 +6,4 @@ pub mod Growth
 pub mod LowerGuess
 pub mod Marks
 pub mod OfGuesses
+pub mod OfAsked

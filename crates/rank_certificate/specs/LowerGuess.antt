@@ -13,6 +13,7 @@ excess zero = 4
 excess (suc zero) = 2
 excess (suc (suc place)) = 1
 
+-- the place of the last excess
 abbrev pub last_place : ℕ
 last_place = 2
 

@@ -12,6 +12,7 @@ use Rattle.fixed_bellman.specs.Given.{IsFree}
 abbrev pub IsEnough : (ℕ → ℕ) → ℕ → Distribution → Type 0
 IsEnough value s choice = value s * choice.total ≤ weighted_sum value choice.edges
 
+-- the weighted average of the choice is below the value of the state
 abbrev pub IsShort : (ℕ → ℕ) → ℕ → Distribution → Type 0
 IsShort value s choice = weighted_sum value choice.edges < value s * choice.total
 

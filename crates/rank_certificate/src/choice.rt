@@ -9,7 +9,7 @@ ghost use Rattle.rank_certificate.specs.Ranking.{IsOnward, LeadsOnward};
 ghost use Rattle.rank_certificate.specs.Faults.{IsLackOf};
 
 use crate::check::RankCause;
-use fixed_bellman::down_choice;
+use fixed_bellman::gives;
 use game_model::Question;
 
 /// Checks that a choice gives its state the value, and leads on from there.
@@ -31,7 +31,7 @@ pub fn check_choice(
         (choice_of question.now.game state choice) choice) }
 {
     question.known();
-    if down_choice(question, state, choice, values) < values[state as usize] {
+    if !gives(&question.row(state), choice, values, values[state as usize]) {
         return Err(RankCause::Short { choice });
     }
     if !leads_onward(question, values, ranks, state, choice) {

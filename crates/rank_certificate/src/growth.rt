@@ -1,20 +1,15 @@
 //! Ranks and choices by layers, found backward from the states that need none.
 
-ghost use Rattle.std.specs.Prelude.{◌≡◌, ℕ, ◌+◌, ◌^◌, ◌<◌, ◌≤◌, ◌↔◌, List, [], ◌∷◌, ◌++◌, length, slice_index, slice_index_or, slice_set, All, Some, None, IfOk, OnOk, IsTrue, option_copied};
+ghost use Rattle.std.specs.Prelude.{◌≡◌, ℕ, ◌+◌, ◌^◌, ◌<◌, ◌≤◌, [], ◌∷◌, ◌++◌, length, slice_index_or, slice_set, Some, None, IfOk, OnOk};
+ghost use Rattle.game_model.specs.declared.game.Side.TheVariants.{Max};
 ghost use Rattle.game_model.specs.Game.{choices_of};
-ghost use Rattle.game_model.specs.Query.{states, side_at};
-ghost use Rattle.game_model.specs.Limits.{unit};
+ghost use Rattle.game_model.specs.Query.{side_at};
 ghost use Rattle.predecessors.specs.declared.lists.Move.{Move};
-ghost use Rattle.predecessors.specs.Lists.{ArePredecessors};
-ghost use Rattle.predecessors.specs.Moves.{LeadsTo};
-ghost use Rattle.rank_certificate.specs.Ranking.{NeedsRank};
-ghost use Rattle.rank_certificate.specs.Carrying.{AreOfStates};
-ghost use Rattle.rank_certificate.specs.Growth.{IsOpened, IsGrowth, IsApart, Looks, Joins, Follows, AreFollowed};
 
-use crate::carrying::{all_carry, carries, first_carrying};
-use game_model::{Question, Side};
+use crate::asked::Asked;
+use game_model::Side;
 use game_outside::OutOfMemory;
-use predecessors::{Move, Predecessors};
+use predecessors::Move;
 use std::alloc::Global;
 
 /// The ranks found; the choices of the maximiser for them; and the states with a rank in the order in which
@@ -27,26 +22,23 @@ pub struct Growth {
 }
 
 impl Growth {
+    ghost use Rattle.rank_certificate.specs.Growth.{IsOpened};
+    ghost use Rattle.rank_certificate.specs.OfAsked.{states_in, value_in, IsGrowthIn, IsApartIn, LooksIn, FollowsIn, AreFollowedIn};
+
     /// The states that need no rank, in layer 0.
-    pub fn of_unneeded(
-        alloc: Global,
-        question: &Question,
-        values: &[u64],
-    ) -> Result<Growth, OutOfMemory>
-        requires { length values.now ≡ states question.now }
-        ensures opened { IfOk result (λ g. IsOpened question.now (slice_index values.now)
-            (states question.now) g.ranks.items g.order.items) }
-        ensures choices { IfOk result (λ g. length g.choices.items ≡ states question.now) }
+    pub fn of_unneeded(alloc: Global, asked: &Asked<'_>) -> Result<Growth, OutOfMemory>
+        ensures opened { IfOk result (λ g. IsOpened asked.now.question.now (value_in asked.now) (states_in asked.now)
+            g.ranks.items g.order.items) }
+        ensures choices { IfOk result (λ g. length g.choices.items ≡ states_in asked.now) }
         ensures none { IfOk result (λ g. (s : ℕ) → slice_index_or g.choices.items s None ≡ None) }
     {
-        question.known();
-        let states = question.game().states();
+        let states = asked.question.game().states();
         let none: Option<u32> = None;
         let choices = vec![in alloc; none; states as usize]?;
         let mut ranks = Vec::with_capacity(alloc, states as usize)?;
         let mut order = Vec::with_capacity(alloc, states as usize)?;
         for state in 0..states {
-            if needs_rank(question, values, state) {
+            if asked.needs_rank(state) {
                 ranks.push(None)?;
             } else {
                 ranks.push(Some(0))?;
@@ -61,27 +53,13 @@ impl Growth {
     }
 
     /// Looks at each state: it joins layer 1 where it is carried into layer 0.
-    pub fn start(
-        &mut self,
-        question: &Question,
-        values: &[u64],
-        only: Option<&[Option<u32>]>,
-    ) -> Result<(), OutOfMemory>
-        requires values { length values.now ≡ states question.now }
-        requires units { All (λ v. v ≤ unit) values.now }
-        requires only { AreOfStates question.now (option_copied only) }
-        requires growth { IsGrowth question.now (slice_index values.now)
-            (option_copied only) 0 0 self.old.order.items self.old.ranks.items self.old.choices.items
-            self.old.order.items }
-        ensures growth { OnOk result (IsGrowth question.now (slice_index values.now)
-            (option_copied only.entry) 0 0 self.old.order.items self.new.ranks.items self.new.choices.items
-            self.new.order.items) }
-        ensures apart { OnOk result ((s : ℕ) → s < states question.now
-            → IsApart question.now (slice_index values.now) (option_copied only.entry) 0 self.new.ranks.items s) }
+    pub fn start(&mut self, asked: &Asked<'_>) -> Result<(), OutOfMemory>
+        requires { IsGrowthIn asked.now 0 0 self.old.order.items self.old }
+        ensures growth { OnOk result (IsGrowthIn asked.now 0 0 self.old.order.items self.new) }
+        ensures apart { OnOk result ((s : ℕ) → s < states_in asked.now → IsApartIn asked.now 0 self.new s) }
     {
-        question.known();
-        for state in 0..question.game().states() {
-            self.look(question, values, only, 0, state)?;
+        for state in 0..asked.question.game().states() {
+            self.look(asked, 0, state)?;
         }
         Ok(())
     }
@@ -89,148 +67,121 @@ impl Growth {
     /// Follows all moves to the states of a layer, which stand in the order from one place up to another.
     pub fn spread(
         &mut self,
-        question: &Question,
-        values: &[u64],
-        only: Option<&[Option<u32>]>,
-        predecessors: &Predecessors,
+        asked: &Asked<'_>,
         level: u32,
         begin: usize,
         end: usize,
     ) -> Result<(), OutOfMemory>
-        requires values { length values.now ≡ states question.now }
-        requires units { All (λ v. v ≤ unit) values.now }
-        requires only { AreOfStates question.now (option_copied only) }
-        requires lists { ArePredecessors question.now.game predecessors.now }
         requires level { level + 1 < 2 ^ 32 }
         requires begin { begin ≤ end }
         requires end { end ≡ length self.old.order.items }
-        requires growth { IsGrowth question.now (slice_index values.now)
-            (option_copied only) level begin self.old.order.items self.old.ranks.items self.old.choices.items
-            self.old.order.items }
-        ensures growth { OnOk result (IsGrowth question.now (slice_index values.now)
-            (option_copied only.entry) level begin self.old.order.items self.new.ranks.items self.new.choices.items
-            self.new.order.items) }
-        ensures followed { OnOk result (AreFollowed question.now (slice_index values.now)
-            (option_copied only.entry) level self.old.order.items begin
-            (length self.old.order.items) self.new.ranks.items) }
+        requires growth { IsGrowthIn asked.now level begin self.old.order.items self.old }
+        ensures growth { OnOk result (IsGrowthIn asked.now level begin self.old.order.items self.new) }
+        ensures followed { OnOk result (AreFollowedIn asked.now level self.old.order.items begin
+            (length self.old.order.items) self.new) }
     {
-        question.known();
         for place in begin..end {
             let hand = self.order[place];
-            self.go_back(question, values, only, predecessors, level, hand)?;
+            self.go_back(asked, level, hand)?;
         }
         Ok(())
     }
 
     /// Follows the moves that lead to a state.
-    fn go_back(
-        &mut self,
-        question: &Question,
-        values: &[u64],
-        only: Option<&[Option<u32>]>,
-        predecessors: &Predecessors,
-        level: u32,
-        hand: u32,
-    ) -> Result<(), OutOfMemory>
-        requires values { length values.now ≡ states question.now }
-        requires units { All (λ v. v ≤ unit) values.now }
-        requires only { AreOfStates question.now (option_copied only) }
-        requires lists { ArePredecessors question.now.game predecessors.now }
+    fn go_back(&mut self, asked: &Asked<'_>, level: u32, hand: u32) -> Result<(), OutOfMemory>
         requires level { level + 1 < 2 ^ 32 }
-        requires ranks { length self.old.ranks.items ≡ states question.now }
-        requires choices { length self.old.choices.items ≡ states question.now }
-        requires hand { hand < states question.now }
-        ensures { OnOk result (Follows question.now (slice_index values.now) (option_copied only.entry) level hand
-            (slice_index_or predecessors.now hand [])
-            self.old.ranks.items self.old.choices.items self.old.order.items self.new.ranks.items self.new.choices.items
-            self.new.order.items) }
+        requires ranks { length self.old.ranks.items ≡ states_in asked.now }
+        requires choices { length self.old.choices.items ≡ states_in asked.now }
+        requires hand { hand < states_in asked.now }
+        ensures { OnOk result (FollowsIn asked.now level hand (slice_index_or asked.now.predecessors.now hand [])
+            self.old self.new) }
     {
-        question.known();
-        for step in predecessors.of_state(hand) {
-            self.follow(question, values, only, level, hand, *step)?;
+        for step in asked.predecessors.of_state(hand) {
+            self.follow(asked, level, hand, *step)?;
         }
         Ok(())
     }
 
-    /// Follows a move: looks at its state where that has the value of the state at hand and no rank, and the choice
-    /// carries it.
+    /// Follows a move: looks at its state where that has the value of the state at hand and no rank; at a state of the
+    /// maximiser the choice of the move alone can carry it now.
     fn follow(
         &mut self,
-        question: &Question,
-        values: &[u64],
-        only: Option<&[Option<u32>]>,
+        asked: &Asked<'_>,
         level: u32,
         hand: u32,
         step: Move,
     ) -> Result<(), OutOfMemory>
-        requires values { length values.now ≡ states question.now }
-        requires units { All (λ v. v ≤ unit) values.now }
-        requires only { AreOfStates question.now (option_copied only) }
         requires level { level + 1 < 2 ^ 32 }
-        requires ranks { length self.old.ranks.items ≡ states question.now }
-        requires choices { length self.old.choices.items ≡ states question.now }
-        requires hand { hand < states question.now }
-        requires state { step.state < states question.now }
-        requires choice { step.choice < length (choices_of question.now.game step.state) }
-        ensures { OnOk result (Follows question.now (slice_index values.now) (option_copied only.entry) level hand
-            (step ∷ [])
-            self.old.ranks.items self.old.choices.items self.old.order.items self.new.ranks.items self.new.choices.items
-            self.new.order.items) }
+        requires ranks { length self.old.ranks.items ≡ states_in asked.now }
+        requires choices { length self.old.choices.items ≡ states_in asked.now }
+        requires hand { hand < states_in asked.now }
+        requires state { step.state < states_in asked.now }
+        requires choice { step.choice < length (choices_of asked.now.question.now.game step.state) }
+        ensures { OnOk result (FollowsIn asked.now level hand (step ∷ []) self.old self.new) }
     {
-        question.known();
-        if values[hand as usize] != values[step.state as usize] {
+        if asked.values[hand as usize] != asked.values[step.state as usize] {
             return Ok(());
         }
         if self.ranks[step.state as usize].is_some() {
             return Ok(());
         }
-        if !carries(
-            question,
-            values,
-            only,
-            &self.ranks,
-            level,
-            step.state,
-            step.choice,
-        ) {
+        match asked.question.side(step.state) {
+            Side::Max => self.take(asked, level, hand, step),
+            Side::Min => {
+                self.look(asked, level, step.state)?;
+                Ok(())
+            }
+        }
+    }
+
+    /// Follows a move of the maximiser from a state without a rank: where its choice carries the state, the state joins
+    /// the next layer, with the first choice that does.
+    fn take(
+        &mut self,
+        asked: &Asked<'_>,
+        level: u32,
+        hand: u32,
+        step: Move,
+    ) -> Result<(), OutOfMemory>
+        requires level { level + 1 < 2 ^ 32 }
+        requires ranks { length self.old.ranks.items ≡ states_in asked.now }
+        requires choices { length self.old.choices.items ≡ states_in asked.now }
+        requires state { step.state < states_in asked.now }
+        requires choice { step.choice < length (choices_of asked.now.question.now.game step.state) }
+        requires side { side_at asked.now.question.now step.state ≡ Max }
+        requires none { slice_index_or self.old.ranks.items step.state None ≡ None }
+        ensures { OnOk result (FollowsIn asked.now level hand (step ∷ []) self.old self.new) }
+    {
+        let row = asked.question.row(step.state);
+        if !asked.carries(&row, &self.ranks, level, step.state, step.choice) {
             return Ok(());
         }
-        self.look(question, values, only, level, step.state)?;
+        let earlier = asked.first_carrying(&row, &self.ranks, level, step.state, step.choice);
+        self.join(level, step.state, Some(earlier.unwrap_or(step.choice)))?;
         Ok(())
     }
 
     /// Looks at a state: where it has no rank and is carried into the layer, it joins the next one.
-    fn look(
-        &mut self,
-        question: &Question,
-        values: &[u64],
-        only: Option<&[Option<u32>]>,
-        level: u32,
-        state: u32,
-    ) -> Result<(), OutOfMemory>
-        requires values { length values.now ≡ states question.now }
-        requires units { All (λ v. v ≤ unit) values.now }
-        requires only { AreOfStates question.now (option_copied only) }
+    fn look(&mut self, asked: &Asked<'_>, level: u32, state: u32) -> Result<(), OutOfMemory>
         requires level { level + 1 < 2 ^ 32 }
-        requires ranks { length self.old.ranks.items ≡ states question.now }
-        requires choices { length self.old.choices.items ≡ states question.now }
-        requires state { state < states question.now }
-        ensures { OnOk result (Looks question.now (slice_index values.now) (option_copied only.entry) level state
-            self.old.ranks.items self.old.choices.items self.old.order.items self.new.ranks.items self.new.choices.items
-            self.new.order.items) }
+        requires ranks { length self.old.ranks.items ≡ states_in asked.now }
+        requires choices { length self.old.choices.items ≡ states_in asked.now }
+        requires state { state < states_in asked.now }
+        ensures { OnOk result (LooksIn asked.now level state self.old self.new) }
     {
         if self.ranks[state as usize].is_some() {
             return Ok(());
         }
-        match question.side(state) {
+        let row = asked.question.row(state);
+        match asked.question.side(state) {
             Side::Max => {
-                let choice = first_carrying(question, values, only, &self.ranks, level, state);
+                let choice = asked.first_carrying(&row, &self.ranks, level, state, row.choices());
                 if choice.is_some() {
                     self.join(level, state, choice)?;
                 }
             }
             Side::Min => {
-                if all_carry(question, values, only, &self.ranks, level, state) {
+                if asked.all_carry(&row, &self.ranks, level, state) {
                     self.join(level, state, None)?;
                 }
             }
@@ -252,13 +203,4 @@ impl Growth {
         self.order.push(state)?;
         Ok(())
     }
-}
-
-/// Whether a state has a positive value and is neither goal nor dead.
-fn needs_rank(question: &Question, values: &[u64], state: u32) -> bool
-    requires values { length values.now ≡ states question.now }
-    requires state { state < states question.now }
-    ensures { IsTrue result ↔ NeedsRank question.now (slice_index values.now) state }
-{
-    values[state as usize] > 0 && !question.is_goal(state) && !question.is_dead(state)
 }

@@ -91,8 +91,9 @@ pub fn lower_guess_over<'a>(
             zero,
             base,
             excess: excess_at(place),
+            predecessors,
         };
-        if let Some(found) = guesses.first_ranked(alloc, predecessors)? {
+        if let Some(found) = guesses.first_ranked(alloc)? {
             ranked_is_near(
                 question,
                 &found.values,

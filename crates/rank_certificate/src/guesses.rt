@@ -3,6 +3,7 @@
 ghost use Rattle.std.specs.Prelude.{◌≡◌, ℕ, ◌<◌, ◌≤◌, length, slice_index, All, IfOk};
 ghost use Rattle.game_model.specs.Query.{IsQuery, states};
 ghost use Rattle.game_model.specs.Limits.{unit};
+ghost use Rattle.predecessors.specs.Lists.{ArePredecessors};
 
 use crate::guess::LowerGuess;
 use crate::lesser::{is_same, lesser_table, mark_again};
@@ -15,24 +16,26 @@ use std::alloc::Global;
 /// The most steps down of one excess.
 pub const MOST_STEPS: u32 = 4;
 
-/// What the tables of one excess are made from: a question, its zero set, a lower table and the excess.
+/// What the tables of one excess are made from: a question, its zero set, a lower table and the excess; and for each
+/// state the moves that lead to it.
 #[derive(Drop)]
 pub struct Guesses<'a> {
     pub question: &'a Question<'a>,
     pub zero: &'a Marks,
     pub base: &'a [u64],
     pub excess: u64,
+    pub predecessors: &'a Predecessors,
     ghost posed: { IsQuery question.now },
     ghost marked: { length zero.now ≡ states question.now },
     ghost many: { length base.now ≡ states question.now },
     ghost units: { All (λ v. v ≤ unit) base.now },
     ghost small: { excess ≤ 4 },
+    ghost lists: { ArePredecessors question.now.game predecessors.now },
 }
 
 impl Guesses<'_> {
     ghost use Rattle.std.specs.Prelude.{IfSome, MatchOption};
     ghost use Rattle.game_model.specs.Ranks.{Ranked};
-    ghost use Rattle.predecessors.specs.Lists.{ArePredecessors};
     ghost use Rattle.rank_certificate.specs.Carrying.{IsLayeredPlan, Stands};
     ghost use Rattle.rank_certificate.specs.LowerGuess.{most_steps};
     ghost use Rattle.rank_certificate.specs.OfGuesses.{first_entry_of, IsTableOf, IsRefusedOf, AreRefusedOf, IsFirstOf};
@@ -40,12 +43,7 @@ impl Guesses<'_> {
     /// The first of the tables of this excess that can be ranked, with its plan; none where each is refused. One of
     /// which a state falls is refused. Where none falls, all later ones are the same, and the search for ranks decides.
     /// Behind the first step only predecessors of states that fell are looked at.
-    pub fn first_ranked(
-        &self,
-        alloc: Global,
-        predecessors: &Predecessors,
-    ) -> Result<Option<LowerGuess>, OutOfMemory>
-        requires { ArePredecessors self.now.question.now.game predecessors.now }
+    pub fn first_ranked(&self, alloc: Global) -> Result<Option<LowerGuess>, OutOfMemory>
         ensures found { IfOk result (λ found. MatchOption found (AreRefusedOf self.now)
             (λ g. IsFirstOf self.now g.values.items)) }
         ensures plan { IfOk result (λ found. IfSome found (λ g.
@@ -61,11 +59,11 @@ impl Guesses<'_> {
             if is_same(&next, &table) {
                 drop(next);
                 drop(marks);
-                return self.rank(alloc, steps, table, predecessors);
+                return self.rank(alloc, steps, table);
             }
             mark_again(
                 self.question.game(),
-                predecessors,
+                self.predecessors,
                 &table,
                 &next,
                 &mut marks,
@@ -82,9 +80,7 @@ impl Guesses<'_> {
         alloc: Global,
         steps: u32,
         table: Vec<u64>,
-        predecessors: &Predecessors,
     ) -> Result<Option<LowerGuess>, OutOfMemory>
-        requires lists { ArePredecessors self.now.question.now.game predecessors.now }
         requires few { steps ≤ most_steps }
         requires table { IsTableOf self.now steps table.items }
         requires stand { (s : ℕ) → s < states self.now.question.now
@@ -97,7 +93,7 @@ impl Guesses<'_> {
         ensures ranked { IfOk result (λ found. IfSome found (λ g.
             Ranked self.now.question.now g.values.items g.plan.choices.items g.plan.ranks.items)) }
     {
-        let Some(plan) = rank_standing(alloc, self.question, &table, predecessors)? else {
+        let Some(plan) = rank_standing(alloc, self.question, &table, self.predecessors)? else {
             return Ok(None);
         };
         Ok(Some(LowerGuess {

@@ -8,7 +8,7 @@ ghost use Rattle.game_model.specs.Tables.{IsTable};
 ghost use Rattle.rank_certificate.specs.LowerGuess.{lesser_step};
 ghost use Rattle.rank_certificate.specs.Marks.{AreQuiet, AreMarkedFor};
 
-use fixed_bellman::down_state;
+use fixed_bellman::{down_state, is_given};
 use game_model::{Game, Question};
 use game_outside::OutOfMemory;
 use predecessors::{Predecessors, mark_predecessors};
@@ -46,10 +46,10 @@ fn lesser_entry(question: &Question, table: &[u64], marks: &[bool], state: u32) 
     ensures units { result ≤ unit }
 {
     let value = table[state as usize];
-    if !marks[state as usize] {
+    if !marks[state as usize] || is_given(question, state, table) {
         return value;
     }
-    value.min(down_state(question, state, table).0)
+    down_state(question, state, table).0
 }
 
 /// Whether two tables have the same entries.

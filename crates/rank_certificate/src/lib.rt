@@ -15,6 +15,7 @@
 //! it for upper tables (Hartmanns and Kaminski, Optimistic value iteration, CAV 2020).
 #![tactic(auto)]
 
+mod asked;
 mod carrying;
 mod check;
 mod choice;
@@ -24,7 +25,6 @@ mod guess;
 mod guesses;
 pub mod laws;
 mod lesser;
-mod met;
 mod table;
 
 pub use check::{RankCause, RankFault, check_ranks};

@@ -7,10 +7,12 @@ ghost use Rattle.game_model.specs.Ranks.{Ranked};
 ghost use Rattle.predecessors.specs.Lists.{ArePredecessors};
 ghost use Rattle.rank_certificate.specs.Carrying.{AreOfStates, CanBeRanked, IsLayeredPlan, Stands};
 ghost use Rattle.rank_certificate.specs.Growth.{IsGrown};
+ghost use Rattle.rank_certificate.specs.OfAsked.{IsGrownIn};
 
+use crate::asked::Asked;
 use crate::check::first_over;
 use crate::growth::Growth;
-use fixed_bellman::down_state;
+use fixed_bellman::is_given;
 use game_model::{Question, UNIT};
 use game_outside::OutOfMemory;
 use predecessors::Predecessors;
@@ -115,13 +117,26 @@ pub fn whole_growth(
         (option_copied only.entry) g.ranks.items g.choices.items) }
 {
     question.known();
-    let mut growth = Growth::of_unneeded(alloc, question, values)?;
+    let asked = Asked {
+        question,
+        values,
+        only,
+        predecessors,
+    };
+    all_layers(alloc, &asked)
+}
+
+/// The ranks of all layers, and the choices for them.
+fn all_layers(alloc: Global, asked: &Asked<'_>) -> Result<Growth, OutOfMemory>
+    ensures { IfOk result (λ g. IsGrownIn asked.now g) }
+{
+    let mut growth = Growth::of_unneeded(alloc, asked)?;
     let mut begin = growth.order.len();
-    growth.start(question, values, only)?;
+    growth.start(asked)?;
     let mut level: u32 = 1;
     while begin < growth.order.len() {
         let end = growth.order.len();
-        growth.spread(question, values, only, predecessors, level, begin, end)?;
+        growth.spread(asked, level, begin, end)?;
         begin = end;
         level += 1;
     }
@@ -167,9 +182,8 @@ fn stands(question: &Question, values: &[u64], state: u32) -> bool
     requires state { state < states question.now }
     ensures { IsTrue result ↔ Stands question.now (slice_index values.now) state }
 {
-    let value = values[state as usize];
     if question.is_goal(state) {
-        return value == UNIT;
+        return values[state as usize] == UNIT;
     }
-    value <= down_state(question, state, values).0
+    is_given(question, state, values)
 }

@@ -6,11 +6,12 @@ use Rattle.game_model.specs.Query.{states}
 use Rattle.game_model.proofs.Longer.{longer-at, longer-length}
 use Rattle.predecessors.proofs.Listed.{listed-exactly}
 use Rattle.predecessors.specs.Moves.{LeadsTo}
+use Rattle.rank_certificate.specs.OfAsked.{value_in}
 use Rattle.rank_certificate.proofs.growth.Growth.spread.Goals as goal
 
 pub loop-place-preserved : goal.loop-place-preserved
 loop-place-preserved c =
-    let q = c.args.question.now in
+    let q = c.args.asked.now.question.now in
     let h = c.loop-place.invariant.growth in
     let old : List ℕ = c.args.self.now.order.items in
     let order : List ℕ = c.loop-place.self.order.items in
@@ -27,7 +28,7 @@ loop-place-preserved c =
         | inr last ↦
             let same : k ≡ place = omega (arith, upto, last) in
             let at : slice_index old k ≡ c.index-hand.result.now = ap (slice_index old) same ∙ is in
-            go.apart c.args.begin old h s c' ((listed-exactly c.requires.lists s c' c.index-hand.result.now inside).1 (subst (λ t. LeadsTo q.game s c' t) at leads)) (ap (slice_index c.args.values.now) (sym at) ∙ equal) left carried
+            go.apart c.args.begin old h s c' ((listed-exactly c.args.asked.now.lists s c' c.index-hand.result.now inside).1 (subst (λ t. LeadsTo q.game s c' t) at leads)) (ap (value_in c.args.asked.now) (sym at) ∙ equal) left carried
       ];
     }
 

@@ -1,0 +1,7 @@
+use Rattle.std.proofs.Common.{ℕ, ◌<◌}
+use Rattle.rank_certificate.specs.Growth.{HasRankWithin}
+use Rattle.rank_certificate.specs.OfAsked.{CarriesIn}
+use Rattle.rank_certificate.proofs.asked.Asked.all_carry.Given as goal
+
+abbrev pub invariant-loop-choice : goal.invariant-loop-choice
+invariant-loop-choice l = (c : ℕ) → c < l.choice → CarriesIn l.self (HasRankWithin l.ranks l.level) l.state c

@@ -1,0 +1,61 @@
+-- The definitions, at what a search for ranks is about.
+use Rattle.std.specs.Prelude.{ℕ, List, slice_index, Option, option_copied}
+use Rattle.game_model.specs.Query.{states}
+use Rattle.predecessors.specs.declared.lists.Move.{Move}
+use Rattle.rank_certificate.specs.Ranking.{NeedsRank}
+use Rattle.rank_certificate.specs.Carrying.{Carries, IsFirstCarrying}
+use Rattle.rank_certificate.specs.Growth.{IsOpened, IsGrowth, IsApart, Looks, Follows, AreFollowed, IsGrown}
+use Rattle.rank_certificate.specs.declared.asked.Asked.{Asked}
+use Rattle.rank_certificate.specs.declared.growth.Growth.{Growth}
+
+-- the states of its question
+abbrev pub states_in : Asked → ℕ
+states_in a = states a.question.now
+
+-- its values, by state
+abbrev pub value_in : Asked → ℕ → ℕ
+value_in a = slice_index a.values.now
+
+-- the choices that are given
+abbrev pub only_in : Asked → Option (List (Option ℕ))
+only_in a = option_copied a.only
+
+-- a state of positive value that is neither goal nor dead
+abbrev pub NeedsRankIn : Asked → ℕ → Type 0
+NeedsRankIn a s = NeedsRank a.question.now (value_in a) s
+
+-- a choice that carries its state into these states
+abbrev pub CarriesIn : Asked → (ℕ → Type 0) → ℕ → ℕ → Type 0
+CarriesIn a among s c = Carries a.question.now (value_in a) (only_in a) among s c
+
+-- the first choice that does
+abbrev pub IsFirstCarryingIn : Asked → (ℕ → Type 0) → ℕ → ℕ → Type 0
+IsFirstCarryingIn a among s c = IsFirstCarrying a.question.now (value_in a) (only_in a) among s c
+
+-- the states up to a layer are found
+abbrev pub IsGrowthIn : Asked → ℕ → ℕ → List ℕ → Growth → Type 0
+IsGrowthIn a level begin old g =
+    IsGrowth a.question.now (value_in a) (only_in a) level begin old g.ranks.items g.choices.items g.order.items
+
+-- a state has no rank, and is of no layer up to the next one
+abbrev pub IsApartIn : Asked → ℕ → Growth → ℕ → Type 0
+IsApartIn a level g s = IsApart a.question.now (value_in a) (only_in a) level g.ranks.items s
+
+-- a state was looked at
+abbrev pub LooksIn : Asked → ℕ → ℕ → Growth → Growth → Type 0
+LooksIn a level s g g' = Looks a.question.now (value_in a) (only_in a) level s g.ranks.items g.choices.items g.order.items
+    g'.ranks.items g'.choices.items g'.order.items
+
+-- the moves of a part were followed to the state at hand
+abbrev pub FollowsIn : Asked → ℕ → ℕ → List Move → Growth → Growth → Type 0
+FollowsIn a level hand part g g' = Follows a.question.now (value_in a) (only_in a) level hand part g.ranks.items
+    g.choices.items g.order.items g'.ranks.items g'.choices.items g'.order.items
+
+-- all moves were followed to the states of an order from one place up to another
+abbrev pub AreFollowedIn : Asked → ℕ → List ℕ → ℕ → ℕ → Growth → Type 0
+AreFollowedIn a level old from upto g =
+    AreFollowed a.question.now (value_in a) (only_in a) level old from upto g.ranks.items
+
+-- no layer has a state that has no rank
+abbrev pub IsGrownIn : Asked → Growth → Type 0
+IsGrownIn a g = IsGrown a.question.now (value_in a) (only_in a) g.ranks.items g.choices.items
