@@ -1,11 +1,12 @@
 -- What a reader answers of a file.
-use Rattle.std.specs.Prelude.{◌≡◌, ◌<◌, ◌≤◌, ◌+◌, ◌↔◌, ℕ, Bool, true, List, length, Option, Result, Ok, Err, IsErrOf}
+use Rattle.std.specs.Prelude.{◌≤◌, ℕ, List, length, Option, Result, Ok, Err}
 use Rattle.game_outside.specs.declared.file.FileEnd.{FileEnd}
 use Rattle.game_outside.specs.declared.file.FileEnd.TheVariants.{OutOfMemory, ReadFault, TooLong, Refused}
 use Rattle.game_outside.specs.declared.shelf.ReadEnd.{ReadEnd}
 use Rattle.game_outside.specs.declared.shelf.ReadEnd.TheVariants as read
-use Rattle.game_outside.specs.Limits.{piece_size}
-use Rattle.game_outside.specs.Outside.{Holding, Holds, IsHeldAs, IsHeldLonger, Rose, KeepsShelf}
+use Rattle.game_outside.specs.declared.shelf.Shelf.{Ghosts}
+use Rattle.game_outside.specs.Outside.{Holding, Holds, IsHeldAs, IsHeldLonger}
+use Rattle.game_outside.specs.Reading.{ReadingLeaves}
 
 -- there is a text within the limit, which is the one that is held under the name where this is told, and this is true
 -- of it
@@ -31,14 +32,7 @@ of_read read.OutOfMemory = OutOfMemory
 of_read read.ReadFault = ReadFault
 of_read read.TooLong = TooLong
 
--- What a call that reads the text under a name, up to a limit, does to a shelf.
-pub record LeavesShelf {S X F : Type 0} (held : S → Option Holding) (steady : S → Bool) (faults took : S → ℕ)
-    (name : List ℕ) (limit : ℕ) (old new : S) (result : Result X (FileEnd F)) : Type 0 where
-  -- it doesn't fail by itself
-  pub read_fault : IsErrOf result ReadFault → Rose (faults old) (faults new)
-  pub steadily : IsErrOf result ReadFault → steady old ≡ true → Holds (held old) name → ⊥
-  -- a text is too long exactly where more than the limit was taken, and at most a piece more is
-  pub too_long : IsErrOf result TooLong ↔ limit < took new
-  pub taken : took new ≤ limit + piece_size
-  pub kept : KeepsShelf (held old) (held new) (steady old) (steady new) (faults old) (faults new)
-  pub quiet : steady old ≡ true → Holds (held old) name → faults new ≡ faults old
+-- What a call that reads the file under a name, up to a limit, does to a shelf that tells so much.
+abbrev pub LeavesShelf : {S X F : Type 0} → Ghosts S → List ℕ → ℕ → S → S → Result X (FileEnd F) → Type 0
+LeavesShelf shelf name limit old new result =
+    ReadingLeaves shelf (Holds (shelf.held old) name) limit ReadFault TooLong old new result

@@ -1,10 +1,12 @@
 -- A text that is being read by lines, a piece at a time.
-use Rattle.std.specs.Prelude.{◌≡◌, ◌<◌, ◌≤◌, ◌+◌, ◌-◌, ◌^◌, ℕ, Bool, true, false, List, [], ◌∷◌, ◌++◌, length, take, drop, Option, Result, is_err}
+use Rattle.std.specs.Prelude.{◌≡◌, ◌<◌, ◌≤◌, ◌+◌, ◌-◌, ◌^◌, ℕ, Bool, true, false, List, [], ◌∷◌, ◌++◌, length, take, drop, Option, Result, IsErrOf, is_err}
 use Rattle.std.specs.Io.KnownBytes.{Consumes, IsAtEnd}
 use Rattle.text_lines.specs.Text.{lines_of}
 use Rattle.text_lines.specs.Laws.{HasNo}
 use Rattle.game_outside.specs.declared.line_text.LineText.TheInside.{Inside}
+use Rattle.game_outside.specs.declared.shelf.Shelf.{Ghosts}
 use Rattle.game_outside.specs.declared.shelf.ReadEnd.{ReadEnd}
+use Rattle.game_outside.specs.declared.shelf.ReadEnd.TheVariants.{TooLong}
 use Rattle.game_outside.specs.Limits.{piece_size}
 
 -- the bytes that were taken off the shelf and are not given yet, how many were taken, the limit, whether a call was
@@ -77,15 +79,24 @@ pub record PassesLimit (old : TextUnderWay) (rest rest' : Option (List ℕ)) : T
   pub consumed : Consumes rest rest' more
   pub over : old.limit < old.taken + length more
 
--- What is known of the counts behind each call: the number taken is the shelf's, at most the limit and one piece, and a
--- refusal closes the text.
-pub record Counts {X : Type 0} (old new : TextUnderWay) (taken : ℕ) (result : Result X ReadEnd) : Type 0 where
-  pub taken_is : new.taken ≡ taken
-  pub most : taken ≤ old.limit + piece_size
-  pub limit : new.limit ≡ old.limit
-  pub closed : new.closed ≡ is_err result
+-- What a call leaves of a text under way, whose bytes a shelf gives that tells so much.
+pub record LeavesText {S X : Type 0} (shelf : Ghosts S) (text text' : TextUnderWay) (old new : S)
+    (result : Result X ReadEnd) : Type 0 where
+  -- the number taken is the shelf's, the limit stays, and a refusal closes the text
+  pub taken_is : text'.taken ≡ shelf.taken new
+  pub limit : text'.limit ≡ text.limit
+  pub closed : text'.closed ≡ is_err result
+  -- behind the end nothing is asked of the shelf
+  pub ended : text.ended ≡ true → new ≡ old
+  -- a text is too long only where more bytes came than the limit allows
+  pub too_long : IsErrOf result TooLong → PassesLimit text (shelf.rest old) (shelf.rest new)
 
--- the same between two pieces: the text is open, and the limit is not passed
+-- there is a piece, or the text is at its end
+abbrev pub HoldsPiece : Bool → TextUnderWay → Type 0
+HoldsPiece true text = (0 < length text.held) × (text.ended ≡ false)
+HoldsPiece false text = (text.held ≡ []) × (text.ended ≡ true)
+
+-- between two pieces the number taken is the shelf's, the text is open, and the limit is not passed
 pub record CountsOn (old now : TextUnderWay) (taken : ℕ) : Type 0 where
   pub taken_is : now.taken ≡ taken
   pub within : taken ≤ old.limit

@@ -57,7 +57,7 @@ where
 
     // It fails only where the shelf fails, takes little more than the limit, and changes nothing of what the shelf
     // holds.
-    ensures shelf { LeavesShelf H.held H.steady H.faults H.taken name.now limit shelf.old shelf.new result }
+    ensures shelf { LeavesShelf H.Shelf name.now limit shelf.old shelf.new result }
 {
     let mut text = LineText::begin(alloc, shelf, name, limit)?;
     let mut line = Vec::new(alloc);

@@ -1,11 +1,10 @@
 //! The outside of the program as traits: a shelf of named texts, a sink of bytes, and a gate for the workers.
 //!
 //! `read_lines_from` passes the lines of a text on a `Shelf` to a reader, a piece at a time (`LineText`), `read_all`
-//! holds
-//! a whole text, and `write_all` puts a whole text into a `Sink`. What is promised of them rests on what the object
-//! tells: its texts and its bytes where it tells them, and always a count of faults that never falls. A call answers a
-//! fault only where this count rose, so a program that reports a fault can't have made it up. Over real files nothing
-//! of the content is told, and all else holds.
+//! holds a whole text, and `write_all` puts a whole text into a `Sink`. What is promised of them rests on what the
+//! object tells: its texts and its bytes where it tells them, and always a count of faults that never falls. A call
+//! answers a fault only where this count rose, so a program that reports a fault can't have made it up. Over real files
+//! nothing of the content is told, and all else holds.
 //!
 //! `SteadyShelf` and `SteadySink` hold texts in memory and never fail. `MemShelf` and `MemSink` work in small steps and
 //! fail in exactly the calls that are named, so that a test can let each call fail in turn. A `HoldGate` holds two
@@ -27,6 +26,7 @@ mod name;
 mod search;
 mod shelf;
 mod sink;
+mod whole;
 
 pub use file::{FileEnd, read_lines_from};
 pub use gate::{Gate, OpenGate};
@@ -37,9 +37,10 @@ pub use line_text::LineText;
 pub use memory_shelf::{MemShelf, SteadyShelf};
 pub use memory_sink::{MemSink, Received, SteadySink};
 pub use name::Name;
-pub use shelf::{ReadEnd, Shelf, read_all};
+pub use shelf::{ReadEnd, Shelf};
 pub use sink::{Sink, WriteFault, write_all};
 use std::alloc::{AllocError, AllocFailed};
+pub use whole::read_all;
 
 /// A call of the outside failed.
 #[derive(Clone, Copy, Debug, PartialEq, Eq, Drop)]

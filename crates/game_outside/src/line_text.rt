@@ -5,8 +5,9 @@ ghost use Rattle.std.specs.Io.KnownBytes.{Consumes, IsAtEnd};
 ghost use Rattle.text_lines.specs.Text.{lines_of};
 ghost use Rattle.text_lines.specs.Laws.{HasNo, EndsInNoCr};
 ghost use Rattle.game_outside.specs.Limits.{piece_size};
-ghost use Rattle.game_outside.specs.Outside.{Rose, Begins, Holds, KeepsShelf};
-ghost use Rattle.game_outside.specs.LineTexts.{Takes, GivesLine, MeetsEnd, Drops, PassesLimit, Counts, IsOnTheWay, IsCut, IsUncut};
+ghost use Rattle.game_outside.specs.Outside.{Begins};
+ghost use Rattle.game_outside.specs.Reading.{ReadsNamed, ReadsOn};
+ghost use Rattle.game_outside.specs.LineTexts.{Takes, GivesLine, MeetsEnd, Drops, LeavesText, HoldsPiece, IsOnTheWay, IsCut, IsUncut};
 
 use crate::shelf::{PIECE, ReadEnd, Shelf};
 use memchr::memchr;
@@ -56,14 +57,7 @@ impl LineText {
         }) }
         ensures rest { OnOk result (Begins (H.held shelf.old) name.now (H.rest shelf.new)) }
         ensures taken { H.taken shelf.new ≡ 0 }
-        ensures read_fault { IsErrOf result ReadEnd.ReadFault → Rose (H.faults shelf.old) (H.faults shelf.new) }
-        ensures steadily { IsErrOf result ReadEnd.ReadFault → H.steady shelf.old ≡ true
-            → Holds (H.held shelf.old) name.now → ⊥ }
-        ensures short { IsErrOf result ReadEnd.TooLong → ⊥ }
-        ensures kept { KeepsShelf (H.held shelf.old) (H.held shelf.new) (H.steady shelf.old) (H.steady shelf.new)
-            (H.faults shelf.old) (H.faults shelf.new) }
-        ensures quiet { H.steady shelf.old ≡ true → Holds (H.held shelf.old) name.now
-            → H.faults shelf.new ≡ H.faults shelf.old }
+        ensures shelf { ReadsNamed H.Shelf name.now limit shelf.old shelf.new result }
     {
         if shelf.begin(name).is_err() {
             return Err(ReadEnd::ReadFault);
@@ -102,15 +96,8 @@ impl LineText {
             (H.rest shelf.new) line.new.items }
         ensures end { result ≡ Ok false → MeetsEnd self.old self.new (H.rest shelf.old)
             (H.rest shelf.new) line.new.items }
-        ensures ended { self.old.ended ≡ true → shelf.new ≡ shelf.old }
-        ensures read_fault { IsErrOf result ReadEnd.ReadFault → Rose (H.faults shelf.old) (H.faults shelf.new) }
-        ensures steadily { IsErrOf result ReadEnd.ReadFault → H.steady shelf.old ≡ true → ⊥ }
-        ensures too_long { IsErrOf result ReadEnd.TooLong → PassesLimit self.old (H.rest shelf.old) (H.rest shelf.new) }
-        ensures over { IsErrOf result ReadEnd.TooLong ↔ self.old.limit < H.taken shelf.new }
-        ensures counts { Counts self.old self.new (H.taken shelf.new) result }
-        ensures kept { KeepsShelf (H.held shelf.old) (H.held shelf.new) (H.steady shelf.old) (H.steady shelf.new)
-            (H.faults shelf.old) (H.faults shelf.new) }
-        ensures quiet { H.steady shelf.old ≡ true → H.faults shelf.new ≡ H.faults shelf.old }
+        ensures text { LeavesText H.Shelf self.old self.new shelf.old shelf.new result }
+        ensures shelf { ReadsOn H.Shelf self.old.limit shelf.old shelf.new result }
     {
         self.known();
         line.clear();
@@ -140,16 +127,9 @@ impl LineText {
         requires open { self.old.closed ≡ false }
         requires taken { self.old.taken ≡ H.taken shelf.old }
         ensures dropped { OnOk result (Drops self.old self.new (H.rest shelf.old) (H.rest shelf.new)) }
-        ensures ended { self.old.ended ≡ true → shelf.new ≡ shelf.old }
-        ensures read_fault { IsErrOf result ReadEnd.ReadFault → Rose (H.faults shelf.old) (H.faults shelf.new) }
-        ensures steadily { IsErrOf result ReadEnd.ReadFault → H.steady shelf.old ≡ true → ⊥ }
-        ensures too_long { IsErrOf result ReadEnd.TooLong → PassesLimit self.old (H.rest shelf.old) (H.rest shelf.new) }
-        ensures over { IsErrOf result ReadEnd.TooLong ↔ self.old.limit < H.taken shelf.new }
         ensures room { IsErrOf result ReadEnd.OutOfMemory → ⊥ }
-        ensures counts { Counts self.old self.new (H.taken shelf.new) result }
-        ensures kept { KeepsShelf (H.held shelf.old) (H.held shelf.new) (H.steady shelf.old) (H.steady shelf.new)
-            (H.faults shelf.old) (H.faults shelf.new) }
-        ensures quiet { H.steady shelf.old ≡ true → H.faults shelf.new ≡ H.faults shelf.old }
+        ensures text { LeavesText H.Shelf self.old self.new shelf.old shelf.new result }
+        ensures shelf { ReadsOn H.Shelf self.old.limit shelf.old shelf.new result }
     {
         self.known();
         while self.fill(shelf)? {}
@@ -171,18 +151,11 @@ impl LineText {
         requires open { self.old.closed ≡ false }
         requires taken { self.old.taken ≡ H.taken shelf.old }
         ensures piece { OnOk result (Takes self.old self.new (H.rest shelf.old) (H.rest shelf.new) self.new.held) }
-        ensures some { result ≡ Ok true → (0 < length self.new.held) × (self.new.ended ≡ false) }
-        ensures none { result ≡ Ok false → (self.new.held ≡ []) × (self.new.ended ≡ true) }
-        ensures ended { self.old.ended ≡ true → (result ≡ Ok false) × (shelf.new ≡ shelf.old) }
-        ensures read_fault { IsErrOf result ReadEnd.ReadFault → Rose (H.faults shelf.old) (H.faults shelf.new) }
-        ensures steadily { IsErrOf result ReadEnd.ReadFault → H.steady shelf.old ≡ true → ⊥ }
-        ensures too_long { IsErrOf result ReadEnd.TooLong → PassesLimit self.old (H.rest shelf.old) (H.rest shelf.new) }
-        ensures over { IsErrOf result ReadEnd.TooLong ↔ self.old.limit < H.taken shelf.new }
+        ensures more { IfOk result (λ more. HoldsPiece more self.new) }
+        ensures ended { self.old.ended ≡ true → result ≡ Ok false }
         ensures room { IsErrOf result ReadEnd.OutOfMemory → ⊥ }
-        ensures counts { Counts self.old self.new (H.taken shelf.new) result }
-        ensures kept { KeepsShelf (H.held shelf.old) (H.held shelf.new) (H.steady shelf.old) (H.steady shelf.new)
-            (H.faults shelf.old) (H.faults shelf.new) }
-        ensures quiet { H.steady shelf.old ≡ true → H.faults shelf.new ≡ H.faults shelf.old }
+        ensures text { LeavesText H.Shelf self.old self.new shelf.old shelf.new result }
+        ensures shelf { ReadsOn H.Shelf self.old.limit shelf.old shelf.new result }
     {
         self.known();
         self.begin = 0;

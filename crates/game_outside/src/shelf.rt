@@ -1,13 +1,11 @@
 //! A place with named texts, which are read from front to end.
 
-ghost use Rattle.std.specs.Prelude.{◌≡◌, ◌↔◌, ◌<◌, ◌≤◌, ℕ, Bool, true, List, length, IfOk, OnOk, OnErr, IsOk, IsErrOf, Option, min, ◌+◌, ◌^◌, MatchResult};
+ghost use Rattle.std.specs.Prelude.{◌≡◌, ◌<◌, ℕ, Bool, true, List, length, OnOk, OnErr, IsOk, Option};
 ghost use Rattle.std.specs.Io.{ReadsAtMost};
 ghost use Rattle.std.specs.Io.KnownBytes.{ReadConsumes};
-ghost use Rattle.game_outside.specs.Limits.{piece_size};
-ghost use Rattle.game_outside.specs.Outside.{Holding, Rose, HasCause, IsHeldAs, IsHeldLonger, Holds, Begins, IsEmptyRest, taken_after};
+ghost use Rattle.game_outside.specs.Outside.{Holding, HasCause, Holds, Begins, IsEmptyRest, taken_after};
 
 use crate::Failed;
-use std::alloc::{AllocError, Global};
 
 /// A place with named texts. One text at a time is begun and read from front to end.
 ///
@@ -66,56 +64,3 @@ pub enum ReadEnd {
 
 /// The most bytes that `read_all` and a `LineText` take in one call.
 pub const PIECE: usize = 4096;
-
-/// All bytes that are held under the name, at most `limit` of them.
-#[tactic(auto, using(crate::proofs::Streams::longer))]
-pub fn read_all<H: Shelf>(
-    alloc: Global,
-    shelf: &mut H,
-    name: &str,
-    limit: u64,
-) -> Result<Vec<u8>, ReadEnd>
-    // The whole text.
-    ensures bytes { IfOk result (λ v. IsHeldAs (H.held shelf.old) name.now v.items) }
-    ensures within { IfOk result (λ v. length v.items ≤ limit) }
-
-    // It doesn't fail by itself.
-    ensures read_fault { IsErrOf result ReadEnd.ReadFault → Rose (H.faults shelf.old) (H.faults shelf.new) }
-    ensures steadily { IsErrOf result ReadEnd.ReadFault → H.steady shelf.old ≡ true → Holds (H.held shelf.old) name.now
-        → ⊥ }
-
-    // A text is too long exactly where more than the limit was taken.
-    ensures too_long { IsErrOf result ReadEnd.TooLong ↔ limit < H.taken shelf.new }
-    ensures too_long_held { IsErrOf result ReadEnd.TooLong → IsHeldLonger (H.held shelf.old) name.now limit }
-
-    // It takes at most the limit and one piece.
-    ensures taken { H.taken shelf.new ≤ limit + piece_size }
-
-    // What the shelf holds stays, and its count never falls.
-    ensures later { H.faults shelf.old ≤ H.faults shelf.new }
-    ensures held { H.held shelf.new ≡ H.held shelf.old }
-    ensures steady { H.steady shelf.new ≡ H.steady shelf.old }
-    ensures quiet { H.steady shelf.old ≡ true → Holds (H.held shelf.old) name.now
-        → H.faults shelf.new ≡ H.faults shelf.old }
-{
-    if shelf.begin(name).is_err() {
-        return Err(ReadEnd::ReadFault);
-    }
-    let mut bytes = Vec::new(alloc);
-    let mut piece = [0u8; PIECE];
-    loop {
-        match shelf.next(&mut piece) {
-            Err(_) => return Err(ReadEnd::ReadFault),
-            Ok(0) => return Ok(bytes),
-            Ok(count) => {
-                if (bytes.len() + count) as u64 > limit {
-                    return Err(ReadEnd::TooLong);
-                }
-                match bytes.extend_from_slice(&piece[..count]) {
-                    Err(_) => return Err(ReadEnd::OutOfMemory),
-                    Ok(()) => {}
-                }
-            }
-        }
-    }
-}

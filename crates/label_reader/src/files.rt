@@ -33,7 +33,7 @@ pub fn read_labels_from<H: Shelf>(
 
     // It fails only where the shelf fails, takes little more than the limit, and changes nothing of what the shelf
     // holds.
-    ensures shelf { LeavesShelf H.held H.steady H.faults H.taken name.now limit shelf.old shelf.new result }
+    ensures shelf { LeavesShelf H.Shelf name.now limit shelf.old shelf.new result }
 {
     read_from::<H, LabelSets>(alloc, shelf, name, limit, states)
 }
@@ -56,7 +56,7 @@ pub fn read_owners_from<H: Shelf>(
 
     // It fails only where the shelf fails, takes little more than the limit, and changes nothing of what the shelf
     // holds.
-    ensures shelf { LeavesShelf H.held H.steady H.faults H.taken name.now limit shelf.old shelf.new result }
+    ensures shelf { LeavesShelf H.Shelf name.now limit shelf.old shelf.new result }
 {
     read_from::<H, OwnerTable>(alloc, shelf, name, limit, states)
 }
@@ -73,7 +73,7 @@ fn read_from<H: Shelf, B: BehindHeader>(
     ensures reads { ReadsFile (λ text answer. said_by B.kind states (B.make states) text ≡ answer)
         (H.held shelf.old) name.now limit result }
     ensures caused { RefusesCaused result }
-    ensures shelf { LeavesShelf H.held H.steady H.faults H.taken name.now limit shelf.old shelf.new result }
+    ensures shelf { LeavesShelf H.Shelf name.now limit shelf.old shelf.new result }
 {
     let reader = HeadedLines::<B>::new(alloc, states);
     without_want(read_lines_from(alloc, shelf, name, limit, reader))

@@ -35,7 +35,7 @@ pub fn read_tra_from<H: Shelf>(
 
     // It fails only where the shelf fails, takes little more than the limit, and changes nothing of what the shelf
     // holds.
-    ensures shelf { LeavesShelf H.held H.steady H.faults H.taken name.now limit shelf.old shelf.new result }
+    ensures shelf { LeavesShelf H.Shelf name.now limit shelf.old shelf.new result }
 {
     match in_order(read_in_order(alloc, shelf, name, limit)) {
         Some(read) => without_want(read),
@@ -53,7 +53,7 @@ fn read_in_order<H: Shelf>(
     requires { limit ≤ most_bytes }
     ensures reads { ReadsFile (λ text answer. IsAnswer text_fault answer (game_of text))
         (H.held shelf.old) name.now limit result }
-    ensures shelf { LeavesShelf H.held H.steady H.faults H.taken name.now limit shelf.old shelf.new result }
+    ensures shelf { LeavesShelf H.Shelf name.now limit shelf.old shelf.new result }
 {
     let reader = OrderedLines::new(alloc);
     read_lines_from(alloc, shelf, name, limit, reader)
@@ -69,7 +69,7 @@ fn read_in_any_order<H: Shelf>(
     requires { limit ≤ most_bytes }
     ensures reads { ReadsFile (λ text answer. AnswersOrWants IsOutOfMemory (λ g. g) answer (game_of text))
         (H.held shelf.old) name.now limit result }
-    ensures shelf { LeavesShelf H.held H.steady H.faults H.taken name.now limit shelf.old shelf.new result }
+    ensures shelf { LeavesShelf H.Shelf name.now limit shelf.old shelf.new result }
 {
     let reader = AnyLines::new(alloc);
     read_lines_from(alloc, shelf, name, limit, reader)

@@ -14,4 +14,4 @@ returns-in-Err-OutOfMemory-clause-says g c =
 
 pub returns-in-Err-TooLong-clause-says : goal.returns-in-Err-TooLong-clause-says
 returns-in-Err-TooLong-clause-says g c =
-    read_long c.args.text (g.H.Shelf.held c.args.shelf.now) (g.H.Shelf.steady c.args.shelf.now) c.args.name.now (λ v. v.items) (c.in-Err-TooLong.ensures.too_long_held (ap (λ (e : ReadEnd). Err e) c.in-Err-TooLong.field-0-is))
+    read_long c.args.text (g.H.Shelf.held c.args.shelf.now) (g.H.Shelf.steady c.args.shelf.now) c.args.name.now (λ v. v.items) (c.in-Err-TooLong.ensures.longer (ap (λ (e : ReadEnd). Err e) c.in-Err-TooLong.field-0-is))

@@ -48,8 +48,8 @@ returns-in-Err-clause-reads g c =
     (λ lines answer. BehindBlanks c.loop-feed.feed.blanks lines (λ more. g.R.LineReader.answers c.loop-feed.feed.reader c.loop-feed.feed.next more answer))
     (λ lines answer. BehindBlanks c.loop-feed.feed.blanks (c.next_line.new.line.items ∷ lines) (λ more. g.R.LineReader.answers c.loop-feed.feed.reader c.loop-feed.feed.next more answer))
     c.next_line.new.line.items c.loop-feed.invariant.part (c.next_line.ensures.line (search rules)) (λ lines answer still. still))
-    c.in_ok-finish.ensures.dropped (λ over. ap g.H.Shelf.rest (c.finish.ensures.ended over))
-    (λ over. c.finish.ensures.counts.taken_is ∙ ap g.H.Shelf.taken (c.finish.ensures.ended over) ∙ sym c.next_line.ensures.counts.taken_is) (search rules)
+    c.in_ok-finish.ensures.dropped (λ over. ap g.H.Shelf.rest (c.finish.ensures.text.ended over))
+    (λ over. c.finish.ensures.text.taken_is ∙ ap g.H.Shelf.taken (c.finish.ensures.text.ended over) ∙ sym c.next_line.ensures.text.taken_is) (search rules)
     (λ lines. subst (λ line. BehindBlanks c.loop-feed.feed.blanks (line ∷ lines) (λ more. g.R.LineReader.answers c.loop-feed.feed.reader c.loop-feed.feed.next more (Err c.in-Err.fault))) c.deref.ensures.value (c.in-Err.ensures.fault lines))
 
 pub loop-feed-preserved : goal.loop-feed-preserved
@@ -77,7 +77,7 @@ returns-in-Ok-clause-reads g c =
     (g.H.Shelf.rest c.loop-feed.shelf) (g.H.Shelf.rest c.next_line.new.shelf) c.loop-feed.text c.next_line.new.self
     (λ lines answer. BehindBlanks c.loop-feed.feed.blanks lines (λ more. g.R.LineReader.answers c.loop-feed.feed.reader c.loop-feed.feed.next more answer))
     c.next_line.new.line.items c.args.limit (Ok c.in-Ok.made) c.loop-feed.invariant.part (c.next_line.ensures.end (search rules))
-    (λ over. ap g.H.Shelf.rest (c.next_line.ensures.ended over)) c.loop-feed.invariant.within c.in-Ok.ensures
+    (λ over. ap g.H.Shelf.rest (c.next_line.ensures.text.ended over)) c.loop-feed.invariant.within c.in-Ok.ensures
 
 pub returns-clause-reads : goal.returns-clause-reads
 returns-clause-reads g c =
@@ -85,4 +85,4 @@ returns-clause-reads g c =
     (g.H.Shelf.rest c.loop-feed.shelf) (g.H.Shelf.rest c.next_line.new.shelf) c.loop-feed.text c.next_line.new.self
     (λ lines answer. BehindBlanks c.loop-feed.feed.blanks lines (λ more. g.R.LineReader.answers c.loop-feed.feed.reader c.loop-feed.feed.next more answer))
     c.next_line.new.line.items c.args.limit (Err c.in-Err-end.fault) c.loop-feed.invariant.part (c.next_line.ensures.end (search rules))
-    (λ over. ap g.H.Shelf.rest (c.next_line.ensures.ended over)) c.loop-feed.invariant.within c.in-Err-end.ensures
+    (λ over. ap g.H.Shelf.rest (c.next_line.ensures.text.ended over)) c.loop-feed.invariant.within c.in-Err-end.ensures

@@ -5,5 +5,12 @@ use Rattle.game_outside.proofs.line_text.LineText.begin.Goals as goal
 pub returns-clause-rest : goal.returns-clause-rest
 returns-clause-rest g c = if_ok (c.begin.result) c.begin.ensures.text (search rules)
 
-pub returns-clause-quiet : goal.returns-clause-quiet
-returns-clause-quiet g c steady holds = (c.begin.ensures.steadily steady holds).1
+pub returns-clause-shelf : goal.returns-clause-shelf
+returns-clause-shelf g c = record {
+  read_fault = search rules;
+  steadily = search rules;
+  too_long = search rules;
+  taken = search rules;
+  kept = search rules;
+  quiet = λ steady holds. (c.begin.ensures.steadily steady holds).1;
+}

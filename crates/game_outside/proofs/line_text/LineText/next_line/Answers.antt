@@ -13,11 +13,16 @@ returns-in-Ok-true-clause-line g c is =
     line_ends c.args.self.now c.loop-self.self c.give.new.self (g.H.Shelf.rest c.args.shelf.now) (g.H.Shelf.rest c.loop-self.shelf) c.loop-self.line.items c.give.new.line.items c.end_line.new.line.items
     c.loop-self.invariant.on_the_way (c.give.ensures.lf (search rules)) c.give.ensures.same c.end_line.ensures c.loop-self.invariant.going.0
 
-pub returns-in_err-fill-clause-too_long : goal.returns-in_err-fill-clause-too_long
-returns-in_err-fill-clause-too_long g c is =
-    passes_more c.args.self.now c.give.new.self (g.H.Shelf.rest c.args.shelf.now) (g.H.Shelf.rest c.loop-self.shelf) (g.H.Shelf.rest c.fill.new.shelf) _
-    (held_given c.args.self.now c.loop-self.self c.give.new.self (g.H.Shelf.rest c.args.shelf.now) (g.H.Shelf.rest c.loop-self.shelf) c.loop-self.line.items c.give.new.line.items
-    c.loop-self.invariant.on_the_way (c.give.ensures.none (search rules)) c.give.ensures.same).takes (search rules) (search rules)
+pub returns-in_err-fill-clause-text : goal.returns-in_err-fill-clause-text
+returns-in_err-fill-clause-text g c = record {
+  taken_is = search rules;
+  limit = search rules;
+  closed = search rules;
+  ended = search rules;
+  too_long = λ is. passes_more c.args.self.now c.give.new.self (g.H.Shelf.rest c.args.shelf.now) (g.H.Shelf.rest c.loop-self.shelf) (g.H.Shelf.rest c.fill.new.shelf) _
+      (held_given c.args.self.now c.loop-self.self c.give.new.self (g.H.Shelf.rest c.args.shelf.now) (g.H.Shelf.rest c.loop-self.shelf) c.loop-self.line.items c.give.new.line.items
+      c.loop-self.invariant.on_the_way (c.give.ensures.none (search rules)) c.give.ensures.same).takes (search rules) (search rules);
+}
 
 pub is_last-requires : goal.is_last-requires
 is_last-requires g c =
@@ -27,13 +32,12 @@ is_last-requires g c =
 
 pub returns-then-not-branch-clause-line : goal.returns-then-not-branch-clause-line
 returns-then-not-branch-clause-line g c is =
-    let over = c.fill.ensures.none (search rules) in
     text_ends c.args.self.now c.fill.new.self (g.H.Shelf.rest c.args.shelf.now) (g.H.Shelf.rest c.fill.new.shelf) c.give.new.line.items
     (piece_comes c.args.self.now c.give.new.self c.fill.new.self (g.H.Shelf.rest c.args.shelf.now) (g.H.Shelf.rest c.loop-self.shelf) (g.H.Shelf.rest c.fill.new.shelf) c.give.new.line.items
     (held_given c.args.self.now c.loop-self.self c.give.new.self (g.H.Shelf.rest c.args.shelf.now) (g.H.Shelf.rest c.loop-self.shelf) c.loop-self.line.items c.give.new.line.items
     c.loop-self.invariant.on_the_way (c.give.ensures.none (search rules)) c.give.ensures.same)
-    (search rules) (λ ended. ap g.H.Shelf.rest (c.fill.ensures.ended ended).1) c.in_ok-fill.ensures.piece)
-    over.0 over.1 (search rules) (search rules) c.loop-self.invariant.going.0
+    (search rules) (λ ended. ap g.H.Shelf.rest (c.fill.ensures.text.ended ended)) c.in_ok-fill.ensures.piece)
+    (search rules) (search rules) (search rules) (search rules) c.loop-self.invariant.going.0
 
 pub loop-self-preserved : goal.loop-self-preserved
 loop-self-preserved g c = record {
@@ -41,7 +45,7 @@ loop-self-preserved g c = record {
       piece_comes c.args.self.now c.give.new.self c.fill.new.self (g.H.Shelf.rest c.args.shelf.now) (g.H.Shelf.rest c.loop-self.shelf) (g.H.Shelf.rest c.fill.new.shelf) c.give.new.line.items
       (held_given c.args.self.now c.loop-self.self c.give.new.self (g.H.Shelf.rest c.args.shelf.now) (g.H.Shelf.rest c.loop-self.shelf) c.loop-self.line.items c.give.new.line.items
       c.loop-self.invariant.on_the_way (c.give.ensures.none (search rules)) c.give.ensures.same)
-      (search rules) (λ ended. ap g.H.Shelf.rest (c.fill.ensures.ended ended).1) c.in_ok-fill.ensures.piece;
+      (search rules) (λ ended. ap g.H.Shelf.rest (c.fill.ensures.text.ended ended)) c.in_ok-fill.ensures.piece;
   on = search rules;
   going = search rules;
   kept = search rules;
