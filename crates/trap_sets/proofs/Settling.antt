@@ -1,8 +1,8 @@
 -- One round: sets of mutual reachability become the parts.
-use Rattle.std.proofs.Common.{◌≡◌, ◌≢◌, ℕ, zero, suc, ◌-◌, ◌<◌, Bool, true, List, length, sym, ◌∙◌, subst, inl, inr, Option}
+use Rattle.std.proofs.Common.{◌≡◌, ◌≢◌, ℕ, zero, suc, ◌-◌, ◌<◌, Bool, true, List, sym, ◌∙◌, subst, inl, inr, Option}
 use Rattle.std.specs.Prelude.{slice_index}
 use Rattle.std.proofs.lemmas.Bool.{cases_eq}
-use Rattle.game_model.specs.Query.{Query, states}
+use Rattle.game_model.specs.Query.{Query}
 use Rattle.trap_sets.specs.Ends.{IsEndComponent, IsMove, Walk, Reach}
 use Rattle.trap_sets.specs.Parts.{Leaves, CutsPart, IsInner, IsStep, Comes, KeepsEnds, AreClasses, AreUncut, AreJoined}
 use Rattle.trap_sets.specs.Pairs.{pairs}

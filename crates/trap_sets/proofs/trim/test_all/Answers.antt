@@ -16,7 +16,7 @@ loop-state-preserved c =
         w.in_ok-test.ensures.trimmed,
         λ s some. w.in_ok-test.ensures.tested.refines s some ∙ c.loop-state.invariant.refines s (λ none. some (w.in_ok-test.ensures.tested.refines s some ∙ none)),
         AreHeld-tested q r n c.loop-state.part c.loop-state.awaited c.loop-state.gone.items w.test.new.part w.test.new.awaited w.test.new.gone.items w.in_ok-test.ensures.tested 0 (n + 1) (omega arith)
-        (λ s ls other some. c.loop-state.invariant.held s (omega (arith, ls, other)) some),
+            (λ s ls other some. c.loop-state.invariant.held s (omega (arith, ls, other)) some),
       )
       | else-part-state-ne0 w ↦ of-three Fact _ _ _ _ _ _ w.part-is w.awaited-is (ap (λ v. v.items) w.gone-is) (
         c.loop-state.invariant.trimmed,

@@ -1,4 +1,4 @@
-use Rattle.std.proofs.Common.{◌≡◌, ◌<◌, ◌≤◌, length, arith, ◌∙◌}
+use Rattle.std.proofs.Common.{◌<◌, length, arith, ◌∙◌}
 use Rattle.trap_sets.proofs.Marking.{longer-length}
 use Rattle.trap_sets.proofs.Trimming.{HaveInner-held}
 use Rattle.trap_sets.proofs.trim.trim_all.Goals as goal
