@@ -11,6 +11,9 @@ pub mod Following
 pub mod Trimming
 pub mod Pairs
 pub mod Settling
+pub mod Listing
+pub mod Ending
 pub mod Opening
 pub mod Numbering
 pub mod Trapping
+pub mod Zeros

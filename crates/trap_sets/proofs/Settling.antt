@@ -1,12 +1,12 @@
 -- One round: sets of mutual reachability become the parts.
-use Rattle.std.proofs.Common.{◌≡◌, ◌≢◌, ℕ, zero, suc, ◌-◌, ◌<◌, Bool, true, List, length, arith, refl, sym, ◌∙◌, ap, subst, inl, inr, Option}
+use Rattle.std.proofs.Common.{◌≡◌, ◌≢◌, ℕ, zero, suc, ◌-◌, ◌<◌, Bool, true, List, sym, ◌∙◌, subst, inl, inr, Option}
 use Rattle.std.specs.Prelude.{slice_index}
 use Rattle.std.proofs.lemmas.Bool.{cases_eq}
-use Rattle.game_model.specs.Query.{Query, states}
+use Rattle.game_model.specs.Query.{Query}
 use Rattle.trap_sets.specs.Ends.{IsEndComponent, IsMove, Walk, Reach}
-use Rattle.trap_sets.specs.Parts.{IsInner, IsStep, Comes, KeepsEnds, IsRooted, AreClasses, HaveInner, AreSettled}
+use Rattle.trap_sets.specs.Parts.{Leaves, CutsPart, IsInner, IsStep, Comes, KeepsEnds, AreClasses, AreUncut, AreJoined}
 use Rattle.trap_sets.specs.Pairs.{pairs}
-use Rattle.trap_sets.proofs.Walking.{reach-join, comes-part}
+use Rattle.trap_sets.proofs.Walking.{reach-join, reach-step, comes-part}
 use Rattle.trap_sets.proofs.Marking.{within}
 use Rattle.trap_sets.proofs.Trimming.{ends-inner}
 use Rattle.trap_sets.proofs.Pairs.{pairs-fewer}
@@ -42,35 +42,36 @@ class-comes q replies part class k s t some same =
     let on : Comes q replies part (slice_index class t - 1) t = k.placed.on t (λ none. some (same ∙ none)) in
     reach-join (IsStep q replies part) s (slice_index class s - 1) t (k.placed.back s some) (subst (λ (x : ℕ). Comes q replies part (x - 1) t) (sym same) on)
 
--- where no part is cut, the classes are settled
-module _ (q : Query) (replies : List (Option ℕ)) (part class : List ℕ) (h : KeepsEnds q replies part) (have : HaveInner q replies part) (k : AreClasses q replies part class)
-    (same : (s : ℕ) → slice_index part s ≢ 0 → slice_index class s ≡ slice_index class (slice_index part s - 1)) where
-  class-same : (s t : ℕ) → slice_index part s ≢ 0 → slice_index part t ≡ slice_index part s → slice_index class t ≡ slice_index class s
-  class-same s t some is = same t (λ none. some (sym is ∙ none)) ∙ ap (λ (x : ℕ). slice_index class (x - 1)) is ∙ sym (same s some)
-
-  inner-class : (s c : ℕ) → slice_index part s ≢ 0 → IsInner q replies part s c → IsInner q replies class s c
-  inner-class s c some inner = record { cut = inner.cut; stays = λ t leads. class-same s t some (inner.stays t leads) }
-
-  walk-class : (n s t : ℕ) → slice_index part s ≢ 0 → Walk (IsStep q replies part) n s t → Walk (IsStep q replies class) n s t
-  walk-class zero s t some walk = walk
-  walk-class (suc n) s t some walk =
+-- where the classes cut no inner choice, the states of each still reach each other
+module _ (q : Query) (replies : List (Option ℕ)) (part class : List ℕ) (k : AreClasses q replies part class) (uncut : AreUncut q replies part class) where
+  walk-uncut : (n s t : ℕ) → Walk (IsStep q replies part) n s t → Comes q replies part t s → slice_index class s ≢ 0 → Reach (IsStep q replies class) s t
+  walk-uncut zero s t walk back some = (zero, walk)
+  walk-uncut (suc n) s t walk back some =
       let step : IsStep q replies part s walk.0 = walk.1 in
-      let step' : IsStep q replies class s walk.0 = record { choice = step.choice; state = step.state; inner = inner-class s step.choice some step.inner; leads = step.leads } in
-      (walk.0, step', walk-class n walk.0 t (λ none. some (sym (step.inner.stays walk.0 step.leads) ∙ none)) walk.2)
+      let there : Comes q replies part s walk.0 = reach-step (IsStep q replies part) s walk.0 step in
+      let home : Comes q replies part walk.0 s = reach-join (IsStep q replies part) walk.0 t s (n, walk.2) back in
+      let same : slice_index class walk.0 ≡ slice_index class s = k.placed.joined walk.0 s home there in
+      let on : Reach (IsStep q replies class) walk.0 t = walk-uncut n walk.0 t walk.2 (reach-join (IsStep q replies part) t s walk.0 back there) (λ none. some (sym same ∙ none)) in
+      elim (cases_eq walk.0 s) [
+        | inl here ↦ subst (λ x. Reach (IsStep q replies class) x t) here on
+        | inr other ↦ elim (uncut s step.choice step.state (k.placed.live s some) step.inner) [
+          | inl stays ↦
+              let now : IsStep q replies class s walk.0 = record { choice = step.choice; state = step.state; inner = record { cut = step.inner.cut; stays = stays }; leads = step.leads } in
+              reach-join (IsStep q replies class) s walk.0 t (reach-step (IsStep q replies class) s walk.0 now) on
+          | inr avoids ↦ absurd (avoids walk.0 step.leads other same)
+        ]
+      ]
 
-  pub AreSettled-classes : AreSettled q replies class
-  AreSettled-classes = record {
-    keeps = KeepsEnds-classes q replies part h class k;
-    rooted = k.placed.rooted;
-    inner = λ s ls some.
-        let one : (c : ℕ) × IsInner q replies part s c = have s ls (k.placed.live s some) in
-        (one.0, inner-class s one.0 (k.placed.live s some) one.1);
-    joined = λ s t some is.
-        let comes : Comes q replies part s t = class-comes q replies part class k s t some is in
-        (comes.0, walk-class comes.0 s t (k.placed.live s some) comes.1);
-  }
+  pub AreJoined-uncut : AreJoined q replies class
+  AreJoined-uncut = λ s t some is.
+      let forth : Comes q replies part s t = class-comes q replies part class k s t some is in
+      walk-uncut forth.0 s t forth.1 (class-comes q replies part class k t s (λ none. some (is ∙ none)) (sym is)) some
 
--- a round that changes something makes fewer pairs
+-- an inner choice that leaves its class cuts the part
+pub CutsPart-leaves : (q : Query) (replies : List (Option ℕ)) (part class : List ℕ) (s c : ℕ) → slice_index part s ≢ 0 → IsInner q replies part s c → Leaves q class s c → CutsPart part class
+CutsPart-leaves q replies part class s c some inner leaves = (s, leaves.0, some, sym (inner.stays leaves.0 leaves.1), λ same. leaves.2 (sym same))
+
+-- classes that cut a part make fewer pairs
 module _ (q : Query) (replies : List (Option ℕ)) (old part class : List ℕ) (h : KeepsEnds q replies old) (k : AreClasses q replies part class) (refines : (s : ℕ) → slice_index part s ≢ 0 → slice_index part s ≡ slice_index old s) where
   class-refines : (s t : ℕ) → slice_index class s ≢ 0 → slice_index class s ≡ slice_index class t → (slice_index old s ≢ 0) × (slice_index old s ≡ slice_index old t)
   class-refines s t some same =
@@ -79,23 +80,8 @@ module _ (q : Query) (replies : List (Option ℕ)) (old part class : List ℕ) (
       let live' : slice_index part t ≢ 0 = λ none. live (sym one ∙ none) in
       ((λ none. live (refines s live ∙ none)), sym (refines s live) ∙ sym one ∙ refines t live')
 
-  pub fewer-gone : (s : ℕ) × (s < states q) × (slice_index old s ≢ 0) × (slice_index part s ≡ 0) → pairs class < pairs old
-  fewer-gone lost =
-      let room : lost.0 < length old = omega (arith, lost.1, h.many) in
-      pairs-fewer old class class-refines (k.placed.many ∙ sym h.many) lost.0 lost.0 room room lost.2 refl (λ same. elim (cases_eq (slice_index class lost.0) 0) [
-        | inl none ↦ none
-        | inr some ↦ absurd (k.placed.live lost.0 some lost.3)
-      ])
-
-  pub fewer-cut : ((s : ℕ) → slice_index part s ≡ slice_index old s) → IsRooted part → (s : ℕ) × (slice_index part s ≢ 0) × (slice_index class s ≢ slice_index class (slice_index part s - 1)) → pairs class < pairs old
-  fewer-cut still rooted one =
-      let r : ℕ = slice_index part one.0 - 1 in
-      let is : slice_index part r ≡ slice_index part one.0 = rooted one.0 one.1 in
-      let live : slice_index old one.0 ≢ 0 = λ none. one.1 (still one.0 ∙ none) in
-      let same : slice_index old one.0 ≡ slice_index old r = sym (still one.0) ∙ sym is ∙ still r in
-      pairs-fewer old class class-refines (k.placed.many ∙ sym h.many) one.0 r (within old one.0 live) (within old r (λ none. live (same ∙ none))) live same (λ joined. absurd (one.2 joined))
-
--- parts that are the same are rooted alike
-pub rooted-same : (part new : List ℕ) → ((s : ℕ) → slice_index new s ≡ slice_index part s) → IsRooted part → IsRooted new
-rooted-same part new same rooted s some =
-    same (slice_index new s - 1) ∙ subst (λ (x : ℕ). slice_index part (x - 1) ≡ x) (sym (same s)) (rooted s (λ none. some (same s ∙ none)))
+  pub fewer-cut : CutsPart part class → pairs class < pairs old
+  fewer-cut cut =
+      let live : slice_index old cut.0 ≢ 0 = λ none. cut.2 (refines cut.0 cut.2 ∙ none) in
+      let same : slice_index old cut.0 ≡ slice_index old cut.1 = sym (refines cut.0 cut.2) ∙ cut.3 ∙ refines cut.1 (λ none. cut.2 (cut.3 ∙ none)) in
+      pairs-fewer old class class-refines (k.placed.many ∙ sym h.many) cut.0 cut.1 (within old cut.0 live) (within old cut.1 (λ none. live (same ∙ none))) live same (λ joined. absurd (cut.4 joined))

@@ -2,8 +2,8 @@
 use Rattle.std.specs.Prelude.{ℕ, List}
 use Rattle.game_model.specs.Query.{states}
 use Rattle.trap_sets.specs.declared.cut.Cut.{Cut}
-use Rattle.trap_sets.specs.Parts.{IsInner, KeepsEnds, HaveInner, AreSettled, AreClasses}
-use Rattle.trap_sets.specs.Trimming.{IsTrimmed}
+use Rattle.trap_sets.specs.Parts.{IsInner, KeepsEnds, HaveInner, AreSettled, AreClasses, AreUncut, AreJoined}
+use Rattle.trap_sets.specs.Trimming.{IsTrimmed, AreHeld, IsTested}
 
 -- how many states a cut question has
 abbrev pub states_in : Cut → ℕ
@@ -29,7 +29,24 @@ AreSettledOf cut = AreSettled cut.question.now cut.replies.now
 abbrev pub AreClassesIn : Cut → List ℕ → List ℕ → Type 0
 AreClassesIn cut = AreClasses cut.question.now cut.replies.now
 
+-- the classes cut no inner choice of a state with a part
+abbrev pub AreUncutIn : Cut → List ℕ → List ℕ → Type 0
+AreUncutIn cut = AreUncut cut.question.now cut.replies.now
+
+-- the states of each part reach each other by inner choices
+abbrev pub AreJoinedIn : Cut → List ℕ → Type 0
+AreJoinedIn cut = AreJoined cut.question.now cut.replies.now
+
 -- some states have lost their part, and no end component of the cut question has; the choices of a state before the
 -- awaited one are not inner
-abbrev pub IsTrimmedOf : Cut → List ℕ → List ℕ → List ℕ → List ℕ → Type 0
+abbrev pub IsTrimmedOf : Cut → List ℕ → List ℕ → List ℕ → Type 0
 IsTrimmedOf cut = IsTrimmed cut.question.now cut.replies.now
+
+-- of the first states those that have a part wait for a choice of the cut question that stays in it, but for successors
+-- that are gone, from a place on
+abbrev pub AreHeldOf : Cut → List ℕ → List ℕ → List ℕ → ℕ → ℕ → Type 0
+AreHeldOf cut = AreHeld cut.question.now cut.replies.now
+
+-- a state was tested: it waits for an inner choice, or has lost its part
+abbrev pub IsTestedOf : Cut → ℕ → List ℕ → List ℕ → List ℕ → List ℕ → List ℕ → List ℕ → Type 0
+IsTestedOf cut = IsTested cut.question.now cut.replies.now

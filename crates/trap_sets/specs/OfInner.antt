@@ -3,7 +3,7 @@ use Rattle.std.specs.Prelude.{ℕ, List}
 use Rattle.game_model.specs.Query.{states}
 use Rattle.trap_sets.specs.declared.inner.Inner.{Inner}
 use Rattle.trap_sets.specs.Ends.{Leads}
-use Rattle.trap_sets.specs.Parts.{IsInner, IsStep, Comes, IsPlacing, AreClasses}
+use Rattle.trap_sets.specs.Parts.{IsInner, IsStep, Comes, IsPlacing, AreClasses, IsUncut, AreUncut}
 
 -- how many states the cut question has
 abbrev pub states_of : Inner → ℕ
@@ -33,3 +33,11 @@ IsPlacingOf inner = IsPlacing inner.cut.question.now inner.cut.replies.now inner
 -- each state with a part has a class, and two states the same where inner choices lead from each to the other
 abbrev pub AreClassesOf : Inner → List ℕ → Type 0
 AreClassesOf inner = AreClasses inner.cut.question.now inner.cut.replies.now inner.part.now
+
+-- the numbers do not cut the choice
+abbrev pub IsUncutOf : Inner → List ℕ → ℕ → ℕ → Type 0
+IsUncutOf inner = IsUncut inner.cut.question.now
+
+-- the classes cut no inner choice of a state with a part
+abbrev pub AreUncutOf : Inner → List ℕ → Type 0
+AreUncutOf inner = AreUncut inner.cut.question.now inner.cut.replies.now inner.part.now

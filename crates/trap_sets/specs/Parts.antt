@@ -1,8 +1,12 @@
 -- Parts of the states on the way to the traps: each end component lies in one.
-use Rattle.std.specs.Prelude.{◌≡◌, ◌≢◌, ℕ, ◌-◌, ◌<◌, Bool, true, List, length, slice_index, Option}
+use Rattle.std.specs.Prelude.{◌≡◌, ◌≢◌, ℕ, ◌-◌, ◌<◌, ◌==◌, ◌⊎◌, Bool, true, List, length, slice_index, if◌then◌else◌, Option}
 use Rattle.game_model.specs.Query.{Query, states}
 use Rattle.fixed_bellman.specs.Given.{IsFree}
 use Rattle.trap_sets.specs.Ends.{IsCut, Leads, Reach, IsEndComponent}
+
+-- what has another number counts one
+abbrev pub off : ℕ → ℕ → ℕ
+off number m = if m == number then 0 else 1
 
 -- no successor of the choice has another number than its state
 abbrev pub Stays : Query → List ℕ → ℕ → ℕ → Type 0
@@ -11,6 +15,19 @@ Stays q of s c = (t : ℕ) → Leads q s c t → slice_index of t ≡ slice_inde
 -- some successor has
 abbrev pub Leaves : Query → List ℕ → ℕ → ℕ → Type 0
 Leaves q of s c = (t : ℕ) × Leads q s c t × (slice_index of t ≢ slice_index of s)
+
+-- no successor but the state itself has the number of the state
+abbrev pub Avoids : Query → List ℕ → ℕ → ℕ → Type 0
+Avoids q of s c = (t : ℕ) → Leads q s c t → t ≢ s → slice_index of t ≢ slice_index of s
+
+-- the numbers do not cut the choice: all successors have that of its state, or none but the state itself has
+abbrev pub IsUncut : Query → List ℕ → ℕ → ℕ → Type 0
+IsUncut q of s c = Stays q of s c ⊎ Avoids q of s c
+
+-- two states of one part are in different classes
+abbrev pub CutsPart : List ℕ → List ℕ → Type 0
+CutsPart part class = (s : ℕ) × (t : ℕ) × (slice_index part s ≢ 0) × (slice_index part s ≡ slice_index part t)
+    × (slice_index class s ≢ slice_index class t)
 
 -- a choice of the cut question whose successors are in the part of its state
 pub record IsInner (q : Query) (replies : List (Option ℕ)) (part : List ℕ) (s c : ℕ) : Type 0 where
@@ -62,9 +79,19 @@ pub record AreClasses (q : Query) (replies : List (Option ℕ)) (part class : Li
 abbrev pub HaveInner : Query → List (Option ℕ) → List ℕ → Type 0
 HaveInner q replies part = (s : ℕ) → s < states q → slice_index part s ≢ 0 → (c : ℕ) × IsInner q replies part s c
 
+-- the classes cut no inner choice of a state with a part
+abbrev pub AreUncut : Query → List (Option ℕ) → List ℕ → List ℕ → Type 0
+AreUncut q replies part class = (s c : ℕ) → s < states q → slice_index part s ≢ 0 → IsInner q replies part s c
+    → IsUncut q class s c
+
+-- the states of each part reach each other by inner choices
+abbrev pub AreJoined : Query → List (Option ℕ) → List ℕ → Type 0
+AreJoined q replies part = (s t : ℕ) → slice_index part s ≢ 0 → slice_index part s ≡ slice_index part t
+    → Comes q replies part s t
+
 -- each part is an end component, and each end component lies in one
 pub record AreSettled (q : Query) (replies : List (Option ℕ)) (part : List ℕ) : Type 0 where
   pub keeps : KeepsEnds q replies part
   pub rooted : IsRooted part
   pub inner : HaveInner q replies part
-  pub joined : (s t : ℕ) → slice_index part s ≢ 0 → slice_index part s ≡ slice_index part t → Comes q replies part s t
+  pub joined : AreJoined q replies part

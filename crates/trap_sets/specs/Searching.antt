@@ -1,9 +1,10 @@
 -- Searches backward and forward from a pivot.
-use Rattle.std.specs.Prelude.{◌≡◌, ◌≢◌, ℕ, ◌+◌, ◌-◌, ◌<◌, ◌==◌, List, length, slice_index, sum_by, if◌then◌else◌, Contains}
+use Rattle.std.specs.Prelude.{◌≡◌, ◌≢◌, ℕ, ◌+◌, ◌-◌, ◌<◌, List, length, slice_index, sum_by, Contains}
 use Rattle.game_model.specs.Growing.{IsLonger}
 use Rattle.predecessors.specs.declared.lists.Move.{Move}
 use Rattle.trap_sets.specs.declared.inner.Inner.{Inner}
 use Rattle.trap_sets.specs.OfInner.{states_of, IsInnerOf, IsStepOf, ComesOf}
+use Rattle.trap_sets.specs.Parts.{off}
 
 -- a state without a class that comes to the pivot
 abbrev pub IsBehind : Inner → List ℕ → ℕ → ℕ → Type 0
@@ -12,10 +13,6 @@ IsBehind inner class pivot s = ComesOf inner s pivot × (slice_index class s ≡
 -- a state behind the pivot to which it comes
 abbrev pub IsBefore : Inner → List ℕ → ℕ → ℕ → Type 0
 IsBefore inner seen pivot s = ComesOf inner pivot s × (slice_index seen s ≡ pivot + 1)
-
--- what has another mark counts one
-abbrev pub off : ℕ → ℕ → ℕ
-off mark m = if m == mark then 0 else 1
 
 -- the states with the pivot's mark are those of the list, each once, and good
 pub record IsMarking (n : ℕ) (Good : ℕ → Type 0) (marks list : List ℕ) (pivot : ℕ) : Type 0 where

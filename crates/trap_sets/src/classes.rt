@@ -4,10 +4,8 @@ ghost use Rattle.std.specs.Prelude.{◌≡◌, ◌≢◌, ℕ, ◌+◌, ◌<◌,
 ghost use Rattle.game_model.specs.Query.{states};
 ghost use Rattle.trap_sets.specs.OfInner.{states_of, IsPlacingOf, AreClassesOf};
 ghost use Rattle.trap_sets.specs.Searching.{AreSpent};
-ghost use Rattle.trap_sets.specs.OfCut.{states_in, AreClassesIn};
 
 use crate::backward::go_back;
-use crate::cut::Cut;
 use crate::forward::go_on;
 use crate::inner::Inner;
 use crate::order::leaving_order;
@@ -18,16 +16,14 @@ use std::alloc::Global;
 /// inner choices lead from each to the other. The order of the pivots is that in which a depth-first search
 /// leaves them, backward, so each search backward meets one class alone (Kosaraju and Sharir); the classes are
 /// the same in each order.
-pub fn classes(alloc: Global, cut: &Cut<'_>, part: &[u32]) -> Result<Vec<u32>, OutOfMemory>
-    requires part { length part.now ≡ states_in cut.now }
-    ensures { IfOk result (λ class. AreClassesIn cut.now part.now class.items) }
+pub fn classes(alloc: Global, inner: &Inner<'_>) -> Result<Vec<u32>, OutOfMemory>
+    ensures { IfOk result (λ class. AreClassesOf inner.now class.items) }
 {
-    let inner = Inner::of_parts(alloc, cut, part)?;
-    let order = leaving_order(alloc, &inner)?;
-    let states = cut.question.game().states() as usize;
+    let order = leaving_order(alloc, inner)?;
+    let states = inner.cut.question.game().states() as usize;
     let mut class = vec![in alloc; 0u32; states]?;
     let mut seen = vec![in alloc; 0u32; states]?;
-    place_all(alloc, &inner, &order, &mut seen, &mut class)?;
+    place_all(alloc, inner, &order, &mut seen, &mut class)?;
     Ok(class)
 }
 

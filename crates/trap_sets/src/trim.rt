@@ -1,31 +1,27 @@
 //! Removal of the states that have no inner choice.
 
-ghost use Rattle.std.specs.Prelude.{◌≡◌, ◌≢◌, ℕ, ◌<◌, List, length, slice_index, true, false, IfOk, OnOk};
+ghost use Rattle.std.specs.Prelude.{◌≡◌, ◌≢◌, ℕ, ◌+◌, ◌<◌, List, length, slice_index, OnOk};
 ghost use Rattle.game_model.specs.Growing.{IsLonger};
-ghost use Rattle.trap_sets.specs.OfCut.{states_in, IsInnerIn, KeepsEndsOf, HaveInnerOf, IsTrimmedOf};
+ghost use Rattle.trap_sets.specs.OfCut.{states_in, KeepsEndsOf, HaveInnerOf, IsTrimmedOf, AreHeldOf, IsTestedOf};
 
 use crate::cut::Cut;
 use game_outside::OutOfMemory;
 use std::alloc::Global;
 
 /// Takes its part from each state that has no inner choice, and from each that has none left then, and so
-/// on. Tells whether any state lost its part. A state waits for one choice at a time, so each choice is tested
-/// twice at most.
-pub fn trim(alloc: Global, cut: &Cut<'_>, part: &mut [u32]) -> Result<bool, OutOfMemory>
+/// on. A state waits for one choice at a time, so each choice is tested twice at most.
+pub fn trim(alloc: Global, cut: &Cut<'_>, part: &mut [u32]) -> Result<(), OutOfMemory>
     requires keeps { KeepsEndsOf cut.now part.old }
     ensures keeps { OnOk result (KeepsEndsOf cut.now part.new) }
     ensures refines { OnOk result ((s : ℕ) → slice_index part.new s ≢ 0
         → slice_index part.new s ≡ slice_index part.old s) }
-    ensures still { IfOk result (λ any. any ≡ false → ((s : ℕ) → slice_index part.new s ≡ slice_index part.old s)
-        × HaveInnerOf cut.now part.new) }
-    ensures lost { IfOk result (λ any. any ≡ true → (s : ℕ) × (s < states_in cut.now) × (slice_index part.old s ≢ 0)
-        × (slice_index part.new s ≡ 0)) }
+    ensures inner { OnOk result (HaveInnerOf cut.now part.new) }
 {
     let states = cut.question.game().states();
     let mut awaited = vec![in alloc; 0u32; states as usize]?;
     let mut gone = Vec::new(alloc);
     trim_all(cut, part, &mut awaited, &mut gone)?;
-    Ok(gone.len() > 0)
+    Ok(())
 }
 
 /// Tests each state, and then, for each state that lost its part, those that wait for a choice that leads to
@@ -36,17 +32,17 @@ fn trim_all(
     awaited: &mut [u32],
     gone: &mut Vec<u32>,
 ) -> Result<(), OutOfMemory>
-    requires trimmed { IsTrimmedOf cut.now part.old part.old awaited.old gone.old.items }
-    ensures trimmed { OnOk result (IsTrimmedOf cut.now part.old part.new awaited.new gone.new.items) }
-    ensures inner { OnOk result (length gone.new.items ≡ 0 → HaveInnerOf cut.now part.new) }
+    requires trimmed { IsTrimmedOf cut.now part.old awaited.old gone.old.items }
+    ensures keeps { OnOk result (KeepsEndsOf cut.now part.new) }
+    ensures refines { OnOk result ((s : ℕ) → slice_index part.new s ≢ 0
+        → slice_index part.new s ≡ slice_index part.old s) }
+    ensures inner { OnOk result (HaveInnerOf cut.now part.new) }
 {
     test_all(cut, part, awaited, gone)?;
-    for place in 0..cut.question.game().states() as usize {
-        if place == gone.len() {
-            return Ok(());
-        }
-        let member = gone[place];
-        follow_gone(cut, member, part, awaited, gone)?;
+    let mut place: usize = 0;
+    while place < gone.len() {
+        follow_gone(cut, place, part, awaited, gone)?;
+        place += 1;
     }
     Ok(())
 }
@@ -58,9 +54,11 @@ fn test_all(
     awaited: &mut [u32],
     gone: &mut Vec<u32>,
 ) -> Result<(), OutOfMemory>
-    requires trimmed { IsTrimmedOf cut.now part.old part.old awaited.old gone.old.items }
-    ensures trimmed { OnOk result (IsTrimmedOf cut.now part.old part.new awaited.new gone.new.items) }
-    ensures inner { OnOk result (length gone.new.items ≡ 0 → HaveInnerOf cut.now part.new) }
+    requires trimmed { IsTrimmedOf cut.now part.old awaited.old gone.old.items }
+    ensures trimmed { OnOk result (IsTrimmedOf cut.now part.new awaited.new gone.new.items) }
+    ensures refines { OnOk result ((s : ℕ) → slice_index part.new s ≢ 0
+        → slice_index part.new s ≡ slice_index part.old s) }
+    ensures held { OnOk result (AreHeldOf cut.now part.new awaited.new gone.new.items 0 (states_in cut.now)) }
 {
     for state in 0..cut.question.game().states() {
         if part[state as usize] != 0 {
@@ -70,20 +68,24 @@ fn test_all(
     Ok(())
 }
 
-/// Tests the states that wait for a choice that leads to this one.
+/// Tests the states that wait for a choice that leads to the state at this place.
 fn follow_gone(
     cut: &Cut<'_>,
-    member: u32,
+    place: usize,
     part: &mut [u32],
     awaited: &mut [u32],
     gone: &mut Vec<u32>,
 ) -> Result<(), OutOfMemory>
-    requires member { member < states_in cut.now }
-    requires kept { (old : List ℕ) × IsTrimmedOf cut.now old part.old awaited.old gone.old.items }
-    ensures trimmed { OnOk result ((old : List ℕ) → IsTrimmedOf cut.now old part.old awaited.old gone.old.items
-        → IsTrimmedOf cut.now old part.new awaited.new gone.new.items) }
+    requires place { place < length gone.old.items }
+    requires trimmed { IsTrimmedOf cut.now part.old awaited.old gone.old.items }
+    requires held { AreHeldOf cut.now part.old awaited.old gone.old.items place (states_in cut.now) }
+    ensures trimmed { OnOk result (IsTrimmedOf cut.now part.new awaited.new gone.new.items) }
+    ensures refines { OnOk result ((s : ℕ) → slice_index part.new s ≢ 0
+        → slice_index part.new s ≡ slice_index part.old s) }
     ensures longer { OnOk result (IsLonger gone.old.items gone.new.items) }
+    ensures held { OnOk result (AreHeldOf cut.now part.new awaited.new gone.new.items (place + 1) (states_in cut.now)) }
 {
+    let member = gone[place];
     for step in cut.predecessors.of_state(member) {
         let state = step.state as usize;
         if part[state] != 0 && awaited[state] == step.choice {
@@ -104,11 +106,10 @@ fn test(
 ) -> Result<(), OutOfMemory>
     requires state { state < states_in cut.now }
     requires some { slice_index part.old state ≢ 0 }
-    requires kept { (old : List ℕ) × IsTrimmedOf cut.now old part.old awaited.old gone.old.items }
-    ensures trimmed { OnOk result ((old : List ℕ) → IsTrimmedOf cut.now old part.old awaited.old gone.old.items
-        → IsTrimmedOf cut.now old part.new awaited.new gone.new.items) }
-    ensures longer { OnOk result (IsLonger gone.old.items gone.new.items) }
-    ensures inner { OnOk result (length gone.new.items ≡ 0 → (c : ℕ) × IsInnerIn cut.now part.new state c) }
+    requires trimmed { IsTrimmedOf cut.now part.old awaited.old gone.old.items }
+    ensures trimmed { OnOk result (IsTrimmedOf cut.now part.new awaited.new gone.new.items) }
+    ensures tested { OnOk result
+        (IsTestedOf cut.now state part.old awaited.old gone.old.items part.new awaited.new gone.new.items) }
 {
     let place = state as usize;
     let next = cut.next_inner(part, state, awaited[place]);

@@ -1,15 +1,10 @@
-use Rattle.std.proofs.Common.{◌≡◌, ℕ, zero, suc, List, length, replicate, rules, refl, sym, ◌∙◌, subst}
-use Rattle.std.specs.Prelude.{slice_index}
+use Rattle.std.proofs.Common.{◌≡◌, ℕ, List, length, replicate, rules, sym, ◌∙◌, subst}
 use Rattle.std.proofs.lemmas.List.{length-replicate}
 use Rattle.trap_sets.specs.Numbering.{IsNumbering}
 use Rattle.trap_sets.proofs.Numbering.{IsNumbering-none}
 use Rattle.trap_sets.proofs.Trapping.{AreTraps-numbering}
+use Rattle.trap_sets.proofs.Zeros.{zero-at}
 use Rattle.trap_sets.proofs.numbers.numbered.Goals as goal
-
-zero-at : (n p : ℕ) → slice_index (replicate n 0) p ≡ 0
-zero-at zero p = refl
-zero-at (suc n) zero = refl
-zero-at (suc n) (suc p) = zero-at n p
 
 pub number_all-requires-clause-none : goal.number_all-requires-clause-none
 number_all-requires-clause-none c =

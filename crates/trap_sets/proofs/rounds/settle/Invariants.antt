@@ -1,14 +1,14 @@
 use Rattle.std.proofs.Common.{◌≡◌, ◌+◌, false}
 use Rattle.std.specs.Bool.{if◌then◌else◌}
-use Rattle.trap_sets.specs.Parts.{IsRooted, KeepsEnds, AreSettled}
+use Rattle.trap_sets.specs.Parts.{IsRooted, KeepsEnds, AreJoined}
 use Rattle.trap_sets.specs.Pairs.{pairs}
 use Rattle.trap_sets.proofs.rounds.settle.Given as goal
 
 abbrev pub invariant-loop-changes : goal.invariant-loop-changes
 invariant-loop-changes l = record {
   keeps : KeepsEnds l.cut.question.now l.cut.replies.now l.part;
-  rooted : IsRooted l.part;
-  settled : l.changes ≡ false → AreSettled l.cut.question.now l.cut.replies.now l.part;
+  rooted : l.changes ≡ false → IsRooted l.part;
+  joined : l.changes ≡ false → AreJoined l.cut.question.now l.cut.replies.now l.part;
 }
 
 abbrev pub decreases-loop-changes : goal.decreases-loop-changes

@@ -1,10 +1,7 @@
-use Rattle.std.proofs.Common.{◌≡◌, ◌≢◌, ◌+◌, ◌<◌, ℕ, length, arith, ap, ◌∙◌, inl, inr}
+use Rattle.std.proofs.Common.{◌≡◌, ◌≢◌, ◌+◌, ℕ, List, arith, ap, ◌∙◌}
 use Rattle.std.specs.Prelude.{slice_index}
-use Rattle.std.proofs.lemmas.Bool.{cases_eq}
-use Rattle.trap_sets.specs.Parts.{IsInner}
-use Rattle.trap_sets.specs.Trimming.{IsTrimmed}
-use Rattle.trap_sets.proofs.Marking.{longer-length}
-use Rattle.trap_sets.proofs.Trimming.{of-three, scan-more}
+use Rattle.trap_sets.specs.Trimming.{IsTrimmed, AreHeld}
+use Rattle.trap_sets.proofs.Trimming.{of-three, AreHeld-tested, AreHeld-without}
 use Rattle.trap_sets.proofs.trim.test_all.Goals as goal
 use Rattle.trap_sets.proofs.trim.test_all.Goals.{then-part-state-ne0+in_ok-test, else-part-state-ne0}
 
@@ -12,19 +9,19 @@ pub loop-state-preserved : goal.loop-state-preserved
 loop-state-preserved c =
     let q = c.args.cut.now.question.now in
     let r = c.args.cut.now.replies.now in
-    record {
-      trimmed = elim c.if-part-state-ne0.branch [
-        | then-part-state-ne0+in_ok-test w ↦ of-three (λ a b d. IsTrimmed q r c.args.part.now a b d) _ _ _ _ _ _ w.part-is w.awaited-is (ap (λ v. v.items) w.gone-is) (w.in_ok-test.ensures.trimmed c.args.part.now c.loop-state.invariant.trimmed)
-        | else-part-state-ne0 w ↦ of-three (λ a b d. IsTrimmed q r c.args.part.now a b d) _ _ _ _ _ _ w.part-is w.awaited-is (ap (λ v. v.items) w.gone-is) c.loop-state.invariant.trimmed
-      ];
-      inner = elim c.if-part-state-ne0.branch [
-        | then-part-state-ne0+in_ok-test w ↦ of-three (λ a b d. length d ≡ 0 → (s : ℕ) → s < c.loop-state.state + 1 → slice_index a s ≢ 0 → (x : ℕ) × IsInner q r a s x) _ _ _ _ _ _ w.part-is w.awaited-is (ap (λ v. v.items) w.gone-is)
-            (scan-more q r c.args.part.now c.loop-state.part w.test.new.part c.loop-state.awaited w.test.new.awaited c.loop-state.gone.items w.test.new.gone.items c.loop-state.state c.loop-state.invariant.trimmed
-            (w.in_ok-test.ensures.trimmed c.args.part.now c.loop-state.invariant.trimmed) (longer-length c.loop-state.gone.items w.test.new.gone.items w.in_ok-test.ensures.longer) c.loop-state.invariant.inner w.in_ok-test.ensures.inner)
-        | else-part-state-ne0 w ↦ of-three (λ a b d. length d ≡ 0 → (s : ℕ) → s < c.loop-state.state + 1 → slice_index a s ≢ 0 → (x : ℕ) × IsInner q r a s x) _ _ _ _ _ _ w.part-is w.awaited-is (ap (λ v. v.items) w.gone-is)
-            (λ empty s below some. elim (cases_eq s c.loop-state.state) [
-              | inl same ↦ absurd (some (ap (λ t. slice_index c.loop-state.part t) same ∙ w.if-part-state-ne0.false))
-              | inr other ↦ c.loop-state.invariant.inner empty s (omega (arith, below, other)) some
-            ])
-      ];
-    }
+    let n : ℕ = c.loop-state.state in
+    let Fact : List ℕ → List ℕ → List ℕ → Type 0 = λ a b d. IsTrimmed q r a b d × ((s : ℕ) → slice_index a s ≢ 0 → slice_index a s ≡ slice_index c.args.part.now s) × AreHeld q r a b d 0 (n + 1) in
+    let all : Fact c.if-part-state-ne0.part c.if-part-state-ne0.awaited c.if-part-state-ne0.gone.items = elim c.if-part-state-ne0.branch [
+      | then-part-state-ne0+in_ok-test w ↦ of-three Fact _ _ _ _ _ _ w.part-is w.awaited-is (ap (λ v. v.items) w.gone-is) (
+        w.in_ok-test.ensures.trimmed,
+        λ s some. w.in_ok-test.ensures.tested.refines s some ∙ c.loop-state.invariant.refines s (λ none. some (w.in_ok-test.ensures.tested.refines s some ∙ none)),
+        AreHeld-tested q r n c.loop-state.part c.loop-state.awaited c.loop-state.gone.items w.test.new.part w.test.new.awaited w.test.new.gone.items w.in_ok-test.ensures.tested 0 (n + 1) (omega arith)
+            (λ s ls other some. c.loop-state.invariant.held s (omega (arith, ls, other)) some),
+      )
+      | else-part-state-ne0 w ↦ of-three Fact _ _ _ _ _ _ w.part-is w.awaited-is (ap (λ v. v.items) w.gone-is) (
+        c.loop-state.invariant.trimmed,
+        c.loop-state.invariant.refines,
+        AreHeld-without q r c.loop-state.part c.loop-state.awaited c.loop-state.gone.items 0 n w.if-part-state-ne0.false c.loop-state.invariant.held,
+      )
+    ] in
+    record { trimmed = all.0; refines = all.1; held = all.2 }
