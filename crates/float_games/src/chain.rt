@@ -139,6 +139,31 @@ impl<'g> Chain<'g> {
         change
     }
 
+    /// What one pass in place takes from values, where nodes give nothing: each value, less those of its successors by
+    /// their shares.
+    pub fn taken_by_pass(&self, values: &[f64], taken: &mut [f64])
+        requires values { length values.now ≡ nodes_in self.now }
+        requires taken { length taken.old ≡ nodes_in self.now }
+        ensures { length taken.new ≡ length taken.old }
+    {
+        let choices = self.game.gives.len();
+        let nodes = self.game.maximises.len();
+        taken.copy_from_slice(values);
+        for node in 0..nodes {
+            let choice = (self.policy[node] as usize).min(choices - 1);
+            let begin = self.game.edge_starts[choice];
+            let end = self.game.edge_starts[choice + 1];
+            let mut sum = 0.0;
+            for edge in begin..end {
+                sum += self.game.share[edge as usize] * taken[self.game.to[edge as usize] as usize];
+            }
+            taken[node] = sum;
+        }
+        for node in 0..nodes {
+            taken[node] = values[node] - taken[node];
+        }
+    }
+
     /// What each value misses: what its node gives and its successors have more, by their shares, less what the value
     /// has where the node leaves. From differences it is nearly exact.
     pub fn residuals(&self, alloc: Global, values: &[f64]) -> Result<Vec<f64>, OutOfMemory>

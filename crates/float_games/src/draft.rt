@@ -29,9 +29,9 @@ impl Draft {
         choices: usize,
         edges: usize,
     ) -> Result<Draft, OutOfMemory> {
-        let mut choice_starts = Vec::with_capacity(alloc, nodes)?;
+        let mut choice_starts = Vec::with_capacity(alloc, nodes.saturating_add(1))?;
         choice_starts.push(0)?;
-        let mut edge_starts = Vec::with_capacity(alloc, choices)?;
+        let mut edge_starts = Vec::with_capacity(alloc, choices.saturating_add(1))?;
         edge_starts.push(0)?;
         Ok(Draft {
             lists: Lists {
@@ -81,10 +81,7 @@ impl Draft {
         let total = self.total;
         let is_in = 0.0 < total;
         if is_in {
-            let begin = self.begin;
-            for share in self.lists.share.iter_mut().skip(begin) {
-                *share /= total;
-            }
+            divide_from(&mut self.lists.share, self.begin, total);
             self.lists.gives.push(self.given / total)?;
             self.lists.leaves.push(self.left / total)?;
             self.lists.marks.push(mark)?;
@@ -115,6 +112,13 @@ impl Draft {
     /// The game of the nodes that have ended, or nothing where an edge leads to no node.
     pub fn finish(self) -> Option<FloatGame> {
         FloatGame::checked(self.lists)
+    }
+}
+
+/// Divides the entries from this place on.
+fn divide_from(shares: &mut [f64], begin: usize, total: f64) {
+    for place in begin..shares.len() {
+        shares[place] /= total;
     }
 }
 

@@ -3,7 +3,7 @@
 ghost use Rattle.std.specs.Prelude.{◌≡◌, IfOk, length, vec_len};
 ghost use Rattle.float_games.specs.Nodes.{nodes_in};
 
-use crate::vectors::{add_scaled, copy, greatest, product, scale_and_add, take_from};
+use crate::vectors::{add_scaled, advance, greatest, product, redirect, square_and_product};
 use float_games::Chain;
 use game_outside::OutOfMemory;
 use std::alloc::Global;
@@ -14,7 +14,6 @@ use std::alloc::Global;
 #[derive(Drop)]
 pub struct Work {
     nodes: usize,
-    zeros: Vec<f64>,
     residual: Vec<f64>,
     shadow: Vec<f64>,
     direction: Vec<f64>,
@@ -23,11 +22,12 @@ pub struct Work {
     pub found: Vec<f64>,
     rho: f64,
     pub left: f64,
-    ghost zeros_all: { vec_len zeros ≡ nodes },
     ghost residuals: { vec_len residual ≡ nodes },
+    ghost shadows: { vec_len shadow ≡ nodes },
     ghost directions: { vec_len direction ≡ nodes },
     ghost moves: { vec_len moved ≡ nodes },
     ghost turns: { vec_len turned ≡ nodes },
+    ghost founds: { vec_len found ≡ nodes },
 }
 
 impl Work {
@@ -52,7 +52,6 @@ impl Work {
         let left = greatest(&residual);
         Ok(Work {
             nodes,
-            zeros: vec![in alloc; 0.0; nodes]?,
             residual,
             shadow,
             direction,
@@ -69,42 +68,38 @@ impl Work {
         requires { self.old.nodes ≡ nodes_in chain.now }
         ensures { self.new.nodes ≡ self.old.nodes }
     {
-        take_by_pass(chain, &self.zeros, &self.direction, &mut self.moved);
+        chain.taken_by_pass(&self.direction, &mut self.moved);
         let along = product(&self.shadow, &self.moved);
         if along == 0.0 || self.rho == 0.0 {
             return false;
         }
         let alpha = self.rho / along;
         add_scaled(&mut self.residual, -alpha, &self.moved);
-        take_by_pass(chain, &self.zeros, &self.residual, &mut self.turned);
-        let size = product(&self.turned, &self.turned);
-        let omega = if size > 0.0 {
-            product(&self.turned, &self.residual) / size
-        } else {
-            0.0
-        };
-        add_scaled(&mut self.found, alpha, &self.direction);
-        add_scaled(&mut self.found, omega, &self.residual);
-        add_scaled(&mut self.residual, -omega, &self.turned);
-        self.left = greatest(&self.residual);
+        chain.taken_by_pass(&self.residual, &mut self.turned);
+        let (size, same) = square_and_product(&self.turned, &self.residual);
+        let omega = if size > 0.0 { same / size } else { 0.0 };
+        let left = advance(
+            &mut self.found,
+            &mut self.residual,
+            &self.direction,
+            &self.turned,
+            &self.shadow,
+            alpha,
+            omega,
+        );
+        self.left = left.greatest;
         if !(self.left < most) || omega == 0.0 {
             return false;
         }
-        let rho = product(&self.residual, &self.shadow);
-        let beta = rho / self.rho * (alpha / omega);
-        self.rho = rho;
-        add_scaled(&mut self.direction, -omega, &self.moved);
-        scale_and_add(&mut self.direction, beta, &self.residual);
+        let beta = left.product / self.rho * (alpha / omega);
+        self.rho = left.product;
+        redirect(
+            &mut self.direction,
+            &self.moved,
+            &self.residual,
+            omega,
+            beta,
+        );
         true
     }
-}
-
-/// What a pass takes from a vector, where nodes give nothing.
-fn take_by_pass(chain: &Chain, zeros: &[f64], from: &[f64], target: &mut [f64])
-    requires zeros { length zeros.now ≡ nodes_in chain.now }
-    requires target { length target.old ≡ nodes_in chain.now }
-{
-    copy(target, from);
-    let _change = chain.pass(zeros, target);
-    take_from(target, from);
 }

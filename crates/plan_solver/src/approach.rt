@@ -1,6 +1,6 @@
 //! The states from which a goal can be reached, by their distance, and a choice of each that leads there.
 
-ghost use Rattle.std.specs.Prelude.{◌≡◌, ◌<◌, IfOk, length};
+ghost use Rattle.std.specs.Prelude.{◌≡◌, ◌<◌, length, vec_len};
 ghost use Rattle.game_model.specs.Query.{states};
 
 use game_model::{Question, Side};
@@ -11,6 +11,9 @@ use std::alloc::Global;
 /// No choice.
 pub const NONE: u32 = u32::MAX;
 
+/// What a state of the maximiser waits for: any choice.
+const ANY: u32 = u32::MAX;
+
 /// What grows backward from the goals.
 #[derive(Drop)]
 pub struct Approach {
@@ -18,9 +21,11 @@ pub struct Approach {
     pub order: Vec<u32>,
     /// For each state the choice by which it joined, or `NONE`.
     pub toward: Vec<u32>,
-    joined: Vec<bool>,
-    followed: Vec<bool>,
+    /// For each state how many more choices must lead on before it joins, or `ANY`; 0 where it joined, or is dead.
     awaited: Vec<u32>,
+    /// For each choice whether it is one of the minimiser that leads on.
+    followed: Vec<bool>,
+    ghost as_many: { vec_len awaited ≡ vec_len toward },
 }
 
 impl Approach {
@@ -50,73 +55,68 @@ impl Approach {
 
     /// The goals alone.
     fn of_goals(alloc: Global, question: &Question) -> Result<Approach, OutOfMemory> {
-        let game = question.game();
-        let states = game.states();
-        let choices = game.choices_below(states);
-        let mut order = Vec::new(alloc);
-        let mut joined = Vec::with_capacity(alloc, states as usize)?;
-        let mut awaited = Vec::with_capacity(alloc, states as usize)?;
+        let states = question.game().states();
+        let mut order = Vec::with_capacity(alloc, states as usize)?;
+        let mut awaited = vec![in alloc; 0u32; states as usize]?;
         for state in 0..states {
-            let is_goal = question.is_goal(state);
-            joined.push(is_goal)?;
-            awaited.push(match question.side(state) {
-                Side::Max => 1,
-                Side::Min => game.choices_of(state),
-            })?;
-            if is_goal {
+            if question.is_goal(state) {
                 order.push(state)?;
+            } else if !question.is_dead(state) {
+                awaited[state as usize] = match question.side(state) {
+                    Side::Max => ANY,
+                    Side::Min => question.game().choices_of(state),
+                };
             }
         }
+        let choices = question.game().choices_below(states);
         Ok(Approach {
             order,
             toward: vec![in alloc; NONE; states as usize]?,
-            joined,
-            followed: vec![in alloc; false; choices as usize]?,
             awaited,
+            followed: vec![in alloc; false; choices as usize]?,
         })
     }
 
-    /// Follows a choice that leads to a state that joined.
+    /// Follows a choice that leads to a state that joined. Its own state joins where it waits for no other.
     fn follow(&mut self, question: &Question, step: Move) -> Result<(), OutOfMemory> {
         let state = step.state as usize;
-        if step.state >= question.game().states()
-            || question.is_dead(step.state)
-            || self.joined.get(state).copied().unwrap_or(true)
-        {
+        if state >= self.awaited.len() {
             return Ok(());
         }
-        let number = question.game().choices_below(step.state) as usize;
-        let number = number.saturating_add(step.choice as usize);
-        if self.followed.get(number).copied().unwrap_or(true) {
-            return Ok(());
+        let left = self.awaited[state];
+        if left == ANY {
+            return self.join(step);
         }
-        if let Some(followed) = self.followed.get_mut(number) {
-            *followed = true;
-        }
-        let left = self
-            .awaited
-            .get(state)
-            .copied()
-            .unwrap_or(0)
-            .saturating_sub(1);
-        if let Some(awaited) = self.awaited.get_mut(state) {
-            *awaited = left;
-        }
-        if left == 0 {
-            self.join(step)?;
+        if left > 0 && self.is_last(question, step, left) {
+            return self.join(step);
         }
         Ok(())
     }
 
     /// The state of a choice joins by it.
-    fn join(&mut self, step: Move) -> Result<(), OutOfMemory> {
-        if let Some(joined) = self.joined.get_mut(step.state as usize) {
-            *joined = true;
-        }
-        if let Some(toward) = self.toward.get_mut(step.state as usize) {
-            *toward = step.choice;
-        }
+    fn join(&mut self, step: Move) -> Result<(), OutOfMemory>
+        requires { step.state < vec_len self.old.awaited }
+    {
+        self.awaited[step.state as usize] = 0;
+        self.toward[step.state as usize] = step.choice;
         self.order.push(step.state)?;
         Ok(())
+    }
+
+    /// Notes that a choice of the minimiser leads on, where its state waits for so many. Whether it was the last one.
+    fn is_last(&mut self, question: &Question, step: Move, left: u32) -> bool
+        requires { step.state < vec_len self.old.awaited }
+        ensures { vec_len self.new.awaited ≡ vec_len self.old.awaited }
+    {
+        if step.state >= question.game().states() {
+            return false;
+        }
+        let number = question.game().choices_below(step.state) as usize + step.choice as usize;
+        if number >= self.followed.len() || self.followed[number] {
+            return false;
+        }
+        self.followed[number] = true;
+        self.awaited[step.state as usize] = left.saturating_sub(1);
+        left == 1
     }
 }

@@ -4,13 +4,12 @@ ghost use Rattle.std.specs.Prelude.{◌≡◌, ◌+◌, ◌<◌, IfOk, length};
 ghost use Rattle.game_model.specs.Query.{states};
 ghost use Rattle.predecessors.specs.Lists.{ArePredecessors};
 
-use crate::approach::Approach;
+use crate::approach::{Approach, NONE};
 use crate::frame::{Frame, is_open};
 use crate::groups::{end_components, open_components};
 use crate::lower::lower_component;
 use crate::replies::improve_replies;
 use crate::upper::{Start, upper_component};
-use almost_sure::almost_sure_over;
 use float_games::UNIT;
 use game_model::{Marks, Question};
 use game_outside::OutOfMemory;
@@ -18,46 +17,69 @@ use predecessors::Predecessors;
 use solved_plans::Candidates;
 use std::alloc::Global;
 use table_rounding::UnitTable;
-use zero_sets::zero_set_over;
 
 /// The most times that upper tables are found, each over better replies.
 const TURNS: u32 = 6;
 
-/// What a solver takes for lower and upper bounds of a question, over the predecessors in its game. Values to begin
-/// with, one for each state, are hints alone: upper values begin with them. The only error is want of memory.
+/// What a solver takes for lower and upper bounds of a question, over the predecessors in its game, where the states of
+/// value 1 and those of value 0 are known. Where these are all states, the tables are empty. Values to begin with, one
+/// for each state, are hints alone: upper values begin with them. The only error is want of memory.
 pub fn find_bounds(
     alloc: Global,
     question: &Question,
     predecessors: &Predecessors,
+    sure: &Marks,
+    zero: &Marks,
     hints: Option<&[f64]>,
 ) -> Result<Candidates, OutOfMemory>
-    requires { ArePredecessors question.now.game predecessors.now }
+    requires predecessors { ArePredecessors question.now.game predecessors.now }
+    requires sure { length sure.now ≡ states question.now }
+    requires zero { length zero.now ≡ states question.now }
 {
     question.known();
-    let sure = almost_sure_over(alloc, question, predecessors)?;
-    let zero = zero_set_over(alloc, question, predecessors)?;
+    if !has_open(question, sure, zero) {
+        return Ok(Candidates {
+            lower: Vec::new(alloc),
+            upper: Vec::new(alloc),
+        });
+    }
     let approach = Approach::of_question(alloc, question, predecessors)?;
-    let components = open_components(alloc, question, &sure, &zero, &approach.order)?;
+    let components = open_components(alloc, question, sure, zero, &approach.order)?;
     let frame = Frame {
         question,
         predecessors,
+        approach: &approach,
         components: &components,
-        sure: &sure,
-        zero: &zero,
+        sure,
+        zero,
     };
     let states = question.game().states() as usize;
     let mut replies = vec![in alloc; 0u32; states]?;
-    let lower = lower_bounds(alloc, &frame, &approach.toward, &mut replies)?;
+    let mut node_of = vec![in alloc; NONE; states]?;
+    let lower = lower_bounds(alloc, &frame, &mut replies, &mut node_of)?;
     let values = first_values(alloc, &lower.values, hints)?;
     let start = Start {
         values: &values,
         planned: &lower.planned,
     };
-    let upper = upper_table(alloc, &frame, &approach.order, &start, &mut replies)?;
+    let upper = upper_table(alloc, &frame, &start, &mut replies, &mut node_of)?;
     Ok(Candidates {
         lower: lower.table.into_entries(),
         upper: upper.into_entries(),
     })
+}
+
+/// Whether some value is neither 1 nor 0.
+fn has_open(question: &Question, sure: &Marks, zero: &Marks) -> bool
+    requires sure { length sure.now ≡ states question.now }
+    requires zero { length zero.now ≡ states question.now }
+{
+    for state in 0..question.game().states() {
+        if is_open(sure, zero, state) {
+            return true;
+        }
+    }
+    false
 }
 
 /// The unit where the value is 1, else 0.
@@ -86,8 +108,8 @@ struct Lower {
 fn lower_bounds(
     alloc: Global,
     frame: &Frame<'_, '_>,
-    toward: &[u32],
     replies: &mut [u32],
+    node_of: &mut [u32],
 ) -> Result<Lower, OutOfMemory>
     requires { length replies.old ≡ states frame.now.question.now }
     ensures { length replies.new ≡ length replies.old }
@@ -102,11 +124,11 @@ fn lower_bounds(
                 alloc,
                 frame,
                 component,
-                toward,
                 &mut table,
                 &mut planned,
                 replies,
                 &mut values,
+                node_of,
             )?;
         }
     }
@@ -117,45 +139,50 @@ fn lower_bounds(
     })
 }
 
-/// The upper table: over the replies, and once more while these can be improved.
+/// The upper table: over the replies, and once more from the first component where these can be improved.
 fn upper_table(
     alloc: Global,
     frame: &Frame<'_, '_>,
-    order: &[u32],
     start: &Start<'_>,
     replies: &mut [u32],
+    node_of: &mut [u32],
 ) -> Result<UnitTable, OutOfMemory>
-    requires { length replies.old ≡ states frame.now.question.now }
+    requires replies { length replies.old ≡ states frame.now.question.now }
     ensures { IfOk result (λ t. length t ≡ states frame.now.question.now) }
 {
     let mut table = known_table(alloc, frame.question, frame.sure)?;
+    let mut first: u32 = 0;
     for _ in 0..TURNS {
-        upper_turn(alloc, frame, order, start, &mut table, replies)?;
-        if !improve_replies(frame, &table, replies) {
+        upper_turn(alloc, frame, first, start, &mut table, replies, node_of)?;
+        let Some(changed) = improve_replies(frame, &table, replies) else {
             break;
-        }
+        };
+        first = changed;
     }
     Ok(table)
 }
 
-/// Upper entries of all components, over these replies.
+/// Upper entries of all components from this one on, over these replies.
 fn upper_turn(
     alloc: Global,
     frame: &Frame<'_, '_>,
-    order: &[u32],
+    first: u32,
     start: &Start<'_>,
     table: &mut UnitTable,
     replies: &mut [u32],
+    node_of: &mut [u32],
 ) -> Result<(), OutOfMemory>
     requires table { length table.old ≡ states frame.now.question.now }
     requires replies { length replies.old ≡ states frame.now.question.now }
     ensures table { length table.new ≡ length table.old }
     ensures replies { length replies.new ≡ length replies.old }
 {
-    let groups = end_components(alloc, frame, replies, order)?;
-    for component in 0..frame.components.count() {
+    let groups = end_components(alloc, frame, replies)?;
+    for component in first..frame.components.count() {
         if is_open_component(frame, component) {
-            upper_component(alloc, frame, component, &groups, start, table, replies)?;
+            upper_component(
+                alloc, frame, component, &groups, start, table, replies, node_of,
+            )?;
         }
     }
     Ok(())

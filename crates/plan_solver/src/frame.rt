@@ -4,6 +4,7 @@ ghost use Rattle.std.specs.Prelude.{◌≡◌, ◌<◌, length};
 ghost use Rattle.game_model.specs.Query.{states};
 ghost use Rattle.play_components.specs.Division.{states_of};
 
+use crate::approach::Approach;
 use game_model::{Marks, Question};
 use play_components::Components;
 use predecessors::Predecessors;
@@ -15,6 +16,8 @@ pub struct Frame<'a, 'q> {
     pub question: &'a Question<'q>,
     /// The predecessors in its game.
     pub predecessors: &'a Predecessors,
+    /// The states of positive value.
+    pub approach: &'a Approach,
     /// The components of the states whose value is neither 1 nor 0; each other state is one of its own.
     pub components: &'a Components,
     /// The states of value 1.

@@ -8,7 +8,7 @@ ghost use Rattle.play_components.specs.Division.{states_of};
 use crate::approach::NONE;
 use crate::frame::{Frame, is_open};
 use crate::staying::{Staying, stays};
-use game_model::{Marks, Question};
+use game_model::{Marks, Question, Side};
 use game_outside::OutOfMemory;
 use play_components::Components;
 use predecessors::ChoiceFlags;
@@ -107,12 +107,15 @@ pub fn end_components(
     alloc: Global,
     frame: &Frame<'_, '_>,
     replies: &[u32],
-    order: &[u32],
 ) -> Result<Groups, OutOfMemory> {
+    if !has_free_choice(frame) {
+        return Ok(Groups::alone(alloc));
+    }
     let staying = Staying::of_frame(alloc, frame, replies)?;
     if !staying.has_any() {
         return Ok(Groups::alone(alloc));
     }
+    let order = &frame.approach.order;
     let mut parts = divided(alloc, frame.question, &staying, frame.components, order)?;
     for _ in 0..TURNS {
         let finer = divided(alloc, frame.question, &staying, &parts, order)?;
@@ -123,6 +126,20 @@ pub fn end_components(
         }
     }
     Groups::of_parts(alloc, &parts, frame.question.game().states())
+}
+
+/// Whether the maximiser has more than one choice at a state whose value is neither 1 nor 0. Without that nobody can
+/// stay in a component for ever, since all its values would be 0.
+fn has_free_choice(frame: &Frame<'_, '_>) -> bool {
+    for state in 0..frame.question.game().states() {
+        if is_open(frame.sure, frame.zero, state)
+            && frame.question.side(state) == Side::Max
+            && frame.question.game().choices_of(state) > 1
+        {
+            return true;
+        }
+    }
+    false
 }
 
 /// The components over the choices that are left and stay in these parts.

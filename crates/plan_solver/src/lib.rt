@@ -12,6 +12,7 @@
 
 mod approach;
 mod bounds;
+mod edges;
 mod frame;
 mod groups;
 mod lower;

@@ -1,13 +1,13 @@
 //! Lower tables of components.
 
 ghost use Rattle.std.specs.Prelude.{◌≡◌, ◌+◌, ◌<◌, length};
-ghost use Rattle.game_model.specs.Game.{choices_of};
 ghost use Rattle.game_model.specs.Query.{states};
 
+use crate::approach::NONE;
+use crate::edges::{add_edges, draft_of};
 use crate::frame::Frame;
-use crate::weights::float_of;
 use float_games::{Bound, Draft, FloatGame};
-use game_model::Side;
+use game_model::{Question, Side};
 use game_outside::OutOfMemory;
 use local_values::{refine, solve};
 use std::alloc::Global;
@@ -28,11 +28,11 @@ pub fn lower_component(
     alloc: Global,
     frame: &Frame<'_, '_>,
     component: u32,
-    toward: &[u32],
     lower: &mut UnitTable,
     planned: &mut [u32],
     replies: &mut [u32],
     found: &mut [f64],
+    node_of: &mut [u32],
 ) -> Result<(), OutOfMemory>
     requires counted { component + 1 < length frame.now.components.now.starts }
     requires lower { length lower.old ≡ states frame.now.question.now }
@@ -51,7 +51,8 @@ pub fn lower_component(
         note_value(found, state, nearest_u64_to_f64(entry.value));
         return Ok(());
     }
-    let Some(local) = local_game(alloc, frame, component, toward, lower)? else {
+    let nodes = numbers(alloc, members.len())?;
+    let Some(local) = local_game(alloc, frame, members, &nodes, lower, node_of)? else {
         return Ok(());
     };
     let game = local.game;
@@ -68,7 +69,6 @@ pub fn lower_component(
             note_value(found, *state, *value);
         }
     }
-    let nodes = numbers(alloc, members.len())?;
     let setting = Setting {
         question: frame.question,
         predecessors: frame.predecessors,
@@ -107,80 +107,68 @@ pub fn numbers(alloc: Global, end: usize) -> Result<Vec<u32>, OutOfMemory> {
     Ok(list)
 }
 
+/// Notes the nodes of the members of a component.
+pub fn place_nodes(members: &[u32], nodes: &[u32], node_of: &mut [u32]) {
+    for (state, node) in members.iter().zip(nodes) {
+        note(node_of, *state, *node);
+    }
+}
+
+/// Takes the nodes of the members of a component back.
+pub fn clear_nodes(members: &[u32], node_of: &mut [u32]) {
+    for state in members {
+        note(node_of, *state, NONE);
+    }
+}
+
 /// The local game: a node for each member, and what leaves gives what the table says.
 fn local_game(
     alloc: Global,
     frame: &Frame<'_, '_>,
-    component: u32,
-    toward: &[u32],
+    members: &[u32],
+    nodes: &[u32],
     lower: &UnitTable,
-) -> Result<Option<Local>, OutOfMemory>
-    requires counted { component + 1 < length frame.now.components.now.starts }
-    requires lower { length lower.now ≡ states frame.now.question.now }
-{
-    let members = frame.components.members(component);
-    let mut draft = Draft::new(alloc, members.len(), members.len(), members.len())?;
+    node_of: &mut [u32],
+) -> Result<Option<Local>, OutOfMemory> {
+    place_nodes(members, nodes, node_of);
+    let toward = &frame.approach.toward;
+    let mut draft = draft_of(alloc, frame.question, members)?;
     let mut policy = Vec::with_capacity(alloc, members.len())?;
     for state in members {
-        let first = add_state(frame, component, toward, lower, *state, &mut draft)?;
-        policy.push(first)?;
+        if *state < frame.question.game().states() {
+            let wanted = toward.get(*state as usize).copied().unwrap_or(NONE);
+            policy.push(add_state(frame.question, wanted, lower, node_of, *state, &mut draft)?)?;
+        }
     }
+    clear_nodes(members, node_of);
     match draft.finish() {
         Some(game) => Ok(Some(Local { game, policy })),
         None => Ok(None),
     }
 }
 
-/// Adds the node of a state. Gives the choice to begin with.
+/// Adds the node of a state. Gives the choice to begin with: of the maximiser the wanted one.
 fn add_state(
-    frame: &Frame<'_, '_>,
-    component: u32,
-    toward: &[u32],
+    question: &Question,
+    wanted: u32,
     lower: &UnitTable,
+    node_of: &[u32],
     state: u32,
     draft: &mut Draft,
 ) -> Result<u32, OutOfMemory>
-    requires state { state < states frame.now.question.now }
-    requires lower { length lower.now ≡ states frame.now.question.now }
+    requires { state < states question.now }
 {
-    let side = frame.question.side(state);
-    let wanted = toward.get(state as usize).copied();
+    let side = question.side(state);
+    let row = question.row(state);
     let mut first = u32::try_from(draft.choices()).unwrap_or(0);
-    for choice in 0..frame.question.game().choices_of(state) {
-        add_edges(frame, component, lower, state, choice, draft)?;
+    for choice in 0..row.choices() {
+        add_edges(&row, choice, node_of, lower.entries(), draft)?;
         let number = u32::try_from(draft.choices()).unwrap_or(0);
         let is_in = draft.end_choice(choice)?;
-        if is_in && side == Side::Max && wanted == Some(choice) {
+        if is_in && side == Side::Max && wanted == choice {
             first = number;
         }
     }
     draft.end_node(side == Side::Max)?;
     Ok(first)
-}
-
-/// Adds the edges of a choice.
-fn add_edges(
-    frame: &Frame<'_, '_>,
-    component: u32,
-    lower: &UnitTable,
-    state: u32,
-    choice: u32,
-    draft: &mut Draft,
-) -> Result<(), OutOfMemory>
-    requires state { state < states frame.now.question.now }
-    requires choice { choice < length (choices_of frame.now.question.now.game state) }
-    requires lower { length lower.now ≡ states frame.now.question.now }
-{
-    frame.question.known();
-    let game = frame.question.game();
-    for place in 0..game.edge_count(state, choice) {
-        let edge = game.edge(state, choice, place);
-        let weight = float_of(edge.weight);
-        if frame.components.component_of(edge.to) == component {
-            draft.add_edge(frame.components.place_of(edge.to), weight)?;
-        } else {
-            draft.add_exit(weight, nearest_u64_to_f64(lower.get(edge.to)));
-        }
-    }
-    Ok(())
 }

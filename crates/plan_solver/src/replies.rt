@@ -1,38 +1,55 @@
 //! Better replies of the minimiser, over an upper table.
 
 ghost use Rattle.std.specs.Prelude.{◌≡◌, ◌<◌, length};
-ghost use Rattle.game_model.specs.Game.{choices_of};
 ghost use Rattle.game_model.specs.Query.{states};
 
 use crate::frame::{Frame, is_open};
 use crate::lower::note;
-use crate::weights::float_of;
-use game_model::Side;
+use crate::weights::{float_of, is_narrow};
+use game_model::{Question, Row, Side};
 use std::num::nearest_u64_to_f64;
 use table_rounding::UnitTable;
 
 /// A reply is exchanged for one that gives less by more than so many units.
 const GAIN: f64 = 4.0;
 
-/// Exchanges replies for better ones. Whether there were any.
-pub fn improve_replies(frame: &Frame<'_, '_>, upper: &UnitTable, replies: &mut [u32]) -> bool
+/// Exchanges replies for better ones. Gives the first component with an exchange, or nothing where there is none.
+pub fn improve_replies(frame: &Frame<'_, '_>, upper: &UnitTable, replies: &mut [u32]) -> Option<u32>
+    requires { length upper.now ≡ states frame.now.question.now }
+    ensures { length replies.new ≡ length replies.old }
+{
+    let mut first: Option<u32> = None;
+    for state in 0..frame.question.game().states() {
+        if is_improved(frame, upper, replies, state) {
+            let component = frame.components.component_of(state);
+            first = match first {
+                Some(earlier) => Some(earlier.min(component)),
+                None => Some(component),
+            };
+        }
+    }
+    first
+}
+
+/// Exchanges the reply of a state for a better one. Whether there is one.
+fn is_improved(frame: &Frame<'_, '_>, upper: &UnitTable, replies: &mut [u32], state: u32) -> bool
+    requires state { state < states frame.now.question.now }
     requires upper { length upper.now ≡ states frame.now.question.now }
     ensures { length replies.new ≡ length replies.old }
 {
-    let mut is_better = false;
-    for state in 0..frame.question.game().states() {
-        if frame.question.side(state) == Side::Min && is_open(frame.sure, frame.zero, state) {
-            let own = nearest_u64_to_f64(upper.get(state));
-            let best = best_reply(frame, upper, state);
-            if best.value < own - GAIN
-                && replies.get(state as usize).copied() != Some(best.choice)
-            {
-                note(replies, state, best.choice);
-                is_better = true;
-            }
-        }
+    if frame.question.game().choices_of(state) == 1
+        || frame.question.side(state) == Side::Max
+        || !is_open(frame.sure, frame.zero, state)
+    {
+        return false;
     }
-    is_better
+    let own = nearest_u64_to_f64(upper.get(state));
+    let best = best_reply(frame.question, upper, state);
+    if !(best.value < own - GAIN) || replies.get(state as usize).copied() == Some(best.choice) {
+        return false;
+    }
+    note(replies, state, best.choice);
+    true
 }
 
 /// A choice and what it gives.
@@ -43,17 +60,17 @@ struct Reply {
 }
 
 /// The choice that gives the least.
-fn best_reply(frame: &Frame<'_, '_>, upper: &UnitTable, state: u32) -> Reply
-    requires state { state < states frame.now.question.now }
-    requires upper { length upper.now ≡ states frame.now.question.now }
+fn best_reply(question: &Question, upper: &UnitTable, state: u32) -> Reply
+    requires { state < states question.now }
 {
-    frame.question.known();
+    let row = question.row(state);
+    row.known();
     let mut best = Reply {
         choice: 0,
-        value: value_of(frame, upper, state, 0),
+        value: value_of(&row, upper.entries(), 0),
     };
-    for choice in 1..frame.question.game().choices_of(state) {
-        let value = value_of(frame, upper, state, choice);
+    for choice in 1..row.choices() {
+        let value = value_of(&row, upper.entries(), choice);
         if value < best.value {
             best = Reply { choice, value };
         }
@@ -62,17 +79,25 @@ fn best_reply(frame: &Frame<'_, '_>, upper: &UnitTable, state: u32) -> Reply
 }
 
 /// What a choice gives by the table.
-fn value_of(frame: &Frame<'_, '_>, upper: &UnitTable, state: u32, choice: u32) -> f64
-    requires state { state < states frame.now.question.now }
-    requires choice { choice < length (choices_of frame.now.question.now.game state) }
-    requires upper { length upper.now ≡ states frame.now.question.now }
+fn value_of(row: &Row<'_>, entries: &[u64], choice: u32) -> f64
+    requires { choice < length row.now }
 {
-    frame.question.known();
-    let game = frame.question.game();
     let mut sum = 0.0;
-    for place in 0..game.edge_count(state, choice) {
-        let edge = game.edge(state, choice, place);
-        sum += float_of(edge.weight) * nearest_u64_to_f64(upper.get(edge.to));
+    if is_narrow(row.total(choice)) {
+        let weights = row.narrow_weights(choice);
+        for (to, weight) in row.successors(choice).iter().zip(weights) {
+            sum += nearest_u64_to_f64(*weight) * entry_of(entries, *to);
+        }
+    } else {
+        for place in 0..row.edge_count(choice) {
+            let edge = row.edge(choice, place);
+            sum += float_of(edge.weight) * entry_of(entries, edge.to);
+        }
     }
-    sum / float_of(game.total(state, choice))
+    sum / float_of(row.total(choice))
+}
+
+/// The entry of a state.
+fn entry_of(entries: &[u64], state: u32) -> f64 {
+    nearest_u64_to_f64(entries.get(state as usize).copied().unwrap_or(0))
 }

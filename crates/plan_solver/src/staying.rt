@@ -95,21 +95,18 @@ impl Staying {
         if step.state >= question.game().states() {
             return Ok(());
         }
-        let number = question.game().choices_below(step.state) as usize;
-        let number = number.saturating_add(step.choice as usize);
-        if self.dropped.get(number).copied().unwrap_or(true) {
+        let number = question.game().choices_below(step.state) as usize + step.choice as usize;
+        if number >= self.dropped.len() || self.dropped[number] {
             return Ok(());
         }
-        if let Some(dropped) = self.dropped.get_mut(number) {
-            *dropped = true;
-        }
+        self.dropped[number] = true;
         let state = step.state as usize;
-        let left = self.left.get(state).copied().unwrap_or(0).saturating_sub(1);
-        if let Some(entry) = self.left.get_mut(state) {
-            *entry = left;
-        }
-        if left == 0 {
-            self.lost.push(step.state)?;
+        if state < self.left.len() {
+            let left = self.left[state].saturating_sub(1);
+            self.left[state] = left;
+            if left == 0 {
+                self.lost.push(step.state)?;
+            }
         }
         Ok(())
     }
@@ -123,8 +120,7 @@ impl Staying {
     pub fn has(&self, question: &Question, state: u32, choice: u32) -> bool
         requires { state < states question.now }
     {
-        let number = question.game().choices_below(state) as usize;
-        let number = number.saturating_add(choice as usize);
+        let number = question.game().choices_below(state) as usize + choice as usize;
         !self.dropped.get(number).copied().unwrap_or(true)
     }
 }

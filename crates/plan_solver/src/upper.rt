@@ -1,17 +1,16 @@
 //! Upper tables of components.
 
 ghost use Rattle.std.specs.Prelude.{◌≡◌, ◌+◌, ◌<◌, length};
-ghost use Rattle.game_model.specs.Game.{choices_of};
 ghost use Rattle.game_model.specs.Query.{states};
 
 use crate::approach::NONE;
+use crate::edges::{add_edges, draft_of};
 use crate::frame::Frame;
 use crate::groups::Groups;
-use crate::lower::{note, numbers};
+use crate::lower::{clear_nodes, note, numbers, place_nodes};
 use crate::staying::is_played;
-use crate::weights::float_of;
 use float_games::{Bound, Draft, FloatGame};
-use game_model::Side;
+use game_model::{Question, Side};
 use game_outside::OutOfMemory;
 use local_values::{refine, solve};
 use std::alloc::Global;
@@ -31,7 +30,6 @@ pub struct Start<'a> {
 /// with, and the minimiser's replies.
 #[derive(Drop)]
 struct Shape<'a> {
-    component: u32,
     nodes: &'a [u32],
     groups: &'a Groups,
     planned: &'a [u32],
@@ -55,6 +53,7 @@ pub fn upper_component(
     start: &Start<'_>,
     upper: &mut UnitTable,
     replies: &mut [u32],
+    node_of: &mut [u32],
 ) -> Result<(), OutOfMemory>
     requires counted { component + 1 < length frame.now.components.now.starts }
     requires upper { length upper.old ≡ states frame.now.question.now }
@@ -73,13 +72,12 @@ pub fn upper_component(
     give_up(frame, component, upper);
     let nodes = nodes_of_members(alloc, frame, component, groups)?;
     let shape = Shape {
-        component,
         nodes: &nodes,
         groups,
         planned: start.planned,
         replies,
     };
-    let Some(local) = local_game(alloc, frame, &shape, upper)? else {
+    let Some(local) = local_game(alloc, frame, members, &shape, upper, node_of)? else {
         return Ok(());
     };
     let game = local.game;
@@ -182,21 +180,30 @@ fn first_values(
 fn local_game(
     alloc: Global,
     frame: &Frame<'_, '_>,
+    members: &[u32],
     shape: &Shape<'_>,
     upper: &UnitTable,
-) -> Result<Option<Local>, OutOfMemory>
-    requires counted { shape.now.component + 1 < length frame.now.components.now.starts }
-    requires upper { length upper.now ≡ states frame.now.question.now }
-{
-    let members = frame.components.members(shape.component);
-    let mut draft = Draft::new(alloc, members.len(), members.len(), members.len())?;
+    node_of: &mut [u32],
+) -> Result<Option<Local>, OutOfMemory> {
+    place_nodes(members, shape.nodes, node_of);
+    let question = frame.question;
+    let mut draft = draft_of(alloc, question, members)?;
     let mut policy = Vec::with_capacity(alloc, members.len())?;
     for state in members {
-        if shape.groups.lead_of(*state) == *state {
-            let first = add_group(frame, shape, upper, *state, members.len(), &mut draft)?;
+        if *state < question.game().states() && shape.groups.lead_of(*state) == *state {
+            let first = add_group(
+                question,
+                shape,
+                upper,
+                node_of,
+                *state,
+                members.len(),
+                &mut draft,
+            )?;
             policy.push(first)?;
         }
     }
+    clear_nodes(members, node_of);
     match draft.finish() {
         Some(game) => Ok(Some(Local { game, policy })),
         None => Ok(None),
@@ -206,51 +213,54 @@ fn local_game(
 /// Adds the node of an end component of at most so many states, or of a state that is in none. Gives the choice to
 /// begin with.
 fn add_group(
-    frame: &Frame<'_, '_>,
+    question: &Question,
     shape: &Shape<'_>,
     upper: &UnitTable,
+    node_of: &[u32],
     lead: u32,
     most: usize,
     draft: &mut Draft,
 ) -> Result<u32, OutOfMemory>
-    requires upper { length upper.now ≡ states frame.now.question.now }
-    requires lead { lead < states frame.now.question.now }
+    requires { lead < states question.now }
 {
     let is_merged = shape.groups.next_of(lead) != NONE;
     let mut first = u32::try_from(draft.choices()).unwrap_or(0);
     let mut state = lead;
     for _ in 0..most {
-        if state >= frame.question.game().states() {
+        if state >= question.game().states() {
             break;
         }
-        if let Some(planned) = add_state(frame, shape, upper, state, is_merged, draft)? {
+        if let Some(planned) = add_state(
+            question, shape, upper, node_of, state, is_merged, draft,
+        )? {
             first = planned;
         }
         state = shape.groups.next_of(state);
     }
-    draft.end_node(is_merged || frame.question.side(lead) == Side::Max)?;
+    draft.end_node(is_merged || question.side(lead) == Side::Max)?;
     Ok(first)
 }
 
 /// Adds the choices of a state: those of an end component that leave it. Gives the one that the maximiser begins with.
 fn add_state(
-    frame: &Frame<'_, '_>,
+    question: &Question,
     shape: &Shape<'_>,
     upper: &UnitTable,
+    node_of: &[u32],
     state: u32,
     is_merged: bool,
     draft: &mut Draft,
 ) -> Result<Option<u32>, OutOfMemory>
-    requires upper { length upper.now ≡ states frame.now.question.now }
-    requires state { state < states frame.now.question.now }
+    requires { state < states question.now }
 {
-    let maximises = frame.question.side(state) == Side::Max;
+    let maximises = question.side(state) == Side::Max;
     let wanted = shape.planned.get(state as usize).copied();
+    let row = question.row(state);
     let mut planned = None;
-    for choice in 0..frame.question.game().choices_of(state) {
-        let is_inner = is_merged && shape.groups.hold(frame.question, state, choice);
-        if !is_inner && is_played(frame.question, shape.replies, state, choice) {
-            add_edges(frame, shape, upper, state, choice, draft)?;
+    for choice in 0..row.choices() {
+        let is_inner = is_merged && shape.groups.hold(question, state, choice);
+        if !is_inner && is_played(question, shape.replies, state, choice) {
+            add_edges(&row, choice, node_of, upper.entries(), draft)?;
             let number = u32::try_from(draft.choices()).unwrap_or(0);
             if draft.end_choice(choice)? && maximises && wanted == Some(choice) {
                 planned = Some(number);
@@ -258,32 +268,4 @@ fn add_state(
         }
     }
     Ok(planned)
-}
-
-/// Adds the edges of a choice.
-fn add_edges(
-    frame: &Frame<'_, '_>,
-    shape: &Shape<'_>,
-    upper: &UnitTable,
-    state: u32,
-    choice: u32,
-    draft: &mut Draft,
-) -> Result<(), OutOfMemory>
-    requires state { state < states frame.now.question.now }
-    requires choice { choice < length (choices_of frame.now.question.now.game state) }
-    requires upper { length upper.now ≡ states frame.now.question.now }
-{
-    frame.question.known();
-    let game = frame.question.game();
-    for place in 0..game.edge_count(state, choice) {
-        let edge = game.edge(state, choice, place);
-        let weight = float_of(edge.weight);
-        if frame.components.component_of(edge.to) == shape.component {
-            let place = frame.components.place_of(edge.to) as usize;
-            draft.add_edge(shape.nodes.get(place).copied().unwrap_or(0), weight)?;
-        } else {
-            draft.add_exit(weight, nearest_u64_to_f64(upper.get(edge.to)));
-        }
-    }
-    Ok(())
 }

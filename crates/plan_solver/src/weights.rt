@@ -1,9 +1,18 @@
 //! Numbers in floating point.
 
+ghost use Rattle.std.specs.Prelude.{◌^◌, ◌<◌, ◌↔◌, IsTrue};
+
 use std::num::nearest_u64_to_f64;
 
 /// Two to the 64th.
 const HIGH: u128 = 18_446_744_073_709_551_616;
+
+/// Whether weights with this total fit 64 bits.
+pub fn is_narrow(total: u128) -> bool
+    ensures { IsTrue result ↔ (total < 2 ^ 64) }
+{
+    total < HIGH
+}
 
 /// A weight, as near as floats are.
 pub fn float_of(weight: u128) -> f64 {

@@ -2,7 +2,9 @@
 
 ghost use Rattle.std.specs.Prelude.{IfOk, slice_index};
 ghost use Rattle.game_model.specs.Query.{states};
+ghost use Rattle.game_model.specs.Dual.{IsZeroSet};
 ghost use Rattle.predecessors.specs.Lists.{ArePredecessors};
+ghost use Rattle.almost_sure.specs.Values.{AreAlmostSure};
 ghost use Rattle.inductive_check.specs.Replies.{AreFirstReplies};
 ghost use Rattle.rank_certificate.specs.Carrying.{IsLayeredPlan};
 ghost use Rattle.plan_text.specs.Entries.{HasStates};
@@ -12,13 +14,11 @@ ghost use Rattle.solved_plans.specs.Plans.{IsSureExactly, IsZeroExactly};
 
 use crate::held::held_table;
 use crate::reached::reached_table;
-use almost_sure::almost_sure_over;
-use game_model::Question;
+use game_model::{Marks, Question};
 use game_outside::OutOfMemory;
 use plan_text::Plan;
 use predecessors::Predecessors;
 use std::alloc::Global;
-use zero_sets::zero_set_over;
 
 /// The tables of a solver, in units, by state. A table that has another number of entries than there are states counts
 /// as missing.
@@ -30,22 +30,26 @@ pub struct Candidates {
     pub upper: Vec<u64>,
 }
 
-/// A plan of a question that passes the checks of an audit, whatever the candidates are: its replies hold every
-/// strategy of the maximiser to the upper table, and its choices reach the lower table, less any 1/m, against every
-/// strategy of the minimiser. The lower bound is 1 exactly at the almost-sure states, and the upper one 0 exactly in
-/// the zero set.
+/// A plan of a question that passes the checks of an audit, whatever the candidates are, over the predecessors in its
+/// game, its almost-sure states and its zero set: its replies hold every strategy of the maximiser to the upper table,
+/// and its choices reach the lower table, less any 1/m, against every strategy of the minimiser. The lower bound is 1
+/// exactly at the almost-sure states, and the upper one 0 exactly in the zero set.
 ///
 /// Elsewhere the lower table is the candidate's, less than 1, where some choices and ranks vouch for the whole table,
 /// and else 0. The upper table is the candidate's, from one unit to 1, where the whole table is inductive, and else 1.
 /// The choices and ranks are those of `rank_certificate::rank_table`: none of either player stands where none is
 /// needed. The only error is want of memory.
-pub fn hand_out(
+pub fn hand_out_over(
     alloc: Global,
     question: &Question,
     predecessors: &Predecessors,
+    sure: &Marks,
+    zero: &Marks,
     candidates: &Candidates,
 ) -> Result<Plan, OutOfMemory>
-    requires { ArePredecessors question.now.game predecessors.now }
+    requires lists { ArePredecessors question.now.game predecessors.now }
+    requires sure { AreAlmostSure question.now sure.now }
+    requires zero { IsZeroSet question.now zero.now }
     ensures lists { IfOk result (λ plan. HasStates plan (states question.now)) }
     ensures passes { IfOk result (λ plan. Passes question.now plan) }
     ensures sound { IfOk result (λ plan. IsSoundPlan question.now plan) }
@@ -59,17 +63,8 @@ pub fn hand_out(
         (slice_index plan.upper.items) plan.replies.items) }
 {
     question.known();
-    let sure = almost_sure_over(alloc, question, predecessors)?;
-    let zero = zero_set_over(alloc, question, predecessors)?;
-    let reached = reached_table(
-        alloc,
-        question,
-        predecessors,
-        &sure,
-        &zero,
-        &candidates.lower,
-    )?;
-    let held = held_table(alloc, question, &sure, &zero, &candidates.upper)?;
+    let reached = reached_table(alloc, question, predecessors, sure, zero, &candidates.lower)?;
+    let held = held_table(alloc, question, sure, zero, &candidates.upper)?;
     Ok(Plan {
         lower: reached.values,
         choices: reached.plan.choices,

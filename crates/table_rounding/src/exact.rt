@@ -1,12 +1,11 @@
 //! Exact steps: what choices give by a table, in 128 bits.
 
 ghost use Rattle.std.specs.Prelude.{◌≡◌, ◌<◌, length};
-ghost use Rattle.game_model.specs.Game.{choices_of};
 ghost use Rattle.game_model.specs.Query.{states};
 
 use crate::table::UnitTable;
 use float_games::Bound;
-use game_model::{Question, Side, UNIT};
+use game_model::{Question, Row, Side, UNIT};
 
 /// What a choice gives by a table, against an entry of its state: the sums of the weights that lead to other states,
 /// times by how much their entries are above this one, and below it; and the sum of these weights.
@@ -42,6 +41,9 @@ impl Excess {
 
 /// A quotient rounded up, at most the unit; 0 where the divisor is 0.
 fn quotient_up(sum: u128, total: u128) -> u64 {
+    if sum == 0 {
+        return 0;
+    }
     if total == 0 {
         return 0;
     }
@@ -64,30 +66,26 @@ fn quotient_up(sum: u128, total: u128) -> u64 {
     u64::try_from(up).unwrap_or(UNIT)
 }
 
+/// Totals below this, times the unit, fit 64 bits.
+const SMALL: u128 = 16_384;
+
 /// What a choice of a state gives, against this entry. Edges to the state itself are left out.
-fn excess_of(question: &Question, table: &UnitTable, state: u32, choice: u32, own: u64) -> Excess
-    requires state { state < states question.now }
-    requires choice { choice < length (choices_of question.now.game state) }
+fn excess_of(row: &Row<'_>, entries: &[u64], state: u32, choice: u32, own: u64) -> Excess
+    requires { choice < length row.now }
 {
-    let row = question.row(state);
-    let entries = table.entries();
+    if row.total(choice) < 18_446_744_073_709_551_616 {
+        let weights = row.narrow_weights(choice);
+        return if row.total(choice) < SMALL {
+            small_excess(row.successors(choice), weights, entries, state, own)
+        } else {
+            narrow_excess(row.successors(choice), weights, entries, state, own)
+        };
+    }
     let mut excess = Excess {
         above: 0,
         below: 0,
         moving: 0,
     };
-    if row.total(choice) < 18_446_744_073_709_551_616 {
-        for (to, weight) in row
-            .successors(choice)
-            .iter()
-            .zip(row.narrow_weights(choice))
-        {
-            if let (true, Some(there)) = (*to != state, entries.get(*to as usize).copied()) {
-                excess = excess.with(u128::from(*weight), there, own);
-            }
-        }
-        return excess;
-    }
     for place in 0..row.edge_count(choice) {
         let edge = row.edge(choice, place);
         if let (true, Some(there)) = (edge.to != state, entries.get(edge.to as usize).copied()) {
@@ -95,6 +93,52 @@ fn excess_of(question: &Question, table: &UnitTable, state: u32, choice: u32, ow
         }
     }
     excess
+}
+
+/// The same over weights of 64 bits.
+fn narrow_excess(
+    successors: &[u32],
+    weights: &[u64],
+    entries: &[u64],
+    state: u32,
+    own: u64,
+) -> Excess {
+    let mut excess = Excess {
+        above: 0,
+        below: 0,
+        moving: 0,
+    };
+    for (to, weight) in successors.iter().zip(weights) {
+        if let (true, Some(there)) = (*to != state, entries.get(*to as usize).copied()) {
+            excess = excess.with(u128::from(*weight), there, own);
+        }
+    }
+    excess
+}
+
+/// The same where all sums fit 64 bits.
+fn small_excess(
+    successors: &[u32],
+    weights: &[u64],
+    entries: &[u64],
+    state: u32,
+    own: u64,
+) -> Excess {
+    let mut above: u64 = 0;
+    let mut below: u64 = 0;
+    let mut moving: u64 = 0;
+    for (to, weight) in successors.iter().zip(weights) {
+        if let (true, Some(there)) = (*to != state, entries.get(*to as usize).copied()) {
+            above = above.wrapping_add(weight.wrapping_mul(there.saturating_sub(own)));
+            below = below.wrapping_add(weight.wrapping_mul(own.saturating_sub(there)));
+            moving = moving.wrapping_add(*weight);
+        }
+    }
+    Excess {
+        above: u128::from(above),
+        below: u128::from(below),
+        moving: u128::from(moving),
+    }
 }
 
 /// The side whose planned choice a bound goes by.
@@ -118,13 +162,14 @@ pub fn held_entry(
     requires many { length table.now ≡ states question.now }
 {
     let own = table.get(state);
-    let count = question.game().choices_of(state);
+    let row = question.row(state);
+    let count = row.choices();
     let is_planned = question.side(state) == planner(bound) && planned < count;
     let first = if is_planned { planned } else { 0 };
     let end = if is_planned { planned + 1 } else { count };
     let mut most: u64 = 0;
     for choice in first..end {
-        let excess = excess_of(question, table, state, choice, own);
+        let excess = excess_of(&row, table.entries(), state, choice, own);
         most = most.max(match bound {
             Bound::Lower => excess.fall(),
             Bound::Upper => excess.rise(),
@@ -151,8 +196,9 @@ pub fn single_entry(question: &Question, table: &UnitTable, bound: Bound, state:
     requires { state < states question.now }
 {
     let mut best: Option<Entry> = None;
-    for choice in 0..question.game().choices_of(state) {
-        let excess = excess_of(question, table, state, choice, 0);
+    let row = question.row(state);
+    for choice in 0..row.choices() {
+        let excess = excess_of(&row, table.entries(), state, choice, 0);
         if excess.moving == 0 {
             continue;
         }

@@ -10,7 +10,7 @@ use game_outside::OutOfMemory;
 use std::alloc::Global;
 use std::collections::VecDeque;
 
-/// The states of a component whose entries may no longer hold, each once; and by places which of them wait.
+/// The places of the states of a component whose entries may no longer hold, each once; and which of them wait.
 #[derive(Drop)]
 struct Agenda {
     waiting: VecDeque<u32>,
@@ -27,20 +27,20 @@ impl Agenda {
     }
 
     /// Takes the mark of the state at this place.
-    fn unmark(&mut self, place: u32) {
-        if let Some(mark) = self.marks.get_mut(place as usize) {
+    fn unmark(&mut self, place: usize) {
+        if let Some(mark) = self.marks.get_mut(place) {
             *mark = false;
         }
     }
 
     /// Lets the state at this place wait, if it does not.
-    fn add(&mut self, place: u32, state: u32) -> Result<(), OutOfMemory> {
+    fn add(&mut self, place: u32) -> Result<(), OutOfMemory> {
         let Some(mark) = self.marks.get_mut(place as usize) else {
             return Ok(());
         };
         if !*mark {
             *mark = true;
-            self.waiting.push_back(state)?;
+            self.waiting.push_back(place)?;
         }
         Ok(())
     }
@@ -61,14 +61,18 @@ pub fn mend(
 {
     let members = setting.components.members(setting.component);
     let mut agenda = Agenda::new(alloc, members.len())?;
-    for state in members {
-        mend_state(setting, planned, table, &mut agenda, *state)?;
+    for place in 0..members.len() {
+        agenda.unmark(place);
+        mend_state(setting, planned, table, &mut agenda, members[place])?;
     }
     for _ in 0..most {
-        let Some(state) = agenda.waiting.pop_front() else {
+        let Some(place) = agenda.waiting.pop_front() else {
             return Ok(true);
         };
-        mend_state(setting, planned, table, &mut agenda, state)?;
+        agenda.unmark(place as usize);
+        if let Some(state) = members.get(place as usize).copied() {
+            mend_state(setting, planned, table, &mut agenda, state)?;
+        }
     }
     Ok(agenda.waiting.is_empty())
 }
@@ -88,7 +92,6 @@ fn mend_state(
     if state >= setting.question.game().states() {
         return Ok(());
     }
-    agenda.unmark(setting.components.place_of(state));
     let plan = planned[state as usize];
     let held = held_entry(setting.question, table, setting.bound, state, plan);
     if held == table.get(state) {
@@ -111,7 +114,7 @@ fn add_predecessors(
         if before < setting.question.game().states()
             && setting.components.component_of(before) == setting.component
         {
-            agenda.add(setting.components.place_of(before), before)?;
+            agenda.add(setting.components.place_of(before))?;
         }
     }
     Ok(())

@@ -219,6 +219,9 @@ fn narrow(
     let width = slope.abs() * widest(away);
     let effort = full_effort(setting);
     let least = least_step(setting);
+    if !(width > least) {
+        return Ok(());
+    }
     let mut best = entries_of(alloc, setting, table)?;
     let mut near = 0.0;
     let mut end = 1.0;

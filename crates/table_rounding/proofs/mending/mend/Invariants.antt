@@ -2,8 +2,8 @@ use Rattle.std.proofs.Common.{◌≡◌, length}
 use Rattle.game_model.specs.Query.{states}
 use Rattle.table_rounding.proofs.mending.mend.Given as goal
 
-abbrev pub invariant-loop-state : goal.invariant-loop-state
-invariant-loop-state l = length l.table ≡ states l.setting.question.now
+abbrev pub invariant-loop-place : goal.invariant-loop-place
+invariant-loop-place l = length l.table ≡ states l.setting.question.now
 
 abbrev pub invariant-loop : goal.invariant-loop
 invariant-loop l = length l.table ≡ states l.setting.question.now

@@ -3,7 +3,7 @@ use Rattle.certificate_audit.proofs.Soundness.{sound}
 use Rattle.game_model.specs.Query.{states}
 use Rattle.solved_plans.specs.Bounds.{counted, IsLowerOf, IsUpperOf}
 use Rattle.solved_plans.proofs.Bounds.{lower-exactly, lower-never, upper-unit, upper-exactly}
-use Rattle.solved_plans.proofs.plan.hand_out.Goals as goal
+use Rattle.solved_plans.proofs.plan.hand_out_over.Goals as goal
 
 pub returns-clause-sound : goal.returns-clause-sound
 returns-clause-sound c = sound c.args.question.now _ c.known.ensures (record {
@@ -15,26 +15,26 @@ returns-clause-sound c = sound c.args.question.now _ c.known.ensures (record {
 
 pub returns-clause-sure : goal.returns-clause-sure
 returns-clause-sure c = record {
-  lower = lower-exactly c.args.question.now c.known.ensures c.in_ok-sure.sure c.in_ok-zero.zero c.in_ok-sure.ensures.values c.in_ok-zero.ensures _ _ c.in_ok-reached.ensures.values;
-  upper = upper-unit c.args.question.now c.known.ensures c.in_ok-sure.sure c.in_ok-zero.zero c.in_ok-sure.ensures.values c.in_ok-zero.ensures _ _ c.in_ok-held.ensures.values;
+  lower = lower-exactly c.args.question.now c.known.ensures c.args.sure.now c.args.zero.now c.requires.sure c.requires.zero _ _ c.in_ok-reached.ensures.values;
+  upper = upper-unit c.args.question.now c.known.ensures c.args.sure.now c.args.zero.now c.requires.sure c.requires.zero _ _ c.in_ok-held.ensures.values;
 }
 
 pub returns-clause-zero : goal.returns-clause-zero
 returns-clause-zero c = record {
-  upper = upper-exactly c.args.question.now c.in_ok-sure.sure c.in_ok-zero.zero c.in_ok-zero.ensures _ _ c.in_ok-held.ensures.values;
-  lower = lower-never c.args.question.now c.known.ensures c.in_ok-sure.sure c.in_ok-zero.zero c.in_ok-sure.ensures.values c.in_ok-zero.ensures _ _ c.in_ok-reached.ensures.values;
+  upper = upper-exactly c.args.question.now c.args.sure.now c.args.zero.now c.requires.zero _ _ c.in_ok-held.ensures.values;
+  lower = lower-never c.args.question.now c.known.ensures c.args.sure.now c.args.zero.now c.requires.sure c.requires.zero _ _ c.in_ok-reached.ensures.values;
 }
 
 pub returns-clause-bounds : goal.returns-clause-bounds
 returns-clause-bounds c =
     let q = c.args.question.now in
-    let sure = c.in_ok-sure.sure in
-    let zero = c.in_ok-zero.zero in
+    let sure = c.args.sure.now in
+    let zero = c.args.zero.now in
     record {
-      sure = c.in_ok-sure.sure;
-      zero = c.in_ok-zero.zero;
-      almost_sure = c.in_ok-sure.ensures.values;
-      zero_set = c.in_ok-zero.ensures;
+      sure = c.args.sure.now;
+      zero = c.args.zero.now;
+      almost_sure = c.requires.sure;
+      zero_set = c.requires.zero;
       lower_of = subst (λ (l : List ℕ). IsLowerOf q sure zero (counted (states q) l) c.in_ok-reached.reached.values.items) c.deref.ensures.value c.in_ok-reached.ensures.values;
       upper_of = subst (λ (l : List ℕ). IsUpperOf q sure zero (counted (states q) l) c.in_ok-held.held.values.items) c.deref-2.ensures.value c.in_ok-held.ensures.values;
     }
