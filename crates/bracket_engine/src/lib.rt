@@ -10,12 +10,14 @@
 //! over lists of predecessors that the caller has, and [`bracket_for`] for a bound, with the zero set.
 #![tactic(auto)]
 
+mod base;
 mod bounds;
 mod bracketed;
 mod closing;
 pub mod laws;
 mod lower;
 mod race;
+mod rounds;
 mod run;
 mod sides;
 mod stopping;
