@@ -20,14 +20,13 @@ use Rattle.game_laws.proofs.High.{IsHigh-up_step}
 use Rattle.game_laws.proofs.Near.{swapped-value-near}
 use Rattle.step_core.specs.Word.{value_in, value_at, values_of, picks_of}
 use Rattle.step_core.proofs.Words.{values_of-is, AreSoundWords-goals, AreSoundWords-units}
-use Rattle.upper_guess.specs.Guess.{IsFirstGuess}
 use Rattle.rpatl_syntax.specs.declared.formula.Bound.{Bound}
 use Rattle.verdicts.specs.Verdict.{is_asking}
 use Rattle.verdicts.proofs.Staying.{settled-on}
 use Rattle.bracket_engine.specs.declared.stopping.SettlingGuess.{SettlingGuess}
-use Rattle.bracket_engine.specs.Stop.{AreSettledAt, EndsWhereSettled, upper_from, with_kept, IsSettlingGuess, IsUpper, IsUpperFrom}
+use Rattle.bracket_engine.specs.Stop.{AreSettledAt, EndsWhereSettled, upper_from, with_kept, IsSettlingGuess, IsKeptGuess, AreUpperParts, IsUpperFrom}
 use Rattle.bracket_engine.specs.Bracket.{IsBracket, IsCloseBelow, IsNarrow, IsSweptAbove, IsLeastSettled}
-use Rattle.bracket_engine.specs.declared.race.Ended.{Ended}
+use Rattle.bracket_engine.specs.declared.race.Raced.{Raced}
 use Rattle.marked_rounds.specs.Rounds.{IsRaced}
 use Rattle.bracket_engine.specs.Race.{AreOver}
 use Rattle.bracket_engine.proofs.Rests.{IsInductive-rest}
@@ -157,69 +156,83 @@ module _ (q : Query) (zero_set : List Bool) (words swapped_words lower swapped_v
         let rested : stable ≡ true → IsNarrow q zero_set asked (slice_index lower) (slice_index upper) = λ is.
         IsNarrow-swept asked (swept-settled q (slice_index lower) rounds h.posed run (settled.0 is).0 asked) (swept-settled (swapped q zero_set) (slice_index swapped_values) rounds h.swapped_posed swapped_run (settled.0 is).1 asked) in
         record {
-          base_length = length-raced q words lower rounds h.raced h.lower_is;
-          base_units = all-units-raced q words lower rounds h.raced h.lower_is;
-          swapped_values = swapped_values;
-          swapped_bounds = record {
-            units = swapped_value-unit q zero_set words swapped_words lower swapped_values rounds h;
-            low = below-low (swapped q zero_set) (slice_index swapped_values) swapped_run.horizon (AreChoicesOf-choices_of q.game h.posed.game) swapped_run.top;
-            swept = swapped_run.swept;
-            within = swapped_run.within;
+          sound = record {
+            base_length = length-raced q words lower rounds h.raced h.lower_is;
+            base_units = all-units-raced q words lower rounds h.raced h.lower_is;
+            low = below-low q (slice_index lower) run.horizon chosen run.top;
+            high = IsHigh-up_step q (slice_index upper) chosen over.table.inductive;
           };
-          kept = kept;
-          least_upper = over;
-          kept_over = kept_over;
-          none_kept = none;
-          low = below-low q (slice_index lower) run.horizon chosen run.top;
-          high = IsHigh-up_step q (slice_index upper) chosen over.table.inductive;
-          few = few;
-          within = run.within;
-          narrow = narrow;
-          narrow_asked = elim (cases_lt rounds asked) [
-            | inl less ↦ elim (ended less) [ inl is ↦ inr (rested is) | inr at ↦ inl at ]
-            | inr past ↦ inr (subst (λ (n : ℕ). IsNarrow q zero_set n (slice_index lower) (slice_index upper)) (let same : rounds ≡ asked = omega arith in same) narrow)
-          ];
-          early = ended;
-          in_time = in_time;
-          settled = settled;
-          least = λ is. IsLeastSettled-run q (slice_index lower) rounds h.posed run (settled.0 is).0;
-          swapped_least = λ is. IsLeastSettled-run (swapped q zero_set) (slice_index swapped_values) rounds h.swapped_posed swapped_run (settled.0 is).1;
+          made = record {
+            swapped_values = swapped_values;
+            swapped_bounds = record {
+              units = swapped_value-unit q zero_set words swapped_words lower swapped_values rounds h;
+              low = below-low (swapped q zero_set) (slice_index swapped_values) swapped_run.horizon (AreChoicesOf-choices_of q.game h.posed.game) swapped_run.top;
+              swept = swapped_run.swept;
+              within = swapped_run.within;
+            };
+            kept = kept;
+            least_upper = over;
+            kept_over = kept_over;
+            none_kept = none;
+          };
+          near = record {
+            few = few;
+            within = run.within;
+            narrow = narrow;
+            narrow_asked = elim (cases_lt rounds asked) [
+              | inl less ↦ elim (ended less) [ inl is ↦ inr (rested is) | inr at ↦ inl at ]
+              | inr past ↦ inr (subst (λ (n : ℕ). IsNarrow q zero_set n (slice_index lower) (slice_index upper)) (let same : rounds ≡ asked = omega arith in same) narrow)
+            ];
+          };
+          ended = record {
+            early = ended;
+            in_time = in_time;
+            settled = settled;
+            least = λ is. IsLeastSettled-run q (slice_index lower) rounds h.posed run (settled.0 is).0;
+            swapped_least = λ is. IsLeastSettled-run (swapped q zero_set) (slice_index swapped_values) rounds h.swapped_posed swapped_run (settled.0 is).1;
+          };
         }
 
+-- what was kept is a guess, and inductive
+kept-upper : (q : Query) (zero : List Bool) (bound : Bound) (initial : List ℕ) (lower swapped_value : ℕ → ℕ) (kept : Option SettlingGuess) → IfSome kept (IsSettlingGuess q zero bound initial lower swapped_value) → IsKeptGuess q zero kept
+kept-upper q zero bound initial lower swapped_value None h = tt
+kept-upper q zero bound initial lower swapped_value (Some one) h = (h.first, h.upper)
+
 -- what two races leave that are over
-module _ (q swapped_question : Query) (zero_set : List Bool) (bound : Bound) (initial : List ℕ) (asked : ℕ) (words swapped_words lower swapped_values : List ℕ) (ended : Ended)
+module _ (q swapped_question : Query) (zero_set : List Bool) (bound : Bound) (initial : List ℕ) (asked : ℕ) (races : Raced) (lower swapped_values : List ℕ)
     (posed : IsQuery q) (swapped_posed : IsQuery swapped_question) (is_zero_set : IsZeroSet q zero_set) (same : swapped_question ≡ swapped q zero_set)
-    (over : AreOver q swapped_question zero_set bound initial asked words swapped_words ended) (lower_is : lower ≡ values_of words) (swapped_values_are : swapped_values ≡ values_of swapped_words) where
-  pub AreTables-over : AreTables q zero_set words swapped_words lower swapped_values ended.rounds
-  AreTables-over = record {
+    (over : AreOver q swapped_question zero_set bound initial asked races) (lower_is : lower ≡ values_of races.words) (swapped_values_are : swapped_values ≡ values_of races.swapped_words) where
+  tables-over : AreTables q zero_set races.words races.swapped_words lower swapped_values races.rounds
+  tables-over = record {
     posed = posed;
     swapped_posed = subst IsQuery same swapped_posed;
     is_zero_set = is_zero_set;
-    raced = over.raced;
-    swapped_raced = subst (λ (p : Query). IsRaced p swapped_words ended.rounds) same over.swapped_raced;
+    raced = over.words;
+    swapped_raced = subst (λ (p : Query). IsRaced p races.swapped_words races.rounds) same over.swapped_words;
     lower_is = lower_is;
     swapped_values_are = swapped_values_are;
   }
 
-  pub rests-over : ended.rests ≡ true → IsSettled q (slice_index lower) × IsSettled swapped_question (slice_index swapped_values)
-  rests-over is = (settled-raced q words lower ended.rounds over.raced lower_is (over.rests is).0, settled-raced swapped_question swapped_words swapped_values ended.rounds over.swapped_raced swapped_values_are (over.rests is).1)
+  pub rests-over : races.rests ≡ true → IsSettled q (slice_index lower) × IsSettled swapped_question (slice_index swapped_values)
+  rests-over is = (settled-raced q races.words lower races.rounds over.words lower_is (over.end.rests is).0, settled-raced swapped_question races.swapped_words swapped_values races.rounds over.swapped_words swapped_values_are (over.end.rests is).1)
 
-  pub kept-over : IfSome ended.kept (IsSettlingGuess q zero_set bound initial (slice_index lower) (slice_index swapped_values))
+  kept-over : IfSome races.kept (IsSettlingGuess q zero_set bound initial (slice_index lower) (slice_index swapped_values))
   kept-over =
-      let first : IfSome ended.kept (IsSettlingGuess q zero_set bound initial (slice_index lower) (value_at swapped_words)) =
-      subst (λ (t : ℕ → ℕ). IfSome ended.kept (IsSettlingGuess q zero_set bound initial t (value_at swapped_words))) (sym (ap slice_index lower_is ∙ values_of-is words)) over.kept in
-      subst (λ (t : ℕ → ℕ). IfSome ended.kept (IsSettlingGuess q zero_set bound initial (slice_index lower) t)) (sym (ap slice_index swapped_values_are ∙ values_of-is swapped_words)) first
+      let first : IfSome races.kept (IsSettlingGuess q zero_set bound initial (slice_index lower) (value_at races.swapped_words)) =
+      subst (λ (t : ℕ → ℕ). IfSome races.kept (IsSettlingGuess q zero_set bound initial t (value_at races.swapped_words))) (sym (ap slice_index lower_is ∙ values_of-is races.words)) over.end.kept in
+      subst (λ (t : ℕ → ℕ). IfSome races.kept (IsSettlingGuess q zero_set bound initial (slice_index lower) t)) (sym (ap slice_index swapped_values_are ∙ values_of-is races.swapped_words)) first
 
-  pub IsBracket-over : (upper : List ℕ) (stable : Bool) → All (λ s. s < states q) initial → IsUpperFrom q zero_set (slice_index lower) (slice_index swapped_values) ended.kept upper
-      → (stable ≡ true) ↔ (IsSettled q (slice_index lower) × IsSettled swapped_question (slice_index swapped_values)) → IsBracket q zero_set bound initial asked lower upper ended.rounds stable
+  pub AreUpperParts-over : AreUpperParts q zero_set swapped_values races.kept
+  AreUpperParts-over = record {
+    many = length-raced (swapped q zero_set) races.swapped_words swapped_values races.rounds tables-over.swapped_raced swapped_values_are;
+    unlost = unlost-inductive q zero_set races.words races.swapped_words lower swapped_values races.rounds tables-over;
+    kept_guess = kept-upper q zero_set bound initial (slice_index lower) (slice_index swapped_values) races.kept kept-over;
+  }
+
+  pub IsBracket-over : (upper : List ℕ) (stable : Bool) → All (λ s. s < states q) initial → IsUpperFrom q zero_set (slice_index lower) (slice_index swapped_values) races.kept upper
+      → (stable ≡ true) ↔ (IsSettled q (slice_index lower) × IsSettled swapped_question (slice_index swapped_values)) → IsBracket q zero_set bound initial asked lower upper races.rounds stable
   IsBracket-over upper stable inside from settled =
-      IsBracket-raced q zero_set words swapped_words lower swapped_values upper ended.rounds ended.kept AreTables-over from bound initial asked stable inside kept-over over.none over.few
-      (λ less. elim (over.early less) [ inl is ↦ inl (settled.1 (rests-over is)) | inr some ↦ inr some ])
-      (subst (λ (p : Query). EndsWhereSettled q p bound initial ended.rounds) same over.in_time)
+      IsBracket-raced q zero_set races.words races.swapped_words lower swapped_values upper races.rounds races.kept tables-over from bound initial asked stable inside kept-over over.end.none over.end.few
+      (λ less. elim (over.end.early less) [ inl is ↦ inl (settled.1 (rests-over is)) | inr some ↦ inr some ])
+      (subst (λ (p : Query). EndsWhereSettled q p bound initial races.rounds) same over.end.in_time)
       (subst (λ (p : Query). (stable ≡ true) ↔ (IsSettled q (slice_index lower) × IsSettled p (slice_index swapped_values))) same settled)
-
--- what was kept is a guess, and inductive
-pub kept-upper : (q : Query) (zero : List Bool) (bound : Bound) (initial : List ℕ) (lower swapped_value : ℕ → ℕ) (kept : Option SettlingGuess) → IfSome kept (IsSettlingGuess q zero bound initial lower swapped_value)
-    → IfSome kept (λ one. IsFirstGuess q zero (slice_index one.lower.items) one.guess.items × IsUpper q one.guess.items)
-kept-upper q zero bound initial lower swapped_value None h = tt
-kept-upper q zero bound initial lower swapped_value (Some one) h = (h.first, h.upper)

@@ -56,38 +56,51 @@ pub record AreSwappedValues (q : Query) (zero : List Bool) (rounds : ℕ) (value
   pub swept : IsBelow (swapped q zero) (down_steps (swapped q zero) rounds) (slice_index values)
   pub within : IsBelow (swapped q zero) (slice_index values) (down_steps (swapped q zero) (rounds * states q))
 
--- a bracket of a question with this zero set, after this many completed rounds of those that were asked for, unless the
--- threshold was settled at the initial states before
-pub record IsBracket (q : Query) (zero : List Bool) (bound : Bound) (initial : List ℕ) (asked : ℕ) (base upper : List ℕ)
-    (rounds : ℕ) (stable : Bool) : Type 0 where
+-- what the tables bound: the base has units and lies below the values, the upper table above them
+pub record AreSoundBounds (q : Query) (base upper : List ℕ) : Type 0 where
   pub base_length : length base ≡ states q
   pub base_units : All (λ v. v ≤ unit) base
-  -- the bounds are sound
   pub low : IsLow q (slice_index base)
   pub high : IsHigh q (slice_index upper)
-  -- the upper table is inductive, and the least of the unit less the swapped values, of the first guess over the base,
-  -- and of a guess that was kept, if any
+
+-- what the upper table is made from: it is inductive, and the least of the unit less the swapped values, of the first
+-- guess over the base, and of a guess that was kept, if any. One that is kept settles the threshold at each initial
+-- state, with the base and the swapped values.
+pub record IsMadeFrom (q : Query) (zero : List Bool) (bound : Bound) (initial : List ℕ) (rounds : ℕ)
+    (base upper : List ℕ) : Type 0 where
   pub swapped_values : List ℕ
   pub swapped_bounds : AreSwappedValues q zero rounds swapped_values
   pub kept : Option SettlingGuess
   pub least_upper : IsUpperFrom q zero (slice_index base) (slice_index swapped_values) kept upper
-  -- one that is kept settles the threshold at each initial state, with the base and the swapped values
   pub kept_over : IfSome kept (IsSettlingGuess q zero bound initial (slice_index base) (slice_index swapped_values))
   pub none_kept : is_asking bound ≡ true → kept ≡ None
-  -- the base is within the down steps of all updates of the completed rounds, one a state
+
+-- how near the tables are to the values: as near as the completed rounds make them, and as the asked ones, unless each
+-- initial state is settled. The base is within the down steps of all updates of the completed rounds, one a state.
+pub record AreNear (q : Query) (zero : List Bool) (bound : Bound) (initial : List ℕ) (asked : ℕ) (base upper : List ℕ)
+    (rounds : ℕ) : Type 0 where
   pub few : rounds ≤ asked
   pub within : IsBelow q (slice_index base) (down_steps q (rounds * states q))
-  -- the tables are as near as the completed rounds make them, and as the asked ones, unless each initial state is
-  -- settled
   pub narrow : IsNarrow q zero rounds (slice_index base) (slice_index upper)
   pub narrow_asked : AreSettledAt bound initial (slice_index base) (slice_index upper)
       ⊎ IsNarrow q zero asked (slice_index base) (slice_index upper)
-  -- the run ends early only where both tables are settled, or each initial state is
+
+-- how the run ended: early only where both tables are settled, or each initial state is, and then in time. Tables that
+-- are settled are the least settled ones.
+pub record HasEnded (q : Query) (zero : List Bool) (bound : Bound) (initial : List ℕ) (asked : ℕ)
+    (base swapped_values upper : List ℕ) (rounds : ℕ) (stable : Bool) : Type 0 where
   pub early : rounds < asked → (stable ≡ true) ⊎ AreSettledAt bound initial (slice_index base) (slice_index upper)
-  -- and it does so in time
   pub in_time : EndsWhereSettled q (swapped q zero) bound initial rounds
   pub settled : (stable ≡ true) ↔ (IsSettled q (slice_index base)
       × IsSettled (swapped q zero) (slice_index swapped_values))
-  -- tables that are settled are the least settled ones
   pub least : stable ≡ true → IsLeastSettled q (slice_index base)
   pub swapped_least : stable ≡ true → IsLeastSettled (swapped q zero) (slice_index swapped_values)
+
+-- a bracket of a question with this zero set, after this many completed rounds of those that were asked for, unless the
+-- threshold was settled at the initial states before
+pub record IsBracket (q : Query) (zero : List Bool) (bound : Bound) (initial : List ℕ) (asked : ℕ) (base upper : List ℕ)
+    (rounds : ℕ) (stable : Bool) : Type 0 where
+  pub sound : AreSoundBounds q base upper
+  pub made : IsMadeFrom q zero bound initial rounds base upper
+  pub near : AreNear q zero bound initial asked base upper rounds
+  pub ended : HasEnded q zero bound initial asked base made.swapped_values upper rounds stable

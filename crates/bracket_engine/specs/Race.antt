@@ -1,23 +1,40 @@
 -- Two races that are over.
-use Rattle.std.specs.Prelude.{◌≡◌, ℕ, ◌<◌, ◌≤◌, ◌⊎◌, Bool, true, List, None, IfSome, is_some}
+use Rattle.std.specs.Prelude.{◌≡◌, ℕ, ◌<◌, ◌≤◌, ◌⊎◌, Bool, true, List, Option, None, IfSome, is_some}
 use Rattle.game_model.specs.Query.{Query}
 use Rattle.game_model.specs.Rounded.{IsSettled}
 use Rattle.step_core.specs.Word.{value_at}
 use Rattle.rpatl_syntax.specs.declared.formula.Bound.{Bound}
 use Rattle.verdicts.specs.Verdict.{is_asking}
-use Rattle.marked_rounds.specs.Rounds.{IsRaced}
-use Rattle.bracket_engine.specs.declared.race.Ended.{Ended}
+use Rattle.marked_rounds.specs.Agenda.{read_of}
+use Rattle.marked_rounds.specs.Rounds.{IsRaced, IsRacing}
+use Rattle.bracket_engine.specs.declared.race.Raced.{Raced}
+use Rattle.bracket_engine.specs.declared.race.Racers.{Racers}
+use Rattle.bracket_engine.specs.declared.stopping.SettlingGuess.{SettlingGuess}
 use Rattle.bracket_engine.specs.Stop.{EndsWhereSettled, IsSettlingGuess}
 
--- two races are over, after at most the asked rounds: before, where the last round changed nothing on either or where a
--- guess settled the threshold at the initial states
+-- the rounds of two races that left these values are over, after at most the asked ones: before, where the last round
+-- changed nothing on either or where a guess settled the threshold at the initial states
+pub record IsEnd (q swapped_question : Query) (zero : List Bool) (bound : Bound) (initial : List ℕ) (asked : ℕ)
+    (lower swapped_value : ℕ → ℕ) (rounds : ℕ) (still : Bool) (guess : Option SettlingGuess) : Type 0 where
+  pub few : rounds ≤ asked
+  pub rests : still ≡ true → IsSettled q lower × IsSettled swapped_question swapped_value
+  pub kept : IfSome guess (IsSettlingGuess q zero bound initial lower swapped_value)
+  pub none : is_asking bound ≡ true → guess ≡ None
+  pub early : rounds < asked → (still ≡ true) ⊎ (is_some guess ≡ true)
+  pub in_time : EndsWhereSettled q swapped_question bound initial rounds
+
+-- two races that raced for as many rounds, and whose rounds are over, by the values that were read last
+pub record AreRacing {P C : Type 0} {h i : _} (q swapped_question : Query) (zero : List Bool) (bound : Bound)
+    (initial : List ℕ) (asked : ℕ) (racers : Racers P C h i) : Type 0 where
+  pub lower : IsRacing q racers.rounds racers.lower.pass racers.lower.agenda
+  pub swapped : IsRacing swapped_question racers.rounds racers.swapped.pass racers.swapped.agenda
+  pub end : IsEnd q swapped_question zero bound initial asked (read_of racers.lower.agenda)
+      (read_of racers.swapped.agenda) racers.rounds racers.rests racers.kept
+
+-- the closed words of two races whose rounds are over
 pub record AreOver (q swapped_question : Query) (zero : List Bool) (bound : Bound) (initial : List ℕ) (asked : ℕ)
-    (words swapped_words : List ℕ) (ended : Ended) : Type 0 where
-  pub raced : IsRaced q words ended.rounds
-  pub swapped_raced : IsRaced swapped_question swapped_words ended.rounds
-  pub few : ended.rounds ≤ asked
-  pub rests : ended.rests ≡ true → IsSettled q (value_at words) × IsSettled swapped_question (value_at swapped_words)
-  pub kept : IfSome ended.kept (IsSettlingGuess q zero bound initial (value_at words) (value_at swapped_words))
-  pub none : is_asking bound ≡ true → ended.kept ≡ None
-  pub early : ended.rounds < asked → (ended.rests ≡ true) ⊎ (is_some ended.kept ≡ true)
-  pub in_time : EndsWhereSettled q swapped_question bound initial ended.rounds
+    (raced : Raced) : Type 0 where
+  pub words : IsRaced q raced.words raced.rounds
+  pub swapped_words : IsRaced swapped_question raced.swapped_words raced.rounds
+  pub end : IsEnd q swapped_question zero bound initial asked (value_at raced.words) (value_at raced.swapped_words)
+      raced.rounds raced.rests raced.kept

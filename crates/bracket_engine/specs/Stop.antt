@@ -1,5 +1,5 @@
 -- What may end a run before its rounds: a guess that settles the threshold at the initial states.
-use Rattle.std.specs.Prelude.{◌≡◌, ℕ, ◌-◌, ◌<◌, ◌≤◌, Bool, true, false, List, length, All, Option, Some, None, min, slice_index}
+use Rattle.std.specs.Prelude.{◌≡◌, ℕ, ◌-◌, ◌<◌, ◌≤◌, Bool, true, false, List, length, All, Option, Some, None, min, slice_index, IfSome}
 use Rattle.std.specs.Int.{is_power_of_two}
 use Rattle.game_model.specs.Limits.{unit}
 use Rattle.game_model.specs.Query.{Query, states}
@@ -39,6 +39,19 @@ pub record IsSettlingGuess (q : Query) (zero : List Bool) (bound : Bound) (initi
   pub first : IsFirstGuess q zero (slice_index kept.lower.items) kept.guess.items
   pub upper : IsUpper q kept.guess.items
   pub settles : AreSettledAt bound initial lower (upper_from swapped_value (slice_index kept.guess.items))
+
+-- one that was kept, if any, is a guess over its lower bounds, and inductive
+abbrev pub IsKeptGuess : Query → List Bool → Option SettlingGuess → Type 0
+IsKeptGuess q zero kept =
+    IfSome kept (λ one. IsFirstGuess q zero (slice_index one.lower.items) one.guess.items × IsUpper q one.guess.items)
+
+-- what an upper table is made from beside a guess: swapped values whose rest is inductive, and a guess that was kept,
+-- if any
+pub record AreUpperParts (q : Query) (zero : List Bool) (swapped_values : List ℕ) (kept : Option SettlingGuess) :
+    Type 0 where
+  pub many : length swapped_values ≡ states q
+  pub unlost : IsInductive q (λ s. unit - slice_index swapped_values s)
+  pub kept_guess : IsKeptGuess q zero kept
 
 -- a guess, and where another one was kept the lesser of the two
 abbrev pub with_kept : Option SettlingGuess → (ℕ → ℕ) → ℕ → ℕ

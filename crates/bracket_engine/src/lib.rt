@@ -13,12 +13,14 @@
 //! schedule. One worker costs no thread.
 #![tactic(auto)]
 
+mod base;
 mod bounds;
 mod bracketed;
 mod closing;
 pub mod laws;
 mod lower;
 mod race;
+mod rounds;
 mod run;
 mod sides;
 mod stopping;

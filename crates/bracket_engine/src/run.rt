@@ -7,14 +7,12 @@ ghost use Rattle.predecessors.specs.Lists.{ArePredecessors};
 ghost use Rattle.round_workers.specs.Share.{most_workers};
 ghost use Rattle.verdicts.specs.Stop.{bound_of, IsStopRule};
 ghost use Rattle.bracket_engine.specs.Limits.{most_rounds};
-ghost use Rattle.bracket_engine.specs.Bracket.{IsBracket};
-ghost use Rattle.bracket_engine.specs.Choices.{AreChoices, AreRanks};
-ghost use Rattle.bracket_engine.specs.Lower.{IsLowerTable};
-ghost use Rattle.bracket_engine.specs.Replies.{AreRepliesTo};
+ghost use Rattle.bracket_engine.specs.Found.{IsFound};
 
 use crate::bounds::Bracket;
 use crate::closing::bracket_of;
 use crate::race::race;
+use crate::rounds::Rounds;
 use crate::stopping::Ending;
 use crate::team::Team;
 use game_model::{Marks, Question};
@@ -55,13 +53,7 @@ pub fn bracket<R: Threads + Sync, F: Fn(u64, u64) -> bool, G: Gate + Sync>(
     requires few { workers ≤ most_workers }
     requires stop { IsStopRule F.Fn stop.now }
     requires initial { All (λ s. s < states question.now) initial.now }
-    ensures bounds { IfOk result (λ b. IsBracket question.now zero.now
-        (bound_of stop.now) initial.now rounds b.base.items b.upper.items b.rounds b.stable) }
-    ensures lower { IfOk result (λ b. IsLowerTable question.now zero.now b.base.items b.lower.items b.choices.items
-        b.ranks.items) }
-    ensures choices { IfOk result (λ b. AreChoices question.now b.lower.items b.choices.items) }
-    ensures ranks { IfOk result (λ b. AreRanks question.now b.lower.items b.choices.items b.ranks.items) }
-    ensures replies { IfOk result (λ b. AreRepliesTo question.now b.upper.items b.replies.items) }
+    ensures { IfOk result (IsFound question.now zero.now (bound_of stop.now) initial.now rounds) }
 {
     let predecessors = Predecessors::of_game(alloc, question.game())?;
     bracket_over(
@@ -99,19 +91,14 @@ pub fn bracket_over<R: Threads + Sync, F: Fn(u64, u64) -> bool, G: Gate + Sync>(
     requires few { workers ≤ most_workers }
     requires stop { IsStopRule F.Fn stop.now }
     requires initial { All (λ s. s < states question.now) initial.now }
-    ensures bounds { IfOk result (λ b. IsBracket question.now zero.now
-        (bound_of stop.now) initial.now rounds b.base.items b.upper.items b.rounds b.stable) }
-    ensures lower { IfOk result (λ b. IsLowerTable question.now zero.now b.base.items b.lower.items b.choices.items
-        b.ranks.items) }
-    ensures choices { IfOk result (λ b. AreChoices question.now b.lower.items b.choices.items) }
-    ensures ranks { IfOk result (λ b. AreRanks question.now b.lower.items b.choices.items b.ranks.items) }
-    ensures replies { IfOk result (λ b. AreRepliesTo question.now b.upper.items b.replies.items) }
+    ensures { IfOk result (IsFound question.now zero.now (bound_of stop.now) initial.now rounds) }
 {
     question.known();
     let swapped_question = swap(alloc, question, zero)?;
     let ending = Ending {
         question,
         zero,
+        predecessors,
         rule: stop,
         initial,
     };
@@ -119,16 +106,13 @@ pub fn bracket_over<R: Threads + Sync, F: Fn(u64, u64) -> bool, G: Gate + Sync>(
         rt,
         workers: busy_workers(question, workers, question.game().states()),
     };
-    let raced = race::<R, Brand, Brand, F, G>(
-        rt,
-        &team,
-        alloc,
-        &ending,
-        &swapped_question,
-        predecessors,
-        rounds,
+    let made = Rounds {
+        team: &team,
+        ending: &ending,
+        most: rounds,
         workers,
         gate,
-    )?;
-    bracket_of(&team, alloc, &ending, swapped_question, predecessors, raced)
+    };
+    let raced = race::<R, Brand, Brand, F, G>(alloc, &made, &swapped_question)?;
+    bracket_of(alloc, &made, swapped_question, raced)
 }

@@ -1,25 +1,19 @@
 //! The two sides of a bracket, made at once where there are several workers.
 
-ghost use Rattle.std.specs.Prelude.{◌≡◌, ◌-◌, ◌≤◌, length, slice_index, All, IfOk, IfSome};
+ghost use Rattle.std.specs.Prelude.{◌≡◌, slice_index, IfOk};
 ghost use Rattle.std.specs.Thread.{IsSync};
-ghost use Rattle.game_model.specs.Query.{states};
-ghost use Rattle.game_model.specs.Limits.{unit};
 ghost use Rattle.game_model.specs.Dual.{IsZeroSet};
-ghost use Rattle.game_model.specs.Rounded.{IsInductive};
-ghost use Rattle.predecessors.specs.Lists.{ArePredecessors};
 ghost use Rattle.step_core.specs.Word.{values_of};
 ghost use Rattle.step_core.specs.Sound.{AreSoundWords};
-ghost use Rattle.upper_guess.specs.Guess.{IsFirstGuess};
 ghost use Rattle.bracket_engine.specs.Sides.{IsLowerSide, IsUpperSide};
-ghost use Rattle.bracket_engine.specs.Stop.{IsUpper};
+ghost use Rattle.bracket_engine.specs.Stop.{AreUpperParts};
 
+use crate::base::Base;
 use crate::lower::lower_side;
 use crate::stopping::SettlingGuess;
 use crate::team::Team;
 use crate::upper::{UpperSide, upper_side};
-use game_model::{Marks, Question};
 use game_outside::OutOfMemory;
-use predecessors::Predecessors;
 use rank_certificate::LowerGuess;
 use std::alloc::Global;
 use std::thread::{Threads, join};
@@ -30,50 +24,33 @@ use value_words::Words;
 pub fn both_sides<R: Threads + Sync>(
     team: &Team<'_, R>,
     alloc: Global,
-    question: &Question,
-    zero: &Marks,
-    predecessors: &Predecessors,
+    base: &Base<'_>,
     words: Words,
-    base: &[u64],
     swapped_values: Vec<u64>,
     kept: Option<SettlingGuess>,
 ) -> Result<(LowerGuess, UpperSide), OutOfMemory>
-    requires zero { IsZeroSet question.now zero.now }
-    requires lists { ArePredecessors question.now.game predecessors.now }
-    requires sound { AreSoundWords question.now words }
-    requires base { base.now ≡ values_of words }
-    requires length { length base.now ≡ states question.now }
-    requires units { All (λ v. v ≤ unit) base.now }
-    requires swapped_values { length swapped_values.items ≡ states question.now }
-    requires unlost { IsInductive question.now (λ s. unit - slice_index swapped_values.items s) }
-    requires kept { IfSome kept (λ kept. IsFirstGuess question.now zero.now
-        (slice_index kept.lower.items) kept.guess.items × IsUpper question.now kept.guess.items) }
-    ensures lower { IfOk result (λ sides. IsLowerSide question.now zero.now base.now sides.0) }
-    ensures upper { IfOk result (λ sides. IsUpperSide question.now zero.now (slice_index base.now)
-        (slice_index swapped_values.items) kept sides.1) }
+    requires zero { IsZeroSet base.now.question.now base.now.zero.now }
+    requires sound { AreSoundWords base.now.question.now words }
+    requires base { base.now.values.now ≡ values_of words }
+    requires parts { AreUpperParts base.now.question.now base.now.zero.now swapped_values.items kept }
+    ensures lower { IfOk result (λ sides. IsLowerSide base.now.question.now base.now.zero.now base.now.values.now
+        sides.0) }
+    ensures upper { IfOk result (λ sides. IsUpperSide base.now.question.now base.now.zero.now
+        (slice_index base.now.values.now) (slice_index swapped_values.items) kept sides.1) }
 {
     if team.workers == 1 {
-        let lower = lower_side(alloc, question, zero, predecessors, words, base)?;
-        let upper = upper_side(team, alloc, question, zero, base, swapped_values, kept)?;
+        let lower = lower_side(alloc, base, words)?;
+        let upper = upper_side(team, alloc, base, swapped_values, kept)?;
         return Ok((lower, upper));
     }
-    let lower = LowerJob {
-        alloc,
-        question,
-        zero,
-        predecessors,
-        words,
-        base,
-    };
     let others = Team {
         rt: team.rt,
         workers: team.workers - 1,
     };
+    let lower = LowerJob { alloc, base, words };
     let upper = UpperJob {
         team: &others,
         alloc,
-        question,
-        zero,
         base,
         swapped_values,
         kept,
@@ -123,31 +100,22 @@ fn run_both<R: Threads, S: Job<Made = A> + Send + Drop, T: Job<Made = B> + Drop,
 #[derive(Drop)]
 struct LowerJob<'a> {
     alloc: Global,
-    question: &'a Question<'a>,
-    zero: &'a Marks,
-    predecessors: &'a Predecessors,
+    base: &'a Base<'a>,
     words: Words,
-    base: &'a [u64],
 }
 
 impl Job for LowerJob<'_> {
     type Made = Result<LowerGuess, OutOfMemory>;
 
-    ghost can_run = { λ j. IsZeroSet j.question.now j.zero.now × ArePredecessors j.question.now.game j.predecessors.now
-        × AreSoundWords j.question.now j.words × (j.base.now ≡ values_of j.words) };
+    ghost can_run = { λ j. IsZeroSet j.base.now.question.now j.base.now.zero.now
+        × AreSoundWords j.base.now.question.now j.words × (j.base.now.values.now ≡ values_of j.words) };
 
-    ghost gives = { λ j made. IfOk made (λ side. IsLowerSide j.question.now j.zero.now j.base.now side) };
+    ghost gives = { λ j made. IfOk made (IsLowerSide j.base.now.question.now j.base.now.zero.now
+        j.base.now.values.now) };
 
     fn run(self) -> Result<LowerGuess, OutOfMemory> {
-        let LowerJob {
-            alloc,
-            question,
-            zero,
-            predecessors,
-            words,
-            base,
-        } = self;
-        lower_side(alloc, question, zero, predecessors, words, base)
+        let LowerJob { alloc, base, words } = self;
+        lower_side(alloc, base, words)
     }
 }
 
@@ -156,9 +124,7 @@ impl Job for LowerJob<'_> {
 struct UpperJob<'a, R: Threads + Sync> {
     team: &'a Team<'a, R>,
     alloc: Global,
-    question: &'a Question<'a>,
-    zero: &'a Marks,
-    base: &'a [u64],
+    base: &'a Base<'a>,
     swapped_values: Vec<u64>,
     kept: Option<SettlingGuess>,
 }
@@ -167,26 +133,20 @@ impl<R: Threads + Sync> Job for UpperJob<'_, R> {
     type Made = Result<UpperSide, OutOfMemory>;
 
     // The team shares what starts threads.
-    ghost can_run = { λ j. IsSync R.row × IsZeroSet j.question.now j.zero.now
-        × (length j.base.now ≡ states j.question.now) × All (λ v. v ≤ unit) j.base.now
-        × (length j.swapped_values.items ≡ states j.question.now)
-        × IsInductive j.question.now (λ s. unit - slice_index j.swapped_values.items s)
-        × IfSome j.kept (λ kept. IsFirstGuess j.question.now j.zero.now (slice_index kept.lower.items) kept.guess.items
-        × IsUpper j.question.now kept.guess.items) };
+    ghost can_run = { λ j. IsSync R.row × IsZeroSet j.base.now.question.now j.base.now.zero.now
+        × AreUpperParts j.base.now.question.now j.base.now.zero.now j.swapped_values.items j.kept };
 
-    ghost gives = { λ j made. IfOk made (λ side. IsUpperSide j.question.now j.zero.now (slice_index j.base.now)
-        (slice_index j.swapped_values.items) j.kept side) };
+    ghost gives = { λ j made. IfOk made (IsUpperSide j.base.now.question.now j.base.now.zero.now
+        (slice_index j.base.now.values.now) (slice_index j.swapped_values.items) j.kept) };
 
     fn run(self) -> Result<UpperSide, OutOfMemory> {
         let UpperJob {
             team,
             alloc,
-            question,
-            zero,
             base,
             swapped_values,
             kept,
         } = self;
-        upper_side(team, alloc, question, zero, base, swapped_values, kept)
+        upper_side(team, alloc, base, swapped_values, kept)
     }
 }

@@ -1,13 +1,15 @@
 //! What may end a run before its rounds.
 
 ghost use Rattle.std.specs.Prelude.{◌≡◌, ◌≤◌, ◌<◌, length, All};
-ghost use Rattle.game_model.specs.Query.{states};
+ghost use Rattle.game_model.specs.Query.{IsQuery, states};
 ghost use Rattle.game_model.specs.Limits.{unit};
 ghost use Rattle.game_model.specs.Dual.{IsZeroSet};
+ghost use Rattle.predecessors.specs.Lists.{ArePredecessors};
 
 use crate::team::Team;
 use game_model::{Marks, Question, UNIT};
 use game_outside::OutOfMemory;
+use predecessors::Predecessors;
 use std::alloc::Global;
 use std::thread::Threads;
 use upper_guess::{Witnesses, guess_with};
@@ -22,13 +24,17 @@ pub struct SettlingGuess {
     pub guess: Vec<u64>,
 }
 
-/// What may end the run of a question: a rule that is asked at its initial states.
+/// A question with its zero set and predecessors, and what may end its run: a rule that is asked at initial states.
 #[derive(Drop)]
 pub struct Ending<'a, F: Fn(u64, u64) -> bool> {
     pub question: &'a Question<'a>,
     pub zero: &'a Marks,
+    pub predecessors: &'a Predecessors,
     pub rule: &'a StopRule<F>,
     pub initial: &'a [u32],
+    ghost posed: { IsQuery question.now },
+    ghost lists: { ArePredecessors question.now.game predecessors.now },
+    ghost inside: { All (λ s. s < states question.now) initial.now },
 }
 
 impl<F: Fn(u64, u64) -> bool> Ending<'_, F> {
@@ -53,7 +59,6 @@ impl<F: Fn(u64, u64) -> bool> Ending<'_, F> {
     ) -> Result<Option<SettlingGuess>, OutOfMemory>
         requires rule { IsStopRule F.Fn self.now.rule.now }
         requires zero { IsZeroSet self.now.question.now self.now.zero.now }
-        requires initial { All (λ s. s < states self.now.question.now) self.now.initial.now }
         requires lower { length lower.now ≡ states self.now.question.now }
         requires lower_units { All (λ v. v ≤ unit) lower.now }
         requires swapped_values { length swapped_values.now ≡ states self.now.question.now }
@@ -85,7 +90,6 @@ impl<F: Fn(u64, u64) -> bool> Ending<'_, F> {
     ) -> Result<Option<SettlingGuess>, OutOfMemory>
         requires rule { IsStopRule F.Fn self.now.rule.now }
         requires zero { IsZeroSet self.now.question.now self.now.zero.now }
-        requires initial { All (λ s. s < states self.now.question.now) self.now.initial.now }
         requires lower { length lower.now ≡ states self.now.question.now }
         requires lower_units { All (λ v. v ≤ unit) lower.now }
         requires swapped_values { length swapped_values.now ≡ states self.now.question.now }
@@ -109,7 +113,6 @@ impl<F: Fn(u64, u64) -> bool> Ending<'_, F> {
     /// Whether the rule says yes at each initial state, to the lower bound and to the lesser of the two upper ones.
     fn settles(&self, lower: &[u64], swapped_values: &[u64], guess: &[u64]) -> bool
         requires rule { IsStopRule F.Fn self.now.rule.now }
-        requires initial { All (λ s. s < states self.now.question.now) self.now.initial.now }
         requires lower { length lower.now ≡ states self.now.question.now }
         requires lower_units { All (λ v. v ≤ unit) lower.now }
         requires swapped_values { length swapped_values.now ≡ states self.now.question.now }

@@ -1,18 +1,14 @@
 //! The upper side of a bracket: the upper table, and the minimiser's replies to it.
 
-ghost use Rattle.std.specs.Prelude.{◌≡◌, ◌≤◌, ◌-◌, length, slice_index, All, IfOk, IfSome};
-ghost use Rattle.game_model.specs.Query.{states};
-ghost use Rattle.game_model.specs.Limits.{unit};
+ghost use Rattle.std.specs.Prelude.{slice_index, IfOk};
 ghost use Rattle.game_model.specs.Dual.{IsZeroSet};
-ghost use Rattle.game_model.specs.Rounded.{IsInductive};
-ghost use Rattle.upper_guess.specs.Guess.{IsFirstGuess};
 ghost use Rattle.bracket_engine.specs.Sides.{IsUpperSide};
-ghost use Rattle.bracket_engine.specs.Stop.{IsUpper, IsLeastGuess, IsUpperFrom};
+ghost use Rattle.bracket_engine.specs.Stop.{AreUpperParts, IsKeptGuess, IsLeastGuess, IsUpperFrom};
 
+use crate::base::Base;
 use crate::stopping::SettlingGuess;
 use crate::tables::{lesser, rests};
 use crate::team::Team;
-use game_model::{Marks, Question};
 use game_outside::OutOfMemory;
 use inductive_check::replies;
 use std::alloc::Global;
@@ -28,78 +24,60 @@ pub struct UpperSide {
     pub replies: Vec<Option<u32>>,
 }
 
-/// The upper table, whose guess is over these lower bounds, and the replies to it. The team fills the tables of the
-/// guess. The swapped values are let go once they are read.
+/// The upper table, whose guess is over the base, and the replies to it. The team fills the tables of the guess. The
+/// swapped values are let go once they are read.
 pub fn upper_side<R: Threads + Sync>(
     team: &Team<'_, R>,
     alloc: Global,
-    question: &Question,
-    zero: &Marks,
-    lower: &[u64],
+    base: &Base<'_>,
     swapped_values: Vec<u64>,
     kept: Option<SettlingGuess>,
 ) -> Result<UpperSide, OutOfMemory>
-    requires zero { IsZeroSet question.now zero.now }
-    requires length { length lower.now ≡ states question.now }
-    requires units { All (λ v. v ≤ unit) lower.now }
-    requires swapped_values { length swapped_values.items ≡ states question.now }
-    requires unlost { IsInductive question.now (λ s. unit - slice_index swapped_values.items s) }
-    requires kept { IfSome kept (λ kept. IsFirstGuess question.now zero.now
-        (slice_index kept.lower.items) kept.guess.items × IsUpper question.now kept.guess.items) }
-    ensures { IfOk result (λ side. IsUpperSide question.now zero.now (slice_index lower.now)
-        (slice_index swapped_values.items) kept side) }
+    requires zero { IsZeroSet base.now.question.now base.now.zero.now }
+    requires parts { AreUpperParts base.now.question.now base.now.zero.now swapped_values.items kept }
+    ensures { IfOk result (IsUpperSide base.now.question.now base.now.zero.now (slice_index base.now.values.now)
+        (slice_index swapped_values.items) kept) }
 {
-    let table = upper_table(team, alloc, question, zero, lower, swapped_values, kept)?;
-    let replies = replies(alloc, question, &table)?;
+    let table = upper_table(team, alloc, base, swapped_values, kept)?;
+    let replies = replies(alloc, base.question, &table)?;
     Ok(UpperSide { table, replies })
 }
 
-// The least of the unit less the swapped values, of the guess over the lower bounds, and of the one that was kept, if
-// any.
+// The least of the unit less the swapped values, of the guess over the base, and of the one that was kept, if any.
 fn upper_table<R: Threads + Sync>(
     team: &Team<'_, R>,
     alloc: Global,
-    question: &Question,
-    zero: &Marks,
-    lower: &[u64],
+    base: &Base<'_>,
     swapped_values: Vec<u64>,
     kept: Option<SettlingGuess>,
 ) -> Result<Vec<u64>, OutOfMemory>
-    requires zero { IsZeroSet question.now zero.now }
-    requires length { length lower.now ≡ states question.now }
-    requires units { All (λ v. v ≤ unit) lower.now }
-    requires swapped_values { length swapped_values.items ≡ states question.now }
-    requires unlost { IsInductive question.now (λ s. unit - slice_index swapped_values.items s) }
-    requires kept { IfSome kept (λ kept. IsFirstGuess question.now zero.now
-        (slice_index kept.lower.items) kept.guess.items × IsUpper question.now kept.guess.items) }
-    ensures { IfOk result (λ upper. IsUpperFrom question.now zero.now (slice_index lower.now)
-        (slice_index swapped_values.items) kept upper.items) }
+    requires zero { IsZeroSet base.now.question.now base.now.zero.now }
+    requires parts { AreUpperParts base.now.question.now base.now.zero.now swapped_values.items kept }
+    ensures { IfOk result (λ upper. IsUpperFrom base.now.question.now base.now.zero.now
+        (slice_index base.now.values.now) (slice_index swapped_values.items) kept upper.items) }
 {
-    question.known();
     let unlost = rests(alloc, &swapped_values)?;
     drop(swapped_values);
-    let guessed = least_guess(team, alloc, question, zero, lower, kept)?;
+    let guessed = least_guess(team, alloc, base, kept)?;
     lesser(alloc, &unlost, &guessed)
 }
 
-// The guess over the lower bounds; where another one was kept, the lesser of the two. Over the same lower bounds that
-// one is the guess.
+// The guess over the base; where another one was kept, the lesser of the two. Over the same lower bounds that one is
+// the guess.
 fn least_guess<R: Threads + Sync>(
     team: &Team<'_, R>,
     alloc: Global,
-    question: &Question,
-    zero: &Marks,
-    lower: &[u64],
+    base: &Base<'_>,
     kept: Option<SettlingGuess>,
 ) -> Result<Vec<u64>, OutOfMemory>
-    requires zero { IsZeroSet question.now zero.now }
-    requires length { length lower.now ≡ states question.now }
-    requires units { All (λ v. v ≤ unit) lower.now }
-    requires kept { IfSome kept (λ kept. IsFirstGuess question.now zero.now
-        (slice_index kept.lower.items) kept.guess.items × IsUpper question.now kept.guess.items) }
-    ensures { IfOk result (λ least. IsLeastGuess question.now zero.now (slice_index lower.now) kept least.items) }
+    requires zero { IsZeroSet base.now.question.now base.now.zero.now }
+    requires kept { IsKeptGuess base.now.question.now base.now.zero.now kept }
+    ensures { IfOk result (λ least. IsLeastGuess base.now.question.now base.now.zero.now
+        (slice_index base.now.values.now) kept least.items) }
 {
-    question.known();
+    let question = base.question;
+    let zero = base.zero;
+    let values = base.values;
     let Some(
         SettlingGuess {
             lower: over,
@@ -107,25 +85,11 @@ fn least_guess<R: Threads + Sync>(
         },
     ) = kept
     else {
-        return guess_with(
-            team,
-            alloc,
-            &*question,
-            &*zero,
-            &*lower,
-            &mut Witnesses::none(),
-        );
+        return guess_with(team, alloc, question, zero, values, &mut Witnesses::none());
     };
-    if over.as_slice() == lower {
+    if over.as_slice() == values {
         return Ok(earlier);
     }
-    let guessed = guess_with(
-        team,
-        alloc,
-        &*question,
-        &*zero,
-        &*lower,
-        &mut Witnesses::none(),
-    )?;
+    let guessed = guess_with(team, alloc, question, zero, values, &mut Witnesses::none())?;
     lesser(alloc, &guessed, &earlier)
 }

@@ -7,10 +7,7 @@ ghost use Rattle.game_model.specs.Dual.{IsZeroSet};
 ghost use Rattle.rpatl_syntax.specs.declared.formula.Bound.TheVariants.{AskMax};
 ghost use Rattle.round_workers.specs.Share.{most_workers};
 ghost use Rattle.bracket_engine.specs.Limits.{most_rounds};
-ghost use Rattle.bracket_engine.specs.Bracket.{IsBracket};
-ghost use Rattle.bracket_engine.specs.Lower.{IsLowerTable};
-ghost use Rattle.bracket_engine.specs.Choices.{AreChoices, AreRanks};
-ghost use Rattle.bracket_engine.specs.Replies.{AreRepliesTo};
+ghost use Rattle.bracket_engine.specs.Found.{IsFound};
 
 use crate::guesses::agrees_with_the_plain_guess;
 use bracket_engine::{Bracket, bracket};
@@ -43,13 +40,7 @@ pub fn bracket_for<R: Threads + Sync>(
     requires some { 1 ≤ workers }
     requires few { workers ≤ most_workers }
     requires initial { All (λ s. s < states question.now) initial.now }
-    ensures bounds { IfOk result (λ b. IsBracket question.now zero.now bound initial.now rounds b.base.items
-        b.upper.items b.rounds b.stable) }
-    ensures lower { IfOk result (λ b. IsLowerTable question.now zero.now b.base.items b.lower.items b.choices.items
-        b.ranks.items) }
-    ensures choices { IfOk result (λ b. AreChoices question.now b.lower.items b.choices.items) }
-    ensures ranks { IfOk result (λ b. AreRanks question.now b.lower.items b.choices.items b.ranks.items) }
-    ensures replies { IfOk result (λ b. AreRepliesTo question.now b.upper.items b.replies.items) }
+    ensures { IfOk result (IsFound question.now zero.now bound initial.now rounds) }
 {
     let stop = StopRule::of_bound(bound, |lower, upper| {
         settle(&bound, lower, upper).is_settling()
@@ -80,13 +71,7 @@ pub fn value_bracket<R: Threads + Sync>(
     requires rounds { rounds ≤ most_rounds }
     requires some { 1 ≤ workers }
     requires few { workers ≤ most_workers }
-    ensures bounds { IfOk result (λ b. IsBracket question.now zero.now AskMax
-        (0 ∷ []) rounds b.base.items b.upper.items b.rounds b.stable) }
-    ensures lower { IfOk result (λ b. IsLowerTable question.now zero.now b.base.items b.lower.items b.choices.items
-        b.ranks.items) }
-    ensures choices { IfOk result (λ b. AreChoices question.now b.lower.items b.choices.items) }
-    ensures ranks { IfOk result (λ b. AreRanks question.now b.lower.items b.choices.items b.ranks.items) }
-    ensures replies { IfOk result (λ b. AreRepliesTo question.now b.upper.items b.replies.items) }
+    ensures { IfOk result (IsFound question.now zero.now AskMax (0 ∷ []) rounds) }
 {
     question.known();
     bracket_for(

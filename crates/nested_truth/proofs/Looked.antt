@@ -71,14 +71,14 @@ module _ (q : Query) (zero : List Bool) (bound : Bound) (starts : List ℕ) (ask
   down-upper : down_steps q asked s ≤ slice_index found.upper.items s
   down-upper =
       below-above (down_steps q asked s) (slice_index found.upper.items s) unit (numerator q asked s) (denominator q.game ^ asked) (some-parts asked)
-      (down_steps-below q chosen asked s) (run.bounds.high asked s inside)
+      (down_steps-below q chosen asked s) (run.bounds.sound.high asked s inside)
 
   base-rest : slice_index found.base.items s + down_steps (swapped q zero) asked s ≤ unit
   base-rest =
-      let h = run.bounds.low.horizon in
+      let h = run.bounds.sound.low.horizon in
       within-top (slice_index found.base.items s) (down_steps (swapped q zero) asked s) unit (numerator q h s) (open_numerator q zero asked s) (numerator (swapped q zero) asked s)
       (denominator q.game ^ h) (denominator q.game ^ asked) (some-parts h) (some-parts asked)
-      (run.bounds.low.below s inside)
+      (run.bounds.sound.low.below s inside)
       (omega (arith, numerator-open q zero chosen (marked-none q zero is_zero) h asked s))
       (open_numerator-swapped q zero chosen posed.sides (marked-goal q zero is_zero) asked s (omega (arith, inside, posed.sides)))
       (down_steps-below (swapped q zero) chosen asked s)
@@ -87,7 +87,7 @@ module _ (q : Query) (zero : List Bool) (bound : Bound) (starts : List ℕ) (ask
     -- 3. What the down steps pass the lower bounds pass, and what the upper bounds pass the rest of the others does.
 
     pub lower-valuation : test_of bound (down_steps q asked s) ≡ true → test_of bound (slice_index found.lower.items s) ≡ true
-    lower-valuation passes = elim run.bounds.narrow_asked [
+    lower-valuation passes = elim run.bounds.near.narrow_asked [
       | inl settled ↦ elim (settled-test bound _ _ (looked (slice_index found.base.items) (slice_index found.upper.items) settled)) [
         | inl valuation ↦ test-more bound (slice_index found.base.items s) (slice_index found.lower.items s) (run.lower.above s inside) valuation
         | inr fails ↦ let no : false ≡ true = sym fails ∙ test-more bound (down_steps q asked s) (slice_index found.upper.items s) down-upper passes in absurd (cc)
@@ -96,7 +96,7 @@ module _ (q : Query) (zero : List Bool) (bound : Bound) (starts : List ℕ) (ask
     ]
 
     pub upper-valuation : test_of bound (slice_index found.upper.items s) ≡ true → test_of bound (unit - down_steps (swapped q zero) asked s) ≡ true
-    upper-valuation passes = elim run.bounds.narrow_asked [
+    upper-valuation passes = elim run.bounds.near.narrow_asked [
       | inl settled ↦ elim (settled-test bound _ _ (looked (slice_index found.base.items) (slice_index found.upper.items) settled)) [
         | inl valuation ↦ test-more bound (slice_index found.base.items s) (unit - down_steps (swapped q zero) asked s) (omega (arith, base-rest)) valuation
         | inr fails ↦ let no : false ≡ true = sym fails ∙ passes in absurd (cc)
@@ -107,13 +107,13 @@ module _ (q : Query) (zero : List Bool) (bound : Bound) (starts : List ℕ) (ask
     -- 4. The bounds of a run for a value are no wider than the down steps.
 
     pub asked-lower : is_asking bound ≡ true → down_steps q asked s ≤ slice_index found.lower.items s
-    asked-lower asking = elim run.bounds.narrow_asked [
+    asked-lower asking = elim run.bounds.near.narrow_asked [
       | inl settled ↦ absurd (asking-open bound _ _ asking (looked (slice_index found.base.items) (slice_index found.upper.items) settled))
       | inr narrow ↦ le_trans (narrow.swept s inside) (run.lower.above s inside)
     ]
 
     pub asked-upper : is_asking bound ≡ true → slice_index found.upper.items s ≤ unit - down_steps (swapped q zero) asked s
-    asked-upper asking = elim run.bounds.narrow_asked [
+    asked-upper asking = elim run.bounds.near.narrow_asked [
       | inl settled ↦ absurd (asking-open bound _ _ asking (looked (slice_index found.base.items) (slice_index found.upper.items) settled))
       | inr narrow ↦ omega (arith, narrow.swept_above s inside)
     ]

@@ -65,7 +65,7 @@ module _ (q : Query) (zero : List Bool) (bound : Bound) (starts : List ℕ) (ask
       }
 
   found-open : IsLookedAt bound starts s → verdict_of bound lower upper ≡ Undecided → IsLeftOpen q zero bound asked (slice_index found.lower.items) (slice_index found.upper.items) s
-  found-open looked undecided = elim run.bounds.narrow_asked [
+  found-open looked undecided = elim run.bounds.near.narrow_asked [
     | inl settled ↦
         let yes : is_settling (verdict_of bound lower upper) ≡ true = settled-on bound base lower upper upper (run.lower.above s inside) (le_refl upper) (looked (slice_index found.base.items) (slice_index found.upper.items) settled) in
         let no : is_settling (verdict_of bound lower upper) ≡ false = ap is_settling undecided in

@@ -60,11 +60,11 @@ module _ (m : Model) (game : IsGame m.game) (f : Tree) (left right : ℕ → Boo
       let high = h.high_run.is_found in
       record {
         near = IsNear-rises m f kl.sure kr.sure left right game la.sure ra.sure (slice_index band.lower) (subst (λ (t : List ℕ). IsNear (pessimistic m f kl kr) (slice_index t)) (sym h.lower) low.lower.near);
-        high = IsHigh-falls m f left right kl.possible kr.possible game la.possible ra.possible (slice_index band.upper) (subst (λ (t : List ℕ). IsHigh (optimistic m f kl kr) (slice_index t)) (sym h.upper) high.bounds.high);
+        high = IsHigh-falls m f left right kl.possible kr.possible game la.possible ra.possible (slice_index band.upper) (subst (λ (t : List ℕ). IsHigh (optimistic m f kl kr) (slice_index t)) (sym h.upper) high.bounds.sound.high);
         lowers = ap (λ (t : List ℕ). length t) h.lower ∙ low.lower.as_many;
-        uppers = ap (λ (t : List ℕ). length t) h.upper ∙ high.bounds.least_upper.table.many;
+        uppers = ap (λ (t : List ℕ). length t) h.upper ∙ high.bounds.made.least_upper.table.many;
         lower_units = subst (λ (t : List ℕ). All (λ v. v ≤ unit) t) (sym h.lower) low.lower.units;
-        upper_units = subst (λ (t : List ℕ). All (λ v. v ≤ unit) t) (sym h.upper) high.bounds.least_upper.table.units;
+        upper_units = subst (λ (t : List ℕ). All (λ v. v ≤ unit) t) (sym h.upper) high.bounds.made.least_upper.table.units;
       }
 
   -- 3. So many steps.

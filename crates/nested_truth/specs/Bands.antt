@@ -90,9 +90,10 @@ exactly holds = record { sure = holds; possible = holds }
 abbrev pub negated : Known → Known
 negated k = record { sure = (λ s. not (k.possible s)); possible = (λ s. not (k.sure s)) }
 
--- both, and one of them
+-- both
 abbrev pub both : Known → Known → Known
 both k l = record { sure = (λ s. k.sure s && l.sure s); possible = (λ s. k.possible s && l.possible s) }
 
+-- at least one of them
 abbrev pub either : Known → Known → Known
 either k l = record { sure = (λ s. k.sure s || l.sure s); possible = (λ s. k.possible s || l.possible s) }

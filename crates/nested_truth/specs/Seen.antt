@@ -13,6 +13,7 @@ use Rattle.nested_truth.specs.Truth.{states}
 use Rattle.nested_truth.specs.Bands.{Band, Bands, Known, known, undecided_in}
 use Rattle.nested_truth.specs.Runs.{AreFound}
 
+-- the game of a setting with its labels and owners
 abbrev pub model_of : Setting → Model
 model_of setting = record { game = setting.game.now; labels = setting.labels.now; owners = setting.owners.now }
 
@@ -33,9 +34,11 @@ abbrev pub high_or : Query → Option Query → Query
 high_or low None = low
 high_or low (Some high) = high
 
+-- the bounds of an answer
 abbrev pub band_of : Nested → Band
 band_of nested = record { lower = nested.lower.items; upper = nested.upper.items }
 
+-- the bounds of a formula, state by state
 abbrev pub band_in : Bounds → Band
 band_in bounds = record { lower = bounds.lower.items; upper = bounds.upper.items }
 

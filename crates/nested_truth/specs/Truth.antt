@@ -11,6 +11,7 @@ use Rattle.formula_sets.specs.Posing.{Model, at_states, question_with, next_ques
 use Rattle.bounded_rounds.specs.Exact.{next_numerator}
 use Rattle.verdicts.specs.Truth.{IsTrueOf}
 
+-- how many states the game has
 abbrev pub states : Model → ℕ
 states m = length m.game
 
@@ -35,6 +36,7 @@ abbrev pub question_by : Model → Tree → (ℕ → Bool) → (ℕ → Bool) �
 question_by m f left right = question_with m.game m.owners f (at_states right (states m))
     (at_states (λ s. not (right s) && not (left s)) (states m))
 
+-- it holds at every state
 abbrev pub everywhere : ℕ → Bool
 everywhere s = true
 

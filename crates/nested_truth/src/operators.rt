@@ -1,7 +1,6 @@
 //! The bounds of a formula whose sides are known in part.
 
 ghost use Rattle.std.specs.Prelude.{◌≡◌, ◌<◌, All, IfOk, length};
-ghost use Rattle.predecessors.specs.Lists.{ArePredecessors};
 ghost use Rattle.rpatl_syntax.specs.Formula.{state_of, tree_of};
 ghost use Rattle.rpatl_syntax.specs.Spellable.{HasKind, HasShare};
 ghost use Rattle.nested_truth.specs.Bands.{Known};
@@ -33,7 +32,6 @@ pub fn bounds_of<R: Threads + Sync, G: Gate + Sync>(
 ) -> Result<Bounds, OutOfMemory>
     requires kind { HasKind formula.now.kind (state_of formula.now.left) }
     requires share { HasShare formula.now.bound }
-    requires lists { ArePredecessors setting.game.now setting.predecessors.now }
     requires left { length left.now.sure.items ≡ length setting.game.now }
     requires right { length right.sure.items ≡ length setting.game.now }
     requires starts { All (λ s. s < length setting.game.now) starts.now }
@@ -63,7 +61,6 @@ fn reached<R: Threads + Sync, G: Gate + Sync>(
     starts: &[u32],
     gate: &G,
 ) -> Result<Bounds, OutOfMemory>
-    requires lists { ArePredecessors setting.game.now setting.predecessors.now }
     requires left { length left.now.sure.items ≡ length setting.game.now }
     requires right { length right.now.sure.items ≡ length setting.game.now }
     requires starts { All (λ s. s < length setting.game.now) starts.now }
@@ -87,7 +84,6 @@ fn always<R: Threads + Sync, G: Gate + Sync>(
 ) -> Result<Bounds, OutOfMemory>
     requires kind { formula.now.kind ≡ PathKind.Always }
     requires share { HasShare formula.now.bound }
-    requires lists { ArePredecessors setting.game.now setting.predecessors.now }
     requires right { length right.sure.items ≡ length setting.game.now }
     requires starts { All (λ s. s < length setting.game.now) starts.now }
     ensures found { IfOk result (λ bounds. (left : Known) → AreFoundBy PathKind.Always (model_of setting.entry)

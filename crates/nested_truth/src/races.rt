@@ -2,7 +2,6 @@
 
 ghost use Rattle.std.specs.Prelude.{◌≡◌, ◌≢◌, ◌<◌, All, IfOk, IfSome, length};
 ghost use Rattle.game_model.specs.Query.{states};
-ghost use Rattle.predecessors.specs.Lists.{ArePredecessors};
 ghost use Rattle.nested_truth.specs.Runs.{AreRaced, IsRun};
 ghost use Rattle.nested_truth.specs.Seen.{IsBand, band_in, high_or};
 
@@ -28,7 +27,6 @@ pub fn race<R: Threads + Sync, G: Gate + Sync>(
     starts: &[u32],
     gate: &G,
 ) -> Result<Bounds, OutOfMemory>
-    requires lists { ArePredecessors setting.game.now setting.predecessors.now }
     requires other { IfSome questions.now.high (λ question. questions.now.low ≢ question) }
     requires low { questions.now.low.game ≡ setting.game.now }
     requires high { (high_or questions.now.low questions.now.high).game ≡ setting.game.now }
@@ -60,7 +58,6 @@ fn run_of<R: Threads + Sync, G: Gate + Sync>(
     starts: &[u32],
     gate: &G,
 ) -> Result<Bracket, OutOfMemory>
-    requires lists { ArePredecessors setting.game.now setting.predecessors.now }
     requires game { question.now.game ≡ setting.game.now }
     requires starts { All (λ s. s < length setting.game.now) starts.now }
     ensures { IfOk result (λ found. IsRun question.now bound starts.now setting.entry.rounds found) }

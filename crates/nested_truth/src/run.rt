@@ -11,7 +11,6 @@ ghost use Rattle.formula_sets.specs.Posing.{initial_said, IsOutOfMemory};
 ghost use Rattle.bracket_engine.specs.Limits.{most_rounds};
 ghost use Rattle.bounded_rounds.specs.Limits.{most_workers};
 ghost use Rattle.nested_truth.specs.Nested.{IsNested};
-ghost use Rattle.predecessors.specs.Lists.{ArePredecessors};
 ghost use Rattle.nested_truth.specs.Seen.{IsBand, band_of, model_of};
 
 use crate::answer::Nested;
@@ -94,6 +93,7 @@ fn answer<R: Threads + Sync, G: Gate + Sync>(
         (band_of nested) nested.how nested.inner nested.undecided) }
     ensures band { IfOk result (λ nested. IsBand (length game.now) (band_of nested)) }
 {
+    game.known();
     let predecessors = Predecessors::of_game(alloc, game)?;
     let everywhere = every_state(alloc, game.states())?;
     let setting = Setting {
@@ -117,7 +117,6 @@ fn answer_in<R: Threads + Sync, G: Gate + Sync>(
     initial: Vec<u32>,
     gate: &G,
 ) -> Result<Nested, OutOfMemory>
-    requires lists { ArePredecessors setting.game.now setting.predecessors.now }
     requires spellable { IsSpellable (tree_of formula.now) }
     requires few { formulas_inside (tree_of formula.now) ≤ longest }
     requires initial { All (λ s. s < length setting.game.now) initial.items }
@@ -127,7 +126,6 @@ fn answer_in<R: Threads + Sync, G: Gate + Sync>(
         (band_of nested) nested.how nested.inner nested.undecided) }
     ensures band { IfOk result (λ nested. IsBand (length setting.entry.game.now) (band_of nested)) }
 {
-    setting.game.known();
     let left = judge(rt, alloc, setting, &formula.left, gate)?;
     let right = judge(rt, alloc, setting, &formula.right, gate)?;
     let inner = left.inner + right.inner;

@@ -2,6 +2,8 @@
 
 ghost use Rattle.std.specs.Prelude.{◌≡◌, ◌≤◌, length};
 ghost use Rattle.std.specs.List.{range_with_len};
+ghost use Rattle.game_model.specs.Game.{IsGame};
+ghost use Rattle.predecessors.specs.Lists.{ArePredecessors};
 ghost use Rattle.bracket_engine.specs.Limits.{most_rounds};
 ghost use Rattle.bounded_rounds.specs.Limits.{most_workers};
 
@@ -23,6 +25,8 @@ pub struct Setting<'a> {
     pub rounds: u32,
     /// The most workers of a round or a step.
     pub workers: u32,
+    ghost is_game: { IsGame game.now },
+    ghost lists: { ArePredecessors game.now predecessors.now },
     ghost labelled: { labels.now.states ≡ length game.now },
     ghost owned: { length owners.now.owners ≡ length game.now },
     ghost starts: { everywhere.now ≡ range_with_len 0 (length game.now) },

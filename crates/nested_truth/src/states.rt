@@ -1,7 +1,6 @@
 //! What is known of state formulas, from bounds of the formulas inside.
 
 ghost use Rattle.std.specs.Prelude.{◌≤◌, IfOk, if◌then◌else◌};
-ghost use Rattle.predecessors.specs.Lists.{ArePredecessors};
 ghost use Rattle.rpatl_syntax.specs.Formula.{True, False, Label, formulas_in, inner_of, state_of, tree_of};
 ghost use Rattle.rpatl_syntax.specs.Limits.{longest};
 ghost use Rattle.rpatl_syntax.specs.Spellable.{HasParts};
@@ -25,12 +24,10 @@ pub fn judge<R: Threads + Sync, G: Gate + Sync>(
     formula: &StateFormula,
     gate: &G,
 ) -> Result<Judged, OutOfMemory>
-    requires lists { ArePredecessors setting.game.now setting.predecessors.now }
     requires few { formulas_in (state_of formula.now) ≤ longest }
     requires parts { HasParts (state_of formula.now) }
     ensures { IfOk result (IsJudged (model_of setting.entry) setting.entry.rounds (state_of formula.now)) }
 {
-    setting.game.known();
     match formula {
         StateFormula::All => constant(alloc, setting, true),
         StateFormula::Nothing => constant(alloc, setting, false),
@@ -64,12 +61,10 @@ fn judge_inside<R: Threads + Sync, G: Gate + Sync>(
     formula: &Formula,
     gate: &G,
 ) -> Result<Judged, OutOfMemory>
-    requires lists { ArePredecessors setting.game.now setting.predecessors.now }
     requires few { formulas_in (inner_of (tree_of formula.now)) ≤ longest }
     requires parts { HasParts (inner_of (tree_of formula.now)) }
     ensures { IfOk result (IsJudged (model_of setting.entry) setting.entry.rounds (inner_of (tree_of formula.now))) }
 {
-    setting.game.known();
     let left = judge(rt, alloc, setting, &formula.left, gate)?;
     let right = judge(rt, alloc, setting, &formula.right, gate)?;
     let inner = left.inner + right.inner + 1;

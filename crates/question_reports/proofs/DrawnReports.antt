@@ -27,11 +27,11 @@ never_settled lower upper settled = let first = settled 0 0 (omega arith) in cc 
 pub all_made : (q : Query) (zero : List Bool) (asked : ℕ) (found : Bracket) → IsBracket q zero AskMax (0 ∷ []) asked found.base.items found.upper.items found.rounds found.stable → found.stable ≡ false → found.rounds ≡ asked
 all_made q zero asked found bounds unstable = elim (cases_lt found.rounds asked) [
   | inl early ↦ absurd (by_end early)
-  | inr late ↦ omega (arith, late, bounds.few)
+  | inr late ↦ omega (arith, late, bounds.near.few)
 ]
   where
     by_end : found.rounds < asked → ⊥
-    by_end early = elim (bounds.early early) [
+    by_end early = elim (bounds.ended.early early) [
       | inl stable ↦ cc (stable, unstable)
       | inr settled ↦ never_settled found.base.items found.upper.items settled
     ]

@@ -85,7 +85,7 @@ module _ (here : OpensHere) (wider : OpensWider) (q : Query) (zero : List Bool) 
 
   pub all-left_open : 1 ≤ denominator q.game ^ asked → IsBracket q zero bound initial asked found.base.items found.upper.items found.rounds found.stable → All (λ s. s < states q) initial
       → All (λ s. plan_verdict bound plan s ≡ Undecided → IsLeftOpen q zero bound asked (slice_index plan.lower.items) (slice_index plan.upper.items) s) initial
-  all-left_open some bounds inside = elim bounds.narrow_asked [
+  all-left_open some bounds inside = elim bounds.near.narrow_asked [
     | inl settled ↦ All-weaker (λ s. is_settling (plan_verdict bound plan s) ≡ true) Q (λ s is undecided. let same : is_settling (plan_verdict bound plan s) ≡ is_settling Undecided = ap is_settling undecided in absurd (cc (same, is))) initial (settled-over settled inside)
     | inr narrow ↦ All-weaker (λ s. s < states q) Q (λ s within. narrow-open some narrow s within) initial inside
   ]

@@ -20,11 +20,11 @@ use Rattle.question_reports.proofs.Limits.{IsPrintable}
 -- the one of a bracket
 pub held-found : (q : Query) (zero : List Bool) (bound : Bound) (initial : List ℕ) (asked : ℕ) (found : Bracket) → IsFound q zero bound initial asked found → IsUpperHeld q found.upper.items found.replies.items
 held-found q zero bound initial asked found h = record {
-  as_many = h.bounds.least_upper.table.many;
+  as_many = h.bounds.made.least_upper.table.many;
   replied = h.replies.first.as_many;
-  units = h.bounds.least_upper.table.units;
-  inductive = h.bounds.least_upper.table.inductive;
-  high = h.bounds.high;
+  units = h.bounds.made.least_upper.table.units;
+  inductive = h.bounds.made.least_upper.table.inductive;
+  high = h.bounds.sound.high;
   good = h.replies.good;
   holds = h.replies.holds;
 }

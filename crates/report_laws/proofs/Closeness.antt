@@ -25,7 +25,7 @@ module _ (q : Query) (initial : List ℕ) (f : Tree) (check : Check) (text : Lis
 
   pub printed-close : AreClose q report.zero report.found.rounds (slice_index report.plan.lower.items) (slice_index report.plan.upper.items)
   printed-close = record {
-    below = λ s inside. higher (unit * numerator q report.found.rounds s) (slice_index report.found.base.items s) (slice_index report.plan.lower.items s) report.found.rounds (denominator q.game ^ report.found.rounds) (report.is_found.bounds.narrow.near s inside) (above s inside);
+    below = λ s inside. higher (unit * numerator q report.found.rounds s) (slice_index report.found.base.items s) (slice_index report.plan.lower.items s) report.found.rounds (denominator q.game ^ report.found.rounds) (report.is_found.bounds.near.narrow.near s inside) (above s inside);
     above = λ s inside. lower (slice_index report.plan.upper.items s) (slice_index report.found.upper.items s) (denominator q.game ^ report.found.rounds) (unit * open_numerator q report.zero report.found.rounds s + report.found.rounds * denominator q.game ^ report.found.rounds)
-        (report.is_found.bounds.narrow.near_above s inside) (report.shown.below s inside);
+        (report.is_found.bounds.near.narrow.near_above s inside) (report.shown.below s inside);
   }

@@ -30,18 +30,23 @@ best_of g steps s = optimum (side_at g.question.now s) (up_value (entry_of g ste
 abbrev pub IsSumOf : Guesses → ℕ → Distribution → ℕ → Type 0
 IsSumOf g steps choice sum = IsSumBetween choice.edges (entry_of g steps) (entry_of g steps) sum
 
+-- a table with these entries
 abbrev pub IsTableOf : Guesses → ℕ → List ℕ → Type 0
 IsTableOf g steps table = IsTable g.question.now (entry_of g steps) table
 
+-- the table after so many up steps is refused
 abbrev pub IsRefusedOf : Guesses → ℕ → Type 0
 IsRefusedOf g steps = IsRefused g.question.now (entry_of g steps)
 
+-- each table of the excess is refused
 abbrev pub AreRefusedOf : Guesses → Type 0
 AreRefusedOf g = AreRefused g.question.now g.zero.now (slice_index g.lower.now) g.excess
 
+-- the first table of the excess that is accepted
 abbrev pub IsFirstOf : Guesses → List ℕ → Type 0
 IsFirstOf g table = IsFirstAt g.question.now g.zero.now (slice_index g.lower.now) g.excess table
 
+-- a table of the excess whose up steps were counted
 abbrev pub IsCountedOf : Guesses → List ℕ → ℕ → ℕ → Type 0
 IsCountedOf g table before now = IsCounted g.question.now g.zero.now (slice_index g.lower.now) g.excess table before now
 

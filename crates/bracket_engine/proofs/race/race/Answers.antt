@@ -12,21 +12,26 @@ use Rattle.bracket_engine.proofs.race.race.Goals as goal
 pub returns : goal.returns
 returns g c =
     let q : Query = g.P.Posing.posed in
-    let ended = c.in_ok-lower-2.ended in
-    let rounds = c.in_ok-lower-2.ensures in
-    let read = read_of c.in_ok-lower-2.lower.agenda in
-    let swapped_read = read_of c.in_ok-lower-2.swapped_runner.agenda in
-    let one : IsClosed q c.in_ok-words.words ended.rounds read = c.in_ok-words.ensures ended.rounds rounds.lower in
-    let two : IsClosed g.C.Posing.posed c.in_ok-swapped_words.swapped_words ended.rounds swapped_read = c.in_ok-swapped_words.ensures ended.rounds rounds.swapped_runner in
-    let inside : All (λ s. s < states q) c.args.ending.now.initial.now = subst (λ (p : Query). All (λ s. s < states p) c.args.ending.now.initial.now) c.requires.posed c.requires.initial in
-    let swapped_rise : IsBelow q swapped_read (value_at c.in_ok-swapped_words.swapped_words) = λ s there. two.below s (subst (λ n. s < n) (sym (ap length c.requires.game)) there) in
+    let ending = c.args.rounds.now.ending.now in
+    let racers = c.in_ok-racers.racers in
+    let racing = c.in_ok-racers.ensures in
+    let read = read_of racers.lower.agenda in
+    let swapped_read = read_of racers.swapped.agenda in
+    let words = c.in_ok-words.words in
+    let swapped_words = c.in_ok-swapped_words.swapped_words in
+    let one : IsClosed q words racers.rounds read = c.in_ok-words.ensures racers.rounds racing.lower in
+    let two : IsClosed g.C.Posing.posed swapped_words racers.rounds swapped_read = c.in_ok-swapped_words.ensures racers.rounds racing.swapped in
+    let inside : All (λ s. s < states q) ending.initial.now = subst (λ (p : Query). All (λ s. s < states p) ending.initial.now) c.requires.posed ending.inside in
+    let swapped_rise : IsBelow q swapped_read (value_at swapped_words) = λ s there. two.below s (subst (λ n. s < n) (sym (ap length c.requires.game)) there) in
     record {
-      raced = one.raced;
-      swapped_raced = two.raced;
-      few = rounds.few;
-      rests = λ is. (one.settled (rounds.rests is).0, two.settled (rounds.rests is).1);
-      kept = IsSettlingGuess-raised q c.args.ending.now.zero.now (bound_of c.args.ending.now.rule.now) c.args.ending.now.initial.now read (value_at c.in_ok-words.words) swapped_read (value_at c.in_ok-swapped_words.swapped_words) ended.kept inside one.below swapped_rise rounds.kept;
-      none = rounds.none;
-      early = rounds.early;
-      in_time = rounds.in_time;
+      words = one.raced;
+      swapped_words = two.raced;
+      end = record {
+        few = racing.end.few;
+        rests = λ is. (one.settled (racing.end.rests is).0, two.settled (racing.end.rests is).1);
+        kept = IsSettlingGuess-raised q ending.zero.now (bound_of ending.rule.now) ending.initial.now read (value_at words) swapped_read (value_at swapped_words) racers.kept inside one.below swapped_rise racing.end.kept;
+        none = racing.end.none;
+        early = racing.end.early;
+        in_time = racing.end.in_time;
+      };
     }

@@ -14,5 +14,5 @@ returns g c =
     IfOk-weaker c.lesser.result _ _ (λ upper lesser.
     let first : AreLesser unlost c.deref-3.result.now upper.items = subst (λ (l : List ℕ). AreLesser l c.deref-3.result.now upper.items) c.deref-2.ensures.value lesser in
     let both : AreLesser unlost guessed upper.items = subst (λ (l : List ℕ). AreLesser unlost l upper.items) c.deref-3.ensures.value first in
-    IsUpperFrom-lesser c.args.question.now c.args.zero.now (slice_index c.args.lower.now) swapped_values unlost guessed upper.items c.args.kept
-    c.known.ensures c.requires.swapped_values rests c.requires.unlost c.in_ok-guessed.ensures both) c.lesser.ensures
+    IsUpperFrom-lesser c.args.base.now.question.now c.args.base.now.zero.now (slice_index c.args.base.now.values.now) swapped_values unlost guessed upper.items c.args.kept
+    c.args.base.now.posed c.requires.parts.many rests c.requires.parts.unlost c.in_ok-guessed.ensures both) c.lesser.ensures

@@ -18,5 +18,5 @@ write_summary-requires g c =
     let few = c.known-2.ensures.game.few in
     let found = c.in_ok-found.found.bracket in
     record {
-      fits = (sum-fits found.lower.items (omega (arith, lower.as_many, few)) lower.units, sum-fits found.upper.items (omega (arith, bounds.least_upper.table.many, few)) bounds.least_upper.table.units);
+      fits = (sum-fits found.lower.items (omega (arith, lower.as_many, few)) lower.units, sum-fits found.upper.items (omega (arith, bounds.made.least_upper.table.many, few)) bounds.made.least_upper.table.units);
     }

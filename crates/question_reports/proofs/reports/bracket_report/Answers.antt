@@ -55,6 +55,6 @@ returns-clause-report g c =
       lists = lists;
       sound = sound;
       passes = passes;
-      limits = printed-in_limits q plan initial (Rounds found.rounds) (shown-printable q zero bound initial asked check.traps found plan is_found shown held c.known.ensures c.make_answer.ensures.ranks) (omega (arith, is_found.bounds.few, c.requires.in_range.few_rounds)) c.requires.inside check.plan f;
+      limits = printed-in_limits q plan initial (Rounds found.rounds) (shown-printable q zero bound initial asked check.traps found plan is_found shown held c.known.ensures c.make_answer.ensures.ranks) (omega (arith, is_found.bounds.near.few, c.requires.in_range.few_rounds)) c.requires.inside check.plan f;
       left_open = λ i d there undecided. left_open i d there (sym (agree _ (c.requires.inside i d there)) ∙ undecided);
     }) c.make_answer.result (rw c.deref-initial.ensures.value at c.make_answer.ensures.text) (rw c.deref-initial.ensures.value at c.make_answer.ensures.status)
