@@ -28,7 +28,7 @@ use Rattle.bracket_engine.specs.Stop.{AreSettledAt, EndsWhereSettled, upper_from
 use Rattle.bracket_engine.specs.Bracket.{IsBracket, IsCloseBelow, IsNarrow, IsSweptAbove, IsLeastSettled}
 use Rattle.bracket_engine.specs.declared.race.Raced.{Raced}
 use Rattle.marked_rounds.specs.Rounds.{IsRaced}
-use Rattle.bracket_engine.specs.Race.{AreOver}
+use Rattle.bracket_engine.specs.inside.Race.{AreOver}
 use Rattle.bracket_engine.proofs.Rests.{IsInductive-rest}
 
 -- a table that is nowhere above an r-fold down step is low

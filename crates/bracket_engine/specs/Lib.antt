@@ -3,7 +3,6 @@ pub mod Lower
 pub mod Bracket
 pub mod Found
 pub mod Choices
-pub mod Race
 pub mod Replies
-pub mod Sides
 pub mod Stop
+pub mod inside

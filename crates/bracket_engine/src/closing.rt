@@ -7,7 +7,7 @@ ghost use Rattle.game_model.specs.Dual.{swapped, IsZeroSet};
 ghost use Rattle.game_model.specs.Rounded.{IsSettled};
 ghost use Rattle.verdicts.specs.Stop.{bound_of};
 ghost use Rattle.bracket_engine.specs.Found.{IsFound};
-ghost use Rattle.bracket_engine.specs.Race.{AreOver};
+ghost use Rattle.bracket_engine.specs.inside.Race.{AreOver};
 
 use crate::base::Base;
 use crate::bounds::Bracket;

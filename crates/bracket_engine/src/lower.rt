@@ -4,7 +4,7 @@ ghost use Rattle.std.specs.Prelude.{◌≡◌, IfOk};
 ghost use Rattle.game_model.specs.Dual.{IsZeroSet};
 ghost use Rattle.step_core.specs.Word.{values_of};
 ghost use Rattle.step_core.specs.Sound.{AreSoundWords};
-ghost use Rattle.bracket_engine.specs.Sides.{IsLowerSide};
+ghost use Rattle.bracket_engine.specs.inside.Sides.{IsLowerSide};
 
 use crate::base::Base;
 use crate::tables::choices_of_words;

@@ -4,7 +4,7 @@ ghost use Rattle.std.specs.Prelude.{◌≡◌, IfOk};
 ghost use Rattle.game_model.specs.Dual.{IsZeroSet};
 ghost use Rattle.verdicts.specs.Stop.{bound_of, IsStopRule};
 ghost use Rattle.marked_rounds.specs.Rounds.{IsRacing};
-ghost use Rattle.bracket_engine.specs.Race.{AreOver, AreRacing};
+ghost use Rattle.bracket_engine.specs.inside.Race.{AreOver, AreRacing};
 
 use crate::rounds::Rounds;
 use crate::stopping::SettlingGuess;

@@ -5,7 +5,7 @@ ghost use Rattle.std.specs.Thread.{IsSync};
 ghost use Rattle.game_model.specs.Dual.{IsZeroSet};
 ghost use Rattle.step_core.specs.Word.{values_of};
 ghost use Rattle.step_core.specs.Sound.{AreSoundWords};
-ghost use Rattle.bracket_engine.specs.Sides.{IsLowerSide, IsUpperSide};
+ghost use Rattle.bracket_engine.specs.inside.Sides.{IsLowerSide, IsUpperSide};
 ghost use Rattle.bracket_engine.specs.Stop.{AreUpperParts};
 
 use crate::base::Base;

@@ -2,7 +2,7 @@
 
 ghost use Rattle.std.specs.Prelude.{slice_index, IfOk};
 ghost use Rattle.game_model.specs.Dual.{IsZeroSet};
-ghost use Rattle.bracket_engine.specs.Sides.{IsUpperSide};
+ghost use Rattle.bracket_engine.specs.inside.Sides.{IsUpperSide};
 ghost use Rattle.bracket_engine.specs.Stop.{AreUpperParts, IsKeptGuess, IsLeastGuess, IsUpperFrom};
 
 use crate::base::Base;

@@ -10,7 +10,7 @@ use Rattle.game_model.specs.Ranks.{HasRankedChoice, Ranked}
 use Rattle.rank_certificate.specs.Ranking.{IsEnough, NeedsRank}
 use Rattle.rank_certificate.specs.Layers.{IsAsked, LeadsInto, IsWithin, AreLayered}
 use Rattle.rank_certificate.specs.Carrying.{MayTake, Carries, IsCarriedBy, IsCarried, IsCarriedAt}
-use Rattle.rank_certificate.specs.Growth.{IsGrown}
+use Rattle.rank_certificate.specs.inside.Growth.{IsGrown}
 use Rattle.rank_certificate.proofs.States.{Some-one}
 use Rattle.rank_certificate.proofs.Causes.{asked-given, always-asked, given-asked}
 use Rattle.rank_certificate.proofs.Found.{Some-none}

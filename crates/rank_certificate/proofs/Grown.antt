@@ -9,7 +9,7 @@ use Rattle.game_model.specs.Query.{Query, IsQuery, states, side_at}
 use Rattle.predecessors.specs.Moves.{LeadsTo}
 use Rattle.rank_certificate.specs.Ranking.{NeedsRank}
 use Rattle.rank_certificate.specs.Carrying.{Carries, IsCarriedBy, IsCarried, IsCarriedAt, IsChosenAt}
-use Rattle.rank_certificate.specs.Growth.{HasRankWithin, IsOpened, IsGrowth, IsApart, AreFollowed}
+use Rattle.rank_certificate.specs.inside.Growth.{HasRankWithin, IsOpened, IsGrowth, IsApart, AreFollowed}
 use Rattle.rank_certificate.proofs.Found.{low-rank, rank-low, Some-none, low-inside, same-entry}
 use Rattle.predecessors.proofs.Successors.{edge-leads}
 use Rattle.rank_certificate.proofs.Carried.{Carries-more, IsCarried-more, carried-free, free-carried, suc-whole, next-parts}

@@ -8,7 +8,7 @@ use Rattle.game_model.specs.Game.{choices_of, choice_of, no_edge}
 use Rattle.game_model.specs.Query.{Query, IsQuery, states, side_at}
 use Rattle.game_model.proofs.Longer.{longer-length}
 use Rattle.rank_certificate.specs.Carrying.{IsCarriedBy, IsCarried, IsCarriedAt, IsChosen, IsChosenAt}
-use Rattle.rank_certificate.specs.Growth.{HasRankWithin, IsGrowth, IsApart, Looks}
+use Rattle.rank_certificate.specs.inside.Growth.{HasRankWithin, IsGrowth, IsApart, Looks}
 use Rattle.rank_certificate.proofs.States.{Some-one}
 use Rattle.rank_certificate.proofs.Found.{low-rank, rank-low, Some-none, none-counts}
 use Rattle.rank_certificate.proofs.Carried.{IsCarriedBy-more, IsChosen-same, IsCarried-more, next-parts, next-whole, next-chosen}

@@ -7,7 +7,7 @@ use Rattle.game_model.specs.Query.{Query, IsQuery}
 use Rattle.game_model.specs.Rounded.{down_step}
 use Rattle.game_model.specs.Tables.{IsTable}
 use Rattle.rank_certificate.specs.LowerGuess.{lesser_step}
-use Rattle.rank_certificate.specs.Marks.{AreQuiet, AreMarkedFor}
+use Rattle.rank_certificate.specs.inside.Marks.{AreQuiet, AreMarkedFor}
 use Rattle.predecessors.proofs.Successors.{step-of-successors}
 
 -- where the predecessors of what fell are marked, the others do not fall in the next step

@@ -16,7 +16,7 @@ use Rattle.fixed_bellman.proofs.Tables.{choice_fits, IsGivenBy-below}
 use Rattle.rank_certificate.specs.Ranking.{NeedsRank, IsEnough}
 use Rattle.rank_certificate.specs.Faults.{HasToRank}
 use Rattle.rank_certificate.specs.Carrying.{CanBeRanked, MayTake, Carries, IsCarriedBy, IsCarried, IsCarriedAt, IsFirstCarrying, IsChosen, IsChosenAt, IsLayeredPlan, Stands}
-use Rattle.rank_certificate.specs.Growth.{IsGrown, AreFollowed}
+use Rattle.rank_certificate.specs.inside.Growth.{IsGrown, AreFollowed}
 use Rattle.rank_certificate.proofs.Causes.{given-asked, always-asked}
 use Rattle.rank_certificate.proofs.Found.{Some-none}
 use Rattle.rank_certificate.proofs.Carried.{IsCarried-more, carried-free, suc-parts, next-whole}

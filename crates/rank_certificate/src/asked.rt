@@ -26,7 +26,7 @@ pub struct Asked<'a> {
 
 impl Asked<'_> {
     ghost use Rattle.std.specs.Prelude.{ℕ, ◌<◌, ◌↔◌, IsTrue};
-    ghost use Rattle.rank_certificate.specs.OfAsked.{states_in, NeedsRankIn};
+    ghost use Rattle.rank_certificate.specs.inside.OfAsked.{states_in, NeedsRankIn};
 
     /// Whether a state has a positive value and is neither goal nor dead.
     pub fn needs_rank(&self, state: u32) -> bool

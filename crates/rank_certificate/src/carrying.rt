@@ -1,7 +1,7 @@
 //! Which choices carry a value on to what was found.
 
 ghost use Rattle.std.specs.Prelude.{◌<◌, ◌↔◌, length, IsTrue};
-ghost use Rattle.rank_certificate.specs.Growth.{HasRankWithin};
+ghost use Rattle.rank_certificate.specs.inside.Growth.{HasRankWithin};
 
 use crate::asked::Asked;
 use fixed_bellman::gives;
@@ -15,7 +15,7 @@ impl Asked<'_> {
     ghost use Rattle.rank_certificate.specs.Faults.{HasToRank};
     ghost use Rattle.rank_certificate.specs.Layers.{LeadsInto};
     ghost use Rattle.rank_certificate.specs.Carrying.{MayTake};
-    ghost use Rattle.rank_certificate.specs.OfAsked.{states_in, value_in, only_in, CarriesIn, IsFirstCarryingIn};
+    ghost use Rattle.rank_certificate.specs.inside.OfAsked.{states_in, value_in, only_in, CarriesIn, IsFirstCarryingIn};
 
     /// The first choice of a state that carries it on ([`Asked::carries`]), of those below a limit.
     pub fn first_carrying(

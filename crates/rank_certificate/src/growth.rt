@@ -22,8 +22,8 @@ pub struct Growth {
 }
 
 impl Growth {
-    ghost use Rattle.rank_certificate.specs.Growth.{IsOpened};
-    ghost use Rattle.rank_certificate.specs.OfAsked.{states_in, value_in, IsGrowthIn, IsApartIn, LooksIn, FollowsIn, AreFollowedIn};
+    ghost use Rattle.rank_certificate.specs.inside.Growth.{IsOpened};
+    ghost use Rattle.rank_certificate.specs.inside.OfAsked.{states_in, value_in, IsGrowthIn, IsApartIn, LooksIn, FollowsIn, AreFollowedIn};
 
     /// The states that need no rank, in layer 0.
     pub fn of_unneeded(alloc: Global, asked: &Asked<'_>) -> Result<Growth, OutOfMemory>

@@ -38,7 +38,7 @@ impl Guesses<'_> {
     ghost use Rattle.game_model.specs.Ranks.{Ranked};
     ghost use Rattle.rank_certificate.specs.Carrying.{IsLayeredPlan, Stands};
     ghost use Rattle.rank_certificate.specs.LowerGuess.{most_steps};
-    ghost use Rattle.rank_certificate.specs.OfGuesses.{first_entry_of, IsTableOf, IsRefusedOf, AreRefusedOf, IsFirstOf};
+    ghost use Rattle.rank_certificate.specs.inside.OfGuesses.{first_entry_of, IsTableOf, IsRefusedOf, AreRefusedOf, IsFirstOf};
 
     /// The first of the tables of this excess that can be ranked, with its plan; none where each is refused. One of
     /// which a state falls is refused. Where none falls, all later ones are the same, and the search for ranks decides.

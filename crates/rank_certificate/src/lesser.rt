@@ -6,7 +6,7 @@ ghost use Rattle.game_model.specs.Limits.{unit};
 ghost use Rattle.predecessors.specs.Lists.{ArePredecessors};
 ghost use Rattle.game_model.specs.Tables.{IsTable};
 ghost use Rattle.rank_certificate.specs.LowerGuess.{lesser_step};
-ghost use Rattle.rank_certificate.specs.Marks.{AreQuiet, AreMarkedFor};
+ghost use Rattle.rank_certificate.specs.inside.Marks.{AreQuiet, AreMarkedFor};
 
 use fixed_bellman::{down_state, is_given};
 use game_model::{Game, Question};

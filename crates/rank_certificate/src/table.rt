@@ -6,8 +6,8 @@ ghost use Rattle.game_model.specs.Limits.{unit};
 ghost use Rattle.game_model.specs.Ranks.{Ranked};
 ghost use Rattle.predecessors.specs.Lists.{ArePredecessors};
 ghost use Rattle.rank_certificate.specs.Carrying.{AreOfStates, CanBeRanked, IsLayeredPlan, Stands};
-ghost use Rattle.rank_certificate.specs.Growth.{IsGrown};
-ghost use Rattle.rank_certificate.specs.OfAsked.{IsGrownIn};
+ghost use Rattle.rank_certificate.specs.inside.Growth.{IsGrown};
+ghost use Rattle.rank_certificate.specs.inside.OfAsked.{IsGrownIn};
 
 use crate::asked::Asked;
 use crate::check::first_over;

@@ -4,7 +4,7 @@ use Rattle.std.specs.Prelude.{slice_index}
 use Rattle.std.proofs.lemmas.Bool.{cases_eq, eq-eqb, eqb-true}
 use Rattle.game_model.specs.Query.{Query, states}
 use Rattle.trap_sets.specs.Ends.{Walk, IsEndComponent, numbered}
-use Rattle.trap_sets.specs.Parts.{IsInner, IsStep, Comes, KeepsEnds, IsRooted, HaveInner, AreJoined, AreSettled}
+use Rattle.trap_sets.specs.inside.Parts.{IsInner, IsStep, Comes, KeepsEnds, IsRooted, HaveInner, AreJoined, AreSettled}
 use Rattle.trap_sets.proofs.Listing.{listed-by, inner-listed, listed-inner, walk-listed}
 use Rattle.trap_sets.proofs.Marking.{within}
 

@@ -8,8 +8,8 @@ use Rattle.predecessors.specs.declared.lists.Move.{Move}
 use Rattle.predecessors.specs.Moves.{move, LeadsTo}
 use Rattle.predecessors.proofs.Listed.{listed-exactly}
 use Rattle.trap_sets.specs.declared.inner.Inner.{Inner}
-use Rattle.trap_sets.specs.OfInner.{states_of, LeadsOf, IsInnerOf, IsStepOf}
-use Rattle.trap_sets.specs.Searching.{IsBehind, IsBefore, IsMarking, IsFurther, IsMet}
+use Rattle.trap_sets.specs.inside.OfInner.{states_of, LeadsOf, IsInnerOf, IsStepOf}
+use Rattle.trap_sets.specs.inside.Searching.{IsBehind, IsBefore, IsMarking, IsFurther, IsMet}
 use Rattle.trap_sets.proofs.Walking.{reach-join, reach-step}
 use Rattle.trap_sets.proofs.Marking.{within, IsMarking-none, IsMarking-more, longer-at}
 

@@ -12,7 +12,7 @@ use Rattle.predecessors.specs.Moves.{LeadsTo}
 use Rattle.predecessors.proofs.Listed.{listed-exactly}
 use Rattle.trap_sets.specs.declared.cut.Cut.{Cut}
 use Rattle.trap_sets.specs.Ends.{Leads}
-use Rattle.trap_sets.specs.Parts.{Stays, Leaves}
+use Rattle.trap_sets.specs.inside.Parts.{Stays, Leaves}
 
 -- what a list of the successors has
 pub listed-leads : (q : Query) (s c k : ℕ) (to : List ℕ) → to ≡ destinations (choice_of q.game s c).edges → k < length to → Leads q s c (get_or to k 0)

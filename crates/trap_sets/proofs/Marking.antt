@@ -8,8 +8,8 @@ use Rattle.std.proofs.lemmas.List.{get_or-set_same, get_or-set_other, append_ass
 use Rattle.std.proofs.lemmas.List.Elements.{Contains-push, Contains-append_left}
 use Rattle.std.proofs.lemmas.List.Sums.{sum_by-set, sum_by-cons}
 use Rattle.game_model.specs.Growing.{IsLonger}
-use Rattle.trap_sets.specs.Parts.{off}
-use Rattle.trap_sets.specs.Searching.{IsMarking, IsFurther}
+use Rattle.trap_sets.specs.inside.Parts.{off}
+use Rattle.trap_sets.specs.inside.Searching.{IsMarking, IsFurther}
 
 pub off-same : (mark : ℕ) → off mark mark ≡ 0
 off-same mark = ap (λ (b : Bool). if b then 0 else 1) (eq-eqb mark mark refl)

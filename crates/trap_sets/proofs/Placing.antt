@@ -4,8 +4,8 @@ use Rattle.std.specs.Prelude.{slice_index}
 use Rattle.std.proofs.lemmas.Bool.{cases_eq}
 use Rattle.trap_sets.specs.declared.inner.Inner.{Inner}
 use Rattle.trap_sets.specs.Ends.{Walk}
-use Rattle.trap_sets.specs.OfInner.{IsStepOf, ComesOf, IsPlacingOf}
-use Rattle.trap_sets.specs.Searching.{AreSpent, AreMarkedBack, AreMarkedOn}
+use Rattle.trap_sets.specs.inside.OfInner.{IsStepOf, ComesOf, IsPlacingOf}
+use Rattle.trap_sets.specs.inside.Searching.{AreSpent, AreMarkedBack, AreMarkedOn}
 use Rattle.trap_sets.proofs.Walking.{reach-join, reach-step, comes-part}
 
 module _ (inner : Inner) (class new old seen : List ℕ) (pivot : ℕ)

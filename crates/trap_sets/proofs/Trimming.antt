@@ -8,8 +8,8 @@ use Rattle.std.proofs.lemmas.List.Sums.{sum_by-set, sum_by-cons}
 use Rattle.game_model.specs.Game.{choices_of}
 use Rattle.game_model.specs.Query.{Query, states}
 use Rattle.trap_sets.specs.Ends.{IsCut, Leads, IsEndComponent}
-use Rattle.trap_sets.specs.Parts.{off, IsInner, KeepsEnds, HaveInner}
-use Rattle.trap_sets.specs.Trimming.{IsTrimmed, IsInnerBut, AreHeld, IsTested}
+use Rattle.trap_sets.specs.inside.Parts.{off, IsInner, KeepsEnds, HaveInner}
+use Rattle.trap_sets.specs.inside.Trimming.{IsTrimmed, IsInnerBut, AreHeld, IsTested}
 use Rattle.trap_sets.proofs.Marking.{off-same, off-other, longer-at, longer-length}
 
 -- the listed choices of an end component are inner

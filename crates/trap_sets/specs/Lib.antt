@@ -1,10 +1,4 @@
 pub mod Ends
 pub mod Exits
 pub mod Lowered
-pub mod Parts
-pub mod OfCut
-pub mod OfInner
-pub mod Searching
-pub mod Trimming
-pub mod Pairs
-pub mod Numbering
+pub mod inside

@@ -3,7 +3,7 @@
 ghost use Rattle.std.specs.Prelude.{◌≡◌, ◌<◌, false, length, IsTrue};
 ghost use Rattle.game_model.specs.Game.{choices_of};
 ghost use Rattle.game_model.specs.Query.{states};
-ghost use Rattle.trap_sets.specs.Parts.{Stays, Leaves, Avoids, IsUncut};
+ghost use Rattle.trap_sets.specs.inside.Parts.{Stays, Leaves, Avoids, IsUncut};
 
 use game_model::Question;
 

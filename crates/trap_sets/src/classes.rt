@@ -2,8 +2,8 @@
 
 ghost use Rattle.std.specs.Prelude.{◌≡◌, ◌≢◌, ℕ, ◌+◌, ◌<◌, length, slice_index, All, IfOk, OnOk};
 ghost use Rattle.game_model.specs.Query.{states};
-ghost use Rattle.trap_sets.specs.OfInner.{states_of, IsPlacingOf, AreClassesOf};
-ghost use Rattle.trap_sets.specs.Searching.{AreSpent};
+ghost use Rattle.trap_sets.specs.inside.OfInner.{states_of, IsPlacingOf, AreClassesOf};
+ghost use Rattle.trap_sets.specs.inside.Searching.{AreSpent};
 
 use crate::backward::go_back;
 use crate::forward::go_on;

@@ -24,7 +24,7 @@ impl Cut<'_> {
     ghost use Rattle.std.specs.Prelude.{ℕ, ◌<◌, ◌≤◌, ◌↔◌, IsTrue};
     ghost use Rattle.game_model.specs.Game.{choices_of};
     ghost use Rattle.trap_sets.specs.Ends.{IsCut};
-    ghost use Rattle.trap_sets.specs.OfCut.{states_in, IsInnerIn};
+    ghost use Rattle.trap_sets.specs.inside.OfCut.{states_in, IsInnerIn};
 
     /// Whether a choice is one of the cut question: at a state of the minimiser its reply alone is.
     fn has(&self, state: u32, choice: u32) -> bool

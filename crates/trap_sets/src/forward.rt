@@ -2,8 +2,8 @@
 
 ghost use Rattle.std.specs.Prelude.{◌≡◌, ◌≢◌, ℕ, ◌+◌, ◌<◌, length, slice_index, OnOk};
 ghost use Rattle.game_model.specs.Game.{choices_of};
-ghost use Rattle.trap_sets.specs.OfInner.{states_of, LeadsOf, IsInnerOf, IsStepOf};
-ghost use Rattle.trap_sets.specs.Searching.{IsBefore, IsMarking, IsFurther, AreMarkedOn};
+ghost use Rattle.trap_sets.specs.inside.OfInner.{states_of, LeadsOf, IsInnerOf, IsStepOf};
+ghost use Rattle.trap_sets.specs.inside.Searching.{IsBefore, IsMarking, IsFurther, AreMarkedOn};
 
 use crate::inner::Inner;
 use game_outside::OutOfMemory;

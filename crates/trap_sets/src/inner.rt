@@ -4,8 +4,8 @@ ghost use Rattle.std.specs.Prelude.{◌≡◌, ◌<◌, length};
 ghost use Rattle.game_model.specs.Game.{choices_of};
 ghost use Rattle.game_model.specs.Query.{states};
 ghost use Rattle.predecessors.specs.Flags.{AreFlags};
-ghost use Rattle.trap_sets.specs.Parts.{IsInner};
-ghost use Rattle.trap_sets.specs.OfCut.{states_in};
+ghost use Rattle.trap_sets.specs.inside.Parts.{IsInner};
+ghost use Rattle.trap_sets.specs.inside.OfCut.{states_in};
 
 use crate::cut::Cut;
 use game_outside::OutOfMemory;
@@ -24,7 +24,7 @@ pub struct Inner<'a> {
 
 impl<'a> Inner<'a> {
     ghost use Rattle.std.specs.Prelude.{◌↔◌, IsTrue, IfOk};
-    ghost use Rattle.trap_sets.specs.OfInner.{states_of, IsInnerOf};
+    ghost use Rattle.trap_sets.specs.inside.OfInner.{states_of, IsInnerOf};
 
     /// The inner choices of these parts. Each choice is tested once.
     pub fn of_parts(alloc: Global, cut: &Cut<'a>, part: &'a [u32]) -> Result<Inner<'a>, OutOfMemory>

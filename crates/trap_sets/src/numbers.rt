@@ -5,9 +5,9 @@ ghost use Rattle.game_model.specs.Limits.{most_states};
 ghost use Rattle.game_model.specs.Query.{states};
 ghost use Rattle.predecessors.specs.Lists.{ArePredecessors};
 ghost use Rattle.trap_sets.specs.Ends.{AreTraps};
-ghost use Rattle.trap_sets.specs.Numbering.{IsNumbering};
-ghost use Rattle.trap_sets.specs.Parts.{IsRooted};
-ghost use Rattle.trap_sets.specs.OfCut.{AreSettledOf};
+ghost use Rattle.trap_sets.specs.inside.Numbering.{IsNumbering};
+ghost use Rattle.trap_sets.specs.inside.Parts.{IsRooted};
+ghost use Rattle.trap_sets.specs.inside.OfCut.{AreSettledOf};
 
 use crate::cut::Cut;
 use crate::rounds::settled_parts;

@@ -2,7 +2,7 @@
 
 ghost use Rattle.std.specs.Prelude.{◌≡◌, ◌<◌, length, All, IfOk, OnOk};
 ghost use Rattle.game_model.specs.Game.{choices_of};
-ghost use Rattle.trap_sets.specs.OfInner.{states_of};
+ghost use Rattle.trap_sets.specs.inside.OfInner.{states_of};
 
 use crate::inner::Inner;
 use game_outside::OutOfMemory;

@@ -3,9 +3,9 @@
 ghost use Rattle.std.specs.Prelude.{◌≡◌, ◌<◌, ◌↔◌, true, false, IsTrue, IfOk, OnOk};
 ghost use Rattle.game_model.specs.Query.{states};
 ghost use Rattle.fixed_bellman.specs.Given.{IsFree};
-ghost use Rattle.trap_sets.specs.Parts.{IsRooted};
-ghost use Rattle.trap_sets.specs.Pairs.{pairs};
-ghost use Rattle.trap_sets.specs.OfCut.{KeepsEndsOf, AreJoinedIn, AreSettledOf};
+ghost use Rattle.trap_sets.specs.inside.Parts.{IsRooted};
+ghost use Rattle.trap_sets.specs.inside.Pairs.{pairs};
+ghost use Rattle.trap_sets.specs.inside.OfCut.{KeepsEndsOf, AreJoinedIn, AreSettledOf};
 
 use crate::cut::Cut;
 use crate::split::split;

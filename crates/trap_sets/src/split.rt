@@ -1,9 +1,9 @@
 //! The classes of a round, and whether a round more is needed.
 
 ghost use Rattle.std.specs.Prelude.{◌≡◌, ◌≢◌, ℕ, ◌<◌, length, slice_index, true, false, IsTrue, IfOk};
-ghost use Rattle.trap_sets.specs.Parts.{CutsPart};
-ghost use Rattle.trap_sets.specs.OfCut.{states_in, AreClassesIn, AreUncutIn};
-ghost use Rattle.trap_sets.specs.OfInner.{states_of, IsInnerOf, IsUncutOf, AreUncutOf};
+ghost use Rattle.trap_sets.specs.inside.Parts.{CutsPart};
+ghost use Rattle.trap_sets.specs.inside.OfCut.{states_in, AreClassesIn, AreUncutIn};
+ghost use Rattle.trap_sets.specs.inside.OfInner.{states_of, IsInnerOf, IsUncutOf, AreUncutOf};
 
 use crate::choices::cuts;
 use crate::classes::classes;

@@ -2,7 +2,7 @@
 
 ghost use Rattle.std.specs.Prelude.{◌≡◌, ◌≢◌, ℕ, ◌+◌, ◌<◌, List, length, slice_index, OnOk};
 ghost use Rattle.game_model.specs.Growing.{IsLonger};
-ghost use Rattle.trap_sets.specs.OfCut.{states_in, KeepsEndsOf, HaveInnerOf, IsTrimmedOf, AreHeldOf, IsTestedOf};
+ghost use Rattle.trap_sets.specs.inside.OfCut.{states_in, KeepsEndsOf, HaveInnerOf, IsTrimmedOf, AreHeldOf, IsTestedOf};
 
 use crate::cut::Cut;
 use game_outside::OutOfMemory;

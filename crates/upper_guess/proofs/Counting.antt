@@ -5,7 +5,7 @@ use Rattle.std.specs.Global.{Vec}
 use Rattle.game_outside.specs.Outside.{grown}
 use Rattle.upper_guess.specs.declared.guesses.Guesses.{Guesses}
 use Rattle.upper_guess.specs.Guess.{RoseBy}
-use Rattle.upper_guess.specs.OfGuesses.{IsTableOf, steps_of}
+use Rattle.upper_guess.specs.inside.OfGuesses.{IsTableOf, steps_of}
 
 rose : (most n m before mid now : ℕ) → min (before + n) most ≤ mid → min (mid + m) most ≤ now → min (before + (n + m)) most ≤ now
 rose most n m before mid now h k = omega arith

@@ -10,7 +10,7 @@ use Rattle.fixed_bellman.specs.Sums.{IsSumBetween}
 use Rattle.fixed_bellman.proofs.Sums.{IsSumBetween-more, sum-fits}
 use Rattle.upper_guess.specs.declared.guesses.Guesses.{Guesses}
 use Rattle.upper_guess.specs.Guess.{guess_table}
-use Rattle.upper_guess.specs.OfGuesses.{first_entry_of, entry_of, choice_at, best_of, IsRefusedOf}
+use Rattle.upper_guess.specs.inside.OfGuesses.{first_entry_of, entry_of, choice_at, best_of, IsRefusedOf}
 use Rattle.upper_guess.proofs.Steps.{up_step-units}
 use Rattle.upper_guess.proofs.Accepting.{guess-units}
 

@@ -1,3 +1,3 @@
 pub mod Guess
 pub mod Parts
-pub mod OfGuesses
+pub mod inside

@@ -30,7 +30,7 @@ pub struct Guesses<'a> {
 impl Guesses<'_> {
     ghost use Rattle.std.specs.Prelude.{◌<◌, ◌-◌, IfOk, OnOk, IfSome, MatchOption};
     ghost use Rattle.upper_guess.specs.Guess.{AreWitnesses, RoseBy};
-    ghost use Rattle.upper_guess.specs.OfGuesses.{first_entry_of, IsTableOf, AreRefusedOf, IsFirstOf, IsCountedOf, steps_of};
+    ghost use Rattle.upper_guess.specs.inside.OfGuesses.{first_entry_of, IsTableOf, AreRefusedOf, IsFirstOf, IsCountedOf, steps_of};
 
     /// The first of the tables of this excess that is accepted; none where each is refused. A table that is
     /// seen to be refused at the witness of its steps is not made. Where a table is made and refused, the

@@ -6,7 +6,7 @@ ghost use Rattle.game_model.specs.Query.{states};
 ghost use Rattle.game_model.specs.Values.{better};
 ghost use Rattle.game_model.specs.Rounded.{up_value};
 ghost use Rattle.upper_guess.specs.Guess.{most_steps};
-ghost use Rattle.upper_guess.specs.OfGuesses.{entry_of, choice_at, best_of, IsSumOf, IsRefusedOf};
+ghost use Rattle.upper_guess.specs.inside.OfGuesses.{entry_of, choice_at, best_of, IsSumOf, IsRefusedOf};
 
 use crate::guesses::Guesses;
 use fixed_bellman::Quotient;

@@ -4,7 +4,7 @@ use Rattle.game_model.specs.Limits.{unit}
 use Rattle.game_model.specs.Rounded.{IsSettled}
 use Rattle.step_core.specs.Word.{values_of}
 use Rattle.verdicts.specs.Stop.{bound_of}
-use Rattle.bracket_engine.specs.Sides.{IsLowerSide, IsUpperSide}
+use Rattle.bracket_engine.specs.inside.Sides.{IsLowerSide, IsUpperSide}
 use Rattle.bracket_engine.proofs.Bracketing.{all-units-raced, rests-over, AreUpperParts-over, IsBracket-over}
 use Rattle.bracket_engine.proofs.closing.bracket_of.Goals as goal
 

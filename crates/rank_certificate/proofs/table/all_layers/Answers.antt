@@ -1,7 +1,7 @@
 use Rattle.std.proofs.Common.{◌≡◌, ◌+◌, length, arith, subst, sym}
-use Rattle.rank_certificate.specs.OfAsked.{value_in, only_in}
+use Rattle.rank_certificate.specs.inside.OfAsked.{value_in, only_in}
 use Rattle.game_model.proofs.Longer.{longer-length}
-use Rattle.rank_certificate.specs.Growth.{IsGrowth}
+use Rattle.rank_certificate.specs.inside.Growth.{IsGrowth}
 use Rattle.rank_certificate.proofs.Grown.{Opened-growth, Growth-step, followed-apart}
 use Rattle.rank_certificate.proofs.table.all_layers.Goals as goal
 

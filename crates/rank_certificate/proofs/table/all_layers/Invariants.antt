@@ -1,5 +1,5 @@
 use Rattle.std.proofs.Common.{◌+◌, ◌-◌, ◌≤◌, length}
-use Rattle.rank_certificate.specs.OfAsked.{states_in, IsGrowthIn}
+use Rattle.rank_certificate.specs.inside.OfAsked.{states_in, IsGrowthIn}
 use Rattle.rank_certificate.proofs.table.all_layers.Given as goal
 
 abbrev pub invariant-loop-begin : goal.invariant-loop-begin

@@ -1,7 +1,7 @@
 use Rattle.std.proofs.Common.{take}
 use Rattle.std.specs.Prelude.{All}
-use Rattle.trap_sets.specs.OfInner.{states_of}
-use Rattle.trap_sets.specs.Searching.{IsBehind, IsMarking, IsFurther, IsMet}
+use Rattle.trap_sets.specs.inside.OfInner.{states_of}
+use Rattle.trap_sets.specs.inside.Searching.{IsBehind, IsMarking, IsFurther, IsMet}
 use Rattle.trap_sets.proofs.backward.follow_back.Given as goal
 
 abbrev pub invariant-loop-step : goal.invariant-loop-step

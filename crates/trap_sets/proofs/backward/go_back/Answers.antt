@@ -1,8 +1,8 @@
 use Rattle.std.proofs.Common.{◌≡◌, ◌<◌, ◌≤◌, ◌+◌, length, arith, sym, subst, ◌∙◌}
 use Rattle.std.specs.Prelude.{slice_index}
 use Rattle.std.proofs.lemmas.List.{get_or-set_same, get_or_read}
-use Rattle.trap_sets.specs.OfInner.{states_of, IsStepOf}
-use Rattle.trap_sets.specs.Searching.{IsBehind}
+use Rattle.trap_sets.specs.inside.OfInner.{states_of, IsStepOf}
+use Rattle.trap_sets.specs.inside.Searching.{IsBehind}
 use Rattle.trap_sets.proofs.Walking.{reach-self}
 use Rattle.trap_sets.proofs.Marking.{longer-length}
 use Rattle.trap_sets.proofs.Following.{set-others, IsMarking-first, listed-inside, closed-more, closed-all}

@@ -1,7 +1,7 @@
 use Rattle.std.proofs.Common.{◌≡◌, ℕ, ◌+◌, ◌-◌, ◌<◌, ◌≤◌, length}
 use Rattle.std.specs.Prelude.{slice_index}
-use Rattle.trap_sets.specs.OfInner.{states_of, IsStepOf}
-use Rattle.trap_sets.specs.Searching.{IsBehind, IsMarking}
+use Rattle.trap_sets.specs.inside.OfInner.{states_of, IsStepOf}
+use Rattle.trap_sets.specs.inside.Searching.{IsBehind, IsMarking}
 use Rattle.trap_sets.proofs.backward.go_back.Given as goal
 
 abbrev pub invariant-loop-place : goal.invariant-loop-place

@@ -1,6 +1,6 @@
 use Rattle.std.proofs.Common.{◌+◌, List, ℕ, set, sym, subst}
-use Rattle.trap_sets.specs.OfInner.{states_of}
-use Rattle.trap_sets.specs.Searching.{IsBehind, IsMarking}
+use Rattle.trap_sets.specs.inside.OfInner.{states_of}
+use Rattle.trap_sets.specs.inside.Searching.{IsBehind, IsMarking}
 use Rattle.trap_sets.proofs.Marking.{IsMarking-more}
 use Rattle.trap_sets.proofs.Following.{behind-step}
 use Rattle.trap_sets.proofs.backward.meet_back.Goals as goal

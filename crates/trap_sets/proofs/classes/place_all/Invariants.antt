@@ -1,7 +1,7 @@
 use Rattle.std.proofs.Common.{◌≡◌, ◌≢◌, ℕ, ◌<◌, length}
 use Rattle.std.specs.Prelude.{slice_index}
-use Rattle.trap_sets.specs.OfInner.{states_of, IsPlacingOf}
-use Rattle.trap_sets.specs.Searching.{AreSpent}
+use Rattle.trap_sets.specs.inside.OfInner.{states_of, IsPlacingOf}
+use Rattle.trap_sets.specs.inside.Searching.{AreSpent}
 use Rattle.trap_sets.proofs.classes.place_all.Given as goal
 
 abbrev pub invariant-loop-pivot : goal.invariant-loop-pivot

@@ -1,6 +1,6 @@
 use Rattle.std.proofs.Common.{◌≡◌, length}
-use Rattle.trap_sets.specs.OfInner.{states_of, IsPlacingOf}
-use Rattle.trap_sets.specs.Searching.{AreSpent}
+use Rattle.trap_sets.specs.inside.OfInner.{states_of, IsPlacingOf}
+use Rattle.trap_sets.specs.inside.Searching.{AreSpent}
 use Rattle.trap_sets.proofs.classes.place_in_order.Given as goal
 
 abbrev pub invariant-loop-left : goal.invariant-loop-left

@@ -4,8 +4,8 @@ use Rattle.std.proofs.lemmas.Bool.{cases_eq}
 use Rattle.std.proofs.lemmas.List.{get_or-set_same}
 use Rattle.game_model.specs.Game.{choice_of, destinations}
 use Rattle.trap_sets.specs.Ends.{Leads}
-use Rattle.trap_sets.specs.OfInner.{states_of}
-use Rattle.trap_sets.specs.Searching.{IsBefore, IsMarking, IsFurther}
+use Rattle.trap_sets.specs.inside.OfInner.{states_of}
+use Rattle.trap_sets.specs.inside.Searching.{IsBefore, IsMarking, IsFurther}
 use Rattle.trap_sets.proofs.Leading.{listed-leads, leads-inside}
 use Rattle.trap_sets.proofs.Marking.{IsMarking-more, IsFurther-more, IsFurther-join}
 use Rattle.trap_sets.proofs.Following.{of-two, before-step}

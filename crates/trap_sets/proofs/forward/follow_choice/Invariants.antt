@@ -1,7 +1,7 @@
 use Rattle.std.proofs.Common.{◌≡◌, ℕ, ◌+◌, ◌<◌}
 use Rattle.std.specs.Prelude.{slice_index}
-use Rattle.trap_sets.specs.OfInner.{states_of}
-use Rattle.trap_sets.specs.Searching.{IsBefore, IsMarking, IsFurther}
+use Rattle.trap_sets.specs.inside.OfInner.{states_of}
+use Rattle.trap_sets.specs.inside.Searching.{IsBefore, IsMarking, IsFurther}
 use Rattle.trap_sets.proofs.forward.follow_choice.Given as goal
 
 abbrev pub invariant-loop-to : goal.invariant-loop-to

@@ -2,8 +2,8 @@ use Rattle.std.proofs.Common.{◌≡◌, ◌+◌, ℕ, List, length, arith, ap, 
 use Rattle.std.specs.Prelude.{slice_index}
 use Rattle.std.proofs.lemmas.Bool.{cases_eq, both_ways}
 use Rattle.game_model.specs.Game.{choices_of}
-use Rattle.trap_sets.specs.OfInner.{states_of, LeadsOf, IsInnerOf}
-use Rattle.trap_sets.specs.Searching.{IsBefore, IsMarking, IsFurther}
+use Rattle.trap_sets.specs.inside.OfInner.{states_of, LeadsOf, IsInnerOf}
+use Rattle.trap_sets.specs.inside.Searching.{IsBefore, IsMarking, IsFurther}
 use Rattle.trap_sets.proofs.Marking.{IsFurther-join}
 use Rattle.trap_sets.proofs.Following.{of-two}
 use Rattle.trap_sets.proofs.forward.follow_on.Goals as goal

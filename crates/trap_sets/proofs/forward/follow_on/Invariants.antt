@@ -1,7 +1,7 @@
 use Rattle.std.proofs.Common.{◌≡◌, ℕ, ◌+◌, ◌<◌}
 use Rattle.std.specs.Prelude.{slice_index}
-use Rattle.trap_sets.specs.OfInner.{states_of, LeadsOf, IsInnerOf}
-use Rattle.trap_sets.specs.Searching.{IsBefore, IsMarking, IsFurther}
+use Rattle.trap_sets.specs.inside.OfInner.{states_of, LeadsOf, IsInnerOf}
+use Rattle.trap_sets.specs.inside.Searching.{IsBefore, IsMarking, IsFurther}
 use Rattle.trap_sets.proofs.forward.follow_on.Given as goal
 
 abbrev pub invariant-loop-choice : goal.invariant-loop-choice

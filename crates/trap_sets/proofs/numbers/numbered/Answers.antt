@@ -1,6 +1,6 @@
 use Rattle.std.proofs.Common.{◌≡◌, ℕ, List, length, replicate, rules, sym, ◌∙◌, subst}
 use Rattle.std.proofs.lemmas.List.{length-replicate}
-use Rattle.trap_sets.specs.Numbering.{IsNumbering}
+use Rattle.trap_sets.specs.inside.Numbering.{IsNumbering}
 use Rattle.trap_sets.proofs.Numbering.{IsNumbering-none}
 use Rattle.trap_sets.proofs.Trapping.{AreTraps-numbering}
 use Rattle.trap_sets.proofs.Zeros.{zero-at}

@@ -1,6 +1,6 @@
 use Rattle.std.proofs.Common.{◌<◌}
 use Rattle.std.specs.Prelude.{All}
-use Rattle.trap_sets.specs.OfInner.{states_of}
+use Rattle.trap_sets.specs.inside.OfInner.{states_of}
 use Rattle.trap_sets.proofs.order.enter.Given as goal
 
 abbrev pub invariant-loop-choice : goal.invariant-loop-choice

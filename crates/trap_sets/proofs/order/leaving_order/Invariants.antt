@@ -1,6 +1,6 @@
 use Rattle.std.proofs.Common.{◌≡◌, ◌<◌, length}
 use Rattle.std.specs.Prelude.{All}
-use Rattle.trap_sets.specs.OfInner.{states_of}
+use Rattle.trap_sets.specs.inside.OfInner.{states_of}
 use Rattle.trap_sets.proofs.order.leaving_order.Given as goal
 
 abbrev pub invariant-loop-turn : goal.invariant-loop-turn

@@ -3,7 +3,7 @@ use Rattle.std.specs.Prelude.{All}
 use Rattle.std.proofs.lemmas.List.Elements.{All-push}
 use Rattle.game_model.specs.Game.{destinations, choice_of}
 use Rattle.trap_sets.specs.declared.order.Visit.{Visit}
-use Rattle.trap_sets.specs.OfInner.{states_of}
+use Rattle.trap_sets.specs.inside.OfInner.{states_of}
 use Rattle.trap_sets.proofs.Leading.{listed-leads, leads-inside}
 use Rattle.trap_sets.proofs.order.put_successors.Goals as goal
 use Rattle.trap_sets.proofs.order.put_successors.Goals.{then-not-entered-to+in_ok-push, else-not-entered-to}

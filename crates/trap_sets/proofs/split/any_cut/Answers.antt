@@ -1,7 +1,7 @@
 use Rattle.std.proofs.Common.{◌∙◌, arith, ap, sym, subst, inl, inr, length}
 use Rattle.std.specs.Prelude.{slice_index}
 use Rattle.std.proofs.lemmas.Bool.{cases_eq}
-use Rattle.trap_sets.specs.OfInner.{IsInnerOf, IsUncutOf}
+use Rattle.trap_sets.specs.inside.OfInner.{IsInnerOf, IsUncutOf}
 use Rattle.trap_sets.proofs.split.any_cut.Goals as goal
 use Rattle.trap_sets.proofs.split.any_cut.Goals.{else-inner-state-ne0-via-then-inner-state-ne0+else-cut_at, else-inner-state-ne0-via-else-inner-state-ne0}
 

@@ -1,6 +1,6 @@
 use Rattle.std.proofs.Common.{◌≢◌, ℕ, ◌<◌}
 use Rattle.std.specs.Prelude.{slice_index}
-use Rattle.trap_sets.specs.OfInner.{IsInnerOf, IsUncutOf}
+use Rattle.trap_sets.specs.inside.OfInner.{IsInnerOf, IsUncutOf}
 use Rattle.trap_sets.proofs.split.any_cut.Given as goal
 
 abbrev pub invariant-loop-state : goal.invariant-loop-state

@@ -1,7 +1,7 @@
 use Rattle.std.proofs.Common.{arith, ap, sym, subst, inl, inr, length}
 use Rattle.std.proofs.lemmas.Bool.{cases_eq, both_ways}
 use Rattle.game_model.specs.Game.{choices_of}
-use Rattle.trap_sets.specs.OfInner.{IsInnerOf, IsUncutOf}
+use Rattle.trap_sets.specs.inside.OfInner.{IsInnerOf, IsUncutOf}
 use Rattle.trap_sets.proofs.split.cut_at.Goals as goal
 use Rattle.trap_sets.proofs.split.cut_at.Goals.{else-has-via-then-has+else-cuts, else-has-via-else-has}
 

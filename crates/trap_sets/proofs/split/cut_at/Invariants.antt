@@ -1,5 +1,5 @@
 use Rattle.std.proofs.Common.{ℕ, ◌<◌}
-use Rattle.trap_sets.specs.OfInner.{IsInnerOf, IsUncutOf}
+use Rattle.trap_sets.specs.inside.OfInner.{IsInnerOf, IsUncutOf}
 use Rattle.trap_sets.proofs.split.cut_at.Given as goal
 
 abbrev pub invariant-loop-choice : goal.invariant-loop-choice

@@ -1,7 +1,7 @@
 use Rattle.std.proofs.Common.{ℕ, List, subst}
 use Rattle.trap_sets.specs.declared.cut.Cut.{Cut}
-use Rattle.trap_sets.specs.OfCut.{AreUncutIn}
-use Rattle.trap_sets.specs.OfInner.{AreUncutOf}
+use Rattle.trap_sets.specs.inside.OfCut.{AreUncutIn}
+use Rattle.trap_sets.specs.inside.OfInner.{AreUncutOf}
 use Rattle.trap_sets.proofs.split.split.Goals as goal
 
 pub returns-clause-uncut : goal.returns-clause-uncut

@@ -8,7 +8,7 @@ use Rattle.predecessors.specs.declared.lists.Move.{Move}
 use Rattle.predecessors.specs.Moves.{move, LeadsTo}
 use Rattle.predecessors.proofs.Listed.{listed-exactly}
 use Rattle.trap_sets.specs.Ends.{Leads}
-use Rattle.trap_sets.specs.Trimming.{IsTrimmed, AreHeld}
+use Rattle.trap_sets.specs.inside.Trimming.{IsTrimmed, AreHeld}
 use Rattle.trap_sets.proofs.Marking.{longer-join, longer-at, longer-length}
 use Rattle.trap_sets.proofs.Leading.{listed-move}
 use Rattle.trap_sets.proofs.Trimming.{of-three, AreHeld-tested, passed-tested, AreHeld-passed}

@@ -2,7 +2,7 @@ use Rattle.std.proofs.Common.{◌≤◌, ℕ, List, length, set, arith, ap, sym,
 use Rattle.std.specs.Prelude.{slice_index}
 use Rattle.std.proofs.lemmas.List.{get_or-set_same}
 use Rattle.game_model.specs.Game.{choices_of}
-use Rattle.trap_sets.specs.Trimming.{IsTrimmed, IsTested}
+use Rattle.trap_sets.specs.inside.Trimming.{IsTrimmed, IsTested}
 use Rattle.trap_sets.proofs.Trimming.{IsTrimmed-waits, IsTrimmed-gone, IsTested-waits, IsTested-gone}
 use Rattle.trap_sets.proofs.trim.test.Goals as goal
 

@@ -1,6 +1,6 @@
 use Rattle.std.proofs.Common.{◌≡◌, ◌≢◌, ◌+◌, ℕ, List, arith, ap, ◌∙◌}
 use Rattle.std.specs.Prelude.{slice_index}
-use Rattle.trap_sets.specs.Trimming.{IsTrimmed, AreHeld}
+use Rattle.trap_sets.specs.inside.Trimming.{IsTrimmed, AreHeld}
 use Rattle.trap_sets.proofs.Trimming.{of-three, AreHeld-tested, AreHeld-without}
 use Rattle.trap_sets.proofs.trim.test_all.Goals as goal
 use Rattle.trap_sets.proofs.trim.test_all.Goals.{then-part-state-ne0+in_ok-test, else-part-state-ne0}

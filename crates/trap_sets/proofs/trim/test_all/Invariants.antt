@@ -1,6 +1,6 @@
 use Rattle.std.proofs.Common.{◌≡◌, ◌≢◌, ℕ}
 use Rattle.std.specs.Prelude.{slice_index}
-use Rattle.trap_sets.specs.Trimming.{IsTrimmed, AreHeld}
+use Rattle.trap_sets.specs.inside.Trimming.{IsTrimmed, AreHeld}
 use Rattle.trap_sets.proofs.trim.test_all.Given as goal
 
 abbrev pub invariant-loop-state : goal.invariant-loop-state

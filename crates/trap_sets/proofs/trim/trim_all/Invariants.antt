@@ -1,7 +1,7 @@
 use Rattle.std.proofs.Common.{◌≡◌, ◌≢◌, ◌≤◌, ◌-◌, ℕ, length}
 use Rattle.std.specs.Prelude.{slice_index}
-use Rattle.trap_sets.specs.OfCut.{states_in}
-use Rattle.trap_sets.specs.Trimming.{IsTrimmed, AreHeld}
+use Rattle.trap_sets.specs.inside.OfCut.{states_in}
+use Rattle.trap_sets.specs.inside.Trimming.{IsTrimmed, AreHeld}
 use Rattle.trap_sets.proofs.trim.trim_all.Given as goal
 
 abbrev pub invariant-loop-place : goal.invariant-loop-place

@@ -1,4 +1,4 @@
-use Rattle.rank_certificate.specs.OfAsked.{value_in}
+use Rattle.rank_certificate.specs.inside.OfAsked.{value_in}
 use Rattle.rank_certificate.proofs.asked.Asked.first_carrying.Goals as goal
 
 pub loop-choice-init : goal.loop-choice-init

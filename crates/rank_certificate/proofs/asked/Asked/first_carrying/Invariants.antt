@@ -1,6 +1,6 @@
 use Rattle.std.proofs.Common.{ℕ, ◌<◌}
-use Rattle.rank_certificate.specs.Growth.{HasRankWithin}
-use Rattle.rank_certificate.specs.OfAsked.{CarriesIn}
+use Rattle.rank_certificate.specs.inside.Growth.{HasRankWithin}
+use Rattle.rank_certificate.specs.inside.OfAsked.{CarriesIn}
 use Rattle.rank_certificate.proofs.asked.Asked.first_carrying.Given as goal
 
 abbrev pub invariant-loop-choice : goal.invariant-loop-choice

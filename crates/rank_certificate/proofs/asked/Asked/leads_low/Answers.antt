@@ -2,8 +2,8 @@ use Rattle.std.proofs.Common.{◌≡◌, ℕ, ◌<◌, ◌≤◌, length, arith,
 use borrow.Author.Count.{below_more}
 use Rattle.std.specs.Prelude.{slice_index_or}
 use Rattle.std.proofs.lemmas.Bool.{true≢false}
-use Rattle.rank_certificate.specs.Growth.{HasRankWithin}
-use Rattle.rank_certificate.specs.OfAsked.{value_in}
+use Rattle.rank_certificate.specs.inside.Growth.{HasRankWithin}
+use Rattle.rank_certificate.specs.inside.OfAsked.{value_in}
 use Rattle.rank_certificate.proofs.Meeting.{IsMet, successors-inside, met-none}
 use Rattle.rank_certificate.proofs.asked.Asked.leads_low.Goals.{then-there-value, else-there-value}
 use Rattle.rank_certificate.proofs.asked.Asked.leads_low.Goals as goal

@@ -1,4 +1,4 @@
-use Rattle.rank_certificate.specs.OfAsked.{value_in, only_in}
+use Rattle.rank_certificate.specs.inside.OfAsked.{value_in, only_in}
 use Rattle.rank_certificate.proofs.Followed.{Follows-look}
 use Rattle.rank_certificate.proofs.growth.Growth.follow.Goals as goal
 

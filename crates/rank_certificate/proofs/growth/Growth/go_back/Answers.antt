@@ -5,9 +5,9 @@ use Rattle.std.proofs.lemmas.List.Elements.{Contains-get_or}
 use Rattle.predecessors.proofs.Listed.{listed-exactly}
 use Rattle.predecessors.specs.declared.lists.Move.{Move}
 use Rattle.predecessors.specs.Moves.{LeadsTo}
-use Rattle.rank_certificate.specs.Growth.{Follows}
+use Rattle.rank_certificate.specs.inside.Growth.{Follows}
 use Rattle.rank_certificate.proofs.Followed.{Follows-then}
-use Rattle.rank_certificate.specs.OfAsked.{value_in, only_in}
+use Rattle.rank_certificate.specs.inside.OfAsked.{value_in, only_in}
 use Rattle.rank_certificate.proofs.growth.Growth.go_back.Goals as goal
 
 pub follow-requires-clause-state : goal.follow-requires-clause-state

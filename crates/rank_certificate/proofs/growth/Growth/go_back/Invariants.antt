@@ -1,5 +1,5 @@
 use Rattle.std.proofs.Common.{take}
-use Rattle.rank_certificate.specs.OfAsked.{FollowsIn}
+use Rattle.rank_certificate.specs.inside.OfAsked.{FollowsIn}
 use Rattle.rank_certificate.proofs.growth.Growth.go_back.Given as goal
 
 abbrev pub invariant-loop-step : goal.invariant-loop-step

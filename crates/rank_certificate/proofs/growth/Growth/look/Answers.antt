@@ -1,9 +1,9 @@
 use Rattle.std.proofs.Common.{◌≡◌, None, arith, refl, sym, subst, inr, ◌∙◌}
 use Rattle.game_model.specs.declared.game.Side.TheVariants.{Min}
 use Rattle.game_model.specs.Query.{side_at}
-use Rattle.rank_certificate.specs.Growth.{HasRankWithin}
+use Rattle.rank_certificate.specs.inside.Growth.{HasRankWithin}
 use Rattle.rank_certificate.specs.Carrying.{IsCarriedBy, IsChosen}
-use Rattle.rank_certificate.specs.OfAsked.{value_in, only_in}
+use Rattle.rank_certificate.specs.inside.OfAsked.{value_in, only_in}
 use Rattle.rank_certificate.proofs.growth.Growth.look.Goals as goal
 
 pub returns-in_ok-join-in-Min : goal.returns-in_ok-join-in-Min

@@ -1,7 +1,7 @@
 use Rattle.std.proofs.Common.{ap, ◌∙◌}
 use Rattle.std.proofs.lemmas.Bool.{both_ways}
 use Rattle.rank_certificate.proofs.Found.{Opened-needs-in, Opened-free-in}
-use Rattle.rank_certificate.specs.OfAsked.{value_in}
+use Rattle.rank_certificate.specs.inside.OfAsked.{value_in}
 use Rattle.rank_certificate.proofs.growth.Growth.of_unneeded.Goals as goal
 use Rattle.rank_certificate.proofs.growth.Growth.of_unneeded.Goals.{then-needs_rank+in_ok-push, else-needs_rank+in_ok-push-2+in_ok-push-3}
 

@@ -1,5 +1,5 @@
-use Rattle.rank_certificate.specs.Growth.{IsOpened}
-use Rattle.rank_certificate.specs.OfAsked.{value_in}
+use Rattle.rank_certificate.specs.inside.Growth.{IsOpened}
+use Rattle.rank_certificate.specs.inside.OfAsked.{value_in}
 use Rattle.rank_certificate.proofs.growth.Growth.of_unneeded.Given as goal
 
 abbrev pub invariant-loop-state : goal.invariant-loop-state

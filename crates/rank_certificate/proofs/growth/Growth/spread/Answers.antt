@@ -6,7 +6,7 @@ use Rattle.game_model.specs.Query.{states}
 use Rattle.game_model.proofs.Longer.{longer-at, longer-length}
 use Rattle.predecessors.proofs.Listed.{listed-exactly}
 use Rattle.predecessors.specs.Moves.{LeadsTo}
-use Rattle.rank_certificate.specs.OfAsked.{value_in}
+use Rattle.rank_certificate.specs.inside.OfAsked.{value_in}
 use Rattle.rank_certificate.proofs.growth.Growth.spread.Goals as goal
 
 pub loop-place-preserved : goal.loop-place-preserved

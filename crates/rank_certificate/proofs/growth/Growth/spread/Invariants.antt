@@ -1,4 +1,4 @@
-use Rattle.rank_certificate.specs.OfAsked.{IsGrowthIn, AreFollowedIn}
+use Rattle.rank_certificate.specs.inside.OfAsked.{IsGrowthIn, AreFollowedIn}
 use Rattle.rank_certificate.proofs.growth.Growth.spread.Given as goal
 
 abbrev pub invariant-loop-place : goal.invariant-loop-place

@@ -1,9 +1,9 @@
 use Rattle.std.proofs.Common.{◌≡◌, ◌<◌, length, arith, ap, sym, subst, inl, inr}
 use Rattle.std.proofs.lemmas.Bool.{cases_lt}
 use Rattle.game_model.specs.Query.{states}
-use Rattle.rank_certificate.specs.Growth.{IsApart}
+use Rattle.rank_certificate.specs.inside.Growth.{IsApart}
 use Rattle.rank_certificate.proofs.Looked.{Looks-kept, Looks-apart, Looks-grown}
-use Rattle.rank_certificate.specs.OfAsked.{value_in, only_in}
+use Rattle.rank_certificate.specs.inside.OfAsked.{value_in, only_in}
 use Rattle.rank_certificate.proofs.growth.Growth.start.Goals as goal
 
 pub loop-state-preserved : goal.loop-state-preserved

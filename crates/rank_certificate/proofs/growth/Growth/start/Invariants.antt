@@ -1,5 +1,5 @@
 use Rattle.std.proofs.Common.{ℕ, ◌<◌}
-use Rattle.rank_certificate.specs.OfAsked.{IsGrowthIn, IsApartIn}
+use Rattle.rank_certificate.specs.inside.OfAsked.{IsGrowthIn, IsApartIn}
 use Rattle.rank_certificate.proofs.growth.Growth.start.Given as goal
 
 abbrev pub invariant-loop-state : goal.invariant-loop-state

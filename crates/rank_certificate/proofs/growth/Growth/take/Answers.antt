@@ -1,6 +1,6 @@
 use Rattle.std.proofs.Common.{ℕ, arith, refl, sym, subst}
-use Rattle.rank_certificate.specs.Growth.{HasRankWithin}
-use Rattle.rank_certificate.specs.OfAsked.{value_in, only_in, CarriesIn, IsFirstCarryingIn}
+use Rattle.rank_certificate.specs.inside.Growth.{HasRankWithin}
+use Rattle.rank_certificate.specs.inside.OfAsked.{value_in, only_in, CarriesIn, IsFirstCarryingIn}
 use Rattle.rank_certificate.proofs.Followed.{Follows-idle, Follows-look, first-taken, taken-looks}
 use Rattle.rank_certificate.proofs.growth.Growth.take.Goals as goal
 

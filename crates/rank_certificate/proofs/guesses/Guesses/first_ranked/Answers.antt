@@ -6,8 +6,8 @@ use Rattle.std.proofs.lemmas.List.{take_at}
 use Rattle.game_model.specs.Query.{states}
 use Rattle.game_model.specs.Tables.{IsTable}
 use Rattle.rank_certificate.specs.LowerGuess.{lesser_step}
-use Rattle.rank_certificate.specs.Marks.{AreQuiet, AreMarkedFor}
-use Rattle.rank_certificate.specs.OfGuesses.{entry_of, IsRefusedOf}
+use Rattle.rank_certificate.specs.inside.Marks.{AreQuiet, AreMarkedFor}
+use Rattle.rank_certificate.specs.inside.OfGuesses.{entry_of, IsRefusedOf}
 use Rattle.rank_certificate.proofs.Refused.{IsTable-next, same-stands, changed-refused}
 use Rattle.rank_certificate.proofs.Marks.{quiet-next}
 use Rattle.rank_certificate.proofs.guesses.Guesses.first_ranked.Goals as goal

@@ -1,8 +1,8 @@
 use Rattle.std.proofs.Common.{◌≡◌, ℕ, ◌<◌, length}
 use Rattle.std.specs.Prelude.{slice_index}
 use Rattle.game_model.specs.Query.{states}
-use Rattle.rank_certificate.specs.Marks.{AreQuiet}
-use Rattle.rank_certificate.specs.OfGuesses.{IsTableOf, IsRefusedOf}
+use Rattle.rank_certificate.specs.inside.Marks.{AreQuiet}
+use Rattle.rank_certificate.specs.inside.OfGuesses.{IsTableOf, IsRefusedOf}
 use Rattle.rank_certificate.proofs.guesses.Guesses.first_ranked.Given as goal
 
 abbrev pub invariant-loop-steps : goal.invariant-loop-steps

@@ -1,6 +1,6 @@
 use Rattle.std.proofs.Common.{rules}
 use Rattle.game_model.specs.Tables.{IsTable}
-use Rattle.rank_certificate.specs.OfGuesses.{first_entry_of}
+use Rattle.rank_certificate.specs.inside.OfGuesses.{first_entry_of}
 use Rattle.rank_certificate.proofs.Refused.{IsTable-first}
 use Rattle.rank_certificate.proofs.guesses.Guesses.first_table.Goals as goal
 

@@ -1,7 +1,7 @@
 use Rattle.std.proofs.Common.{◌≡◌, ℕ, ◌<◌, ◌≤◌, length}
 use Rattle.std.specs.Prelude.{slice_index, All}
 use Rattle.game_model.specs.Limits.{unit}
-use Rattle.rank_certificate.specs.OfGuesses.{first_entry_of}
+use Rattle.rank_certificate.specs.inside.OfGuesses.{first_entry_of}
 use Rattle.rank_certificate.proofs.guesses.Guesses.first_table.Given as goal
 
 abbrev pub invariant-loop-state : goal.invariant-loop-state

@@ -1,6 +1,6 @@
 use Rattle.std.proofs.Common.{◌≡◌, true, arith, subst, inl, inr}
 use Rattle.std.proofs.lemmas.Bool.{cases_eq, both_ways}
-use Rattle.trap_sets.specs.Parts.{IsInner}
+use Rattle.trap_sets.specs.inside.Parts.{IsInner}
 use Rattle.trap_sets.proofs.cut.Cut.next_inner.Goals as goal
 
 pub loop-choice-preserved : goal.loop-choice-preserved

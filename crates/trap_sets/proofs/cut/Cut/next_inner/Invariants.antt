@@ -1,5 +1,5 @@
 use Rattle.std.proofs.Common.{ℕ, ◌<◌, ◌≤◌}
-use Rattle.trap_sets.specs.Parts.{IsInner}
+use Rattle.trap_sets.specs.inside.Parts.{IsInner}
 use Rattle.trap_sets.proofs.cut.Cut.next_inner.Given as goal
 
 abbrev pub invariant-loop-choice : goal.invariant-loop-choice

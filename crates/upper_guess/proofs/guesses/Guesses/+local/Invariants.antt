@@ -3,7 +3,7 @@ use Rattle.game_model.specs.Game.{choices_of}
 use Rattle.game_model.specs.Values.{optimum}
 use Rattle.game_model.specs.Rounded.{up_value}
 use Rattle.fixed_bellman.specs.Sums.{IsSumBetween}
-use Rattle.upper_guess.specs.OfGuesses.{entry_of, choice_at}
+use Rattle.upper_guess.specs.inside.OfGuesses.{entry_of, choice_at}
 use Rattle.upper_guess.proofs.guesses.Guesses.+local.Given as goal
 
 abbrev pub decreases-entry : goal.decreases-entry

@@ -9,7 +9,7 @@ use Rattle.game_model.specs.Rounded.{up_step, IsBelow}
 use Rattle.game_model.specs.Tables.{IsTable}
 use Rattle.upper_guess.specs.declared.guesses.Guesses.{Guesses}
 use Rattle.upper_guess.specs.Guess.{RisesMost, AreWitnesses, RoseBy}
-use Rattle.upper_guess.specs.OfGuesses.{entry_of, IsTableOf, IsRefusedOf}
+use Rattle.upper_guess.specs.inside.OfGuesses.{entry_of, IsTableOf, IsRefusedOf}
 use Rattle.upper_guess.proofs.Counting.{rose-checked}
 use Rattle.upper_guess.proofs.Lists.{IsTable-next, not-raised, is-raised}
 use Rattle.upper_guess.proofs.guesses.Guesses.first_accepted.Goals as goal

@@ -1,7 +1,7 @@
 use Rattle.std.proofs.Common.{ℕ, ◌<◌, ◌≤◌}
 use Rattle.std.specs.Prelude.{IfSome}
 use Rattle.upper_guess.specs.Guess.{AreWitnesses, RoseBy}
-use Rattle.upper_guess.specs.OfGuesses.{IsTableOf, IsRefusedOf, steps_of}
+use Rattle.upper_guess.specs.inside.OfGuesses.{IsTableOf, IsRefusedOf, steps_of}
 use Rattle.upper_guess.proofs.guesses.Guesses.first_accepted.Given as goal
 
 abbrev pub invariant-loop-steps : goal.invariant-loop-steps

@@ -1,6 +1,6 @@
 use Rattle.std.proofs.Common.{rules}
 use Rattle.game_model.specs.Tables.{IsTable}
-use Rattle.upper_guess.specs.OfGuesses.{first_entry_of}
+use Rattle.upper_guess.specs.inside.OfGuesses.{first_entry_of}
 use Rattle.upper_guess.proofs.Lists.{IsTable-first}
 use Rattle.upper_guess.proofs.guesses.Guesses.first_table.Goals as goal
 

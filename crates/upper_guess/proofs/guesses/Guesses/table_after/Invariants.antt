@@ -1,6 +1,6 @@
 use Rattle.std.proofs.Common.{◌-◌, ◌≤◌}
 use Rattle.upper_guess.specs.Guess.{RoseBy}
-use Rattle.upper_guess.specs.OfGuesses.{IsTableOf}
+use Rattle.upper_guess.specs.inside.OfGuesses.{IsTableOf}
 use Rattle.upper_guess.proofs.guesses.Guesses.table_after.Given as goal
 
 abbrev pub invariant-loop-step : goal.invariant-loop-step

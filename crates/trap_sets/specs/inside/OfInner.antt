@@ -3,7 +3,7 @@ use Rattle.std.specs.Prelude.{ℕ, List}
 use Rattle.game_model.specs.Query.{states}
 use Rattle.trap_sets.specs.declared.inner.Inner.{Inner}
 use Rattle.trap_sets.specs.Ends.{Leads}
-use Rattle.trap_sets.specs.Parts.{IsInner, IsStep, Comes, IsPlacing, AreClasses, IsUncut, AreUncut}
+use Rattle.trap_sets.specs.inside.Parts.{IsInner, IsStep, Comes, IsPlacing, AreClasses, IsUncut, AreUncut}
 
 -- how many states the cut question has
 abbrev pub states_of : Inner → ℕ

@@ -4,7 +4,7 @@ use Rattle.game_model.specs.Query.{states}
 use Rattle.predecessors.specs.declared.lists.Move.{Move}
 use Rattle.rank_certificate.specs.Ranking.{NeedsRank}
 use Rattle.rank_certificate.specs.Carrying.{Carries, IsFirstCarrying}
-use Rattle.rank_certificate.specs.Growth.{IsOpened, IsGrowth, IsApart, Looks, Follows, AreFollowed, IsGrown}
+use Rattle.rank_certificate.specs.inside.Growth.{IsOpened, IsGrowth, IsApart, Looks, Follows, AreFollowed, IsGrown}
 use Rattle.rank_certificate.specs.declared.asked.Asked.{Asked}
 use Rattle.rank_certificate.specs.declared.growth.Growth.{Growth}
 

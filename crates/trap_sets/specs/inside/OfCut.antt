@@ -2,8 +2,8 @@
 use Rattle.std.specs.Prelude.{ℕ, List}
 use Rattle.game_model.specs.Query.{states}
 use Rattle.trap_sets.specs.declared.cut.Cut.{Cut}
-use Rattle.trap_sets.specs.Parts.{IsInner, KeepsEnds, HaveInner, AreSettled, AreClasses, AreUncut, AreJoined}
-use Rattle.trap_sets.specs.Trimming.{IsTrimmed, AreHeld, IsTested}
+use Rattle.trap_sets.specs.inside.Parts.{IsInner, KeepsEnds, HaveInner, AreSettled, AreClasses, AreUncut, AreJoined}
+use Rattle.trap_sets.specs.inside.Trimming.{IsTrimmed, AreHeld, IsTested}
 
 -- how many states a cut question has
 abbrev pub states_in : Cut → ℕ

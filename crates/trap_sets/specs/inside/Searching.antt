@@ -3,8 +3,8 @@ use Rattle.std.specs.Prelude.{◌≡◌, ◌≢◌, ℕ, ◌+◌, ◌-◌, ◌<�
 use Rattle.game_model.specs.Growing.{IsLonger}
 use Rattle.predecessors.specs.declared.lists.Move.{Move}
 use Rattle.trap_sets.specs.declared.inner.Inner.{Inner}
-use Rattle.trap_sets.specs.OfInner.{states_of, IsInnerOf, IsStepOf, ComesOf}
-use Rattle.trap_sets.specs.Parts.{off}
+use Rattle.trap_sets.specs.inside.OfInner.{states_of, IsInnerOf, IsStepOf, ComesOf}
+use Rattle.trap_sets.specs.inside.Parts.{off}
 
 -- a state without a class that comes to the pivot
 abbrev pub IsBehind : Inner → List ℕ → ℕ → ℕ → Type 0
