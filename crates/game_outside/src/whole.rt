@@ -19,8 +19,8 @@ pub fn read_all<H: Shelf>(
     ensures bytes { IfOk result (λ v. IsHeldAs (H.held shelf.old) name.now v.items) }
     ensures within { IfOk result (λ v. length v.items ≤ limit) }
 
-    // It fails only where the shelf fails or the text is longer, takes little more than the limit, and changes nothing of
-    // what the shelf holds.
+    // It fails only where the shelf fails or the text is longer, takes little more than the limit, and changes nothing
+    // of what the shelf holds.
     ensures longer { IsErrOf result ReadEnd.TooLong → IsHeldLonger (H.held shelf.old) name.now limit }
     ensures shelf { ReadsNamed H.Shelf name.now limit shelf.old shelf.new result }
 {
