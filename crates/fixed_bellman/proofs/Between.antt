@@ -1,5 +1,5 @@
 -- Quotients between two tables, and the step of a state that they give.
-use Rattle.std.proofs.Common.{◌≡◌, ℕ, ◌+◌, ◌-◌, ◌*◌, ◌/◌, ◌<◌, ◌≤◌, List, length, ◌⊎◌, sym, ap, ◌∙◌, subst, arith, inl, inr}
+use Rattle.std.proofs.Common.{◌≡◌, ℕ, ◌+◌, ◌*◌, ◌/◌, ◌<◌, ◌≤◌, List, length, ◌⊎◌, sym, ap, ◌∙◌, subst, arith, inl, inr}
 use borrow.Author.Count.{below_more}
 use Rattle.std.specs.Prelude.{IsTrue, false}
 use Rattle.std.proofs.lemmas.Bool.{true≢false, cases_lt}

@@ -45,7 +45,8 @@ impl Asked<'_> {
     /// A choice of a state below which none may be taken: the given one of the maximiser, and else 0.
     fn first_taken(&self, state: u32) -> u32
         requires { state < states_in self.now }
-        ensures { (value : ℕ → ℕ) (c : ℕ) → c < result → ¬ MayTake self.now.question.now value (only_in self.now) state c }
+        ensures { (value : ℕ → ℕ) (c : ℕ) → c < result
+            → ¬ MayTake self.now.question.now value (only_in self.now) state c }
     {
         let Some(choices) = self.only else {
             return 0;
@@ -118,7 +119,8 @@ impl Asked<'_> {
         requires state { state < states_in self.now }
         requires row { row.now ≡ choices_of self.now.question.now.game state }
         requires choice { choice < length row.now }
-        ensures { IsTrue result ↔ IsEnough (value_in self.now) state (choice_of self.now.question.now.game state choice) }
+        ensures { IsTrue result ↔ IsEnough (value_in self.now) state
+            (choice_of self.now.question.now.game state choice) }
     {
         gives(row, choice, self.values, self.values[state as usize])
     }

@@ -4,7 +4,7 @@ use Rattle.game_model.specs.Query.{states}
 use Rattle.predecessors.specs.declared.lists.Move.{Move}
 use Rattle.rank_certificate.specs.Ranking.{NeedsRank}
 use Rattle.rank_certificate.specs.Carrying.{Carries, IsFirstCarrying}
-use Rattle.rank_certificate.specs.inside.Growth.{IsOpened, IsGrowth, IsApart, Looks, Follows, AreFollowed, IsGrown}
+use Rattle.rank_certificate.specs.inside.Growth.{IsGrowth, IsApart, Looks, Follows, AreFollowed, IsGrown}
 use Rattle.rank_certificate.specs.declared.asked.Asked.{Asked}
 use Rattle.rank_certificate.specs.declared.growth.Growth.{Growth}
 
@@ -43,8 +43,8 @@ IsApartIn a level g s = IsApart a.question.now (value_in a) (only_in a) level g.
 
 -- a state was looked at
 abbrev pub LooksIn : Asked → ℕ → ℕ → Growth → Growth → Type 0
-LooksIn a level s g g' = Looks a.question.now (value_in a) (only_in a) level s g.ranks.items g.choices.items g.order.items
-    g'.ranks.items g'.choices.items g'.order.items
+LooksIn a level s g g' = Looks a.question.now (value_in a) (only_in a) level s g.ranks.items g.choices.items
+    g.order.items g'.ranks.items g'.choices.items g'.order.items
 
 -- the moves of a part were followed to the state at hand
 abbrev pub FollowsIn : Asked → ℕ → ℕ → List Move → Growth → Growth → Type 0

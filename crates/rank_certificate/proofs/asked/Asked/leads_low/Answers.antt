@@ -1,4 +1,4 @@
-use Rattle.std.proofs.Common.{◌≡◌, ℕ, ◌<◌, ◌≤◌, length, arith, sym, inl, inr}
+use Rattle.std.proofs.Common.{ℕ, arith, sym, inl, inr}
 use borrow.Author.Count.{below_more}
 use Rattle.std.specs.Prelude.{slice_index_or}
 use Rattle.std.proofs.lemmas.Bool.{true≢false}
