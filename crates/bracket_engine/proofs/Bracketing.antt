@@ -213,8 +213,8 @@ module _ (q swapped_question : Query) (zero_set : List Bool) (bound : Bound) (in
     swapped_values_are = swapped_values_are;
   }
 
-  pub rests-over : races.rests ≡ true → IsSettled q (slice_index lower) × IsSettled swapped_question (slice_index swapped_values)
-  rests-over is = (settled-raced q races.words lower races.rounds over.words lower_is (over.end.rests is).0, settled-raced swapped_question races.swapped_words swapped_values races.rounds over.swapped_words swapped_values_are (over.end.rests is).1)
+  pub quiet-over : races.quiet ≡ true → IsSettled q (slice_index lower) × IsSettled swapped_question (slice_index swapped_values)
+  quiet-over is = (settled-raced q races.words lower races.rounds over.words lower_is (over.end.quiet is).0, settled-raced swapped_question races.swapped_words swapped_values races.rounds over.swapped_words swapped_values_are (over.end.quiet is).1)
 
   kept-over : IfSome races.kept (IsSettlingGuess q zero_set bound initial (slice_index lower) (slice_index swapped_values))
   kept-over =
@@ -233,6 +233,6 @@ module _ (q swapped_question : Query) (zero_set : List Bool) (bound : Bound) (in
       → (stable ≡ true) ↔ (IsSettled q (slice_index lower) × IsSettled swapped_question (slice_index swapped_values)) → IsBracket q zero_set bound initial asked lower upper races.rounds stable
   IsBracket-over upper stable inside from settled =
       IsBracket-raced q zero_set races.words races.swapped_words lower swapped_values upper races.rounds races.kept tables-over from bound initial asked stable inside kept-over over.end.none over.end.few
-      (λ less. elim (over.end.early less) [ inl is ↦ inl (settled.1 (rests-over is)) | inr some ↦ inr some ])
+      (λ less. elim (over.end.early less) [ inl is ↦ inl (settled.1 (quiet-over is)) | inr some ↦ inr some ])
       (subst (λ (p : Query). EndsWhereSettled q p bound initial races.rounds) same over.end.in_time)
       (subst (λ (p : Query). (stable ≡ true) ↔ (IsSettled q (slice_index lower) × IsSettled p (slice_index swapped_values))) same settled)

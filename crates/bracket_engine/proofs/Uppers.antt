@@ -11,7 +11,7 @@ use Rattle.inductive_check.proofs.UpSteps.{IsInductive-min}
 use Rattle.upper_guess.specs.Guess.{IsFirstGuess}
 use Rattle.upper_guess.proofs.Steps.{up_step-same}
 use Rattle.bracket_engine.specs.declared.stopping.SettlingGuess.{SettlingGuess}
-use Rattle.bracket_engine.specs.Bracket.{rests_of, AreLesser}
+use Rattle.bracket_engine.specs.Bracket.{complements_of, AreLesser}
 use Rattle.bracket_engine.specs.Stop.{upper_from, IsUpper, IsSettlingGuess, IsLeastGuess, IsUpperFrom}
 
 -- a table that agrees with an inductive one is inductive
@@ -42,12 +42,12 @@ IsLeastGuess-both q zero lower kept guess least h first one other lesser = recor
 }
 
 -- the unit less the swapped values, where that is inductive
-rest-at : (swapped_values unlost : List ℕ) (s : ℕ) → unlost ≡ rests_of swapped_values → s < length swapped_values → slice_index unlost s ≡ unit - slice_index swapped_values s
-rest-at swapped_values unlost s is inside = ap (λ (l : List ℕ). slice_index l s) is ∙ get_or-map (λ (v : ℕ). unit - v) swapped_values s 0 0 inside
+complement-at : (swapped_values unlost : List ℕ) (s : ℕ) → unlost ≡ complements_of swapped_values → s < length swapped_values → slice_index unlost s ≡ unit - slice_index swapped_values s
+complement-at swapped_values unlost s is inside = ap (λ (l : List ℕ). slice_index l s) is ∙ get_or-map (λ (v : ℕ). unit - v) swapped_values s 0 0 inside
 
-IsUpper-rests : (q : Query) (swapped_values unlost : List ℕ) → IsQuery q → length swapped_values ≡ states q → unlost ≡ rests_of swapped_values → IsInductive q (λ s. unit - slice_index swapped_values s) → IsUpper q unlost
-IsUpper-rests q swapped_values unlost h as_many is inductive =
-    let each : (s : ℕ) → s < states q → slice_index unlost s ≡ unit - slice_index swapped_values s = λ s inside. rest-at swapped_values unlost s is (subst (λ n. s < n) (sym as_many) inside) in
+IsUpper-complements : (q : Query) (swapped_values unlost : List ℕ) → IsQuery q → length swapped_values ≡ states q → unlost ≡ complements_of swapped_values → IsInductive q (λ s. unit - slice_index swapped_values s) → IsUpper q unlost
+IsUpper-complements q swapped_values unlost h as_many is inductive =
+    let each : (s : ℕ) → s < states q → slice_index unlost s ≡ unit - slice_index swapped_values s = λ s inside. complement-at swapped_values unlost s is (subst (λ n. s < n) (sym as_many) inside) in
     let many : length unlost ≡ states q = ap length is ∙ length-map swapped_values (λ (v : ℕ). unit - v) ∙ as_many in
     record {
       many = many;
@@ -55,15 +55,15 @@ IsUpper-rests q swapped_values unlost h as_many is inductive =
       inductive = IsInductive-same q unlost (λ s. unit - slice_index swapped_values s) h each inductive;
     }
 
-pub IsUpperFrom-lesser : (q : Query) (zero : List Bool) (lower : ℕ → ℕ) (swapped_values unlost least upper : List ℕ) (kept : Option SettlingGuess) → IsQuery q → length swapped_values ≡ states q → unlost ≡ rests_of swapped_values
+pub IsUpperFrom-lesser : (q : Query) (zero : List Bool) (lower : ℕ → ℕ) (swapped_values unlost least upper : List ℕ) (kept : Option SettlingGuess) → IsQuery q → length swapped_values ≡ states q → unlost ≡ complements_of swapped_values
     → IsInductive q (λ s. unit - slice_index swapped_values s) → IsLeastGuess q zero lower kept least → AreLesser unlost least upper → IsUpperFrom q zero lower (slice_index swapped_values) kept upper
 IsUpperFrom-lesser q zero lower swapped_values unlost least upper kept h as_many is inductive guessed lesser =
-    let rests : IsUpper q unlost = IsUpper-rests q swapped_values unlost h as_many is inductive in
+    let complements : IsUpper q unlost = IsUpper-complements q swapped_values unlost h as_many is inductive in
     record {
       guess = guessed.guess;
       first = guessed.first;
-      each = λ s inside. omega (arith, lesser.each s (subst (λ n. s < n) (sym rests.many) inside), rest-at swapped_values unlost s is (subst (λ n. s < n) (sym as_many) inside), guessed.each s inside);
-      table = IsUpper-lesser q unlost least upper h rests guessed.upper lesser;
+      each = λ s inside. omega (arith, lesser.each s (subst (λ n. s < n) (sym complements.many) inside), complement-at swapped_values unlost s is (subst (λ n. s < n) (sym as_many) inside), guessed.each s inside);
+      table = IsUpper-lesser q unlost least upper h complements guessed.upper lesser;
     }
 
 -- what a guess settles stays settled where lower bounds and swapped values rise

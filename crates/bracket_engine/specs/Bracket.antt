@@ -17,8 +17,8 @@ abbrev pub IsCloseBelow : Query → ℕ → (ℕ → ℕ) → Type 0
 IsCloseBelow q r table = (s : ℕ) → s < states q → unit * numerator q r s ≤ (table s + r) * denominator q.game ^ r
 
 -- the unit less each value
-abbrev pub rests_of : List ℕ → List ℕ
-rests_of values = map (λ value. unit - value) values
+abbrev pub complements_of : List ℕ → List ℕ
+complements_of values = map (λ value. unit - value) values
 
 -- the lesser of two tables, state by state
 pub record AreLesser (one other table : List ℕ) : Type 0 where

@@ -44,7 +44,7 @@ pub fn bracket_of<R: Threads + Sync, F: Fn(u64, u64) -> bool, G: Gate + Sync>(
         words,
         swapped_words,
         rounds,
-        rests,
+        quiet,
         kept,
     } = raced;
     let swapped_values = values_of_words(alloc, swapped_words.as_slice())?;
@@ -55,7 +55,7 @@ pub fn bracket_of<R: Threads + Sync, F: Fn(u64, u64) -> bool, G: Gate + Sync>(
         &swapped_question,
         &base,
         &swapped_values,
-        rests,
+        quiet,
     );
     drop(swapped_question);
     let over = Base {
@@ -83,16 +83,16 @@ fn is_stable(
     swapped_question: &Question,
     base: &[u64],
     swapped_values: &[u64],
-    rests: bool,
+    quiet: bool,
 ) -> bool
     requires base { length base.now ≡ states question.now }
     requires units { All (λ v. v ≤ unit) base.now }
     requires swapped_values { length swapped_values.now ≡ states swapped_question.now }
     requires swapped_units { All (λ v. v ≤ unit) swapped_values.now }
-    requires rests { rests ≡ true → IsSettled question.now (slice_index base.now)
+    requires quiet { quiet ≡ true → IsSettled question.now (slice_index base.now)
         × IsSettled swapped_question.now (slice_index swapped_values.now) }
     ensures { (result ≡ true) ↔ (IsSettled question.now (slice_index base.now)
         × IsSettled swapped_question.now (slice_index swapped_values.now)) }
 {
-    rests || (settled(question, base) && settled(swapped_question, swapped_values))
+    quiet || (settled(question, base) && settled(swapped_question, swapped_values))
 }

@@ -26,7 +26,7 @@ pub struct Raced {
     /// How many rounds were completed on each.
     pub rounds: u32,
     /// Whether the last one changed nothing on either.
-    pub rests: bool,
+    pub quiet: bool,
     /// The guess that settled the threshold, where one did.
     pub kept: Option<SettlingGuess>,
 }
@@ -37,7 +37,7 @@ pub struct Racers<'q, 's, P: Posing, C: Posing> {
     pub lower: Runner<'q, P>,
     pub swapped: Runner<'s, C>,
     pub rounds: u32,
-    pub rests: bool,
+    pub quiet: bool,
     pub kept: Option<SettlingGuess>,
 }
 
@@ -67,7 +67,7 @@ pub fn race<
         words,
         swapped_words,
         rounds: racers.rounds,
-        rests: racers.rests,
+        quiet: racers.quiet,
         kept: racers.kept,
     })
 }
@@ -109,7 +109,7 @@ fn run_rounds<
                 lower,
                 swapped,
                 rounds: turn + 1,
-                rests: true,
+                quiet: true,
                 kept: None,
             });
         }
@@ -126,7 +126,7 @@ fn run_rounds<
                 lower,
                 swapped,
                 rounds: turn + 1,
-                rests: false,
+                quiet: false,
                 kept,
             });
         }
@@ -135,7 +135,7 @@ fn run_rounds<
         lower,
         swapped,
         rounds: rounds.most,
-        rests: false,
+        quiet: false,
         kept: None,
     })
 }

@@ -3,7 +3,7 @@
 ghost use Rattle.std.specs.Prelude.{◌≡◌, ℕ, ◌<◌, length, slice_index, slice_index_or, IfOk, None};
 ghost use Rattle.game_model.specs.Query.{states};
 ghost use Rattle.step_core.specs.Word.{values_of};
-ghost use Rattle.bracket_engine.specs.Bracket.{rests_of, AreLesser};
+ghost use Rattle.bracket_engine.specs.Bracket.{complements_of, AreLesser};
 ghost use Rattle.bracket_engine.specs.Choices.{choice_of_word};
 
 use game_model::{Question, Side, UNIT};
@@ -12,15 +12,15 @@ use std::alloc::Global;
 use step_core::{choice_of, value_of};
 
 /// The unit less each value.
-pub fn rests(alloc: Global, values: &[u64]) -> Result<Vec<u64>, OutOfMemory>
-    ensures { IfOk result (λ rests. rests.items ≡ rests_of values.now) }
+pub fn complements(alloc: Global, values: &[u64]) -> Result<Vec<u64>, OutOfMemory>
+    ensures { IfOk result (λ complements. complements.items ≡ complements_of values.now) }
 {
     match values
         .iter()
         .map(|value| UNIT.saturating_sub(*value))
         .collect(alloc)
     {
-        Ok(rests) => Ok(rests),
+        Ok(complements) => Ok(complements),
         Err(_) => Err(OutOfMemory {}),
     }
 }

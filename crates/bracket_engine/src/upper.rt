@@ -7,7 +7,7 @@ ghost use Rattle.bracket_engine.specs.Stop.{AreUpperParts, IsKeptGuess, IsLeastG
 
 use crate::base::Base;
 use crate::stopping::SettlingGuess;
-use crate::tables::{lesser, rests};
+use crate::tables::{complements, lesser};
 use crate::team::Team;
 use game_outside::OutOfMemory;
 use inductive_check::replies;
@@ -56,7 +56,7 @@ fn upper_table<R: Threads + Sync>(
     ensures { IfOk result (λ upper. IsUpperFrom base.now.question.now base.now.zero.now
         (slice_index base.now.values.now) (slice_index swapped_values.items) kept upper.items) }
 {
-    let unlost = rests(alloc, &swapped_values)?;
+    let unlost = complements(alloc, &swapped_values)?;
     drop(swapped_values);
     let guessed = least_guess(team, alloc, base, kept)?;
     lesser(alloc, &unlost, &guessed)

@@ -15,7 +15,7 @@ use Rattle.rpatl_syntax.specs.Dual.{dual_bound, dual_of}
 use Rattle.rpatl_syntax.specs.Formula.{State, Tree, formulas_in, inner_of}
 use Rattle.rpatl_syntax.specs.Limits.{longest}
 use Rattle.rpatl_syntax.specs.Spellable.{IsSpellable}
-use Rattle.bracket_engine.specs.Bracket.{rests_of}
+use Rattle.bracket_engine.specs.Bracket.{complements_of}
 use Rattle.verdicts.specs.declared.report.How.{How}
 use Rattle.verdicts.specs.declared.verdict.Verdict.TheVariants.{Undecided}
 use Rattle.nested_truth.specs.declared.judging.Judged.{Judged}
@@ -43,16 +43,16 @@ use Rattle.nested_truth.proofs.Opened.{all-opened}
 rest-few : (v : ℕ) → unit - v ≤ unit
 rest-few v = omega arith
 
-rests-units : (values : List ℕ) → All (λ v. v ≤ unit) (rests_of values)
-rests-units values = All-from_get_or (λ v. v ≤ unit) (rests_of values) 0 (λ s h.
+complements-units : (values : List ℕ) → All (λ v. v ≤ unit) (complements_of values)
+complements-units values = All-from_get_or (λ v. v ≤ unit) (complements_of values) 0 (λ s h.
     subst (λ v. v ≤ unit) (sym (get_or-map (λ v. unit - v) values s 0 0 (omega (arith, h, length-map values (λ (v : ℕ). unit - v))))) (rest-few (get_or values s 0)))
 
 pub mirrored-band : (n : ℕ) (band : Band) → IsBand n band → IsBand n (mirrored band)
 mirrored-band n band h = record {
   lowers = length-map band.upper (λ (v : ℕ). unit - v) ∙ h.uppers;
   uppers = length-map band.lower (λ (v : ℕ). unit - v) ∙ h.lowers;
-  lower_units = rests-units band.upper;
-  upper_units = rests-units band.lower;
+  lower_units = complements-units band.upper;
+  upper_units = complements-units band.lower;
 }
 
 pub if_ok-band : {X E : Type 0} (n : ℕ) (view : X → Band) (result : Result X E) (other : Band) → IsBand n other → IfOk result (λ x. view x ≡ mirrored other) → IfOk result (λ x. IsBand n (view x))

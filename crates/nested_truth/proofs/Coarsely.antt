@@ -21,7 +21,7 @@ use Rattle.rpatl_syntax.specs.Formula.{Tree}
 use Rattle.formula_sets.specs.Posing.{Model, next_question_of}
 use Rattle.bounded_rounds.specs.Steps.{steps_from}
 use Rattle.bounded_rounds.proofs.Stepping.{step_of}
-use Rattle.bracket_engine.specs.Bracket.{rests_of}
+use Rattle.bracket_engine.specs.Bracket.{complements_of}
 use Rattle.verdicts.specs.declared.report.How.{How}
 use Rattle.verdicts.specs.declared.verdict.Verdict.{Verdict}
 use Rattle.verdicts.specs.Verdict.{verdict_of, is_asking}
@@ -166,8 +166,8 @@ module _ (m : Model) (game : IsGame m.game) (f : Tree) (kl kr cl cr : Known) (lc
 
 -- 5. 1 less the bounds of the dual.
 
-pub rest-entry : (values : List ℕ) (s : ℕ) → s < length values → slice_index (rests_of values) s ≡ unit - slice_index values s
-rest-entry values s inside = get_or-map (λ v. unit - v) values s 0 0 inside
+pub complement-entry : (values : List ℕ) (s : ℕ) → s < length values → slice_index (complements_of values) s ≡ unit - slice_index values s
+complement-entry values s inside = get_or-map (λ v. unit - v) values s 0 0 inside
 
 -- both tables have an entry of at most the unit
 pub record HasUnits (band : Band) (s : ℕ) : Type 0 where
@@ -178,8 +178,8 @@ pub record HasUnits (band : Band) (s : ℕ) : Type 0 where
 
 pub verdict-mirrored : (bound : Bound) (band : Band) (s : ℕ) → IsAtMostOne bound → HasUnits band s → verdict_at bound (mirrored band) s ≡ verdict_at (dual_bound bound) band s
 verdict-mirrored bound band s small h =
-    ap (λ v. verdict_of bound v (slice_index (mirrored band).upper s)) (rest-entry band.upper s h.uppers)
-    ∙ ap (λ v. verdict_of bound (unit - slice_index band.upper s) v) (rest-entry band.lower s h.lowers)
+    ap (λ v. verdict_of bound v (slice_index (mirrored band).upper s)) (complement-entry band.upper s h.uppers)
+    ∙ ap (λ v. verdict_of bound (unit - slice_index band.upper s) v) (complement-entry band.lower s h.lowers)
     ∙ mirrored-verdict bound (slice_index band.lower s) (slice_index band.upper s) small h.lower h.upper
 
 asking-dual : (bound : Bound) → is_asking bound ≡ true → is_asking (dual_bound bound) ≡ true
@@ -194,8 +194,8 @@ pub mirrored-within : (bound : Bound) (coarse fine : Band) (s : ℕ) → IsAtMos
 mirrored-within bound coarse fine s small c h at = record {
   sharper = subst (λ (v : Verdict). IsSharper v (verdict_at bound (mirrored fine) s)) (sym (verdict-mirrored bound coarse s small c))
       (subst (λ (v : Verdict). IsSharper (verdict_at (dual_bound bound) coarse s) v) (sym (verdict-mirrored bound fine s small h)) at.sharper);
-  lower = λ asking. omega (arith, at.upper (asking-dual bound asking), rest-entry coarse.upper s c.uppers, rest-entry fine.upper s h.uppers);
-  upper = λ asking. omega (arith, at.lower (asking-dual bound asking), rest-entry coarse.lower s c.lowers, rest-entry fine.lower s h.lowers);
+  lower = λ asking. omega (arith, at.upper (asking-dual bound asking), complement-entry coarse.upper s c.uppers, complement-entry fine.upper s h.uppers);
+  upper = λ asking. omega (arith, at.lower (asking-dual bound asking), complement-entry coarse.lower s c.lowers, complement-entry fine.lower s h.lowers);
 }
 
 pub bounded-units : (m : Model) (f : Tree) (left right : ℕ → Bool) (band : Band) → IsBounded m f left right band → (s : ℕ) → s < states m → HasUnits band s

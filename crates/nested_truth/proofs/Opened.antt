@@ -20,7 +20,7 @@ use Rattle.bounded_rounds.specs.Exact.{IsBracketed, next_numerator}
 use Rattle.bounded_rounds.specs.Steps.{IsSweep}
 use Rattle.bounded_rounds.proofs.Bracketed.{IsBracketed-opening, IsBracketed-next}
 use Rattle.bracket_engine.specs.declared.bounds.Bracket.{Bracket}
-use Rattle.bracket_engine.specs.Bracket.{IsNarrow, rests_of}
+use Rattle.bracket_engine.specs.Bracket.{IsNarrow, complements_of}
 use Rattle.bracket_engine.specs.Found.{IsFound}
 use Rattle.verdicts.specs.declared.report.How.{How}
 use Rattle.verdicts.specs.declared.verdict.Verdict.TheVariants.{Undecided}
@@ -35,7 +35,7 @@ use Rattle.nested_truth.specs.Open.{IsRunOpen, IsOpenBy}
 use Rattle.nested_truth.proofs.Posed.{is_query, is_next_query}
 use Rattle.nested_truth.proofs.Looked.{IsLookedAt, looked-start}
 use Rattle.nested_truth.proofs.Widened.{raced, next-opens, exactly-around, negated-around}
-use Rattle.nested_truth.proofs.Coarsely.{HasUnits, bounded-units, verdict-mirrored, rest-entry}
+use Rattle.nested_truth.proofs.Coarsely.{HasUnits, bounded-units, verdict-mirrored, complement-entry}
 
 -- 1. A run on one question, at a state where it looks.
 
@@ -102,8 +102,8 @@ swept-sweep q opens steps band how h = record { lowers = h.low_swept.lowers; upp
 
 -- 3. 1 less the bounds of 1 less the bounds.
 
-twice-rest : (values : List ℕ) (s : ℕ) → s < length values → slice_index values s ≤ unit → slice_index (rests_of (rests_of values)) s ≡ slice_index values s
-twice-rest values s inside small = omega (arith, rest-entry (rests_of values) s (omega (arith, inside, length-map values (λ (v : ℕ). unit - v))), rest-entry values s inside, small)
+twice-complement : (values : List ℕ) (s : ℕ) → s < length values → slice_index values s ≤ unit → slice_index (complements_of (complements_of values)) s ≡ slice_index values s
+twice-complement values s inside small = omega (arith, complement-entry (complements_of values) s (omega (arith, inside, length-map values (λ (v : ℕ). unit - v))), complement-entry values s inside, small)
 
 open-same : (q : Query) (bound : Bound) (asked : ℕ) (band other : Band) (s : ℕ) → slice_index other.lower s ≡ slice_index band.lower s → slice_index other.upper s ≡ slice_index band.upper s → IsRunOpen q bound asked band s → IsRunOpen q bound asked other s
 open-same q bound asked band other s lower upper h = record {
@@ -130,7 +130,7 @@ module _ (m : Model) (game : IsGame m.game) (f : Tree) (small : IsAtMostOne f.bo
       let here : verdict_at bound h.0 s ≡ Undecided = sym (verdict-mirrored f.bound h.0 s small units) ∙ ap (λ (b : Band). verdict_at f.bound b s) (sym h.2) ∙ undecided in
       let at : IsRunOpen q bound asked h.0 s = raced-open q bound starts asked h.0 how s (is_query m g everywhere fails game) inside (looked bound) h.1 here in
       subst (λ (b : Band). IsRunOpen q bound asked (mirrored b) s) (sym h.2)
-      (open-same q bound asked h.0 (mirrored (mirrored h.0)) s (twice-rest h.0.lower s units.lowers units.lower) (twice-rest h.0.upper s units.uppers units.upper) at)
+      (open-same q bound asked h.0 (mirrored (mirrored h.0)) s (twice-complement h.0.lower s units.lowers units.lower) (twice-complement h.0.upper s units.uppers units.upper) at)
 
   pub opened : (kind : PathKind) → AreFoundBy kind m f (exactly left) (exactly right) starts asked band how → verdict_at f.bound band s ≡ Undecided → IsOpenBy kind m f left right asked band s
   opened Until h undecided = raced-open (question_by m f left right) f.bound starts asked band how s (is_query m f left right game) inside (looked f.bound) h undecided

@@ -32,7 +32,7 @@ use Rattle.nested_truth.specs.Bands.{Band, Known, verdict_at, exactly, negated}
 use Rattle.nested_truth.specs.Runs.{AreFoundBy, mirrored}
 use Rattle.nested_truth.specs.Sound.{IsAround, IsBetween, IsRightOf}
 use Rattle.nested_truth.proofs.Posed.{is_query}
-use Rattle.nested_truth.proofs.Widened.{IsBounded, raced, swept, next-swept, negated-around, exactly-around, rest-at}
+use Rattle.nested_truth.proofs.Widened.{IsBounded, raced, swept, next-swept, negated-around, exactly-around, complement-at}
 
 -- a verdict that is right of a fact, where the truth tells of it
 valuation-right : (v : Verdict) (truth : Bool) (P : Type 0) → (truth ≡ true) ↔ P → (v ≡ Yes → P) → (v ≡ No → ¬ P) → IsRightOf v truth
@@ -90,8 +90,8 @@ module _ (m : Model) (game : IsGame m.game) (f : Tree) (share : HasShare f.bound
       let q = dual_question_by m f right in
       let lower : ℕ → ℕ = slice_index other.lower in
       let upper : ℕ → ℕ = slice_index other.upper in
-      let up = rest-at other.upper s (omega (arith, inside, found.uppers)) found.upper_units in
-      let low = rest-at other.lower s (omega (arith, inside, found.lowers)) found.lower_units in
+      let up = complement-at other.upper s (omega (arith, inside, found.uppers)) found.upper_units in
+      let low = complement-at other.lower s (omega (arith, inside, found.lowers)) found.lower_units in
       let same : verdict_at f.bound (mirrored other) s ≡ verdict_of (dual_bound f.bound) (lower s) (upper s) =
       ap (λ v. verdict_of f.bound v (slice_index (mirrored other).upper s)) up.0
       ∙ ap (λ v. verdict_of f.bound (unit - upper s) v) low.0

@@ -108,16 +108,16 @@ below-rest top u r d n whole high = omega (arith, high, ap (λ x. x * d) whole)
 near-rest : (top l r d n m : ℕ) → r + l ≡ top → m * l * d ≤ top * (m * n + d) → top * (m * d) ≤ m * r * d + top * (m * n + d)
 near-rest top l r d n m whole near = omega (arith, near, ap (λ x. x * (m * d)) whole)
 
-pub rest-at : (values : List ℕ) (s : ℕ) → s < length values → All (λ v. v ≤ unit) values → (slice_index (mirrored (record { lower = values; upper = values })).lower s ≡ unit - slice_index values s) × (slice_index values s ≤ unit)
-rest-at values s inside units = (get_or-map (λ v. unit - v) values s 0 0 inside, units s 0 inside)
+pub complement-at : (values : List ℕ) (s : ℕ) → s < length values → All (λ v. v ≤ unit) values → (slice_index (mirrored (record { lower = values; upper = values })).lower s ≡ unit - slice_index values s) × (slice_index values s ≤ unit)
+complement-at values s inside units = (get_or-map (λ v. unit - v) values s 0 0 inside, units s 0 inside)
 
 module _ (m : Model) (f : Tree) (right : ℕ → Bool) (other : Band) (h : IsBounded m (dual_of f) everywhere (λ s. not (right s)) other) where
   pub mirrored-sound : (s : ℕ) → s < states m → IsBelowRest (dual_question_by m f right) s (slice_index (mirrored other).lower s) × IsNearRest (dual_question_by m f right) s (slice_index (mirrored other).upper s)
   mirrored-sound s inside =
       let q = dual_question_by m f right in
       let D : ℕ = denominator m.game in
-      let up = rest-at other.upper s (omega (arith, h.uppers)) h.upper_units in
-      let low = rest-at other.lower s (omega (arith, h.lowers)) h.lower_units in (
+      let up = complement-at other.upper s (omega (arith, h.uppers)) h.upper_units in
+      let low = complement-at other.lower s (omega (arith, h.lowers)) h.lower_units in (
         (λ k. below-rest unit (slice_index other.upper s) (slice_index (mirrored other).lower s) (D ^ k) (numerator q k s) (omega (arith, up)) (h.high k s inside)),
         (λ n some.
             let at = h.near n some in

@@ -14,7 +14,7 @@ use Rattle.rpatl_syntax.specs.Formula.{State, True, False, Label, Not, And, Or, 
 use Rattle.formula_sets.specs.Posing.{Model, next_question_of}
 use Rattle.bounded_rounds.specs.Steps.{IsSweep}
 use Rattle.bracket_engine.specs.declared.bounds.Bracket.{Bracket}
-use Rattle.bracket_engine.specs.Bracket.{rests_of}
+use Rattle.bracket_engine.specs.Bracket.{complements_of}
 use Rattle.bracket_engine.specs.Found.{IsFound}
 use Rattle.verdicts.specs.declared.report.How.{How}
 use Rattle.verdicts.specs.declared.report.How.TheVariants.{Rounds, Steps}
@@ -64,7 +64,7 @@ units_at holds s = if holds s then unit else 0
 
 -- 1 less the bounds of the dual
 abbrev pub mirrored : Band → Band
-mirrored band = record { lower = rests_of band.upper; upper = rests_of band.lower }
+mirrored band = record { lower = complements_of band.upper; upper = complements_of band.lower }
 
 -- the bounds of a formula with a path of this kind, of which `starts` are the states where a run looks whether its
 -- threshold is settled

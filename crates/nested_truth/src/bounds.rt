@@ -1,7 +1,7 @@
 //! Bounds that runs find.
 
 ghost use Rattle.std.specs.Prelude.{◌≡◌, IfOk};
-ghost use Rattle.bracket_engine.specs.Bracket.{rests_of};
+ghost use Rattle.bracket_engine.specs.Bracket.{complements_of};
 
 use game_model::UNIT;
 use game_outside::OutOfMemory;
@@ -27,16 +27,16 @@ impl Bounds {
         ensures how { IfOk result (λ bounds. bounds.how ≡ self.now.how) }
     {
         Ok(Bounds {
-            lower: rests(alloc, &self.upper)?,
-            upper: rests(alloc, &self.lower)?,
+            lower: complements(alloc, &self.upper)?,
+            upper: complements(alloc, &self.lower)?,
             how: self.how,
         })
     }
 }
 
 // The unit less each value.
-fn rests(alloc: Global, values: &[u64]) -> Result<Vec<u64>, AllocError>
-    ensures { IfOk result (λ rests. rests.items ≡ rests_of values.now) }
+fn complements(alloc: Global, values: &[u64]) -> Result<Vec<u64>, AllocError>
+    ensures { IfOk result (λ complements. complements.items ≡ complements_of values.now) }
 {
     values
         .iter()

@@ -6,10 +6,10 @@ ghost use Rattle.game_model.specs.Rounded.{down_step};
 ghost use Rattle.value_words.specs.Passes.{IsOf, Grew, seen_by, won_by, parts_of};
 ghost use Rattle.predecessors.specs.Marks.{IsMarked};
 ghost use Rattle.round_workers.specs.Share.{IsSwept, most_workers};
-ghost use Rattle.round_workers.specs.inside.Teams.{IsTeam, AreHalves};
+ghost use Rattle.round_workers.specs.inside.Crews.{IsCrew, AreHalves};
 
+use crate::crew::Crew;
 use crate::sweep::{Rounded, Task, meet, sweep};
-use crate::team::Team;
 use game_outside::Gate;
 use predecessors::Predecessors;
 use std::thread::{Threads, join};
@@ -50,7 +50,7 @@ pub fn round<R: Threads + Sync, P: Posing + Send + Sync, G: Gate + Sync>(
     ensures few { result.raises ≤ states P.posed }
     ensures parts { workers ≤ parts_of pass → parts_of result.pass ≡ parts_of pass }
 {
-    let team = Team::all(table.question().game(), workers);
+    let crew = Crew::all(table.question().game(), workers);
     let task = Task {
         table,
         predecessors,
@@ -58,40 +58,40 @@ pub fn round<R: Threads + Sync, P: Posing + Send + Sync, G: Gate + Sync>(
         whole,
         gate,
     };
-    fork(rt, &task, pass, more, team)
+    fork(rt, &task, pass, more, crew)
 }
 
-/// The part of a team. The first of `more` is the mark of its first state.
+/// The part of a crew. The first of `more` is the mark of its first state.
 fn fork<R: Threads + Sync, P: Posing + Send + Sync, G: Gate + Sync>(
     rt: &R,
     task: &Task<'_, P, G>,
     mut pass: Pass<P>,
     more: &mut [bool],
-    team: Team,
+    crew: Crew,
 ) -> Rounded<P>
     requires pass { IsOf task.now.table.now pass }
-    requires more { team.low + length more.old ≡ team.high }
-    requires team { IsTeam P.posed.game team }
+    requires more { crew.low + length more.old ≡ crew.high }
+    requires crew { IsCrew P.posed.game crew }
     ensures { IsSwept P.posed task.now.marks.now
-        (team.last - team.first) team.low team.high pass.seat result.pass.seat result.raises }
+        (crew.last - crew.first) crew.low crew.high pass.seat result.pass.seat result.raises }
 {
-    if team.last - team.first == 1 {
-        return sweep(task, pass, more, team.first, team.low, team.high);
+    if crew.last - crew.first == 1 {
+        return sweep(task, pass, more, crew.first, crew.low, crew.high);
     }
-    let (front, back) = halves(task.table, team);
+    let (front, back) = halves(task.table, crew);
     let other = task.table.split(&mut pass);
     let (mine, others) = more.split_at_mut((front.high - front.low) as usize);
     let (left, right) = join(
         rt,
         move || -> Rounded<P>
             requires { IsSync R.row × IsSend P.row × IsSync P.row × IsSync G.row × IsOf task.now.table.now pass
-                × (front.low + length mine.now ≡ front.high) × IsTeam P.posed.game front }
+                × (front.low + length mine.now ≡ front.high) × IsCrew P.posed.game front }
             ensures { IsSwept P.posed task.entry.now.marks.now
                 (front.last - front.first) front.low front.high pass.seat result.pass.seat result.raises }
         { fork(rt, task, pass, mine, front) },
         move || -> Rounded<P>
             requires { IsSync R.row × IsSend P.row × IsSync P.row × IsSync G.row × IsOf task.now.table.now other
-                × (back.low + length others.now ≡ back.high) × IsTeam P.posed.game back }
+                × (back.low + length others.now ≡ back.high) × IsCrew P.posed.game back }
             ensures { IsSwept P.posed task.entry.now.marks.now
                 (back.last - back.first) back.low back.high other.seat result.pass.seat result.raises }
         { fork(rt, task, other, others, back) },
@@ -99,11 +99,11 @@ fn fork<R: Threads + Sync, P: Posing + Send + Sync, G: Gate + Sync>(
     meet(task.table, left, right)
 }
 
-/// The halves of a team of at least two workers.
-fn halves<P: Posing>(table: &ValueTable<'_, P>, team: Team) -> (Team, Team)
-    requires team { IsTeam P.posed.game team }
-    requires some { 2 ≤ team.last - team.first }
-    ensures { AreHalves P.posed.game team result.0 result.1 }
+/// The halves of a crew of at least two workers.
+fn halves<P: Posing>(table: &ValueTable<'_, P>, crew: Crew) -> (Crew, Crew)
+    requires crew { IsCrew P.posed.game crew }
+    requires some { 2 ≤ crew.last - crew.first }
+    ensures { AreHalves P.posed.game crew result.0 result.1 }
 {
-    team.halves(table.question().game())
+    crew.halves(table.question().game())
 }

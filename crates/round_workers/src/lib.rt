@@ -9,12 +9,12 @@
 //! which worker raised what, nor that two of them run at once.
 #![tactic(auto)]
 
+mod crew;
 mod fork;
 pub mod laws;
 mod marks;
 mod share;
 mod sweep;
-mod team;
 
 pub use fork::round;
 pub use marks::next_mark;

@@ -17,7 +17,7 @@ use Rattle.bracket_engine.specs.Stop.{EndsWhereSettled, IsSettlingGuess}
 pub record IsEnd (q swapped_question : Query) (zero : List Bool) (bound : Bound) (initial : List ℕ) (asked : ℕ)
     (lower swapped_value : ℕ → ℕ) (rounds : ℕ) (still : Bool) (guess : Option SettlingGuess) : Type 0 where
   pub few : rounds ≤ asked
-  pub rests : still ≡ true → IsSettled q lower × IsSettled swapped_question swapped_value
+  pub quiet : still ≡ true → IsSettled q lower × IsSettled swapped_question swapped_value
   pub kept : IfSome guess (IsSettlingGuess q zero bound initial lower swapped_value)
   pub none : is_asking bound ≡ true → guess ≡ None
   pub early : rounds < asked → (still ≡ true) ⊎ (is_some guess ≡ true)
@@ -29,7 +29,7 @@ pub record AreRacing {P C : Type 0} {h i : _} (q swapped_question : Query) (zero
   pub lower : IsRacing q racers.rounds racers.lower.pass racers.lower.agenda
   pub swapped : IsRacing swapped_question racers.rounds racers.swapped.pass racers.swapped.agenda
   pub end : IsEnd q swapped_question zero bound initial asked (read_of racers.lower.agenda)
-      (read_of racers.swapped.agenda) racers.rounds racers.rests racers.kept
+      (read_of racers.swapped.agenda) racers.rounds racers.quiet racers.kept
 
 -- the closed words of two races whose rounds are over
 pub record AreOver (q swapped_question : Query) (zero : List Bool) (bound : Bound) (initial : List ℕ) (asked : ℕ)
@@ -37,4 +37,4 @@ pub record AreOver (q swapped_question : Query) (zero : List Bool) (bound : Boun
   pub words : IsRaced q raced.words raced.rounds
   pub swapped_words : IsRaced swapped_question raced.swapped_words raced.rounds
   pub end : IsEnd q swapped_question zero bound initial asked (value_at raced.words) (value_at raced.swapped_words)
-      raced.rounds raced.rests raced.kept
+      raced.rounds raced.quiet raced.kept

@@ -5,7 +5,7 @@ use Rattle.game_model.specs.Rounded.{IsSettled}
 use Rattle.step_core.specs.Word.{values_of}
 use Rattle.verdicts.specs.Stop.{bound_of}
 use Rattle.bracket_engine.specs.inside.Sides.{IsLowerSide, IsUpperSide}
-use Rattle.bracket_engine.proofs.Bracketing.{all-units-raced, rests-over, AreUpperParts-over, IsBracket-over}
+use Rattle.bracket_engine.proofs.Bracketing.{all-units-raced, quiet-over, AreUpperParts-over, IsBracket-over}
 use Rattle.bracket_engine.proofs.closing.bracket_of.Goals as goal
 
 pub is_stable-stable-requires-clause-units : goal.is_stable-stable-requires-clause-units
@@ -18,8 +18,8 @@ is_stable-stable-requires-clause-swapped_units g c =
     subst (λ (l : List ℕ). All (λ v. v ≤ unit) l) (sym c.deref-2.ensures.value)
     (all-units-raced c.args.swapped_question c.args.raced.swapped_words c.in_ok-swapped_values.swapped_values.items c.args.raced.rounds c.requires.over.swapped_words (c.in_ok-swapped_values.ensures ∙ ap values_of c.as_slice.ensures))
 
-pub is_stable-stable-requires-clause-rests : goal.is_stable-stable-requires-clause-rests
-is_stable-stable-requires-clause-rests g c is =
+pub is_stable-stable-requires-clause-quiet : goal.is_stable-stable-requires-clause-quiet
+is_stable-stable-requires-clause-quiet g c is =
     let ending = c.args.made.now.ending.now in
     let q = ending.question.now in
     let raced = c.args.raced in
@@ -28,7 +28,7 @@ is_stable-stable-requires-clause-rests g c is =
     let lower_is : lower ≡ values_of raced.words = c.in_ok-base.ensures ∙ ap values_of c.as_slice-2.ensures in
     let swapped_values_are : swapped_values ≡ values_of raced.swapped_words = c.in_ok-swapped_values.ensures ∙ ap values_of c.as_slice.ensures in
     let settled : IsSettled q (slice_index lower) × IsSettled c.args.swapped_question (slice_index swapped_values) =
-    rests-over q c.args.swapped_question ending.zero.now (bound_of ending.rule.now) ending.initial.now c.args.made.now.most raced lower swapped_values
+    quiet-over q c.args.swapped_question ending.zero.now (bound_of ending.rule.now) ending.initial.now c.args.made.now.most raced lower swapped_values
     ending.posed c.known.ensures c.requires.zero c.requires.swapped_question c.requires.over lower_is swapped_values_are is in
     (subst (λ (l : List ℕ). IsSettled q (slice_index l)) (sym c.deref.ensures.value) settled.0, subst (λ (l : List ℕ). IsSettled c.args.swapped_question (slice_index l)) (sym c.deref-2.ensures.value) settled.1)
 

@@ -9,7 +9,7 @@ use game_model::Game;
 /// Workers of a round in a row, of so many in all: from `first` up to and not including `last`. Their states stand from
 /// `low` up to and not including `high`.
 #[derive(Clone, Copy)]
-pub struct Team {
+pub struct Crew {
     pub workers: u32,
     pub first: u32,
     pub last: u32,
@@ -20,20 +20,20 @@ pub struct Team {
     ghost few: { workers ≤ most_workers },
 }
 
-impl Team {
+impl Crew {
     ghost use Rattle.std.specs.Prelude.{◌≡◌, ◌-◌, length};
-    ghost use Rattle.round_workers.specs.inside.Teams.{IsTeam, AreHalves};
+    ghost use Rattle.round_workers.specs.inside.Crews.{IsCrew, AreHalves};
 
     /// All workers of a round.
-    pub fn all(game: &Game, workers: u32) -> Team
+    pub fn all(game: &Game, workers: u32) -> Crew
         requires { (1 ≤ workers) × (workers ≤ most_workers) }
-        ensures team { IsTeam game.now result }
+        ensures crew { IsCrew game.now result }
         ensures count { result.last - result.first ≡ workers }
         ensures low { result.low ≡ 0 }
         ensures high { result.high ≡ length game.now }
     {
         game.known();
-        Team {
+        Crew {
             workers,
             first: 0,
             last: workers,
@@ -43,28 +43,28 @@ impl Team {
     }
 
     /// The first half of the workers, and the others.
-    pub fn halves(self, game: &Game) -> (Team, Team)
-        requires team { IsTeam game.now self }
+    pub fn halves(self, game: &Game) -> (Crew, Crew)
+        requires crew { IsCrew game.now self }
         requires some { 2 ≤ self.last - self.first }
         ensures { AreHalves game.now self result.0 result.1 }
     {
         let middle = self.first + (self.last - self.first) / 2;
         let cut = first_state(game, self.workers, middle);
-        let Team {
+        let Crew {
             workers,
             first,
             last,
             low,
             high,
         } = self;
-        let front = Team {
+        let front = Crew {
             workers,
             first,
             last: middle,
             low,
             high: cut,
         };
-        let back = Team {
+        let back = Crew {
             workers,
             first: middle,
             last,

@@ -1,10 +1,10 @@
 use Rattle.std.proofs.Common.{ℕ, sym, subst}
 use Rattle.round_workers.specs.Share.{BeginsBlock}
 use Rattle.round_workers.proofs.Parts.{first-begins, last-ends}
-use Rattle.round_workers.proofs.team.Team.all.Goals as goal
+use Rattle.round_workers.proofs.crew.Crew.all.Goals as goal
 
-pub returns-clause-team : goal.returns-clause-team
-returns-clause-team c = record {
+pub returns-clause-crew : goal.returns-clause-crew
+returns-clause-crew c = record {
   begins = first-begins c.args.game.now c.args.workers;
   ends = subst (λ (n : ℕ). BeginsBlock c.args.game.now c.args.workers c.args.workers n) (sym c.states.ensures) (last-ends c.args.game.now c.args.workers c.known.ensures c.requires.0);
 }

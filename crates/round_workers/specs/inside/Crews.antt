@@ -1,0 +1,19 @@
+-- Workers in a row and their states.
+use Rattle.std.specs.Prelude.{◌≡◌, ◌+◌, ◌-◌, ◌/◌, ◌≤◌, List}
+use Rattle.game_model.specs.Game.{Distribution}
+use Rattle.round_workers.specs.declared.crew.Crew.{Crew}
+use Rattle.round_workers.specs.Share.{BeginsBlock}
+
+-- the states of a crew begin where those of its first worker do, and end where those behind its last one begin
+pub record IsCrew (game : List (List Distribution)) (crew : Crew) : Type 0 where
+  pub begins : BeginsBlock game crew.workers crew.first crew.low
+  pub ends : BeginsBlock game crew.workers crew.last crew.high
+
+-- two crews, one behind the other, of half of the workers each
+pub record AreHalves (game : List (List Distribution)) (crew front back : Crew) : Type 0 where
+  pub front_crew : IsCrew game front
+  pub back_crew : IsCrew game back
+  pub order : (front.low ≤ front.high) × (back.low ≤ back.high)
+  pub lows : (front.low ≡ crew.low) × (back.low ≡ front.high) × (back.high ≡ crew.high)
+  pub firsts : (front.first ≡ crew.first) × (front.last ≡ crew.first + (crew.last - crew.first) / 2)
+      × (back.first ≡ front.last) × (back.last ≡ crew.last)
