@@ -56,7 +56,7 @@ pub record AreSwappedValues (q : Query) (zero : List Bool) (rounds : ℕ) (value
   pub swept : IsBelow (swapped q zero) (down_steps (swapped q zero) rounds) (slice_index values)
   pub within : IsBelow (swapped q zero) (slice_index values) (down_steps (swapped q zero) (rounds * states q))
 
--- what the tables bound: the base has units and lies below the values, the upper table above them
+-- the base has a count of units for each state and is low, and the upper table is high
 pub record AreSoundBounds (q : Query) (base upper : List ℕ) : Type 0 where
   pub base_length : length base ≡ states q
   pub base_units : All (λ v. v ≤ unit) base
@@ -96,8 +96,8 @@ pub record HasEnded (q : Query) (zero : List Bool) (bound : Bound) (initial : Li
   pub least : stable ≡ true → IsLeastSettled q (slice_index base)
   pub swapped_least : stable ≡ true → IsLeastSettled (swapped q zero) (slice_index swapped_values)
 
--- a bracket of a question with this zero set, after this many completed rounds of those that were asked for, unless the
--- threshold was settled at the initial states before
+-- a bracket of a question with this zero set: sound tables, what the upper one is made from, how near they are after so
+-- many of the asked rounds, and how the run ended
 pub record IsBracket (q : Query) (zero : List Bool) (bound : Bound) (initial : List ℕ) (asked : ℕ) (base upper : List ℕ)
     (rounds : ℕ) (stable : Bool) : Type 0 where
   pub sound : AreSoundBounds q base upper

@@ -4,7 +4,7 @@ ghost use Rattle.std.specs.Prelude.{◌≡◌, IfOk};
 ghost use Rattle.game_model.specs.Dual.{IsZeroSet};
 ghost use Rattle.verdicts.specs.Stop.{bound_of, IsStopRule};
 ghost use Rattle.marked_rounds.specs.Rounds.{IsRacing};
-ghost use Rattle.bracket_engine.specs.inside.Race.{AreOver, AreRacing};
+ghost use Rattle.bracket_engine.specs.inside.Race.{AreOver, HaveRaced};
 
 use crate::rounds::Rounds;
 use crate::stopping::SettlingGuess;
@@ -93,7 +93,7 @@ fn run_rounds<
     requires game { C.posed.game ≡ P.posed.game }
     requires lower { IsRacing P.posed 0 lower.pass lower.agenda }
     requires swapped { IsRacing C.posed 0 swapped.pass swapped.agenda }
-    ensures { IfOk result (λ racers. AreRacing P.posed C.posed rounds.now.ending.now.zero.now
+    ensures { IfOk result (λ racers. HaveRaced P.posed C.posed rounds.now.ending.now.zero.now
         (bound_of rounds.now.ending.now.rule.now) rounds.now.ending.now.initial.now rounds.now.most racers) }
 {
     let rt = rounds.team.rt;

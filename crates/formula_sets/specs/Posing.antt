@@ -71,7 +71,7 @@ pub record IsSetUp (game : List (List Distribution)) (l : Labelling) (o : Owners
   pub goal_count : length question.goals ≡ length game
   pub dead_count : length question.deads ≡ length game
   pub sides : (s : ℕ) → s < length game → side_at question s ≡ side_of f.coalition f.bound o s
-  -- the initial states are those with the label `init`, and there is one
+  -- the initial states are those with the label `init`, at least one
   pub starts : initial ≡ states_with l init
   pub some : initial ≢ []
 
@@ -121,7 +121,7 @@ unmarked states = at_states (λ s. false) states
 abbrev pub next_question_of : List (List Distribution) → Ownership → Tree → Query
 next_question_of game o f = question_with game o f (unmarked (length game)) (unmarked (length game))
 
--- these initial states, unless there is none: then this is the fault
+-- these states, or the fault `NoInit` where there is none
 abbrev pub some_state : List ℕ → Result (List ℕ) PoseFault
 some_state [] = Err NoInit
 some_state (s ∷ states) = Ok (s ∷ states)

@@ -7,8 +7,8 @@ use crate::game::Edge;
 use std::marker::Model;
 
 /// The choices of a state, after one look at the lists of its game: the bounds of the edges of each choice, its
-/// total, or 0 where that is 2^64 or more, and the successors and weights of all edges. Who goes over the choices of a state takes its row first:
-/// between loads of words that threads share, what lies behind the game would be read anew.
+/// total, or 0 where that is 2^64 or more, and the successors and weights of all edges. Who goes over the choices of a
+/// state takes its row first: between loads of words that threads share, what lies behind the game would be read anew.
 #[derive(Drop)]
 pub struct Row<'g> {
     pub(crate) bounds: &'g [u32],

@@ -34,7 +34,7 @@ pub record IsUnderWay (t : Inside) : Type 0 where
   pub piece : length t.piece.items ≡ piece_size
   pub begins : t.begin ≤ t.end
   pub ends : t.end ≤ piece_size
-  -- so a count of bytes that passes the limit still fits 64 bits
+  -- the limit is below the greatest `u64`, so a count that passes it still fits
   pub bounded : t.limit < 2 ^ 64 - 1
   pub within : t.closed ≡ false → t.taken ≤ t.limit
   pub over : t.ended ≡ true → t.begin ≡ t.end
@@ -91,7 +91,7 @@ pub record LeavesText {S X : Type 0} (shelf : Ghosts S) (text text' : TextUnderW
   -- a text is too long only where more bytes came than the limit allows
   pub too_long : IsErrOf result TooLong → PassesLimit text (shelf.rest old) (shelf.rest new)
 
--- there is a piece, or the text is at its end
+-- whether there is a piece; where not, nothing is held and the text is at its end
 abbrev pub HoldsPiece : Bool → TextUnderWay → Type 0
 HoldsPiece true text = (0 < length text.held) × (text.ended ≡ false)
 HoldsPiece false text = (text.held ≡ []) × (text.ended ≡ true)

@@ -6,7 +6,7 @@ ghost use Rattle.text_lines.specs.Text.{lines_of};
 ghost use Rattle.text_lines.specs.Laws.{HasNo, EndsInNoCr};
 ghost use Rattle.game_outside.specs.Limits.{piece_size};
 ghost use Rattle.game_outside.specs.Outside.{Begins};
-ghost use Rattle.game_outside.specs.Reading.{ReadsNamed, ReadsOn};
+ghost use Rattle.game_outside.specs.Reading.{LeavesNamed, LeavesBegun};
 ghost use Rattle.game_outside.specs.LineTexts.{Takes, GivesLine, MeetsEnd, Drops, LeavesText, HoldsPiece, IsOnTheWay, IsCut, IsUncut};
 
 use crate::shelf::{PIECE, ReadEnd, Shelf};
@@ -57,7 +57,7 @@ impl LineText {
         }) }
         ensures rest { OnOk result (Begins (H.held shelf.old) name.now (H.rest shelf.new)) }
         ensures taken { H.taken shelf.new ≡ 0 }
-        ensures shelf { ReadsNamed H.Shelf name.now limit shelf.old shelf.new result }
+        ensures shelf { LeavesNamed H.Shelf name.now limit shelf.old shelf.new result }
     {
         if shelf.begin(name).is_err() {
             return Err(ReadEnd::ReadFault);
@@ -97,7 +97,7 @@ impl LineText {
         ensures end { result ≡ Ok false → MeetsEnd self.old self.new (H.rest shelf.old)
             (H.rest shelf.new) line.new.items }
         ensures text { LeavesText H.Shelf self.old self.new shelf.old shelf.new result }
-        ensures shelf { ReadsOn H.Shelf self.old.limit shelf.old shelf.new result }
+        ensures shelf { LeavesBegun H.Shelf self.old.limit shelf.old shelf.new result }
     {
         self.known();
         line.clear();
@@ -129,7 +129,7 @@ impl LineText {
         ensures dropped { OnOk result (Drops self.old self.new (H.rest shelf.old) (H.rest shelf.new)) }
         ensures room { IsErrOf result ReadEnd.OutOfMemory → ⊥ }
         ensures text { LeavesText H.Shelf self.old self.new shelf.old shelf.new result }
-        ensures shelf { ReadsOn H.Shelf self.old.limit shelf.old shelf.new result }
+        ensures shelf { LeavesBegun H.Shelf self.old.limit shelf.old shelf.new result }
     {
         self.known();
         while self.fill(shelf)? {}
@@ -155,7 +155,7 @@ impl LineText {
         ensures ended { self.old.ended ≡ true → result ≡ Ok false }
         ensures room { IsErrOf result ReadEnd.OutOfMemory → ⊥ }
         ensures text { LeavesText H.Shelf self.old self.new shelf.old shelf.new result }
-        ensures shelf { ReadsOn H.Shelf self.old.limit shelf.old shelf.new result }
+        ensures shelf { LeavesBegun H.Shelf self.old.limit shelf.old shelf.new result }
     {
         self.known();
         self.begin = 0;

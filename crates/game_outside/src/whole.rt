@@ -2,7 +2,7 @@
 
 ghost use Rattle.std.specs.Prelude.{◌≤◌, IfOk, IsErrOf, length};
 ghost use Rattle.game_outside.specs.Outside.{IsHeldAs, IsHeldLonger};
-ghost use Rattle.game_outside.specs.Reading.{ReadsNamed};
+ghost use Rattle.game_outside.specs.Reading.{LeavesNamed};
 
 use crate::shelf::{PIECE, ReadEnd, Shelf};
 use std::alloc::Global;
@@ -22,7 +22,7 @@ pub fn read_all<H: Shelf>(
     // It fails only where the shelf fails or the text is longer, takes little more than the limit, and changes nothing
     // of what the shelf holds.
     ensures longer { IsErrOf result ReadEnd.TooLong → IsHeldLonger (H.held shelf.old) name.now limit }
-    ensures shelf { ReadsNamed H.Shelf name.now limit shelf.old shelf.new result }
+    ensures shelf { LeavesNamed H.Shelf name.now limit shelf.old shelf.new result }
 {
     if shelf.begin(name).is_err() {
         return Err(ReadEnd::ReadFault);

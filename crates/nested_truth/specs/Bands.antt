@@ -90,10 +90,10 @@ exactly holds = record { sure = holds; possible = holds }
 abbrev pub negated : Known → Known
 negated k = record { sure = (λ s. not (k.possible s)); possible = (λ s. not (k.sure s)) }
 
--- both
+-- of two formulas joined by and: sure where both are, possible where both are
 abbrev pub both : Known → Known → Known
 both k l = record { sure = (λ s. k.sure s && l.sure s); possible = (λ s. k.possible s && l.possible s) }
 
--- at least one of them
+-- joined by or: sure where either is, possible where either is
 abbrev pub either : Known → Known → Known
 either k l = record { sure = (λ s. k.sure s || l.sure s); possible = (λ s. k.possible s || l.possible s) }

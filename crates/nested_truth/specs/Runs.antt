@@ -50,11 +50,11 @@ pub record AreSwept (low high : Query) (low_opening high_opening : ℕ → ℕ) 
   pub high_swept : IsSweep high high_opening steps high_lower band.upper
   pub steps_are : how ≡ Steps steps
 
--- the question of the sure states
+-- the question in which a side holds only where it surely does
 abbrev pub pessimistic : Model → Tree → Known → Known → Query
 pessimistic m f left right = question_by m f left.sure right.sure
 
--- the question of the possible states
+-- the question in which a side holds wherever it possibly does
 abbrev pub optimistic : Model → Tree → Known → Known → Query
 optimistic m f left right = question_by m f left.possible right.possible
 

@@ -16,7 +16,7 @@ use Rattle.run_refusals.specs.Refusals.{numbered}
 abbrev pub sum_of : List ℕ → ℕ
 sum_of table = sum_by (λ v. v) table
 
--- the sums of both tables, where these are settled
+-- the sums of both tables, where these are settled, else the word `unsettled`
 abbrev pub ending : Bool → List ℕ → List ℕ → List ℕ
 ending stable lower upper = if stable then numbered (codes " lower ") (sum_of lower)
     ++ (numbered (codes " upper ") (sum_of upper) ++ codes " settled\n") else codes " unsettled\n"

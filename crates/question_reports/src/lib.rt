@@ -3,8 +3,8 @@
 //! [`bracket_report`] answers from a bracket, with its certificate where that is asked for; [`within_report`] and
 //! [`next_report`] from exactly so many steps; [`nested_report`] answers a formula with others inside; [`audit_report`]
 //! a question from a certificate that was accepted, whoever made it; [`solved_report`] from a plan that tables of a
-//! solver led to; [`sure_report`] lists the almost-sure states; and [`drawn_report`] is the line of `make`, on a question
-//! that a seed draws.
+//! solver led to; [`sure_report`] lists the almost-sure states; and [`drawn_report`] is the line of `make`, on a
+//! question that a seed draws.
 #![tactic(auto)]
 
 mod audits;

@@ -15,7 +15,7 @@ use plan_solver::find_bounds;
 use predecessors::Predecessors;
 use rpatl_syntax::Formula;
 use run_answers::Answer;
-use solved_plans::hand_out_over;
+use solved_plans::hand_out;
 use std::alloc::Global;
 use verdicts::How;
 use verdicts::laws::{mirrored_verdicts_are_those_of_the_dual, undecided_thresholds_are_left_open};
@@ -46,7 +46,7 @@ pub fn solved_report(
     let sure = almost_sure_over(alloc, question, &predecessors)?;
     let zero = zero_set_over(alloc, question, &predecessors)?;
     let candidates = find_bounds(alloc, question, &predecessors, &sure, &zero, hints)?;
-    let plan = hand_out_over(alloc, question, &predecessors, &sure, &zero, &candidates)?;
+    let plan = hand_out(alloc, question, &predecessors, &sure, &zero, &candidates)?;
     // What a question keeps, and two laws: these calls do nothing.
     question.known();
     undecided_thresholds_are_left_open();

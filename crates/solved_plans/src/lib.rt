@@ -1,6 +1,6 @@
 //! A plan that is proved, from tables of any origin.
 //!
-//! A solver that nobody trusts finds a lower and an upper table, by any method ([`Candidates`]). [`hand_out_over`] makes
+//! A solver that nobody trusts finds a lower and an upper table, by any method ([`Candidates`]). [`hand_out`] makes
 //! a plan of them that passes the checks of an audit, whatever they are, where the almost-sure states and the zero set
 //! are known. Where a value is 1 or 0 the graph alone decides it: the lower bound is 1 exactly at the almost-sure states,
 //! and the upper one 0 exactly in the zero set. Elsewhere the candidates count, as long as choices and ranks vouch for
@@ -14,4 +14,4 @@ mod plan;
 mod reached;
 mod tables;
 
-pub use plan::{Candidates, hand_out_over};
+pub use plan::{Candidates, hand_out};

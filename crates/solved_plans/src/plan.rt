@@ -39,7 +39,7 @@ pub struct Candidates {
 /// and else 0. The upper table is the candidate's, from one unit to 1, where the whole table is inductive, and else 1.
 /// The choices and ranks are those of `rank_certificate::rank_table`: none of either player stands where none is
 /// needed. The only error is want of memory.
-pub fn hand_out_over(
+pub fn hand_out(
     alloc: Global,
     question: &Question,
     predecessors: &Predecessors,

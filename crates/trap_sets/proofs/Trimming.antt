@@ -9,7 +9,7 @@ use Rattle.game_model.specs.Game.{choices_of}
 use Rattle.game_model.specs.Query.{Query, states}
 use Rattle.trap_sets.specs.Ends.{IsCut, Leads, IsEndComponent}
 use Rattle.trap_sets.specs.inside.Parts.{off, IsInner, KeepsEnds, HaveInner}
-use Rattle.trap_sets.specs.inside.Trimming.{IsTrimmed, IsInnerBut, AreHeld, IsTested}
+use Rattle.trap_sets.specs.inside.Trimming.{IsTrimmed, IsInnerBut, AreWaiting, IsTested}
 use Rattle.trap_sets.proofs.Marking.{off-same, off-other, longer-at, longer-length}
 
 -- the listed choices of an end component are inner
@@ -151,8 +151,8 @@ module _ (q : Query) (replies : List (Option ℕ)) (part awaited gone : List ℕ
 -- what one test leaves as it was
 module _ (q : Query) (replies : List (Option ℕ)) (state : ℕ) (part awaited gone part' awaited' gone' : List ℕ) (k : IsTested q replies state part awaited gone part' awaited' gone') where
   -- the others wait as before
-  pub AreHeld-tested : (place count : ℕ) → place ≤ length gone → ((s : ℕ) → s < count → s ≢ state → slice_index part s ≢ 0 → IsInnerBut q replies part gone place s (slice_index awaited s)) → AreHeld q replies part' awaited' gone' place count
-  AreHeld-tested place count le before = λ s ls some. elim (cases_eq s state) [
+  pub AreWaiting-tested : (place count : ℕ) → place ≤ length gone → ((s : ℕ) → s < count → s ≢ state → slice_index part s ≢ 0 → IsInnerBut q replies part gone place s (slice_index awaited s)) → AreWaiting q replies part' awaited' gone' place count
+  AreWaiting-tested place count le before = λ s ls some. elim (cases_eq s state) [
     | inl same ↦
         let inner : IsInner q replies part' s (slice_index awaited' s) = subst (λ u. IsInner q replies part' u (slice_index awaited' u)) (sym same) (k.inner (subst (λ u. slice_index part' u ≢ 0) same some)) in
         record { cut = inner.cut; stays = λ t leads. inl (inner.stays t leads) }
@@ -182,16 +182,16 @@ module _ (q : Query) (replies : List (Option ℕ)) (state : ℕ) (part awaited g
   ]
 
 -- one more state is tested that has no part
-pub AreHeld-without : (q : Query) (replies : List (Option ℕ)) (part awaited gone : List ℕ) (place state : ℕ) → slice_index part state ≡ 0 → AreHeld q replies part awaited gone place state → AreHeld q replies part awaited gone place (state + 1)
-AreHeld-without q replies part awaited gone place state none h = λ s ls some. elim (cases_eq s state) [
+pub AreWaiting-without : (q : Query) (replies : List (Option ℕ)) (part awaited gone : List ℕ) (place state : ℕ) → slice_index part state ≡ 0 → AreWaiting q replies part awaited gone place state → AreWaiting q replies part awaited gone place (state + 1)
+AreWaiting-without q replies part awaited gone place state none h = λ s ls some. elim (cases_eq s state) [
   | inl same ↦ absurd (some (ap (slice_index part) same ∙ none))
   | inr other ↦ h s (omega (arith, ls, other)) some
 ]
 
 -- where no state waits for a choice that leads to the one at a place, they wait as if that place were passed
-pub AreHeld-passed : (q : Query) (replies : List (Option ℕ)) (part awaited gone : List ℕ) (place count : ℕ) → ((s : ℕ) → s < count → slice_index part s ≢ 0 → IsCut q replies s (slice_index awaited s) → Leads q s (slice_index awaited s) (slice_index gone place) → ⊥)
-    → AreHeld q replies part awaited gone place count → AreHeld q replies part awaited gone (place + 1) count
-AreHeld-passed q replies part awaited gone place count passed h = λ s ls some.
+pub AreWaiting-passed : (q : Query) (replies : List (Option ℕ)) (part awaited gone : List ℕ) (place count : ℕ) → ((s : ℕ) → s < count → slice_index part s ≢ 0 → IsCut q replies s (slice_index awaited s) → Leads q s (slice_index awaited s) (slice_index gone place) → ⊥)
+    → AreWaiting q replies part awaited gone place count → AreWaiting q replies part awaited gone (place + 1) count
+AreWaiting-passed q replies part awaited gone place count passed h = λ s ls some.
     let was : IsInnerBut q replies part gone place s (slice_index awaited s) = h s ls some in
     record {
       cut = was.cut;
@@ -205,7 +205,7 @@ AreHeld-passed q replies part awaited gone place count passed h = λ s ls some.
     }
 
 -- where all places are passed, each state with a part has an inner choice
-pub HaveInner-held : (q : Query) (replies : List (Option ℕ)) (part awaited gone : List ℕ) (place : ℕ) → length gone ≤ place → AreHeld q replies part awaited gone place (states q) → HaveInner q replies part
+pub HaveInner-held : (q : Query) (replies : List (Option ℕ)) (part awaited gone : List ℕ) (place : ℕ) → length gone ≤ place → AreWaiting q replies part awaited gone place (states q) → HaveInner q replies part
 HaveInner-held q replies part awaited gone place all h = λ s ls some.
     let held : IsInnerBut q replies part gone place s (slice_index awaited s) = h s ls some in (
       slice_index awaited s,

@@ -2,7 +2,7 @@
 
 ghost use Rattle.std.specs.Prelude.{◌≡◌, ◌≢◌, ℕ, ◌+◌, ◌<◌, List, length, slice_index, OnOk};
 ghost use Rattle.game_model.specs.Growing.{IsLonger};
-ghost use Rattle.trap_sets.specs.inside.OfCut.{states_in, KeepsEndsOf, HaveInnerOf, IsTrimmedOf, AreHeldOf, IsTestedOf};
+ghost use Rattle.trap_sets.specs.inside.OfCut.{states_in, KeepsEndsOf, HaveInnerOf, IsTrimmedOf, AreWaitingOf, IsTestedOf};
 
 use crate::cut::Cut;
 use game_outside::OutOfMemory;
@@ -58,7 +58,7 @@ fn test_all(
     ensures trimmed { OnOk result (IsTrimmedOf cut.now part.new awaited.new gone.new.items) }
     ensures refines { OnOk result ((s : ℕ) → slice_index part.new s ≢ 0
         → slice_index part.new s ≡ slice_index part.old s) }
-    ensures held { OnOk result (AreHeldOf cut.now part.new awaited.new gone.new.items 0 (states_in cut.now)) }
+    ensures held { OnOk result (AreWaitingOf cut.now part.new awaited.new gone.new.items 0 (states_in cut.now)) }
 {
     for state in 0..cut.question.game().states() {
         if part[state as usize] != 0 {
@@ -78,12 +78,12 @@ fn follow_gone(
 ) -> Result<(), OutOfMemory>
     requires place { place < length gone.old.items }
     requires trimmed { IsTrimmedOf cut.now part.old awaited.old gone.old.items }
-    requires held { AreHeldOf cut.now part.old awaited.old gone.old.items place (states_in cut.now) }
+    requires held { AreWaitingOf cut.now part.old awaited.old gone.old.items place (states_in cut.now) }
     ensures trimmed { OnOk result (IsTrimmedOf cut.now part.new awaited.new gone.new.items) }
     ensures refines { OnOk result ((s : ℕ) → slice_index part.new s ≢ 0
         → slice_index part.new s ≡ slice_index part.old s) }
     ensures longer { OnOk result (IsLonger gone.old.items gone.new.items) }
-    ensures held { OnOk result (AreHeldOf cut.now part.new awaited.new gone.new.items (place + 1) (states_in cut.now)) }
+    ensures held { OnOk result (AreWaitingOf cut.now part.new awaited.new gone.new.items (place + 1) (states_in cut.now)) }
 {
     let member = gone[place];
     for step in cut.predecessors.of_state(member) {

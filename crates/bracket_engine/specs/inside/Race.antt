@@ -24,7 +24,7 @@ pub record IsEnd (q swapped_question : Query) (zero : List Bool) (bound : Bound)
   pub in_time : EndsWhereSettled q swapped_question bound initial rounds
 
 -- two races that raced for as many rounds, and whose rounds are over, by the values that were read last
-pub record AreRacing {P C : Type 0} {h i : _} (q swapped_question : Query) (zero : List Bool) (bound : Bound)
+pub record HaveRaced {P C : Type 0} {h i : _} (q swapped_question : Query) (zero : List Bool) (bound : Bound)
     (initial : List ℕ) (asked : ℕ) (racers : Racers P C h i) : Type 0 where
   pub lower : IsRacing q racers.rounds racers.lower.pass racers.lower.agenda
   pub swapped : IsRacing swapped_question racers.rounds racers.swapped.pass racers.swapped.agenda

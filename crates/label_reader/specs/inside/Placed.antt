@@ -19,7 +19,7 @@ items_of entries = map item_at entries
 abbrev pub indices_of : List Item → List ℕ
 indices_of items = map (λ item. item.index) items
 
--- a map that has, for each index of a header, the place of its item
+-- maps from numbers to numbers, as places are kept by index
 abbrev pub Places : Type 0
 Places = HashMap ℕ ℕ (BuildHasherDefault FoldHasher)
 

@@ -39,11 +39,11 @@ pub record IsGrowth (q : Query) (value : ℕ → ℕ) (only : Option (List (Opti
   pub full : (s : ℕ) → s < states q → IsCarried q value only level s → HasRankWithin ranks level s
   pub needs : (s : ℕ) → s < states q → slice_index_or ranks s None ≡ None → NeedsRank q value s
 
--- the state has no rank, and is of no layer up to the next one
+-- if the state has no rank, it is of no layer up to the next one
 abbrev pub IsApart : Query → (ℕ → ℕ) → Option (List (Option ℕ)) → ℕ → List (Option ℕ) → ℕ → Type 0
 IsApart q value only level ranks s = slice_index_or ranks s None ≡ None → ¬ IsCarried q value only (level + 1) s
 
--- the state has no rank, and is not carried on with this choice
+-- if the state has no rank, it is not carried on by this choice
 abbrev pub IsApartBy : Query → (ℕ → ℕ) → Option (List (Option ℕ)) → ℕ → List (Option ℕ) → ℕ → ℕ → Type 0
 IsApartBy q value only level ranks s c =
     slice_index_or ranks s None ≡ None → Carries q value only (IsCarried q value only level) s c

@@ -8,7 +8,7 @@ use Rattle.rank_certificate.specs.inside.Growth.{IsGrowth, IsApart, Looks, Follo
 use Rattle.rank_certificate.specs.declared.asked.Asked.{Asked}
 use Rattle.rank_certificate.specs.declared.growth.Growth.{Growth}
 
--- the states of its question
+-- how many states its question has
 abbrev pub states_in : Asked → ℕ
 states_in a = states a.question.now
 
@@ -37,7 +37,7 @@ abbrev pub IsGrowthIn : Asked → ℕ → ℕ → List ℕ → Growth → Type 0
 IsGrowthIn a level begin old g =
     IsGrowth a.question.now (value_in a) (only_in a) level begin old g.ranks.items g.choices.items g.order.items
 
--- a state has no rank, and is of no layer up to the next one
+-- if the state has no rank, it is of no layer up to the next one
 abbrev pub IsApartIn : Asked → ℕ → Growth → ℕ → Type 0
 IsApartIn a level g s = IsApart a.question.now (value_in a) (only_in a) level g.ranks.items s
 

@@ -16,11 +16,11 @@ entry_of g steps s = raised_table g.question.now g.zero.now (slice_index g.base.
 abbrev pub IsTableOf : Guesses → ℕ → List ℕ → Type 0
 IsTableOf g steps table = IsTable g.question.now (entry_of g steps) table
 
--- no choices and ranks make it ranked
+-- no choices and ranks make the table after so many steps down ranked
 abbrev pub IsRefusedOf : Guesses → ℕ → Type 0
 IsRefusedOf g steps = IsRefused g.question.now (entry_of g steps)
 
--- nor any of the tables
+-- no table of the excess can be ranked
 abbrev pub AreRefusedOf : Guesses → Type 0
 AreRefusedOf g = AreRefused g.question.now g.zero.now (slice_index g.base.now) g.excess
 

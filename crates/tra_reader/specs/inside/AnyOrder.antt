@@ -18,14 +18,14 @@ abbrev pub any_header : AnyRows → Header
 any_header held = held.header
 
 -- these rows of n states are held: their transitions, and the first action of each choice
-pub record AreHeld (n : ℕ) (kept : List Transition) (actions : LineActions) (rows : List Row) : Type 0 where
+pub record AreWaiting (n : ℕ) (kept : List Transition) (actions : LineActions) (rows : List Row) : Type 0 where
   pub transitions : transitions rows ≡ kept
   pub within : All (λ row. IsWithin n row.transition) rows
   pub notes : NotesLines actions rows
 
 -- these rows have been read behind the header, in whatever order their choices stand
 abbrev pub HoldsAny : AnyRows → List Row → Type 0
-HoldsAny held rows = AreHeld held.header.states held.transitions.items held.actions rows
+HoldsAny held rows = AreWaiting held.header.states held.transitions.items held.actions rows
 
 -- the answer is right for a text that goes on with these lines, of which the first has this number; a fault is one of
 -- the text, or want of memory

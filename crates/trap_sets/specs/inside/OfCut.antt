@@ -3,7 +3,7 @@ use Rattle.std.specs.Prelude.{ℕ, List}
 use Rattle.game_model.specs.Query.{states}
 use Rattle.trap_sets.specs.declared.cut.Cut.{Cut}
 use Rattle.trap_sets.specs.inside.Parts.{IsInner, KeepsEnds, HaveInner, AreSettled, AreClasses, AreUncut, AreJoined}
-use Rattle.trap_sets.specs.inside.Trimming.{IsTrimmed, AreHeld, IsTested}
+use Rattle.trap_sets.specs.inside.Trimming.{IsTrimmed, AreWaiting, IsTested}
 
 -- how many states a cut question has
 abbrev pub states_in : Cut → ℕ
@@ -25,7 +25,8 @@ HaveInnerOf cut = HaveInner cut.question.now cut.replies.now
 abbrev pub AreSettledOf : Cut → List ℕ → Type 0
 AreSettledOf cut = AreSettled cut.question.now cut.replies.now
 
--- each state with a part has a class, and two states are in one class where inner choices lead from each to the other
+-- each state with a part has a class, and two such states have one class exactly where inner choices lead from each to
+-- the other
 abbrev pub AreClassesIn : Cut → List ℕ → List ℕ → Type 0
 AreClassesIn cut = AreClasses cut.question.now cut.replies.now
 
@@ -37,15 +38,15 @@ AreUncutIn cut = AreUncut cut.question.now cut.replies.now
 abbrev pub AreJoinedIn : Cut → List ℕ → Type 0
 AreJoinedIn cut = AreJoined cut.question.now cut.replies.now
 
--- some states have lost their part, and no end component of the cut question has; the choices of a state before the
--- awaited one are not inner
+-- the listed states have no part, each end component of the cut question lies in one, and of a state with a part the
+-- choices before the awaited one are not inner
 abbrev pub IsTrimmedOf : Cut → List ℕ → List ℕ → List ℕ → Type 0
 IsTrimmedOf cut = IsTrimmed cut.question.now cut.replies.now
 
--- of the first states those that have a part wait for a choice of the cut question that stays in it, but for successors
--- that are gone, from a place on
-abbrev pub AreHeldOf : Cut → List ℕ → List ℕ → List ℕ → ℕ → ℕ → Type 0
-AreHeldOf cut = AreHeld cut.question.now cut.replies.now
+-- each of the first so many states that has a part waits for a choice of the cut question whose successors are in that
+-- part, or stand in the list of the gone at this place or behind it
+abbrev pub AreWaitingOf : Cut → List ℕ → List ℕ → List ℕ → ℕ → ℕ → Type 0
+AreWaitingOf cut = AreWaiting cut.question.now cut.replies.now
 
 -- a state was tested: it waits for an inner choice, or has lost its part
 abbrev pub IsTestedOf : Cut → ℕ → List ℕ → List ℕ → List ℕ → List ℕ → List ℕ → List ℕ → Type 0

@@ -30,7 +30,8 @@ ComesOf inner = Comes inner.cut.question.now inner.cut.replies.now inner.part.no
 abbrev pub IsPlacingOf : Inner → List ℕ → Type 0
 IsPlacingOf inner = IsPlacing inner.cut.question.now inner.cut.replies.now inner.part.now
 
--- each state with a part has a class, and two states the same where inner choices lead from each to the other
+-- each state with a part has a class, and two such states have one class exactly where inner choices lead from each to
+-- the other
 abbrev pub AreClassesOf : Inner → List ℕ → Type 0
 AreClassesOf inner = AreClasses inner.cut.question.now inner.cut.replies.now inner.part.now
 

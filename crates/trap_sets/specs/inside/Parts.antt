@@ -24,7 +24,7 @@ Avoids q of s c = (t : ℕ) → Leads q s c t → t ≢ s → slice_index of t �
 abbrev pub IsUncut : Query → List ℕ → ℕ → ℕ → Type 0
 IsUncut q of s c = Stays q of s c ⊎ Avoids q of s c
 
--- two states of one part are in different classes
+-- some two states of one part are in different classes
 abbrev pub CutsPart : List ℕ → List ℕ → Type 0
 CutsPart part class = (s : ℕ) × (t : ℕ) × (slice_index part s ≢ 0) × (slice_index part s ≡ slice_index part t)
     × (slice_index class s ≢ slice_index class t)

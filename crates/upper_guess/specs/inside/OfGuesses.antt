@@ -30,7 +30,7 @@ best_of g steps s = optimum (side_at g.question.now s) (up_value (entry_of g ste
 abbrev pub IsSumOf : Guesses → ℕ → Distribution → ℕ → Type 0
 IsSumOf g steps choice sum = IsSumBetween choice.edges (entry_of g steps) (entry_of g steps) sum
 
--- a table with these entries
+-- the table after so many up steps
 abbrev pub IsTableOf : Guesses → ℕ → List ℕ → Type 0
 IsTableOf g steps table = IsTable g.question.now (entry_of g steps) table
 
@@ -46,7 +46,7 @@ AreRefusedOf g = AreRefused g.question.now g.zero.now (slice_index g.lower.now) 
 abbrev pub IsFirstOf : Guesses → List ℕ → Type 0
 IsFirstOf g table = IsFirstAt g.question.now g.zero.now (slice_index g.lower.now) g.excess table
 
--- a table of the excess whose up steps were counted
+-- a table of the excess, where the count of up steps rose by at least its own and one
 abbrev pub IsCountedOf : Guesses → List ℕ → ℕ → ℕ → Type 0
 IsCountedOf g table before now = IsCounted g.question.now g.zero.now (slice_index g.lower.now) g.excess table before now
 

@@ -8,10 +8,10 @@ use Rattle.predecessors.specs.declared.lists.Move.{Move}
 use Rattle.predecessors.specs.Moves.{move, LeadsTo}
 use Rattle.predecessors.proofs.Listed.{listed-exactly}
 use Rattle.trap_sets.specs.Ends.{Leads}
-use Rattle.trap_sets.specs.inside.Trimming.{IsTrimmed, AreHeld}
+use Rattle.trap_sets.specs.inside.Trimming.{IsTrimmed, AreWaiting}
 use Rattle.trap_sets.proofs.Marking.{longer-join, longer-at, longer-length}
 use Rattle.trap_sets.proofs.Leading.{listed-move}
-use Rattle.trap_sets.proofs.Trimming.{of-three, AreHeld-tested, passed-tested, AreHeld-passed}
+use Rattle.trap_sets.proofs.Trimming.{of-three, AreWaiting-tested, passed-tested, AreWaiting-passed}
 use Rattle.trap_sets.proofs.trim.follow_gone.Goals as goal
 use Rattle.trap_sets.proofs.trim.follow_gone.Goals.{then-part-state-ne0+then-awaited-state+in_ok-test, else-part-state-ne0, else-part-state-ne0-via-then-part-state-ne0+else-awaited-state, else-part-state-ne0-via-else-part-state-ne0}
 
@@ -44,7 +44,7 @@ loop-step-preserved c =
     let out : slice_index part member ≡ 0 = subst (λ t. slice_index part t ≡ 0) (longer-at c.args.gone.now.items gone place further c.requires.place ∙ sym at) (c.loop-step.invariant.trimmed.none place room) in
     let Passed : List ℕ → List ℕ → ℕ → Type 0 = λ a b i. slice_index a (get_or items i (move 0 0)).state ≢ 0 → slice_index b (get_or items i (move 0 0)).state ≢ (get_or items i (move 0 0)).choice in
     let Fact : List ℕ → List ℕ → List ℕ → Type 0 = λ a b d.
-    IsTrimmed q r a b d × ((s : ℕ) → slice_index a s ≢ 0 → slice_index a s ≡ slice_index c.args.part.now s) × IsLonger c.args.gone.now.items d × AreHeld q r a b d place (states q) × ((i : ℕ) → i < n + 1 → Passed a b i) in
+    IsTrimmed q r a b d × ((s : ℕ) → slice_index a s ≢ 0 → slice_index a s ≡ slice_index c.args.part.now s) × IsLonger c.args.gone.now.items d × AreWaiting q r a b d place (states q) × ((i : ℕ) → i < n + 1 → Passed a b i) in
     let all : Fact c.if-part-state-ne0.part c.if-part-state-ne0.awaited c.if-part-state-ne0.gone.items = elim c.if-part-state-ne0.branch [
       | then-part-state-ne0+then-awaited-state+in_ok-test w ↦
           let tested = w.in_ok-test.ensures.tested in
@@ -52,7 +52,7 @@ loop-step-preserved c =
             w.in_ok-test.ensures.trimmed,
             λ s some. tested.refines s some ∙ c.loop-step.invariant.refines s (λ none. some (tested.refines s some ∙ none)),
             longer-join c.args.gone.now.items gone w.test.new.gone.items further tested.longer,
-            AreHeld-tested q r (get_or items n (move 0 0)).state part awaited gone w.test.new.part w.test.new.awaited w.test.new.gone.items tested place (states q) (omega (arith, room)) (λ s ls other some. c.loop-step.invariant.held s ls some),
+            AreWaiting-tested q r (get_or items n (move 0 0)).state part awaited gone w.test.new.part w.test.new.awaited w.test.new.gone.items tested place (states q) (omega (arith, room)) (λ s ls other some. c.loop-step.invariant.held s ls some),
             λ i below.
                 let leads : LeadsTo q.game (get_or items i (move 0 0)).state (get_or items i (move 0 0)).choice member =
                 listed-move c.args.cut.now items member i (move 0 0) inside c.of_state-step-items.ensures (omega (arith, below, c.loop-step-test.true)) in
@@ -92,7 +92,7 @@ returns-clause-held c =
     let member : ℕ = c.index-member.result.now in
     let at : member ≡ slice_index c.args.gone.now.items place = get_or_read c.args.gone.now.items _ _ c.requires.place c.index-member.ensures 0 in
     let inside : member < states q = omega (arith, at, c.requires.trimmed.inside place c.requires.place) in
-    AreHeld-passed q r part awaited gone place (states q) (λ s ls some cut leads.
+    AreWaiting-passed q r part awaited gone place (states q) (λ s ls some cut leads.
     let here : Leads q s (slice_index awaited s) member = subst (Leads q s (slice_index awaited s)) (longer-at c.args.gone.now.items gone place c.loop-step.invariant.longer c.requires.place ∙ sym at) leads in
     let to : LeadsTo q.game s (slice_index awaited s) member = record { state = ls; choice = cut.inside; successor = here } in
     let listed : Contains items (move s (slice_index awaited s)) =
