@@ -26,12 +26,14 @@
 #![tactic(auto)]
 
 mod fields;
+mod front;
 pub mod laws;
 mod lines;
 mod numbers;
 mod reader;
 
 pub use fields::first_field;
+pub use front::first_number;
 pub use lines::{first_line, only_blank, without_cr};
 pub use numbers::whole;
 pub use reader::{Feed, LineReader, read_lines};

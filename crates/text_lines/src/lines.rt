@@ -4,7 +4,7 @@ ghost use Rattle.std.specs.Prelude.{◌≡◌, ◌<◌, ◌∷◌, [], ◌++◌,
 ghost use Rattle.text_lines.specs.Text.{lines_of, is_nil, significant};
 ghost use Rattle.text_lines.specs.Laws.{HasNo};
 
-use crate::fields::first_field;
+use crate::fields::is_blank_line;
 use memchr::memchr;
 
 /// The first line without its ending, and what stands behind the ending. None at the end of the text.
@@ -40,7 +40,7 @@ pub fn only_blank(text: &[u8]) -> bool
 {
     let mut rest = text;
     while let Some((line, after)) = first_line(rest) {
-        if first_field(line).is_some() {
+        if !is_blank_line(line) {
             return false;
         }
         rest = after;

@@ -4,7 +4,7 @@ ghost use Rattle.std.specs.Prelude.{◌≡◌, ◌≢◌, ◌+◌, ◌<◌, ◌�
 ghost use Rattle.text_lines.specs.Text.{lines_of, fields_of, significant};
 ghost use Rattle.text_lines.specs.Blank.{BehindBlanks};
 
-use crate::fields::first_field;
+use crate::fields::is_blank_line;
 use crate::lines::first_line;
 
 /// A reader that takes the lines of a text one after another, and makes a value of them at the end.
@@ -75,7 +75,7 @@ impl<R: LineReader> Feed<R> {
             (λ more. R.answers self.old.reader self.old.next more (Err fault))) }
         ensures count { OnOk result (self.new.next + self.new.blanks ≡ self.old.next + self.old.blanks + 1) }
     {
-        if first_field(line).is_none() {
+        if is_blank_line(line) {
             self.blanks += 1;
             return Ok(());
         }
