@@ -5,7 +5,8 @@
 //! first fault, and at the end it makes its value. [`read_lines`] feeds it the lines of a text that is held, and
 //! [`Feed`] feeds it lines from wherever they come. What it says of a text does not hang on how the lines come.
 //!
-//! Within a line, `first_field` cuts the first field off, and `whole` reads a field that must be a number:
+//! Within a line, `first_field` cuts the first field off, and `whole` reads a field that must be a number;
+//! `first_number` does both in one pass:
 //!
 //! ```text
 //! fn take(&mut self, number: u32, line: &[u8]) -> Result<(), Fault> {

@@ -24,3 +24,4 @@ pub mod StateLaws
 pub mod TextLaws
 pub mod Permutations
 pub mod FileAnswers
+mod Refusals

@@ -11,7 +11,7 @@ use crate::fault::TraCause;
 use crate::header::Header;
 use crate::limits::MOST_STATED_CHOICES;
 use distributions::{Frac, Part, read_number};
-use text_lines::{first_field, whole};
+use text_lines::{first_field, first_number};
 
 /// A line: from the source, by its choice, to the destination.
 #[derive(Clone, Copy, Debug, PartialEq, Eq)]
@@ -68,13 +68,13 @@ fn read_mdp_line(states: u32, line: &[u8]) -> Result<(Transition, &[u8]), TraCau
     ensures said { SaysRow result (parts_said states (mdp_parts (fields_of line.entry.now))) }
     ensures within { IfOk result (λ r. IsWithin states r.0) }
 {
-    let Some((source, rest)) = first_field(line) else {
+    let Some((source, rest)) = first_number(line) else {
         return Err(TraCause::FieldCount);
     };
-    let Some((choice, rest)) = first_field(rest) else {
+    let Some((choice, rest)) = first_number(rest) else {
         return Err(TraCause::FieldCount);
     };
-    let Some((destination, rest)) = first_field(rest) else {
+    let Some((destination, rest)) = first_number(rest) else {
         return Err(TraCause::FieldCount);
     };
     let Some((probability, rest)) = first_field(rest) else {
@@ -83,13 +83,7 @@ fn read_mdp_line(states: u32, line: &[u8]) -> Result<(Transition, &[u8]), TraCau
     let Some(action) = last_field(rest) else {
         return Err(TraCause::FieldCount);
     };
-    match transition_of(
-        states,
-        whole(source),
-        whole(choice),
-        whole(destination),
-        probability,
-    ) {
+    match transition_of(states, source, choice, destination, probability) {
         Err(cause) => Err(cause),
         Ok(found) => Ok((found, action)),
     }
@@ -100,10 +94,10 @@ fn read_dtmc_line(states: u32, line: &[u8]) -> Result<(Transition, &[u8]), TraCa
     ensures said { SaysRow result (parts_said states (dtmc_parts (fields_of line.entry.now))) }
     ensures within { IfOk result (λ r. IsWithin states r.0) }
 {
-    let Some((source, rest)) = first_field(line) else {
+    let Some((source, rest)) = first_number(line) else {
         return Err(TraCause::FieldCount);
     };
-    let Some((destination, rest)) = first_field(rest) else {
+    let Some((destination, rest)) = first_number(rest) else {
         return Err(TraCause::FieldCount);
     };
     let Some((probability, rest)) = first_field(rest) else {
@@ -112,13 +106,7 @@ fn read_dtmc_line(states: u32, line: &[u8]) -> Result<(Transition, &[u8]), TraCa
     if last_field(rest).is_none() {
         return Err(TraCause::FieldCount);
     }
-    match transition_of(
-        states,
-        whole(source),
-        Some(0),
-        whole(destination),
-        probability,
-    ) {
+    match transition_of(states, source, Some(0), destination, probability) {
         Err(cause) => Err(cause),
         Ok(found) => Ok((found, &[])),
     }
