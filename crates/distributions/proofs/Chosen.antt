@@ -1,5 +1,5 @@
 -- The distribution that is said of parts is the one that they denote.
-use Rattle.std.proofs.Common.{◌≡◌, ◌∙◌, ◌≤◌, ◌*◌, inl, inr, ℕ, List, refl, ap, sym, subst, cond, arith, Result, Ok, Err}
+use Rattle.std.proofs.Common.{◌≡◌, ◌∙◌, ◌<◌, ◌≤◌, ◌*◌, inl, inr, ℕ, List, [], ◌∷◌, refl, ap, sym, subst, cond, length, get_or, arith, Result, Ok, Err}
 use Rattle.std.specs.Prelude.{nat_lt}
 use Prim.Native.Nat.{◌∣◌}
 use Rattle.std.specs.List.Sorted.{IsPermutation}
@@ -10,8 +10,9 @@ use Rattle.game_model.proofs.RisingEdges.{IsRising-from, weighty-from, RiseFrom-
 use Rattle.distributions.specs.declared.choice.Part.{Part}
 use Rattle.distributions.specs.declared.choice.ChoiceFault.{ChoiceFault}
 use Rattle.distributions.specs.declared.choice.ChoiceFault.TheVariants.{BadSum}
+use Rattle.distributions.specs.Divisors.{gcd_within, gcd, lcm}
 use Rattle.distributions.specs.Limits.{tolerance}
-use Rattle.distributions.specs.Parts.{edge_of_part, weighted, distance, Denotes, denominator_said, gathered, sum_said, choice_over, choice_said}
+use Rattle.distributions.specs.Parts.{edge_of_part, weighted, distance, Denotes, denominator_said, gathered, sum_said, with_total, choice_over, choice_said}
 use Rattle.distributions.proofs.Gathering.{gives, gathered-rises, gathered-weights, gathered-only}
 use Rattle.distributions.proofs.Multiples.{AreKept, over, over-is, ge-from, ge-test, common-same, denominator-found, denominator-again, denominator-is}
 use Rattle.distributions.proofs.Grammar.{chosen}
@@ -75,3 +76,23 @@ Denotes-permutation parts others d moved h =
       total = h.total;
       near_one = h.near_one;
     }
+
+-- the one part of a list of one
+pub only : (parts : List Part) (part : Part) → 1 ≤ length parts → length parts < 2 → part ≡ get_or parts 0 part → parts ≡ part ∷ []
+only [] part some few is = absurd (omega arith)
+only (p ∷ []) part some few is = ap (λ x. x ∷ []) (sym is)
+only (p ∷ q ∷ parts) part some few is = absurd (omega arith)
+
+-- one part of probability 1 makes a sure move
+sure-of : (to : ℕ) → choice_said (record { to = to; share = record { num = 1; den = 1 } } ∷ []) ≡ Ok (with_total (record { to = to; weight = 1 } ∷ []) 1)
+unfolding lcm gcd gcd_within
+sure-of to =
+    let edges : List Edge = record { to = to; weight = 1 } ∷ [] in
+    ap (λ es. sum_said 1 es) (gathered-only edges edges (omega arith, omega arith, tt) (λ at. refl))
+
+pub sure_said : (part : Part) (edge : Edge) → part.share.num ≡ 1 → part.share.den ≡ 1 → edge.to ≡ part.to → edge.weight ≡ 1 → choice_said (part ∷ []) ≡ Ok (with_total (edge ∷ []) 1)
+sure_said part edge num den to weight =
+    let part_with : ℕ → ℕ → Part = λ n d. record { to = part.to; share = record { num = n; den = d } } in
+    let edge_with : ℕ → ℕ → Edge = λ t w. record { to = t; weight = w } in
+    ap (λ n. choice_said (part_with n part.share.den ∷ [])) num ∙ ap (λ d. choice_said (part_with 1 d ∷ [])) den ∙ sure-of part.to
+    ∙ ap (λ t. Ok (with_total (edge_with t 1 ∷ []) 1)) (sym to) ∙ ap (λ w. Ok (with_total (edge_with edge.to w ∷ []) 1)) (sym weight)

@@ -68,6 +68,10 @@ span (e ∷ edges) = max (e.to + 1) (span edges)
 unfoldable pub gathered : List Edge → List Edge
 gathered edges = edges_from (weight_to edges) 0 (span edges)
 
+-- the distribution with these edges and this total
+abbrev pub with_total : List Edge → ℕ → Distribution
+with_total edges total = record { total = total; edges = edges }
+
 -- the distribution with these edges, where their weights nearly sum to the common denominator
 abbrev pub sum_said : ℕ → List Edge → Result Distribution ChoiceFault
 sum_said common edges =

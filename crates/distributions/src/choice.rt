@@ -1,12 +1,13 @@
 //! The distribution of a choice.
 
-ghost use Rattle.std.specs.Prelude.{◌≡◌, ◌<◌, ◌≤◌, ◌*◌, ◌/◌, ◌^◌, IfOk, All, length};
+ghost use Rattle.std.specs.Prelude.{◌≡◌, ◌<◌, ◌≤◌, ◌*◌, ◌/◌, ◌^◌, ◌∷◌, [], IfOk, OnOk, Ok, All, length};
+ghost use Rattle.std.specs.Option.{IfSome};
 ghost use Prim.Native.Nat.{◌∣◌};
-ghost use Rattle.game_model.specs.Game.{IsRising, total_of};
+ghost use Rattle.game_model.specs.Game.{IsDistribution, IsRising, total_of};
 ghost use Rattle.distributions.specs.Limits.{finest, most_parts, most_value};
 ghost use Rattle.distributions.specs.Fraction.{IsFraction};
 ghost use Rattle.game_outside.specs.Answers.{AnswersOrWants};
-ghost use Rattle.distributions.specs.Parts.{choice_said, denominator_said, edge_of_part, weighted, sum_said, IsOutOfMemory};
+ghost use Rattle.distributions.specs.Parts.{choice_said, denominator_said, edge_of_part, weighted, sum_said, with_total, IsOutOfMemory};
 
 use crate::divisors::{MOST_NARROW, least_common_multiple};
 use crate::fraction::Frac;
@@ -93,27 +94,29 @@ fn edge_of(common: u128, part: &Part) -> Edge
     }
 }
 
-fn edges_of(alloc: Global, common: u128, parts: &[Part]) -> Result<Vec<Edge>, AllocError>
+// The edges of the parts, one each, in place of those of a list.
+fn weigh(edges: &mut Vec<Edge>, common: u128, parts: &[Part]) -> Result<(), AllocError>
     requires divided { All (λ part. part.share.den ∣ common) parts.now }
     requires fine { common ≤ finest }
-    ensures value { IfOk result (λ edges. edges.items ≡ weighted common parts.now) }
-    ensures small { IfOk result (λ edges. All (λ e. e.weight ≤ most_value * finest) edges.items) }
+    ensures value { OnOk result (edges.new.items ≡ weighted common parts.now) }
+    ensures small { OnOk result (All (λ e. e.weight ≤ most_value * finest) edges.new.items) }
 {
-    let mut edges = Vec::with_capacity(alloc, parts.len())?;
+    edges.clear();
     for part in parts {
         edges.push(edge_of(common, part))?;
     }
-    Ok(edges)
+    Ok(())
 }
 
-// The choice with these edges, where their weights nearly sum to the common denominator.
-fn choice_of_edges(common: u128, edges: Vec<Edge>) -> Result<Choice, ChoiceFault>
+// The total of these edges, where their weights nearly sum to the common denominator.
+fn near_total(common: u128, edges: &[Edge]) -> Result<u128, ChoiceFault>
     requires positive { 1 ≤ common }
     requires fine { common ≤ finest }
-    requires rising { IsRising edges.items }
-    requires weighty { All (λ e. 1 ≤ e.weight) edges.items }
-    requires small { total_of edges.items < 2 ^ 110 }
-    ensures { result ≡ sum_said common edges.items }
+    requires rising { IsRising edges.now }
+    requires weighty { All (λ e. 1 ≤ e.weight) edges.now }
+    requires small { total_of edges.now < 2 ^ 110 }
+    ensures said { AnswersOrWants IsOutOfMemory (with_total edges.now) result (sum_said common edges.now) }
+    ensures kept { IfOk result (λ total. IsDistribution (with_total edges.now total)) }
 {
     let sum: u128 = edges.iter().map(|edge| edge.weight).sum();
     if sum.abs_diff(common) * TOLERANCE > common {
@@ -122,7 +125,65 @@ fn choice_of_edges(common: u128, edges: Vec<Edge>) -> Result<Choice, ChoiceFault
             denominator: common,
         });
     }
-    Ok(Choice::of_edges(edges))
+    Ok(sum)
+}
+
+// The edge of a choice whose one part has the probability 1.
+fn sure_edge(parts: &[Part]) -> Option<Edge>
+    ensures said { IfSome result (λ edge. choice_said parts.now ≡ Ok (with_total (edge ∷ []) 1)) }
+    ensures weight { IfSome result (λ edge. edge.weight ≡ 1) }
+{
+    let [part] = parts else {
+        return None;
+    };
+    if part.share.num() != 1 || part.share.den() != 1 {
+        return None;
+    }
+    Some(Edge {
+        to: part.to,
+        weight: 1,
+    })
+}
+
+// Puts the edges of the choice with these parts in place of those of a list, and gives their total.
+fn fill(alloc: Global, edges: &mut Vec<Edge>, parts: &[Part]) -> Result<u128, ChoiceFault>
+    requires { length parts.now ≤ most_parts }
+    ensures said { AnswersOrWants IsOutOfMemory (with_total edges.new.items) result (choice_said parts.now) }
+    ensures kept { IfOk result (λ total. IsDistribution (with_total edges.new.items total)) }
+{
+    known_of_all(parts);
+    let common = match common_denominator(parts) {
+        Ok(common) => common,
+        Err(fault) => return Err(fault),
+    };
+    let Ok(()) = weigh(edges, common, parts) else {
+        return Err(ChoiceFault::OutOfMemory);
+    };
+    let Ok(()) = gather(alloc, edges) else {
+        return Err(ChoiceFault::OutOfMemory);
+    };
+    near_total(common, edges)
+}
+
+/// Puts the edges of the choice with these parts in place of those of a list, and gives their total, or the first
+/// reason why the parts make no choice, as `make_choice` does. So one list serves choice after choice.
+pub fn fill_choice(
+    alloc: Global,
+    edges: &mut Vec<Edge>,
+    parts: &[Part],
+) -> Result<u128, ChoiceFault>
+    requires { length parts.now ≤ most_parts }
+    ensures said { AnswersOrWants IsOutOfMemory (with_total edges.new.items) result (choice_said parts.now) }
+    ensures kept { IfOk result (λ total. IsDistribution (with_total edges.new.items total)) }
+{
+    if let Some(edge) = sure_edge(parts) {
+        edges.clear();
+        let Ok(()) = edges.push(edge) else {
+            return Err(ChoiceFault::OutOfMemory);
+        };
+        return Ok(1);
+    }
+    fill(alloc, edges, parts)
 }
 
 /// The choice with these parts, or the first reason why they make none. The weight of a destination is the sum of its
@@ -132,16 +193,7 @@ pub fn make_choice(alloc: Global, parts: &[Part]) -> Result<Choice, ChoiceFault>
     requires { length parts.now ≤ most_parts }
     ensures { AnswersOrWants IsOutOfMemory (λ c. c) result (choice_said parts.now) }
 {
-    known_of_all(parts);
-    let common = match common_denominator(parts) {
-        Ok(common) => common,
-        Err(fault) => return Err(fault),
-    };
-    let Ok(edges) = edges_of(alloc, common, parts) else {
-        return Err(ChoiceFault::OutOfMemory);
-    };
-    let Ok(edges) = gather(alloc, edges) else {
-        return Err(ChoiceFault::OutOfMemory);
-    };
-    choice_of_edges(common, edges)
+    let mut edges = Vec::new(alloc);
+    let _total = fill_choice(alloc, &mut edges, parts)?;
+    Ok(Choice::of_edges(edges))
 }

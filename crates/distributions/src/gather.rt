@@ -38,17 +38,17 @@ fn is_ordered(edges: &[Edge]) -> bool
     true
 }
 
-fn ordered(edges: Vec<Edge>) -> Result<Vec<Edge>, AllocError>
-    ensures standing { IfOk result (λ new. StandFrom 0 new.items) }
-    ensures weights { IfOk result (λ new. (to : ℕ) → weight_to new.items to ≡ weight_to edges.items to) }
-    ensures total { IfOk result (λ new. total_of new.items ≡ total_of edges.items) }
+// Puts the edges by destination.
+fn put_in_order(edges: &mut Vec<Edge>) -> Result<(), AllocError>
+    ensures standing { OnOk result (StandFrom 0 edges.new.items) }
+    ensures weights { OnOk result ((to : ℕ) → weight_to edges.new.items to ≡ weight_to edges.old.items to) }
+    ensures total { OnOk result (total_of edges.new.items ≡ total_of edges.old.items) }
 {
-    if is_ordered(&edges) {
-        return Ok(edges);
+    if is_ordered(edges) {
+        return Ok(());
     }
-    let mut edges = edges;
     edges.sort_by_key(|edge| edge.to)?;
-    Ok(edges)
+    Ok(())
 }
 
 // Puts an edge behind the others, unless its weight is 0.
@@ -92,21 +92,22 @@ fn merge(alloc: Global, edges: &[Edge]) -> Result<Vec<Edge>, AllocError>
     Ok(merged)
 }
 
-/// The edges by rising destination, those to one destination added up, and none of weight 0.
-pub fn gather(alloc: Global, edges: Vec<Edge>) -> Result<Vec<Edge>, AllocError>
-    requires { total_of edges.items < 2 ^ 128 }
-    ensures value { IfOk result (λ new. new.items ≡ gathered edges.items) }
-    ensures total { IfOk result (λ new. total_of new.items ≡ total_of edges.items) }
-    ensures rising { IfOk result (λ new. IsRising new.items) }
-    ensures weighty { IfOk result (λ new. All (λ e. 1 ≤ e.weight) new.items) }
+/// Puts the edges by rising destination, those to one destination added up, and none of weight 0.
+pub fn gather(alloc: Global, edges: &mut Vec<Edge>) -> Result<(), AllocError>
+    requires { total_of edges.old.items < 2 ^ 128 }
+    ensures value { OnOk result (edges.new.items ≡ gathered edges.old.items) }
+    ensures total { OnOk result (total_of edges.new.items ≡ total_of edges.old.items) }
+    ensures rising { OnOk result (IsRising edges.new.items) }
+    ensures weighty { OnOk result (All (λ e. 1 ≤ e.weight) edges.new.items) }
 {
-    if is_gathered(&edges) {
-        return Ok(edges);
+    if is_gathered(edges) {
+        return Ok(());
     }
-    let standing = ordered(edges)?;
-    if is_gathered(&standing) {
-        return Ok(standing);
+    put_in_order(edges)?;
+    if is_gathered(edges) {
+        return Ok(());
     }
-    let merged = merge(alloc, &standing)?;
-    Ok(merged)
+    let merged = merge(alloc, edges)?;
+    *edges = merged;
+    Ok(())
 }

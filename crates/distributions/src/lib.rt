@@ -11,7 +11,7 @@
 //! ```
 //!
 //! Contracts see a `Frac` as a numerator over a denominator. Each call is exact: its answer is what the definitions
-//! say, and `make_choice` alone takes memory.
+//! say, and `make_choice` and `fill_choice` alone take memory.
 #![tactic(auto)]
 
 mod choice;
@@ -25,7 +25,7 @@ mod number;
 mod short;
 mod tens;
 
-pub use choice::{ChoiceFault, Part, known_of_all, make_choice};
+pub use choice::{ChoiceFault, Part, fill_choice, known_of_all, make_choice};
 pub use fraction::{Frac, compare};
 pub use limits::{
     FINEST, FINEST_PLACES, MOST_DIGITS, MOST_EXPONENT, MOST_EXPONENT_DIGITS, MOST_PARTS,

@@ -1,7 +1,7 @@
 //! A builder of games, choice after choice, and the game of lists of choices.
 
 ghost use Rattle.std.specs.Prelude.{◌≡◌, ◌+◌, ◌-◌, ◌/◌, ◌%◌, ◌^◌, ◌<◌, ◌≤◌, [], ◌∷◌, ◌++◌, length, map, All, IfOk, OnErr};
-ghost use Rattle.game_model.specs.Game.{total_of};
+ghost use Rattle.game_model.specs.Game.{IsDistribution, total_of};
 ghost use Rattle.game_model.specs.Limits.{most_states, most_choices};
 ghost use Rattle.game_model.specs.Flat.{kept_total, last_of};
 ghost use Rattle.game_model.specs.Draft.{no_states, between, with_choice, with_state};
@@ -61,13 +61,23 @@ impl GameBuilder {
         ensures err { OnErr result (self.new ≡ self.old) }
     {
         choice.known();
+        self.push_edges(choice.total(), choice.edges())
+    }
+
+    /// Adds the choice with this total and these edges to the state under way.
+    pub fn push_edges(&mut self, total: u128, edges: &[Edge]) -> Result<(), OutOfMemory>
+        requires { IsDistribution (record { total = total; edges = edges.now }) }
+        ensures ok { IfOk result (λ _. self.new ≡ with_choice self.old (record { total = total; edges = edges.now })) }
+        ensures err { OnErr result (self.new ≡ self.old) }
+    {
         add_choice(
             &mut self.first_edge,
             &mut self.totals,
             &mut self.to,
             &mut self.low,
             &mut self.high,
-            choice,
+            total,
+            edges,
         )
     }
 
@@ -115,35 +125,36 @@ impl GameBuilder {
     }
 }
 
-/// Puts a choice behind the others, or leaves the lists as they are where they are in use.
+/// Puts the choice with this total and these edges behind the others, or leaves the lists as they are where they are in
+/// use.
 fn add_choice(
     first_edge: &mut Vec<u32>,
     totals: &mut Vec<u64>,
     to: &mut Vec<u32>,
     low: &mut Vec<u64>,
     high: &mut Vec<u64>,
-    choice: &Choice,
+    total: u128,
+    edges: &[Edge],
 ) -> Result<(), OutOfMemory>
     requires some { 0 < length first_edge.old.items }
     requires totals { length first_edge.old.items ≤ length totals.old.items + 1 }
     requires to { last_of first_edge.old.items ≤ length to.old.items }
     requires low { last_of first_edge.old.items ≤ length low.old.items }
+    requires total { total ≡ total_of edges.now }
     ensures ok { IfOk result (λ _. IsPushed first_edge.old.items totals.old.items to.old.items low.old.items
-        high.old.items choice.now.edges first_edge.new.items totals.new.items to.new.items low.new.items
+        high.old.items edges.now first_edge.new.items totals.new.items to.new.items low.new.items
         high.new.items) }
     ensures err { OnErr result (IsStill first_edge.old.items totals.old.items to.old.items low.old.items high.old.items
         first_edge.new.items totals.new.items to.new.items low.new.items high.new.items) }
 {
-    choice.known();
     let count = first_edge.len() - 1;
     let begin = first_edge[count] as usize;
     totals.truncate(count);
     to.truncate(begin);
     low.truncate(begin);
     high.truncate(begin);
-    let total = choice.total();
-    add_high(high, begin, total, choice.edges())?;
-    add_edges(to, low, choice.edges())?;
+    add_high(high, begin, total, edges)?;
+    add_edges(to, low, edges)?;
     totals.push(kept(total))?;
     if to.len() > 4_294_967_295 {
         return Err(OutOfMemory {});

@@ -13,17 +13,18 @@ use crate::line::{Transition, place_at};
 use crate::progress::Progress;
 use crate::whole_choices::WholeChoices;
 use distributions::Part;
-use game_model::{Game, GameBuilder};
+use game_model::{Edge, Game, GameBuilder};
 use std::alloc::{AllocError, Global};
 use std::marker::Model;
 
 /// A game under way, made of transitions that come in the order of their choices. Only those of the choice under way
-/// are kept, as its parts.
+/// are kept, as its parts, and room for the edges of a choice.
 #[derive(Drop)]
 pub struct GameInOrder {
     states: u32,
     whole: WholeChoices,
     parts: Vec<Part>,
+    room: Vec<Edge>,
 }
 
 impl Model for GameInOrder {
@@ -59,6 +60,7 @@ impl GameInOrder {
             states,
             whole,
             parts: Vec::new(alloc),
+            room: Vec::new(alloc),
         })
     }
 
@@ -100,7 +102,8 @@ impl GameInOrder {
             → HoldsInOrder self.new n (before ++ transition.now ∷ [])) }
         ensures states { self.new.states ≡ self.old.states }
     {
-        self.whole.end_before(alloc, &self.parts, transition.source);
+        self.whole
+            .end_before(alloc, &mut self.room, &self.parts, transition.source);
         self.whole.go_to(transition.choice);
         self.parts.clear();
         if self.parts.push(transition.part()).is_err() {
@@ -116,7 +119,8 @@ impl GameInOrder {
             → AnswersOrWants IsOutOfMemory (λ g. g) result (transitions_game all n stated) }
     {
         let mut whole = self.whole;
-        whole.end_before(alloc, &self.parts, self.states);
+        let mut room = self.room;
+        whole.end_before(alloc, &mut room, &self.parts, self.states);
         whole.finish(stated)
     }
 }

@@ -8,7 +8,7 @@ ghost use Rattle.tra_reader.specs.inside.GrowingGames.{IsBuilt, IsChoiceFault, E
 use crate::fault::TraFault;
 use crate::limits::MOST_LINES;
 use distributions::laws::said_is_denoted;
-use distributions::{ChoiceFault, Part, known_of_all, make_choice};
+use distributions::{ChoiceFault, Part, fill_choice, known_of_all};
 use game_model::{Choice, Edge, GameBuilder, MOST_CHOICES};
 use std::alloc::{AllocError, Global};
 
@@ -28,12 +28,19 @@ pub enum Progress {
 }
 
 impl Progress {
-    /// The choice of this state with these parts is whole.
-    pub fn push(&mut self, alloc: Global, parts: &[Part], state: u32, choice: u32)
+    /// The choice of this state with these parts is whole. The list of edges is room to make it in.
+    pub fn push(
+        &mut self,
+        alloc: Global,
+        room: &mut Vec<Edge>,
+        parts: &[Part],
+        state: u32,
+        choice: u32,
+    )
         ensures { EndsChoice parts.now state choice self.old self.new }
     {
         if let Progress::Builds(builder) = self {
-            if let Err(fault) = build(alloc, builder, parts) {
+            if let Err(fault) = build(alloc, builder, room, parts) {
                 *self = fault_progress(state, choice, fault);
             }
         }
@@ -86,7 +93,12 @@ impl Progress {
 }
 
 // Puts the choice with these parts behind the others. More parts than a text has lines count as want of memory.
-fn build(alloc: Global, builder: &mut GameBuilder, parts: &[Part]) -> Result<(), ChoiceFault>
+fn build(
+    alloc: Global,
+    builder: &mut GameBuilder,
+    room: &mut Vec<Edge>,
+    parts: &[Part],
+) -> Result<(), ChoiceFault>
     ensures ok { IfOk result (λ _. IsBuilt parts.now builder.old builder.new) }
     ensures err { IfErr result (IsChoiceFault parts.now) }
 {
@@ -95,8 +107,8 @@ fn build(alloc: Global, builder: &mut GameBuilder, parts: &[Part]) -> Result<(),
     }
     known_of_all(parts);
     said_is_denoted();
-    let choice = make_choice(alloc, parts)?;
-    if builder.push_choice(&choice).is_err() {
+    let total = fill_choice(alloc, room, parts)?;
+    if builder.push_edges(total, room).is_err() {
         return Err(ChoiceFault::OutOfMemory);
     }
     Ok(())

@@ -12,7 +12,7 @@ ghost use Rattle.tra_reader.specs.inside.GrowingGames.{IsWhole, place_behind, Ad
 use crate::fault::{TraCause, TraFault};
 use crate::progress::Progress;
 use distributions::Part;
-use game_model::Game;
+use game_model::{Edge, Game};
 use std::alloc::Global;
 
 /// The whole choices: all that come before one choice of one state.
@@ -25,14 +25,15 @@ pub struct WholeChoices {
 }
 
 impl WholeChoices {
-    /// One choice more is whole, which has these parts.
-    fn end_choice(&mut self, alloc: Global, parts: &[Part])
+    /// One choice more is whole, which has these parts. The list of edges is room to make it in.
+    fn end_choice(&mut self, alloc: Global, room: &mut Vec<Edge>, parts: &[Part])
         requires { self.old.choice < most_stated_choices }
         ensures state { self.new.state ≡ self.old.state }
         ensures choice { self.new.choice ≡ self.old.choice + 1 }
         ensures made { AddsChoice parts.now self.old self.new }
     {
-        self.progress.push(alloc, parts, self.state, self.choice);
+        self.progress
+            .push(alloc, room, parts, self.state, self.choice);
         self.choice += 1;
         match self.count.checked_add(1) {
             Some(count) => self.count = count,
@@ -57,7 +58,7 @@ impl WholeChoices {
 
     /// All choices before this state are whole, where the choice under way has these parts, or no part where nothing
     /// has begun.
-    pub fn end_before(&mut self, alloc: Global, parts: &[Part], to: u32)
+    pub fn end_before(&mut self, alloc: Global, room: &mut Vec<Edge>, parts: &[Part], to: u32)
         requires low { self.old.choice < most_stated_choices }
         requires ahead { self.old.state ≤ to }
         ensures state { self.new.state ≡ to }
@@ -66,7 +67,7 @@ impl WholeChoices {
         ensures made { EndsBefore parts.now to self.old self.new }
     {
         if !parts.is_empty() {
-            self.end_choice(alloc, parts);
+            self.end_choice(alloc, room, parts);
         }
         self.end_states(alloc, to);
     }

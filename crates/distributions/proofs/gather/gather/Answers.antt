@@ -10,52 +10,52 @@ use Rattle.distributions.proofs.gather.gather.Goals as goal
 
 pub returns-then-is_gathered-clause-value : goal.returns-then-is_gathered-clause-value
 returns-then-is_gathered-clause-value c =
-    let rise : RiseFrom 0 c.args.edges.items = search rules in
-    sym (gathered-only c.args.edges.items c.args.edges.items rise (λ to. search rules))
+    let rise : RiseFrom 0 c.args.edges.now.items = search rules in
+    sym (gathered-only c.args.edges.now.items c.args.edges.now.items rise (λ to. search rules))
 
 pub returns-then-is_gathered-clause-rising : goal.returns-then-is_gathered-clause-rising
 returns-then-is_gathered-clause-rising c =
-    let rise : RiseFrom 0 c.args.edges.items = search rules in
-    IsRising-from 0 c.args.edges.items rise
+    let rise : RiseFrom 0 c.args.edges.now.items = search rules in
+    IsRising-from 0 c.args.edges.now.items rise
 
 pub returns-then-is_gathered-clause-weighty : goal.returns-then-is_gathered-clause-weighty
 returns-then-is_gathered-clause-weighty c =
-    let rise : RiseFrom 0 c.args.edges.items = search rules in
-    weighty-from 0 c.args.edges.items rise
+    let rise : RiseFrom 0 c.args.edges.now.items = search rules in
+    weighty-from 0 c.args.edges.now.items rise
 
 pub returns-then-is_gathered-2-clause-value : goal.returns-then-is_gathered-2-clause-value
 returns-then-is_gathered-2-clause-value c =
-    let rise : RiseFrom 0 c.in_ok-standing.standing.items = search rules in
-    sym (gathered-only c.args.edges.items c.in_ok-standing.standing.items rise c.in_ok-standing.ensures.weights)
+    let rise : RiseFrom 0 c.put_in_order.new.edges.items = search rules in
+    sym (gathered-only c.args.edges.now.items c.put_in_order.new.edges.items rise c.in_ok-put_in_order.ensures.weights)
 
 pub returns-then-is_gathered-2-clause-rising : goal.returns-then-is_gathered-2-clause-rising
 returns-then-is_gathered-2-clause-rising c =
-    let rise : RiseFrom 0 c.in_ok-standing.standing.items = search rules in
-    IsRising-from 0 c.in_ok-standing.standing.items rise
+    let rise : RiseFrom 0 c.put_in_order.new.edges.items = search rules in
+    IsRising-from 0 c.put_in_order.new.edges.items rise
 
 pub returns-then-is_gathered-2-clause-weighty : goal.returns-then-is_gathered-2-clause-weighty
 returns-then-is_gathered-2-clause-weighty c =
-    let rise : RiseFrom 0 c.in_ok-standing.standing.items = search rules in
-    weighty-from 0 c.in_ok-standing.standing.items rise
+    let rise : RiseFrom 0 c.put_in_order.new.edges.items = search rules in
+    weighty-from 0 c.put_in_order.new.edges.items rise
 
 pub returns-clause-value : goal.returns-clause-value
 returns-clause-value c =
-    let merged : c.in_ok-merged.merged.items ≡ merged_from no_edge c.in_ok-standing.standing.items = c.in_ok-merged.ensures ∙ ap (λ es. merged_from no_edge es) c.deref-3.ensures.value in
-    merged ∙ sym (merged-gathered c.args.edges.items c.in_ok-standing.standing.items c.in_ok-standing.ensures.standing c.in_ok-standing.ensures.weights)
+    let merged : c.in_ok-merged.merged.items ≡ merged_from no_edge c.put_in_order.new.edges.items = c.in_ok-merged.ensures ∙ ap (λ es. merged_from no_edge es) c.deref-3.ensures.value in
+    merged ∙ sym (merged-gathered c.args.edges.now.items c.put_in_order.new.edges.items c.in_ok-put_in_order.ensures.standing c.in_ok-put_in_order.ensures.weights)
 
 pub returns-clause-total : goal.returns-clause-total
 returns-clause-total c =
-    let merged : c.in_ok-merged.merged.items ≡ merged_from no_edge c.in_ok-standing.standing.items = c.in_ok-merged.ensures ∙ ap (λ es. merged_from no_edge es) c.deref-3.ensures.value in
-    ap (λ es. total_of es) merged ∙ merged-total no_edge c.in_ok-standing.standing.items ∙ zero-add (total_of c.in_ok-standing.standing.items) ∙ c.in_ok-standing.ensures.total
+    let merged : c.in_ok-merged.merged.items ≡ merged_from no_edge c.put_in_order.new.edges.items = c.in_ok-merged.ensures ∙ ap (λ es. merged_from no_edge es) c.deref-3.ensures.value in
+    ap (λ es. total_of es) merged ∙ merged-total no_edge c.put_in_order.new.edges.items ∙ zero-add (total_of c.put_in_order.new.edges.items) ∙ c.in_ok-put_in_order.ensures.total
 
 pub returns-clause-rising : goal.returns-clause-rising
 returns-clause-rising c =
-    let merged : c.in_ok-merged.merged.items ≡ merged_from no_edge c.in_ok-standing.standing.items = c.in_ok-merged.ensures ∙ ap (λ es. merged_from no_edge es) c.deref-3.ensures.value in
+    let merged : c.in_ok-merged.merged.items ≡ merged_from no_edge c.put_in_order.new.edges.items = c.in_ok-merged.ensures ∙ ap (λ es. merged_from no_edge es) c.deref-3.ensures.value in
     let P : List Edge → Type 0 = λ es. IsRising es in
-    subst P (sym merged) (IsRising-from 0 (merged_from no_edge c.in_ok-standing.standing.items) (merged-rises 0 no_edge c.in_ok-standing.standing.items (omega arith) c.in_ok-standing.ensures.standing))
+    subst P (sym merged) (IsRising-from 0 (merged_from no_edge c.put_in_order.new.edges.items) (merged-rises 0 no_edge c.put_in_order.new.edges.items (omega arith) c.in_ok-put_in_order.ensures.standing))
 
 pub returns-clause-weighty : goal.returns-clause-weighty
 returns-clause-weighty c =
-    let merged : c.in_ok-merged.merged.items ≡ merged_from no_edge c.in_ok-standing.standing.items = c.in_ok-merged.ensures ∙ ap (λ es. merged_from no_edge es) c.deref-3.ensures.value in
+    let merged : c.in_ok-merged.merged.items ≡ merged_from no_edge c.put_in_order.new.edges.items = c.in_ok-merged.ensures ∙ ap (λ es. merged_from no_edge es) c.deref-3.ensures.value in
     let P : List Edge → Type 0 = λ es. All (λ e. 1 ≤ e.weight) es in
-    subst P (sym merged) (weighty-from 0 (merged_from no_edge c.in_ok-standing.standing.items) (merged-rises 0 no_edge c.in_ok-standing.standing.items (omega arith) c.in_ok-standing.ensures.standing))
+    subst P (sym merged) (weighty-from 0 (merged_from no_edge c.put_in_order.new.edges.items) (merged-rises 0 no_edge c.put_in_order.new.edges.items (omega arith) c.in_ok-put_in_order.ensures.standing))

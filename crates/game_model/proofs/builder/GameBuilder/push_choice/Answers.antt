@@ -1,29 +1,17 @@
-use Rattle.std.proofs.Common.{◌≡◌, ap, sym, ◌∙◌, subst}
-use Rattle.game_model.specs.Game.{Distribution, IsDistribution}
-use Rattle.game_model.specs.Flat.{AreFlatLists}
-use Rattle.game_model.specs.Draft.{distribution_of, with_choice}
-use Rattle.game_model.proofs.Longer.{either, if_ok-more, on_err-more}
-use Rattle.game_model.proofs.Push.{draft_at, still-flat, still-draft, pushed-flat, pushed-draft}
+use Rattle.std.proofs.Common.{ℕ, List, ap, sym, ◌∙◌, subst}
+use Rattle.game_model.specs.declared.game.Edge.{Edge}
+use Rattle.game_model.specs.Game.{IsDistribution}
+use Rattle.game_model.specs.Draft.{with_choice}
+use Rattle.game_model.proofs.Longer.{if_ok-more}
 use Rattle.game_model.proofs.builder.GameBuilder.push_choice.Goals as goal
 
--- a distribution is that of its edges
-of-edges : (m : Distribution) → IsDistribution m → distribution_of m.edges ≡ m
-of-edges m h = ap (λ n. record { total = n; edges = m.edges }) h.sums
-
-pub invariant_of-self : goal.invariant_of-self
-invariant_of-self c =
-    let fine : IsDistribution (distribution_of c.args.choice.now.edges) = subst IsDistribution (sym (of-edges c.args.choice.now c.known.ensures)) c.known.ensures in
-    either c.add_choice.result _ _ _ c.add_choice.ensures.ok c.add_choice.ensures.err
-    (λ p. pushed-flat _ _ _ _ _ _ _ _ _ _ _ c.args.choice.now.edges c.self.invariant p.0 p.1 p.2 p.3 p.4 p.5 fine)
-    (λ p. subst (λ fe. AreFlatLists c.self.inside.first_choice.items fe c.add_choice.new.totals.items c.add_choice.new.to.items c.add_choice.new.low.items c.add_choice.new.high.items) (sym p.0)
-    (still-flat _ _ _ _ _ _ _ _ _ _ c.self.invariant p.1 p.2 p.3 p.4))
+pub push_edges-requires : goal.push_edges-requires
+push_edges-requires c =
+    let P : ℕ → Type 0 = λ n. IsDistribution (record { total = n; edges = c.args.choice.now.edges }) in
+    let Q : List Edge → Type 0 = λ es. IsDistribution (record { total = c.total.result; edges = es }) in
+    subst Q (sym c.edges.ensures) (subst P (sym c.total.ensures) c.known.ensures)
 
 pub returns-clause-ok : goal.returns-clause-ok
-returns-clause-ok c = if_ok-more c.add_choice.result _ _ c.add_choice.ensures.ok
-    (λ p. pushed-draft _ _ _ _ _ _ _ _ _ _ _ c.args.choice.now.edges c.self.invariant p.0 p.1 p.2 p.3 p.4 p.5 ∙ ap (λ d. with_choice d (distribution_of c.args.choice.now.edges)) c.self.view_is
-    ∙ ap (λ m. with_choice c.args.self.now m) (of-edges c.args.choice.now c.known.ensures))
-
-pub returns-clause-err : goal.returns-clause-err
-returns-clause-err c = on_err-more c.add_choice.result _ _ c.add_choice.ensures.err
-    (λ p. ap (λ fe. draft_at c.self.inside.first_choice.items fe c.add_choice.new.totals.items c.add_choice.new.to.items c.add_choice.new.low.items c.add_choice.new.high.items) p.0
-    ∙ still-draft _ _ _ _ _ _ _ _ _ _ c.self.invariant p.1 p.2 p.3 p.4 ∙ c.self.view_is)
+returns-clause-ok c = if_ok-more c.push_edges.result _ _ c.push_edges.ensures.ok
+    (λ p. p ∙ ap (λ n. with_choice c.args.self.now (record { total = n; edges = c.edges.result.now })) c.total.ensures
+    ∙ ap (λ es. with_choice c.args.self.now (record { total = c.args.choice.now.total; edges = es })) c.edges.ensures)

@@ -2,7 +2,7 @@ use Rattle.std.proofs.Common.{rules, arith}
 use Rattle.std.proofs.lemmas.List.Sorted.{IsNonDecreasingBy-from_sort_by_key, sum_by-IsPermutation}
 use Rattle.game_model.specs.declared.game.Edge.{Edge}
 use Rattle.distributions.proofs.Gathering.{gives, StandFrom-places}
-use Rattle.distributions.proofs.gather.ordered.Goals as goal
+use Rattle.distributions.proofs.gather.put_in_order.Goals as goal
 
 pub returns-clause-standing : goal.returns-clause-standing
 returns-clause-standing c =

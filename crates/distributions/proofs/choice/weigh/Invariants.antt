@@ -2,7 +2,7 @@ use Rattle.std.proofs.Common.{◌≡◌, ◌≤◌, ◌*◌, take}
 use Rattle.std.specs.Prelude.{All}
 use Rattle.distributions.specs.Limits.{finest, most_value}
 use Rattle.distributions.specs.Parts.{weighted}
-use Rattle.distributions.proofs.choice.edges_of.Given as goal
+use Rattle.distributions.proofs.choice.weigh.Given as goal
 
 abbrev pub invariant-loop-part : goal.invariant-loop-part
 invariant-loop-part l = record {
