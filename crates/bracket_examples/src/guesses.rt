@@ -7,6 +7,7 @@ ghost use Rattle.game_model.specs.Dual.{IsZeroSet};
 ghost use Rattle.bracket_engine.specs.Limits.{most_rounds};
 
 use crate::brackets::value_bracket;
+use crate::counted::Counted;
 use expectations::{holds, same};
 use game_model::{Marks, Question, Side, UNIT};
 use random_games::{
@@ -16,6 +17,7 @@ use random_games::{
 use std::alloc::Global;
 use std::test::Fail;
 use std::thread::Threads;
+use sample_games::{chain, question_of};
 use upper_guess::{Alone, Witnesses, guess, guess_with};
 use zero_sets::zero_set;
 
@@ -67,16 +69,16 @@ fn up_steps<R: Threads + Sync>(
     question.known();
     let zero = zero_set(alloc, question)?;
     let found = value_bracket(rt, alloc, question, &zero, rounds, 1)?;
-    let mut witnesses = Witnesses::none();
+    let counted = Counted::of(&Alone {});
     let _guess = guess_with(
-        &Alone {},
+        &counted,
         alloc,
         &*question,
         &zero,
         &found.base,
-        &mut witnesses,
+        &mut Witnesses::none(),
     )?;
-    Ok(witnesses.up_steps())
+    Ok(counted.up_steps())
 }
 
 // Compares the up steps of the guess over the base after so many rounds.
@@ -159,4 +161,32 @@ fn guesses_make_few_up_steps(rt: HostRuntime) -> Result<(), Fail> {
     are_few_of(&rt, alloc, "bounded retransmission", retransmission(alloc))?;
     are_few_of(&rt, alloc, "contract signing", contract(alloc))?;
     are_few_of(&rt, alloc, "the shared coin", coin(alloc))
+}
+
+#[test]
+fn a_guess_looks_first_at_the_states_that_refused_the_last_one(
+    rt: HostRuntime,
+) -> Result<(), Fail> {
+    let alloc = rt.alloc();
+    let game = chain(alloc, 8)?;
+    let question = question_of(alloc, &game, Side::Max, 7)?;
+    check_steps(alloc, &question, &[0, 0, 0, 0, 0, 0, 0, UNIT])
+}
+
+// Two guesses over one table of a chain of eight states take 6 up steps, and 1 more.
+fn check_steps(alloc: Global, question: &Question<'_>, lower: &[u64]) -> Result<(), Fail>
+    requires many { length lower.now ≡ states question.now }
+    requires units { All (λ v. v ≤ unit) lower.now }
+{
+    question.known();
+    let zero = zero_set(alloc, question)?;
+    let counted = Counted::of(&Alone {});
+    let mut witnesses = Witnesses::none();
+    // The five tables without an excess are made, and each is refused at another state. These states refuse all others
+    // up to the one that has the unit everywhere.
+    guess_with(&counted, alloc, &*question, &zero, &*lower, &mut witnesses)?;
+    let first = counted.up_steps();
+    // Now they refuse the five as well.
+    guess_with(&counted, alloc, &*question, &zero, &*lower, &mut witnesses)?;
+    same("up steps", (first, counted.up_steps()), (6, 7))
 }

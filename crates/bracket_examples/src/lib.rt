@@ -9,6 +9,8 @@ mod certificates;
 #[cfg(test)]
 mod closing;
 #[cfg(test)]
+mod counted;
+#[cfg(test)]
 mod guesses;
 #[cfg(test)]
 mod known;
@@ -18,6 +20,8 @@ mod lower_guesses;
 mod mutants;
 #[cfg(test)]
 mod plain_ranks;
+#[cfg(test)]
+mod teams;
 #[cfg(test)]
 mod thresholds;
 #[cfg(test)]

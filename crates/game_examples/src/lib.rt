@@ -21,8 +21,6 @@ mod nested_formulas;
 #[cfg(test)]
 mod ranks;
 #[cfg(test)]
-mod teams;
-#[cfg(test)]
 mod traps;
 #[cfg(test)]
 mod upper_guesses;

@@ -9,7 +9,7 @@ use game_model::{Question, Side, UNIT};
 use sample_games::{chain, coin_loop, four_states, question_of};
 use std::alloc::Global;
 use std::test::Fail;
-use upper_guess::{Alone, Witnesses, guess, guess_with};
+use upper_guess::guess;
 use zero_sets::zero_set;
 
 /// The guess over this table.
@@ -61,31 +61,4 @@ fn up_steps_alone_reach_the_values_of_four_states(rt: HostRuntime) -> Result<(),
     check_four_states("maximiser", alloc, Side::Max, &most)?;
     let least = [200_000_000_000_000, 200_000_000_000_000, UNIT, 0];
     check_four_states("minimiser", alloc, Side::Min, &least)
-}
-
-#[test]
-fn a_guess_looks_first_at_the_states_that_refused_the_last_one(
-    rt: HostRuntime,
-) -> Result<(), Fail> {
-    let alloc = rt.alloc();
-    let game = chain(alloc, 8)?;
-    let question = question_of(alloc, &game, Side::Max, 7)?;
-    check_steps(alloc, &question, &[0, 0, 0, 0, 0, 0, 0, UNIT])
-}
-
-/// Two guesses over one table of a chain of eight states take 6 up steps, and 1 more.
-fn check_steps(alloc: Global, question: &Question<'_>, lower: &[u64]) -> Result<(), Fail>
-    requires many { length lower.now ≡ states question.now }
-    requires units { All (λ v. v ≤ unit) lower.now }
-{
-    question.known();
-    let zero = zero_set(alloc, question)?;
-    let mut witnesses = Witnesses::none();
-    // The five tables without an excess are made, and each is refused at another state. These states refuse all others
-    // up to the one that has the unit everywhere.
-    guess_with(&Alone {}, alloc, &*question, &zero, &*lower, &mut witnesses)?;
-    let first = witnesses.up_steps();
-    // Now they refuse the five as well.
-    guess_with(&Alone {}, alloc, &*question, &zero, &*lower, &mut witnesses)?;
-    same("up steps", (first, witnesses.up_steps()), (6, 7))
 }

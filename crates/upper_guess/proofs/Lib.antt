@@ -3,4 +3,3 @@ pub mod Lists
 pub mod Accepting
 pub mod Entries
 pub mod One
-pub mod Counting

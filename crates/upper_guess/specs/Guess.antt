@@ -54,25 +54,9 @@ pub record IsFirstAt (q : Query) (marks : List Bool) (lower : ℕ → ℕ) (e : 
   pub accepted : IsInductive q (guess_table q marks lower e steps)
   pub refused : (j : ℕ) → j < steps → IsRefused q (guess_table q marks lower e j)
 
--- a count rose by at least so many, or stands where it can't rise any more
-abbrev pub RoseBy : ℕ → ℕ → ℕ → Type 0
-RoseBy n before now = min (before + n) (2 ^ 64 - 1) ≤ now
-
--- a table of one excess whose up steps were counted: the count rose by at least their number and one, the step that
--- accepts it
-pub record IsCounted (q : Query) (marks : List Bool) (lower : ℕ → ℕ) (e : ℕ) (table : List ℕ)
-    (before now : ℕ) : Type 0 where
-  pub steps : ℕ
-  pub entries : IsTable q (guess_table q marks lower e steps) table
-  pub rose : RoseBy (steps + 1) before now
-
 -- the first of all: each table of an earlier excess is refused
 pub record IsFirstGuess (q : Query) (marks : List Bool) (lower : ℕ → ℕ) (table : List ℕ) : Type 0 where
   pub place : ℕ
   pub listed : place ≤ last_place
   pub here : IsFirstAt q marks lower (excess place) table
   pub earlier : (i : ℕ) → i < place → AreRefused q marks lower (excess i)
-
--- a guess whose up steps were counted
-abbrev pub IsCountedGuess : Query → List Bool → (ℕ → ℕ) → List ℕ → ℕ → ℕ → Type 0
-IsCountedGuess q marks lower table before now = (place : ℕ) × IsCounted q marks lower (excess place) table before now

@@ -4,7 +4,7 @@ ghost use Rattle.std.specs.Prelude.{◌≡◌, ◌^◌, ◌≤◌, length, All};
 ghost use Rattle.game_model.specs.Query.{IsQuery, states};
 ghost use Rattle.game_model.specs.Limits.{unit};
 
-use crate::tables::{UpSteps, UpTables, most_raised};
+use crate::tables::{UpTables, most_raised, up_table};
 use crate::witnesses::Witnesses;
 use game_model::{Marks, Question, UNIT};
 use game_outside::OutOfMemory;
@@ -28,14 +28,13 @@ pub struct Guesses<'a> {
 }
 
 impl Guesses<'_> {
-    ghost use Rattle.std.specs.Prelude.{◌<◌, ◌-◌, IfOk, OnOk, IfSome, MatchOption};
-    ghost use Rattle.upper_guess.specs.Guess.{AreWitnesses, RoseBy};
-    ghost use Rattle.upper_guess.specs.inside.OfGuesses.{first_entry_of, IsTableOf, AreRefusedOf, IsFirstOf, IsCountedOf, steps_of};
+    ghost use Rattle.std.specs.Prelude.{◌<◌, IfOk, IfSome, MatchOption};
+    ghost use Rattle.upper_guess.specs.Guess.{AreWitnesses};
+    ghost use Rattle.upper_guess.specs.inside.OfGuesses.{first_entry_of, IsTableOf, AreRefusedOf, IsFirstOf, steps_of};
 
     /// The first of the tables of this excess that is accepted; none where each is refused. A table that is
     /// seen to be refused at the witness of its steps is not made. Where a table is made and refused, the
-    /// state that rises most from it becomes the witness. Its up steps and the one that accepts it are counted, at
-    /// least.
+    /// state that rises most from it becomes the witness.
     pub fn first_accepted<M: UpTables>(
         &self,
         maker: &M,
@@ -47,9 +46,6 @@ impl Guesses<'_> {
         ensures witnesses { AreWitnesses self.now.question.now witnesses.new.states }
         ensures found { IfOk result (λ found. MatchOption found (AreRefusedOf self.now)
             (λ table. IsFirstOf self.now table.items)) }
-        ensures counted { IfOk result (λ found. IfSome found
-            (λ table. IsCountedOf self.now table.items witnesses.old.up_steps.count witnesses.new.up_steps.count)) }
-        ensures later { witnesses.old.up_steps.count ≤ witnesses.new.up_steps.count }
     {
         let mut made = None;
         for steps in 0..MOST_STEPS + 1 {
@@ -57,10 +53,8 @@ impl Guesses<'_> {
             if self.refuses_at(steps, witness, Self::steps_made(&made)) {
                 continue;
             }
-            let table = self.table_after(maker, alloc, steps, made, &mut witnesses.up_steps)?;
-            let next = witnesses
-                .up_steps
-                .up_table(maker, alloc, self.question, &table)?;
+            let table = self.table_after(maker, alloc, steps, made)?;
+            let next = up_table(maker, alloc, self.question, &table)?;
             let Some(state) = most_raised(self.question, &table, &next) else {
                 return Ok(Some(table));
             };
@@ -70,27 +64,24 @@ impl Guesses<'_> {
         Ok(None)
     }
 
-    /// The table after so many up steps, from one that was made, if any, after fewer. The up steps are counted.
+    /// The table after so many up steps, from one that was made, if any, after fewer.
     fn table_after<M: UpTables>(
         &self,
         maker: &M,
         alloc: Global,
         steps: u32,
         made: Option<(Vec<u64>, u32)>,
-        up_steps: &mut UpSteps,
     ) -> Result<Vec<u64>, OutOfMemory>
         requires can { M.can_fill }
         requires made { IfSome made (λ m. IsTableOf self.now m.1 m.0.items × (m.1 ≤ steps)) }
-        ensures table { IfOk result (λ table. IsTableOf self.now steps table.items) }
-        ensures counted { OnOk result (RoseBy (steps - steps_of made) up_steps.old.count up_steps.new.count) }
-        ensures later { up_steps.old.count ≤ up_steps.new.count }
+        ensures { IfOk result (λ table. IsTableOf self.now steps table.items) }
     {
         let (mut table, at) = match made {
             Some(made) => made,
             None => (self.first_table(alloc)?, 0),
         };
         for _step in at..steps {
-            table = up_steps.up_table(maker, alloc, self.question, &table)?;
+            table = up_table(maker, alloc, self.question, &table)?;
         }
         Ok(table)
     }

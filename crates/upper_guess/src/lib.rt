@@ -20,7 +20,7 @@ ghost use Rattle.game_model.specs.Limits.{unit};
 ghost use Rattle.game_model.specs.Rounded.{IsInductive};
 ghost use Rattle.game_model.specs.Bounds.{IsHigh};
 ghost use Rattle.game_model.specs.Dual.{IsZeroSet};
-ghost use Rattle.upper_guess.specs.Guess.{IsFirstGuess, IsCountedGuess, AreWitnesses};
+ghost use Rattle.upper_guess.specs.Guess.{IsFirstGuess, AreWitnesses};
 
 mod excesses;
 mod guesses;
@@ -69,8 +69,7 @@ pub fn guess<'a>(
 }
 
 /// The same guess, whose tables are made by this maker. The states that refused the last one of this question are
-/// looked at first, and those that refuse this one take their places. At least the up steps of the guess and the one
-/// that accepts it are counted.
+/// looked at first, and those that refuse this one take their places.
 pub fn guess_with<'a, M: UpTables>(
     maker: &M,
     alloc: Global,
@@ -85,9 +84,6 @@ pub fn guess_with<'a, M: UpTables>(
     requires units { All (λ v. v ≤ unit) lower.now }
     requires witnesses { AreWitnesses question.now witnesses.old.states }
     ensures witnesses { AreWitnesses question.now witnesses.new.states }
-    ensures counted { IfOk result (λ table. IsCountedGuess question.now zero.now
-        (slice_index lower.now) table.items witnesses.old.up_steps.count witnesses.new.up_steps.count) }
-    ensures later { witnesses.old.up_steps.count ≤ witnesses.new.up_steps.count }
     ensures first { IfOk result (λ table. IsFirstGuess question.now zero.now (slice_index lower.now) table.items) }
     ensures length { IfOk result (λ table. length table.items ≡ states question.now) }
     ensures units { IfOk result (λ table. All (λ v. v ≤ unit) table.items) }

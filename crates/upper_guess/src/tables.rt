@@ -39,52 +39,8 @@ impl UpTables for Alone {
     }
 }
 
-/// How many up steps of whole tables were made. Only the call that makes one counts it.
-#[derive(Drop)]
-pub struct UpSteps {
-    count: u64,
-}
-
-impl UpSteps {
-    ghost use Rattle.game_outside.specs.Outside.{grown};
-
-    /// No step was made.
-    pub fn none() -> UpSteps
-        ensures { result.count ≡ 0 }
-    {
-        UpSteps { count: 0 }
-    }
-
-    /// How many were made, up to the greatest `u64`.
-    pub fn count(&self) -> u64
-        ensures { result ≡ self.now.count }
-    {
-        self.count
-    }
-
-    /// The up step of a table, filled by this worker or these. It is counted.
-    pub fn up_table<M: UpTables>(
-        &mut self,
-        maker: &M,
-        alloc: Global,
-        question: &Question,
-        table: &[u64],
-    ) -> Result<Vec<u64>, OutOfMemory>
-        requires can { M.can_fill }
-        requires length { length table.now ≡ states question.now }
-        requires units { All (λ v. v ≤ unit) table.now }
-        ensures table { IfOk result (λ next. IsTable question.now
-            (up_step question.now (slice_index table.now)) next.items) }
-        ensures counted { self.new.count ≡ grown self.old.count 1 }
-        ensures later { self.old.count ≤ self.new.count }
-    {
-        self.count = self.count.saturating_add(1);
-        next_table(maker, alloc, question, table)
-    }
-}
-
-// The same, which is not counted.
-fn next_table<M: UpTables>(
+/// The up step of a table, filled by this maker.
+pub fn up_table<M: UpTables>(
     maker: &M,
     alloc: Global,
     question: &Question,

@@ -21,7 +21,6 @@ loop-place-preserved t c =
     let refused : AreRefused c.args.question.now c.args.zero.now (slice_index c.args.lower.now) c.excess_at.result = rw c.in_default.is at c.in_ok-table.ensures.found in
     record {
       witnesses = c.in_ok-table.ensures.witnesses;
-      later = omega arith;
       refused = below_more (λ i. AreRefused c.args.question.now c.args.zero.now (slice_index c.args.lower.now) (excess i)) c.loop-place.place c.loop-place.invariant.refused
           (subst (λ (e : ℕ). AreRefused c.args.question.now c.args.zero.now (slice_index c.args.lower.now) e) c.excess_at.ensures.value refused);
     }

@@ -6,6 +6,5 @@ use Rattle.upper_guess.proofs.guess_with.Given as goal
 abbrev pub invariant-loop-place : goal.invariant-loop-place
 invariant-loop-place t l = record {
   witnesses : AreWitnesses l.question l.witnesses.states;
-  later : l.fn.witnesses.up_steps.count ≤ l.witnesses.up_steps.count;
   refused : (i : ℕ) → i < l.place → AreRefused l.question l.zero (slice_index l.lower) (excess i);
 }

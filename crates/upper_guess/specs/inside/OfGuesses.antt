@@ -7,7 +7,7 @@ use Rattle.game_model.specs.Values.{optimum}
 use Rattle.game_model.specs.Rounded.{up_value}
 use Rattle.fixed_bellman.specs.Sums.{IsSumBetween}
 use Rattle.game_model.specs.Tables.{IsTable}
-use Rattle.upper_guess.specs.Guess.{first_guess, guess_table, IsRefused, AreRefused, IsFirstAt, IsCounted}
+use Rattle.upper_guess.specs.Guess.{first_guess, guess_table, IsRefused, AreRefused, IsFirstAt}
 use Rattle.upper_guess.specs.declared.guesses.Guesses.{Guesses}
 
 -- the entry of a state before any up step
@@ -45,10 +45,6 @@ AreRefusedOf g = AreRefused g.question.now g.zero.now (slice_index g.lower.now) 
 -- the first table of the excess that is accepted
 abbrev pub IsFirstOf : Guesses → List ℕ → Type 0
 IsFirstOf g table = IsFirstAt g.question.now g.zero.now (slice_index g.lower.now) g.excess table
-
--- a table of the excess, where the count of up steps rose by at least its own and one
-abbrev pub IsCountedOf : Guesses → List ℕ → ℕ → ℕ → Type 0
-IsCountedOf g table before now = IsCounted g.question.now g.zero.now (slice_index g.lower.now) g.excess table before now
 
 -- the up steps of a table that was made, if any
 abbrev pub steps_of : Option (Vec ℕ × ℕ) → ℕ

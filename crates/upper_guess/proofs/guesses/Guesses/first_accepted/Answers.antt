@@ -8,9 +8,8 @@ use Rattle.game_model.specs.Query.{Query, states}
 use Rattle.game_model.specs.Rounded.{up_step, IsBelow}
 use Rattle.game_model.specs.Tables.{IsTable}
 use Rattle.upper_guess.specs.declared.guesses.Guesses.{Guesses}
-use Rattle.upper_guess.specs.Guess.{RisesMost, AreWitnesses, RoseBy}
+use Rattle.upper_guess.specs.Guess.{RisesMost, AreWitnesses}
 use Rattle.upper_guess.specs.inside.OfGuesses.{entry_of, IsTableOf, IsRefusedOf}
-use Rattle.upper_guess.proofs.Counting.{rose-checked}
 use Rattle.upper_guess.proofs.Lists.{IsTable-next, not-raised, is-raised}
 use Rattle.upper_guess.proofs.guesses.Guesses.first_accepted.Goals as goal
 
@@ -29,8 +28,6 @@ loop-steps-preserved-then-refuses_at t c =
     let h = c.loop-steps.invariant in record {
       made = made-later g c.loop-steps.steps c.loop-steps.made h.made;
       witnesses = h.witnesses;
-      counted = h.counted;
-      later = h.later;
       refused = below_more (IsRefusedOf g) c.loop-steps.steps h.refused (c.refuses_at.ensures c.if-refuses_at.true);
     }
 
@@ -40,13 +37,13 @@ returns-in_default-clause-found t c =
     let q = g.question.now in
     let table = c.in_ok-table.table.items in
     let next = c.in_ok-next.next.items in
-    let step : IsTable q (up_step q (slice_index table)) next = rw c.deref.ensures.value at c.in_ok-next.ensures.table in
+    let step : IsTable q (up_step q (slice_index table)) next = rw c.deref.ensures.value at c.in_ok-next.ensures in
     let below : IsBelow q (slice_index next) (slice_index table) = rw (c.deref-in-loop-steps.ensures.value, c.deref-in-loop-steps-2.ensures.value) at c.in_default.ensures in
     record {
       steps = c.loop-steps.steps;
       few = omega (arith, c.loop-steps-test.true);
-      entries = c.in_ok-table.ensures.table;
-      accepted = not-raised q (entry_of g c.loop-steps.steps) table next g.posed c.in_ok-table.ensures.table step below;
+      entries = c.in_ok-table.ensures;
+      accepted = not-raised q (entry_of g c.loop-steps.steps) table next g.posed c.in_ok-table.ensures step below;
       refused = c.loop-steps.invariant.refused;
     }
 
@@ -58,15 +55,12 @@ loop-steps-preserved t c =
     let s : ℕ = c.in-Some.state in
     let table = c.in_ok-table.table.items in
     let next = c.in_ok-next.next.items in
-    let step : IsTable q (up_step q (slice_index table)) next = rw c.deref.ensures.value at c.in_ok-next.ensures.table in
+    let step : IsTable q (up_step q (slice_index table)) next = rw c.deref.ensures.value at c.in_ok-next.ensures in
     let raised : RisesMost q (slice_index table) (slice_index next) s = rw (c.deref-in-loop-steps.ensures.value, c.deref-in-loop-steps-2.ensures.value) at c.in-Some.ensures in
     record {
-      made = (IsTable-next q _ _ _ steps table next g.posed c.in_ok-table.ensures.table step, le_refl _);
+      made = (IsTable-next q _ _ _ steps table next g.posed c.in_ok-table.ensures step, le_refl _);
       witnesses = witnesses-set q c.loop-steps.witnesses.states steps s c.loop-steps.invariant.witnesses raised.inside;
-      counted = subst (λ (n : ℕ). RoseBy (steps + 1) c.args.witnesses.now.up_steps.count n) (sym c.in_ok-next.ensures.counted)
-          (rose-checked g c.loop-steps.made steps _ _ _ c.loop-steps.invariant.made c.loop-steps.invariant.counted c.in_ok-table.ensures.counted);
-      later = omega arith;
-      refused = below_more (IsRefusedOf g) steps c.loop-steps.invariant.refused (is-raised q (entry_of g steps) table next g.posed c.in_ok-table.ensures.table step s raised.inside raised.rises);
+      refused = below_more (IsRefusedOf g) steps c.loop-steps.invariant.refused (is-raised q (entry_of g steps) table next g.posed c.in_ok-table.ensures step s raised.inside raised.rises);
     }
 
 pub returns-clause-found : goal.returns-clause-found

@@ -1,9 +1,6 @@
-use Rattle.std.proofs.Common.{ℕ, ◌+◌, ◌-◌, arith, sym, subst}
 use Rattle.std.specs.Prelude.{slice_index}
 use Rattle.game_model.specs.Rounded.{up_step}
 use Rattle.game_model.specs.Tables.{IsTable}
-use Rattle.upper_guess.specs.Guess.{RoseBy}
-use Rattle.upper_guess.proofs.Counting.{rose-next}
 use Rattle.upper_guess.proofs.Lists.{IsTable-next}
 use Rattle.upper_guess.proofs.guesses.Guesses.table_after.Goals as goal
 
@@ -11,9 +8,5 @@ pub loop-step-preserved : goal.loop-step-preserved
 loop-step-preserved t c =
     let g = c.args.self.now in
     let table = c.loop-step.table.items in
-    let step : IsTable g.question.now (up_step g.question.now (slice_index table)) c.in_ok-table.table.items = rw c.deref.ensures.value at c.in_ok-table.ensures.table in
-    record {
-      table = IsTable-next g.question.now _ _ _ c.loop-step._step table c.in_ok-table.table.items g.posed c.loop-step.invariant.table step;
-      counted = subst (λ (n : ℕ). RoseBy (c.loop-step._step + 1 - c.match-made.table.1) c.args.up_steps.now.count n) (sym c.in_ok-table.ensures.counted) (rose-next c.match-made.table.1 c.loop-step._step _ _ (omega arith) c.loop-step.invariant.counted);
-      later = omega arith;
-    }
+    let step : IsTable g.question.now (up_step g.question.now (slice_index table)) c.in_ok-table.table.items = rw c.deref.ensures.value at c.in_ok-table.ensures in
+    IsTable-next g.question.now _ _ _ c.loop-step._step table c.in_ok-table.table.items g.posed c.loop-step.invariant step

@@ -1,7 +1,7 @@
 use Rattle.std.proofs.Common.{◌≡◌, ◌≤◌, length}
 use Rattle.std.specs.Prelude.{All}
 use Rattle.game_model.specs.Limits.{unit}
-use Rattle.game_examples.proofs.teams.nothing.Given as goal
+use Rattle.bracket_examples.proofs.teams.nothing.Given as goal
 
 abbrev pub invariant-loop-state : goal.invariant-loop-state
 invariant-loop-state l = record {

@@ -6,6 +6,7 @@ ghost use Rattle.drawn_game.specs.Limits.{fewest_states, most_seed};
 ghost use Rattle.game_model.specs.Dual.{IsZeroSet};
 ghost use Rattle.game_model.specs.Query.{states};
 
+use crate::counted::Counted;
 use bracket_engine::Team;
 use drawn_game::draw_game;
 use expectations::same;
@@ -31,9 +32,9 @@ fn guess_by<M: UpTables>(
     requires units { All (λ v. v ≤ unit) lower.now }
 {
     question.known();
-    let mut witnesses = Witnesses::none();
-    let guess = guess_with(maker, alloc, &*question, &*zero, &*lower, &mut witnesses)?;
-    Ok((guess, witnesses.up_steps()))
+    let counted = Counted::of(maker);
+    let guess = guess_with(&counted, alloc, &*question, &*zero, &*lower, &mut Witnesses::none())?;
+    Ok((guess, counted.up_steps()))
 }
 
 // Teams of several sizes guess what one worker does, by as many up steps.
