@@ -1,5 +1,5 @@
 -- What a reader answers of a file.
-use Rattle.std.specs.Prelude.{◌≤◌, ℕ, List, length, Option, Result, Ok, Err}
+use Rattle.std.specs.Prelude.{◌≡◌, ◌≤◌, ℕ, Bool, false, List, length, Option, Result, Ok, Err}
 use Rattle.game_outside.specs.declared.file.FileEnd.{FileEnd}
 use Rattle.game_outside.specs.declared.file.FileEnd.TheVariants.{OutOfMemory, ReadFault, TooLong, Refused}
 use Rattle.game_outside.specs.declared.shelf.ReadEnd.{ReadEnd}
@@ -25,6 +25,14 @@ ReadsFile Answers holding name limit (Err (Refused fault)) =
 ReadsFile Answers holding name limit (Err TooLong) = IsHeldLonger holding name limit
 ReadsFile Answers holding name limit (Err ReadFault) = Unit {0}
 ReadsFile Answers holding name limit (Err OutOfMemory) = Unit {0}
+
+-- no refusal is for want of memory, of which the test tells
+abbrev pub RefusesCaused : {X F : Type 0} → (F → Bool) → Result X (FileEnd F) → Type 0
+RefusesCaused is_want (Ok x) = Unit {0}
+RefusesCaused is_want (Err (Refused fault)) = is_want fault ≡ false
+RefusesCaused is_want (Err OutOfMemory) = Unit {0}
+RefusesCaused is_want (Err ReadFault) = Unit {0}
+RefusesCaused is_want (Err TooLong) = Unit {0}
 
 -- the end of a file where its text is not read whole
 abbrev pub of_read : {F : Type 0} → ReadEnd → FileEnd F

@@ -11,14 +11,6 @@ abbrev pub is_out_of_memory : LabCause → Bool
 is_out_of_memory OutOfMemory = true
 is_out_of_memory cause = false
 
--- no refusal is for want of memory
-abbrev pub RefusesCaused : {X : Type 0} → Result X (FileEnd LabFault) → Type 0
-RefusesCaused (Ok x) = Unit {0}
-RefusesCaused (Err (file.Refused fault)) = is_out_of_memory fault.cause ≡ false
-RefusesCaused (Err file.OutOfMemory) = Unit {0}
-RefusesCaused (Err file.ReadFault) = Unit {0}
-RefusesCaused (Err file.TooLong) = Unit {0}
-
 -- the same answer, but want of memory in place of a refusal for it
 abbrev pub IsWithoutWant : {X : Type 0} → Result X (FileEnd LabFault) → Result X (FileEnd LabFault) → Type 0
 IsWithoutWant (Err (file.Refused fault)) after = (is_out_of_memory fault.cause ≡ true → after ≡ Err file.OutOfMemory)

@@ -2,9 +2,9 @@
 
 ghost use Rattle.std.specs.Prelude.{◌≡◌, ◌≤◌, IfOk, length};
 ghost use Rattle.text_lines.specs.Limits.{most_bytes};
-ghost use Rattle.game_outside.specs.Files.{LeavesShelf, ReadsFile};
+ghost use Rattle.game_outside.specs.Files.{LeavesShelf, ReadsFile, RefusesCaused};
 ghost use Rattle.label_reader.specs.Texts.{labels_of, owners_of, said_by};
-ghost use Rattle.label_reader.specs.Refused.{RefusesCaused, IsWithoutWant};
+ghost use Rattle.label_reader.specs.Refused.{is_out_of_memory, IsWithoutWant};
 
 use crate::faults::{LabCause, LabFault};
 use crate::headed_lines::{BehindHeader, HeadedLines};
@@ -28,7 +28,7 @@ pub fn read_labels_from<H: Shelf>(
 
     // The answer is what is said of the whole text.
     ensures reads { ReadsFile (λ text answer. labels_of text states ≡ answer) (H.held shelf.old) name.now limit result }
-    ensures caused { RefusesCaused result }
+    ensures caused { RefusesCaused (λ fault. is_out_of_memory fault.cause) result }
     ensures sizes { IfOk result (λ labels. labels.states ≡ states) }
 
     // It fails only where the shelf fails, takes little more than the limit, and changes nothing of what the shelf
@@ -51,7 +51,7 @@ pub fn read_owners_from<H: Shelf>(
 
     // The answer is what is said of the whole text.
     ensures reads { ReadsFile (λ text answer. owners_of text states ≡ answer) (H.held shelf.old) name.now limit result }
-    ensures caused { RefusesCaused result }
+    ensures caused { RefusesCaused (λ fault. is_out_of_memory fault.cause) result }
     ensures sizes { IfOk result (λ owners. length owners.owners ≡ states) }
 
     // It fails only where the shelf fails, takes little more than the limit, and changes nothing of what the shelf
@@ -72,7 +72,7 @@ fn read_from<H: Shelf, B: BehindHeader>(
     requires { limit ≤ most_bytes }
     ensures reads { ReadsFile (λ text answer. said_by B.kind states (B.make states) text ≡ answer)
         (H.held shelf.old) name.now limit result }
-    ensures caused { RefusesCaused result }
+    ensures caused { RefusesCaused (λ fault. is_out_of_memory fault.cause) result }
     ensures shelf { LeavesShelf H.Shelf name.now limit shelf.old shelf.new result }
 {
     let reader = HeadedLines::<B>::new(alloc, states);

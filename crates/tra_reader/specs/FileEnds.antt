@@ -1,5 +1,5 @@
 -- How the reading of a file ends.
-use Rattle.std.specs.Prelude.{◌≡◌, Bool, true, false, Option, Some, None, Result, Ok, Err, if◌then◌else◌}
+use Rattle.std.specs.Prelude.{Bool, true, false, Option, Some, None, Result, Ok, Err, if◌then◌else◌}
 use Rattle.game_outside.specs.declared.file.FileEnd.{FileEnd}
 use Rattle.game_outside.specs.declared.file.FileEnd.TheVariants as file
 use Rattle.distributions.specs.declared.choice.ChoiceFault.TheVariants as choice
@@ -14,14 +14,6 @@ abbrev pub is_out_of_memory : TraCause → Bool
 is_out_of_memory OutOfMemory = true
 is_out_of_memory (Choice state k choice.OutOfMemory) = true
 is_out_of_memory cause = false
-
--- no refusal is for want of memory
-abbrev pub RefusesCaused : {X : Type 0} → Result X (FileEnd TraFault) → Type 0
-RefusesCaused (Ok x) = Unit {0}
-RefusesCaused (Err (file.Refused fault)) = is_out_of_memory fault.cause ≡ false
-RefusesCaused (Err file.OutOfMemory) = Unit {0}
-RefusesCaused (Err file.ReadFault) = Unit {0}
-RefusesCaused (Err file.TooLong) = Unit {0}
 
 -- the same answer, but want of memory in place of a refusal for it
 abbrev pub without_want_of : {X : Type 0} → Result X (FileEnd TraFault) → Result X (FileEnd TraFault)

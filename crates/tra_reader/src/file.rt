@@ -2,13 +2,13 @@
 
 ghost use Rattle.std.specs.Prelude.{◌≡◌, ◌≤◌};
 ghost use Rattle.text_lines.specs.Limits.{most_bytes};
-ghost use Rattle.game_outside.specs.Files.{LeavesShelf, ReadsFile};
+ghost use Rattle.game_outside.specs.Files.{LeavesShelf, ReadsFile, RefusesCaused};
 ghost use Rattle.game_outside.specs.Answers.{AnswersOrWants};
 ghost use Rattle.tra_reader.specs.Faults.{IsOutOfMemory};
 ghost use Rattle.tra_reader.specs.Text.{game_of};
 ghost use Rattle.tra_reader.specs.inside.Reading.{IsAnswer};
 ghost use Rattle.tra_reader.specs.inside.Ordered.{text_fault};
-ghost use Rattle.tra_reader.specs.FileEnds.{RefusesCaused, is_out_of_memory, in_order_of, without_want_of};
+ghost use Rattle.tra_reader.specs.FileEnds.{is_out_of_memory, in_order_of, without_want_of};
 
 use crate::any_order::AnyLines;
 use crate::fault::{TraCause, TraFault};
@@ -31,7 +31,7 @@ pub fn read_tra_from<H: Shelf>(
 
     // The answer is what is said of the whole text.
     ensures reads { ReadsFile (λ text answer. game_of text ≡ answer) (H.held shelf.old) name.now limit result }
-    ensures caused { RefusesCaused result }
+    ensures caused { RefusesCaused (λ fault. is_out_of_memory fault.cause) result }
 
     // It fails only where the shelf fails, takes little more than the limit, and changes nothing of what the shelf
     // holds.
