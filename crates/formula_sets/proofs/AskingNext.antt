@@ -1,9 +1,8 @@
 -- The question with `X` that is said to be posed is the one that is posed.
 use Rattle.std.proofs.Common.{◌≡◌, ◌∙◌, ◌≤◌, ℕ, true, false, cond, inl, inr, List, length, get_or, refl, sym, ap, subst, arith, Result, Ok}
 use Rattle.std.specs.Prelude.{All, slice_index_or}
-use Rattle.std.proofs.Math.ListN.{replicate, get_or-eq_default}
+use Rattle.std.proofs.Math.ListN.{get_or-eq_default}
 use Rattle.std.proofs.lemmas.Bool.{cases_lt}
-use Rattle.std.proofs.lemmas.List.{length-replicate, get_or-replicate}
 use Rattle.std.proofs.lemmas.List.FromFn.{fill_by_all}
 use Rattle.game_model.specs.Game.{Distribution}
 use Rattle.game_model.specs.Limits.{unit}
@@ -15,10 +14,6 @@ use Rattle.formula_sets.specs.declared.fault.PoseFault.{PoseFault}
 use Rattle.formula_sets.specs.Truth.{holds}
 use Rattle.formula_sets.specs.Posing.{NextPosing, PosesNext, at_states, opening_at, unmarked, next_question_of, initial_said, made_of, pose_next_said}
 use Rattle.formula_sets.proofs.Asking.{at_states-at, length-at_states, made-found, initial-again, set_up, is_begun, question-same}
-
--- no marks, in one piece
-pub none_marked : (n : ℕ) → replicate n false ≡ unmarked n
-none_marked n = fill_by_all (λ s. false) (replicate n false) n false (length-replicate n false) (λ s h. get_or-replicate n s false false h)
 
 pub never_marked : (n s : ℕ) → slice_index_or (unmarked n) s false ≡ false
 never_marked n s = elim (cases_lt s n) [

@@ -19,9 +19,12 @@ marks_short n name [] all = omega arith
 marks_short n name (label ∷ labels) all =
     elim (bytes_eq name label.name) as (λ b. length (if b then label.marks else marks_of labels name) ≤ n) [ true ↦ omega (arith, all.0) | false ↦ marks_short n name labels all.1 ]
 
+-- a label has no mark behind the states
+pub marks_within : (l : Labelling) (name : List ℕ) → IsLabelling l → length (marks_of l.labels name) ≤ l.states
+marks_within l name is = marks_short l.states name l.labels (recursion_from_All (λ label. length label.marks ≡ l.states) l.labels is.lengths)
+
 -- the states with a label are states
 pub states_inside : (l : Labelling) (name : List ℕ) (n : ℕ) → IsLabelling l → l.states ≡ n → All (λ s. s < n) (states_with l name)
 states_inside l name n is same =
     let marks = marks_of l.labels name in
-    let short = marks_short l.states name l.labels (recursion_from_All (λ label. length label.marks ≡ l.states) l.labels is.lengths) in
-    All-from_recursion (λ s. s < n) (states_with l name) (weaker (0 + length marks) n (omega (arith, short, same)) (marked_from 0 marks) (marked_below 0 marks))
+    All-from_recursion (λ s. s < n) (states_with l name) (weaker (0 + length marks) n (omega (arith, marks_within l name is, same)) (marked_from 0 marks) (marked_below 0 marks))

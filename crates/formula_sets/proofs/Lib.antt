@@ -1,4 +1,5 @@
 pub mod Finding
 pub mod Asking
 pub mod AskingNext
+pub mod Marked
 pub mod Inside

@@ -1,34 +1,81 @@
 //! Where state formulas hold, and the labels that they name.
 
-ghost use Rattle.std.specs.Prelude.{◌≡◌, ◌<◌, option_copied};
+ghost use Rattle.std.specs.Prelude.{◌≡◌, IfOk, option_copied};
+ghost use Rattle.label_reader.specs.Labels.{holds_at};
 ghost use Rattle.rpatl_syntax.specs.Formula.{state_of, tree_of};
 ghost use Rattle.formula_sets.specs.Truth.{holds, labels_in, unknown_label};
-ghost use Rattle.formula_sets.specs.Posing.{formula_labels};
+ghost use Rattle.formula_sets.specs.Posing.{at_states, formula_labels};
 
+use crate::marks::{intersect, negate, unite};
 use game_outside::Name;
 use label_reader::Labels;
 use rpatl_syntax::{Formula, StateFormula};
+use std::alloc::{AllocError, Global};
 
-/// Whether a state formula holds at a state. Labels alone say nothing of a formula inside: it holds nowhere.
-pub fn holds_at_state(labels: &Labels, formula: &StateFormula, state: u32) -> bool
-    requires { state < labels.now.states }
-    ensures { result ≡ holds labels.now (state_of formula.now) state }
+/// The same mark for each of so many states.
+#[tactic(auto, using(crate::proofs::Marked::filled))]
+pub fn constant(alloc: Global, mark: bool, states: u32) -> Result<Vec<bool>, AllocError>
+    ensures { IfOk result (λ v. v.items ≡ at_states (λ s. mark) states) }
+{
+    vec![in alloc; mark; states as usize]
+}
+
+/// Where the label with this name holds, as a mark for each of so many states; nowhere where there is no such label.
+pub fn marks_of_label(
+    alloc: Global,
+    labels: &Labels,
+    name: &Name,
+    states: u32,
+) -> Result<Vec<bool>, AllocError>
+    requires { labels.now.states ≡ states }
+    ensures { IfOk result (λ v. v.items ≡ at_states (holds_at labels.now name.now) states) }
+{
+    labels.known();
+    let mut marks = Vec::with_capacity(alloc, states as usize)?;
+    marks.extend_from_slice(labels.marks(name.as_bytes()))?;
+    marks.resize(states as usize, false)?;
+    Ok(marks)
+}
+
+/// Where a state formula holds, as a mark for each of so many states. Labels alone say nothing of a formula inside: it
+/// holds nowhere.
+pub fn marks_of(
+    alloc: Global,
+    labels: &Labels,
+    formula: &StateFormula,
+    states: u32,
+) -> Result<Vec<bool>, AllocError>
+    requires { labels.now.states ≡ states }
+    ensures { IfOk result (λ v. v.items ≡ at_states (holds labels.now (state_of formula.now)) states) }
 {
     match formula {
-        StateFormula::All => true,
-        StateFormula::Nothing => false,
-        StateFormula::Named(name) => labels.holds(name.as_bytes(), state),
-        StateFormula::Negated(x) => !holds_at_state(labels, x, state),
+        StateFormula::All => constant(alloc, true, states),
+        StateFormula::Nothing | StateFormula::Inner(_) => constant(alloc, false, states),
+        StateFormula::Named(name) => marks_of_label(alloc, labels, name, states),
+        StateFormula::Negated(x) => {
+            let mut marks = marks_of(alloc, labels, x, states)?;
+            negate(&mut marks);
+            Ok(marks)
+        }
         StateFormula::Both(x, y) => {
-            holds_at_state(labels, x, state) && holds_at_state(labels, y, state)
+            let mut marks = marks_of(alloc, labels, x, states)?;
+            let others = marks_of(alloc, labels, y, states)?;
+            intersect(&mut marks, &others);
+            Ok(marks)
         }
         StateFormula::Either(x, y) => {
-            holds_at_state(labels, x, state) || holds_at_state(labels, y, state)
+            let mut marks = marks_of(alloc, labels, x, states)?;
+            let others = marks_of(alloc, labels, y, states)?;
+            unite(&mut marks, &others);
+            Ok(marks)
         }
         StateFormula::Implied(x, y) => {
-            !holds_at_state(labels, x, state) || holds_at_state(labels, y, state)
+            let mut marks = marks_of(alloc, labels, x, states)?;
+            negate(&mut marks);
+            let others = marks_of(alloc, labels, y, states)?;
+            unite(&mut marks, &others);
+            Ok(marks)
         }
-        StateFormula::Inner(_) => false,
     }
 }
 

@@ -21,11 +21,14 @@ mod fault;
 mod flat;
 mod labels;
 pub mod laws;
+mod marks;
 mod next;
 mod question;
 mod sides;
 
 pub use fault::PoseFault;
 pub use flat::is_flat;
+pub use labels::marks_of_label;
+pub use marks::{intersect, negate, unite};
 pub use next::{PosedNext, pose_next};
 pub use question::{Posed, initial_of, pose, sides_of};

@@ -1,16 +1,16 @@
 //! The question that a formula with `X` poses.
 
-ghost use Rattle.std.specs.Prelude.{◌≡◌, ◌<◌, ◌≤◌, All, IfOk, length};
+ghost use Rattle.std.specs.Prelude.{◌≡◌, ◌<◌, ◌≤◌, All, IfOk, if◌then◌else◌, length};
 ghost use Rattle.game_model.specs.Limits.{unit};
 ghost use Rattle.game_model.specs.Query.{states};
 ghost use Rattle.rpatl_syntax.specs.declared.formula.PathKind.TheVariants.{Next};
 ghost use Rattle.rpatl_syntax.specs.Formula.{IsFlat, tree_of};
 ghost use Rattle.game_outside.specs.Answers.{AnswersOrWants};
-ghost use Rattle.formula_sets.specs.Posing.{at_states, opening_at, unmarked, next_question_of, pose_next_said, IsOutOfMemory};
+ghost use Rattle.formula_sets.specs.Posing.{at_states, opening_at, next_question_of, pose_next_said, IsOutOfMemory};
 ghost use Rattle.formula_sets.specs.Seen.{next_posing_of};
 
 use crate::fault::PoseFault;
-use crate::labels::holds_at_state;
+use crate::labels::{constant, marks_of};
 use crate::question::{initial_of, sides_of};
 use game_model::{Game, Question, UNIT};
 use label_reader::{Labels, Owners};
@@ -26,17 +26,14 @@ pub struct PosedNext<'g> {
     pub initial: Vec<u32>,
 }
 
-fn opening_at_state(labels: &Labels, formula: &Formula, state: u32) -> u64
-    requires { state < labels.now.states }
-    ensures { result ≡ opening_at labels.now (tree_of formula.now) state }
+// Probability 1 at a mark, else 0, in units.
+fn units_at(mark: bool) -> u64
+    ensures { result ≡ (if mark then unit else 0) }
 {
-    if holds_at_state(labels, &formula.right, state) {
-        UNIT
-    } else {
-        0
-    }
+    if mark { UNIT } else { 0 }
 }
 
+// The table of probability 1 where the right side holds, else 0.
 fn opening_of(
     alloc: Global,
     labels: &Labels,
@@ -46,18 +43,12 @@ fn opening_of(
     requires { labels.now.states ≡ states }
     ensures { IfOk result (λ v. v.items ≡ at_states (opening_at labels.now (tree_of formula.now)) states) }
 {
-    let mut opening = Vec::with_capacity(alloc, states as usize)?;
-    for state in 0..states {
-        opening.push(opening_at_state(labels, formula, state))?;
+    let marks = marks_of(alloc, labels, &formula.right, states)?;
+    let mut opening = Vec::with_capacity(alloc, marks.len())?;
+    for mark in &marks {
+        opening.push(units_at(*mark))?;
     }
     Ok(opening)
-}
-
-#[tactic(auto, using(crate::proofs::AskingNext::none_marked))]
-fn no_marks(alloc: Global, states: u32) -> Result<Vec<bool>, AllocError>
-    ensures { IfOk result (λ v. v.items ≡ unmarked states) }
-{
-    vec![in alloc; false; states as usize]
 }
 
 fn question_in<'g>(
@@ -71,8 +62,8 @@ fn question_in<'g>(
 {
     let states = game.states();
     let sides = sides_of(alloc, owners, formula, states)?;
-    let goals = no_marks(alloc, states)?;
-    let deads = no_marks(alloc, states)?;
+    let goals = constant(alloc, false, states)?;
+    let deads = constant(alloc, false, states)?;
     Ok(Question::build(game, sides, goals, deads))
 }
 

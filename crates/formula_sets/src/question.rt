@@ -1,6 +1,6 @@
 //! The question that a formula poses.
 
-ghost use Rattle.std.specs.Prelude.{◌≡◌, ◌<◌, ◌&&◌, not, All, IfOk, length};
+ghost use Rattle.std.specs.Prelude.{◌≡◌, ◌<◌, All, IfOk, length};
 ghost use Rattle.game_model.specs.Query.{states};
 ghost use Rattle.rpatl_syntax.specs.Formula.{IsFlat, state_of, tree_of};
 ghost use Rattle.formula_sets.specs.Truth.{holds};
@@ -10,11 +10,12 @@ ghost use Rattle.formula_sets.specs.Posing.{IsUntil, at_states, neither_holds, q
 ghost use Rattle.formula_sets.specs.Seen.{posing_of};
 
 use crate::fault::PoseFault;
-use crate::labels::{holds_at_state, unknown_label_of};
+use crate::labels::{marks_of, unknown_label_of};
+use crate::marks::{negate, unite};
 use crate::sides::{side_at_state, unknown_player_of};
 use game_model::{Game, Question, Side};
 use label_reader::{Labels, Owners};
-use rpatl_syntax::{Formula, StateFormula};
+use rpatl_syntax::Formula;
 use std::alloc::{AllocError, Global};
 
 /// A question, and the initial states of its game, rising.
@@ -42,32 +43,7 @@ pub fn sides_of(
     Ok(sides)
 }
 
-// Where the right side holds.
-fn goals_of(
-    alloc: Global,
-    labels: &Labels,
-    right: &StateFormula,
-    states: u32,
-) -> Result<Vec<bool>, AllocError>
-    requires { labels.now.states ≡ states }
-    ensures { IfOk result (λ v. v.items ≡ at_states (holds labels.now (state_of right.now)) states) }
-{
-    let mut goals = Vec::with_capacity(alloc, states as usize)?;
-    for state in 0..states {
-        goals.push(holds_at_state(labels, right, state))?;
-    }
-    Ok(goals)
-}
-
-// Neither the right side, of which this is told, nor the left side holds at a state.
-fn neither(right: bool, labels: &Labels, left: &StateFormula, state: u32) -> bool
-    requires { state < labels.now.states }
-    ensures { result ≡ (not right && not (holds labels.now (state_of left.now) state)) }
-{
-    !right && !holds_at_state(labels, left, state)
-}
-
-// Where neither side holds.
+// Where neither side holds: the right one holds at the goals.
 fn deads_of(
     alloc: Global,
     labels: &Labels,
@@ -79,11 +55,9 @@ fn deads_of(
     requires goals { goals.now ≡ at_states (holds labels.now (state_of formula.now.right)) states }
     ensures { IfOk result (λ v. v.items ≡ at_states (neither_holds labels.now (tree_of formula.now)) states) }
 {
-    let mut deads = Vec::with_capacity(alloc, states as usize)?;
-    for state in 0..states {
-        let goal = goals[state as usize];
-        deads.push(neither(goal, labels, &formula.left, state))?;
-    }
+    let mut deads = marks_of(alloc, labels, &formula.left, states)?;
+    unite(&mut deads, goals);
+    negate(&mut deads);
     Ok(deads)
 }
 
@@ -100,7 +74,7 @@ fn question_in<'g>(
 {
     let states = game.states();
     let sides = sides_of(alloc, owners, formula, states)?;
-    let goals = goals_of(alloc, labels, &formula.right, states)?;
+    let goals = marks_of(alloc, labels, &formula.right, states)?;
     let deads = deads_of(alloc, labels, formula, &goals, states)?;
     Ok(Question::build(game, sides, goals, deads))
 }

@@ -31,7 +31,7 @@ impl Model for Labels {
 
 impl Labels {
     ghost use Rattle.label_reader.specs.Named.{labels_named, AreNamed};
-    ghost use Rattle.label_reader.specs.Labels.{is_known, marks_of, holds_at, states_with, IsLabelling};
+    ghost use Rattle.label_reader.specs.Labels.{is_known, marks_of, states_with, IsLabelling};
 
     /// The labels with these names, and the states of each.
     pub(crate) fn new(states: u32, names: IndexMap<Vec<u8>, u64>, sets: Vec<StateSet>) -> Labels
@@ -52,8 +52,8 @@ impl Labels {
         let _ = &self.sets;
     }
 
-    // The marks of the label with this name; none where there is no such label.
-    fn marks_named(&self, name: &[u8]) -> &[bool]
+    /// The marks of the label with this name; none where there is no such label.
+    pub fn marks(&self, name: &[u8]) -> &[bool]
         ensures marks { result.now ≡ marks_of self.now.labels name.now }
         ensures short { length result.now < 2 ^ 32 }
     {
@@ -61,17 +61,6 @@ impl Labels {
             Some(place) => self.sets[place].marks(),
             None => &[],
         }
-    }
-
-    /// Whether the label with this name holds at a state; false where there is no such label.
-    pub fn holds(&self, name: &[u8], state: u32) -> bool
-        requires { state < self.now.states }
-        ensures { result ≡ holds_at self.now name.now state }
-    {
-        self.marks_named(name)
-            .get(state as usize)
-            .copied()
-            .unwrap_or(false)
     }
 
     /// Whether there is a label with this name.
@@ -85,7 +74,7 @@ impl Labels {
     pub fn states_of(&self, alloc: Global, name: &[u8]) -> Result<Vec<u32>, OutOfMemory>
         ensures { IfOk result (λ v. v.items ≡ states_with self.now name.now) }
     {
-        marked(alloc, self.marks_named(name))
+        marked(alloc, self.marks(name))
     }
 }
 

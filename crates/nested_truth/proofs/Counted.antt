@@ -11,7 +11,7 @@ use Rattle.formula_sets.specs.Posing.{at_states}
 use Rattle.formula_sets.proofs.Asking.{pushed-more}
 use Rattle.nested_truth.specs.Bands.{Band, Bands, verdict_at, judgement, undecided_at, undecided_in}
 use Rattle.verdicts.specs.Verdict.{is_undecided}
-use Rattle.nested_truth.proofs.Marks.{range_with_len-more}
+use Rattle.nested_truth.proofs.Numbers.{range_with_len-more}
 
 -- 1. One state more.
 

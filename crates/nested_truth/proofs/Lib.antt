@@ -1,4 +1,4 @@
-pub mod Marks
+pub mod Numbers
 pub mod Tables
 pub mod Ordered
 pub mod Posed

@@ -1,9 +1,9 @@
 //! What is known of a state formula.
 
-ghost use Rattle.std.specs.Prelude.{◌≡◌, ◌<◌, ◌&&◌, ◌||◌, ◌↔◌, ℕ, not, length, slice_index_or, true, false, IfOk};
+ghost use Rattle.std.specs.Prelude.{◌≡◌, ◌↔◌, length, true, IfOk};
 ghost use Rattle.label_reader.specs.Labels.{holds_at};
-ghost use Rattle.formula_sets.specs.Posing.{at_states};
 
+use formula_sets::{intersect, marks_of_label, negate, unite};
 use game_outside::Name;
 use label_reader::Labels;
 use std::alloc::{AllocError, Global};
@@ -43,8 +43,8 @@ impl KnownSets {
         ensures states { IfOk result (λ sets. length sets.sure.items ≡ states) }
         ensures known { IfOk result (λ sets. AreAlike states (exactly (holds_at labels.now name.now)) (seen sets)) }
     {
-        let sure = marks_of(alloc, labels, name, states)?;
-        let possible = marks_of(alloc, labels, name, states)?;
+        let sure = marks_of_label(alloc, labels, name, states)?;
+        let possible = marks_of_label(alloc, labels, name, states)?;
         Ok(KnownSets { sure, possible })
     }
 
@@ -101,53 +101,4 @@ pub fn are_equal(one: &[bool], other: &[bool]) -> bool
     ensures { (result ≡ true) ↔ (one.now ≡ other.now) }
 {
     one == other
-}
-
-// Where the label with this name holds.
-fn marks_of(
-    alloc: Global,
-    labels: &Labels,
-    name: &Name,
-    states: u32,
-) -> Result<Vec<bool>, AllocError>
-    requires { labels.now.states ≡ states }
-    ensures { IfOk result (λ v. v.items ≡ at_states (holds_at labels.now name.now) states) }
-{
-    let mut marks = Vec::with_capacity(alloc, states as usize)?;
-    for state in 0..states {
-        marks.push(labels.holds(name.as_bytes(), state))?;
-    }
-    Ok(marks)
-}
-
-// Exchanges the marked places with the others.
-fn negate(marks: &mut [bool])
-    ensures { (s : ℕ) → s < length marks.old
-        → slice_index_or marks.new s false ≡ not (slice_index_or marks.old s false) }
-{
-    for mark in marks.iter_mut() {
-        *mark = !*mark;
-    }
-}
-
-// Keeps the marks that others have, too.
-fn intersect(marks: &mut [bool], others: &[bool])
-    requires { length others.now ≡ length marks.old }
-    ensures { (s : ℕ) → s < length marks.old
-        → slice_index_or marks.new s false ≡ (slice_index_or marks.old s false && slice_index_or others.now s false) }
-{
-    for place in 0..marks.len() {
-        marks[place] = marks[place] && others[place];
-    }
-}
-
-// Adds the marks of others.
-fn unite(marks: &mut [bool], others: &[bool])
-    requires { length others.now ≡ length marks.old }
-    ensures { (s : ℕ) → s < length marks.old
-        → slice_index_or marks.new s false ≡ (slice_index_or marks.old s false || slice_index_or others.now s false) }
-{
-    for place in 0..marks.len() {
-        marks[place] = marks[place] || others[place];
-    }
 }

@@ -40,19 +40,13 @@ fn are_labelled(alloc: Global, labels: &Labels, name: &[u8], states: &[u32]) -> 
 }
 
 // States 0 and 2 have both labels, and state 1 has none.
-fn are_as_said(alloc: Global, labels: &Labels) -> Result<(), Fail>
-    requires { labels.now.states ≡ 3 }
-{
+fn are_as_said(alloc: Global, labels: &Labels) -> Result<(), Fail> {
     same(
-        "names, and states 2 and 1",
-        (
-            labels.knows(b"goal"),
-            labels.knows(b"gaol"),
-            labels.holds(b"init", 2),
-            labels.holds(b"init", 1),
-        ),
-        (true, false, true, false),
+        "names",
+        (labels.knows(b"goal"), labels.knows(b"gaol")),
+        (true, false),
     )?;
+    same("marks", labels.marks(b"init"), &[true, false, true])?;
     are_labelled(alloc, labels, b"goal", &[0, 2])?;
     are_labelled(alloc, labels, b"gaol", &[])
 }

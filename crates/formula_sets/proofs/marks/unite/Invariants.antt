@@ -1,6 +1,6 @@
 use Rattle.std.proofs.Common.{◌||◌, false, get_or}
-use Rattle.nested_truth.proofs.Marks.{AreWritten}
-use Rattle.nested_truth.proofs.known.unite.Given as goal
+use Rattle.formula_sets.proofs.Marked.{AreWritten}
+use Rattle.formula_sets.proofs.marks.unite.Given as goal
 
 abbrev pub invariant-loop-place : goal.invariant-loop-place
 invariant-loop-place l = AreWritten (λ k. get_or l.initial.marks k false || get_or l.others k false) l.place l.initial.marks l.marks

@@ -2,7 +2,7 @@ use Rattle.std.proofs.Common.{◌≡◌, ◌<◌, ◌∙◌, ap, sym, length, ge
 use Rattle.std.proofs.lemmas.List.{get_or_default, get_or_past}
 use Rattle.label_reader.specs.Labels.{marks_of}
 use Rattle.label_reader.proofs.NamedMarks.{marks_of-labels_named, place_named, placed, not_placed, past_sets}
-use Rattle.label_reader.proofs.labels.Labels.marks_named.Goals as goal
+use Rattle.label_reader.proofs.labels.Labels.marks.Goals as goal
 
 pub returns-in-Some-clause-marks : goal.returns-in-Some-clause-marks
 returns-in-Some-clause-marks c =
