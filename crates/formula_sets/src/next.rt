@@ -1,6 +1,6 @@
 //! The question that a formula with `X` poses.
 
-ghost use Rattle.std.specs.Prelude.{◌≡◌, ◌<◌, ◌≤◌, All, IfOk, if◌then◌else◌, length};
+ghost use Rattle.std.specs.Prelude.{◌≡◌, ◌<◌, ◌≤◌, All, IfOk, false, if◌then◌else◌, length, slice_index_or};
 ghost use Rattle.game_model.specs.Limits.{unit};
 ghost use Rattle.game_model.specs.Query.{states};
 ghost use Rattle.rpatl_syntax.specs.declared.formula.PathKind.TheVariants.{Next};
@@ -33,6 +33,18 @@ fn units_at(mark: bool) -> u64
     if mark { UNIT } else { 0 }
 }
 
+// Probability 1 at each mark, else 0, in units.
+fn units_of(alloc: Global, marks: &[bool]) -> Result<Vec<u64>, AllocError>
+    ensures { IfOk result (λ table. table.items ≡ at_states (λ s. if slice_index_or marks.now s false then unit else 0)
+        (length marks.now)) }
+{
+    let mut table = Vec::with_capacity(alloc, marks.len())?;
+    for place in 0..marks.len() {
+        table.push(units_at(marks[place]))?;
+    }
+    Ok(table)
+}
+
 // The table of probability 1 where the right side holds, else 0.
 fn opening_of(
     alloc: Global,
@@ -44,11 +56,7 @@ fn opening_of(
     ensures { IfOk result (λ v. v.items ≡ at_states (opening_at labels.now (tree_of formula.now)) states) }
 {
     let marks = marks_of(alloc, labels, &formula.right, states)?;
-    let mut opening = Vec::with_capacity(alloc, marks.len())?;
-    for mark in &marks {
-        opening.push(units_at(*mark))?;
-    }
-    Ok(opening)
+    units_of(alloc, &marks)
 }
 
 fn question_in<'g>(
