@@ -23,8 +23,8 @@ is_mirrored (Within steps) = false
 is_mirrored Next = false
 is_mirrored Always = true
 
--- The line of a state, by its entries in a lower and an upper table: its bounds, where they come from, and what they say
--- of the bound. Mirrored, the bounds are 1 less those of the tables, exchanged.
+-- The line of a state, by its entries in a lower and an upper table: its bounds, where they come from, and what they
+-- say of the bound. Mirrored, the bounds are 1 less those of the tables, exchanged.
 abbrev pub line_of : Bool → Bound → How → List ℕ → List ℕ → ℕ → ReportLine
 line_of mirrored bound how lower upper s =
     let low = (if mirrored then unit - slice_index upper s else slice_index lower s) in
