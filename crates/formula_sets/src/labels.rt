@@ -15,17 +15,17 @@ pub fn holds_at_state(labels: &Labels, formula: &StateFormula, state: u32) -> bo
     ensures { result ≡ holds labels.now (state_of formula.now) state }
 {
     match formula {
-        StateFormula::All => true,
-        StateFormula::Nothing => false,
-        StateFormula::Named(name) => labels.holds(name.as_bytes(), state),
-        StateFormula::Negated(x) => !holds_at_state(labels, x, state),
-        StateFormula::Both(x, y) => {
+        StateFormula::True => true,
+        StateFormula::False => false,
+        StateFormula::Label(name) => labels.holds(name.as_bytes(), state),
+        StateFormula::Not(x) => !holds_at_state(labels, x, state),
+        StateFormula::And(x, y) => {
             holds_at_state(labels, x, state) && holds_at_state(labels, y, state)
         }
-        StateFormula::Either(x, y) => {
+        StateFormula::Or(x, y) => {
             holds_at_state(labels, x, state) || holds_at_state(labels, y, state)
         }
-        StateFormula::Implied(x, y) => {
+        StateFormula::Implies(x, y) => {
             !holds_at_state(labels, x, state) || holds_at_state(labels, y, state)
         }
         StateFormula::Inner(_) => false,
@@ -38,18 +38,18 @@ fn first_unknown<'a>(labels: &Labels, formula: &'a StateFormula) -> Option<&'a N
     ensures { option_copied result ≡ unknown_label labels.now (labels_in (state_of formula.now)) }
 {
     match formula {
-        StateFormula::All | StateFormula::Nothing => None,
-        StateFormula::Named(name) => {
+        StateFormula::True | StateFormula::False => None,
+        StateFormula::Label(name) => {
             if labels.knows(name.as_bytes()) {
                 None
             } else {
                 Some(name)
             }
         }
-        StateFormula::Negated(x) => first_unknown(labels, x),
-        StateFormula::Both(x, y) => first_unknown(labels, x).or(first_unknown(labels, y)),
-        StateFormula::Either(x, y) => first_unknown(labels, x).or(first_unknown(labels, y)),
-        StateFormula::Implied(x, y) => first_unknown(labels, x).or(first_unknown(labels, y)),
+        StateFormula::Not(x) => first_unknown(labels, x),
+        StateFormula::And(x, y) => first_unknown(labels, x).or(first_unknown(labels, y)),
+        StateFormula::Or(x, y) => first_unknown(labels, x).or(first_unknown(labels, y)),
+        StateFormula::Implies(x, y) => first_unknown(labels, x).or(first_unknown(labels, y)),
         StateFormula::Inner(inner) => {
             first_unknown(labels, &inner.left).or(first_unknown(labels, &inner.right))
         }
