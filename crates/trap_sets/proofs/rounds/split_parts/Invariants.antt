@@ -2,7 +2,7 @@ use Rattle.std.proofs.Common.{◌≡◌, ◌+◌, false}
 use Rattle.std.specs.Bool.{if◌then◌else◌}
 use Rattle.trap_sets.specs.inside.Parts.{IsRooted, KeepsEnds, AreJoined}
 use Rattle.trap_sets.specs.inside.Pairs.{pairs}
-use Rattle.trap_sets.proofs.rounds.settle.Given as goal
+use Rattle.trap_sets.proofs.rounds.split_parts.Given as goal
 
 abbrev pub invariant-loop-changes : goal.invariant-loop-changes
 invariant-loop-changes l = record {

@@ -1,5 +1,5 @@
 use Rattle.trap_sets.proofs.Ending.{AreSettled-trimmed}
-use Rattle.trap_sets.proofs.rounds.settle.Goals as goal
+use Rattle.trap_sets.proofs.rounds.split_parts.Goals as goal
 
 pub returns : goal.returns
 returns c =
