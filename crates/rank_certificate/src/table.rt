@@ -132,11 +132,11 @@ fn all_layers(alloc: Global, asked: &Asked<'_>) -> Result<Growth, OutOfMemory>
 {
     let mut growth = Growth::of_unneeded(alloc, asked)?;
     let mut begin = growth.order.len();
-    growth.start(asked)?;
+    growth.look_at_all(asked, 0)?;
     let mut level: u32 = 1;
     while begin < growth.order.len() {
         let end = growth.order.len();
-        growth.spread(asked, level, begin, end)?;
+        growth.advance(asked, level, begin, end)?;
         begin = end;
         level += 1;
     }
