@@ -3,7 +3,7 @@ use Rattle.std.specs.Prelude.{slice_index}
 use Rattle.game_model.specs.Query.{states}
 use Rattle.rank_certificate.specs.inside.Marks.{AreQuiet}
 use Rattle.rank_certificate.specs.inside.OfGuesses.{IsTableOf, IsRefusedOf}
-use Rattle.rank_certificate.proofs.guesses.Guesses.first_ranked.Given as goal
+use Rattle.rank_certificate.proofs.guesses.Guesses.first_made.Given as goal
 
 abbrev pub invariant-loop-steps : goal.invariant-loop-steps
 invariant-loop-steps l = record {

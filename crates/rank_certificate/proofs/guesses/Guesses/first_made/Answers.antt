@@ -10,7 +10,7 @@ use Rattle.rank_certificate.specs.inside.Marks.{AreQuiet, AreMarkedFor}
 use Rattle.rank_certificate.specs.inside.OfGuesses.{entry_of, IsRefusedOf}
 use Rattle.rank_certificate.proofs.Refused.{IsTable-next, same-stands, changed-refused}
 use Rattle.rank_certificate.proofs.Marks.{quiet-next}
-use Rattle.rank_certificate.proofs.guesses.Guesses.first_ranked.Goals as goal
+use Rattle.rank_certificate.proofs.guesses.Guesses.first_made.Goals as goal
 
 pub rank-requires-clause-stand : goal.rank-requires-clause-stand
 rank-requires-clause-stand c =
