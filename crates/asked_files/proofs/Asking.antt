@@ -13,7 +13,7 @@ use Rattle.label_reader.proofs.LabelLaws.{labels_of-found, labels_of-again}
 use Rattle.label_reader.proofs.OwnerLaws.{owners_of-found, owners_of-again}
 use Rattle.rpatl_syntax.specs.Formula.{Tree, is_flat, IsFlat}
 use Rattle.rpatl_syntax.specs.Grammar.{formula_said}
-use Rattle.rpatl_syntax.specs.Rules.{Denotes as DenotesFormula}
+use Rattle.rpatl_syntax.specs.Rules.{DenotesFormula}
 use Rattle.rpatl_syntax.proofs.Denoted.{formula_denoted}
 use Rattle.rpatl_syntax.proofs.Again.{formula_said_again}
 use Rattle.rpatl_syntax.specs.declared.formula.PathKind.{PathKind}

@@ -5,7 +5,7 @@ use Rattle.game_model.specs.Game.{Distribution}
 use Rattle.label_reader.specs.Labels.{Labelling}
 use Rattle.label_reader.specs.Owners.{Ownership}
 use Rattle.rpatl_syntax.specs.Formula.{Tree, tree_of}
-use Rattle.rpatl_syntax.specs.Rules.{Denotes}
+use Rattle.rpatl_syntax.specs.Rules.{DenotesFormula}
 use Rattle.command_words.specs.Words.{Asked}
 use Rattle.run_refusals.specs.declared.refusal.Refusal.{Refusal}
 use Rattle.asked_files.specs.declared.load.End.{End}
@@ -107,7 +107,7 @@ formula_refused text loads is = subst (λ (e : End). Loads tree_of (Err e) (form
 
 -- 3. What is read of the texts is asked.
 
-pub reads : (holding : Option Holding) (asked : Asked) (reading : Reading) → ReadsAs holding asked (Denoted reading) → Denotes asked.formula reading.formula → Reads holding asked reading
+pub reads : (holding : Option Holding) (asked : Asked) (reading : Reading) → ReadsAs holding asked (Denoted reading) → DenotesFormula asked.formula reading.formula → Reads holding asked reading
 reads holding asked reading said spelled = record {
   said = said;
   spelled = spelled;

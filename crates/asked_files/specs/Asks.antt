@@ -7,7 +7,7 @@ use Rattle.label_reader.specs.Denotes.{DenotesLabels, DenotesOwners}
 use Rattle.label_reader.specs.Labels.{Labelling}
 use Rattle.label_reader.specs.Owners.{Ownership}
 use Rattle.rpatl_syntax.specs.Formula.{Tree}
-use Rattle.rpatl_syntax.specs.Rules.{Denotes as DenotesFormula}
+use Rattle.rpatl_syntax.specs.Rules.{DenotesFormula}
 use Rattle.command_words.specs.Words.{Asked}
 use Rattle.asked_files.specs.declared.problem.Paths.{Paths}
 use Rattle.asked_files.specs.Problems.{Problem, PosesProblem, takes_formula}

@@ -3,7 +3,7 @@ use Rattle.std.specs.Prelude.{◌≡◌, ◌<◌, ℕ, List, length, Option, Som
 use Rattle.text_lines.specs.Limits.{most_bytes}
 use Rattle.game_outside.specs.Outside.{Holding}
 use Rattle.game_model.specs.Query.{Query}
-use Rattle.rpatl_syntax.specs.Rules.{Denotes}
+use Rattle.rpatl_syntax.specs.Rules.{DenotesFormula}
 use Rattle.certificate_audit.specs.Refused.{IsRefused}
 use Rattle.values_reader.specs.Faults.{fault_of}
 use Rattle.command_words.specs.Words.{Asked}
@@ -48,7 +48,7 @@ pub record ReadsAs (holding : Option Holding) (asked : Asked) (said : Said Readi
 -- that is asked, and where it poses none, so is the refusal.
 pub record Reads (holding : Option Holding) (asked : Asked) (reading : Reading) : Type 0 where
   pub said : ReadsAs holding asked (Denoted reading)
-  pub spelled : Denotes asked.formula reading.formula
+  pub spelled : DenotesFormula asked.formula reading.formula
   pub asks : (paths : Paths) (problem : Problem) → posed paths reading ≡ Denoted problem
       → PosesIt holding asked paths problem
   pub refuses : (paths : Paths) (refusal : Refusal) → posed paths reading ≡ Refuses refusal

@@ -4,7 +4,7 @@ ghost use Rattle.std.specs.Prelude.{◌≡◌, ◌≢◌, ◌<◌, ◌↔◌, �
 ghost use Rattle.game_model.specs.Query.{states};
 ghost use Rattle.rpatl_syntax.specs.Dual.{IsAtMostOne, dual_of};
 ghost use Rattle.rpatl_syntax.specs.Formula.{IsFlat, is_flat, tree_of};
-ghost use Rattle.rpatl_syntax.specs.Rules.{Denotes};
+ghost use Rattle.rpatl_syntax.specs.Rules.{DenotesFormula};
 ghost use Rattle.formula_sets.specs.Posing.{IsUntil, pose_said, pose_next_said};
 ghost use Rattle.formula_sets.specs.Seen.{posing_of, next_posing_of};
 ghost use Rattle.command_words.specs.Words.{asked_of_words};
@@ -40,7 +40,7 @@ pub struct Loaded {
 // The formula of a command.
 fn load_formula(alloc: Global, text: &str) -> Result<Formula, End>
     ensures says { Loads tree_of result (formula_read text.now) }
-    ensures spelled { IfOk result (λ formula. Denotes text.now (tree_of formula)) }
+    ensures spelled { IfOk result (λ formula. DenotesFormula text.now (tree_of formula)) }
     ensures share { IfOk result (λ formula. IsAtMostOne formula.bound) }
     ensures read { IsErrOf result End.ReadFault → ⊥ }
     ensures caused { RefusesCaused result }

@@ -2,7 +2,7 @@
 
 ghost use Rattle.std.specs.Prelude.{◌≡◌, ◌≤◌, length, All, IfOk};
 ghost use Rattle.game_model.specs.Limits.{most_states, unit};
-ghost use Rattle.drawn_game.specs.Limits.{fewest_states, most_seed};
+ghost use Rattle.drawn_game.specs.Limits.{least_states, most_seed};
 ghost use Rattle.game_model.specs.Dual.{IsZeroSet};
 ghost use Rattle.game_model.specs.Query.{states};
 
@@ -122,7 +122,7 @@ fn teams_agree_over_drawn<R: Threads + Sync>(
     states: u32,
 ) -> Result<(), Fail>
     requires seed { (1 ≤ seed) × (seed ≤ most_seed) }
-    requires states { (fewest_states ≤ states) × (states ≤ most_states) }
+    requires states { (least_states ≤ states) × (states ≤ most_states) }
 {
     let drawn = draw_game(alloc, seed, states)?;
     let question = drawn.question(alloc)?;

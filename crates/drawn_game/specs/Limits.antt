@@ -14,5 +14,5 @@ abbrev pub most_seed : ℕ
 most_seed = 2147483646
 
 -- a state of its own, the goal and the sink
-abbrev pub fewest_states : ℕ
-fewest_states = 3
+abbrev pub least_states : ℕ
+least_states = 3

@@ -2,7 +2,7 @@
 
 ghost use Rattle.std.specs.Prelude.{◌≡◌, ◌+◌, ◌^◌, ◌<◌, ◌≤◌, IfOk, OnOk};
 ghost use Rattle.game_model.specs.Game.{total_of};
-ghost use Rattle.drawn_game.specs.Limits.{fewest_states};
+ghost use Rattle.drawn_game.specs.Limits.{least_states};
 ghost use Rattle.drawn_game.specs.inside.Adding.{with_part};
 ghost use Rattle.drawn_game.specs.Rules.{drawn_choice};
 
@@ -13,7 +13,7 @@ use std::alloc::{AllocError, Global};
 
 /// Draws a choice.
 pub fn draw_choice(alloc: Global, draws: &mut Draws, states: u32) -> Result<Choice, OutOfMemory>
-    requires { fewest_states ≤ states }
+    requires { least_states ≤ states }
     ensures value { IfOk result (λ choice. choice ≡ (drawn_choice states draws.old).value) }
     ensures last { OnOk result (draws.new ≡ (drawn_choice states draws.old).last) }
 {

@@ -3,7 +3,7 @@
 ghost use Rattle.std.specs.Prelude.{◌≡◌, ◌≤◌, ◌==◌, map, length, IfOk};
 ghost use Rattle.std.specs.List.{range_with_len};
 ghost use Rattle.game_model.specs.Limits.{most_states};
-ghost use Rattle.drawn_game.specs.Limits.{fewest_states, most_seed};
+ghost use Rattle.drawn_game.specs.Limits.{least_states, most_seed};
 ghost use Rattle.drawn_game.specs.Rules.{drawn_game};
 
 use crate::draws::Draws;
@@ -84,7 +84,7 @@ fn marks_of(alloc: Global, marked: u32, states: u32) -> Result<Vec<bool>, AllocE
 /// The game that a seed draws. The only error is want of memory.
 pub fn draw_game(alloc: Global, seed: u32, states: u32) -> Result<Drawn, OutOfMemory>
     requires seed { (1 ≤ seed) × (seed ≤ most_seed) }
-    requires states { (fewest_states ≤ states) × (states ≤ most_states) }
+    requires states { (least_states ≤ states) × (states ≤ most_states) }
     ensures exact { IfOk result (λ drawn. drawn ≡ drawn_game seed states) }
     ensures many { IfOk result (λ drawn. length drawn.game ≡ states) }
 {

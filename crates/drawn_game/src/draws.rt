@@ -3,7 +3,7 @@
 ghost use Rattle.std.specs.Prelude.{◌≡◌, ◌+◌, ◌%◌, ◌<◌, ◌≤◌};
 ghost use Rattle.drawn_game.specs.Drawings.{next_draw};
 ghost use Rattle.drawn_game.specs.Rules.{first_part, other_part};
-ghost use Rattle.drawn_game.specs.Limits.{fewest_states};
+ghost use Rattle.drawn_game.specs.Limits.{least_states};
 
 use crate::limits::{MODULUS, MULTIPLIER};
 use game_model::Edge;
@@ -43,7 +43,7 @@ impl Draws {
 
     /// The first part of a choice, to the goal or the sink.
     pub fn first_part(&mut self, states: u32) -> Edge
-        requires { fewest_states ≤ states }
+        requires { least_states ≤ states }
         ensures value { result ≡ (first_part states self.old).value }
         ensures last { self.new ≡ (first_part states self.old).last }
         ensures inside { result.to < states }
@@ -60,7 +60,7 @@ impl Draws {
 
     /// Another part of a choice, to any state.
     pub fn other_part(&mut self, states: u32) -> Edge
-        requires { fewest_states ≤ states }
+        requires { least_states ≤ states }
         ensures value { result ≡ (other_part states self.old).value }
         ensures last { self.new ≡ (other_part states self.old).last }
         ensures inside { result.to < states }

@@ -2,20 +2,20 @@
 
 ghost use Rattle.std.specs.Prelude.{◌≡◌, ℕ, ◌<◌, ◌≤◌, length};
 ghost use Rattle.game_model.specs.Game.{choices_of, choice_of};
-ghost use Rattle.drawn_game.specs.Limits.{multiplier, modulus, most_seed, fewest_states};
+ghost use Rattle.drawn_game.specs.Limits.{multiplier, modulus, most_seed, least_states};
 ghost use Rattle.drawn_game.specs.Drawings.{next_draw};
 ghost use Rattle.drawn_game.specs.Rules.{drawn_game};
 ghost use Rattle.drawn_game.specs.Ends.{LeadsToEnd};
 ghost use Rattle.drawn_game.specs.Worked.{worked_row};
 
-use crate::limits::{FEWEST_STATES, MODULUS, MOST_SEED, MULTIPLIER};
+use crate::limits::{LEAST_STATES, MODULUS, MOST_SEED, MULTIPLIER};
 
 /// The constants are the numbers of the definitions.
 pub fn limits()
     ensures multiplier { MULTIPLIER ≡ multiplier }
     ensures modulus { MODULUS ≡ modulus }
     ensures seed { MOST_SEED ≡ most_seed }
-    ensures states { FEWEST_STATES ≡ fewest_states }
+    ensures states { LEAST_STATES ≡ least_states }
 {}
 
 /// Behind a number that may be a seed comes another such number, and behind two of them come two.
@@ -31,6 +31,6 @@ pub fn worked_row_is_drawn()
 
 /// Every choice of a drawn game leads to the goal or the sink.
 pub fn choices_lead_to_an_end()
-    ensures { (seed n s c : ℕ) → fewest_states ≤ n → s < n → c < length (choices_of (drawn_game seed n).game s) →
+    ensures { (seed n s c : ℕ) → least_states ≤ n → s < n → c < length (choices_of (drawn_game seed n).game s) →
         LeadsToEnd n (choice_of (drawn_game seed n).game s c) }
 {}

@@ -6,7 +6,7 @@
 //! let question = drawn.question(alloc)?;
 //! ```
 //!
-//! [`draw_game`] gives the game of a seed from 1 to [`MOST_SEED`] and a number of states from [`FEWEST_STATES`] on, and
+//! [`draw_game`] gives the game of a seed from 1 to [`MOST_SEED`] and a number of states from [`LEAST_STATES`] on, and
 //! [`Drawn::question`] asks with which probability the maximiser reaches the goal. State 0 is the initial state, the
 //! last state is the sink, and the one before it the goal; both are the maximiser's, and stay where they are.
 //!
@@ -31,4 +31,4 @@ mod states;
 
 pub use drawn::{Drawn, draw_game};
 pub use draws::Draws;
-pub use limits::{FEWEST_STATES, MOST_SEED};
+pub use limits::{LEAST_STATES, MOST_SEED};

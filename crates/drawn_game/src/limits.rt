@@ -10,4 +10,4 @@ pub(crate) const MODULUS: u64 = 2_147_483_647;
 pub const MOST_SEED: u32 = 2_147_483_646;
 
 /// The fewest states of a drawn game. The most are those of any game.
-pub const FEWEST_STATES: u32 = 3;
+pub const LEAST_STATES: u32 = 3;

@@ -2,7 +2,7 @@
 
 ghost use Rattle.std.specs.Prelude.{◌≡◌, ◌≤◌, [], ◌∷◌, ◌++◌, IfOk, OnOk};
 ghost use Rattle.game_model.specs.Draft.{between};
-ghost use Rattle.drawn_game.specs.Limits.{fewest_states};
+ghost use Rattle.drawn_game.specs.Limits.{least_states};
 ghost use Rattle.drawn_game.specs.Rules.{drawn_state, side_of, stay};
 
 use crate::choices::draw_choice;
@@ -18,7 +18,7 @@ pub fn draw_state(
     states: u32,
     builder: &mut GameBuilder,
 ) -> Result<Side, OutOfMemory>
-    requires states { fewest_states ≤ states }
+    requires states { least_states ≤ states }
     requires between { builder.old.under_way ≡ [] }
     ensures side { IfOk result (λ side. side ≡ (drawn_state states draws.old).value.side) }
     ensures last { OnOk result (draws.new ≡ (drawn_state states draws.old).last) }

@@ -25,6 +25,20 @@ pub fn gives(row: &Row<'_>, choice: u32, table: &[u64], value: u64) -> bool
     !table_quotient(row, choice, table).down_below(value)
 }
 
+/// Whether the weighted average of a choice of a row over a table is at most this value.
+#[inline(always)]
+pub fn holds(row: &Row<'_>, choice: u32, table: &[u64], value: u64) -> bool
+    requires choice { choice < length row.now }
+    requires inside { All (λ e. e.to < length table.now) (choice_among row.now choice).edges }
+    requires units { All (λ v. v ≤ unit) table.now }
+    requires value { value ≤ unit }
+    ensures { IsTrue result ↔ (weighted_sum (slice_index table.now) (choice_among row.now choice).edges
+        ≤ value * (choice_among row.now choice).total) }
+{
+    row.known();
+    !table_quotient(row, choice, table).up_above(value)
+}
+
 /// Whether the down step of a table at a state is at least its entry.
 pub fn is_given(question: &Question, state: u32, table: &[u64]) -> bool
     requires state { state < states question.now }

@@ -5,7 +5,7 @@
 //! one choice. Iteration wants less: [`raised_state`] is the down step where it is above the entry of its
 //! table. It compares before it divides, so a state that does not rise costs a sum and a comparison for a
 //! choice, and no division. [`settled`] says that no state rises, [`is_given`] that a state does not fall, and
-//! [`gives`] that a choice gives a value; none of them divides. [`step_above`] is the kernel of down steps, over values
+//! [`gives`] and [`holds`] that a choice gives a value, at least or at most; none of them divides. [`step_above`] is the kernel of down steps, over values
 //! that may rise while they are read ([`Values`]): a table, or words that are shared. [`step_bounds`] is the step of
 //! lower and upper bounds that lie side by side ([`Bounds`]). No call takes memory.
 #![tactic(auto)]
@@ -26,7 +26,7 @@ pub use above::step_above;
 pub use bounds::{Bounds, step_bounds};
 pub use choice::{down_choice, up_choice};
 pub use down::{down_state, raised_state};
-pub use given::{gives, is_given};
+pub use given::{gives, holds, is_given};
 pub use quotient::Quotient;
 pub use settling::settled;
 pub use up::up_state;

@@ -16,9 +16,9 @@ fn is_flat_state(state: &StateFormula) -> bool
     ensures { result ≡ is_flat (state_of state.now) }
 {
     match state {
-        StateFormula::All | StateFormula::Nothing | StateFormula::Named(_) => true,
-        StateFormula::Negated(x) => is_flat_state(x),
-        StateFormula::Both(x, y) | StateFormula::Either(x, y) | StateFormula::Implied(x, y) => {
+        StateFormula::True | StateFormula::False | StateFormula::Label(_) => true,
+        StateFormula::Not(x) => is_flat_state(x),
+        StateFormula::And(x, y) | StateFormula::Or(x, y) | StateFormula::Implies(x, y) => {
             is_flat_state(x) && is_flat_state(y)
         }
         StateFormula::Inner(_) => false,

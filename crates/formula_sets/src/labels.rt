@@ -49,27 +49,27 @@ pub fn marks_of(
     ensures { IfOk result (λ v. v.items ≡ at_states (holds labels.now (state_of formula.now)) states) }
 {
     match formula {
-        StateFormula::All => constant(alloc, true, states),
-        StateFormula::Nothing | StateFormula::Inner(_) => constant(alloc, false, states),
-        StateFormula::Named(name) => marks_of_label(alloc, labels, name, states),
-        StateFormula::Negated(x) => {
+        StateFormula::True => constant(alloc, true, states),
+        StateFormula::False | StateFormula::Inner(_) => constant(alloc, false, states),
+        StateFormula::Label(name) => marks_of_label(alloc, labels, name, states),
+        StateFormula::Not(x) => {
             let mut marks = marks_of(alloc, labels, x, states)?;
             negate(&mut marks);
             Ok(marks)
         }
-        StateFormula::Both(x, y) => {
+        StateFormula::And(x, y) => {
             let mut marks = marks_of(alloc, labels, x, states)?;
             let others = marks_of(alloc, labels, y, states)?;
             intersect(&mut marks, &others);
             Ok(marks)
         }
-        StateFormula::Either(x, y) => {
+        StateFormula::Or(x, y) => {
             let mut marks = marks_of(alloc, labels, x, states)?;
             let others = marks_of(alloc, labels, y, states)?;
             unite(&mut marks, &others);
             Ok(marks)
         }
-        StateFormula::Implied(x, y) => {
+        StateFormula::Implies(x, y) => {
             let mut marks = marks_of(alloc, labels, x, states)?;
             negate(&mut marks);
             let others = marks_of(alloc, labels, y, states)?;
@@ -85,18 +85,18 @@ fn first_unknown<'a>(labels: &Labels, formula: &'a StateFormula) -> Option<&'a N
     ensures { option_copied result ≡ unknown_label labels.now (labels_in (state_of formula.now)) }
 {
     match formula {
-        StateFormula::All | StateFormula::Nothing => None,
-        StateFormula::Named(name) => {
+        StateFormula::True | StateFormula::False => None,
+        StateFormula::Label(name) => {
             if labels.knows(name.as_bytes()) {
                 None
             } else {
                 Some(name)
             }
         }
-        StateFormula::Negated(x) => first_unknown(labels, x),
-        StateFormula::Both(x, y) => first_unknown(labels, x).or(first_unknown(labels, y)),
-        StateFormula::Either(x, y) => first_unknown(labels, x).or(first_unknown(labels, y)),
-        StateFormula::Implied(x, y) => first_unknown(labels, x).or(first_unknown(labels, y)),
+        StateFormula::Not(x) => first_unknown(labels, x),
+        StateFormula::And(x, y) => first_unknown(labels, x).or(first_unknown(labels, y)),
+        StateFormula::Or(x, y) => first_unknown(labels, x).or(first_unknown(labels, y)),
+        StateFormula::Implies(x, y) => first_unknown(labels, x).or(first_unknown(labels, y)),
         StateFormula::Inner(inner) => {
             first_unknown(labels, &inner.left).or(first_unknown(labels, &inner.right))
         }

@@ -68,9 +68,9 @@ fn first_stranger_in<'a>(owners: &Owners, formula: &'a StateFormula) -> Option<&
     ensures { option_copied result ≡ unknown_player owners.now (players_in (state_of formula.now)) }
 {
     match formula {
-        StateFormula::All | StateFormula::Nothing | StateFormula::Named(_) => None,
-        StateFormula::Negated(x) => first_stranger_in(owners, x),
-        StateFormula::Both(x, y) | StateFormula::Either(x, y) | StateFormula::Implied(x, y) => {
+        StateFormula::True | StateFormula::False | StateFormula::Label(_) => None,
+        StateFormula::Not(x) => first_stranger_in(owners, x),
+        StateFormula::And(x, y) | StateFormula::Or(x, y) | StateFormula::Implies(x, y) => {
             first_stranger_in(owners, x).or(first_stranger_in(owners, y))
         }
         StateFormula::Inner(inner) => first_stranger_of(owners, &inner.coalition).or(

@@ -1,7 +1,7 @@
 //! Drawn games against the rules as they are written down.
 
 ghost use Rattle.std.specs.Prelude.{◌<◌, ◌≤◌, ◌^◌, length};
-ghost use Rattle.drawn_game.specs.Limits.{fewest_states, most_seed};
+ghost use Rattle.drawn_game.specs.Limits.{least_states, most_seed};
 ghost use Rattle.game_model.specs.Game.{choices_of};
 ghost use Rattle.game_model.specs.Limits.{most_states};
 
@@ -61,7 +61,7 @@ fn choice_text(alloc: Global, game: &Game, state: u32, choice: u32) -> Result<St
 // The text of the game that is drawn.
 fn drawn_text(alloc: Global, seed: u32, states: u32) -> Result<String, Fail>
     requires seed { (1 ≤ seed) × (seed ≤ most_seed) }
-    requires states { (fewest_states ≤ states) × (states ≤ most_states) }
+    requires states { (least_states ≤ states) × (states ≤ most_states) }
 {
     let drawn = draw_game(alloc, seed, states)?;
     Ok(text_of(alloc, &drawn)?)
@@ -142,7 +142,7 @@ fn add_plain_choice(
 /// The drawn game reads as the rules say.
 fn check_drawn(alloc: Global, seed: u32, states: u32) -> Result<(), Fail>
     requires seed { (1 ≤ seed) × (seed ≤ most_seed) }
-    requires states { (fewest_states ≤ states) × (states ≤ most_states) }
+    requires states { (least_states ≤ states) × (states ≤ most_states) }
 {
     let text = drawn_text(alloc, seed, states)?;
     let plain = plain_text(alloc, u64::from(seed), u64::from(states))?;
@@ -165,7 +165,7 @@ fn the_maximiser_wants_the_goal(rt: HostRuntime) -> Result<(), Fail> {
 /// The state before the last is the goal.
 fn check_question(alloc: Global, seed: u32, states: u32) -> Result<(), Fail>
     requires seed { (1 ≤ seed) × (seed ≤ most_seed) }
-    requires states { (fewest_states ≤ states) × (states ≤ most_states) }
+    requires states { (least_states ≤ states) × (states ≤ most_states) }
 {
     let drawn = draw_game(alloc, seed, states)?;
     let question = drawn.question(alloc)?;
@@ -195,7 +195,7 @@ fn many_states_are_drawn(rt: HostRuntime) -> Result<(), Fail> {
 /// The states, and the choices and edges of all of them.
 fn check_sizes(alloc: Global, seed: u32, states: u32, wanted: (u64, u64)) -> Result<(), Fail>
     requires seed { (1 ≤ seed) × (seed ≤ most_seed) }
-    requires states { (fewest_states ≤ states) × (states ≤ most_states) }
+    requires states { (least_states ≤ states) × (states ≤ most_states) }
 {
     let drawn = draw_game(alloc, seed, states)?;
     let game = drawn.game();

@@ -35,7 +35,7 @@ fn share(text: &[u8]) -> Result<Frac, Fail>
 fn goal(alloc: Global) -> Result<StateFormula, Fail>
     ensures { IfOk result (λ state. state_of state ≡ Label (codes "goal")) }
 {
-    Ok(StateFormula::Named(Name::from_bytes(alloc, b"goal")?))
+    Ok(StateFormula::Label(Name::from_bytes(alloc, b"goal")?))
 }
 
 // `[ F right ]` with this bound.
@@ -52,7 +52,7 @@ fn reaching(bound: Bound, right: StateFormula) -> Formula
         coalition: None,
         bound,
         kind: PathKind::Until,
-        left: StateFormula::All,
+        left: StateFormula::True,
         right,
     }
 }

@@ -6,7 +6,7 @@ ghost use Rattle.game_model.specs.Query.{states};
 ghost use Rattle.game_model.specs.Limits.{unit};
 ghost use Rattle.inductive_check.specs.Held.{IsHeldAt, AllHeld, NoneHeld, IsFirstHeld, IsFirstUnheld};
 
-use fixed_bellman::up_choice;
+use fixed_bellman::holds;
 use game_model::Question;
 
 /// Whether a choice is held to the entry of its state.
@@ -18,7 +18,7 @@ pub fn is_held(question: &Question, upper: &[u64], state: u32, choice: u32) -> b
     ensures { IsTrue result ↔ IsHeldAt question.now (slice_index upper.now) state choice }
 {
     question.known();
-    up_choice(question, state, choice, upper) <= upper[state as usize]
+    holds(&question.row(state), choice, upper, upper[state as usize])
 }
 
 /// The first choice of a state that is held.

@@ -29,21 +29,21 @@ pub fn judge<R: Threads + Sync, G: Gate + Sync>(
     ensures { IfOk result (IsJudged (model_of setting.entry) setting.entry.rounds (state_of formula.now)) }
 {
     match formula {
-        StateFormula::All => constant(alloc, setting, true),
-        StateFormula::Nothing => constant(alloc, setting, false),
-        StateFormula::Named(name) => labelled(alloc, setting, name),
-        StateFormula::Negated(x) => Ok(judge(rt, alloc, setting, x, gate)?.negated()),
-        StateFormula::Both(x, y) => {
+        StateFormula::True => constant(alloc, setting, true),
+        StateFormula::False => constant(alloc, setting, false),
+        StateFormula::Label(name) => labelled(alloc, setting, name),
+        StateFormula::Not(x) => Ok(judge(rt, alloc, setting, x, gate)?.negated()),
+        StateFormula::And(x, y) => {
             let x = judge(rt, alloc, setting, x, gate)?;
             let y = judge(rt, alloc, setting, y, gate)?;
             Ok(x.both(y))
         }
-        StateFormula::Either(x, y) => {
+        StateFormula::Or(x, y) => {
             let x = judge(rt, alloc, setting, x, gate)?;
             let y = judge(rt, alloc, setting, y, gate)?;
             Ok(x.either(y))
         }
-        StateFormula::Implied(x, y) => {
+        StateFormula::Implies(x, y) => {
             let x = judge(rt, alloc, setting, x, gate)?;
             let y = judge(rt, alloc, setting, y, gate)?;
             Ok(x.implied(y))

@@ -57,7 +57,7 @@ pub fn find_bounds(
     let mut replies = vec![in alloc; 0u32; states]?;
     let mut node_of = vec![in alloc; NONE; states]?;
     let lower = lower_bounds(alloc, &frame, &mut replies, &mut node_of)?;
-    let values = first_values(alloc, &lower.values, hints)?;
+    let values = first_values(lower.values, hints);
     let start = Start {
         values: &values,
         planned: &lower.planned,
@@ -200,19 +200,14 @@ fn is_open_component(frame: &Frame<'_, '_>, component: u32) -> bool
 }
 
 /// The values with which upper ones begin, in units: the hints, or else those of the lower table, where these are more.
-fn first_values(
-    alloc: Global,
-    lower: &[f64],
-    hints: Option<&[f64]>,
-) -> Result<Vec<f64>, OutOfMemory> {
-    let mut values = lower.to_vec(alloc)?;
+fn first_values(mut values: Vec<f64>, hints: Option<&[f64]>) -> Vec<f64> {
     let Some(hints) = hints else {
-        return Ok(values);
+        return values;
     };
     for (value, hint) in values.iter_mut().zip(hints) {
         if *hint * UNIT > *value {
             *value = (*hint * UNIT).min(UNIT);
         }
     }
-    Ok(values)
+    values
 }

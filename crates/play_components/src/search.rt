@@ -1,6 +1,6 @@
 //! Tarjan's search, without recursion.
 
-ghost use Rattle.std.specs.Prelude.{◌≡◌, ◌<◌, IfOk, EachIndex, length, slice_index, vec_len};
+ghost use Rattle.std.specs.Prelude.{◌≡◌, ◌<◌, IfOk, IfSome, EachIndex, length, slice_index, vec_len};
 ghost use Rattle.game_model.specs.Game.{choices_of};
 ghost use Rattle.game_model.specs.Query.{states};
 
@@ -9,11 +9,12 @@ use game_model::Question;
 use game_outside::OutOfMemory;
 use std::alloc::Global;
 
-/// The component of a state that has none yet.
+/// The component of a state that has none yet, and the number of one that has.
 pub const NONE: u32 = 4_294_967_295;
 
-/// What a search knows of a state: its number, by the order in which states were met, which is 0 until it was; the
-/// least number of a state without a component that it is known to lead to; and the next edge to follow.
+/// What a search knows of a state: its number, by the order in which states were met, which is 0 until it was and the
+/// greatest once the state has a component; the least number of a state without a component that it is known to lead to;
+/// and the next edge to follow.
 #[derive(Clone, Copy)]
 struct Seen {
     number: u32,
@@ -85,8 +86,8 @@ impl Search {
         Ok(())
     }
 
-    /// Follows one edge of the last state of the path, passes to its next choice or leaves it. False where the path is
-    /// empty.
+    /// Follows edges of the last state of the path up to one to a state that was not met, passes to its next choice or
+    /// leaves it. False where the path is empty.
     fn step<K: Keeps>(&mut self, question: &Question, kept: &K) -> Result<bool, OutOfMemory>
         requires fits { K.fits kept.now question.now }
         requires one { self.old.states ≡ states question.now }
@@ -104,7 +105,8 @@ impl Search {
         Ok(true)
     }
 
-    /// Follows the next edge of a state, or passes to its next choice.
+    /// Follows the next edges of a choice up to one to a state that was not met, and meets it, or passes to the next
+    /// choice.
     fn look<K: Keeps>(
         &mut self,
         question: &Question,
@@ -119,11 +121,13 @@ impl Search {
         ensures { self.new.states ≡ self.old.states }
     {
         question.known();
-        let kept = seen.place > 0 || kept.keeps(question, state, seen.choice);
-        if kept && seen.place < question.game().edge_count(state, seen.choice) {
-            self.seen[state as usize].place = seen.place + 1;
-            let to = question.game().edge(state, seen.choice, seen.place).to;
-            return self.follow(state, to);
+        if seen.place > 0 || kept.keeps(question, state, seen.choice) {
+            let successors = question.game().successors(state, seen.choice);
+            if let Some(place) = self.follow(state, successors, seen.place as usize) {
+                let next = u32::try_from(place).unwrap_or(u32::MAX);
+                self.seen[state as usize].place = next.saturating_add(1);
+                return self.enter(successors[place]);
+            }
         }
         let next = &mut self.seen[state as usize];
         next.choice = seen.choice + 1;
@@ -131,19 +135,25 @@ impl Search {
         Ok(())
     }
 
-    /// Meets a successor, or lowers the low number of the state by it.
-    fn follow(&mut self, state: u32, to: u32) -> Result<(), OutOfMemory>
+    /// The place of the first of these successors, from one place on, that was not met. The low number of the state is
+    /// lowered by those before it.
+    fn follow(&mut self, state: u32, successors: &[u32], from: usize) -> Option<usize>
         requires state { state < self.old.states }
-        requires to { to < self.old.states }
-        ensures { self.new.states ≡ self.old.states }
+        requires inside { EachIndex successors.now (λ k. slice_index successors.now k < self.old.states) }
+        ensures same { self.new.states ≡ self.old.states }
+        ensures place { IfSome result (λ place. place < length successors.now) }
     {
-        let number = self.seen[to as usize].number;
-        if number == 0 {
-            self.enter(to)?;
-        } else if self.component[to as usize] == NONE {
-            self.lower(state, number);
+        let mut low = self.seen[state as usize].low;
+        for place in from..successors.len() {
+            let number = self.seen[successors[place] as usize].number;
+            if number == 0 {
+                self.seen[state as usize].low = low;
+                return Some(place);
+            }
+            low = low.min(number);
         }
-        Ok(())
+        self.seen[state as usize].low = low;
+        None
     }
 
     /// Lowers the low number of a state.
@@ -179,6 +189,7 @@ impl Search {
     {
         while let Some(member) = self.waiting.pop() {
             self.component[member as usize] = self.count;
+            self.seen[member as usize].number = NONE;
             if member == state {
                 break;
             }

@@ -13,7 +13,7 @@ use Rattle.verdicts.specs.declared.report.How.{How}
 use Rattle.verdicts.specs.declared.report.How.TheVariants.{Rounds, Solved}
 use Rattle.command_words.specs.Words.{Check}
 use Rattle.run_answers.specs.declared.status.Status.{Status}
-use Rattle.run_answers.specs.Printed.{line_for, output_of}
+use Rattle.run_answers.specs.Printed.{output_of}
 use Rattle.asked_files.specs.declared.problem.Paths.TheVariants.{Unbounded}
 use Rattle.asked_files.specs.Problems.{Problem, OfReach, OfWithin, OfNext, OfNested, PosesProblem, posing_in, takes, takes_formula}
 use Rattle.rpatl_syntax.specs.Dual.{answered}
@@ -35,7 +35,7 @@ output-accepted : AreReadBack → AreCertificates → (q : Query) (initial : Lis
     → text ≡ output_text (output_of asked f how initial plan) → IsInLimits (output_of asked f how initial plan) → HasStates plan (states q) → Passes q plan → IsAccepted q text plan
 output-accepted read_back certificates q initial f how asked plan text planned parts written limits lists passes =
     let entries = entries_of plan in
-    let lines = map (line_for f how plan.lower.items plan.upper.items) initial in
+    let lines = (output_of asked f how initial plan).lines in
     let whole = subst (λ (p : Bool). text ≡ output_text (output_of p f how initial plan)) planned written in
     let small = subst (λ (p : Bool). IsInLimits (output_of p f how initial plan)) planned limits in
     let said = read-behind read_back lines (answered f) entries small.lines parts small.entries.0 small.entries.1 in

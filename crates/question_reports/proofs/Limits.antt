@@ -1,6 +1,6 @@
 -- What is printed of a plan is within the limits of a report and of a certificate.
-use Rattle.std.proofs.Common.{◌≡◌, ◌≤◌, ◌<◌, ◌+◌, inl, inr, ℕ, Bool, true, false, List, length, All, arith, refl, sym, subst}
-use Rattle.std.specs.Prelude.{slice_index, slice_index_or, Option, Some, None, IsSomeAnd}
+use Rattle.std.proofs.Common.{◌≡◌, ◌≤◌, ◌<◌, ◌+◌, ◌-◌, inl, inr, ℕ, Bool, true, false, List, length, All, arith, refl, sym, subst}
+use Rattle.std.specs.Prelude.{slice_index, slice_index_or, Option, Some, None, IsSomeAnd, if◌then◌else◌}
 use Rattle.std.specs.List.{range_with_len}
 use Rattle.std.proofs.lemmas.Bool.{cases_lt}
 use Rattle.std.proofs.lemmas.List.Elements.{All-map, All-weaker}
@@ -19,9 +19,10 @@ use Rattle.plan_text.specs.Entries.{IsSmall, IsInRange, HasStates, greatest_choi
 use Rattle.certificate_audit.specs.Accepted.{Passes}
 use Rattle.verdicts.specs.Report.{IsLine, HasCount}
 use Rattle.verdicts.specs.declared.report.How.{How}
+use Rattle.verdicts.specs.declared.report.ReportLine.{ReportLine}
 use Rattle.bracket_engine.specs.Choices.{AreChoices}
 use Rattle.run_answers.specs.Outputs.{AreEntriesInLimits, IsInLimits}
-use Rattle.run_answers.specs.Printed.{is_mirrored, printed_lower, printed_upper, line_for, certificate_of, output_of}
+use Rattle.run_answers.specs.Printed.{is_mirrored, line_of, certificate_of, output_of}
 
 -- 1. Choices.
 
@@ -75,9 +76,13 @@ pub plan-units : (q : Query) (plan : Plan) → HasStates plan (states q) → Pas
 plan-units q plan lists passes s within = (passes.ranked.units s within, at-most (λ v. v ≤ unit) plan.upper.items s passes.units (subst (λ n. s < n) (sym lists.upper) within))
 
 -- printed bounds are units
-pub printed-units : (mirrored : Bool) (lower upper : ℕ) → lower ≤ unit → upper ≤ unit → (printed_lower mirrored lower upper ≤ unit) × (printed_upper mirrored lower upper ≤ unit)
+pub printed-units : (mirrored : Bool) (lower upper : ℕ) → lower ≤ unit → upper ≤ unit → ((if mirrored then unit - upper else lower) ≤ unit) × ((if mirrored then unit - lower else upper) ≤ unit)
 printed-units true lower upper low high = (omega arith, omega arith)
 printed-units false lower upper low high = (low, high)
+
+-- the line of a state, by the tables of a plan
+abbrev pub plan_line : Tree → How → Plan → ℕ → ReportLine
+plan_line f how plan = line_of (is_mirrored f.kind) f.bound how plan.lower.items plan.upper.items
 
 -- a plan that can be printed: it passes, and has choices and replies only where they are needed
 pub record IsPrintable (q : Query) (plan : Plan) : Type 0 where
@@ -99,7 +104,7 @@ module _ (q : Query) (plan : Plan) (initial : List ℕ) (how : How) (h : IsPrint
     reply = reply-small q h.posed s within h.table _ (h.replies.each s within);
   }
 
-  line-in_range : (f : Tree) (s : ℕ) → s < states q → IsLine (line_for f how plan.lower.items plan.upper.items s)
+  line-in_range : (f : Tree) (s : ℕ) → s < states q → IsLine (plan_line f how plan s)
   line-in_range f s within = record {
     state = omega (arith, within, h.posed.game.few);
     count = count;
@@ -118,7 +123,7 @@ module _ (q : Query) (plan : Plan) (initial : List ℕ) (how : How) (h : IsPrint
 
   pub printed-in_limits : (asked : Bool) (formula : Tree) → IsInLimits (output_of asked formula how initial plan)
   printed-in_limits asked formula = record {
-    lines = All-map IsLine (line_for formula how plan.lower.items plan.upper.items) initial
-        (All-weaker (λ s. s < states q) (λ s. IsLine (line_for formula how plan.lower.items plan.upper.items s)) (line-in_range formula) initial inside);
+    lines = All-map IsLine (plan_line formula how plan) initial
+        (All-weaker (λ s. s < states q) (λ s. IsLine (plan_line formula how plan s)) (line-in_range formula) initial inside);
     entries = entries-in_limits asked formula;
   }

@@ -13,7 +13,7 @@ use Rattle.nested_truth.specs.Seen.{band_of}
 use Rattle.verdicts.specs.Report.{HasCount, IsLine, report}
 use Rattle.verdicts.specs.declared.report.ReportLine.{ReportLine}
 use Rattle.question_reports.specs.Nested.{IsNestedReport, inside_text}
-use Rattle.run_answers.specs.Printed.{line_over, verdict_over, status_of}
+use Rattle.run_answers.specs.Printed.{line_of, status_of}
 use Rattle.run_answers.specs.declared.answer.Answer.{Answer}
 use Rattle.run_answers.specs.declared.status.Status.{Status}
 use Rattle.question_reports.proofs.Limits.{at-most}
@@ -32,7 +32,7 @@ pub record IsPrinted (m : Model) (found : Nested) : Type 0 where
 
 module _ (m : Model) (f : Tree) (asked : ℕ) (found : Nested) (h : IsPrinted m found) where
   abbrev line : ℕ → ReportLine
-  line = line_over false f.bound found.how found.lower.items found.upper.items
+  line = line_of false f.bound found.how found.lower.items found.upper.items
 
   line-in_range : (s : ℕ) → s < length m.game → IsLine (line s)
   line-in_range s within = record {
@@ -42,7 +42,7 @@ module _ (m : Model) (f : Tree) (asked : ℕ) (found : Nested) (h : IsPrinted m 
   }
 
   reported : (initial : List ℕ) (text : List ℕ) (status : Status) → IsNested m f found.initial.items asked (band_of found) found.how found.inner found.undecided → found.initial.items ≡ initial
-      → text ≡ inside_text found.inner found.undecided ++ report (map line found.initial.items) → status ≡ status_of (map (verdict_over false f.bound found.lower.items found.upper.items) found.initial.items)
+      → text ≡ inside_text found.inner found.undecided ++ report (map line found.initial.items) → status ≡ status_of (map line found.initial.items)
       → IsNestedReport m initial f asked text status
   reported initial text status nested same written ended = subst (λ (xs : List ℕ). IsNestedReport m xs f asked text status) same (record {
     inside = h.inside;
@@ -60,7 +60,7 @@ module _ (m : Model) (f : Tree) (asked : ℕ) (found : Nested) (h : IsPrinted m 
   -- the same of an answer
   pub answered-nested : (initial : List ℕ) (result : Result Answer OutOfMemory) → IsNested m f found.initial.items asked (band_of found) found.how found.inner found.undecided → found.initial.items ≡ initial
       → IfOk result (λ answer. answer.text.items ≡ inside_text found.inner found.undecided ++ report (map line found.initial.items))
-      → IfOk result (λ answer. answer.status ≡ status_of (map (verdict_over false f.bound found.lower.items found.upper.items) found.initial.items))
+      → IfOk result (λ answer. answer.status ≡ status_of (map line found.initial.items))
       → IfOk result (λ answer. IsNestedReport m initial f asked answer.text.items answer.status)
   answered-nested initial (Ok answer) nested same written ended = reported initial answer.text.items answer.status nested same written ended
   answered-nested initial (Err error) nested same written ended = tt

@@ -1,7 +1,7 @@
 -- The answer to a question, from its bracket and the plan that is printed of it.
 use Rattle.std.proofs.Common.{◌≡◌, ◌≤◌, ◌<◌, ◌+◌, ◌-◌, ◌*◌, ◌^◌, inl, inr, ℕ, Bool, true, List, map, Result, Ok, Err, refl, ap, arith}
-use Rattle.std.specs.Prelude.{All, IfOk, slice_index, slice_index_or}
-use Rattle.std.proofs.lemmas.List.Elements.{All-weaker}
+use Rattle.std.specs.Prelude.{All, IfOk, slice_index, slice_index_or, if◌then◌else◌}
+use Rattle.std.proofs.lemmas.List.Elements.{All-map, All-weaker}
 use Rattle.game_model.specs.Limits.{unit}
 use Rattle.game_model.specs.Query.{Query, IsQuery, states}
 use Rattle.game_model.specs.Values.{denominator, numerator}
@@ -27,9 +27,10 @@ use Rattle.run_answers.specs.declared.status.Status.{Status}
 use Rattle.rpatl_syntax.specs.declared.formula.PathKind.{PathKind}
 use Rattle.rpatl_syntax.specs.declared.formula.PathKind.TheVariants.{Until, Within, Next, Always}
 use Rattle.rpatl_syntax.specs.Dual.{IsAtMostOne, dual_bound, answered_by, answered}
-use Rattle.run_answers.specs.Printed.{is_mirrored, printed_verdict, verdict_for, status_of, output_of}
+use Rattle.run_answers.specs.Printed.{is_mirrored, status_of, output_of}
 use Rattle.bracket_engine.specs.Found.{IsFound}
 use Rattle.question_reports.specs.Reports.{IsShown, IsBracketReport}
+use Rattle.question_reports.proofs.Limits.{plan_line}
 use Rattle.question_reports.proofs.Valued.{told}
 use Rattle.run_answers.specs.Outputs.{output_text, IsInLimits}
 
@@ -39,10 +40,11 @@ use Rattle.run_answers.specs.Outputs.{output_text, IsInLimits}
 abbrev pub Mirrors : Type 0
 Mirrors = (bound : Bound) (lower upper : ℕ) → IsAtMostOne bound → lower ≤ unit → upper ≤ unit → verdict_of bound (unit - upper) (unit - lower) ≡ verdict_of (dual_bound bound) lower upper
 
-pub verdict-answered : Mirrors → (f : Tree) → IsAtMostOne f.bound → (lower upper : ℕ) → lower ≤ unit → upper ≤ unit → printed_verdict (is_mirrored f.kind) f.bound lower upper ≡ verdict_of (answered f).bound lower upper
+pub verdict-answered : Mirrors → (f : Tree) → IsAtMostOne f.bound → (lower upper : ℕ) → lower ≤ unit → upper ≤ unit
+    → verdict_of f.bound (if is_mirrored f.kind then unit - upper else lower) (if is_mirrored f.kind then unit - lower else upper) ≡ verdict_of (answered f).bound lower upper
 verdict-answered mirrors f share lower upper low high = by f.kind
   where
-    by : (kind : PathKind) → printed_verdict (is_mirrored kind) f.bound lower upper ≡ verdict_of (answered_by kind f).bound lower upper
+    by : (kind : PathKind) → verdict_of f.bound (if is_mirrored kind then unit - upper else lower) (if is_mirrored kind then unit - lower else upper) ≡ verdict_of (answered_by kind f).bound lower upper
     by Until = refl
     by (Within steps) = refl
     by Next = refl
@@ -111,13 +113,13 @@ pub record IsReady (q : Query) (initial : List ℕ) (f : Tree) (check : Check) (
   pub sound : IsSoundPlan q plan
   pub passes : Passes q plan
   pub limits : IsInLimits (output_of check.plan f (Rounds found.rounds) initial plan)
-  pub left_open : All (λ s. verdict_for f plan.lower.items plan.upper.items s ≡ Undecided → IsLeftOpen q zero (answered f).bound check.rounds (slice_index plan.lower.items) (slice_index plan.upper.items) s) initial
+  pub left_open : All (λ s. (plan_line f (Rounds found.rounds) plan s).verdict ≡ Undecided → IsLeftOpen q zero (answered f).bound check.rounds (slice_index plan.lower.items) (slice_index plan.upper.items) s) initial
 
 pub reported : {X E : Type 0} (text : X → List ℕ) (ends : X → Status) (q : Query) (initial : List ℕ) (f : Tree) (check : Check) (zero : List Bool) (found : Bracket) (plan : Plan)
     → IsReady q initial f check zero found plan
     → (result : Result X E)
     → IfOk result (λ answer. text answer ≡ output_text (output_of check.plan f (Rounds found.rounds) initial plan))
-    → IfOk result (λ answer. ends answer ≡ status_of (map (verdict_for f plan.lower.items plan.upper.items) initial))
+    → IfOk result (λ answer. ends answer ≡ status_of (map (plan_line f (Rounds found.rounds) plan) initial))
     → IfOk result (λ answer. IsBracketReport q initial f check (text answer) (ends answer))
 reported text ends q initial f check zero found plan ready (Ok answer) written ended = record {
   posed = ready.posed;
@@ -128,10 +130,11 @@ reported text ends q initial f check zero found plan ready (Ok answer) written e
   plan = plan;
   shown = ready.shown;
   lists = ready.lists;
-  told = told q ready.posed f plan ready.sound initial _ ready.inside ended;
+  told = told q ready.posed f plan ready.sound (Rounds found.rounds) initial _ ready.inside ended;
   passes = ready.passes;
   written = written;
   limits = ready.limits;
-  left_open = ready.left_open;
+  left_open = All-map (λ line. line.verdict ≡ Undecided → IsLeftOpen q zero (answered f).bound check.rounds (slice_index plan.lower.items) (slice_index plan.upper.items) line.state)
+      (plan_line f (Rounds found.rounds) plan) initial ready.left_open;
 }
 reported text ends q initial f check zero found plan ready (Err error) written ended = tt

@@ -19,12 +19,13 @@ use Rattle.formula_sets.specs.Posing.{Model}
 use Rattle.command_words.specs.Words.{Check}
 use Rattle.run_answers.specs.declared.status.Status.{Status}
 use Rattle.run_answers.specs.Outputs.{certificate_part, output_text, AreEntriesInLimits, IsInLimits}
-use Rattle.run_answers.specs.Printed.{line_over, line_for, certificate_of, output_of}
+use Rattle.run_answers.specs.Printed.{line_of, certificate_of, output_of}
 use Rattle.rpatl_syntax.specs.Dual.{answered}
 use Rattle.question_reports.specs.Reports.{IsBracketReport}
 use Rattle.question_reports.specs.Solved.{IsSolved}
 use Rattle.question_reports.specs.Sweeps.{IsSweepReport}
 use Rattle.question_reports.specs.Nested.{IsNestedReport, inside_text}
+use Rattle.question_reports.proofs.Limits.{plan_line}
 use Rattle.run_answers.proofs.ShortLines.{entry_bytes, line_bytes, joined-short, decimal-short, report-short, certificate-short}
 use Rattle.run_answers.proofs.ShortSpellings.{most_spelled}
 
@@ -49,13 +50,13 @@ lines-short initial line few are = omega (arith, few, length-map initial line, r
 output-short : (initial : List ℕ) (f : Tree) (how : How) (asked : Bool) (plan : Plan) (text : List ℕ) → length initial ≤ most_states → length (spelling (answered f)) ≤ most_spelled
     → text ≡ output_text (output_of asked f how initial plan) → IsInLimits (output_of asked f how initial plan) → length text ≤ most_bytes
 output-short initial f how asked plan text few small written limits =
-    let lines = map (line_for f how plan.lower.items plan.upper.items) initial in
+    let lines = (output_of asked f how initial plan).lines in
     let part = certificate_part (certificate_of asked f plan) in
     omega (
       arith,
       ap (λ (t : List ℕ). length t) written,
       length-append (report lines) part,
-      lines-short initial (line_for f how plan.lower.items plan.upper.items) few limits.lines,
+      lines-short initial (plan_line f how plan) few limits.lines,
       part-short asked f plan small limits.entries,
     )
 
@@ -70,7 +71,7 @@ solved-text-short q initial f asked text status few small r = output-short initi
 pub sweep-text-short : (q : Query) (opening : ℕ → ℕ) (steps : ℕ) (numerators : ℕ → ℕ) (initial : List ℕ) (f : Tree) (text : List ℕ) (status : Status) → length initial ≤ most_states
     → IsSweepReport q opening steps numerators initial f text status → length text ≤ most_bytes
 sweep-text-short q opening steps numerators initial f text status few r =
-    omega (arith, ap (λ (t : List ℕ). length t) r.written, lines-short initial (line_over false f.bound (Steps steps) r.lower r.upper) few r.lines)
+    omega (arith, ap (λ (t : List ℕ). length t) r.written, lines-short initial (line_of false f.bound (Steps steps) r.lower r.upper) few r.lines)
 
 -- the line about the formulas inside
 inside-short : (inner undecided : ℕ) → inner < 2 ^ 32 → undecided < 2 ^ 32 → length (inside_text inner undecided) ≤ 38
@@ -80,11 +81,11 @@ inside-short inner undecided one other =
 
 pub nested-text-short : (m : Model) (initial : List ℕ) (f : Tree) (asked : ℕ) (text : List ℕ) (status : Status) → length initial ≤ most_states → IsNestedReport m initial f asked text status → length text ≤ most_bytes
 nested-text-short m initial f asked text status few r =
-    let lines = map (line_over false f.bound r.how r.band.lower r.band.upper) initial in
+    let lines = map (line_of false f.bound r.how r.band.lower r.band.upper) initial in
     omega (
       arith,
       ap (λ (t : List ℕ). length t) r.written,
       length-append (inside_text r.inner r.undecided) (report lines),
       inside-short r.inner r.undecided r.counts.0 r.counts.1,
-      lines-short initial (line_over false f.bound r.how r.band.lower r.band.upper) few r.lines,
+      lines-short initial (line_of false f.bound r.how r.band.lower r.band.upper) few r.lines,
     )

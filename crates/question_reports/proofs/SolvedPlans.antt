@@ -1,6 +1,7 @@
 -- The answer of `solve`, from the plan that was handed out.
 use Rattle.std.proofs.Common.{◌≡◌, ◌<◌, ◌≤◌, ℕ, Bool, List, map, Result, Ok, Err}
 use Rattle.std.specs.Prelude.{All, IfOk, slice_index}
+use Rattle.std.proofs.lemmas.List.Elements.{All-map}
 use Rattle.game_model.specs.Query.{Query, IsQuery, states}
 use Rattle.rpatl_syntax.specs.Formula.{Tree}
 use Rattle.rpatl_syntax.specs.Dual.{answered}
@@ -16,10 +17,10 @@ use Rattle.verdicts.specs.Open.{LeavesOpen}
 use Rattle.verdicts.specs.declared.report.How.TheVariants.{Solved}
 use Rattle.verdicts.specs.declared.verdict.Verdict.TheVariants.{Undecided}
 use Rattle.run_answers.specs.Outputs.{output_text}
-use Rattle.run_answers.specs.Printed.{verdict_for, output_of, status_of}
+use Rattle.run_answers.specs.Printed.{output_of, status_of}
 use Rattle.run_answers.specs.declared.status.Status.{Status}
 use Rattle.question_reports.specs.Solved.{IsSolved}
-use Rattle.question_reports.proofs.Limits.{IsPrintable, printed-in_limits}
+use Rattle.question_reports.proofs.Limits.{IsPrintable, plan_line, printed-in_limits}
 use Rattle.question_reports.proofs.Valued.{told}
 
 module _ (q : Query) (posed : IsQuery q) (plan : Plan) (lists : HasStates plan (states q)) (passes : Passes q plan) (sound : IsSoundPlan q plan)
@@ -37,21 +38,22 @@ module _ (q : Query) (posed : IsQuery q) (plan : Plan) (lists : HasStates plan (
   printable = record { posed = posed; lists = lists; passes = passes; choices = chosen; table = slice_index plan.upper.items; replies = first; ranks_fit = fit }
 
   pub solved : {X E : Type 0} (text : X → List ℕ) (ends : X → Status) (initial : List ℕ) (f : Tree) (asked : Bool) → All (λ s. s < states q) initial → IsSureExactly q plan → IsZeroExactly q plan
-      → All (λ s. verdict_for f plan.lower.items plan.upper.items s ≡ Undecided → LeavesOpen (answered f).bound (slice_index plan.lower.items s) (slice_index plan.upper.items s) 1 0) initial
+      → All (λ s. (plan_line f Solved plan s).verdict ≡ Undecided → LeavesOpen (answered f).bound (slice_index plan.lower.items s) (slice_index plan.upper.items s) 1 0) initial
       → (result : Result X E)
       → IfOk result (λ answer. text answer ≡ output_text (output_of asked f Solved initial plan))
-      → IfOk result (λ answer. ends answer ≡ status_of (map (verdict_for f plan.lower.items plan.upper.items) initial))
+      → IfOk result (λ answer. ends answer ≡ status_of (map (plan_line f Solved plan) initial))
       → IfOk result (λ answer. IsSolved q initial f asked (text answer) (ends answer))
   solved text ends initial f asked inside sure zero left_open (Ok answer) written ended = record {
     posed = posed;
     plan = plan;
     lists = lists;
-    told = told q posed f plan sound initial _ inside ended;
+    told = told q posed f plan sound Solved initial _ inside ended;
     passes = passes;
     sure = sure;
     zero = zero;
     written = written;
     limits = printed-in_limits q plan initial Solved printable tt inside asked f;
-    left_open = left_open;
+    left_open = All-map (λ line. line.verdict ≡ Undecided → LeavesOpen (answered f).bound (slice_index plan.lower.items line.state) (slice_index plan.upper.items line.state) 1 0)
+        (plan_line f Solved plan) initial left_open;
   }
   solved text ends initial f asked inside sure zero left_open (Err error) written ended = tt

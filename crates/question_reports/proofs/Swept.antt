@@ -15,7 +15,7 @@ use Rattle.verdicts.specs.Exact.{IsRight}
 use Rattle.verdicts.specs.Report.{IsLine, report}
 use Rattle.verdicts.specs.Verdict.{verdict_of}
 use Rattle.verdicts.specs.declared.report.How.TheVariants.{Steps}
-use Rattle.run_answers.specs.Printed.{verdict_over, line_over, status_of}
+use Rattle.run_answers.specs.Printed.{line_of, status_of}
 use Rattle.question_reports.specs.Sweeps.{IsSweepReport}
 use Rattle.run_answers.specs.declared.status.Status.{Status}
 use Rattle.question_reports.proofs.Limits.{at-most, printed-units}
@@ -37,7 +37,7 @@ module _ (brackets : Brackets) (are_right : AreRight) (q : Query) (posed : IsQue
   some = pow-pos (denominator q.game) steps (denominator-pos q.game posed.game)
 
   module _ (table numerators : ℕ → ℕ) (sweep : IsSweep q table steps lower upper) (exact : (s : ℕ) → s < states q → exact_from q table steps s ≡ unit * numerators s) where
-    line-in_range : (s : ℕ) → s < states q → IsLine (line_over false f.bound (Steps steps) lower upper s)
+    line-in_range : (s : ℕ) → s < states q → IsLine (line_of false f.bound (Steps steps) lower upper s)
     line-in_range s within = record {
       state = omega (arith, within, posed.game.few);
       count = omega (arith, few);
@@ -47,12 +47,12 @@ module _ (brackets : Brackets) (are_right : AreRight) (q : Query) (posed : IsQue
     state-bracketed : (s : ℕ) → s < states q → IsBracketed steps (denominator q.game ^ steps) (slice_index lower s) (slice_index upper s) (unit * numerators s)
     state-bracketed s within = bracketed-same steps (denominator q.game ^ steps) _ _ _ _ _ _ (sweep.down s within) (sweep.up s within) (exact s within) (brackets q table steps s posed)
 
-    state-right : (s : ℕ) → s < states q → IsRight f.bound (numerators s) (denominator q.game ^ steps) (verdict_over false f.bound lower upper s)
+    state-right : (s : ℕ) → s < states q → IsRight f.bound (numerators s) (denominator q.game ^ steps) (line_of false f.bound (Steps steps) lower upper s).verdict
     state-right s within =
         let around = state-bracketed s within in
         are_right f.bound (numerators s) (denominator q.game ^ steps) (slice_index lower s) (slice_index upper s) some around.low around.high
 
-    sweep-reported : (text : List ℕ) (status : Status) → text ≡ report (map (line_over false f.bound (Steps steps) lower upper) initial) → status ≡ status_of (map (verdict_over false f.bound lower upper) initial)
+    sweep-reported : (text : List ℕ) (status : Status) → text ≡ report (map (line_of false f.bound (Steps steps) lower upper) initial) → status ≡ status_of (map (line_of false f.bound (Steps steps) lower upper) initial)
         → IsSweepReport q table steps numerators initial f text status
     sweep-reported text status written ended = record {
       inside = inside;
@@ -61,15 +61,15 @@ module _ (brackets : Brackets) (are_right : AreRight) (q : Query) (posed : IsQue
       sweep = sweep;
       bracketed = All-weaker (λ s. s < states q) (λ s. IsBracketed steps (denominator q.game ^ steps) (slice_index lower s) (slice_index upper s) (unit * numerators s)) state-bracketed initial inside;
       written = written;
-      lines = All-map IsLine (line_over false f.bound (Steps steps) lower upper) initial (All-weaker (λ s. s < states q) (λ s. IsLine (line_over false f.bound (Steps steps) lower upper s)) line-in_range initial inside);
+      lines = All-map IsLine (line_of false f.bound (Steps steps) lower upper) initial (All-weaker (λ s. s < states q) (λ s. IsLine (line_of false f.bound (Steps steps) lower upper s)) line-in_range initial inside);
       ends = ended;
-      right = All-weaker (λ s. s < states q) (λ s. IsRight f.bound (numerators s) (denominator q.game ^ steps) (verdict_over false f.bound lower upper s)) state-right initial inside;
+      right = All-weaker (λ s. s < states q) (λ s. IsRight f.bound (numerators s) (denominator q.game ^ steps) (line_of false f.bound (Steps steps) lower upper s).verdict) state-right initial inside;
     }
 
   -- what is said of a sweep is said of any values that are exact
   pub swept : {X E : Type 0} (text : X → List ℕ) (ends : X → Status) (result : Result X E)
-      → IfOk result (λ answer. text answer ≡ report (map (line_over false f.bound (Steps steps) lower upper) initial))
-      → IfOk result (λ answer. ends answer ≡ status_of (map (verdict_over false f.bound lower upper) initial))
+      → IfOk result (λ answer. text answer ≡ report (map (line_of false f.bound (Steps steps) lower upper) initial))
+      → IfOk result (λ answer. ends answer ≡ status_of (map (line_of false f.bound (Steps steps) lower upper) initial))
       → IfOk result (λ answer. (table numerators : ℕ → ℕ) → IsSweep q table steps lower upper → ((s : ℕ) → s < states q → exact_from q table steps s ≡ unit * numerators s) → IsSweepReport q table steps numerators initial f (text answer) (ends answer))
   swept text ends (Ok answer) written ended = λ table numerators sweep exact. sweep-reported table numerators sweep exact (text answer) (ends answer) written ended
   swept text ends (Err error) written ended = tt

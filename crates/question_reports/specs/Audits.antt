@@ -1,5 +1,5 @@
 -- The answer of an audit: a report of the initial states from a certificate that is accepted.
-use Rattle.std.specs.Prelude.{◌≡◌, ℕ, List, map, slice_index, All}
+use Rattle.std.specs.Prelude.{◌≡◌, ℕ, false, List, slice_index, All}
 use Rattle.game_model.specs.Query.{Query}
 use Rattle.rpatl_syntax.specs.Formula.{Tree}
 use Rattle.plan_text.specs.declared.plan.Plan.{Plan}
@@ -9,7 +9,7 @@ use Rattle.verdicts.specs.Report.{IsLine, report}
 use Rattle.verdicts.specs.declared.report.How.TheVariants.{Audited}
 use Rattle.verdicts.specs.declared.verdict.Verdict.TheVariants.{Undecided}
 use Rattle.rpatl_syntax.specs.Dual.{answered}
-use Rattle.run_answers.specs.Printed.{verdict_for, line_for}
+use Rattle.run_answers.specs.Printed.{output_of}
 use Rattle.run_answers.specs.declared.status.Status.{Status}
 use Rattle.question_reports.specs.Valued.{IsTold}
 
@@ -17,12 +17,13 @@ use Rattle.question_reports.specs.Valued.{IsTold}
 -- certificate is that of the dual.
 pub record IsAudited (q : Query) (initial : List ℕ) (f : Tree) (plan : Plan) (text : List ℕ)
     (status : Status) : Type 0 where
-  pub told : IsTold q initial f plan status
-  pub written : text ≡ report (map (line_for f Audited plan.lower.items plan.upper.items) initial)
-  pub lines : All IsLine (map (line_for f Audited plan.lower.items plan.upper.items) initial)
+  pub told : IsTold q initial f plan (output_of false f Audited initial plan).lines status
+  pub written : text ≡ report (output_of false f Audited initial plan).lines
+  pub lines : All IsLine (output_of false f Audited initial plan).lines
   -- Undecided is said only where the bounds leave the threshold open
-  pub left_open : All (λ s. verdict_for f plan.lower.items plan.upper.items s ≡ Undecided
-      → LeavesOpen (answered f).bound (slice_index plan.lower.items s) (slice_index plan.upper.items s) 1 0) initial
+  pub left_open : All (λ line. line.verdict ≡ Undecided → LeavesOpen (answered f).bound
+      (slice_index plan.lower.items line.state) (slice_index plan.upper.items line.state) 1 0)
+      (output_of false f Audited initial plan).lines
 
 -- The text and the status are the answer of an audit: the question accepts the certificate that was read, whoever made
 -- it.

@@ -11,7 +11,7 @@ use Rattle.verdicts.specs.Report.{IsLine, report}
 use Rattle.verdicts.specs.declared.report.How.{How}
 use Rattle.asked_files.specs.declared.model.Loaded.{Loaded}
 use Rattle.asked_files.specs.Posed.{HasSizes}
-use Rattle.run_answers.specs.Printed.{line_over, verdict_over, status_of}
+use Rattle.run_answers.specs.Printed.{line_of, status_of}
 use Rattle.run_answers.specs.declared.status.Status.{Status}
 
 -- the line `inner I undecided U`: so many formulas stand inside, and so many pairs of one and a state are left
@@ -32,10 +32,10 @@ pub record IsNestedReport (m : Model) (initial : List ℕ) (f : Tree) (asked : �
   pub undecided : ℕ
   pub nested : IsNested m f initial asked band how inner undecided
   pub written : text ≡ inside_text inner undecided
-      ++ report (map (line_over false f.bound how band.lower band.upper) initial)
-  pub lines : All IsLine (map (line_over false f.bound how band.lower band.upper) initial)
+      ++ report (map (line_of false f.bound how band.lower band.upper) initial)
+  pub lines : All IsLine (map (line_of false f.bound how band.lower band.upper) initial)
   pub counts : (inner < 2 ^ 32) × (undecided < 2 ^ 32)
-  pub ends : status ≡ status_of (map (verdict_over false f.bound band.lower band.upper) initial)
+  pub ends : status ≡ status_of (map (line_of false f.bound how band.lower band.upper) initial)
 
 -- what was loaded poses the problem of these initial states
 pub record IsAnswerable (loaded : Loaded) (initial : List ℕ) : Type 0 where

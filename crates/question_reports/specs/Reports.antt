@@ -20,7 +20,7 @@ use Rattle.trap_sets.specs.Lowered.{IsLoweredTable}
 use Rattle.rpatl_syntax.specs.Dual.{answered}
 use Rattle.command_words.specs.Words.{Check}
 use Rattle.run_answers.specs.Outputs.{output_text, IsInLimits}
-use Rattle.run_answers.specs.Printed.{verdict_for, output_of}
+use Rattle.run_answers.specs.Printed.{output_of}
 use Rattle.run_answers.specs.declared.status.Status.{Status}
 use Rattle.question_reports.specs.Valued.{IsTold}
 
@@ -67,12 +67,12 @@ pub record IsBracketReport (q : Query) (initial : List ℕ) (f : Tree) (check : 
   pub plan : Plan
   pub shown : IsShown q check.traps found plan
   pub lists : HasStates plan (states q)
-  pub told : IsTold q initial f plan status
+  pub told : IsTold q initial f plan (output_of check.plan f (Rounds found.rounds) initial plan).lines status
   pub passes : Passes q plan
   pub written : text ≡ output_text (output_of check.plan f (Rounds found.rounds) initial plan)
   pub limits : IsInLimits (output_of check.plan f (Rounds found.rounds) initial plan)
   -- Undecided is said only where no bracket that the asked rounds promise settles the threshold; of `G` that of the
   -- dual
-  pub left_open : All (λ s. verdict_for f plan.lower.items plan.upper.items s ≡ Undecided
+  pub left_open : All (λ line. line.verdict ≡ Undecided
       → IsLeftOpen q zero (answered f).bound check.rounds (slice_index plan.lower.items)
-      (slice_index plan.upper.items) s) initial
+      (slice_index plan.upper.items) line.state) (output_of check.plan f (Rounds found.rounds) initial plan).lines

@@ -12,7 +12,7 @@ use Rattle.verdicts.specs.Open.{LeavesOpen}
 use Rattle.verdicts.specs.declared.report.How.TheVariants.{Solved}
 use Rattle.verdicts.specs.declared.verdict.Verdict.TheVariants.{Undecided}
 use Rattle.run_answers.specs.Outputs.{output_text, IsInLimits}
-use Rattle.run_answers.specs.Printed.{verdict_for, output_of}
+use Rattle.run_answers.specs.Printed.{output_of}
 use Rattle.run_answers.specs.declared.status.Status.{Status}
 use Rattle.question_reports.specs.Valued.{IsTold}
 
@@ -23,7 +23,7 @@ pub record IsSolved (q : Query) (initial : List ℕ) (f : Tree) (asked : Bool) (
   pub posed : IsQuery q
   pub plan : Plan
   pub lists : HasStates plan (states q)
-  pub told : IsTold q initial f plan status
+  pub told : IsTold q initial f plan (output_of asked f Solved initial plan).lines status
   pub passes : Passes q plan
   -- the lower bound is 1 exactly at the almost-sure states, and the upper one 0 exactly where every k-step value is
   pub sure : IsSureExactly q plan
@@ -31,5 +31,6 @@ pub record IsSolved (q : Query) (initial : List ℕ) (f : Tree) (asked : Bool) (
   pub written : text ≡ output_text (output_of asked f Solved initial plan)
   pub limits : IsInLimits (output_of asked f Solved initial plan)
   -- Undecided is said only where the bounds leave the threshold open
-  pub left_open : All (λ s. verdict_for f plan.lower.items plan.upper.items s ≡ Undecided
-      → LeavesOpen (answered f).bound (slice_index plan.lower.items s) (slice_index plan.upper.items s) 1 0) initial
+  pub left_open : All (λ line. line.verdict ≡ Undecided → LeavesOpen (answered f).bound
+      (slice_index plan.lower.items line.state) (slice_index plan.upper.items line.state) 1 0)
+      (output_of asked f Solved initial plan).lines

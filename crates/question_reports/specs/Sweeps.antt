@@ -12,7 +12,7 @@ use Rattle.bounded_rounds.specs.Steps.{IsSweep}
 use Rattle.verdicts.specs.Exact.{IsRight}
 use Rattle.verdicts.specs.Report.{IsLine, report}
 use Rattle.verdicts.specs.declared.report.How.TheVariants.{Steps}
-use Rattle.run_answers.specs.Printed.{line_over, verdict_over, status_of}
+use Rattle.run_answers.specs.Printed.{line_of, status_of}
 use Rattle.run_answers.specs.declared.status.Status.{Status}
 
 -- The text and the status are the answer on values of so many steps from an opening table: these numerators over that
@@ -26,12 +26,12 @@ pub record IsSweepReport (q : Query) (opening : ℕ → ℕ) (steps : ℕ) (nume
   -- the value lies between the bounds, and at most as many units as steps from each
   pub bracketed : All (λ s. IsBracketed steps (denominator q.game ^ steps) (slice_index lower s) (slice_index upper s)
       (unit * numerators s)) initial
-  pub written : text ≡ report (map (line_over false f.bound (Steps steps) lower upper) initial)
-  pub lines : All IsLine (map (line_over false f.bound (Steps steps) lower upper) initial)
-  pub ends : status ≡ status_of (map (verdict_over false f.bound lower upper) initial)
+  pub written : text ≡ report (map (line_of false f.bound (Steps steps) lower upper) initial)
+  pub lines : All IsLine (map (line_of false f.bound (Steps steps) lower upper) initial)
+  pub ends : status ≡ status_of (map (line_of false f.bound (Steps steps) lower upper) initial)
   -- True is true and False is false
   pub right : All (λ s. IsRight f.bound (numerators s) (denominator q.game ^ steps)
-      (verdict_over false f.bound lower upper s)) initial
+      (line_of false f.bound (Steps steps) lower upper s).verdict) initial
 
 -- of `F<=k` and `U<=k`: the values within so many steps, which are what both sides can be sure of by strategies with
 -- memory and dice

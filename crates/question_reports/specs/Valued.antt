@@ -1,5 +1,5 @@
 -- What a sound plan tells of the initial states, and of the values that a formula asks for.
-use Rattle.std.specs.Prelude.{◌≡◌, ℕ, ◌-◌, ◌*◌, ◌<◌, ◌≤◌, true, List, map, slice_index, All, if◌then◌else◌}
+use Rattle.std.specs.Prelude.{◌≡◌, ℕ, ◌-◌, ◌*◌, ◌<◌, ◌≤◌, true, List, slice_index, All, if◌then◌else◌}
 use Rattle.game_model.specs.Limits.{unit}
 use Rattle.game_model.specs.Query.{Query, states}
 use Rattle.strategies.specs.Strategies.{AvoidsAgainstAll, IsAvoidedAgainstAll}
@@ -8,21 +8,20 @@ use Rattle.rpatl_syntax.specs.Formula.{Tree}
 use Rattle.plan_text.specs.declared.plan.Plan.{Plan}
 use Rattle.certificate_audit.specs.Accepted.{IsSoundPlan}
 use Rattle.verdicts.specs.Exact.{IsRight}
-use Rattle.run_answers.specs.Printed.{is_mirrored, printed_lower, printed_upper, verdict_for, status_of}
+use Rattle.verdicts.specs.declared.report.ReportLine.{ReportLine}
+use Rattle.run_answers.specs.Printed.{is_mirrored, status_of}
 use Rattle.run_answers.specs.declared.status.Status.{Status}
 
 -- the value that a formula asks for at a state: that of the question, or of `G` 1 less that of the dual
 abbrev pub asked_value : {q : Query} → Tree → HasValues q → ℕ → ℕ
 asked_value f values s = if is_mirrored f.kind then values.top - values.value s else values.value s
 
--- the printed bounds lie on either side of the value that the formula asks for, and where the verdict is True it meets
--- the threshold, and where it is False it does not
-pub record IsPrintedOf {q : Query} (values : HasValues q) (f : Tree) (lower upper : List ℕ) (s : ℕ) : Type 0 where
-  pub below : printed_lower (is_mirrored f.kind) (slice_index lower s) (slice_index upper s) * values.top
-      ≤ unit * asked_value f values s
-  pub above : unit * asked_value f values s
-      ≤ printed_upper (is_mirrored f.kind) (slice_index lower s) (slice_index upper s) * values.top
-  pub right : IsRight f.bound (asked_value f values s) values.top (verdict_for f lower upper s)
+-- the bounds of the line lie on either side of the value that the formula asks for at its state, and where its verdict
+-- is True that value meets the threshold, and where it is False it does not
+pub record IsPrintedOf {q : Query} (values : HasValues q) (f : Tree) (line : ReportLine) : Type 0 where
+  pub below : line.lower * values.top ≤ unit * asked_value f values line.state
+  pub above : unit * asked_value f values line.state ≤ line.upper * values.top
+  pub right : IsRight f.bound (asked_value f values line.state) values.top line.verdict
 
 -- of `G`, where the goals of the dual are the states to stay away from: the replies stay away with at least the printed
 -- lower probability, and with the choices play stays away with at most the printed upper one, and any 1/m
@@ -30,8 +29,9 @@ pub record KeepsAway (q : Query) (plan : Plan) : Type 0 where
   pub avoids : AvoidsAgainstAll q plan.replies.items (λ s. unit - slice_index plan.upper.items s)
   pub avoided : IsAvoidedAgainstAll q plan.choices.items (λ s. unit - slice_index plan.lower.items s)
 
--- what the plan says of the initial states is so, and the status is that of its verdicts
-pub record IsTold (q : Query) (initial : List ℕ) (f : Tree) (plan : Plan) (status : Status) : Type 0 where
+-- what the lines and the plan say of the initial states is so, and the status is that of the lines
+pub record IsTold (q : Query) (initial : List ℕ) (f : Tree) (plan : Plan) (lines : List ReportLine)
+    (status : Status) : Type 0 where
   pub inside : All (λ s. s < states q) initial
   -- the minimiser's choices hold every strategy of the maximiser to the upper bounds, and the maximiser's reach the
   -- lower ones, less any 1/m, against every strategy of the minimiser
@@ -40,5 +40,5 @@ pub record IsTold (q : Query) (initial : List ℕ) (f : Tree) (plan : Plan) (sta
   -- the question has values; at each initial state that which is asked for lies between the printed bounds, and True is
   -- true and False is false of it
   pub values : HasValues q
-  pub valued : All (IsPrintedOf values f plan.lower.items plan.upper.items) initial
-  pub ends : status ≡ status_of (map (verdict_for f plan.lower.items plan.upper.items) initial)
+  pub valued : All (IsPrintedOf values f) lines
+  pub ends : status ≡ status_of lines

@@ -7,7 +7,7 @@ ghost use Rattle.game_model.specs.Limits.{unit};
 ghost use Rattle.verdicts.specs.Report.{HasCount, report};
 ghost use Rattle.command_words.specs.Words.{AreInRange, check_of};
 ghost use Rattle.question_reports.specs.Nested.{IsAnswerable, IsNestedReport, inside_text};
-ghost use Rattle.run_answers.specs.Printed.{line_over, status_of, verdict_over};
+ghost use Rattle.run_answers.specs.Printed.{line_of, status_of};
 ghost use Rattle.run_answers.specs.Status.{IsAnswer};
 
 use asked_files::Loaded;
@@ -70,10 +70,10 @@ fn written(alloc: Global, loaded: &Loaded, found: &Nested) -> Result<Answer, Out
     requires lower { All (λ v. v ≤ unit) found.now.lower.items }
     requires upper { All (λ v. v ≤ unit) found.now.upper.items }
     ensures text { IfOk result (λ answer. answer.text.items ≡ inside_text found.now.inner found.now.undecided
-        ++ report (map (line_over false loaded.now.formula.bound found.now.how found.now.lower.items
+        ++ report (map (line_of false loaded.now.formula.bound found.now.how found.now.lower.items
         found.now.upper.items) found.now.initial.items)) }
     ensures status { IfOk result (λ answer. answer.status ≡ status_of
-        (map (verdict_over false loaded.now.formula.bound found.now.lower.items found.now.upper.items)
+        (map (line_of false loaded.now.formula.bound found.now.how found.now.lower.items found.now.upper.items)
         found.now.initial.items)) }
     ensures answer { IfOk result (λ answer. IsAnswer answer.status) }
 {

@@ -9,7 +9,7 @@ ghost use Rattle.rpatl_syntax.specs.Dual.{IsAtMostOne, answered as answered_of};
 ghost use Rattle.rpatl_syntax.specs.Formula.{tree_of};
 ghost use Rattle.plan_text.specs.Entries.{HasStates, greatest_rank};
 ghost use Rattle.command_words.specs.Words.{AreInRange, check_of};
-ghost use Rattle.run_answers.specs.Printed.{certificate_of, output_of, status_of, verdict_for};
+ghost use Rattle.run_answers.specs.Printed.{certificate_of, output_of, status_of};
 ghost use Rattle.question_reports.specs.Reports.{IsBracketReport, IsShown, IsUpperHeld, IsUpperShown};
 ghost use Rattle.run_answers.specs.Outputs.{certificate_part, output_text};
 ghost use Rattle.run_answers.specs.Status.{IsAnswer};
@@ -155,8 +155,7 @@ pub fn make_answer(
         (output_of asked (tree_of formulas.entry.spelled.now) how initial.now plan.now)) }
     ensures answer { IfOk result (λ answer. IsAnswer answer.status) }
     ensures status { IfOk result (λ answer. answer.status ≡ status_of
-        (map (verdict_for (tree_of formulas.entry.spelled.now) plan.now.lower.items plan.now.upper.items)
-        initial.now)) }
+        (output_of asked (tree_of formulas.entry.spelled.now) how initial.now plan.now).lines) }
 {
     known_ranks(&plan.ranks);
     let mut answer = report_of(

@@ -43,8 +43,8 @@ pub fn solved_report(
     let question = &posed.question;
     let initial: &[u32] = &posed.initial;
     let predecessors = Predecessors::of_game(alloc, question.game())?;
-    let sure = almost_sure_over(alloc, question, &predecessors)?;
     let zero = zero_set_over(alloc, question, &predecessors)?;
+    let sure = almost_sure_over(alloc, question, &predecessors, &zero)?;
     let candidates = find_bounds(alloc, question, &predecessors, &sure, &zero, hints)?;
     let plan = hand_out(alloc, question, &predecessors, &sure, &zero, &candidates)?;
     // What a question keeps, and two laws: these calls do nothing.

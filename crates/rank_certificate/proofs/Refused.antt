@@ -16,7 +16,7 @@ use Rattle.game_laws.proofs.Steps.{down_step-le}
 use Rattle.game_model.specs.Bounds.{IsNear}
 use Rattle.game_model.specs.Tables.{IsTable}
 use Rattle.rank_certificate.specs.Carrying.{CanBeRanked, Stands}
-use Rattle.rank_certificate.specs.LowerGuess.{first_raised, lesser_step, raised_table, IsRefused}
+use Rattle.rank_certificate.specs.LowerGuess.{most_steps, first_raised, lesser_step, raised_table, IsRefused, AreRefused}
 use Rattle.rank_certificate.proofs.Standing.{Ranked-stands}
 
 -- tables that agree at the states have one down step
@@ -94,6 +94,17 @@ changed-refused q entries table next posed h k other list is ranked =
     let above : slice_index table s ≤ down_step q (slice_index table) s =
     omega (arith, ranked-above q entries list posed is ranked s inside, h.each s inside, down_step-same q (slice_index table) entries posed h.each s) in
     k.each s inside ∙ min-eq_left above)
+
+-- where the table after the most steps falls at a state, each one falls
+pub fallen-refused : (q : Query) (marks : List Bool) (base : ℕ → ℕ) (e : ℕ) → IsQuery q → (s : ℕ) → s < states q
+    → down_step q (raised_table q marks base e most_steps) s < raised_table q marks base e most_steps s → AreRefused q marks base e
+fallen-refused q marks base e posed s inside falls j few list is ranked =
+    let stands : (t : ℕ) → t < states q → raised_table q marks base e j t ≤ down_step q (raised_table q marks base e j) t =
+    λ t there. ranked-above q (raised_table q marks base e j) list posed is ranked t there in
+    let at : most_steps - j + j ≡ most_steps = omega (arith, few) in
+    let same : (t : ℕ) → t < states q → raised_table q marks base e most_steps t ≡ raised_table q marks base e j t =
+    λ t there. ap (λ (n : ℕ). raised_table q marks base e n t) (sym at) ∙ raised-still q marks base e posed j stands (most_steps - j) t there in
+    omega (arith, falls, stands s inside, same s inside, down_step-same q (raised_table q marks base e most_steps) (raised_table q marks base e j) posed same s)
 
 -- what the values come near to is 0 where they are
 zero-near : (v d top : ℕ) → 1 ≤ d → (top + 1) * v * d ≤ top * ((top + 1) * 0 + d) → v ≡ 0

@@ -1,6 +1,6 @@
 //! Ranks and choices by layers, found backward from the states that need none.
 
-ghost use Rattle.std.specs.Prelude.{◌≡◌, ℕ, ◌+◌, ◌^◌, ◌<◌, ◌≤◌, [], ◌∷◌, ◌++◌, length, slice_index_or, slice_set, Some, None, IfOk, OnOk};
+ghost use Rattle.std.specs.Prelude.{◌≡◌, ℕ, ◌+◌, ◌^◌, ◌<◌, ◌≤◌, List, [], ◌∷◌, ◌++◌, length, slice_index_or, slice_set, Some, None, IfOk, OnOk};
 ghost use Rattle.game_model.specs.declared.game.Side.TheVariants.{Max};
 ghost use Rattle.game_model.specs.Game.{choices_of};
 ghost use Rattle.game_model.specs.Query.{side_at};
@@ -20,6 +20,9 @@ pub struct Growth {
     pub choices: Vec<Option<u32>>,
     pub order: Vec<u32>,
 }
+
+/// A layer of fewer than one in so many states is left backward.
+const STATES_FOR_A_PASS: usize = 16;
 
 impl Growth {
     ghost use Rattle.rank_certificate.specs.inside.Growth.{IsOpened};
@@ -52,20 +55,51 @@ impl Growth {
         })
     }
 
-    /// Looks at each state: it joins layer 1 where it is carried into layer 0.
-    pub fn start(&mut self, asked: &Asked<'_>) -> Result<(), OutOfMemory>
-        requires { IsGrowthIn asked.now 0 0 self.old.order.items self.old }
-        ensures growth { OnOk result (IsGrowthIn asked.now 0 0 self.old.order.items self.new) }
-        ensures apart { OnOk result ((s : ℕ) → s < states_in asked.now → IsApartIn asked.now 0 self.new s) }
+    /// The next layer, of a layer that stands in the order from one place up to another: where that has many states,
+    /// each state is looked at, and else the moves to these states are followed.
+    pub fn advance(
+        &mut self,
+        asked: &Asked<'_>,
+        level: u32,
+        begin: usize,
+        end: usize,
+    ) -> Result<(), OutOfMemory>
+        requires level { level + 1 < 2 ^ 32 }
+        requires positive { 1 ≤ level }
+        requires begin { begin ≤ end }
+        requires end { end ≡ length self.old.order.items }
+        requires growth { IsGrowthIn asked.now level begin self.old.order.items self.old }
+        ensures growth { OnOk result (IsGrowthIn asked.now level begin self.old.order.items self.new) }
+        ensures apart { OnOk result ((s : ℕ) → s < states_in asked.now → IsApartIn asked.now level self.new s) }
+    {
+        let states = asked.question.game().states() as usize;
+        let layer = end - begin;
+        if layer >= states / STATES_FOR_A_PASS && layer >= states.saturating_sub(end) / 2 {
+            self.look_at_all(asked, level)?;
+            return Ok(());
+        }
+        self.spread(asked, level, begin, end)?;
+        Ok(())
+    }
+
+    /// Looks at each state: where it has no rank and is carried into the layer, it joins the next one.
+    pub fn look_at_all(&mut self, asked: &Asked<'_>, level: u32) -> Result<(), OutOfMemory>
+        requires level { level + 1 < 2 ^ 32 }
+        requires ranks { length self.old.ranks.items ≡ states_in asked.now }
+        requires choices { length self.old.choices.items ≡ states_in asked.now }
+        ensures growth { OnOk result ((begin : ℕ) (old : List ℕ) → IsGrowthIn asked.now level begin old self.old
+            → IsGrowthIn asked.now level begin old self.new) }
+        ensures apart { OnOk result ((begin : ℕ) (old : List ℕ) → IsGrowthIn asked.now level begin old self.old
+            → (s : ℕ) → s < states_in asked.now → IsApartIn asked.now level self.new s) }
     {
         for state in 0..asked.question.game().states() {
-            self.look(asked, 0, state)?;
+            self.look(asked, level, state)?;
         }
         Ok(())
     }
 
     /// Follows all moves to the states of a layer, which stand in the order from one place up to another.
-    pub fn spread(
+    fn spread(
         &mut self,
         asked: &Asked<'_>,
         level: u32,

@@ -40,10 +40,27 @@ impl Guesses<'_> {
     ghost use Rattle.rank_certificate.specs.LowerGuess.{most_steps};
     ghost use Rattle.rank_certificate.specs.inside.OfGuesses.{first_entry_of, IsTableOf, IsRefusedOf, AreRefusedOf, IsFirstOf};
 
-    /// The first of the tables of this excess that can be ranked, with its plan; none where each is refused. One of
-    /// which a state falls is refused. Where none falls, all later ones are the same, and the search for ranks decides.
-    /// Behind the first step only predecessors of states that fell are looked at.
+    /// The first of the tables of this excess that can be ranked, with its plan; none where each is refused. None is
+    /// made where the last one is seen to fall.
     pub fn first_ranked(&self, alloc: Global) -> Result<Option<LowerGuess>, OutOfMemory>
+        ensures found { IfOk result (λ found. MatchOption found (AreRefusedOf self.now)
+            (λ g. IsFirstOf self.now g.values.items)) }
+        ensures plan { IfOk result (λ found. IfSome found (λ g.
+            IsLayeredPlan self.now.question.now g.values.items g.plan.choices.items g.plan.ranks.items)) }
+        ensures ranked { IfOk result (λ found. IfSome found (λ g.
+            Ranked self.now.question.now g.values.items g.plan.choices.items g.plan.ranks.items)) }
+    {
+        if self.falls_to_the_last() {
+            Ok(None)
+        } else {
+            self.first_made(alloc)
+        }
+    }
+
+    /// The same, by making the tables one after another. One of which a state falls is refused. Where none falls, all
+    /// later ones are the same, and the search for ranks decides. Behind the first step only predecessors of states
+    /// that fell are looked at.
+    fn first_made(&self, alloc: Global) -> Result<Option<LowerGuess>, OutOfMemory>
         ensures found { IfOk result (λ found. MatchOption found (AreRefusedOf self.now)
             (λ g. IsFirstOf self.now g.values.items)) }
         ensures plan { IfOk result (λ found. IfSome found (λ g.
@@ -115,7 +132,7 @@ impl Guesses<'_> {
     }
 
     /// The entry of that table at a state.
-    fn first_entry(&self, state: u32) -> u64
+    pub fn first_entry(&self, state: u32) -> u64
         requires { state < states self.now.question.now }
         ensures value { result ≡ first_entry_of self.now state }
         ensures units { result ≤ unit }

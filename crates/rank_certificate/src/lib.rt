@@ -25,6 +25,7 @@ mod guess;
 mod guesses;
 pub mod laws;
 mod lesser;
+mod local;
 mod table;
 
 pub use check::{RankCause, RankFault, check_ranks};

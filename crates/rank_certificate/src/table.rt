@@ -33,7 +33,7 @@ pub struct RankPlan {
 /// value and has a successor of greater value, or one of equal value and smaller rank. The maximiser takes the
 /// first such choice there, and has none elsewhere. A state whose down step is below its value refuses the
 /// values at once. Else the search goes backward from the states of rank 0: it looks at a state again only when
-/// a successor got a rank. The time is no part of the contract. The only error is want of memory.
+/// a successor got a rank, or a large part of all states did. The time is no part of the contract. The only error is want of memory.
 pub fn rank_table(
     alloc: Global,
     question: &Question,
@@ -132,11 +132,11 @@ fn all_layers(alloc: Global, asked: &Asked<'_>) -> Result<Growth, OutOfMemory>
 {
     let mut growth = Growth::of_unneeded(alloc, asked)?;
     let mut begin = growth.order.len();
-    growth.start(asked)?;
+    growth.look_at_all(asked, 0)?;
     let mut level: u32 = 1;
     while begin < growth.order.len() {
         let end = growth.order.len();
-        growth.spread(asked, level, begin, end)?;
+        growth.advance(asked, level, begin, end)?;
         begin = end;
         level += 1;
     }

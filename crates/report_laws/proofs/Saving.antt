@@ -12,7 +12,7 @@ use Rattle.label_reader.specs.Labels.{Label, marks_of, marked_from, states_with,
 use Rattle.label_reader.specs.Denotes.{AreLabels, DenotesLabels}
 use Rattle.label_reader.specs.Owners.{Ownership}
 use Rattle.rpatl_syntax.specs.Formula.{Tree}
-use Rattle.rpatl_syntax.specs.Rules.{Denotes}
+use Rattle.rpatl_syntax.specs.Rules.{DenotesFormula}
 use Rattle.rpatl_syntax.specs.Spellable.{IsSpellable}
 use Rattle.rpatl_syntax.specs.Spelling.{spelling}
 use Rattle.formula_sets.specs.Posing.{Posing, init}
@@ -81,7 +81,7 @@ same_check one words check command denoted also = subst (λ (k : Command). IsChe
 
 -- every formula that a text denotes can be spelled
 abbrev pub AreSpellable : Type 0
-AreSpellable = (text : List ℕ) (formula : Tree) → Denotes text formula → IsSpellable formula
+AreSpellable = (text : List ℕ) (formula : Tree) → DenotesFormula text formula → IsSpellable formula
 
 -- there are few initial states, and the formula is short
 pub record AreFew (problem : Problem) (f : Tree) : Type 0 where

@@ -7,7 +7,7 @@ use Rattle.rpatl_syntax.specs.Formula.{Tree}
 use Rattle.rpatl_syntax.specs.Limits.{longest, most_nested}
 use Rattle.rpatl_syntax.specs.Tokens.{Tokens, Finish, Broken, Then, tokens_of}
 use Rattle.rpatl_syntax.specs.Grammar.{bound, finished, tree_with, behind_bound, formula, formula_said}
-use Rattle.rpatl_syntax.specs.Rules.{formula_of, IsFormula, Denotes}
+use Rattle.rpatl_syntax.specs.Rules.{formula_of, IsFormula, DenotesFormula}
 use Rattle.rpatl_syntax.specs.Laws.{AreTokens}
 use Rattle.rpatl_syntax.proofs.Spans.{Spans, spans_split}
 use Rattle.rpatl_syntax.proofs.Orders.{not_above}
@@ -35,7 +35,7 @@ formula_again us f d ts a =
     ∙ ap (λ r. r >>= λ p. finished (tree_with f.coalition f.bound p.0) p.1) (sides_again most_nested d.sides f.kind f.left f.right d.path asks.0 (Finish all.0) asks.2)
 
 -- What is denoted is said.
-pub formula_said_again : (text : List ℕ) (f : Tree) → Denotes text f → formula_said text ≡ Ok f
+pub formula_said_again : (text : List ℕ) (f : Tree) → DenotesFormula text f → formula_said text ≡ Ok f
 unfolding formula_said
 formula_said_again text f d =
     ap (λ b. cond b (Err (fault_at longest TooLong)) (formula (tokens_of text))) (not_above (length text) longest d.short) ∙ formula_again d.tokens f d.formula (tokens_of text) (cut_read text d.tokens d.cut 0)

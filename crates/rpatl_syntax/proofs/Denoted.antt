@@ -7,7 +7,7 @@ use Rattle.rpatl_syntax.specs.Formula.{Path, Tree}
 use Rattle.rpatl_syntax.specs.Limits.{longest, most_nested}
 use Rattle.rpatl_syntax.specs.Tokens.{Tokens, Finish, Broken, Then, tokens_of}
 use Rattle.rpatl_syntax.specs.Grammar.{coalition, bound, sides, nested, finished, tree_with, behind_bound, formula, formula_said}
-use Rattle.rpatl_syntax.specs.Rules.{IsCoalition, IsBound, IsFormula, IsPath, Denotes}
+use Rattle.rpatl_syntax.specs.Rules.{IsCoalition, IsBound, IsFormula, IsPath, DenotesFormula}
 use Rattle.rpatl_syntax.specs.Laws.{AreTokens}
 use Rattle.rpatl_syntax.proofs.Spans.{Spans, Found, spans_append, chosen, bind_ok}
 use Rattle.rpatl_syntax.proofs.Orders.{le_from}
@@ -68,7 +68,7 @@ formula_found ts f e =
     (sides_found (suc most_nested) (finds (suc most_nested)) b.value.1 c.value.0 c.value.1 c.first) c.then_
 
 -- What is said to be a formula is denoted.
-pub formula_denoted : (text : List ℕ) (f : Tree) → formula_said text ≡ Ok f → Denotes text f
+pub formula_denoted : (text : List ℕ) (f : Tree) → formula_said text ≡ Ok f → DenotesFormula text f
 unfolding formula_said
 formula_denoted text f e =
     elim (chosen (nat_lt longest (length text)) (Err (fault_at longest TooLong)) (formula (tokens_of text)) (Ok f) e) [

@@ -6,7 +6,7 @@ use Rattle.rpatl_syntax.specs.declared.formula.PathKind.{PathKind}
 use Rattle.rpatl_syntax.specs.Formula.{State, Tree, formulas_in, formulas_inside}
 use Rattle.rpatl_syntax.specs.Limits.{longest}
 use Rattle.rpatl_syntax.specs.TokenRules.{IsSpelling, word, number, quoted_name, long_sign, short_sign, AreCut, nothing, blank, token}
-use Rattle.rpatl_syntax.specs.Rules.{between, formula_of, IsState, IsEither, IsBoth, IsUnary, IsPath, plain_state, implies, plain_either, or, plain_both, and, negation, brackets, everywhere, nowhere, label, inside, reach, reach_within, until, until_within, next, always, Denotes}
+use Rattle.rpatl_syntax.specs.Rules.{between, formula_of, IsState, IsEither, IsBoth, IsUnary, IsPath, plain_state, implies, plain_either, or, plain_both, and, negation, brackets, everywhere, nowhere, label, inside, reach, reach_within, until, until_within, next, always, DenotesFormula}
 
 -- 1. Each formula inside has a token of its own.
 
@@ -64,7 +64,7 @@ few_tokens _ _ nothing = omega arith
 few_tokens _ _ (blank b rest tokens is d) = omega (arith, few_tokens rest tokens d)
 few_tokens _ _ (token spelling rest tokens l d) = omega (arith, few_tokens rest tokens d, some_bytes spelling l.is, length-append spelling rest)
 
-pub few_inside : (text : List ℕ) (f : Tree) → Denotes text f → formulas_inside f ≤ longest
+pub few_inside : (text : List ℕ) (f : Tree) → DenotesFormula text f → formulas_inside f ≤ longest
 few_inside text f d =
     let g = d.formula in
     let inner = inside_few g.team g.asks g.sides (formulas_inside f) (path_few _ g.sides f.kind f.left f.right g.path) in

@@ -5,7 +5,7 @@ use Rattle.rpatl_syntax.specs.declared.formula.Bound.{Bound}
 use Rattle.rpatl_syntax.specs.declared.formula.Bound.TheVariants.{AtLeast, Above, AtMost, Below, AskMax, AskMin}
 use Rattle.rpatl_syntax.specs.Dual.{dual_bound, IsAtMostOne, IsMetBy}
 use Rattle.rpatl_syntax.specs.Formula.{Tree}
-use Rattle.rpatl_syntax.specs.Rules.{IsBound, Denotes}
+use Rattle.rpatl_syntax.specs.Rules.{IsBound, DenotesFormula}
 
 rest-rest : (p : Fraction) → p.num ≤ p.den → rest_of (rest_of p) ≡ p
 rest-rest p small =
@@ -66,5 +66,5 @@ bound-small ts (Below p) is = is.2.small
 bound-small ts AskMax is = tt
 bound-small ts AskMin is = tt
 
-pub threshold-small : (text : List ℕ) (tree : Tree) → Denotes text tree → IsAtMostOne tree.bound
+pub threshold-small : (text : List ℕ) (tree : Tree) → DenotesFormula text tree → IsAtMostOne tree.bound
 threshold-small text tree h = bound-small h.formula.asks tree.bound h.formula.bound

@@ -9,7 +9,7 @@ use Rattle.rpatl_syntax.specs.Grammar.{formula, formula_said}
 use Rattle.rpatl_syntax.specs.Laws.{AreTokens}
 use Rattle.rpatl_syntax.specs.TokenRules.{IsSpelling}
 use Rattle.rpatl_syntax.specs.Limits.{longest, most_nested}
-use Rattle.rpatl_syntax.specs.Rules.{IsFormula, Denotes}
+use Rattle.rpatl_syntax.specs.Rules.{IsFormula, DenotesFormula}
 use Rattle.rpatl_syntax.specs.Spellable.{IsSpellable}
 use Rattle.rpatl_syntax.specs.Spelling.{state_spelling, spelling}
 use Rattle.rpatl_syntax.specs.Tokens.{tokens_of}
@@ -26,7 +26,7 @@ use Rattle.rpatl_syntax.proofs.PrintedTokens.{team_tokens, bound_tokens, kind_to
 
 -- 1. What is read can be spelled.
 
-pub spellable : (text : List ℕ) (f : Tree) → Denotes text f → IsSpellable f
+pub spellable : (text : List ℕ) (f : Tree) → DenotesFormula text f → IsSpellable f
 spellable text f d =
     let g = d.formula in
     let back = codes "[" ∷ (g.sides ++ codes "]" ∷ []) in
@@ -70,7 +70,7 @@ tokens_derived f is = record {
 
 -- 4. What is read from a spelling.
 
-spelling_denotes : (f : Tree) → IsSpellable f → length (spelling f) ≤ longest → Denotes (spelling f) f
+spelling_denotes : (f : Tree) → IsSpellable f → length (spelling f) ≤ longest → DenotesFormula (spelling f) f
 spelling_denotes f is short = record {
   short = short;
   tokens = formula_tokens f;

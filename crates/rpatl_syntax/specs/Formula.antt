@@ -1,7 +1,7 @@
 -- Formulas as plain trees, without where they lie in memory.
 use Rattle.std.specs.Prelude.{◌≡◌, ◌&&◌, ◌+◌, ℕ, suc, Bool, true, false, List, Option, option_map}
 use Rattle.rpatl_syntax.specs.declared.formula.StateFormula.{StateFormula}
-use Rattle.rpatl_syntax.specs.declared.formula.StateFormula.TheVariants.{All, Nothing, Named, Negated', Both', Either', Implied', Inner'}
+use Rattle.rpatl_syntax.specs.declared.formula.StateFormula.TheVariants.{True as True', False as False', Label as Label', Not', And', Or', Implies', Inner'}
 use Rattle.rpatl_syntax.specs.declared.formula.Bound.{Bound}
 use Rattle.rpatl_syntax.specs.declared.formula.Names.{Names}
 use Rattle.rpatl_syntax.specs.declared.formula.PathKind.{PathKind}
@@ -39,13 +39,13 @@ names_of names = names.list.items
 
 -- The tree of a state formula in memory: at a box p and q say where it lies.
 abbrev pub state_of : StateFormula → State
-state_of All = True
-state_of Nothing = False
-state_of (Named name) = Label name
-state_of (Negated' p x) = Not (state_of x)
-state_of (Both' p x q y) = And (state_of x) (state_of y)
-state_of (Either' p x q y) = Or (state_of x) (state_of y)
-state_of (Implied' p x q y) = Implies (state_of x) (state_of y)
+state_of True' = True
+state_of False' = False
+state_of (Label' name) = Label name
+state_of (Not' p x) = Not (state_of x)
+state_of (And' p x q y) = And (state_of x) (state_of y)
+state_of (Or' p x q y) = Or (state_of x) (state_of y)
+state_of (Implies' p x q y) = Implies (state_of x) (state_of y)
 state_of (Inner' p team bound kind left right) =
     Inner (option_map names_of team) bound kind (state_of left) (state_of right)
 

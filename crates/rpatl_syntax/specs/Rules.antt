@@ -127,7 +127,7 @@ pub record IsFormula (ts : List (List ℕ)) (f : Tree) : Type 0 where
   pub path : IsPath most_nested sides f.kind f.left f.right
 
 -- The text spells this formula.
-pub record Denotes (text : List ℕ) (f : Tree) : Type 0 where
+pub record DenotesFormula (text : List ℕ) (f : Tree) : Type 0 where
   pub short : length text ≤ longest
   pub tokens : List (List ℕ)
   pub cut : AreCut text tokens

@@ -3,7 +3,7 @@
 ghost use Rattle.std.specs.Prelude.{◌≡◌};
 ghost use Rattle.rpatl_syntax.specs.Fault.{IsResult};
 ghost use Rattle.rpatl_syntax.specs.Grammar.{steps, deadline};
-ghost use Rattle.rpatl_syntax.specs.inside.Cursor.{tokens_at, token_of, kind_at};
+ghost use Rattle.rpatl_syntax.specs.inside.Cursor.{tokens_at, token_of, read_at};
 
 use crate::cursor::Cursor;
 use crate::fault::{FormulaCause, FormulaFault};
@@ -14,7 +14,7 @@ use text_lines::whole;
 
 /// The number of steps that `<=` sets a path, where one stands.
 pub fn read_deadline<'a>(cursor: Cursor<'a>) -> Result<(PathKind, Cursor<'a>), FormulaFault>
-    ensures { IsResult kind_at result (deadline (tokens_at cursor.entry)) }
+    ensures { IsResult (read_at (λ kind. kind)) result (deadline (tokens_at cursor.entry)) }
 {
     let Some(behind_sign) = behind_if(cursor, "<=") else {
         return Ok((PathKind::Until, cursor));

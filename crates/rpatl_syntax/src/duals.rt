@@ -20,8 +20,8 @@ pub fn dual(alloc: Global, formula: &Formula) -> Result<Formula, OutOfMemory>
         coalition: copied_team(alloc, &formula.coalition)?,
         bound: mirrored(&formula.bound),
         kind: PathKind::Until,
-        left: StateFormula::All,
-        right: StateFormula::Negated(copied_place(alloc, &formula.right)?),
+        left: StateFormula::True,
+        right: StateFormula::Not(copied_place(alloc, &formula.right)?),
     })
 }
 
@@ -64,30 +64,30 @@ fn copied_state(alloc: Global, state: &StateFormula) -> Result<StateFormula, Out
     ensures { IfOk result (λ copy. state_of copy ≡ state_of state.now) }
 {
     match state {
-        StateFormula::All => Ok(StateFormula::All),
-        StateFormula::Nothing => Ok(StateFormula::Nothing),
-        StateFormula::Named(name) => {
+        StateFormula::True => Ok(StateFormula::True),
+        StateFormula::False => Ok(StateFormula::False),
+        StateFormula::Label(name) => {
             let name = Name::from_bytes(alloc, name.as_bytes())?;
-            Ok(StateFormula::Named(name))
+            Ok(StateFormula::Label(name))
         }
-        StateFormula::Negated(x) => {
+        StateFormula::Not(x) => {
             let x = copied_place(alloc, x)?;
-            Ok(StateFormula::Negated(x))
+            Ok(StateFormula::Not(x))
         }
-        StateFormula::Both(x, y) => {
-            let x = copied_place(alloc, x)?;
-            let y = copied_place(alloc, y)?;
-            Ok(StateFormula::Both(x, y))
-        }
-        StateFormula::Either(x, y) => {
+        StateFormula::And(x, y) => {
             let x = copied_place(alloc, x)?;
             let y = copied_place(alloc, y)?;
-            Ok(StateFormula::Either(x, y))
+            Ok(StateFormula::And(x, y))
         }
-        StateFormula::Implied(x, y) => {
+        StateFormula::Or(x, y) => {
             let x = copied_place(alloc, x)?;
             let y = copied_place(alloc, y)?;
-            Ok(StateFormula::Implied(x, y))
+            Ok(StateFormula::Or(x, y))
+        }
+        StateFormula::Implies(x, y) => {
+            let x = copied_place(alloc, x)?;
+            let y = copied_place(alloc, y)?;
+            Ok(StateFormula::Implies(x, y))
         }
         StateFormula::Inner(formula) => {
             let copy = copied_formula(alloc, formula)?;

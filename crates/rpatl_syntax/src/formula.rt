@@ -10,19 +10,19 @@ use game_outside::Name;
 #[derive(Drop)]
 pub enum StateFormula {
     /// `true`: every state.
-    All,
+    True,
     /// `false`: no state.
-    Nothing,
+    False,
     /// The states with this label.
-    Named(Name),
+    Label(Name),
     /// `!x`
-    Negated(Box<StateFormula>),
+    Not(Box<StateFormula>),
     /// `x & y`
-    Both(Box<StateFormula>, Box<StateFormula>),
+    And(Box<StateFormula>, Box<StateFormula>),
     /// `x | y`
-    Either(Box<StateFormula>, Box<StateFormula>),
+    Or(Box<StateFormula>, Box<StateFormula>),
     /// `x => y`
-    Implied(Box<StateFormula>, Box<StateFormula>),
+    Implies(Box<StateFormula>, Box<StateFormula>),
     /// The states where a formula is true, as `P>=0.5 [ F "goal" ]`.
     Inner(Box<Formula>),
 }
@@ -78,14 +78,14 @@ pub struct Names {
 /// What a formula asks of a path: `left U right` and its kin.
 #[derive(Clone, Copy, Debug, PartialEq, Eq)]
 pub enum PathKind {
-    /// `left U right`: a state of the right side is reached, past states of the left side alone. `F right` has `All` on
+    /// `left U right`: a state of the right side is reached, past states of the left side alone. `F right` has `True` on
     /// the left.
     Until,
-    /// `left U<=k right`: the same, within so many steps. `F<=k right` has `All` on the left.
+    /// `left U<=k right`: the same, within so many steps. `F<=k right` has `True` on the left.
     Within(u32),
-    /// `X right`: the next state is of the right side. The left side is `All`.
+    /// `X right`: the next state is of the right side. The left side is `True`.
     Next,
-    /// `G right`: every state is of the right side. The left side is `All`.
+    /// `G right`: every state is of the right side. The left side is `True`.
     Always,
 }
 

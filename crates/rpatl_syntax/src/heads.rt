@@ -1,11 +1,12 @@
 //! What stands before the `[` of a formula: a coalition and a bound.
 
-ghost use Rattle.std.specs.Prelude.{◌≡◌, ◌++◌, ◌∷◌, [], OnOk, IfErr};
+ghost use Rattle.std.specs.Prelude.{◌≡◌, ◌++◌, ◌∷◌, [], OnOk, IfErr, option_map};
 ghost use Rattle.game_outside.specs.Answers.{AnswersOrWants};
 ghost use Rattle.rpatl_syntax.specs.Fault.{IsResult, IsOutOfMemory};
+ghost use Rattle.rpatl_syntax.specs.Formula.{names_of};
 ghost use Rattle.rpatl_syntax.specs.inside.Bounds.{bound_with};
 ghost use Rattle.rpatl_syntax.specs.Grammar.{names, coalition, threshold, comparison, bound, inner_bound, compared, is_word};
-ghost use Rattle.rpatl_syntax.specs.inside.Cursor.{tokens_at, token_of, names_at, team_at, bound_at};
+ghost use Rattle.rpatl_syntax.specs.inside.Cursor.{tokens_at, token_of, read_at};
 
 use crate::cursor::Cursor;
 use crate::fault::{FormulaCause, FormulaFault};
@@ -23,7 +24,7 @@ pub fn read_coalition<'a>(
     alloc: Global,
     cursor: Cursor<'a>,
 ) -> Result<(Option<Names>, Cursor<'a>), FormulaFault>
-    ensures { AnswersOrWants IsOutOfMemory team_at result (coalition (tokens_at cursor.entry)) }
+    ensures { AnswersOrWants IsOutOfMemory (read_at (option_map names_of)) result (coalition (tokens_at cursor.entry)) }
 {
     let Some(inside) = behind_if(cursor, "<<") else {
         return Ok((None, cursor));
@@ -38,7 +39,7 @@ pub fn read_coalition<'a>(
 
 // One or more names, and `>>` behind them.
 fn read_names<'a>(alloc: Global, cursor: Cursor<'a>) -> Result<(Names, Cursor<'a>), FormulaFault>
-    ensures { AnswersOrWants IsOutOfMemory names_at result (names (tokens_at cursor.entry)) }
+    ensures { AnswersOrWants IsOutOfMemory (read_at names_of) result (names (tokens_at cursor.entry)) }
 {
     let mut list = Vec::new(alloc);
     let mut rest = cursor;
@@ -80,7 +81,7 @@ fn add_name(alloc: Global, list: &mut Vec<Name>, word: &[u8]) -> Result<(), Form
 
 /// A bound on the probability.
 pub fn read_bound<'a>(cursor: Cursor<'a>) -> ReadBound<'a>
-    ensures { IsResult bound_at result (bound (tokens_at cursor.entry)) }
+    ensures { IsResult (read_at (λ bound. bound)) result (bound (tokens_at cursor.entry)) }
 {
     let token = next_token(cursor)?;
     if token.is("P") {
@@ -96,7 +97,7 @@ pub fn read_bound<'a>(cursor: Cursor<'a>) -> ReadBound<'a>
 
 /// The bound of a formula inside, which compares with a threshold.
 pub fn read_inner_bound<'a>(cursor: Cursor<'a>) -> ReadBound<'a>
-    ensures { IsResult bound_at result (inner_bound (tokens_at cursor.entry)) }
+    ensures { IsResult (read_at (λ bound. bound)) result (inner_bound (tokens_at cursor.entry)) }
 {
     let token = next_token(cursor)?;
     if token.is("P") {
@@ -109,7 +110,7 @@ pub fn read_inner_bound<'a>(cursor: Cursor<'a>) -> ReadBound<'a>
 }
 
 fn read_comparison<'a>(cursor: Cursor<'a>) -> ReadBound<'a>
-    ensures { IsResult bound_at result (comparison (tokens_at cursor.entry)) }
+    ensures { IsResult (read_at (λ bound. bound)) result (comparison (tokens_at cursor.entry)) }
 {
     let sign = next_token(cursor)?;
     if sign.is(">=") {
@@ -130,7 +131,7 @@ fn read_threshold<'a>(
     comparison: Comparison,
     cursor: Cursor<'a>,
 ) -> Result<(Bound, Cursor<'a>), FormulaFault>
-    ensures { IsResult bound_at result (compared (bound_with comparison) (tokens_at cursor.entry)) }
+    ensures { IsResult (read_at (λ bound. bound)) result (compared (bound_with comparison) (tokens_at cursor.entry)) }
 {
     let token = next_token(cursor)?;
     let threshold = threshold_in(&token)?;

@@ -6,7 +6,7 @@ ghost use Rattle.rpatl_syntax.specs.Formula.{Tree, formulas_inside};
 ghost use Rattle.rpatl_syntax.specs.Grammar.{formula_said};
 ghost use Rattle.rpatl_syntax.specs.Laws.{AreTokens, AreAlike, IsBlank, StandsAt, spellings_of, cause_of};
 ghost use Rattle.rpatl_syntax.specs.Limits.{longest, most_nested, most_steps, longest_name};
-ghost use Rattle.rpatl_syntax.specs.Rules.{Denotes};
+ghost use Rattle.rpatl_syntax.specs.Rules.{DenotesFormula};
 ghost use Rattle.rpatl_syntax.specs.Spellable.{IsSpellable};
 ghost use Rattle.rpatl_syntax.specs.Spelling.{spelling};
 ghost use Rattle.rpatl_syntax.specs.TokenRules.{AreCut};
@@ -47,20 +47,20 @@ pub fn blanks_before_tokens_are_free()
 pub fn blanks_change_no_formula()
     ensures before { (front blank back : List ℕ) (tree : Tree) → IsBlank blank
         → StandsAt (tokens_of (front ++ back)) (length front) →
-        length (front ++ (blank ++ back)) ≤ longest → Denotes (front ++ back) tree
-        → Denotes (front ++ (blank ++ back)) tree }
+        length (front ++ (blank ++ back)) ≤ longest → DenotesFormula (front ++ back) tree
+        → DenotesFormula (front ++ (blank ++ back)) tree }
     ensures end { (text blank : List ℕ) (tree : Tree) → IsBlank blank → length (text ++ blank) ≤ longest
-        → Denotes text tree → Denotes (text ++ blank) tree }
+        → DenotesFormula text tree → DenotesFormula (text ++ blank) tree }
 {}
 
 /// The formula that is read from a text is the one that it denotes.
 pub fn formulas_are_those_that_a_text_denotes()
-    ensures { (text : List ℕ) (tree : Tree) → (formula_said text ≡ Ok tree) ↔ Denotes text tree }
+    ensures { (text : List ℕ) (tree : Tree) → (formula_said text ≡ Ok tree) ↔ DenotesFormula text tree }
 {}
 
 /// What a text denotes can be spelled, so `print_formula` says of it that it is read again.
 pub fn formulas_of_texts_are_spellable()
-    ensures { (text : List ℕ) (tree : Tree) → Denotes text tree → IsSpellable tree }
+    ensures { (text : List ℕ) (tree : Tree) → DenotesFormula text tree → IsSpellable tree }
 {}
 
 /// No two formulas that can be spelled have the same spelling.
@@ -71,12 +71,12 @@ pub fn spellings_have_one_reading()
 
 /// A formula that a text denotes has no more formulas inside than a text may have bytes.
 pub fn formulas_inside_are_few()
-    ensures { (text : List ℕ) (tree : Tree) → Denotes text tree → formulas_inside tree ≤ longest }
+    ensures { (text : List ℕ) (tree : Tree) → DenotesFormula text tree → formulas_inside tree ≤ longest }
 {}
 
 /// A threshold of a formula that a text denotes is at most 1, as `dual` requires it.
 pub fn thresholds_are_at_most_one()
-    ensures { (text : List ℕ) (tree : Tree) → Denotes text tree → IsAtMostOne tree.bound }
+    ensures { (text : List ℕ) (tree : Tree) → DenotesFormula text tree → IsAtMostOne tree.bound }
 {}
 
 /// What is left of a whole meets the dual of a bound exactly where the part that was taken meets the bound.

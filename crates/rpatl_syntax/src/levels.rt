@@ -42,9 +42,9 @@ impl Level {
         let left = boxed(alloc, left)?;
         let right = boxed(alloc, right)?;
         match self {
-            Level::Implication => Ok(StateFormula::Implied(left, right)),
-            Level::Disjunction => Ok(StateFormula::Either(left, right)),
-            Level::Conjunction => Ok(StateFormula::Both(left, right)),
+            Level::Implication => Ok(StateFormula::Implies(left, right)),
+            Level::Disjunction => Ok(StateFormula::Or(left, right)),
+            Level::Conjunction => Ok(StateFormula::And(left, right)),
         }
     }
 }
@@ -54,7 +54,7 @@ pub fn negation(alloc: Global, state: StateFormula) -> Result<StateFormula, Form
     ensures { MatchResult result (λ whole. state_of whole ≡ Not (state_of state)) IsOutOfMemory }
 {
     let state = boxed(alloc, state)?;
-    Ok(StateFormula::Negated(state))
+    Ok(StateFormula::Not(state))
 }
 
 /// A formula of its parts as a state formula: the states where it is true.

@@ -128,7 +128,7 @@ fn put_until(out: &mut Vec<u8>, left: &StateFormula) -> Result<(), OutOfMemory>
         (state_spelling (state_of left.now))) }
 {
     match left {
-        StateFormula::All => put(out, "F"),
+        StateFormula::True => put(out, "F"),
         _ => {
             put_state(out, left)?;
             put(out, " U")
@@ -141,28 +141,28 @@ fn put_state(out: &mut Vec<u8>, state: &StateFormula) -> Result<(), OutOfMemory>
     ensures { OnOk result (out.new.items ≡ out.old.items ++ state_spelling (state_of state.now)) }
 {
     match state {
-        StateFormula::All => put(out, "true"),
-        StateFormula::Nothing => put(out, "false"),
-        StateFormula::Named(name) => {
+        StateFormula::True => put(out, "true"),
+        StateFormula::False => put(out, "false"),
+        StateFormula::Label(name) => {
             put(out, "\"")?;
             put_bytes(out, name.as_bytes())?;
             put(out, "\"")
         }
-        StateFormula::Negated(x) => {
+        StateFormula::Not(x) => {
             put(out, "!")?;
             put_operand(out, 3, x)
         }
-        StateFormula::Both(x, y) => {
+        StateFormula::And(x, y) => {
             put_operand(out, 2, x)?;
             put(out, " & ")?;
             put_operand(out, 3, y)
         }
-        StateFormula::Either(x, y) => {
+        StateFormula::Or(x, y) => {
             put_operand(out, 1, x)?;
             put(out, " | ")?;
             put_operand(out, 2, y)
         }
-        StateFormula::Implied(x, y) => {
+        StateFormula::Implies(x, y) => {
             put_operand(out, 0, x)?;
             put(out, " => ")?;
             put_operand(out, 1, y)
@@ -190,9 +190,9 @@ fn strength(state: &StateFormula) -> u8
     ensures { result ≡ strength_of (state_of state.now) }
 {
     match state {
-        StateFormula::Implied(_, _) => 0,
-        StateFormula::Either(_, _) => 1,
-        StateFormula::Both(_, _) => 2,
+        StateFormula::Implies(_, _) => 0,
+        StateFormula::Or(_, _) => 1,
+        StateFormula::And(_, _) => 2,
         _ => 3,
     }
 }

@@ -6,7 +6,7 @@ ghost use Rattle.rpatl_syntax.specs.Fault.{IsOutOfMemory};
 ghost use Rattle.rpatl_syntax.specs.Formula.{state_of, names_of};
 ghost use Rattle.rpatl_syntax.specs.Grammar.{plain, begins_formula, unary, inner, sides, nested, implied, right_side, reached, path, unquoted};
 ghost use Rattle.rpatl_syntax.specs.inside.Levels.{level_of, operand_of};
-ghost use Rattle.rpatl_syntax.specs.inside.Cursor.{tokens_at, token_of, state_at, path_at};
+ghost use Rattle.rpatl_syntax.specs.inside.Cursor.{tokens_at, token_of, read_at, path_at};
 
 use crate::cursor::Cursor;
 use crate::deadlines::read_deadline;
@@ -26,15 +26,15 @@ pub type ReadPath<'a> = Result<(PathKind, StateFormula, StateFormula, Cursor<'a>
 
 // `true`, `false` or a quoted name.
 fn plain_state<'a>(alloc: Global, token: Token<'a>) -> Read<'a>
-    ensures { AnswersOrWants IsOutOfMemory state_at result (plain (token_of token.entry)) }
+    ensures { AnswersOrWants IsOutOfMemory (read_at state_of) result (plain (token_of token.entry)) }
 {
     if token.is("true") {
-        Ok((StateFormula::All, token.after))
+        Ok((StateFormula::True, token.after))
     } else if token.is("false") {
-        Ok((StateFormula::Nothing, token.after))
+        Ok((StateFormula::False, token.after))
     } else if let [b'"', ..] = token.spelling {
         let name = label(alloc, token.spelling)?;
-        Ok((StateFormula::Named(name), token.after))
+        Ok((StateFormula::Label(name), token.after))
     } else {
         Err(token.fault(FormulaCause::Unexpected))
     }
@@ -58,7 +58,7 @@ fn label(alloc: Global, spelling: &[u8]) -> Result<Name, FormulaFault>
 #[tactic(auto, using(crate::proofs::Joining::begun, crate::proofs::Joining::went_on, crate::proofs::Joining::broke_off, crate::proofs::Joining::ended))]
 #[cycle(state)]
 fn level_state<'a>(alloc: Global, level: Level, room: u32, cursor: Cursor<'a>) -> Read<'a>
-    ensures { AnswersOrWants IsOutOfMemory state_at result
+    ensures { AnswersOrWants IsOutOfMemory (read_at state_of) result
         (level_of level (unary (nested room)) (tokens_at cursor.entry)) }
 {
     let (mut left, mut rest) = operand_state(alloc, level, room, cursor)?;
@@ -73,7 +73,7 @@ fn level_state<'a>(alloc: Global, level: Level, room: u32, cursor: Cursor<'a>) -
 // What stands between the signs of a level.
 #[cycle(state)]
 fn operand_state<'a>(alloc: Global, level: Level, room: u32, cursor: Cursor<'a>) -> Read<'a>
-    ensures { AnswersOrWants IsOutOfMemory state_at result
+    ensures { AnswersOrWants IsOutOfMemory (read_at state_of) result
         (operand_of level (unary (nested room)) (tokens_at cursor.entry)) }
 {
     match level {
@@ -85,7 +85,7 @@ fn operand_state<'a>(alloc: Global, level: Level, room: u32, cursor: Cursor<'a>)
 
 #[cycle(state)]
 fn unary_state<'a>(alloc: Global, room: u32, cursor: Cursor<'a>) -> Read<'a>
-    ensures { AnswersOrWants IsOutOfMemory state_at result (unary (nested room) (tokens_at cursor.entry)) }
+    ensures { AnswersOrWants IsOutOfMemory (read_at state_of) result (unary (nested room) (tokens_at cursor.entry)) }
 {
     let token = next_token(cursor)?;
     if token.is("!") || token.is("(") {
@@ -107,7 +107,7 @@ fn begins_formula(token: &Token<'_>) -> bool
 #[tactic(auto, using(crate::proofs::Joining::nested_within, crate::proofs::Joining::nested_without))]
 #[cycle(state)]
 fn nested_state<'a>(alloc: Global, room: u32, token: Token<'a>) -> Read<'a>
-    ensures { AnswersOrWants IsOutOfMemory state_at result ((nested room).state (token_of token.entry)) }
+    ensures { AnswersOrWants IsOutOfMemory (read_at state_of) result ((nested room).state (token_of token.entry)) }
 {
     if room == 0 {
         return Err(token.fault(FormulaCause::TooDeep));
@@ -125,7 +125,7 @@ fn nested_state<'a>(alloc: Global, room: u32, token: Token<'a>) -> Read<'a>
 // A formula inside.
 #[cycle(state)]
 fn inner_state<'a>(alloc: Global, room: u32, cursor: Cursor<'a>) -> Read<'a>
-    ensures { AnswersOrWants IsOutOfMemory state_at result (inner (nested room) (tokens_at cursor.entry)) }
+    ensures { AnswersOrWants IsOutOfMemory (read_at state_of) result (inner (nested room) (tokens_at cursor.entry)) }
 {
     let (coalition, rest) = read_coalition(alloc, cursor)?;
     match read_inner_bound(rest) {
@@ -164,17 +164,17 @@ fn read_path<'a>(alloc: Global, room: u32, cursor: Cursor<'a>) -> ReadPath<'a>
 {
     let token = next_token(cursor)?;
     if token.is("F") {
-        return read_reached(alloc, room, StateFormula::All, token.after);
+        return read_reached(alloc, room, StateFormula::True, token.after);
     }
     if token.is("X") {
-        return read_right(alloc, room, PathKind::Next, StateFormula::All, token.after);
+        return read_right(alloc, room, PathKind::Next, StateFormula::True, token.after);
     }
     if token.is("G") {
         return read_right(
             alloc,
             room,
             PathKind::Always,
-            StateFormula::All,
+            StateFormula::True,
             token.after,
         );
     }

@@ -6,4 +6,3 @@ pub mod PlainParts
 pub mod ShortLines
 pub mod ShortParts
 pub mod ShortSpellings
-pub mod StatusLines

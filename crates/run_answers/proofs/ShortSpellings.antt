@@ -8,7 +8,7 @@ use Rattle.rpatl_syntax.specs.declared.formula.PathKind.{PathKind}
 use Rattle.rpatl_syntax.specs.declared.formula.PathKind.TheVariants.{Until, Within, Next, Always}
 use Rattle.rpatl_syntax.specs.Dual.{dual_of, answered_by, answered}
 use Rattle.rpatl_syntax.specs.Limits.{longest}
-use Rattle.rpatl_syntax.specs.Rules.{between, IsState, IsEither, IsBoth, IsUnary, IsPath, plain_state, implies, plain_either, or, plain_both, and, negation, brackets, everywhere, nowhere, label, inside, reach, reach_within, until, until_within, next, always, IsFormula, Denotes}
+use Rattle.rpatl_syntax.specs.Rules.{between, IsState, IsEither, IsBoth, IsUnary, IsPath, plain_state, implies, plain_either, or, plain_both, and, negation, brackets, everywhere, nowhere, label, inside, reach, reach_within, until, until_within, next, always, IsFormula, DenotesFormula}
 use Rattle.rpatl_syntax.specs.Spelling.{strength_of, in_place, state_spelling, kind_spelling, coalition_spelling, spelling}
 use Rattle.run_answers.proofs.PlainParts.{HasFine, HasPlainParts, answered-plain}
 use Rattle.run_answers.proofs.ShortParts.{bytes_in, bytes_in-append, cut-short, until-short, within-short, coalition-short, bound-fine, bound-some, with-short, formula-bytes}
@@ -123,5 +123,5 @@ answered-short ts f is parts = by f.kind refl parts
 abbrev pub most_spelled : ℕ
 most_spelled = 30 * longest + 138
 
-pub spelling-short : (text : List ℕ) (f : Tree) → Denotes text f → HasPlainParts f → length (spelling (answered f)) ≤ most_spelled
+pub spelling-short : (text : List ℕ) (f : Tree) → DenotesFormula text f → HasPlainParts f → length (spelling (answered f)) ≤ most_spelled
 spelling-short text f denotes parts = omega (arith, denotes.short, cut-short text denotes.tokens denotes.cut, answered-short denotes.tokens f denotes.formula (answered-plain f parts))

@@ -4,7 +4,7 @@ ghost use Rattle.std.specs.Prelude.{◌≡◌, ◌≤◌, ◌<◌, All, IfOk, le
 ghost use Rattle.std.specs.List.{list_any};
 ghost use Rattle.game_model.specs.Limits.{unit};
 ghost use Rattle.verdicts.specs.Report.{HasValues, report};
-ghost use Rattle.run_answers.specs.Printed.{is_mirrored, printed_line, line_over, status_of, verdict_over};
+ghost use Rattle.run_answers.specs.Printed.{is_mirrored, line_of, status_of};
 ghost use Rattle.verdicts.specs.Verdict.{is_no, is_undecided};
 ghost use Rattle.run_answers.specs.Status.{IsAnswer};
 
@@ -41,9 +41,9 @@ pub fn report_of(
     requires lower { All (λ v. v ≤ unit) lower.now }
     requires upper { All (λ v. v ≤ unit) upper.now }
     ensures text { IfOk result (λ answer. answer.text.items ≡ report
-        (map (line_over mirrored bound.now how lower.now upper.now) states.now)) }
+        (map (line_of mirrored bound.now how lower.now upper.now) states.now)) }
     ensures status { IfOk result (λ answer. answer.status ≡ status_of
-        (map (verdict_over mirrored bound.now lower.now upper.now) states.now)) }
+        (map (line_of mirrored bound.now how lower.now upper.now) states.now)) }
     ensures answer { IfOk result (λ answer. IsAnswer answer.status) }
 {
     let lines = lines_of(alloc, mirrored, bound, how, lower, upper, states)?;
@@ -78,36 +78,39 @@ fn lines_of(
     requires as_many { length upper.now ≡ length lower.now }
     requires lower { All (λ v. v ≤ unit) lower.now }
     requires upper { All (λ v. v ≤ unit) upper.now }
-    ensures lines { IfOk result (λ lines. lines.items ≡ map (line_over mirrored bound.now how lower.now upper.now)
+    ensures lines { IfOk result (λ lines. lines.items ≡ map (line_of mirrored bound.now how lower.now upper.now)
         states.now) }
     ensures values { IfOk result (λ lines. All HasValues lines.items) }
 {
     let mut lines = Vec::with_capacity(alloc, states.len())?;
     for state in states {
-        let place = *state as usize;
-        lines.push(printed_line(mirrored, bound, how, *state, lower[place], upper[place]))?;
+        lines.push(line_of(mirrored, bound, how, lower, upper, *state))?;
     }
     Ok(lines)
 }
 
-// The line of a state with these bounds.
-fn printed_line(
+// The line of a state, by its entries in the tables.
+fn line_of(
     mirrored: bool,
     bound: &Bound,
     how: How,
+    lower: &[u64],
+    upper: &[u64],
     state: u32,
-    lower: u64,
-    upper: u64,
 ) -> ReportLine
-    requires lower { lower ≤ unit }
-    requires upper { upper ≤ unit }
-    ensures line { result ≡ printed_line mirrored bound.now how state lower upper }
+    requires inside { state < length lower.now }
+    requires as_many { length upper.now ≡ length lower.now }
+    requires lower { All (λ v. v ≤ unit) lower.now }
+    requires upper { All (λ v. v ≤ unit) upper.now }
+    ensures line { result ≡ line_of mirrored bound.now how lower.now upper.now state }
     ensures values { HasValues result }
 {
+    let low = lower[state as usize];
+    let high = upper[state as usize];
     let (lower, upper) = if mirrored {
-        (UNIT - upper, UNIT - lower)
+        (UNIT - high, UNIT - low)
     } else {
-        (lower, upper)
+        (low, high)
     };
     ReportLine {
         state,
@@ -120,7 +123,7 @@ fn printed_line(
 
 // The status of a report: some line is False, or else some is Undecided, or none is.
 fn status_of(lines: &[ReportLine]) -> Status
-    ensures status { result ≡ status_of (map (λ line. line.verdict) lines.now) }
+    ensures status { result ≡ status_of lines.now }
     ensures answer { IsAnswer result }
 {
     if is_some_false(lines) {

@@ -7,9 +7,9 @@ use Rattle.tra_reader.specs.declared.fault.TraCause.TheVariants as tra
 use Rattle.label_reader.specs.declared.faults.LabCause.{LabCause}
 use Rattle.label_reader.specs.declared.faults.LabCause.TheVariants as lab
 use Rattle.inductive_check.specs.declared.upper.UpperCause.{UpperCause}
-use Rattle.inductive_check.specs.declared.upper.UpperCause.TheVariants.{Above}
+use Rattle.inductive_check.specs.declared.upper.UpperCause.TheVariants as upper
 use Rattle.rank_certificate.specs.declared.check.RankCause.{RankCause}
-use Rattle.rank_certificate.specs.declared.check.RankCause.TheVariants.{Short, NoStep}
+use Rattle.rank_certificate.specs.declared.check.RankCause.TheVariants as ranks
 use Rattle.certificate_audit.specs.declared.fault.AuditFault.{AuditFault}
 use Rattle.certificate_audit.specs.declared.fault.AuditFault.TheVariants as audit
 use Rattle.run_refusals.specs.declared.refusal.Refusal.{Refusal}
@@ -31,29 +31,48 @@ ChoiceInFull (choice.BadSum sum denominator) = AreInFull sum denominator
 
 -- the numbers that say why a transition text is refused are written in full
 abbrev pub TraInFull : TraCause → Type 0
+TraInFull tra.OutOfMemory = Unit {0}
+TraInFull tra.NoHeader = Unit {0}
+TraInFull tra.BadField = Unit {0}
+TraInFull tra.FieldCount = Unit {0}
+TraInFull tra.OverLimit = Unit {0}
+TraInFull tra.NoStates = Unit {0}
+TraInFull tra.StateOutOfRange = Unit {0}
+TraInFull (tra.Number fault) = Unit {0}
 TraInFull (tra.ActionClash state k) = AreInFull state k
 TraInFull (tra.LineCount read stated) = AreInFull read stated
 TraInFull (tra.ChoiceGap state k) = AreInFull state k
 TraInFull (tra.TooManyChoices state) = IsInFull state
 TraInFull (tra.ChoiceCount read stated) = AreInFull read stated
 TraInFull (tra.Choice state k fault) = AreInFull state k × ChoiceInFull fault
-TraInFull cause = Unit {0}
 
 -- the number that says why a label or owner text is refused, where there is one, is written in full
 abbrev pub LabInFull : LabCause → Type 0
+LabInFull lab.OutOfMemory = Unit {0}
+LabInFull lab.NoHeader = Unit {0}
+LabInFull lab.BadHeader = Unit {0}
+LabInFull lab.DoubleName = Unit {0}
+LabInFull lab.DoubleIndex = Unit {0}
+LabInFull lab.BadField = Unit {0}
+LabInFull lab.StateOutOfRange = Unit {0}
+LabInFull lab.UnknownIndex = Unit {0}
+LabInFull lab.OverLimit = Unit {0}
 LabInFull (lab.TwoOwners state) = IsInFull state
-LabInFull cause = Unit {0}
 
 -- the number of the choice for which an upper table is refused, where there is one, is written in full
 abbrev pub UpperInFull : UpperCause → Type 0
-UpperInFull (Above k) = IsInFull k
-UpperInFull cause = Unit {0}
+UpperInFull upper.OverOne = Unit {0}
+UpperInFull upper.Goal = Unit {0}
+UpperInFull (upper.Above k) = IsInFull k
+UpperInFull upper.NoReply = Unit {0}
+UpperInFull upper.Reply = Unit {0}
 
 -- the number of the choice for which a lower table or its ranks are refused, where there is one, is written in full
 abbrev pub RanksInFull : RankCause → Type 0
-RanksInFull (Short k) = IsInFull k
-RanksInFull (NoStep k) = IsInFull k
-RanksInFull cause = Unit {0}
+RanksInFull ranks.Value = Unit {0}
+RanksInFull ranks.Choice = Unit {0}
+RanksInFull (ranks.Short k) = IsInFull k
+RanksInFull (ranks.NoStep k) = IsInFull k
 
 -- the numbers that say where and why a certificate is refused are written in full
 abbrev pub CertificateInFull : AuditFault → Type 0

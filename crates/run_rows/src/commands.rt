@@ -27,6 +27,34 @@ pub enum Command<'a> {
 }
 
 impl<'a> Command<'a> {
+    // The row of the command, where it has one.
+    fn row(self) -> Option<Row<'a>> {
+        match self {
+            Command::Check(row) | Command::Sure(row) => Some(row),
+            Command::Audit(row, _) | Command::Solve(row, _) => Some(row),
+            Command::Words(_) => None,
+        }
+    }
+
+    /// Its formula, or nothing.
+    pub fn formula(self) -> &'a str {
+        match self.row() {
+            Some(row) => row.formula,
+            None => "",
+        }
+    }
+
+    /// The same command with another formula.
+    pub fn asked(self, formula: &'a str) -> Command<'a> {
+        match self {
+            Command::Check(row) => Command::Check(row.asked(formula)),
+            Command::Audit(row, certificate) => Command::Audit(row.asked(formula), certificate),
+            Command::Solve(row, values) => Command::Solve(row.asked(formula), values),
+            Command::Sure(row) => Command::Sure(row.asked(formula)),
+            Command::Words(given) => Command::Words(given),
+        }
+    }
+
     /// The words of the command.
     pub fn words(self, alloc: Global) -> Result<Vec<String>, Fail> {
         match self {

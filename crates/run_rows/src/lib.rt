@@ -10,6 +10,7 @@ mod commands;
 mod models;
 mod rows;
 mod solutions;
+mod tables;
 
 pub use audits::{CERTIFICATE, audit_refuses, audit_words, audit_writes};
 pub use cases::{
@@ -33,3 +34,4 @@ pub use rows::{
     runs, sure_words, with_file, words,
 };
 pub use solutions::{solve_writes, solves};
+pub use tables::{Answer, Audited, all_write, answers_write, printed_are_audited};

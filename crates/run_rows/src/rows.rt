@@ -16,6 +16,13 @@ pub struct Row<'a> {
     pub numbers: &'a [&'a str],
 }
 
+impl<'a> Row<'a> {
+    /// The same row with another formula.
+    pub fn asked(self, formula: &'a str) -> Row<'a> {
+        Row { formula, ..self }
+    }
+}
+
 /// With one worker the number of rounds is the same at each run.
 pub const ONE_WORKER: &[&str] = &["--workers", "1"];
 

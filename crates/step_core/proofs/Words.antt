@@ -67,12 +67,12 @@ module _ (q : Query) (h : IsQuery q) (words seen : List ℕ) (i word : ℕ) (ins
   }
 
 -- the opening words
-opening_words-at : (goals : List Bool) (s : ℕ) → slice_index (map (λ goal. if goal then packed unit 0 else 0) goals) s ≡ (if slice_index_or goals s false then packed unit 0 else 0)
+opening_words-at : (goals : List Bool) (s : ℕ) → slice_index (map opening_word goals) s ≡ opening_word (slice_index_or goals s false)
 opening_words-at [] s = refl
 opening_words-at (goal ∷ goals) zero = refl
 opening_words-at (goal ∷ goals) (suc s) = opening_words-at goals s
 
-value_in-if : (goal : Bool) → value_in (if goal then packed unit 0 else 0) ≡ (if goal then unit else 0)
+value_in-if : (goal : Bool) → value_in (opening_word goal) ≡ (if goal then unit else 0)
 value_in-if true = refl
 value_in-if false = refl
 
@@ -95,7 +95,7 @@ length-zeros (suc n) = let rest = length-zeros n in omega arith
 pub AreSoundWords-opening : (q : Query) → IsQuery q → AreSoundWords q (opening_words q)
 unfolding down_steps
 AreSoundWords-opening q h = record {
-  as_many = length-map q.goals (λ (goal : Bool). if goal then packed unit 0 else 0) ∙ h.goals;
+  as_many = length-map q.goals opening_word ∙ h.goals;
   rounds = zero;
   below = λ s l. subst (λ n. n ≤ opening q s) (sym (opening_words-value q s)) (le_refl (opening q s));
   ranks = zeros (states q);
@@ -123,8 +123,8 @@ pub Sees-itself : (q : Query) (words : List ℕ) → AreSoundWords q words → S
 Sees-itself q words k = record { as_many = k.as_many; each = λ s. inl refl; goals = AreSoundWords-goals q words k }
 
 -- one more word of the opening table
-pub opening_words-more : (q : Query) (words : List ℕ) (s word : ℕ) → words ≡ take s (opening_words q) → s < length q.goals → word ≡ opening_word q s → words ++ word ∷ [] ≡ take (s + 1) (opening_words q)
+pub opening_words-more : (q : Query) (words : List ℕ) (s word : ℕ) → words ≡ take s (opening_words q) → s < length q.goals → word ≡ opening_word (is_goal q s) → words ++ word ∷ [] ≡ take (s + 1) (opening_words q)
 opening_words-more q words s word so_far inside is =
     let at : get_or (opening_words q) s 0 ≡ word = opening_words-at q.goals s ∙ sym is in
-    let there : s < length (opening_words q) = subst (λ n. s < n) (sym (length-map q.goals (λ (goal : Bool). if goal then packed unit 0 else 0))) inside in
+    let there : s < length (opening_words q) = subst (λ n. s < n) (sym (length-map q.goals opening_word)) inside in
     (λ e. so_far e ++ sym at e ∷ []) ∙ sym (take_more (opening_words q) s 0 there)

@@ -1,5 +1,5 @@
 -- Words: a value and a choice in one number.
-use Rattle.std.specs.Prelude.{ℕ, ◌+◌, ◌*◌, ◌/◌, ◌%◌, List, [], ◌∷◌, map, slice_index, Option, Some, if◌then◌else◌, nat_lt}
+use Rattle.std.specs.Prelude.{ℕ, ◌+◌, ◌*◌, ◌/◌, ◌%◌, Bool, List, [], ◌∷◌, map, slice_index, Option, Some, if◌then◌else◌, nat_lt}
 use Rattle.game_model.specs.Limits.{unit}
 use Rattle.game_model.specs.Query.{Query, is_goal}
 
@@ -31,13 +31,13 @@ values_of words = map value_in words
 abbrev pub picks_of : List ℕ → List (Option ℕ)
 picks_of words = map (λ word. Some (choice_in word)) words
 
--- the words of the opening table: goals have the unit, and each choice is 0
-abbrev pub opening_words : Query → List ℕ
-opening_words q = map (λ goal. if goal then packed unit 0 else 0) q.goals
+-- the word of a state in the opening table: a goal has the unit, and each choice is 0
+abbrev pub opening_word : Bool → ℕ
+opening_word goal = if goal then packed unit 0 else 0
 
--- the word of one state in the opening table
-abbrev pub opening_word : Query → ℕ → ℕ
-opening_word q s = if is_goal q s then packed unit 0 else 0
+-- the words of the opening table
+abbrev pub opening_words : Query → List ℕ
+opening_words q = map opening_word q.goals
 
 -- state by state the word of greater value, the first at a tie
 abbrev pub greater_words : List ℕ → List ℕ → List ℕ

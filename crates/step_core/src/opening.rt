@@ -1,7 +1,7 @@
 //! The words that a race begins with.
 
 ghost use Rattle.std.specs.Prelude.{◌≡◌, ◌<◌, IfOk};
-ghost use Rattle.game_model.specs.Query.{states};
+ghost use Rattle.game_model.specs.Query.{is_goal, states};
 ghost use Rattle.step_core.specs.Word.{opening_words, opening_word};
 
 use crate::word::pack;
@@ -26,7 +26,7 @@ pub fn opening_words(alloc: Global, question: &Question<'_>) -> Result<Vec<u64>,
 // The word of a state in the opening table.
 fn opening_word(question: &Question<'_>, state: u32) -> u64
     requires { state < states question.now }
-    ensures { result ≡ opening_word question.now state }
+    ensures { result ≡ opening_word (is_goal question.now state) }
 {
     if question.is_goal(state) {
         pack(UNIT, 0)

@@ -4,7 +4,7 @@ use Rattle.text_lines.specs.Limits.{most_bytes}
 use Rattle.game_outside.specs.Outside.{Holding}
 use Rattle.game_model.specs.Query.{states}
 use Rattle.rpatl_syntax.specs.Formula.{Tree}
-use Rattle.rpatl_syntax.specs.Rules.{Denotes}
+use Rattle.rpatl_syntax.specs.Rules.{DenotesFormula}
 use Rattle.formula_sets.specs.Posing.{Model, Posing, NextPosing}
 use Rattle.command_words.specs.Words.{Asked, Check, Audit, Solve, Make, Command, OfCheck, OfAudit, OfSolve, OfMake, OfSure, AreCommand}
 use Rattle.asked_files.specs.declared.problem.Paths.{Paths}
@@ -31,7 +31,7 @@ pub record WordsPose (words : List (List ℕ)) (holding : Option Holding) (taken
     (paths : Paths) (problem : Problem) (formula : Tree) : Type 0 where
   pub denoted : AreCommand words command
   pub posed : PosesIt holding asked paths problem
-  pub spelled : Denotes asked.formula formula
+  pub spelled : DenotesFormula asked.formula formula
   pub short : taken ≤ most_bytes
 
 -- they do so for this `check`

@@ -79,6 +79,15 @@ fn refused_status(refusal: &Refusal) -> Status
 {
     match refusal {
         Refusal::OfCertificate(_) | Refusal::TooLong(Text::Cert) => Status::CertificateRefused,
-        _ => Status::ModelRefused,
+        Refusal::OfTra(_)
+        | Refusal::OfLab(_)
+        | Refusal::OfOwn(_)
+        | Refusal::OfFormula(_)
+        | Refusal::OfQuestion(_)
+        | Refusal::WrongKind
+        | Refusal::OfValues(_)
+        | Refusal::TooLong(Text::Tra | Text::Lab | Text::Own | Text::Values) => {
+            Status::ModelRefused
+        }
     }
 }

@@ -30,40 +30,61 @@ impl Excess {
 
     /// By how many units the entry is above what the choice gives, rounded up.
     fn fall(self) -> u64 {
-        quotient_up(self.below.saturating_sub(self.above), self.moving)
+        moved(self.below.saturating_sub(self.above), self.moving)
     }
 
     /// By how many units the entry is below what the choice gives, rounded up.
     fn rise(self) -> u64 {
-        quotient_up(self.above.saturating_sub(self.below), self.moving)
+        moved(self.above.saturating_sub(self.below), self.moving)
     }
 }
 
-/// A quotient rounded up, at most the unit; 0 where the divisor is 0.
-fn quotient_up(sum: u128, total: u128) -> u64 {
+/// A quotient rounded up. Mostly there is nothing to divide.
+fn moved(sum: u128, total: u128) -> u64 {
     if sum == 0 {
         return 0;
     }
-    if total == 0 {
-        return 0;
-    }
-    if let (Ok(sum), Ok(total)) = (u64::try_from(sum), u64::try_from(total)) {
-        if total != 0 {
-            let whole = sum / total;
-            return if sum % total == 0 {
-                whole
-            } else {
-                whole.saturating_add(1)
+    Divided::of(sum, total).rounded(Bound::Upper)
+}
+
+/// The whole part of a quotient, and whether it has a rest.
+#[derive(Clone, Copy)]
+struct Divided {
+    whole: u64,
+    has_rest: bool,
+}
+
+impl Divided {
+    /// A quotient; 0 where the divisor is 0, and the unit where it is beyond 64 bits.
+    fn of(sum: u128, total: u128) -> Divided {
+        if total == 0 {
+            return Divided {
+                whole: 0,
+                has_rest: false,
             };
         }
+        if let (Ok(sum), Ok(total)) = (u64::try_from(sum), u64::try_from(total)) {
+            if total != 0 {
+                return Divided {
+                    whole: sum / total,
+                    has_rest: sum % total != 0,
+                };
+            }
+        }
+        Divided {
+            whole: u64::try_from(sum / total).unwrap_or(UNIT),
+            has_rest: sum % total != 0,
+        }
     }
-    let whole = sum / total;
-    let up = if sum % total == 0 {
-        whole
-    } else {
-        whole.saturating_add(1)
-    };
-    u64::try_from(up).unwrap_or(UNIT)
+
+    /// Rounded for a bound: down for a lower one, else up.
+    fn rounded(self, bound: Bound) -> u64 {
+        if bound == Bound::Upper && self.has_rest {
+            self.whole.saturating_add(1)
+        } else {
+            self.whole
+        }
+    }
 }
 
 /// Totals below this, times the unit, fit 64 bits.
@@ -202,12 +223,7 @@ pub fn single_entry(question: &Question, table: &UnitTable, bound: Bound, state:
         if excess.moving == 0 {
             continue;
         }
-        let up = excess.rise();
-        let is_whole = excess.above % excess.moving == 0;
-        let value = match bound {
-            Bound::Lower if !is_whole => up.saturating_sub(1),
-            _ => up,
-        };
+        let value = Divided::of(excess.above, excess.moving).rounded(bound);
         best = Some(better(question.side(state), best, Entry { value, choice }));
     }
     best.unwrap_or(Entry {

@@ -19,12 +19,12 @@ pub fn settled_parts(alloc: Global, cut: &Cut<'_>) -> Result<Vec<u32>, OutOfMemo
     ensures { IfOk result (λ part. AreSettledOf cut.now part.items) }
 {
     let mut part = opening(alloc, cut)?;
-    settle(alloc, cut, &mut part)?;
+    split_parts(alloc, cut, &mut part)?;
     Ok(part)
 }
 
 /// Plays rounds until one cuts no inner choice, and then removes the states that have none.
-fn settle(alloc: Global, cut: &Cut<'_>, part: &mut [u32]) -> Result<(), OutOfMemory>
+fn split_parts(alloc: Global, cut: &Cut<'_>, part: &mut [u32]) -> Result<(), OutOfMemory>
     requires keeps { KeepsEndsOf cut.now part.old }
     ensures { OnOk result (AreSettledOf cut.now part.new) }
 {

@@ -1,107 +1,149 @@
 //! Label files, owner files and questions that are refused.
 
-use run_rows::{COIN_LOOP, GOAL_AT_1, GOAL_AT_2, ONE_WORKER, Row, TWO_PLAYERS, plain_row, refuses};
-use std::alloc::Global;
+use run_rows::{Case, Command, GOAL_AT_2, MOST_OF_COIN_LOOP, Row, TWO_PLAYERS, all_write};
 use std::test::Fail;
-use std::thread::Threads;
+use stogame_app::Status;
 
-const REACH: &str = "Pmax=? [ F \"goal\" ]";
-
-fn refused<R: Threads + Sync>(rt: &R, alloc: Global, lab: &str, text: &str) -> Result<(), Fail> {
-    refuses(rt, alloc, plain_row(COIN_LOOP, lab, REACH), text)
-}
+const HEADERS: &[Case<'static>] = &[
+    Case {
+        command: Command::Check(Row {
+            lab: "\n0: 0\n",
+            ..MOST_OF_COIN_LOOP
+        }),
+        text: "refused lab line 1 NoHeader\n",
+        status: Status::ModelRefused,
+    },
+    Case {
+        command: Command::Check(Row {
+            lab: "0=init 1=\"goal\"\n0: 0\n",
+            ..MOST_OF_COIN_LOOP
+        }),
+        text: "refused lab line 1 BadHeader\n",
+        status: Status::ModelRefused,
+    },
+    Case {
+        command: Command::Check(Row {
+            lab: "0=\"init\" 0=\"goal\"\n0: 0\n",
+            ..MOST_OF_COIN_LOOP
+        }),
+        text: "refused lab line 1 DoubleIndex\n",
+        status: Status::ModelRefused,
+    },
+    Case {
+        command: Command::Check(Row {
+            lab: "0=\"init\" 1=\"init\"\n0: 0\n",
+            ..MOST_OF_COIN_LOOP
+        }),
+        text: "refused lab line 1 DoubleName\n",
+        status: Status::ModelRefused,
+    },
+    Case {
+        command: Command::Check(Row {
+            lab: "0=\"init\" 1000000=\"goal\"\n0: 0\n",
+            ..MOST_OF_COIN_LOOP
+        }),
+        text: "refused lab line 1 OverLimit\n",
+        status: Status::ModelRefused,
+    },
+];
 
 #[test]
 fn label_headers_are_refused(rt: HostRuntime) -> Result<(), Fail> {
-    let alloc = rt.alloc();
-    refused(&rt, alloc, "\n0: 0\n", "refused lab line 1 NoHeader\n")?;
-    refused(
-        &rt,
-        alloc,
-        "0=init 1=\"goal\"\n0: 0\n",
-        "refused lab line 1 BadHeader\n",
-    )?;
-    refused(
-        &rt,
-        alloc,
-        "0=\"init\" 0=\"goal\"\n0: 0\n",
-        "refused lab line 1 DoubleIndex\n",
-    )?;
-    refused(
-        &rt,
-        alloc,
-        "0=\"init\" 1=\"init\"\n0: 0\n",
-        "refused lab line 1 DoubleName\n",
-    )?;
-    refused(
-        &rt,
-        alloc,
-        "0=\"init\" 1000000=\"goal\"\n0: 0\n",
-        "refused lab line 1 OverLimit\n",
-    )
+    all_write(&rt, rt.alloc(), HEADERS)
 }
+
+const LINES: &[Case<'static>] = &[
+    Case {
+        command: Command::Check(Row {
+            lab: "0=\"init\" 1=\"goal\"\n0 0\n",
+            ..MOST_OF_COIN_LOOP
+        }),
+        text: "refused lab line 2 BadField\n",
+        status: Status::ModelRefused,
+    },
+    Case {
+        command: Command::Check(Row {
+            lab: "0=\"init\" 1=\"goal\"\n0: 0\n\n1: 1\n",
+            ..MOST_OF_COIN_LOOP
+        }),
+        text: "refused lab line 3 BadField\n",
+        status: Status::ModelRefused,
+    },
+    Case {
+        command: Command::Check(Row {
+            lab: "0=\"init\" 1=\"goal\"\n0: 0\n3: 1\n",
+            ..MOST_OF_COIN_LOOP
+        }),
+        text: "refused lab line 3 StateOutOfRange\n",
+        status: Status::ModelRefused,
+    },
+    Case {
+        command: Command::Check(Row {
+            lab: "0=\"init\" 1=\"goal\"\n0: 0\n1: 7\n",
+            ..MOST_OF_COIN_LOOP
+        }),
+        text: "refused lab line 3 UnknownIndex\n",
+        status: Status::ModelRefused,
+    },
+];
 
 #[test]
 fn label_lines_are_refused(rt: HostRuntime) -> Result<(), Fail> {
-    let alloc = rt.alloc();
-    let header = "0=\"init\" 1=\"goal\"\n";
-    let bad = format!(in alloc; "{header}0 0\n")?;
-    refused(&rt, alloc, bad.as_str(), "refused lab line 2 BadField\n")?;
-    let blank = format!(in alloc; "{header}0: 0\n\n1: 1\n")?;
-    refused(&rt, alloc, blank.as_str(), "refused lab line 3 BadField\n")?;
-    let range = format!(in alloc; "{header}0: 0\n3: 1\n")?;
-    refused(
-        &rt,
-        alloc,
-        range.as_str(),
-        "refused lab line 3 StateOutOfRange\n",
-    )?;
-    let index = format!(in alloc; "{header}0: 0\n1: 7\n")?;
-    refused(
-        &rt,
-        alloc,
-        index.as_str(),
-        "refused lab line 3 UnknownIndex\n",
-    )
+    all_write(&rt, rt.alloc(), LINES)
 }
 
-#[test]
-fn two_owners_are_refused(rt: HostRuntime) -> Result<(), Fail> {
-    let alloc = rt.alloc();
-    let two = Row {
+const TWO_OWNERS: &[Case<'static>] = &[Case {
+    command: Command::Check(Row {
         tra: TWO_PLAYERS,
         lab: GOAL_AT_2,
         own: Some("0=\"p1\" 1=\"p2\"\n1: 0\n1: 1\n"),
-        formula: REACH,
-        numbers: ONE_WORKER,
-    };
-    refuses(&rt, alloc, two, "refused own line 3 TwoOwners state 1\n")
+        ..MOST_OF_COIN_LOOP
+    }),
+    text: "refused own line 3 TwoOwners state 1\n",
+    status: Status::ModelRefused,
+}];
+
+#[test]
+fn two_owners_are_refused(rt: HostRuntime) -> Result<(), Fail> {
+    all_write(&rt, rt.alloc(), TWO_OWNERS)
 }
+
+const QUESTIONS: &[Case<'static>] = &[
+    Case {
+        command: Command::Check(Row {
+            formula: "Pmax=? [ F \"gaol\" ]",
+            ..MOST_OF_COIN_LOOP
+        }),
+        text: "refused question line 0 UnknownLabel gaol\n",
+        status: Status::ModelRefused,
+    },
+    Case {
+        command: Command::Check(Row {
+            formula: "<<q>> Pmax=? [ F \"goal\" ]",
+            ..MOST_OF_COIN_LOOP
+        }),
+        text: "refused question line 0 UnknownPlayer q\n",
+        status: Status::ModelRefused,
+    },
+    Case {
+        command: Command::Check(Row {
+            formula: "<<q>> P>=0.5 [ F \"goal\" ]",
+            ..MOST_OF_COIN_LOOP
+        }),
+        text: "refused question line 0 UnknownPlayer q\n",
+        status: Status::ModelRefused,
+    },
+    Case {
+        command: Command::Check(Row {
+            lab: "0=\"init\" 1=\"goal\"\n1: 1\n",
+            ..MOST_OF_COIN_LOOP
+        }),
+        text: "refused question line 0 NoInit\n",
+        status: Status::ModelRefused,
+    },
+];
 
 #[test]
 fn questions_are_refused(rt: HostRuntime) -> Result<(), Fail> {
-    let alloc = rt.alloc();
-    let label = plain_row(COIN_LOOP, GOAL_AT_1, "Pmax=? [ F \"gaol\" ]");
-    refuses(
-        &rt,
-        alloc,
-        label,
-        "refused question line 0 UnknownLabel gaol\n",
-    )?;
-    let player = plain_row(COIN_LOOP, GOAL_AT_1, "<<q>> Pmax=? [ F \"goal\" ]");
-    refuses(
-        &rt,
-        alloc,
-        player,
-        "refused question line 0 UnknownPlayer q\n",
-    )?;
-    let bounded = plain_row(COIN_LOOP, GOAL_AT_1, "<<q>> P>=0.5 [ F \"goal\" ]");
-    refuses(
-        &rt,
-        alloc,
-        bounded,
-        "refused question line 0 UnknownPlayer q\n",
-    )?;
-    let init = plain_row(COIN_LOOP, "0=\"init\" 1=\"goal\"\n1: 1\n", REACH);
-    refuses(&rt, alloc, init, "refused question line 0 NoInit\n")
+    all_write(&rt, rt.alloc(), QUESTIONS)
 }

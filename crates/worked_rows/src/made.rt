@@ -1,9 +1,9 @@
 //! Games that a seed draws.
 
+use expectations::{holds, same};
 use game_outside::{Gate, HoldGate, OpenGate, SteadyShelf};
-use run_rows::{OF_THREE_STATES, USAGE, ends, words};
+use run_rows::{Case, Command, OF_THREE_STATES, USAGE, all_write, ends, words};
 use std::alloc::Global;
-use std::process::Abort;
 use std::sync::atomic::{AtomicU32, Ordering};
 use std::test::Fail;
 use std::thread::Threads;
@@ -21,87 +21,71 @@ fn ends_with<R: Threads + Sync, G: Gate + Sync>(
     ends(rt, alloc, &words, &mut shelf, gate)
 }
 
-fn writes<R: Threads + Sync + Abort>(
-    rt: &R,
-    alloc: Global,
-    given: &[&str],
-    text: &str,
-    status: Status,
-) -> Result<(), Fail> {
-    let (ended, written) = ends_with(rt, alloc, given, &OpenGate {})?;
-    let last = given.last().copied().unwrap_or("");
-    assert!(rt;
-        ended == status,
-        "words that end with {last} give {ended:?}"
-    );
-    assert_eq!(rt; written.as_slice(), text.as_bytes());
-    Ok(())
-}
+const OF_SEED_1: &[Case<'static>] = &[
+    Case {
+        command: Command::Words(&["make", "1", "3"]),
+        text: OF_THREE_STATES,
+        status: Status::Fine,
+    },
+    Case {
+        command: Command::Words(&["make", "--workers=1", "--rounds", "50", "--", "+1", "003"]),
+        text: OF_THREE_STATES,
+        status: Status::Fine,
+    },
+];
 
 #[test]
 fn a_game_of_three_states_is_settled(rt: HostRuntime) -> Result<(), Fail> {
-    let alloc = rt.alloc();
-    writes(
-        &rt,
-        alloc,
-        &["make", "1", "3"],
-        OF_THREE_STATES,
-        Status::Fine,
-    )?;
-    writes(
-        &rt,
-        alloc,
-        &["make", "--workers=1", "--rounds", "50", "--", "+1", "003"],
-        OF_THREE_STATES,
-        Status::Fine,
-    )
+    all_write(&rt, rt.alloc(), OF_SEED_1)
 }
+
+const TOO_FEW_ROUNDS: &[Case<'static>] = &[Case {
+    command: Command::Words(&["make", "1", "3", "--rounds", "0"]),
+    text: "model seed 1 states 3 zero 1 unsettled\n",
+    status: Status::SomeUndecided,
+}];
 
 #[test]
 fn too_few_rounds_leave_a_game_unsettled(rt: HostRuntime) -> Result<(), Fail> {
-    let alloc = rt.alloc();
-    writes(
-        &rt,
-        alloc,
-        &["make", "1", "3", "--rounds", "0"],
-        "model seed 1 states 3 zero 1 unsettled\n",
-        Status::SomeUndecided,
-    )
+    all_write(&rt, rt.alloc(), TOO_FEW_ROUNDS)
+}
+
+// What so many workers write of a large game that is settled.
+fn written_by<R: Threads + Sync>(rt: &R, alloc: Global, workers: &str) -> Result<Vec<u8>, Fail> {
+    let given = ["make", "7", "20000", "--workers", workers];
+    let (ended, written) = ends_with(rt, alloc, &given, &OpenGate {})?;
+    same(workers, ended, Status::Fine)?;
+    let front = b"model seed 7 states 20000 zero ";
+    holds(
+        workers,
+        written.starts_with(front) && written.ends_with(b" settled\n"),
+    )?;
+    Ok(written)
+}
+
+fn write_the_same<R: Threads + Sync>(rt: &R, alloc: Global) -> Result<(), Fail> {
+    let one = written_by(rt, alloc, "1")?;
+    let eight = written_by(rt, alloc, "8")?;
+    same("eight workers", eight.as_slice(), one.as_slice())
 }
 
 #[test]
 fn one_and_eight_workers_write_the_same_line(rt: HostRuntime) -> Result<(), Fail> {
-    let alloc = rt.alloc();
-    let (of_one, one) = ends_with(
-        &rt,
-        alloc,
-        &["make", "7", "20000", "--workers", "1"],
-        &OpenGate {},
-    )?;
-    let (of_eight, eight) = ends_with(
-        &rt,
-        alloc,
-        &["make", "7", "20000", "--workers", "8"],
-        &OpenGate {},
-    )?;
-    assert!(rt; of_one == Status::Fine && of_eight == Status::Fine);
-    assert!(rt;
-        one.as_slice()
-            .starts_with(b"model seed 7 states 20000 zero ")
-    );
-    assert!(rt; one.as_slice().ends_with(b" settled\n"));
-    assert_eq!(rt; one.as_slice(), eight.as_slice());
-    Ok(())
+    write_the_same(&rt, rt.alloc())
+}
+
+// Two workers of a game that a seed draws are at the gate at once.
+fn two_at_once<R: Threads + Sync>(rt: &R, alloc: Global) -> Result<(), Fail> {
+    let gate = HoldGate::new();
+    let given = ["make", "7", "200", "--workers", "2"];
+    let (ended, _written) = ends_with(rt, alloc, &given, &gate)?;
+    same("two workers", ended, Status::Fine)?;
+    holds("the workers run at once", !gate.gave_up())
 }
 
 #[test]
 fn two_workers_of_a_drawn_game_run_at_once(rt: HostRuntime) -> Result<(), Fail> {
-    let gate = HoldGate::new();
-    let given = ["make", "7", "200", "--workers", "2"];
-    let (ended, _written) = ends_with(&rt, rt.alloc(), &given, &gate)?;
-    assert!(rt; ended == Status::Fine);
-    assert!(rt; !gate.gave_up(), "the workers ran one after another");
-    Ok(())
+    two_at_once(&rt, rt.alloc())
 }
 
 // Counts who passes it.
@@ -116,45 +100,89 @@ impl Gate for CountGate {
     }
 }
 
+// The game is not settled, and the gate is passed so often.
+fn passes<R: Threads + Sync>(rt: &R, alloc: Global, rounds: &str, times: u32) -> Result<(), Fail> {
+    let gate = CountGate {
+        passed: AtomicU32::new(0),
+    };
+    let given = ["make", "7", "200", "--rounds", rounds, "--workers", "1"];
+    let (ended, written) = ends_with(rt, alloc, &given, &gate)?;
+    same(rounds, ended, Status::SomeUndecided)?;
+    holds("it is unsettled", written.ends_with(b" unsettled\n"))?;
+    same(rounds, gate.passed.load(Ordering::SeqCst), times)
+}
+
 // The first round of each table has every state, and one round settles no game of 200 states.
 #[test]
 fn each_asked_round_of_a_drawn_game_is_made(rt: HostRuntime) -> Result<(), Fail> {
-    let alloc = rt.alloc();
-    for (rounds, passed) in [("0", 0), ("1", 400)] {
-        let gate = CountGate {
-            passed: AtomicU32::new(0),
-        };
-        let given = ["make", "7", "200", "--rounds", rounds, "--workers", "1"];
-        let (ended, written) = ends_with(&rt, alloc, &given, &gate)?;
-        assert!(rt;
-            ended == Status::SomeUndecided,
-            "{rounds} rounds give {ended:?}"
-        );
-        assert!(rt; written.as_slice().ends_with(b" unsettled\n"));
-        assert_eq!(rt; gate.passed.load(Ordering::SeqCst), passed);
-    }
-    Ok(())
+    passes(&rt, rt.alloc(), "0", 0)?;
+    passes(&rt, rt.alloc(), "1", 400)
 }
+
+const OTHER_WORDS: &[Case<'static>] = &[
+    Case {
+        command: Command::Words(&["make"]),
+        text: USAGE,
+        status: Status::Usage,
+    },
+    Case {
+        command: Command::Words(&["make", "1"]),
+        text: USAGE,
+        status: Status::Usage,
+    },
+    Case {
+        command: Command::Words(&["make", "1", "3", "3"]),
+        text: USAGE,
+        status: Status::Usage,
+    },
+    Case {
+        command: Command::Words(&["make", "0", "3"]),
+        text: USAGE,
+        status: Status::Usage,
+    },
+    Case {
+        command: Command::Words(&["make", "2147483647", "3"]),
+        text: USAGE,
+        status: Status::Usage,
+    },
+    Case {
+        command: Command::Words(&["make", "1", "2"]),
+        text: USAGE,
+        status: Status::Usage,
+    },
+    Case {
+        command: Command::Words(&["make", "1", "1000001"]),
+        text: USAGE,
+        status: Status::Usage,
+    },
+    Case {
+        command: Command::Words(&["make", "1", "three"]),
+        text: USAGE,
+        status: Status::Usage,
+    },
+    Case {
+        command: Command::Words(&["make", "1", "3", "--plan"]),
+        text: USAGE,
+        status: Status::Usage,
+    },
+    Case {
+        command: Command::Words(&["make", "1", "3", "--own", "o"]),
+        text: USAGE,
+        status: Status::Usage,
+    },
+    Case {
+        command: Command::Words(&["make", "1", "3", "--rounds", "1000001"]),
+        text: USAGE,
+        status: Status::Usage,
+    },
+    Case {
+        command: Command::Words(&["make", "1", "3", "--workers", "1", "--workers", "2"]),
+        text: USAGE,
+        status: Status::Usage,
+    },
+];
 
 #[test]
 fn other_words_give_the_usage_line(rt: HostRuntime) -> Result<(), Fail> {
-    let alloc = rt.alloc();
-    let lists: [&[&str]; 12] = [
-        &["make"],
-        &["make", "1"],
-        &["make", "1", "3", "3"],
-        &["make", "0", "3"],
-        &["make", "2147483647", "3"],
-        &["make", "1", "2"],
-        &["make", "1", "1000001"],
-        &["make", "1", "three"],
-        &["make", "1", "3", "--plan"],
-        &["make", "1", "3", "--own", "o"],
-        &["make", "1", "3", "--rounds", "1000001"],
-        &["make", "1", "3", "--workers", "1", "--workers", "2"],
-    ];
-    for given in lists {
-        writes(&rt, alloc, given, USAGE, Status::Usage)?;
-    }
-    Ok(())
+    all_write(&rt, rt.alloc(), OTHER_WORDS)
 }

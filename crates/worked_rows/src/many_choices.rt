@@ -1,8 +1,9 @@
 //! As many choices of a state as there may be, and one more.
 
-use run_rows::{plain_row, push_times, writes};
+use run_rows::{MOST_OF_COIN_LOOP, Row, push_times, writes};
 use std::alloc::Global;
 use std::test::Fail;
+use std::thread::Threads;
 use stogame_app::Status;
 
 // The most choices of a state.
@@ -18,25 +19,27 @@ fn staying(alloc: Global, choices: u32) -> Result<String, Fail> {
     Ok(text)
 }
 
+// So many choices of a state give this.
+fn choices_give<R: Threads + Sync>(
+    rt: &R,
+    alloc: Global,
+    choices: u32,
+    text: &str,
+    status: Status,
+) -> Result<(), Fail> {
+    let tra = staying(alloc, choices)?;
+    let row = Row {
+        tra: tra.as_str(),
+        lab: "0=\"init\" 1=\"goal\"\n0: 0\n",
+        ..MOST_OF_COIN_LOOP
+    };
+    writes(rt, alloc, row, text, status)
+}
+
 #[test]
 fn a_state_has_at_most_16384_choices(rt: HostRuntime) -> Result<(), Fail> {
-    let alloc = rt.alloc();
-    let labels = "0=\"init\" 1=\"goal\"\n0: 0\n";
-    let reach = "Pmax=? [ F \"goal\" ]";
-    let most = staying(alloc, MOST)?;
-    writes(
-        &rt,
-        alloc,
-        plain_row(most.as_str(), labels, reach),
-        "state 0 lower 0.000000000000000 upper 0.000000000000000 rounds 1 Bracket\n",
-        Status::Fine,
-    )?;
-    let more = staying(alloc, MOST + 1)?;
-    writes(
-        &rt,
-        alloc,
-        plain_row(more.as_str(), labels, reach),
-        "refused tra line 0 TooManyChoices state 0\n",
-        Status::ModelRefused,
-    )
+    let most = "state 0 lower 0.000000000000000 upper 0.000000000000000 rounds 1 Bracket\n";
+    choices_give(&rt, rt.alloc(), MOST, most, Status::Fine)?;
+    let more = "refused tra line 0 TooManyChoices state 0\n";
+    choices_give(&rt, rt.alloc(), MOST + 1, more, Status::ModelRefused)
 }

@@ -1,9 +1,6 @@
 //! The states from which the goal is reached almost surely.
 
-use run_rows::{
-    AGREEMENT, AGREEMENT_LABELS, AGREEMENT_OWNERS, COIN_LOOP, FORK, GOAL_AT_1, Row, plain_row,
-    sure_writes,
-};
+use run_rows::{Case, Command, FORK, MOST_OF_AGREEMENT, MOST_OF_COIN_LOOP, Row, all_write};
 use std::test::Fail;
 use stogame_app::Status;
 
@@ -13,72 +10,105 @@ const COIN: &str = "3 3 4\n0 0 0 0.5\n0 0 1 0.5\n1 0 1 1\n2 0 2 1\n";
 // State 0 may wait, or toss a coin that may fall on the trap.
 const WAIT_OR_COIN: &str = "3 4 5\n0 0 0 1\n0 1 1 0.5\n0 1 2 0.5\n1 0 1 1\n2 0 2 1\n";
 
+const OF_COIN: Row<'static> = Row {
+    tra: COIN,
+    ..MOST_OF_COIN_LOOP
+};
+
+const OF_FORK: Row<'static> = Row {
+    tra: FORK,
+    ..MOST_OF_COIN_LOOP
+};
+
+const OF_WAIT_OR_COIN: Row<'static> = Row {
+    tra: WAIT_OR_COIN,
+    ..MOST_OF_COIN_LOOP
+};
+
+const SURE_STATES: &[Case<'static>] = &[
+    Case {
+        command: Command::Sure(MOST_OF_COIN_LOOP),
+        text: "sure 1 of 3\n1\n",
+        status: Status::SomeFalse,
+    },
+    Case {
+        command: Command::Sure(OF_COIN),
+        text: "sure 2 of 3\n0\n1\n",
+        status: Status::Fine,
+    },
+    Case {
+        command: Command::Sure(OF_FORK),
+        text: "sure 2 of 3\n0\n1\n",
+        status: Status::Fine,
+    },
+    Case {
+        command: Command::Sure(Row {
+            formula: "Pmin=? [ F \"goal\" ]",
+            ..OF_FORK
+        }),
+        text: "sure 1 of 3\n1\n",
+        status: Status::SomeFalse,
+    },
+    Case {
+        command: Command::Sure(OF_WAIT_OR_COIN),
+        text: "sure 1 of 3\n1\n",
+        status: Status::SomeFalse,
+    },
+    // The threshold plays no part but in the side: what holds of every strategy is asked of the worst one.
+    Case {
+        command: Command::Sure(Row {
+            formula: "P<0.2 [ F \"goal\" ]",
+            ..OF_FORK
+        }),
+        text: "sure 2 of 3\n0\n1\n",
+        status: Status::Fine,
+    },
+    Case {
+        command: Command::Sure(Row {
+            formula: "P>0.2 [ F \"goal\" ]",
+            ..OF_FORK
+        }),
+        text: "sure 1 of 3\n1\n",
+        status: Status::SomeFalse,
+    },
+    Case {
+        command: Command::Sure(Row {
+            formula: "Pmax=? [ F \"none\" ]",
+            ..OF_FORK
+        }),
+        text: "refused question line 0 UnknownLabel none\n",
+        status: Status::ModelRefused,
+    },
+    Case {
+        command: Command::Sure(Row {
+            formula: "Pmax=? [ F<=2 \"goal\" ]",
+            ..OF_FORK
+        }),
+        text: "refused question line 0 WrongKind\n",
+        status: Status::ModelRefused,
+    },
+    Case {
+        command: Command::Sure(Row {
+            formula: "Pmax=? [ G \"goal\" ]",
+            ..OF_FORK
+        }),
+        text: "refused question line 0 WrongKind\n",
+        status: Status::ModelRefused,
+    },
+];
+
 #[test]
 fn sure_states_are_listed(rt: HostRuntime) -> Result<(), Fail> {
-    let alloc = rt.alloc();
-    let most = "Pmax=? [ F \"goal\" ]";
-    for (tra, formula, text, status) in [
-        (COIN_LOOP, most, "sure 1 of 3\n1\n", Status::SomeFalse),
-        (COIN, most, "sure 2 of 3\n0\n1\n", Status::Fine),
-        (FORK, most, "sure 2 of 3\n0\n1\n", Status::Fine),
-        (
-            FORK,
-            "Pmin=? [ F \"goal\" ]",
-            "sure 1 of 3\n1\n",
-            Status::SomeFalse,
-        ),
-        (WAIT_OR_COIN, most, "sure 1 of 3\n1\n", Status::SomeFalse),
-        // The threshold plays no part but in the side: what holds of every strategy is asked of the worst one.
-        (
-            FORK,
-            "P<0.2 [ F \"goal\" ]",
-            "sure 2 of 3\n0\n1\n",
-            Status::Fine,
-        ),
-        (
-            FORK,
-            "P>0.2 [ F \"goal\" ]",
-            "sure 1 of 3\n1\n",
-            Status::SomeFalse,
-        ),
-        (
-            FORK,
-            "Pmax=? [ F \"none\" ]",
-            "refused question line 0 UnknownLabel none\n",
-            Status::ModelRefused,
-        ),
-        (
-            FORK,
-            "Pmax=? [ F<=2 \"goal\" ]",
-            "refused question line 0 WrongKind\n",
-            Status::ModelRefused,
-        ),
-        (
-            FORK,
-            "Pmax=? [ G \"goal\" ]",
-            "refused question line 0 WrongKind\n",
-            Status::ModelRefused,
-        ),
-    ] {
-        sure_writes(&rt, alloc, plain_row(tra, GOAL_AT_1, formula), text, status)?;
-    }
-    Ok(())
+    all_write(&rt, rt.alloc(), SURE_STATES)
 }
+
+const SURE_OF_AGREEMENT: &[Case<'static>] = &[Case {
+    command: Command::Sure(MOST_OF_AGREEMENT),
+    text: "sure 5 of 12\n4\n6\n7\n8\n11\n",
+    status: Status::SomeFalse,
+}];
 
 #[test]
 fn sure_states_of_a_game_are_listed(rt: HostRuntime) -> Result<(), Fail> {
-    let agreement = Row {
-        tra: AGREEMENT,
-        lab: AGREEMENT_LABELS,
-        own: Some(AGREEMENT_OWNERS),
-        formula: "<<p1>> Pmax=? [ \"ok\" U \"done\" ]",
-        numbers: &[],
-    };
-    sure_writes(
-        &rt,
-        rt.alloc(),
-        agreement,
-        "sure 5 of 12\n4\n6\n7\n8\n11\n",
-        Status::SomeFalse,
-    )
+    all_write(&rt, rt.alloc(), SURE_OF_AGREEMENT)
 }

@@ -1,91 +1,108 @@
 //! Thresholds, and what the bounds say of them.
 
+use expectations::{holds, same};
 use game_outside::OpenGate;
 use run_rows::{
-    AGREEMENT, AGREEMENT_LABELS, AGREEMENT_OWNERS, COIN_LOOP, GOAL_AT_1, GOAL_AT_2, ONE_WORKER,
-    Row, SECOND_OWNS_1, TWO_PLAYERS, plain_row, runs, writes,
+    Answer, COIN_LOOP, Case, Command, GOAL_AT_2, MOST_OF_AGREEMENT, MOST_OF_COIN_LOOP, ONE_WORKER,
+    Row, SECOND_OWNS_1, TWO_PLAYERS, all_write, answers_write, runs,
 };
+use std::alloc::Global;
 use std::test::Fail;
+use std::thread::Threads;
 use stogame_app::Status;
+
+const OF_ONE_HALF: &[Answer<'static>] = &[
+    ("P<=0.5 [ F \"goal\" ]", "True", Status::Fine),
+    ("P>0.5 [ F \"goal\" ]", "False", Status::SomeFalse),
+    ("P>=0.5 [ F \"goal\" ]", "True", Status::Fine),
+    ("P<0.5 [ F \"goal\" ]", "False", Status::SomeFalse),
+];
 
 #[test]
 fn the_coin_loop_is_settled_where_a_bound_reaches_one_half(rt: HostRuntime) -> Result<(), Fail> {
-    let alloc = rt.alloc();
-    let bounds = "state 0 lower 0.500000000000000 upper 0.500000000000000 rounds 50";
-    for (formula, verdict, status) in [
-        ("P<=0.5 [ F \"goal\" ]", "True", Status::Fine),
-        ("P>0.5 [ F \"goal\" ]", "False", Status::SomeFalse),
-        ("P>=0.5 [ F \"goal\" ]", "True", Status::Fine),
-        ("P<0.5 [ F \"goal\" ]", "False", Status::SomeFalse),
-    ] {
-        let line = format!(in alloc; "{bounds} {verdict}\n")?;
-        let row = plain_row(COIN_LOOP, GOAL_AT_1, formula);
-        writes(&rt, alloc, row, line.as_str(), status)?;
-    }
-    Ok(())
+    let front = "state 0 lower 0.500000000000000 upper 0.500000000000000 rounds 50 ";
+    let command = Command::Check(MOST_OF_COIN_LOOP);
+    answers_write(&rt, rt.alloc(), command, front, OF_ONE_HALF)
 }
+
+// States 0 and 2 are asked about.
+const TWO_STATES: &str = "0=\"init\" 1=\"goal\"\n0: 0\n1: 1\n2: 0\n";
+
+const ALONE: Row<'static> = Row {
+    formula: "P>=0.4 [ F \"goal\" ]",
+    ..MOST_OF_COIN_LOOP
+};
+
+const SETTLED: &[Case<'static>] = &[
+    Case {
+        command: Command::Check(ALONE),
+        text: "state 0 lower 0.468750000000004 upper 0.503934372088832 rounds 4 True\n",
+        status: Status::Fine,
+    },
+    Case {
+        command: Command::Check(Row {
+            lab: TWO_STATES,
+            ..ALONE
+        }),
+        text: "state 0 lower 0.468750000000004 upper 0.503934372088832 rounds 4 True\nstate 2 lower 0.000000000000000 upper 0.000000000000000 rounds 4 False\n",
+        status: Status::SomeFalse,
+    },
+];
 
 #[test]
 fn a_run_ends_where_all_initial_states_are_settled(rt: HostRuntime) -> Result<(), Fail> {
-    let alloc = rt.alloc();
-    let formula = "P>=0.4 [ F \"goal\" ]";
-    let one = "state 0 lower 0.468750000000004 upper 0.503934372088832 rounds 4 True\n";
-    let alone = plain_row(COIN_LOOP, GOAL_AT_1, formula);
-    writes(&rt, alloc, alone, one, Status::Fine)?;
-    let two = "0=\"init\" 1=\"goal\"\n0: 0\n1: 1\n2: 0\n";
-    let lines =
-        "state 0 lower 0.468750000000004 upper 0.503934372088832 rounds 4 True\nstate 2 lower 0.000000000000000 upper 0.000000000000000 rounds 4 False\n";
-    let both = plain_row(COIN_LOOP, two, formula);
-    writes(&rt, alloc, both, lines, Status::SomeFalse)
+    all_write(&rt, rt.alloc(), SETTLED)
 }
 
-#[test]
-fn the_bounds_of_the_last_asked_round_count(rt: HostRuntime) -> Result<(), Fail> {
-    let alloc = rt.alloc();
-    let two = "0=\"init\" 1=\"goal\"\n0: 0\n1: 1\n2: 0\n";
-    let few = Row {
+const OF_THREE_ROUNDS: &[Case<'static>] = &[Case {
+    command: Command::Check(Row {
         tra: COIN_LOOP,
-        lab: two,
+        lab: TWO_STATES,
         own: None,
         formula: "P<=0.4 [ F \"goal\" ]",
         numbers: &["--rounds", "3", "--workers", "1"],
-    };
-    let lines =
-        "state 0 lower 0.437500000000004 upper 0.507868744177664 rounds 3 False\nstate 2 lower 0.000000000000000 upper 0.000000000000000 rounds 3 True\n";
-    let (ended, written) = runs(&rt, alloc, few, &OpenGate {})?;
-    assert_eq!(rt; written.as_slice(), lines.as_bytes());
-    assert!(rt; ended == Status::SomeFalse, "{ended:?}");
-    Ok(())
-}
+    }),
+    text: "state 0 lower 0.437500000000004 upper 0.507868744177664 rounds 3 False\nstate 2 lower 0.000000000000000 upper 0.000000000000000 rounds 3 True\n",
+    status: Status::SomeFalse,
+}];
 
 #[test]
-fn coalitions_are_answered(rt: HostRuntime) -> Result<(), Fail> {
-    let alloc = rt.alloc();
-    let second = Row {
+fn the_bounds_of_the_last_asked_round_count(rt: HostRuntime) -> Result<(), Fail> {
+    all_write(&rt, rt.alloc(), OF_THREE_ROUNDS)
+}
+
+const OF_THE_SECOND: &[Case<'static>] = &[Case {
+    command: Command::Check(Row {
         tra: TWO_PLAYERS,
         lab: GOAL_AT_2,
         own: Some(SECOND_OWNS_1),
         formula: "<<p2>> P>=0.6 [ F \"goal\" ]",
         numbers: ONE_WORKER,
+    }),
+    text: "state 0 lower 0.000000000000004 upper 0.500000000000000 rounds 1 False\n",
+    status: Status::SomeFalse,
+}];
+
+#[test]
+fn coalitions_are_answered(rt: HostRuntime) -> Result<(), Fail> {
+    all_write(&rt, rt.alloc(), OF_THE_SECOND)
+}
+
+// So many workers find that the agreement is reached with eight tenths.
+fn agree<R: Threads + Sync>(rt: &R, alloc: Global, workers: &str) -> Result<(), Fail> {
+    let numbers = ["--workers", workers];
+    let row = Row {
+        formula: "<<p1>> P>=0.8 [ \"ok\" U \"done\" ]",
+        numbers: &numbers,
+        ..MOST_OF_AGREEMENT
     };
-    let line = "state 0 lower 0.000000000000004 upper 0.500000000000000 rounds 1 False\n";
-    writes(&rt, alloc, second, line, Status::SomeFalse)
+    let (ended, written) = runs(rt, alloc, row, &OpenGate {})?;
+    same(workers, ended, Status::Fine)?;
+    holds(workers, written.ends_with(b" True\n"))
 }
 
 #[test]
 fn the_agreement_is_reached_with_eight_tenths(rt: HostRuntime) -> Result<(), Fail> {
-    let alloc = rt.alloc();
-    for workers in ["1", "8"] {
-        let row = Row {
-            tra: AGREEMENT,
-            lab: AGREEMENT_LABELS,
-            own: Some(AGREEMENT_OWNERS),
-            formula: "<<p1>> P>=0.8 [ \"ok\" U \"done\" ]",
-            numbers: &["--workers", workers],
-        };
-        let (ended, written) = runs(&rt, alloc, row, &OpenGate {})?;
-        assert!(rt; ended == Status::Fine, "{workers} workers give {ended:?}");
-        assert!(rt; written.ends_with(b" True\n"), "{workers} workers");
-    }
-    Ok(())
+    agree(&rt, rt.alloc(), "1")?;
+    agree(&rt, rt.alloc(), "8")
 }

@@ -1,7 +1,6 @@
 //! Upper tables that are lowered to the best exits of traps.
 
-use game_outside::OpenGate;
-use run_rows::{COIN_LOOP, GOAL_AT_1, Row, audit_writes, runs, writes};
+use run_rows::{Audited, COIN_LOOP, Case, Command, GOAL_AT_1, Row, all_write, printed_are_audited};
 use std::test::Fail;
 use stogame_app::Status;
 
@@ -32,88 +31,108 @@ pub const TRAPS: &[&str] = &["--rounds", "0", "--traps"];
 
 const TRAPS_AND_PLAN: &[&str] = &["--rounds", "0", "--traps", "--plan"];
 
-fn stay_or_coin<'a>(numbers: &'a [&'a str]) -> Row<'a> {
-    Row {
-        tra: STAY_OR_COIN,
-        lab: GOAL_AT_2,
-        own: None,
-        formula: "Pmax=? [ F \"goal\" ]",
-        numbers,
-    }
-}
+const OF_STAY_OR_COIN: Row<'static> = Row {
+    tra: STAY_OR_COIN,
+    lab: GOAL_AT_2,
+    own: None,
+    formula: "Pmax=? [ F \"goal\" ]",
+    numbers: NO_ROUNDS,
+};
 
-fn to_and_fro<'a>(numbers: &'a [&'a str]) -> Row<'a> {
-    Row {
-        tra: TO_AND_FRO,
-        lab: GOAL_AT_3,
-        own: Some(SECOND_OWNS_1),
-        formula: "<<p1>> Pmax=? [ F \"goal\" ]",
-        numbers,
-    }
-}
+const OF_TO_AND_FRO: Row<'static> = Row {
+    tra: TO_AND_FRO,
+    lab: GOAL_AT_3,
+    own: Some(SECOND_OWNS_1),
+    formula: "<<p1>> Pmax=? [ F \"goal\" ]",
+    numbers: NO_ROUNDS,
+};
+
+const BEST_EXIT: &[Case<'static>] = &[
+    Case {
+        command: Command::Check(OF_STAY_OR_COIN),
+        text: "state 0 lower 0.000000000000004 upper 0.562949953421312 rounds 0 Bracket\n",
+        status: Status::Fine,
+    },
+    Case {
+        command: Command::Check(Row {
+            numbers: TRAPS,
+            ..OF_STAY_OR_COIN
+        }),
+        text: "state 0 lower 0.000000000000004 upper 0.500000000000000 rounds 0 Bracket\n",
+        status: Status::Fine,
+    },
+];
 
 #[test]
 fn a_state_that_may_stay_has_its_best_exit(rt: HostRuntime) -> Result<(), Fail> {
-    let alloc = rt.alloc();
-    for (numbers, upper) in [
-        (NO_ROUNDS, "0.562949953421312"),
-        (TRAPS, "0.500000000000000"),
-    ] {
-        let text = format!(in alloc;
-            "state 0 lower 0.000000000000004 upper {upper} rounds 0 Bracket\n"
-        )?;
-        writes(
-            &rt,
-            alloc,
-            stay_or_coin(numbers),
-            text.as_str(),
-            Status::Fine,
-        )?;
-    }
-    Ok(())
+    all_write(&rt, rt.alloc(), BEST_EXIT)
 }
+
+const BEST_EXIT_OF_THE_FIRST: &[Case<'static>] = &[
+    Case {
+        command: Command::Check(OF_TO_AND_FRO),
+        text: "state 0 lower 0.000000000000004 upper 0.562949953421312 rounds 0 Bracket\nstate 1 lower 0.000000000000004 upper 0.562949953421312 rounds 0 Bracket\n",
+        status: Status::Fine,
+    },
+    Case {
+        command: Command::Check(Row {
+            numbers: TRAPS,
+            ..OF_TO_AND_FRO
+        }),
+        text: "state 0 lower 0.000000000000004 upper 0.500000000000000 rounds 0 Bracket\nstate 1 lower 0.000000000000004 upper 0.500000000000000 rounds 0 Bracket\n",
+        status: Status::Fine,
+    },
+];
 
 #[test]
 fn two_players_have_the_best_exit_of_the_first(rt: HostRuntime) -> Result<(), Fail> {
-    let alloc = rt.alloc();
-    for (numbers, upper) in [
-        (NO_ROUNDS, "0.562949953421312"),
-        (TRAPS, "0.500000000000000"),
-    ] {
-        let text = format!(in alloc;
-            "state 0 lower 0.000000000000004 upper {upper} rounds 0 Bracket\nstate 1 lower 0.000000000000004 upper {upper} rounds 0 Bracket\n"
-        )?;
-        writes(&rt, alloc, to_and_fro(numbers), text.as_str(), Status::Fine)?;
-    }
-    Ok(())
+    all_write(&rt, rt.alloc(), BEST_EXIT_OF_THE_FIRST)
 }
+
+const PLANNED: Row<'static> = Row {
+    numbers: TRAPS_AND_PLAN,
+    ..OF_STAY_OR_COIN
+};
+
+const PLANNED_OF_TWO: Row<'static> = Row {
+    numbers: TRAPS_AND_PLAN,
+    ..OF_TO_AND_FRO
+};
+
+const LOWERED: &[Audited<'static>] = &[
+    (
+        Command::Check(PLANNED),
+        PLANNED,
+        "state 0 lower 0.000000000000004 upper 0.500000000000000 audited Bracket\n",
+        Status::Fine,
+    ),
+    (
+        Command::Check(PLANNED_OF_TWO),
+        PLANNED_OF_TWO,
+        "state 0 lower 0.000000000000004 upper 0.500000000000000 audited Bracket\nstate 1 lower 0.000000000000004 upper 0.500000000000000 audited Bracket\n",
+        Status::Fine,
+    ),
+];
 
 #[test]
 fn lowered_certificates_are_accepted(rt: HostRuntime) -> Result<(), Fail> {
-    let alloc = rt.alloc();
-    let line = "lower 0.000000000000004 upper 0.500000000000000 audited Bracket";
-    let one = format!(in alloc; "state 0 {line}\n")?;
-    let two = format!(in alloc; "state 0 {line}\nstate 1 {line}\n")?;
-    for (row, text) in [
-        (stay_or_coin(TRAPS_AND_PLAN), one),
-        (to_and_fro(TRAPS_AND_PLAN), two),
-    ] {
-        let (_, printed) = runs(&rt, alloc, row, &OpenGate {})?;
-        audit_writes(&rt, alloc, row, &printed, text.as_str(), Status::Fine)?;
-    }
-    Ok(())
+    printed_are_audited(&rt, rt.alloc(), LOWERED)
 }
 
 // The loop of a coin has an exit at each toss: it is no trap.
-#[test]
-fn where_there_is_no_trap_the_upper_table_stays(rt: HostRuntime) -> Result<(), Fail> {
-    let row = Row {
+const NO_TRAP: &[Case<'static>] = &[Case {
+    command: Command::Check(Row {
         tra: COIN_LOOP,
         lab: GOAL_AT_1,
         own: None,
         formula: "P>=0.3 [ F \"goal\" ]",
         numbers: TRAPS,
-    };
-    let text = "state 0 lower 0.000000000000004 upper 0.562949953421312 rounds 0 Undecided\n";
-    writes(&rt, rt.alloc(), row, text, Status::SomeUndecided)
+    }),
+    text: "state 0 lower 0.000000000000004 upper 0.562949953421312 rounds 0 Undecided\n",
+    status: Status::SomeUndecided,
+}];
+
+#[test]
+fn where_there_is_no_trap_the_upper_table_stays(rt: HostRuntime) -> Result<(), Fail> {
+    all_write(&rt, rt.alloc(), NO_TRAP)
 }

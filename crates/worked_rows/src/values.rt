@@ -1,56 +1,67 @@
 //! Values of models.
 
 use run_rows::{
-    AGREEMENT, AGREEMENT_LABELS, AGREEMENT_OWNERS, COIN_LOOP, COIN_LOOP_REPORT, FORK, GOAL_AT_1,
-    GOAL_AT_2, ONE_WORKER, Row, SECOND_OWNS_1, TWO_PLAYERS, plain_row, writes,
+    COIN_LOOP_REPORT, Case, Command, FORK, GOAL_AT_2, MOST_OF_AGREEMENT, MOST_OF_COIN_LOOP,
+    ONE_WORKER, Row, SECOND_OWNS_1, TWO_PLAYERS, all_write,
 };
 use std::test::Fail;
 use stogame_app::Status;
 
+const ONE_HALF: &[Case<'static>] = &[
+    Case {
+        command: Command::Check(MOST_OF_COIN_LOOP),
+        text: COIN_LOOP_REPORT,
+        status: Status::Fine,
+    },
+    Case {
+        command: Command::Check(Row {
+            lab: "0=\"init\" 1=\"goal\"\n1: 0 1\n",
+            ..MOST_OF_COIN_LOOP
+        }),
+        text: "state 1 lower 1.000000000000000 upper 1.000000000000000 rounds 50 Bracket\n",
+        status: Status::Fine,
+    },
+    Case {
+        command: Command::Check(Row {
+            lab: "0=\"init\" 1=\"goal\"\n2: 0\n0: 0\n1: 1\n",
+            ..MOST_OF_COIN_LOOP
+        }),
+        text: "state 0 lower 0.500000000000000 upper 0.500000000000000 rounds 50 Bracket\nstate 2 lower 0.000000000000000 upper 0.000000000000000 rounds 50 Bracket\n",
+        status: Status::Fine,
+    },
+];
+
 #[test]
 fn the_coin_loop_has_one_half(rt: HostRuntime) -> Result<(), Fail> {
-    let alloc = rt.alloc();
-    let reach = "Pmax=? [ F \"goal\" ]";
-    writes(
-        &rt,
-        alloc,
-        plain_row(COIN_LOOP, GOAL_AT_1, reach),
-        COIN_LOOP_REPORT,
-        Status::Fine,
-    )?;
-    let at_goal = "0=\"init\" 1=\"goal\"\n1: 0 1\n";
-    let report = "state 1 lower 1.000000000000000 upper 1.000000000000000 rounds 50 Bracket\n";
-    writes(
-        &rt,
-        alloc,
-        plain_row(COIN_LOOP, at_goal, reach),
-        report,
-        Status::Fine,
-    )?;
-    let two = "0=\"init\" 1=\"goal\"\n2: 0\n0: 0\n1: 1\n";
-    let lines =
-        "state 0 lower 0.500000000000000 upper 0.500000000000000 rounds 50 Bracket\nstate 2 lower 0.000000000000000 upper 0.000000000000000 rounds 50 Bracket\n";
-    writes(
-        &rt,
-        alloc,
-        plain_row(COIN_LOOP, two, reach),
-        lines,
-        Status::Fine,
-    )
+    all_write(&rt, rt.alloc(), ONE_HALF)
 }
+
+const ZERO: &str = "state 0 lower 0.000000000000000 upper 0.000000000000000 rounds 1 Bracket\n";
+
+const OF_VALUE_0: &[Case<'static>] = &[
+    Case {
+        command: Command::Check(Row {
+            tra: "1 0 0\n",
+            lab: "0=\"init\" 1=\"goal\"\n0: 0\n",
+            ..MOST_OF_COIN_LOOP
+        }),
+        text: ZERO,
+        status: Status::Fine,
+    },
+    Case {
+        command: Command::Check(Row {
+            tra: FORK,
+            formula: "Pmin=? [ F \"goal\" ]",
+            ..MOST_OF_COIN_LOOP
+        }),
+        text: ZERO,
+        status: Status::Fine,
+    },
+];
 
 #[test]
 fn states_of_value_0_have_the_upper_bound_0(rt: HostRuntime) -> Result<(), Fail> {
-    let alloc = rt.alloc();
-    let zero = "state 0 lower 0.000000000000000 upper 0.000000000000000 rounds 1 Bracket\n";
-    let alone = plain_row(
-        "1 0 0\n",
-        "0=\"init\" 1=\"goal\"\n0: 0\n",
-        "Pmax=? [ F \"goal\" ]",
-    );
-    writes(&rt, alloc, alone, zero, Status::Fine)?;
-    let least = plain_row(FORK, GOAL_AT_1, "Pmin=? [ F \"goal\" ]");
-    writes(&rt, alloc, least, zero, Status::Fine)
+    all_write(&rt, rt.alloc(), OF_VALUE_0)
 }
 
 // Models whose state 0 goes to the goal, state 1, and to the other states.
@@ -70,73 +81,91 @@ const FINE: &str =
 const WIDE: &str =
     "3 3 4\n0 0 1 0.333333333333333333333\n0 0 2 0.666666666666666666667\n1 0 1 1\n2 0 2 1\n";
 
+const EXACT: &[Case<'static>] = &[
+    Case {
+        command: Command::Check(Row {
+            tra: THIRDS,
+            ..MOST_OF_COIN_LOOP
+        }),
+        text: "state 0 lower 0.333333333333333 upper 0.333333333333334 rounds 2 Bracket\n",
+        status: Status::Fine,
+    },
+    Case {
+        command: Command::Check(Row {
+            tra: CHAIN,
+            ..MOST_OF_COIN_LOOP
+        }),
+        text: "state 0 lower 0.300000000000000 upper 0.300000000000000 rounds 2 Bracket\n",
+        status: Status::Fine,
+    },
+    Case {
+        command: Command::Check(Row {
+            tra: MIXED,
+            ..MOST_OF_COIN_LOOP
+        }),
+        text: "state 0 lower 0.333333333333333 upper 0.333333333333334 rounds 2 Bracket\n",
+        status: Status::Fine,
+    },
+    Case {
+        command: Command::Check(Row {
+            tra: MIXED,
+            formula: "Pmin=? [ F \"goal\" ]",
+            ..MOST_OF_COIN_LOOP
+        }),
+        text: "state 0 lower 0.000010000000000 upper 0.000010000000000 rounds 2 Bracket\n",
+        status: Status::Fine,
+    },
+    Case {
+        command: Command::Check(Row {
+            tra: ROUNDED,
+            ..MOST_OF_COIN_LOOP
+        }),
+        text: "state 0 lower 0.499995000049999 upper 0.499995000050000 rounds 2 Bracket\n",
+        status: Status::Fine,
+    },
+    Case {
+        command: Command::Check(Row {
+            tra: FINE,
+            ..MOST_OF_COIN_LOOP
+        }),
+        text: "state 0 lower 0.000000000000000 upper 0.000000000000001 rounds 2 Bracket\n",
+        status: Status::Fine,
+    },
+    Case {
+        command: Command::Check(Row {
+            tra: WIDE,
+            ..MOST_OF_COIN_LOOP
+        }),
+        text: "state 0 lower 0.333333333333333 upper 0.333333333333334 rounds 2 Bracket\n",
+        status: Status::Fine,
+    },
+];
+
 #[test]
 fn decimals_and_fractions_are_exact(rt: HostRuntime) -> Result<(), Fail> {
-    let alloc = rt.alloc();
-    for (tra, side, bounds) in [
-        (
-            THIRDS,
-            "max",
-            "lower 0.333333333333333 upper 0.333333333333334",
-        ),
-        (
-            CHAIN,
-            "max",
-            "lower 0.300000000000000 upper 0.300000000000000",
-        ),
-        (
-            MIXED,
-            "max",
-            "lower 0.333333333333333 upper 0.333333333333334",
-        ),
-        (
-            MIXED,
-            "min",
-            "lower 0.000010000000000 upper 0.000010000000000",
-        ),
-        (
-            ROUNDED,
-            "max",
-            "lower 0.499995000049999 upper 0.499995000050000",
-        ),
-        (
-            FINE,
-            "max",
-            "lower 0.000000000000000 upper 0.000000000000001",
-        ),
-        (
-            WIDE,
-            "max",
-            "lower 0.333333333333333 upper 0.333333333333334",
-        ),
-    ] {
-        let formula = format!(in alloc; "P{side}=? [ F \"goal\" ]")?;
-        let row = plain_row(tra, GOAL_AT_1, formula.as_str());
-        let text = format!(in alloc; "state 0 {bounds} rounds 2 Bracket\n")?;
-        writes(&rt, alloc, row, text.as_str(), Status::Fine)?;
-    }
-    Ok(())
+    all_write(&rt, rt.alloc(), EXACT)
 }
+
+const OF_PLAYERS: &[Case<'static>] = &[
+    Case {
+        command: Command::Check(Row {
+            tra: TWO_PLAYERS,
+            lab: GOAL_AT_2,
+            own: Some(SECOND_OWNS_1),
+            formula: "<<p1>> Pmax=? [ F \"goal\" ]",
+            numbers: ONE_WORKER,
+        }),
+        text: "state 0 lower 0.650000000000000 upper 0.650000000000000 rounds 3 Bracket\n",
+        status: Status::Fine,
+    },
+    Case {
+        command: Command::Check(MOST_OF_AGREEMENT),
+        text: "state 0 lower 0.839999999999999 upper 0.840000000000000 rounds 24 Bracket\n",
+        status: Status::Fine,
+    },
+];
 
 #[test]
 fn coalitions_choose_at_the_states_of_their_players(rt: HostRuntime) -> Result<(), Fail> {
-    let alloc = rt.alloc();
-    let first = Row {
-        tra: TWO_PLAYERS,
-        lab: GOAL_AT_2,
-        own: Some(SECOND_OWNS_1),
-        formula: "<<p1>> Pmax=? [ F \"goal\" ]",
-        numbers: ONE_WORKER,
-    };
-    let most = "state 0 lower 0.650000000000000 upper 0.650000000000000 rounds 3 Bracket\n";
-    writes(&rt, alloc, first, most, Status::Fine)?;
-    let agreement = Row {
-        tra: AGREEMENT,
-        lab: AGREEMENT_LABELS,
-        own: Some(AGREEMENT_OWNERS),
-        formula: "<<p1>> Pmax=? [ \"ok\" U \"done\" ]",
-        numbers: ONE_WORKER,
-    };
-    let agreed = "state 0 lower 0.839999999999999 upper 0.840000000000000 rounds 24 Bracket\n";
-    writes(&rt, alloc, agreement, agreed, Status::Fine)
+    all_write(&rt, rt.alloc(), OF_PLAYERS)
 }

@@ -7,15 +7,15 @@ use Rattle.nested_truth.proofs.states.+judged.Goals as goal
 
 pub judge-both-requires-clause-undecided : goal.judge-both-requires-clause-undecided
 judge-both-requires-clause-undecided g t c =
-    undecided-fits-by (model_of c.args.setting) c.args.setting.is_game c.args.setting.rounds _ _ c.in_ok-x-in-Both.x c.in_ok-y-in-Both.y c.in_ok-x-in-Both.ensures c.in_ok-y-in-Both.ensures (search rules)
+    undecided-fits-by (model_of c.args.setting) c.args.setting.is_game c.args.setting.rounds _ _ c.in_ok-x-in-And.x c.in_ok-y-in-And.y c.in_ok-x-in-And.ensures c.in_ok-y-in-And.ensures (search rules)
 
 pub judge-either-requires-clause-undecided : goal.judge-either-requires-clause-undecided
 judge-either-requires-clause-undecided g t c =
-    undecided-fits-by (model_of c.args.setting) c.args.setting.is_game c.args.setting.rounds _ _ c.in_ok-x-in-Either.x c.in_ok-y-in-Either.y c.in_ok-x-in-Either.ensures c.in_ok-y-in-Either.ensures (search rules)
+    undecided-fits-by (model_of c.args.setting) c.args.setting.is_game c.args.setting.rounds _ _ c.in_ok-x-in-Or.x c.in_ok-y-in-Or.y c.in_ok-x-in-Or.ensures c.in_ok-y-in-Or.ensures (search rules)
 
 pub judge-implied-requires-clause-undecided : goal.judge-implied-requires-clause-undecided
 judge-implied-requires-clause-undecided g t c =
-    undecided-fits-by (model_of c.args.setting) c.args.setting.is_game c.args.setting.rounds _ _ c.in_ok-x-in-Implied.x c.in_ok-y-in-Implied.y c.in_ok-x-in-Implied.ensures c.in_ok-y-in-Implied.ensures (search rules)
+    undecided-fits-by (model_of c.args.setting) c.args.setting.is_game c.args.setting.rounds _ _ c.in_ok-x-in-Implies.x c.in_ok-y-in-Implies.y c.in_ok-x-in-Implies.ensures c.in_ok-y-in-Implies.ensures (search rules)
 
 pub judge_inside-overflow_add-before : goal.judge_inside-overflow_add-before
 judge_inside-overflow_add-before g t c = record {

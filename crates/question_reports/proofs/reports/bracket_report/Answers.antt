@@ -8,10 +8,9 @@ use Rattle.rpatl_syntax.specs.declared.formula.Bound.{Bound}
 use Rattle.rpatl_syntax.specs.Formula.{Tree, tree_of}
 use Rattle.command_words.specs.Words.{check_of}
 use Rattle.rpatl_syntax.specs.Dual.{answered}
-use Rattle.run_answers.specs.Printed.{verdict_for}
 use Rattle.bracket_engine.specs.Found.{IsFound}
 use Rattle.verdicts.specs.declared.report.How.TheVariants.{Rounds}
-use Rattle.question_reports.proofs.Limits.{plan-units, printed-in_limits}
+use Rattle.question_reports.proofs.Limits.{plan_line, plan-units, printed-in_limits}
 use Rattle.question_reports.proofs.Reported.{all-left_open, reported, verdict-answered, plan_verdict}
 use Rattle.question_reports.proofs.Shown.{held-found, shown-lists, shown-passes, shown-sound, shown-above, shown-printable}
 use Rattle.question_reports.proofs.reports.bracket_report.Goals as goal
@@ -42,7 +41,7 @@ returns-clause-report g c =
     let passes = shown-passes q zero bound initial asked check.traps found plan is_found shown held in
     let sound = shown-sound q zero bound initial asked check.traps found plan is_found shown held c.known.ensures in
     let some : 1 ≤ denominator q.game ^ asked = pow-pos (denominator q.game) asked (denominator-pos q.game c.known.ensures.game) in
-    let agree : (s : ℕ) → s < states q → verdict_for f lower upper s ≡ plan_verdict bound plan s = λ s within.
+    let agree : (s : ℕ) → s < states q → (plan_line f (Rounds found.rounds) plan s).verdict ≡ plan_verdict bound plan s = λ s within.
     let units = plan-units q plan lists passes s within in verdict-answered c.mirrored_verdicts_are_those_of_the_dual.ensures f c.requires.share (slice_index lower s) (slice_index upper s) units.0 units.1 in
     let left_open = all-left_open c.undecided_thresholds_are_left_open.ensures.here c.undecided_thresholds_are_left_open.ensures.wider q zero bound initial asked found plan
     (shown-above q zero bound initial asked check.traps found plan is_found shown held) shown.below some is_found.bounds c.requires.inside in

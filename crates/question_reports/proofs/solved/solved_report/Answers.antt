@@ -5,9 +5,9 @@ use Rattle.game_model.specs.Query.{states}
 use Rattle.rpatl_syntax.specs.Formula.{tree_of}
 use Rattle.rpatl_syntax.specs.Dual.{answered}
 use Rattle.verdicts.specs.Open.{LeavesOpen}
+use Rattle.verdicts.specs.declared.report.How.TheVariants.{Solved}
 use Rattle.verdicts.specs.declared.verdict.Verdict.TheVariants.{Undecided}
-use Rattle.run_answers.specs.Printed.{verdict_for}
-use Rattle.question_reports.proofs.Limits.{plan-units}
+use Rattle.question_reports.proofs.Limits.{plan_line, plan-units}
 use Rattle.question_reports.proofs.Reported.{verdict-answered, plan_verdict}
 use Rattle.question_reports.proofs.SolvedPlans.{solved}
 use Rattle.question_reports.proofs.solved.solved_report.Goals as goal
@@ -23,10 +23,10 @@ returns-clause-report c =
     let initial = c.args.posed.now.initial.items in
     let lists = c.in_ok-plan.ensures.lists in
     let passes = c.in_ok-plan.ensures.passes in
-    let agree : (s : ℕ) → s < states q → verdict_for f lower upper s ≡ plan_verdict bound plan s = λ s within.
+    let agree : (s : ℕ) → s < states q → (plan_line f Solved plan s).verdict ≡ plan_verdict bound plan s = λ s within.
     let units = plan-units q plan lists passes s within in verdict-answered c.mirrored_verdicts_are_those_of_the_dual.ensures f c.requires.share (slice_index lower s) (slice_index upper s) units.0 units.1 in
     solved q c.known.ensures plan lists passes c.in_ok-plan.ensures.sound c.in_ok-plan.ensures.choices c.in_ok-plan.ensures.replies c.make_answer.ensures.ranks
     (λ answer. answer.text.items) (λ answer. answer.status) initial f c.args.asked c.requires.inside c.in_ok-plan.ensures.sure c.in_ok-plan.ensures.zero
-    (All-weaker (λ s. s < states q) (λ s. verdict_for f lower upper s ≡ Undecided → LeavesOpen bound (slice_index lower s) (slice_index upper s) 1 0)
+    (All-weaker (λ s. s < states q) (λ s. (plan_line f Solved plan s).verdict ≡ Undecided → LeavesOpen bound (slice_index lower s) (slice_index upper s) 1 0)
     (λ s within is. c.undecided_thresholds_are_left_open.ensures.here bound (slice_index lower s) (slice_index upper s) (sym (agree s within) ∙ is)) initial c.requires.inside)
     c.make_answer.result (rw c.deref-initial.ensures.value at c.make_answer.ensures.text) (rw c.deref-initial.ensures.value at c.make_answer.ensures.status)

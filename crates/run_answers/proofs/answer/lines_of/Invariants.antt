@@ -1,10 +1,10 @@
 use Rattle.std.proofs.Common.{◌≡◌, map, take, All}
 use Rattle.verdicts.specs.Report.{HasValues}
-use Rattle.run_answers.specs.Printed.{line_over}
+use Rattle.run_answers.specs.Printed.{line_of}
 use Rattle.run_answers.proofs.answer.lines_of.Given as goal
 
 abbrev pub invariant-loop-state : goal.invariant-loop-state
 invariant-loop-state l = record {
-  lines : l.lines.items ≡ map (line_over l.mirrored l.bound l.how l.lower l.upper) (take l.state-index l.states);
+  lines : l.lines.items ≡ map (line_of l.mirrored l.bound l.how l.lower l.upper) (take l.state-index l.states);
   values : All HasValues l.lines.items;
 }
