@@ -3,11 +3,11 @@
 ghost use Rattle.std.specs.Prelude.{◌≡◌, ◌≢◌, ◌<◌, ◌&&◌, ◌↔◌, ℕ, not, length, slice_index_or, true, false, IfOk, IfSome};
 ghost use Rattle.game_model.specs.Query.{states};
 ghost use Rattle.rpatl_syntax.specs.Formula.{tree_of};
-ghost use Rattle.formula_sets.specs.Posing.{at_states, next_question_of, question_with, unmarked};
+ghost use Rattle.formula_sets.specs.Posing.{at_states, next_question_of, question_with};
 
 use crate::known::{KnownSets, are_equal};
 use crate::setting::Setting;
-use formula_sets::sides_of;
+use formula_sets::{constant, sides_of};
 use game_model::Question;
 use game_outside::OutOfMemory;
 use rpatl_syntax::Formula;
@@ -112,14 +112,7 @@ pub fn next_question<'g>(
         (tree_of formula.now)) }
 {
     let states = setting.game.states();
-    let goals = no_marks(alloc, states)?;
-    let deads = no_marks(alloc, states)?;
+    let goals = constant(alloc, false, states)?;
+    let deads = constant(alloc, false, states)?;
     question_in(alloc, setting, formula, &goals, deads)
-}
-
-#[tactic(auto, using(formula_sets::proofs::AskingNext::none_marked))]
-fn no_marks(alloc: Global, states: u32) -> Result<Vec<bool>, AllocError>
-    ensures { IfOk result (λ v. v.items ≡ unmarked states) }
-{
-    vec![in alloc; false; states as usize]
 }
