@@ -67,7 +67,7 @@ fn check_has_all<R: Threads + Sync>(
     };
     let (ended, _written) = runs(rt, alloc, row, &gate)?;
     same(asked, ended, Status::Fine)?;
-    holds(asked, gate.has_all())
+    holds(format_args!("all {asked} workers pass"), gate.has_all())
 }
 
 fn checks_have_all<R: Threads + Sync>(rt: &R, alloc: Global) -> Result<(), Fail> {
@@ -96,7 +96,7 @@ fn game_has_all<R: Threads + Sync>(
     let mut shelf = SteadyShelf::new(Vec::new(alloc));
     let (ended, _written) = ends(rt, alloc, &words, &mut shelf, &gate)?;
     same(asked, ended, Status::SomeUndecided)?;
-    holds(asked, gate.has_all())
+    holds(format_args!("all {asked} workers pass"), gate.has_all())
 }
 
 fn games_have_all<R: Threads + Sync>(rt: &R, alloc: Global) -> Result<(), Fail> {

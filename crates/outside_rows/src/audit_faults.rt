@@ -184,7 +184,7 @@ fn each_change_is_refused<R: Threads + Sync>(rt: &R, alloc: Global) -> Result<()
 }
 
 // A goal whose lower value is not 1, where nothing else is false.
-const LOW_GOAL: &[&str] = &[
+const LOWER_BELOW_1: &[&str] = &[
     "0 0.000000000000000 - 0 0.650000000000000 -",
     "1 0.000000000000000 - 0 0.200000000000000 1",
     "2 0.999999999999999 - 0 1.000000000000000 -",
@@ -193,7 +193,7 @@ const LOW_GOAL: &[&str] = &[
 #[test]
 fn each_cause_is_named_with_its_state(rt: HostRuntime) -> Result<(), Fail> {
     each_change_is_refused(&rt, rt.alloc())?;
-    refused(&rt, rt.alloc(), LOW_GOAL, "0 Value state 2")
+    refused(&rt, rt.alloc(), LOWER_BELOW_1, "0 Value state 2")
 }
 
 const RIGHT: [(&str, &str, Status); 4] = [
@@ -247,7 +247,7 @@ const TOO_LOW: &str = "0 0.650000000000000 - 1 0.000000000000000 -";
 
 const NO_REPLY: &str = "1 0.200000000000000 - 1 0.200000000000000 -";
 
-const GOAL_TOO_LOW: &str = "2 1.000000000000000 - 0 0.999999999999999 -";
+const UPPER_BELOW_1: &str = "2 1.000000000000000 - 0 0.999999999999999 -";
 
 const OVER_ONE: &str = "3 0.000000000000000 - 0 1.000000000000001 -";
 
@@ -255,14 +255,14 @@ const OVER_ONE: &str = "3 0.000000000000000 - 0 1.000000000000001 -";
 const FIRST_CAUSES: [(&[&str], &str); 6] = [
     (&[NO_CHOICE], "0 Choice state 0"),
     (&[NO_CHOICE, NO_REPLY], "0 Reply state 1"),
-    (&[NO_CHOICE, NO_REPLY, GOAL_TOO_LOW], "0 Goal state 2"),
+    (&[NO_CHOICE, NO_REPLY, UPPER_BELOW_1], "0 Goal state 2"),
     (
-        &[TOO_LOW, NO_REPLY, GOAL_TOO_LOW],
+        &[TOO_LOW, NO_REPLY, UPPER_BELOW_1],
         "0 Above state 0 choice 0",
     ),
-    (&[GOAL_TOO_LOW, OVER_ONE], "5 NumberOutOfRange"),
+    (&[UPPER_BELOW_1, OVER_ONE], "5 NumberOutOfRange"),
     (
-        &[TOO_LOW, NO_REPLY, GOAL_TOO_LOW, OVER_ONE],
+        &[TOO_LOW, NO_REPLY, UPPER_BELOW_1, OVER_ONE],
         "5 NumberOutOfRange",
     ),
 ];

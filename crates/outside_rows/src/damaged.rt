@@ -188,9 +188,19 @@ fn cut_is_refused<R: Threads + Sync>(rt: &R, alloc: Global, length: usize) -> Re
     let bytes = COIN_LOOP.as_bytes().get(..length).unwrap_or(&[]);
     let (ended, written) = answer(rt, alloc, target, bytes, length)?;
     if length.saturating_add(1) < COIN_LOOP.len() {
-        return same(length, ended, Status::ModelRefused);
+        return same(
+            format_args!("cut after {length} bytes"),
+            ended,
+            Status::ModelRefused,
+        );
     }
-    comes_to(length, ended, &written, Status::Fine, COIN_LOOP_REPORT)
+    comes_to(
+        format_args!("cut after {length} bytes"),
+        ended,
+        &written,
+        Status::Fine,
+        COIN_LOOP_REPORT,
+    )
 }
 
 fn cuts_are_refused<R: Threads + Sync>(rt: &R, alloc: Global) -> Result<(), Fail> {

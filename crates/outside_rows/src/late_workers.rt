@@ -26,7 +26,8 @@ fn a_late_worker_makes_no_difference_to_the_bounds(rt: HostRuntime) -> Result<()
 // Some line begins so.
 fn has_line(written: &[u8], front: &str) -> Result<(), Fail> {
     let mut lines = written.split(|byte| *byte == b'\n');
-    holds(front, lines.any(|line| line.starts_with(front.as_bytes())))
+    let found = lines.any(|line| line.starts_with(front.as_bytes()));
+    holds(format_args!("a line begins with {front}"), found)
 }
 
 const ONE_ROUND: Row<'static> = Row {

@@ -193,15 +193,18 @@ fn shelf_in_pieces(alloc: Global, piece: u32) -> Result<MemShelf, Fail>
     Ok(MemShelf::new(held, piece, Vec::new(alloc)))
 }
 
-// Of so many bytes it is read, and of one byte less too long.
+// With a limit of so many bytes it is read, and with one byte less it is too long.
 fn transitions_of_54_bytes(alloc: Global, piece: u32) -> Result<(), Fail>
     requires { 0 < piece }
 {
     let mut shelf = shelf_in_pieces(alloc, piece)?;
     let whole = read_tra_from(alloc, &mut shelf, "m.tra", 54);
-    holds(piece, whole.is_ok())?;
+    holds(format_args!("read in pieces of {piece}"), whole.is_ok())?;
     let long = read_tra_from(alloc, &mut shelf, "m.tra", 53);
-    holds(piece, matches!(long, Err(FileEnd::TooLong)))
+    holds(
+        format_args!("too long in pieces of {piece}"),
+        matches!(long, Err(FileEnd::TooLong)),
+    )
 }
 
 fn transitions_of_54_bytes_in_pieces(alloc: Global) -> Result<(), Fail> {
@@ -223,9 +226,15 @@ fn a_text_of_13_bytes(alloc: Global, piece: u32) -> Result<(), Fail>
 {
     let mut shelf = shelf_in_pieces(alloc, piece)?;
     let whole = read_tra_from(alloc, &mut shelf, "none", 13);
-    holds(piece, matches!(whole, Err(FileEnd::Refused(_))))?;
+    holds(
+        format_args!("refused in pieces of {piece}"),
+        matches!(whole, Err(FileEnd::Refused(_))),
+    )?;
     let long = read_tra_from(alloc, &mut shelf, "none", 12);
-    holds(piece, matches!(long, Err(FileEnd::TooLong)))
+    holds(
+        format_args!("too long in pieces of {piece}"),
+        matches!(long, Err(FileEnd::TooLong)),
+    )
 }
 
 fn a_text_of_13_bytes_in_pieces(alloc: Global) -> Result<(), Fail> {
@@ -240,15 +249,18 @@ fn a_text_that_is_too_long_is_not_refused_for_its_lines(rt: HostRuntime) -> Resu
     a_text_of_13_bytes_in_pieces(rt.alloc())
 }
 
-// Of so many bytes it is read, and of one byte less too long.
+// With a limit of so many bytes it is read, and with one byte less it is too long.
 fn labels_of_28_bytes(alloc: Global, piece: u32) -> Result<(), Fail>
     requires { 0 < piece }
 {
     let mut shelf = shelf_in_pieces(alloc, piece)?;
     let whole = read_labels_from(alloc, &mut shelf, "m.lab", 28, 3);
-    holds(piece, whole.is_ok())?;
+    holds(format_args!("read in pieces of {piece}"), whole.is_ok())?;
     let long = read_labels_from(alloc, &mut shelf, "m.lab", 27, 3);
-    holds(piece, matches!(long, Err(FileEnd::TooLong)))
+    holds(
+        format_args!("too long in pieces of {piece}"),
+        matches!(long, Err(FileEnd::TooLong)),
+    )
 }
 
 fn labels_of_28_bytes_in_pieces(alloc: Global) -> Result<(), Fail> {
@@ -264,15 +276,18 @@ fn a_label_file_may_be_as_long_as_the_limit(rt: HostRuntime) -> Result<(), Fail>
     labels_of_28_bytes_in_pieces(rt.alloc())
 }
 
-// Of so many bytes it is read, and of one byte less too long.
+// With a limit of so many bytes it is read, and with one byte less it is too long.
 fn owners_of_19_bytes(alloc: Global, piece: u32) -> Result<(), Fail>
     requires { 0 < piece }
 {
     let mut shelf = shelf_in_pieces(alloc, piece)?;
     let whole = read_owners_from(alloc, &mut shelf, "m.own", 19, 3);
-    holds(piece, whole.is_ok())?;
+    holds(format_args!("read in pieces of {piece}"), whole.is_ok())?;
     let long = read_owners_from(alloc, &mut shelf, "m.own", 18, 3);
-    holds(piece, matches!(long, Err(FileEnd::TooLong)))
+    holds(
+        format_args!("too long in pieces of {piece}"),
+        matches!(long, Err(FileEnd::TooLong)),
+    )
 }
 
 fn owners_of_19_bytes_in_pieces(alloc: Global) -> Result<(), Fail> {

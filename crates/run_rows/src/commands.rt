@@ -27,20 +27,14 @@ pub enum Command<'a> {
 }
 
 impl<'a> Command<'a> {
-    // The row of the command, where it has one.
-    fn row(self) -> Option<Row<'a>> {
+    /// What a message calls it: the command and its formula, or, of words that name no file, the last.
+    pub fn title(self) -> (&'a str, &'a str) {
         match self {
-            Command::Check(row) | Command::Sure(row) => Some(row),
-            Command::Audit(row, _) | Command::Solve(row, _) => Some(row),
-            Command::Words(_) => None,
-        }
-    }
-
-    /// Its formula, or nothing.
-    pub fn formula(self) -> &'a str {
-        match self.row() {
-            Some(row) => row.formula,
-            None => "",
+            Command::Check(row) => ("check", row.formula),
+            Command::Audit(row, _) => ("audit", row.formula),
+            Command::Solve(row, _) => ("solve", row.formula),
+            Command::Sure(row) => ("sure", row.formula),
+            Command::Words(given) => ("words up to", given.last().copied().unwrap_or("")),
         }
     }
 

@@ -11,7 +11,7 @@ use std::test::Fail;
 use std::thread::Threads;
 use stogame_app::Status;
 
-/// A formula, the end of the text that it gives, and how it ends.
+/// A formula, the end of the text that it gives, and how the command ends.
 pub type Answer<'a> = (&'a str, &'a str, Status);
 
 /// A command that prints a certificate, the row for which that is audited, and the text and the end of the audit.
@@ -37,7 +37,14 @@ fn prints<R: Threads + Sync>(
     status: Status,
 ) -> Result<(), Fail> {
     let (ended, written) = printed(rt, alloc, command)?;
-    comes_to(command.formula(), ended, &written, status, text)
+    let (name, question) = command.title();
+    comes_to(
+        format_args!("{name} {question}"),
+        ended,
+        &written,
+        status,
+        text,
+    )
 }
 
 /// Each case over a shelf and a sink that never fail writes its text and ends with its status.

@@ -57,7 +57,7 @@ fn written_by<R: Threads + Sync>(rt: &R, alloc: Global, workers: &str) -> Result
     same(workers, ended, Status::Fine)?;
     let front = b"model seed 7 states 20000 zero ";
     holds(
-        workers,
+        format_args!("{workers} workers settle it"),
         written.starts_with(front) && written.ends_with(b" settled\n"),
     )?;
     Ok(written)

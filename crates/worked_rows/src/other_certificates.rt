@@ -1,59 +1,34 @@
 //! Certificates that were written for another formula or another model: each is refused, or is right there too.
 
 use run_rows::{
-    Audited, COIN_LOOP, Case, Command, FIRST_OF_TWO_PLAYERS, FORK, GOAL_AT_1, LOOP_OR_COIN, PLAN,
-    Row, all_write, printed_are_audited,
+    Audited, Case, Command, FIRST_OF_TWO_PLAYERS, FORK, MOST_OF_COIN_LOOP_WITH_PLAN,
+    MOST_OF_LOOP_OR_COIN, Row, all_write, printed_are_audited,
 };
 use std::test::Fail;
 use stogame_app::Status;
 
-// Models whose state 1 is the goal, asked for the greatest and for the least probability of reaching it.
+const LEAST: &str = "Pmin=? [ F \"goal\" ]";
+
+// Models whose state 1 is the goal, asked for the least probability of reaching it, with the certificate.
+const LEAST_OF_COIN_LOOP: Row<'static> = Row {
+    formula: LEAST,
+    ..MOST_OF_COIN_LOOP_WITH_PLAN
+};
+
+const LEAST_OF_LOOP_OR_COIN: Row<'static> = Row {
+    formula: LEAST,
+    ..MOST_OF_LOOP_OR_COIN
+};
+
+// The fork, asked for the greatest and for the least.
 const MOST_OF_FORK: Row<'static> = Row {
     tra: FORK,
-    lab: GOAL_AT_1,
-    own: None,
-    formula: "Pmax=? [ F \"goal\" ]",
-    numbers: PLAN,
-};
-
-const MOST_OF_COIN: Row<'static> = Row {
-    tra: COIN_LOOP,
-    lab: GOAL_AT_1,
-    own: None,
-    formula: "Pmax=? [ F \"goal\" ]",
-    numbers: PLAN,
-};
-
-const MOST_OF_LOOP: Row<'static> = Row {
-    tra: LOOP_OR_COIN,
-    lab: GOAL_AT_1,
-    own: None,
-    formula: "Pmax=? [ F \"goal\" ]",
-    numbers: PLAN,
+    ..MOST_OF_LOOP_OR_COIN
 };
 
 const LEAST_OF_FORK: Row<'static> = Row {
-    tra: FORK,
-    lab: GOAL_AT_1,
-    own: None,
-    formula: "Pmin=? [ F \"goal\" ]",
-    numbers: PLAN,
-};
-
-const LEAST_OF_COIN: Row<'static> = Row {
-    tra: COIN_LOOP,
-    lab: GOAL_AT_1,
-    own: None,
-    formula: "Pmin=? [ F \"goal\" ]",
-    numbers: PLAN,
-};
-
-const LEAST_OF_LOOP: Row<'static> = Row {
-    tra: LOOP_OR_COIN,
-    lab: GOAL_AT_1,
-    own: None,
-    formula: "Pmin=? [ F \"goal\" ]",
-    numbers: PLAN,
+    formula: LEAST,
+    ..MOST_OF_FORK
 };
 
 const NOT_FROM_THE_START: Row<'static> = Row {
@@ -75,14 +50,14 @@ const OF_ANOTHER_FORMULA: &[Audited<'static>] = &[
         Status::CertificateRefused,
     ),
     (
-        Command::Check(MOST_OF_COIN),
-        LEAST_OF_COIN,
+        Command::Check(MOST_OF_COIN_LOOP_WITH_PLAN),
+        LEAST_OF_COIN_LOOP,
         "refused cert line 0 Reply state 0\n",
         Status::CertificateRefused,
     ),
     (
-        Command::Check(LEAST_OF_COIN),
-        MOST_OF_COIN,
+        Command::Check(LEAST_OF_COIN_LOOP),
+        MOST_OF_COIN_LOOP_WITH_PLAN,
         "refused cert line 0 Choice state 0\n",
         Status::CertificateRefused,
     ),
@@ -101,38 +76,38 @@ fn a_certificate_of_the_most_is_none_of_the_least(rt: HostRuntime) -> Result<(),
 
 const OF_ANOTHER_MODEL: &[Audited<'static>] = &[
     (
-        Command::Check(MOST_OF_COIN),
-        MOST_OF_LOOP,
+        Command::Check(MOST_OF_COIN_LOOP_WITH_PLAN),
+        MOST_OF_LOOP_OR_COIN,
         "refused cert line 0 NoStep state 0 choice 0\n",
         Status::CertificateRefused,
     ),
     (
-        Command::Check(MOST_OF_LOOP),
-        MOST_OF_COIN,
+        Command::Check(MOST_OF_LOOP_OR_COIN),
+        MOST_OF_COIN_LOOP_WITH_PLAN,
         "refused cert line 0 Choice state 0\n",
         Status::CertificateRefused,
     ),
     (
-        Command::Check(MOST_OF_LOOP),
+        Command::Check(MOST_OF_LOOP_OR_COIN),
         MOST_OF_FORK,
         "refused cert line 0 Above state 0 choice 0\n",
         Status::CertificateRefused,
     ),
     (
-        Command::Check(LEAST_OF_LOOP),
-        LEAST_OF_COIN,
+        Command::Check(LEAST_OF_LOOP_OR_COIN),
+        LEAST_OF_COIN_LOOP,
         "refused cert line 0 NoReply state 0\n",
         Status::CertificateRefused,
     ),
     (
         Command::Check(LEAST_OF_FORK),
-        LEAST_OF_LOOP,
+        LEAST_OF_LOOP_OR_COIN,
         "refused cert line 0 Reply state 0\n",
         Status::CertificateRefused,
     ),
     (
         Command::Check(FIRST_OF_TWO_PLAYERS),
-        MOST_OF_COIN,
+        MOST_OF_COIN_LOOP_WITH_PLAN,
         "refused cert line 3 StateCount\n",
         Status::CertificateRefused,
     ),
@@ -149,12 +124,12 @@ const LOOSE: &str =
 
 const OF_TWO_MODELS: &[Case<'static>] = &[
     Case {
-        command: Command::Audit(MOST_OF_COIN, LOOSE),
+        command: Command::Audit(MOST_OF_COIN_LOOP_WITH_PLAN, LOOSE),
         text: "state 0 lower 0.000000000000000 upper 0.562949953421312 audited Bracket\n",
         status: Status::Fine,
     },
     Case {
-        command: Command::Audit(MOST_OF_LOOP, LOOSE),
+        command: Command::Audit(MOST_OF_LOOP_OR_COIN, LOOSE),
         text: "state 0 lower 0.000000000000000 upper 0.562949953421312 audited Bracket\n",
         status: Status::Fine,
     },

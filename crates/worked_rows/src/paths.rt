@@ -6,8 +6,8 @@ use crate::traps::{
 use expectations::holds;
 use game_outside::{HoldGate, OpenGate};
 use run_rows::{
-    Answer, Case, Command, GOAL_AT_1, MOST_OF_COIN_LOOP, Row, all_write, answers_write,
-    audit_writes, comes_to, runs,
+    Answer, Case, Command, MOST_OF_COIN_LOOP, Row, all_write, answers_write, audit_writes,
+    comes_to, runs,
 };
 use std::alloc::Global;
 use std::test::Fail;
@@ -35,8 +35,6 @@ const OF_TWO_PLAYERS: Row<'static> = Row {
     own: Some(SECOND_OWNS_1),
     ..MOST_OF_COIN_LOOP
 };
-
-const COIN_LOOP: Command<'static> = Command::Check(MOST_OF_COIN_LOOP);
 
 const WITHIN_STEPS: &[Answer<'static>] = &[
     (
@@ -80,7 +78,8 @@ const WITHIN_STEPS: &[Answer<'static>] = &[
 
 #[test]
 fn paths_within_steps_have_their_value(rt: HostRuntime) -> Result<(), Fail> {
-    answers_write(&rt, rt.alloc(), COIN_LOOP, "state 0 ", WITHIN_STEPS)
+    let command = Command::Check(MOST_OF_COIN_LOOP);
+    answers_write(&rt, rt.alloc(), command, "state 0 ", WITHIN_STEPS)
 }
 
 const OF_TOSS_OR_STEP: &[Answer<'static>] = &[
@@ -132,7 +131,8 @@ const NEXT_STEP: &[Answer<'static>] = &[
 
 #[test]
 fn the_next_step_has_its_probability(rt: HostRuntime) -> Result<(), Fail> {
-    answers_write(&rt, rt.alloc(), COIN_LOOP, "state 0 ", NEXT_STEP)
+    let command = Command::Check(MOST_OF_COIN_LOOP);
+    answers_write(&rt, rt.alloc(), command, "state 0 ", NEXT_STEP)
 }
 
 const LEFT_OPEN: &[Case<'static>] = &[Case {
@@ -190,7 +190,7 @@ fn a_coalition_has_what_always_holds(rt: HostRuntime) -> Result<(), Fail> {
     answers_write(&rt, rt.alloc(), command, "", ALWAYS_OF_COALITIONS)
 }
 
-// What always holds of the choice to stay.
+// The choice to stay or toss, asked for what always holds.
 const STAYS: Row<'static> = Row {
     tra: STAY_OR_COIN,
     lab: GOAL_AT_2,
@@ -232,7 +232,8 @@ const ALWAYS: &[Answer<'static>] = &[
 #[test]
 fn what_always_holds_is_told_by_its_dual(rt: HostRuntime) -> Result<(), Fail> {
     let front = "state 0 lower 0.500000000000000 upper 0.500000000000000 rounds 50 ";
-    answers_write(&rt, rt.alloc(), COIN_LOOP, front, ALWAYS)
+    let command = Command::Check(MOST_OF_COIN_LOOP);
+    answers_write(&rt, rt.alloc(), command, front, ALWAYS)
 }
 
 const PLANNED: Row<'static> = Row {
@@ -280,7 +281,8 @@ const BAD_STEPS: &[Answer<'static>] = &[
 #[test]
 fn steps_are_whole_numbers_up_to_a_million(rt: HostRuntime) -> Result<(), Fail> {
     let front = "refused formula place ";
-    answers_write(&rt, rt.alloc(), COIN_LOOP, front, BAD_STEPS)
+    let command = Command::Check(MOST_OF_COIN_LOOP);
+    answers_write(&rt, rt.alloc(), command, front, BAD_STEPS)
 }
 
 const COIN_LOOP_WITH_PLAN: Row<'static> = Row {

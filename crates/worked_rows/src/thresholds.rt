@@ -98,7 +98,10 @@ fn agree<R: Threads + Sync>(rt: &R, alloc: Global, workers: &str) -> Result<(), 
     };
     let (ended, written) = runs(rt, alloc, row, &OpenGate {})?;
     same(workers, ended, Status::Fine)?;
-    holds(workers, written.ends_with(b" True\n"))
+    holds(
+        format_args!("{workers} workers say True"),
+        written.ends_with(b" True\n"),
+    )
 }
 
 #[test]

@@ -24,7 +24,7 @@ fn writes<R: Threads + Sync>(
 }
 
 // Each of these lists of words writes this text and ends with this status.
-fn all_write<R: Threads + Sync>(
+fn lists_write<R: Threads + Sync>(
     rt: &R,
     alloc: Global,
     lists: &[&[&str]],
@@ -39,7 +39,7 @@ fn all_write<R: Threads + Sync>(
 
 // None of these lists of words denotes a command.
 fn usage<R: Threads + Sync>(rt: &R, alloc: Global, lists: &[&[&str]]) -> Result<(), Fail> {
-    all_write(rt, alloc, lists, USAGE, Status::Usage)
+    lists_write(rt, alloc, lists, USAGE, Status::Usage)
 }
 
 // `check` with the files, the formula and these words behind them is no command.
@@ -227,7 +227,7 @@ const ANYWHERE: &[&[&str]] = &[
 
 #[test]
 fn options_stand_anywhere(rt: HostRuntime) -> Result<(), Fail> {
-    all_write(&rt, rt.alloc(), ANYWHERE, COIN_LOOP_REPORT, Status::Fine)
+    lists_write(&rt, rt.alloc(), ANYWHERE, COIN_LOOP_REPORT, Status::Fine)
 }
 
 #[test]
@@ -350,7 +350,7 @@ const WORDS_OF_AUDIT: &[&[&str]] = &[
 #[test]
 fn an_audit_takes_four_words_and_an_owner_file(rt: HostRuntime) -> Result<(), Fail> {
     let report = "state 0 lower 0.500000000000000 upper 0.500000000000000 audited Bracket\n";
-    all_write(&rt, rt.alloc(), WORDS_OF_AUDIT, report, Status::Fine)
+    lists_write(&rt, rt.alloc(), WORDS_OF_AUDIT, report, Status::Fine)
 }
 
 #[test]
