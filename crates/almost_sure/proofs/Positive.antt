@@ -30,14 +30,16 @@ horizon-below : (q : Query) (n : ℕ) → IsQuery q → ((s : ℕ) → s < n →
 horizon-below q zero posed each = (0, λ s l. absurd (omega (arith, l)))
 horizon-below q (suc n) posed each =
     let below : (k : ℕ) × ((s : ℕ) → s < n → 1 ≤ numerator q k s) = horizon-below q n posed (λ s l. each s (omega (arith, l))) in
-    let last : (k : ℕ) × (1 ≤ numerator q k n) = each n (omega arith) in
-    (below.0 + last.0, λ s l. elim (cases_eq s n) [
-      | inl same ↦
-          let at : 1 ≤ numerator q (last.0 + below.0) s = subst (λ t. 1 ≤ numerator q (last.0 + below.0) t) (sym same) (stays-positive q last.0 below.0 n posed last.1) in
-          let order : last.0 + below.0 ≡ below.0 + last.0 = omega arith in
-          subst (λ j. 1 ≤ numerator q j s) order at
-      | inr other ↦ stays-positive q below.0 last.0 s posed (below.1 s (omega (arith, l, other)))
-    ])
+    let last : (k : ℕ) × (1 ≤ numerator q k n) = each n (omega arith) in (
+      below.0 + last.0,
+      λ s l. elim (cases_eq s n) [
+        | inl same ↦
+            let at : 1 ≤ numerator q (last.0 + below.0) s = subst (λ t. 1 ≤ numerator q (last.0 + below.0) t) (sym same) (stays-positive q last.0 below.0 n posed last.1) in
+            let order : last.0 + below.0 ≡ below.0 + last.0 = omega arith in
+            subst (λ j. 1 ≤ numerator q j s) order at
+        | inr other ↦ stays-positive q below.0 last.0 s posed (below.1 s (omega (arith, l, other)))
+      ],
+    )
 
 -- a sum over values of which each misses p by as much less as another value has
 weighted_sum-share : (v w : ℕ → ℕ) (p g h : ℕ) (edges : List Edge) → AllByRecursion (λ e. p + g * w e.to ≤ v e.to + h) edges
@@ -107,5 +109,5 @@ ComesNearer-positive q gone set posed none each =
     record {
       horizon = all.0;
       nearer = λ k g outer s inside member.
-      nearer-by (denominator q.game ^ (k + all.0)) (numerator q (k + all.0) s) g (numerator q all.0 s) (g * denominator q.game ^ all.0) (all.1 s inside) (misses-share q k g all.0 s posed (λ t within. outer t within (none t within)) inside);
+          nearer-by (denominator q.game ^ (k + all.0)) (numerator q (k + all.0) s) g (numerator q all.0 s) (g * denominator q.game ^ all.0) (all.1 s inside) (misses-share q k g all.0 s posed (λ t within. outer t within (none t within)) inside);
     }

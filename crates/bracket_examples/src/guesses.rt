@@ -14,10 +14,10 @@ use random_games::{
     Model, agreement_game, agreement_question, coin, coin_game, coin_question, contract,
     plain_guess, retransmission, robot,
 };
+use sample_games::{chain, question_of};
 use std::alloc::Global;
 use std::test::Fail;
 use std::thread::Threads;
-use sample_games::{chain, question_of};
 use upper_guess::{Alone, Witnesses, guess, guess_with};
 use zero_sets::zero_set;
 

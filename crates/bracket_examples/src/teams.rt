@@ -33,7 +33,14 @@ fn guess_by<M: UpTables>(
 {
     question.known();
     let counted = Counted::of(maker);
-    let guess = guess_with(&counted, alloc, &*question, &*zero, &*lower, &mut Witnesses::none())?;
+    let guess = guess_with(
+        &counted,
+        alloc,
+        &*question,
+        &*zero,
+        &*lower,
+        &mut Witnesses::none(),
+    )?;
     Ok((guess, counted.up_steps()))
 }
 
