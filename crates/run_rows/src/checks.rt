@@ -1,7 +1,7 @@
 //! What is expected of rows: what they write, and how they end.
 
-use crate::rows::{Row, ends, files, runs, sure_words};
-use game_outside::{OpenGate, SteadyShelf};
+use crate::rows::{Row, runs};
+use game_outside::OpenGate;
 use std::alloc::Global;
 use std::fmt::{Display, InlineText};
 use std::test::Fail;
@@ -73,25 +73,4 @@ pub fn refuses<R: Threads + Sync>(
     text: &str,
 ) -> Result<(), Fail> {
     writes(rt, alloc, row, text, Status::ModelRefused)
-}
-
-/// The words of `sure` over the model and the formula of a row write this text.
-pub fn sure_writes<R: Threads + Sync>(
-    rt: &R,
-    alloc: Global,
-    row: Row<'_>,
-    text: &str,
-    status: Status,
-) -> Result<(), Fail> {
-    let owned = sure_words(alloc, row)?;
-    let mut shelf = SteadyShelf::new(files(alloc, row)?);
-    let (ended, written) = ends(rt, alloc, &owned, &mut shelf, &OpenGate {})?;
-    let formula = row.formula;
-    comes_to(
-        format_args!("sure {formula}"),
-        ended,
-        &written,
-        status,
-        text,
-    )
 }
