@@ -12,9 +12,8 @@
 //! let owners = Owners::single(alloc, game.states())?;
 //! ```
 //!
-//! `Labels::holds`, `Labels::knows`, `Owners::knows` and `Owners::owner` take no memory and constant time. Contracts
-//! see
-//! `Labels` as a `Labelling`, a list of names with a mark for each state, and `Owners` as an `Ownership`.
+//! `Labels::marks`, `Labels::knows`, `Owners::knows` and `Owners::owner` take no memory and constant time. Contracts
+//! see `Labels` as a `Labelling`, a list of names with a mark for each state, and `Owners` as an `Ownership`.
 //!
 //! Nothing is said of what PRISM reads or refuses beyond these rules.
 #![tactic(auto)]
