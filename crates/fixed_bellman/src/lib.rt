@@ -5,9 +5,10 @@
 //! one choice. Iteration wants less: [`raised_state`] is the down step where it is above the entry of its
 //! table. It compares before it divides, so a state that does not rise costs a sum and a comparison for a
 //! choice, and no division. [`settled`] says that no state rises, [`is_given`] that a state does not fall, and
-//! [`gives`] and [`holds`] that a choice gives a value, at least or at most; none of them divides. [`step_above`] is the kernel of down steps, over values
-//! that may rise while they are read ([`Values`]): a table, or words that are shared. [`step_bounds`] is the step of
-//! lower and upper bounds that lie side by side ([`Bounds`]). No call takes memory.
+//! [`gives`] and [`holds`] that a choice gives a value, at least or at most; none of them divides.
+//! [`step_above`] is the kernel of down steps, over values that may rise while they are read ([`Values`]): a
+//! table, or words that are shared. [`step_bounds`] is the step of lower and upper bounds that lie side by side
+//! ([`Bounds`]). No call takes memory.
 #![tactic(auto)]
 
 mod above;
