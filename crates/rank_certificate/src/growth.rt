@@ -21,7 +21,7 @@ pub struct Growth {
     pub order: Vec<u32>,
 }
 
-/// A layer of fewer than one in so many states is left backward.
+/// From a layer of fewer than one in so many states the moves to its states are followed.
 const STATES_FOR_A_PASS: usize = 16;
 
 impl Growth {

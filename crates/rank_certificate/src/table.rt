@@ -33,7 +33,8 @@ pub struct RankPlan {
 /// value and has a successor of greater value, or one of equal value and smaller rank. The maximiser takes the
 /// first such choice there, and has none elsewhere. A state whose down step is below its value refuses the
 /// values at once. Else the search goes backward from the states of rank 0: it looks at a state again only when
-/// a successor got a rank, or a large part of all states did. The time is no part of the contract. The only error is want of memory.
+/// a successor got a rank, or a large part of all states did. The time is no part of the contract. The only
+/// error is want of memory.
 pub fn rank_table(
     alloc: Global,
     question: &Question,
