@@ -12,9 +12,9 @@ use std::alloc::Global;
 /// The component of a state that has none yet, and the number of one that has.
 pub const NONE: u32 = 4_294_967_295;
 
-/// What a search knows of a state: its number, by the order in which states were met, which is 0 until it was and the
-/// greatest once the state has a component; the least number of a state without a component that it is known to lead to;
-/// and the next edge to follow.
+/// What a search knows of a state: its number, by the order in which states were met, which is 0 until it was and
+/// `NONE` once the state has a component; the least number of a state without a component that it is known to lead
+/// to; and the next edge to follow.
 #[derive(Clone, Copy)]
 struct Seen {
     number: u32,
