@@ -78,8 +78,8 @@ pub struct Names {
 /// What a formula asks of a path: `left U right` and its kin.
 #[derive(Clone, Copy, Debug, PartialEq, Eq)]
 pub enum PathKind {
-    /// `left U right`: a state of the right side is reached, past states of the left side alone. `F right` has `True` on
-    /// the left.
+    /// `left U right`: a state of the right side is reached, past states of the left side alone. `F right` has `True`
+    /// on the left.
     Until,
     /// `left U<=k right`: the same, within so many steps. `F<=k right` has `True` on the left.
     Within(u32),
