@@ -61,10 +61,7 @@ fn check_has_all<R: Threads + Sync>(
 ) -> Result<(), Fail> {
     let gate = LastGate::before(workers);
     let numbers = ["--rounds", "1", "--workers", asked];
-    let row = Row {
-        numbers: &numbers,
-        ..MOST_OF_AGREEMENT
-    };
+    let row = MOST_OF_AGREEMENT.with_numbers(&numbers);
     let (ended, _written) = runs(rt, alloc, row, &gate)?;
     same(asked, ended, Status::Fine)?;
     holds(format_args!("all {asked} workers pass"), gate.has_all())

@@ -21,6 +21,11 @@ impl<'a> Row<'a> {
     pub fn asked(self, formula: &'a str) -> Row<'a> {
         Row { formula, ..self }
     }
+
+    /// The same row with other numbers.
+    pub fn with_numbers(self, numbers: &'a [&'a str]) -> Row<'a> {
+        Row { numbers, ..self }
+    }
 }
 
 /// With one worker the number of rounds is the same at each run.

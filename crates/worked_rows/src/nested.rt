@@ -148,11 +148,7 @@ fn nested_by<R: Threads + Sync, G: Gate + Sync>(
     gate: &G,
 ) -> Result<(Status, Vec<u8>), Fail> {
     let numbers = ["--workers", workers];
-    let row = Row {
-        formula,
-        numbers: &numbers,
-        ..MOST_OF_COIN_LOOP
-    };
+    let row = MOST_OF_COIN_LOOP.asked(formula).with_numbers(&numbers);
     runs(rt, alloc, row, gate)
 }
 

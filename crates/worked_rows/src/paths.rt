@@ -351,11 +351,9 @@ fn two_steps<R: Threads + Sync>(
     gate: &HoldGate,
 ) -> Result<(), Fail> {
     let numbers = ["--workers", workers];
-    let row = Row {
-        formula: "Pmax=? [ F<=2 \"goal\" ]",
-        numbers: &numbers,
-        ..MOST_OF_COIN_LOOP
-    };
+    let row = MOST_OF_COIN_LOOP
+        .asked("Pmax=? [ F<=2 \"goal\" ]")
+        .with_numbers(&numbers);
     let (status, written) = runs(rt, alloc, row, gate)?;
     let text = "state 0 lower 0.375000000000000 upper 0.375000000000000 steps 2 Bracket\n";
     comes_to(workers, status, &written, Status::Fine, text)

@@ -91,11 +91,9 @@ fn coalitions_are_answered(rt: HostRuntime) -> Result<(), Fail> {
 // So many workers find that the agreement is reached with eight tenths.
 fn agree<R: Threads + Sync>(rt: &R, alloc: Global, workers: &str) -> Result<(), Fail> {
     let numbers = ["--workers", workers];
-    let row = Row {
-        formula: "<<p1>> P>=0.8 [ \"ok\" U \"done\" ]",
-        numbers: &numbers,
-        ..MOST_OF_AGREEMENT
-    };
+    let row = MOST_OF_AGREEMENT
+        .asked("<<p1>> P>=0.8 [ \"ok\" U \"done\" ]")
+        .with_numbers(&numbers);
     let (ended, written) = runs(rt, alloc, row, &OpenGate {})?;
     same(workers, ended, Status::Fine)?;
     holds(
