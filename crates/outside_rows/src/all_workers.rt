@@ -1,6 +1,6 @@
 //! The first round or step of each run has as many workers as are asked for.
 
-use expectations::same;
+use expectations::{holds, same};
 use game_outside::{Gate, SteadyShelf};
 use run_rows::{MOST_OF_AGREEMENT, Row, ends, runs, words};
 use std::alloc::Global;
@@ -52,36 +52,60 @@ impl Gate for LastGate {
     }
 }
 
+// So many workers of a check pass the gate.
+fn check_has_all<R: Threads + Sync>(
+    rt: &R,
+    alloc: Global,
+    asked: &str,
+    workers: u32,
+) -> Result<(), Fail> {
+    let gate = LastGate::before(workers);
+    let numbers = ["--rounds", "1", "--workers", asked];
+    let row = MOST_OF_AGREEMENT.with_numbers(&numbers);
+    let (ended, _written) = runs(rt, alloc, row, &gate)?;
+    same(asked, ended, Status::Fine)?;
+    holds(format_args!("all {asked} workers pass"), gate.has_all())
+}
+
+fn checks_have_all<R: Threads + Sync>(rt: &R, alloc: Global) -> Result<(), Fail> {
+    for (asked, workers) in [("1", 1), ("3", 3), ("4", 4), ("5", 5), ("8", 8)] {
+        check_has_all(rt, alloc, asked, workers)?;
+    }
+    Ok(())
+}
+
 // The first round has every state, and by its edges each of so many workers has one of the twelve.
 #[test]
 fn all_workers_of_a_check_pass_the_gate(rt: HostRuntime) -> Result<(), Fail> {
-    let alloc = rt.alloc();
-    for (asked, workers) in [("1", 1), ("3", 3), ("4", 4), ("5", 5), ("8", 8)] {
-        let gate = LastGate::before(workers);
-        let row = Row {
-            numbers: &["--rounds", "1", "--workers", asked],
-            ..MOST_OF_AGREEMENT
-        };
-        let (ended, _written) = runs(&rt, alloc, row, &gate)?;
-        assert!(rt; ended == Status::Fine, "{asked} workers");
-        assert!(rt; gate.has_all(), "{asked} workers");
+    checks_have_all(&rt, rt.alloc())
+}
+
+// So many workers of a drawn game pass the gate.
+fn game_has_all<R: Threads + Sync>(
+    rt: &R,
+    alloc: Global,
+    asked: &str,
+    workers: u32,
+) -> Result<(), Fail> {
+    let gate = LastGate::before(workers);
+    let given = ["make", "7", "2000", "--rounds", "1", "--workers", asked];
+    let words = words(alloc, &given)?;
+    let mut shelf = SteadyShelf::new(Vec::new(alloc));
+    let (ended, _written) = ends(rt, alloc, &words, &mut shelf, &gate)?;
+    same(asked, ended, Status::SomeUndecided)?;
+    holds(format_args!("all {asked} workers pass"), gate.has_all())
+}
+
+fn games_have_all<R: Threads + Sync>(rt: &R, alloc: Global) -> Result<(), Fail> {
+    for (asked, workers) in [("1", 1), ("5", 5), ("8", 8), ("64", 64)] {
+        game_has_all(rt, alloc, asked, workers)?;
     }
     Ok(())
 }
 
 #[test]
 fn all_workers_of_a_drawn_game_pass_the_gate(rt: HostRuntime) -> Result<(), Fail> {
-    let alloc = rt.alloc();
-    for (asked, workers) in [("1", 1), ("5", 5), ("8", 8), ("64", 64)] {
-        let gate = LastGate::before(workers);
-        let given = ["make", "7", "2000", "--rounds", "1", "--workers", asked];
-        let words = words(alloc, &given)?;
-        let mut shelf = SteadyShelf::new(Vec::new(alloc));
-        let (ended, _written) = ends(&rt, alloc, &words, &mut shelf, &gate)?;
-        assert!(rt; ended == Status::SomeUndecided, "{asked} workers");
-        assert!(rt; gate.has_all(), "{asked} workers");
-    }
-    Ok(())
+    games_have_all(&rt, rt.alloc())
 }
 
 /// Fifteen states in a row, of which the last is the goal.
@@ -144,12 +168,16 @@ fn all_pass<R: Threads + Sync>(
     )
 }
 
-#[test]
-fn all_workers_of_each_run_pass_the_gate(rt: HostRuntime) -> Result<(), Fail> {
+fn all_runs_pass<R: Threads + Sync>(rt: &R, alloc: Global) -> Result<(), Fail> {
     for team in TEAMS {
         for run in RUNS {
-            all_pass(&rt, rt.alloc(), team, run)?;
+            all_pass(rt, alloc, team, run)?;
         }
     }
     Ok(())
+}
+
+#[test]
+fn all_workers_of_each_run_pass_the_gate(rt: HostRuntime) -> Result<(), Fail> {
+    all_runs_pass(&rt, rt.alloc())
 }

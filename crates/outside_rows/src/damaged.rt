@@ -2,15 +2,15 @@
 
 ghost use Rattle.std.specs.Prelude.{◌<◌};
 
+use expectations::{holds, same};
 use game_outside::{MemShelf, OpenGate};
 use run_rows::{
     AGREEMENT, AGREEMENT_LABELS, AGREEMENT_OWNERS, AUDIT_OF_TWO_PLAYERS, CERTIFICATE, COIN_LOOP,
     COIN_LOOP_REPORT, Command, FIRST_OF_TWO_PLAYERS, GOAL_AT_1, GOAL_AT_2, MOST_OF_AGREEMENT,
-    MOST_OF_COIN_LOOP, Row, SECOND_OWNS_1, TWO_PLAYERS, TWO_PLAYERS_PLAN, ends, file_of_bytes,
-    with_file,
+    MOST_OF_COIN_LOOP, Row, SECOND_OWNS_1, TWO_PLAYERS, TWO_PLAYERS_PLAN, comes_to, ends,
+    file_of_bytes, with_file,
 };
 use std::alloc::Global;
-use std::process::Abort;
 use std::test::Fail;
 use std::thread::Threads;
 use stogame_app::Status;
@@ -135,7 +135,7 @@ fn ends_with<R: Threads + Sync>(
 }
 
 // How the command ends where the file has these bytes, in small pieces as in large ones, and what it writes.
-fn answer<R: Threads + Sync + Abort>(
+fn answer<R: Threads + Sync>(
     rt: &R,
     alloc: Global,
     target: Target<'_>,
@@ -145,28 +145,20 @@ fn answer<R: Threads + Sync + Abort>(
     let (ended, written) = ends_with(rt, alloc, target, bytes, 1)?;
     let (at_once, all) = ends_with(rt, alloc, target, bytes, 4096)?;
     let name = target.file.name();
-    assert!(rt;
-        ended == at_once,
-        "{name} at byte {place}: {ended:?} and {at_once:?}"
-    );
-    assert_eq!(rt;
-        written.as_slice(),
-        all.as_slice(),
-        "{name} at byte {place}"
-    );
-    assert!(rt;
+    same(
+        format_args!("{name} at byte {place}"),
+        (ended, written.as_slice()),
+        (at_once, all.as_slice()),
+    )?;
+    holds(
+        format_args!("{name} at byte {place} may give {ended:?}"),
         target.file.allows(ended, &written),
-        "{name} at byte {place}: {ended:?}"
-    );
+    )?;
     Ok((ended, written))
 }
 
 // The file cut after each number of bytes has an answer.
-fn answers_cuts<R: Threads + Sync + Abort>(
-    rt: &R,
-    alloc: Global,
-    target: Target<'_>,
-) -> Result<(), Fail> {
+fn answers_cuts<R: Threads + Sync>(rt: &R, alloc: Global, target: Target<'_>) -> Result<(), Fail> {
     let bytes = target.text.as_bytes();
     for length in 0..=bytes.len() {
         answer(rt, alloc, target, &bytes[..length], length)?;
@@ -175,7 +167,7 @@ fn answers_cuts<R: Threads + Sync + Abort>(
 }
 
 // The file with another byte in each place has an answer.
-fn answers_changes<R: Threads + Sync + Abort>(
+fn answers_changes<R: Threads + Sync>(
     rt: &R,
     alloc: Global,
     target: Target<'_>,
@@ -190,49 +182,76 @@ fn answers_changes<R: Threads + Sync + Abort>(
     Ok(())
 }
 
-#[test]
-fn a_transition_file_that_is_cut_is_refused(rt: HostRuntime) -> Result<(), Fail> {
-    let alloc = rt.alloc();
+// The file of the coin loop cut after so many bytes is refused. The last line may be without its ending.
+fn cut_is_refused<R: Threads + Sync>(rt: &R, alloc: Global, length: usize) -> Result<(), Fail> {
     let target = of_row(MOST_OF_COIN_LOOP, Damaged::Transitions, COIN_LOOP);
-    let bytes = COIN_LOOP.as_bytes();
-    for length in 0..=bytes.len() {
-        let (ended, written) = answer(&rt, alloc, target, &bytes[..length], length)?;
-        // The last line may be without its ending.
-        if length + 1 < bytes.len() {
-            assert!(rt; ended == Status::ModelRefused, "cut after {length} bytes");
-        } else {
-            assert!(rt; ended == Status::Fine, "cut after {length} bytes");
-            assert_eq!(rt; written.as_slice(), COIN_LOOP_REPORT.as_bytes());
-        }
+    let bytes = COIN_LOOP.as_bytes().get(..length).unwrap_or(&[]);
+    let (ended, written) = answer(rt, alloc, target, bytes, length)?;
+    if length.saturating_add(1) < COIN_LOOP.len() {
+        return same(
+            format_args!("cut after {length} bytes"),
+            ended,
+            Status::ModelRefused,
+        );
+    }
+    comes_to(
+        format_args!("cut after {length} bytes"),
+        ended,
+        &written,
+        Status::Fine,
+        COIN_LOOP_REPORT,
+    )
+}
+
+fn cuts_are_refused<R: Threads + Sync>(rt: &R, alloc: Global) -> Result<(), Fail> {
+    for length in 0..=COIN_LOOP.len() {
+        cut_is_refused(rt, alloc, length)?;
     }
     Ok(())
+}
+
+#[test]
+fn a_transition_file_that_is_cut_is_refused(rt: HostRuntime) -> Result<(), Fail> {
+    cuts_are_refused(&rt, rt.alloc())
+}
+
+// Cut and changed in each place, the file has an answer.
+fn answers_damage<R: Threads + Sync>(
+    rt: &R,
+    alloc: Global,
+    row: Row<'_>,
+    file: Damaged,
+    text: &str,
+) -> Result<(), Fail> {
+    let target = of_row(row, file, text);
+    answers_cuts(rt, alloc, target)?;
+    answers_changes(rt, alloc, target)
+}
+
+fn damaged_models<R: Threads + Sync>(rt: &R, alloc: Global) -> Result<(), Fail> {
+    let coin = MOST_OF_COIN_LOOP;
+    answers_damage(rt, alloc, coin, Damaged::Transitions, COIN_LOOP)?;
+    answers_damage(rt, alloc, coin, Damaged::Labels, GOAL_AT_1)?;
+    let two = FIRST_OF_TWO_PLAYERS;
+    answers_damage(rt, alloc, two, Damaged::Transitions, TWO_PLAYERS)?;
+    answers_damage(rt, alloc, two, Damaged::Labels, GOAL_AT_2)?;
+    answers_damage(rt, alloc, two, Damaged::Owners, SECOND_OWNS_1)
 }
 
 #[test]
 fn damaged_texts_of_small_models_are_answered(rt: HostRuntime) -> Result<(), Fail> {
-    for target in [
-        of_row(MOST_OF_COIN_LOOP, Damaged::Transitions, COIN_LOOP),
-        of_row(MOST_OF_COIN_LOOP, Damaged::Labels, GOAL_AT_1),
-        of_row(FIRST_OF_TWO_PLAYERS, Damaged::Transitions, TWO_PLAYERS),
-        of_row(FIRST_OF_TWO_PLAYERS, Damaged::Labels, GOAL_AT_2),
-        of_row(FIRST_OF_TWO_PLAYERS, Damaged::Owners, SECOND_OWNS_1),
-    ] {
-        answers_cuts(&rt, rt.alloc(), target)?;
-        answers_changes(&rt, rt.alloc(), target)?;
-    }
-    Ok(())
+    damaged_models(&rt, rt.alloc())
+}
+
+fn damaged_marks<R: Threads + Sync>(rt: &R, alloc: Global) -> Result<(), Fail> {
+    let row = MOST_OF_AGREEMENT;
+    answers_damage(rt, alloc, row, Damaged::Labels, AGREEMENT_LABELS)?;
+    answers_damage(rt, alloc, row, Damaged::Owners, AGREEMENT_OWNERS)
 }
 
 #[test]
 fn damaged_labels_and_owners_of_the_agreement_are_answered(rt: HostRuntime) -> Result<(), Fail> {
-    for target in [
-        of_row(MOST_OF_AGREEMENT, Damaged::Labels, AGREEMENT_LABELS),
-        of_row(MOST_OF_AGREEMENT, Damaged::Owners, AGREEMENT_OWNERS),
-    ] {
-        answers_cuts(&rt, rt.alloc(), target)?;
-        answers_changes(&rt, rt.alloc(), target)?;
-    }
-    Ok(())
+    damaged_marks(&rt, rt.alloc())
 }
 
 #[test]
@@ -247,13 +266,17 @@ fn changed_transitions_of_the_agreement_are_answered(rt: HostRuntime) -> Result<
     answers_changes(&rt, rt.alloc(), target)
 }
 
-#[test]
-fn damaged_certificates_are_answered(rt: HostRuntime) -> Result<(), Fail> {
+fn damaged_certificates<R: Threads + Sync>(rt: &R, alloc: Global) -> Result<(), Fail> {
     let target = Target {
         command: AUDIT_OF_TWO_PLAYERS.command,
         file: Damaged::Certificate,
         text: TWO_PLAYERS_PLAN,
     };
-    answers_cuts(&rt, rt.alloc(), target)?;
-    answers_changes(&rt, rt.alloc(), target)
+    answers_cuts(rt, alloc, target)?;
+    answers_changes(rt, alloc, target)
+}
+
+#[test]
+fn damaged_certificates_are_answered(rt: HostRuntime) -> Result<(), Fail> {
+    damaged_certificates(&rt, rt.alloc())
 }

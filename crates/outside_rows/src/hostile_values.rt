@@ -21,51 +21,57 @@ fn from_values<R: Threads + Sync>(
     solve_writes(rt, alloc, row, Some(values), text, status)
 }
 
+const FAR: [&str; 6] = [
+    "nan\ninf\n-inf\n",
+    "-1e999\n1e-999\n1e999\n",
+    "9999999999999999999999999999999999999999\n-0\n-9999999999999999999999999999999999999999\n",
+    "0/0\n1/0\n9999999999999999999999999999999999999999/1\n",
+    "1\n0\n1\n",
+    "\n\n 2=1\n\n(1) : (0,x) = nan\n",
+];
+
+fn far_values_change_nothing<R: Threads + Sync>(rt: &R, alloc: Global) -> Result<(), Fail> {
+    let half = "state 0 lower 0.500000000000000 upper 0.500000000000000 solved Bracket\n";
+    for values in FAR.as_slice() {
+        from_values(rt, alloc, values, half, Status::Fine)?;
+    }
+    Ok(())
+}
+
 #[test]
 fn numbers_far_from_any_value_change_no_answer(rt: HostRuntime) -> Result<(), Fail> {
-    for values in [
-        "nan\ninf\n-inf\n",
-        "-1e999\n1e-999\n1e999\n",
-        "9999999999999999999999999999999999999999\n-0\n-9999999999999999999999999999999999999999\n",
-        "0/0\n1/0\n9999999999999999999999999999999999999999/1\n",
-        "1\n0\n1\n",
-        "\n\n 2=1\n\n(1) : (0,x) = nan\n",
-    ] {
-        from_values(
-            &rt,
-            rt.alloc(),
-            values,
-            "state 0 lower 0.500000000000000 upper 0.500000000000000 solved Bracket\n",
-            Status::Fine,
-        )?;
+    far_values_change_nothing(&rt, rt.alloc())
+}
+
+const REFUSED: [(&str, &str); 14] = [
+    ("", "0 LineCount"),
+    ("0.5\n1\n0\n0\n", "0 LineCount"),
+    ("0.5\n\nhalf\n", "3 BadField"),
+    ("0.5 1 0\n", "1 BadField"),
+    ("1/2/3\n", "1 BadField"),
+    ("0.5\0\n", "1 BadField"),
+    ("0.5\n1=1\n", "2 BadField"),
+    ("0=0.5\n1\n", "2 BadField"),
+    ("=1\n", "1 BadField"),
+    ("0=\n", "1 BadField"),
+    ("-1=1\n", "1 BadField"),
+    ("0=0.5\n1=1\n0=0.5\n", "3 DoubleState"),
+    ("3=0\n", "1 StateOutOfRange"),
+    (
+        "9999999999999999999999999999999999999999=0\n",
+        "1 StateOutOfRange",
+    ),
+];
+
+fn each_is_refused<R: Threads + Sync>(rt: &R, alloc: Global) -> Result<(), Fail> {
+    for (values, cause) in REFUSED.as_slice() {
+        let text = format!(in alloc; "refused values line {cause}\n")?;
+        from_values(rt, alloc, values, text.as_str(), Status::ModelRefused)?;
     }
     Ok(())
 }
 
 #[test]
 fn values_are_refused(rt: HostRuntime) -> Result<(), Fail> {
-    let alloc = rt.alloc();
-    for (values, cause) in [
-        ("", "0 LineCount"),
-        ("0.5\n1\n0\n0\n", "0 LineCount"),
-        ("0.5\n\nhalf\n", "3 BadField"),
-        ("0.5 1 0\n", "1 BadField"),
-        ("1/2/3\n", "1 BadField"),
-        ("0.5\0\n", "1 BadField"),
-        ("0.5\n1=1\n", "2 BadField"),
-        ("0=0.5\n1\n", "2 BadField"),
-        ("=1\n", "1 BadField"),
-        ("0=\n", "1 BadField"),
-        ("-1=1\n", "1 BadField"),
-        ("0=0.5\n1=1\n0=0.5\n", "3 DoubleState"),
-        ("3=0\n", "1 StateOutOfRange"),
-        (
-            "9999999999999999999999999999999999999999=0\n",
-            "1 StateOutOfRange",
-        ),
-    ] {
-        let text = format!(in alloc; "refused values line {cause}\n")?;
-        from_values(&rt, alloc, values, text.as_str(), Status::ModelRefused)?;
-    }
-    Ok(())
+    each_is_refused(&rt, rt.alloc())
 }

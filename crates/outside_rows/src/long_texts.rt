@@ -3,6 +3,7 @@
 ghost use Rattle.std.specs.Prelude.{◌<◌};
 
 use crate::pieces::gives_in_pieces;
+use expectations::{holds, same};
 use game_outside::{FileEnd, MemShelf};
 use label_reader::{read_labels_from, read_owners_from};
 use run_rows::{
@@ -192,61 +193,112 @@ fn shelf_in_pieces(alloc: Global, piece: u32) -> Result<MemShelf, Fail>
     Ok(MemShelf::new(held, piece, Vec::new(alloc)))
 }
 
-#[test]
-fn a_transition_file_may_be_as_long_as_the_limit(rt: HostRuntime) -> Result<(), Fail> {
-    assert_eq!(rt; COIN_LOOP.len(), 54);
-    let alloc = rt.alloc();
+// With a limit of so many bytes it is read, and with one byte less it is too long.
+fn transitions_of_54_bytes(alloc: Global, piece: u32) -> Result<(), Fail>
+    requires { 0 < piece }
+{
+    let mut shelf = shelf_in_pieces(alloc, piece)?;
+    let whole = read_tra_from(alloc, &mut shelf, "m.tra", 54);
+    holds(format_args!("read in pieces of {piece}"), whole.is_ok())?;
+    let long = read_tra_from(alloc, &mut shelf, "m.tra", 53);
+    holds(
+        format_args!("too long in pieces of {piece}"),
+        matches!(long, Err(FileEnd::TooLong)),
+    )
+}
+
+fn transitions_of_54_bytes_in_pieces(alloc: Global) -> Result<(), Fail> {
+    same("its bytes", COIN_LOOP.len(), 54)?;
     for piece in [1, 8, 54, 4096] {
-        let mut shelf = shelf_in_pieces(alloc, piece)?;
-        let whole = read_tra_from(alloc, &mut shelf, "m.tra", 54);
-        assert!(rt; whole.is_ok(), "pieces of {piece}");
-        let long = read_tra_from(alloc, &mut shelf, "m.tra", 53);
-        assert!(rt; matches!(long, Err(FileEnd::TooLong)), "pieces of {piece}");
+        transitions_of_54_bytes(alloc, piece)?;
     }
     Ok(())
 }
 
+#[test]
+fn a_transition_file_may_be_as_long_as_the_limit(rt: HostRuntime) -> Result<(), Fail> {
+    transitions_of_54_bytes_in_pieces(rt.alloc())
+}
+
 // The text has 13 bytes, and its first line is refused.
+fn a_text_of_13_bytes(alloc: Global, piece: u32) -> Result<(), Fail>
+    requires { 0 < piece }
+{
+    let mut shelf = shelf_in_pieces(alloc, piece)?;
+    let whole = read_tra_from(alloc, &mut shelf, "none", 13);
+    holds(
+        format_args!("refused in pieces of {piece}"),
+        matches!(whole, Err(FileEnd::Refused(_))),
+    )?;
+    let long = read_tra_from(alloc, &mut shelf, "none", 12);
+    holds(
+        format_args!("too long in pieces of {piece}"),
+        matches!(long, Err(FileEnd::TooLong)),
+    )
+}
+
+fn a_text_of_13_bytes_in_pieces(alloc: Global) -> Result<(), Fail> {
+    for piece in [1, 8, 13, 4096] {
+        a_text_of_13_bytes(alloc, piece)?;
+    }
+    Ok(())
+}
+
 #[test]
 fn a_text_that_is_too_long_is_not_refused_for_its_lines(rt: HostRuntime) -> Result<(), Fail> {
-    let alloc = rt.alloc();
-    for piece in [1, 8, 13, 4096] {
-        let mut shelf = shelf_in_pieces(alloc, piece)?;
-        let whole = read_tra_from(alloc, &mut shelf, "none", 13);
-        assert!(rt;
-            matches!(whole, Err(FileEnd::Refused(_))),
-            "pieces of {piece}"
-        );
-        let long = read_tra_from(alloc, &mut shelf, "none", 12);
-        assert!(rt; matches!(long, Err(FileEnd::TooLong)), "pieces of {piece}");
+    a_text_of_13_bytes_in_pieces(rt.alloc())
+}
+
+// With a limit of so many bytes it is read, and with one byte less it is too long.
+fn labels_of_28_bytes(alloc: Global, piece: u32) -> Result<(), Fail>
+    requires { 0 < piece }
+{
+    let mut shelf = shelf_in_pieces(alloc, piece)?;
+    let whole = read_labels_from(alloc, &mut shelf, "m.lab", 28, 3);
+    holds(format_args!("read in pieces of {piece}"), whole.is_ok())?;
+    let long = read_labels_from(alloc, &mut shelf, "m.lab", 27, 3);
+    holds(
+        format_args!("too long in pieces of {piece}"),
+        matches!(long, Err(FileEnd::TooLong)),
+    )
+}
+
+fn labels_of_28_bytes_in_pieces(alloc: Global) -> Result<(), Fail> {
+    same("its bytes", GOAL_AT_1.len(), 28)?;
+    for piece in [1, 8, 28, 4096] {
+        labels_of_28_bytes(alloc, piece)?;
     }
     Ok(())
 }
 
 #[test]
 fn a_label_file_may_be_as_long_as_the_limit(rt: HostRuntime) -> Result<(), Fail> {
-    assert_eq!(rt; GOAL_AT_1.len(), 28);
-    let alloc = rt.alloc();
-    for piece in [1, 8, 28, 4096] {
-        let mut shelf = shelf_in_pieces(alloc, piece)?;
-        let whole = read_labels_from(alloc, &mut shelf, "m.lab", 28, 3);
-        assert!(rt; whole.is_ok(), "pieces of {piece}");
-        let long = read_labels_from(alloc, &mut shelf, "m.lab", 27, 3);
-        assert!(rt; matches!(long, Err(FileEnd::TooLong)), "pieces of {piece}");
+    labels_of_28_bytes_in_pieces(rt.alloc())
+}
+
+// With a limit of so many bytes it is read, and with one byte less it is too long.
+fn owners_of_19_bytes(alloc: Global, piece: u32) -> Result<(), Fail>
+    requires { 0 < piece }
+{
+    let mut shelf = shelf_in_pieces(alloc, piece)?;
+    let whole = read_owners_from(alloc, &mut shelf, "m.own", 19, 3);
+    holds(format_args!("read in pieces of {piece}"), whole.is_ok())?;
+    let long = read_owners_from(alloc, &mut shelf, "m.own", 18, 3);
+    holds(
+        format_args!("too long in pieces of {piece}"),
+        matches!(long, Err(FileEnd::TooLong)),
+    )
+}
+
+fn owners_of_19_bytes_in_pieces(alloc: Global) -> Result<(), Fail> {
+    same("its bytes", SECOND_OWNS_1.len(), 19)?;
+    for piece in [1, 8, 19, 4096] {
+        owners_of_19_bytes(alloc, piece)?;
     }
     Ok(())
 }
 
 #[test]
 fn an_owner_file_may_be_as_long_as_the_limit(rt: HostRuntime) -> Result<(), Fail> {
-    assert_eq!(rt; SECOND_OWNS_1.len(), 19);
-    let alloc = rt.alloc();
-    for piece in [1, 8, 19, 4096] {
-        let mut shelf = shelf_in_pieces(alloc, piece)?;
-        let whole = read_owners_from(alloc, &mut shelf, "m.own", 19, 3);
-        assert!(rt; whole.is_ok(), "pieces of {piece}");
-        let long = read_owners_from(alloc, &mut shelf, "m.own", 18, 3);
-        assert!(rt; matches!(long, Err(FileEnd::TooLong)), "pieces of {piece}");
-    }
-    Ok(())
+    owners_of_19_bytes_in_pieces(rt.alloc())
 }

@@ -46,40 +46,47 @@ pub fn gives_in_pieces<R: Threads + Sync>(
     Ok(())
 }
 
-#[test]
-fn pieces_of_any_size_make_no_difference(rt: HostRuntime) -> Result<(), Fail> {
-    for case in [
-        CHECK_OF_COIN_LOOP,
-        CHECK_OF_AGREEMENT,
-        PLAN_OF_TWO_PLAYERS,
-        AUDIT_OF_TWO_PLAYERS,
-        CHAIN_IN_CRLF,
-        STATE_OUT_OF_RANGE,
-        UNKNOWN_INDEX,
-    ] {
-        gives_in_pieces(&rt, rt.alloc(), case)?;
+const IN_PIECES: &[Case<'static>] = &[
+    CHECK_OF_COIN_LOOP,
+    CHECK_OF_AGREEMENT,
+    PLAN_OF_TWO_PLAYERS,
+    AUDIT_OF_TWO_PLAYERS,
+    CHAIN_IN_CRLF,
+    STATE_OUT_OF_RANGE,
+    UNKNOWN_INDEX,
+];
+
+fn all_give_in_pieces<R: Threads + Sync>(rt: &R, alloc: Global) -> Result<(), Fail> {
+    for case in IN_PIECES {
+        gives_in_pieces(rt, alloc, *case)?;
     }
     Ok(())
 }
 
+#[test]
+fn pieces_of_any_size_make_no_difference(rt: HostRuntime) -> Result<(), Fail> {
+    all_give_in_pieces(&rt, rt.alloc())
+}
+
+// The size of a piece, and a call that fails.
+const FAILING: [(u32, u64); 4] = [(1, 59), (7, 13), (8, 12), (4096, 6)];
+
 // The transition file has 54 bytes, and a call more tells its end. The second piece of the label file fails, or its
 // end.
-#[test]
-fn a_label_file_that_fails_writes_nothing(rt: HostRuntime) -> Result<(), Fail> {
-    for (piece, call) in [(1, 59), (7, 13), (8, 12), (4096, 6)] {
+fn failing_labels_write_nothing<R: Threads + Sync>(rt: &R, alloc: Global) -> Result<(), Fail> {
+    for (piece, call) in FAILING {
         let outside = Outside {
             piece,
             reads: &[call],
             writes: &[],
         };
-        gives(
-            &rt,
-            rt.alloc(),
-            CHECK_OF_COIN_LOOP.command,
-            outside,
-            "",
-            Status::ReadFault,
-        )?;
+        let command = CHECK_OF_COIN_LOOP.command;
+        gives(rt, alloc, command, outside, "", Status::ReadFault)?;
     }
     Ok(())
+}
+
+#[test]
+fn a_label_file_that_fails_writes_nothing(rt: HostRuntime) -> Result<(), Fail> {
+    failing_labels_write_nothing(&rt, rt.alloc())
 }

@@ -1,10 +1,9 @@
 //! Rounds and workers.
 
-use expectations::same;
+use expectations::{holds, same};
 use game_outside::{Gate, HoldGate, OpenGate};
 use run_rows::{COIN_LOOP_REPORT, MOST_OF_AGREEMENT, MOST_OF_COIN_LOOP, Row, runs, writes};
 use std::alloc::Global;
-use std::process::Abort;
 use std::sync::atomic::{AtomicU32, Ordering};
 use std::test::Fail;
 use std::thread::Threads;
@@ -21,36 +20,41 @@ fn agreement<'a>(numbers: &'a [&'a str]) -> Row<'a> {
 }
 
 /// The agreement's bounds are those of one worker, whatever the number of rounds; there is one line.
-pub fn agrees<R: Threads + Sync + Abort, G: Gate + Sync>(
+pub fn agrees<R: Threads + Sync, G: Gate + Sync>(
     rt: &R,
     alloc: Global,
     workers: &str,
     gate: &G,
 ) -> Result<(), Fail> {
-    let (ended, written) = runs(rt, alloc, agreement(&["--workers", workers]), gate)?;
-    assert!(rt; ended == Status::Fine, "{workers} workers give {ended:?}");
-    assert!(rt; written.starts_with(AGREED.as_bytes()), "{workers} workers");
-    assert!(rt; written.ends_with(b" Bracket\n"), "{workers} workers");
-    let ends = written.iter().filter(|byte| **byte == b'\n').count();
-    assert_eq!(rt; ends, 1);
-    Ok(())
+    let numbers = ["--workers", workers];
+    let (ended, written) = runs(rt, alloc, agreement(&numbers), gate)?;
+    let bounds = written.starts_with(AGREED.as_bytes()) && written.ends_with(b" Bracket\n");
+    let lines = written.iter().filter(|byte| **byte == b'\n').count();
+    same(workers, (ended, bounds, lines), (Status::Fine, true, 1))
 }
 
-#[test]
-fn all_numbers_of_workers_give_the_same_bounds(rt: HostRuntime) -> Result<(), Fail> {
-    let alloc = rt.alloc();
+fn all_agree<R: Threads + Sync>(rt: &R, alloc: Global) -> Result<(), Fail> {
     for workers in ["1", "2", "4", "8", "64"] {
-        agrees(&rt, alloc, workers, &OpenGate {})?;
+        agrees(rt, alloc, workers, &OpenGate {})?;
     }
     Ok(())
 }
 
 #[test]
-fn two_workers_run_at_once(rt: HostRuntime) -> Result<(), Fail> {
+fn all_numbers_of_workers_give_the_same_bounds(rt: HostRuntime) -> Result<(), Fail> {
+    all_agree(&rt, rt.alloc())
+}
+
+// Two workers are at the gate at once.
+fn two_at_once<R: Threads + Sync>(rt: &R, alloc: Global) -> Result<(), Fail> {
     let gate = HoldGate::new();
-    agrees(&rt, rt.alloc(), "2", &gate)?;
-    assert!(rt; !gate.gave_up(), "the workers ran one after another");
-    Ok(())
+    agrees(rt, alloc, "2", &gate)?;
+    holds("the workers run at once", !gate.gave_up())
+}
+
+#[test]
+fn two_workers_run_at_once(rt: HostRuntime) -> Result<(), Fail> {
+    two_at_once(&rt, rt.alloc())
 }
 
 // Counts who passes it before each of three states, and who passes it before a state of another: three workers share
@@ -139,13 +143,31 @@ const PASSES: [(&str, &str, u32); 9] = [
     ("Pmax=? [ X \"goal\" ]", "1", 1),
 ];
 
+fn all_pass<R: Threads + Sync>(rt: &R, alloc: Global) -> Result<(), Fail> {
+    for (formula, rounds, times) in PASSES.as_slice() {
+        let (counts, _strays) = passes(rt, alloc, formula, rounds)?;
+        same(formula, counts, [*times; 3])?;
+    }
+    Ok(())
+}
+
 #[test]
 fn workers_pass_the_gate_before_each_state_of_each_round_and_step(
     rt: HostRuntime,
 ) -> Result<(), Fail> {
-    for (formula, rounds, times) in PASSES {
-        let (counts, _strays) = passes(&rt, rt.alloc(), formula, rounds)?;
-        same(formula, counts, [times; 3])?;
+    all_pass(&rt, rt.alloc())
+}
+
+const OF_ONE_STEP: [&str; 3] = [
+    "Pmax=? [ F \"goal\" ]",
+    "Pmax=? [ F<=1 \"goal\" ]",
+    "Pmax=? [ X \"goal\" ]",
+];
+
+fn none_strays<R: Threads + Sync>(rt: &R, alloc: Global) -> Result<(), Fail> {
+    for formula in OF_ONE_STEP {
+        let (_counts, strays) = passes(rt, alloc, formula, "1")?;
+        same(formula, strays, 0)?;
     }
     Ok(())
 }
@@ -153,15 +175,7 @@ fn workers_pass_the_gate_before_each_state_of_each_round_and_step(
 // Only the first round of a small model, and the first step, has all workers.
 #[test]
 fn each_worker_passes_the_gate_before_its_own_state(rt: HostRuntime) -> Result<(), Fail> {
-    for formula in [
-        "Pmax=? [ F \"goal\" ]",
-        "Pmax=? [ F<=1 \"goal\" ]",
-        "Pmax=? [ X \"goal\" ]",
-    ] {
-        let (_counts, strays) = passes(&rt, rt.alloc(), formula, "1")?;
-        same(formula, strays, 0)?;
-    }
-    Ok(())
+    none_strays(&rt, rt.alloc())
 }
 
 /// Formulas that stand inside, and after how many rounds of at most eight they are settled at each state, where a run
@@ -189,40 +203,46 @@ fn inner_passes<R: Threads + Sync>(rt: &R, alloc: Global, inside: &str) -> Resul
     Ok(gate.counts())
 }
 
-#[test]
-fn runs_inside_end_where_their_threshold_is_settled_at_all_states(
-    rt: HostRuntime,
-) -> Result<(), Fail> {
+fn all_end_where_settled<R: Threads + Sync>(rt: &R, alloc: Global) -> Result<(), Fail> {
     for (inside, rounds) in SETTLED {
-        same(
-            inside,
-            inner_passes(&rt, rt.alloc(), inside)?,
-            [2 * rounds; 3],
-        )?;
+        same(inside, inner_passes(rt, alloc, inside)?, [2 * rounds; 3])?;
     }
     Ok(())
 }
 
 #[test]
-fn at_most_the_asked_rounds_are_made(rt: HostRuntime) -> Result<(), Fail> {
-    let alloc = rt.alloc();
-    for (rounds, line) in [
-        (
-            "0",
-            "state 0 lower 0.000000000000004 upper 0.562949953421312 rounds 0 Bracket\n",
-        ),
-        (
-            "1",
-            "state 0 lower 0.250000000000004 upper 0.531474976710656 rounds 1 Bracket\n",
-        ),
-        (
-            "+002",
-            "state 0 lower 0.375000000000004 upper 0.515737488355328 rounds 2 Bracket\n",
-        ),
-        ("1000000", COIN_LOOP_REPORT),
-    ] {
+fn runs_inside_end_where_their_threshold_is_settled_at_all_states(
+    rt: HostRuntime,
+) -> Result<(), Fail> {
+    all_end_where_settled(&rt, rt.alloc())
+}
+
+// The most rounds, and what is reported.
+const ROUNDS: [(&str, &str); 4] = [
+    (
+        "0",
+        "state 0 lower 0.000000000000004 upper 0.562949953421312 rounds 0 Bracket\n",
+    ),
+    (
+        "1",
+        "state 0 lower 0.250000000000004 upper 0.531474976710656 rounds 1 Bracket\n",
+    ),
+    (
+        "+002",
+        "state 0 lower 0.375000000000004 upper 0.515737488355328 rounds 2 Bracket\n",
+    ),
+    ("1000000", COIN_LOOP_REPORT),
+];
+
+fn at_most_so_many<R: Threads + Sync>(rt: &R, alloc: Global) -> Result<(), Fail> {
+    for (rounds, line) in ROUNDS {
         let numbers = ["--rounds", rounds, "--workers", "3"];
-        writes(&rt, alloc, coin_loop(&numbers), line, Status::Fine)?;
+        writes(rt, alloc, coin_loop(&numbers), line, Status::Fine)?;
     }
-    writes(&rt, alloc, coin_loop(&[]), COIN_LOOP_REPORT, Status::Fine)
+    writes(rt, alloc, coin_loop(&[]), COIN_LOOP_REPORT, Status::Fine)
+}
+
+#[test]
+fn at_most_the_asked_rounds_are_made(rt: HostRuntime) -> Result<(), Fail> {
+    at_most_so_many(&rt, rt.alloc())
 }

@@ -30,8 +30,8 @@ pub use models::{
     FORK, GOAL_AT_1, GOAL_AT_2, LOOP_OR_COIN, OF_THREE_STATES, SECOND_OWNS_1, TWO_PLAYERS, USAGE,
 };
 pub use rows::{
-    ONE_WORKER, Row, add_words, ends, file, file_of_bytes, files, plain_row, push_times, row_words,
-    runs, sure_words, with_file, words,
+    ONE_WORKER, Row, add_words, ends, file, file_of_bytes, files, push_times, row_words, runs,
+    sure_words, with_file, words,
 };
 pub use solutions::{solve_writes, solves};
 pub use tables::{Answer, Audited, all_write, answers_write, printed_are_audited};

@@ -31,17 +31,6 @@ impl<'a> Row<'a> {
 /// With one worker the number of rounds is the same at each run.
 pub const ONE_WORKER: &[&str] = &["--workers", "1"];
 
-/// A row of one worker, without an owner file.
-pub fn plain_row<'a>(tra: &'a str, lab: &'a str, formula: &'a str) -> Row<'a> {
-    Row {
-        tra,
-        lab,
-        own: None,
-        formula,
-        numbers: ONE_WORKER,
-    }
-}
-
 /// A file of this name.
 pub fn file(alloc: Global, name: &str, text: &str) -> Result<HeldFile, Fail> {
     file_of_bytes(alloc, name, text.as_bytes())
