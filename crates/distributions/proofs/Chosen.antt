@@ -12,7 +12,7 @@ use Rattle.distributions.specs.declared.choice.ChoiceFault.{ChoiceFault}
 use Rattle.distributions.specs.declared.choice.ChoiceFault.TheVariants.{BadSum}
 use Rattle.distributions.specs.Divisors.{gcd_within, gcd, lcm}
 use Rattle.distributions.specs.Limits.{tolerance}
-use Rattle.distributions.specs.Parts.{edge_of_part, weighted, distance, Denotes, denominator_said, gathered, sum_said, with_total, choice_over, choice_said}
+use Rattle.distributions.specs.Parts.{edge_of_part, weighted, distance, DenotesChoice, denominator_said, gathered, sum_said, with_total, choice_over, choice_said}
 use Rattle.distributions.proofs.Gathering.{gives, gathered-rises, gathered-weights, gathered-only}
 use Rattle.distributions.proofs.Multiples.{AreKept, over, over-is, ge-from, ge-test, common-same, denominator-found, denominator-again, denominator-is}
 use Rattle.distributions.proofs.Grammar.{chosen}
@@ -20,14 +20,14 @@ use Rattle.distributions.proofs.Grammar.{chosen}
 ok-same : (d e : Distribution) → ◌≡◌ {A = Result Distribution ChoiceFault} (Ok d) (Ok e) → d ≡ e
 ok-same d e h = cc
 
-found-over : (parts : List Part) (d : Distribution) (r : Result ℕ ChoiceFault) → AreKept parts → denominator_said 1 parts ≡ r → choice_over r parts ≡ Ok d → Denotes parts d
+found-over : (parts : List Part) (d : Distribution) (r : Result ℕ ChoiceFault) → AreKept parts → denominator_said 1 parts ≡ r → choice_over r parts ≡ Ok d → DenotesChoice parts d
 found-over parts d (Err fault) kept said is = cc
 found-over parts d (Ok common) kept said is =
     let edges : List Edge = gathered (weighted common parts) in
     elim (chosen (nat_lt common (distance (total_of edges) common * tolerance)) (Err (BadSum (total_of edges) common)) (Ok (record { total = total_of edges; edges = edges })) (Ok d) is) [
       | inl t ↦ cc t.1
       | inr t ↦
-          let P : Distribution → Type 0 = λ x. Denotes parts x in
+          let P : Distribution → Type 0 = λ x. DenotesChoice parts x in
           subst P (ok-same (record { total = total_of edges; edges = edges }) d t.1) (record {
             common = common;
             denominator = denominator-is parts common kept said;
@@ -40,10 +40,10 @@ found-over parts d (Ok common) kept said is =
           })
     ]
 
-pub choice-found : (parts : List Part) (d : Distribution) → AreKept parts → choice_said parts ≡ Ok d → Denotes parts d
+pub choice-found : (parts : List Part) (d : Distribution) → AreKept parts → choice_said parts ≡ Ok d → DenotesChoice parts d
 choice-found parts d kept is = found-over parts d (denominator_said 1 parts) kept refl is
 
-pub choice-again : (parts : List Part) (d : Distribution) → AreKept parts → Denotes parts d → choice_said parts ≡ Ok d
+pub choice-again : (parts : List Part) (d : Distribution) → AreKept parts → DenotesChoice parts d → choice_said parts ≡ Ok d
 choice-again parts d kept h =
     let same : h.common ≡ over 1 parts = common-same h.common (over 1 parts) parts h.denominator (over-is parts kept) in
     let said : denominator_said 1 parts ≡ Ok h.common = denominator-again 1 parts (omega arith) kept (omega (arith, same, h.fine)) ∙ ap (λ n. Ok n) (sym same) in
@@ -57,8 +57,8 @@ choice-again parts d kept h =
     ∙ ap (λ n. Ok (distribution n)) (sym h.total)
 
 -- the order of the parts plays no part
-pub Denotes-permutation : (parts others : List Part) (d : Distribution) → IsPermutation parts others → Denotes parts d → Denotes others d
-Denotes-permutation parts others d moved h =
+pub DenotesChoice-permutation : (parts others : List Part) (d : Distribution) → IsPermutation parts others → DenotesChoice parts d → DenotesChoice others d
+DenotesChoice-permutation parts others d moved h =
     let divided : ℕ → Part → Type 0 = λ m part. part.share.den ∣ m in
     let back = IsPermutation-sym parts others moved in
     record {

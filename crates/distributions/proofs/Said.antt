@@ -7,7 +7,7 @@ use Rattle.distributions.specs.declared.number.NumberFault.TheVariants.{TooManyD
 use Rattle.text_lines.specs.Text.{value_onto}
 use Rattle.distributions.specs.Limits.{finest, most_value, most_digits, most_exponent, most_exponent_digits}
 use Rattle.distributions.specs.Fraction.{Fraction, IsFraction, SameValue, lowest}
-use Rattle.distributions.specs.Number.{Spelling, Decimal, value_of, is_long, Denotes, in_range, fraction_said, spelling_said, spelling_of, number_said}
+use Rattle.distributions.specs.Number.{Spelling, Decimal, value_of, is_long, DenotesNumber, in_range, fraction_said, spelling_said, spelling_of, number_said}
 use Rattle.distributions.proofs.Euclid.{coprime-div, lowest-value, lowest-pos, lowest-is}
 use Rattle.distributions.proofs.Spelled.{value_append}
 use Rattle.distributions.proofs.Grammar.{chosen, spelling_of-found, spelling_of-again}
@@ -69,7 +69,7 @@ fraction_said-again v f h =
     ∙ ap in_range (lowest-is v f h.divided h.fraction.positive h.fraction.lowest h.value)
     ∙ in_range-again f h.fraction.fine h.fraction.small
 
-spelling-found : (text : List ℕ) (o : Option Spelling) (f : Fraction) → spelling_of text ≡ o → spelling_said o ≡ Ok f → Denotes text f
+spelling-found : (text : List ℕ) (o : Option Spelling) (f : Fraction) → spelling_of text ≡ o → spelling_said o ≡ Ok f → DenotesNumber text f
 spelling-found text None f is said = cc
 spelling-found text (Some s) f is said =
     elim (chosen (is_long s) (Err TooManyDigits) (fraction_said (value_of s)) (Ok f) said) [
@@ -79,10 +79,10 @@ spelling-found text (Some s) f is said =
           record { spelling = s; spelled = spelling_of-found text s is; short = t.0; divided = found.divided; value = found.value; fraction = found.fraction }
     ]
 
-pub number-found : (text : List ℕ) (f : Fraction) → number_said text ≡ Ok f → Denotes text f
+pub number-found : (text : List ℕ) (f : Fraction) → number_said text ≡ Ok f → DenotesNumber text f
 number-found text f is = spelling-found text (spelling_of text) f refl is
 
-pub number-again : (text : List ℕ) (f : Fraction) → Denotes text f → number_said text ≡ Ok f
+pub number-again : (text : List ℕ) (f : Fraction) → DenotesNumber text f → number_said text ≡ Ok f
 number-again text f h =
     ap spelling_said (spelling_of-again text h.spelling h.spelled)
     ∙ ap (λ b. cond b (Err TooManyDigits) (fraction_said (value_of h.spelling))) h.short

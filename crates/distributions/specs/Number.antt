@@ -85,7 +85,7 @@ is_long (Decimal front back exponent) = nat_lt most_digits (length front + lengt
 is_long (Quotient above below) = nat_lt most_digits (length above) || nat_lt most_digits (length below)
 
 -- the text spells this fraction
-pub record Denotes (text : List ℕ) (f : Fraction) : Type 0 where
+pub record DenotesNumber (text : List ℕ) (f : Fraction) : Type 0 where
   pub spelling : Spelling
   pub spelled : Spells text spelling
   pub short : is_long spelling ≡ false

@@ -31,7 +31,7 @@ pub record IsCommonDenominator (common : ℕ) (parts : List Part) : Type 0 where
 
 -- the distribution of these parts: a weight is the sum of the shares of its destination, counted in parts of their
 -- least common denominator, and the weights come to 1 but for at most one part in 100,000
-pub record Denotes (parts : List Part) (distribution : Distribution) : Type 0 where
+pub record DenotesChoice (parts : List Part) (distribution : Distribution) : Type 0 where
   pub common : ℕ
   pub denominator : IsCommonDenominator common parts
   pub fine : common ≤ finest

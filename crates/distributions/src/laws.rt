@@ -9,8 +9,8 @@ ghost use Rattle.distributions.specs.declared.choice.Part.{Part};
 ghost use Rattle.distributions.specs.Divisors.{gcd, lcm};
 ghost use Rattle.distributions.specs.Limits.{finest, most_value, most_digits, most_exponent_digits, most_exponent, most_parts, tolerance};
 ghost use Rattle.distributions.specs.Fraction.{Fraction, IsFraction};
-ghost use Rattle.distributions.specs.Number.{Spelling, Spells, spelling_of, number_said, Denotes as DenotesNumber};
-ghost use Rattle.distributions.specs.Parts.{Denotes, choice_said};
+ghost use Rattle.distributions.specs.Number.{Spelling, Spells, spelling_of, number_said, DenotesNumber};
+ghost use Rattle.distributions.specs.Parts.{DenotesChoice, choice_said};
 
 use crate::limits::{
     FINEST, FINEST_PLACES, MOST_DIGITS, MOST_EXPONENT, MOST_EXPONENT_DIGITS, MOST_PARTS,
@@ -49,11 +49,11 @@ pub fn spellings()
 pub fn said_is_denoted()
     ensures number { (text : List ℕ) (f : Fraction) → (number_said text ≡ Ok f) ↔ DenotesNumber text f }
     ensures choice { (parts : List Part) (d : Distribution) → All (λ part. IsFraction part.share) parts
-        → (choice_said parts ≡ Ok d) ↔ Denotes parts d }
+        → (choice_said parts ≡ Ok d) ↔ DenotesChoice parts d }
 {}
 
 /// The order of the parts plays no part.
 pub fn order_of_parts()
-    ensures { (parts others : List Part) (d : Distribution) → IsPermutation parts others → Denotes parts d
-        → Denotes others d }
+    ensures { (parts others : List Part) (d : Distribution) → IsPermutation parts others → DenotesChoice parts d
+        → DenotesChoice others d }
 {}

@@ -8,7 +8,7 @@ use Rattle.std.proofs.lemmas.Bool.Decides.{nat_tests}
 use Rattle.text_lines.specs.Text.{all_digits, value_onto, is_digit, number_of}
 use Rattle.distributions.specs.Limits.{finest, most_digits}
 use Rattle.distributions.specs.Fraction.{Fraction}
-use Rattle.distributions.specs.Number.{Decimal, Quotient, no_exponent, AreDigits, Denotes}
+use Rattle.distributions.specs.Number.{Decimal, Quotient, no_exponent, AreDigits, DenotesNumber}
 use Rattle.distributions.proofs.Spelled.{value_append}
 use Rattle.rpatl_syntax.specs.Limits.{most_steps}
 use Rattle.rpatl_syntax.specs.Rules.{IsSteps}
@@ -78,7 +78,7 @@ pub record FractionText (p : Fraction) (text : List ℕ) : Type 0 where
   pub whole : text ≡ first ∷ others
   pub digit : is_digit first ≡ true
   pub rest : all_in_fraction others ≡ true
-  pub denotes : Denotes text p
+  pub denotes : DenotesNumber text p
 
 some_digits : (n : ℕ) (digits : List ℕ) → Numeral n digits → AreDigits digits
 some_digits n digits m = (λ none. let e : m.first ∷ m.others ≡ [] = sym m.whole ∙ none in cc e, m.all)

@@ -5,7 +5,7 @@ use Rattle.std.proofs.lemmas.List.Sums.{sum_by-cons}
 use Rattle.std.specs.List.{All}
 use Rattle.game_model.specs.declared.game.Edge.{Edge}
 use Rattle.game_model.specs.Game.{Distribution, weight_to}
-use Rattle.distributions.specs.Parts.{Denotes, weighted}
+use Rattle.distributions.specs.Parts.{DenotesChoice, weighted}
 use Rattle.tra_reader.specs.declared.line.Transition.{Transition}
 use Rattle.tra_reader.specs.Choices.{part_of}
 use Rattle.tra_reader.specs.inside.Answers.{LeadsInside}
@@ -30,7 +30,7 @@ no_weight common n to (t ∷ ts) all h =
     zero_sum : (w : ℕ) → w ≡ 0 → 0 + w ≡ 0
     zero_sum w e = omega (arith, e)
 
-pub inside : (n : ℕ) (ts : List Transition) (d : Distribution) → Denotes (map part_of ts) d → All (λ t. t.destination < n) ts → LeadsInside n d
+pub inside : (n : ℕ) (ts : List Transition) (d : Distribution) → DenotesChoice (map part_of ts) d → All (λ t. t.destination < n) ts → LeadsInside n d
 inside n ts d is all i e h = elim (cases_lt (get_or d.edges i e).to n) [
   | inl lt ↦ lt
   | inr ge ↦

@@ -7,13 +7,13 @@ use Rattle.std.proofs.lemmas.List.Sorted.{IsPermutation-refl, IsPermutation-tran
 use Rattle.text_lines.specs.Text.{lines_of, fields_of, significant}
 use Rattle.game_model.specs.Game.{Distribution, choices_of}
 use Rattle.distributions.specs.declared.choice.Part.{Part}
-use Rattle.distributions.specs.Parts.{Denotes as DenotesChoice}
+use Rattle.distributions.specs.Parts.{DenotesChoice}
 use Rattle.tra_reader.specs.declared.header.Header.{Header}
 use Rattle.tra_reader.specs.declared.line.Transition.{Transition}
 use Rattle.tra_reader.specs.declared.fault.TraCause.{TraCause}
 use Rattle.tra_reader.specs.Lines.{Row, AreRows, is_of, row_said}
 use Rattle.tra_reader.specs.Choices.{transitions_of, part_of, parts_of, IsState}
-use Rattle.tra_reader.specs.Text.{Denotes, transitions}
+use Rattle.tra_reader.specs.Text.{DenotesGame, transitions}
 use Rattle.tra_reader.proofs.RowLaws.{NumbersFound, NumbersAgain, row_found, row_again}
 
 module _ {X : Type 0} (p : X → Bool) where
@@ -111,7 +111,7 @@ from_all P (x ∷ xs) all = (all zero x (omega arith), from_all P xs (λ k d h. 
 
 -- The order of the transition lines plays no part in which game a text denotes.
 pub text_moved : NumbersFound → NumbersAgain → PartsInAnyOrder → (text other first : List ℕ) (lines others : List (List ℕ)) (game : List (List Distribution)) → significant (lines_of text) ≡ first ∷ lines → significant (lines_of other) ≡ first ∷ others
-    → IsPermutation lines others → Denotes text game → Denotes other game
+    → IsPermutation lines others → DenotesGame text game → DenotesGame other game
 text_moved found again any text other first lines others game is_text is_other moved is =
     let same : is.first ∷ is.others ≡ first ∷ lines = sym is.lines ∙ is_text in
     let same_first : is.first ≡ first = cc in

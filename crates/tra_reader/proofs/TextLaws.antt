@@ -9,7 +9,7 @@ use Rattle.tra_reader.specs.declared.fault.TraCause.{TraCause}
 use Rattle.tra_reader.specs.declared.fault.TraFault.{TraFault}
 use Rattle.tra_reader.specs.Lines.{IsHeader, Row, AreRows, header_said, rows_said}
 use Rattle.tra_reader.specs.Choices.{choice_end, sum_of_first}
-use Rattle.tra_reader.specs.Text.{Denotes, transitions, rows_game, behind_header, lines_game, game_of}
+use Rattle.tra_reader.specs.Text.{DenotesGame, transitions, rows_game, behind_header, lines_game, game_of}
 use Rattle.tra_reader.proofs.HeaderLaws.{header_found, header_again}
 use Rattle.tra_reader.proofs.RowLaws.{NumbersFound, NumbersAgain, Follow, rows_found, rows_again}
 use Rattle.tra_reader.proofs.ActionLaws.{action_in, actions_found, actions_again}
@@ -24,7 +24,7 @@ fractions header (line ∷ lines) [] are = absurd are
 fractions header (line ∷ lines) (row ∷ rows) are = fraction_first row.transition (transitions rows) are.0.share.fraction (fractions header lines rows are.1)
 
 denoted : ChoicesFound → (text first : List ℕ) (others : List (List ℕ)) (header : Header) (rows : List Row) (game : List (List Distribution)) → significant (lines_of text) ≡ first ∷ others → IsHeader first header
-    → Follow header [] others rows → MakesGame (transitions rows) header.states header.choices game → Denotes text game
+    → Follow header [] others rows → MakesGame (transitions rows) header.states header.choices game → DenotesGame text game
 denoted found text first others header rows game lines is_header follow makes =
     let same : rows ≡ follow.rows = follow.whole in
     let ts : List Transition = transitions follow.rows in
@@ -49,25 +49,25 @@ denoted found text first others header rows game lines is_header follow makes =
     }
 
 -- What is said to be the game is denoted.
-pub text_found : NumbersFound → ChoicesFound → (text : List ℕ) (game : List (List Distribution)) → game_of text ≡ Ok game → Denotes text game
+pub text_found : NumbersFound → ChoicesFound → (text : List ℕ) (game : List (List Distribution)) → game_of text ≡ Ok game → DenotesGame text game
 unfolding game_of
 text_found numbers choices text game e = by_lines (significant (lines_of text)) refl e
   where
-    by_rows : (first : List ℕ) (others : List (List ℕ)) (header : Header) (said : Result (List Row) TraFault) → significant (lines_of text) ≡ first ∷ others → IsHeader first header → rows_said header 2 [] others ≡ said → rows_game header said ≡ Ok game → Denotes text game
+    by_rows : (first : List ℕ) (others : List (List ℕ)) (header : Header) (said : Result (List Row) TraFault) → significant (lines_of text) ≡ first ∷ others → IsHeader first header → rows_said header 2 [] others ≡ said → rows_game header said ≡ Ok game → DenotesGame text game
     by_rows first others header (Err fault) is head given e = cc
     by_rows first others header (Ok rows) is head given e =
         denoted choices text first others header rows game is head (rows_found numbers header 2 [] others rows (omega arith) given) (game_found (transitions rows) header.states header.choices game e)
 
-    by_header : (first : List ℕ) (others : List (List ℕ)) (said : Result Header TraCause) → significant (lines_of text) ≡ first ∷ others → header_said (fields_of first) ≡ said → behind_header said others ≡ Ok game → Denotes text game
+    by_header : (first : List ℕ) (others : List (List ℕ)) (said : Result Header TraCause) → significant (lines_of text) ≡ first ∷ others → header_said (fields_of first) ≡ said → behind_header said others ≡ Ok game → DenotesGame text game
     by_header first others (Err cause) is head e = cc
     by_header first others (Ok header) is head e = by_rows first others header (rows_said header 2 [] others) is (header_found first (fields_of first) header refl head) refl e
 
-    by_lines : (lines : List (List ℕ)) → significant (lines_of text) ≡ lines → lines_game lines ≡ Ok game → Denotes text game
+    by_lines : (lines : List (List ℕ)) → significant (lines_of text) ≡ lines → lines_game lines ≡ Ok game → DenotesGame text game
     by_lines [] is e = cc
     by_lines (first ∷ others) is e = by_header first others (header_said (fields_of first)) is refl e
 
 -- What is denoted is said.
-pub text_again : NumbersAgain → ChoicesAgain → (text : List ℕ) (game : List (List Distribution)) → Denotes text game → game_of text ≡ Ok game
+pub text_again : NumbersAgain → ChoicesAgain → (text : List ℕ) (game : List (List Distribution)) → DenotesGame text game → game_of text ≡ Ok game
 unfolding game_of
 text_again numbers choices text game is =
     let ts : List Transition = transitions is.rows in

@@ -7,7 +7,7 @@ use Rattle.game_model.specs.Game.{Distribution, no_distribution}
 use Rattle.game_model.specs.Limits.{most_choices}
 use Rattle.distributions.specs.declared.choice.Part.{Part}
 use Rattle.distributions.specs.declared.choice.ChoiceFault.{ChoiceFault}
-use Rattle.distributions.specs.Parts.{Denotes as DenotesChoice, choice_said}
+use Rattle.distributions.specs.Parts.{DenotesChoice, choice_said}
 use Rattle.tra_reader.specs.declared.line.Transition.{Transition}
 use Rattle.tra_reader.specs.declared.fault.TraCause.TheVariants.{ChoiceGap, TooManyChoices, ChoiceCount, Choice}
 use Rattle.tra_reader.specs.declared.fault.TraFault.{TraFault}

@@ -19,7 +19,7 @@ transitions rows = map (λ row. row.transition) rows
 -- 1. As a relation.
 
 -- A transition text denotes a game, given for each state as the list of its choices.
-pub record Denotes (text : List ℕ) (game : List (List Distribution)) : Type 0 where
+pub record DenotesGame (text : List ℕ) (game : List (List Distribution)) : Type 0 where
   pub first : List ℕ
   pub others : List (List ℕ)
   pub lines : significant (lines_of text) ≡ first ∷ others

@@ -5,7 +5,7 @@ ghost use Rattle.std.specs.List.Sorted.{IsPermutation};
 ghost use Rattle.text_lines.specs.Text.{lines_of, significant};
 ghost use Rattle.game_model.specs.Game.{Distribution};
 ghost use Rattle.tra_reader.specs.Limits.{most_lines, most_stated_choices};
-ghost use Rattle.tra_reader.specs.Text.{Denotes, game_of};
+ghost use Rattle.tra_reader.specs.Text.{DenotesGame, game_of};
 
 use crate::limits::{MOST_LINES, MOST_STATED_CHOICES};
 
@@ -17,7 +17,7 @@ pub fn limits()
 
 /// What is said of a text by cases is what it denotes.
 pub fn said_is_denoted()
-    ensures { (text : List ℕ) (game : List (List Distribution)) → (game_of text ≡ Ok game) ↔ Denotes text game }
+    ensures { (text : List ℕ) (game : List (List Distribution)) → (game_of text ≡ Ok game) ↔ DenotesGame text game }
 {
     distributions::laws::said_is_denoted();
 }
@@ -26,7 +26,7 @@ pub fn said_is_denoted()
 pub fn order_of_lines()
     ensures { (text other first : List ℕ) (lines others : List (List ℕ)) (game : List (List Distribution)) →
         significant (lines_of text) ≡ first ∷ lines → significant (lines_of other) ≡ first ∷ others
-        → IsPermutation lines others → Denotes text game → Denotes other game }
+        → IsPermutation lines others → DenotesGame text game → DenotesGame other game }
 {
     distributions::laws::said_is_denoted();
     distributions::laws::order_of_parts();

@@ -7,7 +7,7 @@ use Rattle.game_model.specs.Draft.{Draft, with_choice, with_state}
 use Rattle.distributions.specs.declared.choice.Part.{Part}
 use Rattle.distributions.specs.declared.choice.ChoiceFault.{ChoiceFault}
 use Rattle.distributions.specs.declared.choice.ChoiceFault.TheVariants.{OutOfMemory as NoMemory, TooFine, BadSum}
-use Rattle.distributions.specs.Parts.{choice_said, Denotes as DenotesChoice}
+use Rattle.distributions.specs.Parts.{choice_said, DenotesChoice}
 use Rattle.tra_reader.specs.declared.line.Transition.{Transition}
 use Rattle.tra_reader.specs.declared.fault.TraFault.{TraFault}
 use Rattle.tra_reader.specs.declared.progress.Progress.{Progress}

@@ -1,5 +1,5 @@
-use Rattle.distributions.proofs.Chosen.{Denotes-permutation}
+use Rattle.distributions.proofs.Chosen.{DenotesChoice-permutation}
 use Rattle.distributions.proofs.laws.order_of_parts.Goals as goal
 
 pub returns : goal.returns
-returns c = Denotes-permutation
+returns c = DenotesChoice-permutation
