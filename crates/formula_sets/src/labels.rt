@@ -14,7 +14,7 @@ use std::alloc::{AllocError, Global};
 
 /// The same mark for each of so many states.
 #[tactic(auto, using(crate::proofs::Marked::filled))]
-pub fn constant(alloc: Global, mark: bool, states: u32) -> Result<Vec<bool>, AllocError>
+pub fn same_marks(alloc: Global, mark: bool, states: u32) -> Result<Vec<bool>, AllocError>
     ensures { IfOk result (λ v. v.items ≡ at_states (λ s. mark) states) }
 {
     vec![in alloc; mark; states as usize]
@@ -49,8 +49,8 @@ pub fn marks_of(
     ensures { IfOk result (λ v. v.items ≡ at_states (holds labels.now (state_of formula.now)) states) }
 {
     match formula {
-        StateFormula::True => constant(alloc, true, states),
-        StateFormula::False | StateFormula::Inner(_) => constant(alloc, false, states),
+        StateFormula::True => same_marks(alloc, true, states),
+        StateFormula::False | StateFormula::Inner(_) => same_marks(alloc, false, states),
         StateFormula::Label(name) => marks_of_label(alloc, labels, name, states),
         StateFormula::Not(x) => {
             let mut marks = marks_of(alloc, labels, x, states)?;

@@ -28,7 +28,7 @@ mod sides;
 
 pub use fault::PoseFault;
 pub use flat::is_flat;
-pub use labels::{constant, marks_of_label};
+pub use labels::{marks_of_label, same_marks};
 pub use marks::{intersect, negate, unite};
 pub use next::{PosedNext, pose_next};
 pub use question::{Posed, initial_of, pose, sides_of};

@@ -10,7 +10,7 @@ ghost use Rattle.formula_sets.specs.Posing.{at_states, opening_at, next_question
 ghost use Rattle.formula_sets.specs.Seen.{next_posing_of};
 
 use crate::fault::PoseFault;
-use crate::labels::{constant, marks_of};
+use crate::labels::{marks_of, same_marks};
 use crate::question::{initial_of, sides_of};
 use game_model::{Game, Question, UNIT};
 use label_reader::{Labels, Owners};
@@ -70,8 +70,8 @@ fn question_in<'g>(
 {
     let states = game.states();
     let sides = sides_of(alloc, owners, formula, states)?;
-    let goals = constant(alloc, false, states)?;
-    let deads = constant(alloc, false, states)?;
+    let goals = same_marks(alloc, false, states)?;
+    let deads = same_marks(alloc, false, states)?;
     Ok(Question::build(game, sides, goals, deads))
 }
 

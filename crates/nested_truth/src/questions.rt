@@ -7,7 +7,7 @@ ghost use Rattle.formula_sets.specs.Posing.{at_states, next_question_of, questio
 
 use crate::known::{KnownSets, are_equal};
 use crate::setting::Setting;
-use formula_sets::{constant, sides_of};
+use formula_sets::{same_marks, sides_of};
 use game_model::Question;
 use game_outside::OutOfMemory;
 use rpatl_syntax::Formula;
@@ -112,7 +112,7 @@ pub fn next_question<'g>(
         (tree_of formula.now)) }
 {
     let states = setting.game.states();
-    let goals = constant(alloc, false, states)?;
-    let deads = constant(alloc, false, states)?;
+    let goals = same_marks(alloc, false, states)?;
+    let deads = same_marks(alloc, false, states)?;
     question_in(alloc, setting, formula, &goals, deads)
 }

@@ -9,11 +9,14 @@ use game_model::Question;
 use game_outside::OutOfMemory;
 use std::alloc::Global;
 
-/// The component of a state that has none yet, and the number of one that has.
+/// The component of a state that has none yet, and the place of one that has none.
 pub const NONE: u32 = 4_294_967_295;
 
+/// The number of a state that has a component: above those of the states that wait for theirs.
+const CLOSED: u32 = 4_294_967_295;
+
 /// What a search knows of a state: its number, by the order in which states were met, which is 0 until it was and
-/// `NONE` once the state has a component; the least number of a state without a component that it is known to lead
+/// `CLOSED` once the state has a component; the least number of a state without a component that it is known to lead
 /// to; and the next edge to follow.
 #[derive(Clone, Copy)]
 struct Seen {
@@ -189,7 +192,7 @@ impl Search {
     {
         while let Some(member) = self.waiting.pop() {
             self.component[member as usize] = self.count;
-            self.seen[member as usize].number = NONE;
+            self.seen[member as usize].number = CLOSED;
             if member == state {
                 break;
             }

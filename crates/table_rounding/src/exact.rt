@@ -30,17 +30,17 @@ impl Excess {
 
     /// By how many units the entry is above what the choice gives, rounded up.
     fn fall(self) -> u64 {
-        moved(self.below.saturating_sub(self.above), self.moving)
+        quotient_up(self.below.saturating_sub(self.above), self.moving)
     }
 
     /// By how many units the entry is below what the choice gives, rounded up.
     fn rise(self) -> u64 {
-        moved(self.above.saturating_sub(self.below), self.moving)
+        quotient_up(self.above.saturating_sub(self.below), self.moving)
     }
 }
 
 /// A quotient rounded up. Mostly there is nothing to divide.
-fn moved(sum: u128, total: u128) -> u64 {
+fn quotient_up(sum: u128, total: u128) -> u64 {
     if sum == 0 {
         return 0;
     }
