@@ -30,5 +30,5 @@ pub use fault::PoseFault;
 pub use flat::is_flat;
 pub use labels::{marks_of_label, same_marks};
 pub use marks::{intersect, negate, unite};
-pub use next::{PosedNext, pose_next};
+pub use next::{PosedNext, pose_next, units_of};
 pub use question::{Posed, initial_of, pose, sides_of};

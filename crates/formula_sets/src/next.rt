@@ -33,8 +33,8 @@ fn units_at(mark: bool) -> u64
     if mark { UNIT } else { 0 }
 }
 
-// Probability 1 at each mark, else 0, in units.
-fn units_of(alloc: Global, marks: &[bool]) -> Result<Vec<u64>, AllocError>
+/// Probability 1 at each mark, else 0, in units.
+pub fn units_of(alloc: Global, marks: &[bool]) -> Result<Vec<u64>, AllocError>
     ensures { IfOk result (λ table. table.items ≡ at_states (λ s. if slice_index_or marks.now s false then unit else 0)
         (length marks.now)) }
 {

@@ -1,12 +1,12 @@
 //! Runs of so many steps.
 
-ghost use Rattle.std.specs.Prelude.{◌≡◌, ◌≤◌, All, IfOk, length, false, slice_index_or, if◌then◌else◌};
+ghost use Rattle.std.specs.Prelude.{◌≡◌, ◌≤◌, All, IfOk, length, false, slice_index_or};
 ghost use Rattle.game_model.specs.Limits.{unit};
 ghost use Rattle.game_model.specs.Query.{states};
 ghost use Rattle.game_model.specs.Rounded.{opening};
 ghost use Rattle.bounded_rounds.specs.Limits.{most_steps, most_workers};
 ghost use Rattle.bounded_rounds.specs.Steps.{IsSweep};
-ghost use Rattle.formula_sets.specs.Posing.{at_states, next_question_of};
+ghost use Rattle.formula_sets.specs.Posing.{next_question_of};
 ghost use Rattle.rpatl_syntax.specs.Formula.{tree_of};
 ghost use Rattle.nested_truth.specs.Runs.{AreSwept, units_at};
 ghost use Rattle.nested_truth.specs.Seen.{IsBand, band_in, high_or, seen};
@@ -16,10 +16,11 @@ use crate::known::{KnownSets, are_equal};
 use crate::questions::{Questions, next_question};
 use crate::setting::Setting;
 use bounded_rounds::{Sweep, bounded, bounded_values};
-use game_model::{Question, UNIT};
+use formula_sets::units_of;
+use game_model::Question;
 use game_outside::{Gate, OutOfMemory};
 use rpatl_syntax::Formula;
-use std::alloc::{AllocError, Global};
+use std::alloc::Global;
 use std::thread::Threads;
 use verdicts::How;
 
@@ -98,23 +99,4 @@ fn next_step<R: Threads + Sync, G: Gate + Sync>(
     question.known();
     let table = units_of(alloc, marks)?;
     bounded(rt, alloc, question, &table, 1, workers, gate)
-}
-
-// The unit at the marked states, and 0 elsewhere.
-fn units_of(alloc: Global, marks: &[bool]) -> Result<Vec<u64>, AllocError>
-    ensures { IfOk result (λ table. table.items ≡ at_states (units_at (λ s. slice_index_or marks.now s false))
-        (length marks.now)) }
-{
-    let mut table = Vec::with_capacity(alloc, marks.len())?;
-    for place in 0..marks.len() {
-        table.push(units_if(marks[place]))?;
-    }
-    Ok(table)
-}
-
-// The unit where it holds, else 0.
-fn units_if(holds: bool) -> u64
-    ensures { result ≡ (if holds then unit else 0) }
-{
-    if holds { UNIT } else { 0 }
 }
