@@ -39,11 +39,11 @@ pub record LoadsText {X Y : Type 0} (holding : Option Holding) (steady : Bool) (
   pub loads : Loads view result (said source)
 
 -- loading refuses nothing for want of memory
-abbrev pub RefusesCaused : {X : Type 0} → Result X End → Type 0
-RefusesCaused (Ok x) = Unit {0}
-RefusesCaused (Err OutOfMemory) = Unit {0}
-RefusesCaused (Err ReadFault) = Unit {0}
-RefusesCaused (Err (Refused refusal)) = IsCaused refusal
+abbrev pub EndsCaused : {X : Type 0} → Result X End → Type 0
+EndsCaused (Ok x) = Unit {0}
+EndsCaused (Err OutOfMemory) = Unit {0}
+EndsCaused (Err ReadFault) = Unit {0}
+EndsCaused (Err (Refused refusal)) = IsCaused refusal
 
 -- a text was too long
 abbrev pub IsTooLong : {X : Type 0} → Result X End → Type 0
@@ -52,7 +52,7 @@ IsTooLong {X} result = (text : Text) × (result ≡ Err (Refused (TooLong text))
 -- what asks nothing of a shelf: it has no fault of reading, refuses nothing for want of memory, and nothing as too long
 pub record ReadsNothing {X : Type 0} (result : Result X End) : Type 0 where
   pub read : IsErrOf result ReadFault → ⊥
-  pub caused : RefusesCaused result
+  pub caused : EndsCaused result
   pub short : IsTooLong result → ⊥
 
 -- how much is taken of the last text that loading reads: it is too long exactly where that is more than the limit

@@ -8,7 +8,7 @@ ghost use Rattle.certificate_audit.specs.declared.fault.AuditFault.{AuditFault};
 ghost use Rattle.run_refusals.specs.declared.refusal.Refusal.{Refusal};
 ghost use Rattle.asked_files.specs.Asks.{GivenTextWith};
 ghost use Rattle.asked_files.specs.Sources.{SourceWith, IfKnown};
-ghost use Rattle.asked_files.specs.Loading.{IsTooLong, LoadingLeaves, RefusesCaused};
+ghost use Rattle.asked_files.specs.Loading.{IsTooLong, LoadingLeaves, EndsCaused};
 ghost use Rattle.asked_files.specs.Questions.{RefusesCertificate};
 
 use crate::load::{End, load_text};
@@ -34,7 +34,7 @@ pub fn load_certificate<H: Shelf>(
     ensures shelf { LoadingLeaves H.held H.steady H.faults H.taken shelf.old shelf.new result }
     ensures steadily { IsErrOf result End.ReadFault → H.steady shelf.old ≡ true
         → IfKnown (H.held shelf.old) (λ held. held name.now ≡ None) }
-    ensures caused { RefusesCaused result }
+    ensures caused { EndsCaused result }
 {
     let bytes = load_text(alloc, shelf, Text::Cert, name)?;
     certificate_in(alloc, question, &bytes)
@@ -47,7 +47,7 @@ fn certificate_in(alloc: Global, question: &Question, bytes: &[u8]) -> Result<Pl
     ensures refused { (refusal : Refusal) → result ≡ Err (End.Refused refusal)
         → (fault : AuditFault) × (refusal ≡ Refusal.OfCertificate fault) × IsRefused question.now bytes.now fault }
     ensures read { IsErrOf result End.ReadFault → ⊥ }
-    ensures caused { RefusesCaused result }
+    ensures caused { EndsCaused result }
     ensures short { IsTooLong result → ⊥ }
 {
     match audit(alloc, question, bytes) {

@@ -3,7 +3,7 @@
 ghost use Rattle.std.specs.Prelude.{◌≡◌, ◌≤◌, ◌⊎◌, IsErrOf, IsOk, IfOk, option_map, length};
 ghost use Rattle.text_lines.specs.Limits.{most_bytes};
 ghost use Rattle.asked_files.specs.Sources.{held_own};
-ghost use Rattle.asked_files.specs.Loading.{LoadingLeaves, LoadsText, RefusesCaused, fault_of};
+ghost use Rattle.asked_files.specs.Loading.{LoadingLeaves, LoadsText, EndsCaused, fault_of};
 ghost use Rattle.asked_files.specs.Texts.{text_said, game_said, labels_said, owners_said, single_owner};
 
 use formula_sets::PoseFault;
@@ -59,7 +59,7 @@ pub fn load_text<H: Shelf>(
         (text_said text) }
     ensures within { IfOk result (λ v. length v.items ≤ most_bytes) }
     ensures shelf { LoadingLeaves H.held H.steady H.faults H.taken shelf.old shelf.new result }
-    ensures caused { RefusesCaused result }
+    ensures caused { EndsCaused result }
 {
     match read_all(alloc, shelf, name, MOST_BYTES as u64) {
         Ok(bytes) => Ok(bytes),
@@ -85,7 +85,7 @@ fn fault_of<F: Drop>(text: Text, end: FileEnd<F>) -> Result<F, End>
 pub fn load_game<H: Shelf>(alloc: Global, shelf: &mut H, name: &str) -> Result<Game, End>
     ensures says { LoadsText (H.held shelf.old) (H.steady shelf.old) (λ held. held name.now) (λ x. x) result game_said }
     ensures shelf { LoadingLeaves H.held H.steady H.faults H.taken shelf.old shelf.new result }
-    ensures caused { RefusesCaused result }
+    ensures caused { EndsCaused result }
 {
     match read_tra_from(alloc, shelf, name, MOST_BYTES as u64) {
         Ok(game) => Ok(game),
@@ -106,7 +106,7 @@ pub fn load_labels<H: Shelf>(
     ensures says { LoadsText (H.held shelf.old) (H.steady shelf.old) (λ held. held name.now) (λ x. x) result
         (λ source. labels_said source states) }
     ensures shelf { LoadingLeaves H.held H.steady H.faults H.taken shelf.old shelf.new result }
-    ensures caused { RefusesCaused result }
+    ensures caused { EndsCaused result }
     ensures sizes { IfOk result (λ labels. labels.states ≡ states) }
 {
     match read_labels_from(alloc, shelf, name, MOST_BYTES as u64, states) {
@@ -128,7 +128,7 @@ pub fn load_owner_file<H: Shelf>(
     ensures says { LoadsText (H.held shelf.old) (H.steady shelf.old) (λ held. held name.now) (λ x. x) result
         (λ source. owners_said (Some name.now) source states) }
     ensures shelf { LoadingLeaves H.held H.steady H.faults H.taken shelf.old shelf.new result }
-    ensures caused { RefusesCaused result }
+    ensures caused { EndsCaused result }
     ensures sizes { IfOk result (λ owners. length owners.owners ≡ states) }
 {
     match read_owners_from(alloc, shelf, name, MOST_BYTES as u64, states) {
@@ -161,7 +161,7 @@ pub fn load_owners<H: Shelf>(
         (held_own (option_map (λ file. file.now) own.entry)) (λ x. x) result
         (λ source. owners_said (option_map (λ file. file.now) own.entry) source states) }
     ensures shelf { LoadingLeaves H.held H.steady H.faults H.taken shelf.old shelf.new result }
-    ensures caused { RefusesCaused result }
+    ensures caused { EndsCaused result }
     ensures sizes { IfOk result (λ owners. length owners.owners ≡ states) }
 {
     match own {

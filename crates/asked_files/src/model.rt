@@ -10,7 +10,7 @@ ghost use Rattle.formula_sets.specs.Seen.{posing_of, next_posing_of};
 ghost use Rattle.command_words.specs.Words.{asked_of_words};
 ghost use Rattle.run_refusals.specs.declared.refusal.Refusal.{Refusal};
 ghost use Rattle.asked_files.specs.Said.{Refuses, read_said};
-ghost use Rattle.asked_files.specs.Loading.{LoadingLeaves, Loads, IsTooLong, ReadsNothing, RefusesCaused};
+ghost use Rattle.asked_files.specs.Loading.{LoadingLeaves, Loads, IsTooLong, ReadsNothing, EndsCaused};
 ghost use Rattle.asked_files.specs.Posed.{HasSizes, any_posed, formula_read, nested_posed, posed, posed_by, reading_of};
 ghost use Rattle.asked_files.specs.Problems.{initial_of, states_of};
 ghost use Rattle.asked_files.specs.SeenProblems.{HasDual, IsNested, IsOfKind, IsOfLoaded, IsUnbounded, problem_of};
@@ -43,7 +43,7 @@ fn load_formula(alloc: Global, text: &str) -> Result<Formula, End>
     ensures spelled { IfOk result (λ formula. DenotesFormula text.now (tree_of formula)) }
     ensures share { IfOk result (λ formula. IsAtMostOne formula.bound) }
     ensures read { IsErrOf result End.ReadFault → ⊥ }
-    ensures caused { RefusesCaused result }
+    ensures caused { EndsCaused result }
     ensures short { IsTooLong result → ⊥ }
 {
     // Laws: these calls do nothing.
@@ -72,7 +72,7 @@ pub fn load_model<H: Shelf>(
     ensures steadily { IsErrOf result End.ReadFault → H.steady shelf.old ≡ true
         → LacksText (H.held shelf.old) (asked_of_words asked.now) }
     ensures shelf { LoadingLeaves H.held H.steady H.faults H.taken shelf.old shelf.new result }
-    ensures caused { RefusesCaused result }
+    ensures caused { EndsCaused result }
 {
     let game = load_game(alloc, shelf, asked.tra)?;
     let labels = load_labels(alloc, shelf, asked.lab, game.states())?;

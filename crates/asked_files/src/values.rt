@@ -7,7 +7,7 @@ ghost use Rattle.values_reader.specs.declared.fault.ValuesFault.{ValuesFault};
 ghost use Rattle.run_refusals.specs.declared.refusal.Refusal.{Refusal};
 ghost use Rattle.asked_files.specs.Asks.{GivenTextWith};
 ghost use Rattle.asked_files.specs.Sources.{SourceWith, IfKnown};
-ghost use Rattle.asked_files.specs.Loading.{IsTooLong, LoadingLeaves, RefusesCaused};
+ghost use Rattle.asked_files.specs.Loading.{IsTooLong, LoadingLeaves, EndsCaused};
 ghost use Rattle.asked_files.specs.Questions.{GivesValues, LacksValues, RefusesValues, RefusesValuesText};
 
 use crate::load::{End, load_text};
@@ -35,7 +35,7 @@ pub fn load_values<H: Shelf>(
     ensures shelf { LoadingLeaves H.held H.steady H.faults H.taken shelf.old shelf.new result }
     ensures steadily { IsErrOf result End.ReadFault → H.steady shelf.old ≡ true
         → LacksValues (H.held shelf.old) (option_map (λ file. file.now) name.entry) }
-    ensures caused { RefusesCaused result }
+    ensures caused { EndsCaused result }
 {
     match name {
         None => Ok(None),
@@ -60,7 +60,7 @@ fn load_values_file<H: Shelf>(
     ensures shelf { LoadingLeaves H.held H.steady H.faults H.taken shelf.old shelf.new result }
     ensures steadily { IsErrOf result End.ReadFault → H.steady shelf.old ≡ true
         → LacksValues (H.held shelf.old) (Some name.now) }
-    ensures caused { RefusesCaused result }
+    ensures caused { EndsCaused result }
 {
     let bytes = load_text(alloc, shelf, Text::Values, name)?;
     values_in(alloc, &bytes, states)
@@ -73,7 +73,7 @@ fn values_in(alloc: Global, bytes: &[u8], states: u32) -> Result<Vec<f64>, End>
     ensures refused { (refusal : Refusal) → result ≡ Err (End.Refused refusal)
         → (fault : ValuesFault) × (refusal ≡ Refusal.OfValues fault) × (fault_of states bytes.now ≡ Some fault) }
     ensures read { IsErrOf result End.ReadFault → ⊥ }
-    ensures caused { RefusesCaused result }
+    ensures caused { EndsCaused result }
     ensures short { IsTooLong result → ⊥ }
 {
     match read_values(alloc, bytes, states) {

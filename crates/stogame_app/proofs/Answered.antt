@@ -15,7 +15,7 @@ use Rattle.formula_sets.specs.Posing.{Posing}
 use Rattle.asked_files.specs.Problems.{Problem, OfReach, OfWithin, OfNext, OfNested, initial_of, posing_in, states_of}
 use Rattle.asked_files.specs.Said.{Said, NotHeld, Refuses, and_then}
 use Rattle.asked_files.specs.Sources.{Sources, SourceWith, IfKnown, sources_of}
-use Rattle.asked_files.specs.Loading.{IsTooLong, LoadingLeaves, Loads, ReadsNothing, RefusesCaused, Takes}
+use Rattle.asked_files.specs.Loading.{IsTooLong, LoadingLeaves, Loads, ReadsNothing, EndsCaused, Takes}
 use Rattle.asked_files.specs.Posed.{Reading, posed, reading_said}
 use Rattle.asked_files.specs.Asks.{Asks}
 use Rattle.asked_files.specs.Questions.{LacksText, LacksValues, PosesIt, Reads, ReadsAs, RefusesCertificate, RefusesQuestion, RefusesValues}
@@ -30,7 +30,7 @@ use Rattle.stogame_app.specs.inside.Answers.{IsAnswered, IsMadeOf}
 same_end : {X Y : Type 0} (end other : End) → ◌≡◌ {A = Result X End} (Err end) (Err other) → ◌≡◌ {A = Result Y End} (Err end) (Err other)
 same_end end other is = let same : end ≡ other = cc (is) in ap (λ (e : End). Err e) same
 
-same_caused : (X Y : Type 0) (end : End) → RefusesCaused {X = X} (Err end) → RefusesCaused {X = Y} (Err end)
+same_caused : (X Y : Type 0) (end : End) → EndsCaused {X = X} (Err end) → EndsCaused {X = Y} (Err end)
 same_caused X Y OutOfMemory is = tt
 same_caused X Y ReadFault is = tt
 same_caused X Y (Refused refusal) is = is
@@ -144,7 +144,7 @@ report_made answer report status = record {
 module _ {S : Type 0} {held : S → Option Holding} {steady : S → Bool} {faults took : S → ℕ} {command : Command} {asked : Asked} {paths : Paths} {old new : S} (asks : AsksQuestion command asked paths) where
   -- where a text was not loaded
   pub unloaded : {X : Type 0} {end : End} → ((refusal : Refusal) → ◌≡◌ {A = Result X End} (Err end) (Err (Refused refusal)) → ReadsAs (held old) asked (Refuses refusal))
-      → (IsErrOf {T = X} (Err end) ReadFault → steady old ≡ true → LacksText (held old) asked) → LoadingLeaves {X = X} held steady faults took old new (Err end) → RefusesCaused {X = X} (Err end)
+      → (IsErrOf {T = X} (Err end) ReadFault → steady old ≡ true → LacksText (held old) asked) → LoadingLeaves {X = X} held steady faults took old new (Err end) → EndsCaused {X = X} (Err end)
       → IsAnswered held steady faults took command old new (Err end)
   unloaded {X} {end} refused steadily leaves caused = record {
     answered = λ words denoted. tt;
@@ -160,7 +160,7 @@ module _ {S : Type 0} {held : S → Option Holding} {steady : S → Bool} {fault
 
   -- behind what was loaded nothing is asked of the shelf
   behind : {X : Type 0} {x : X} → LoadingLeaves held steady faults took old new (Ok x) → (result : Result Answer End) → ((words : List (List ℕ)) → AreCommand words command → IfOk result (λ answer. IsReportOfWords words (held old) (took new) answer.text.items answer.status)) → IfOk result (λ answer. IsAnswer answer.status)
-      → ((refusal : Refusal) → result ≡ Err (Refused refusal) → RefusesIt (held old) command refusal) → RefusesCaused result → (IsErrOf result ReadFault → ⊥) → (IsTooLong result → ⊥) → IsAnswered held steady faults took command old new result
+      → ((refusal : Refusal) → result ≡ Err (Refused refusal) → RefusesIt (held old) command refusal) → EndsCaused result → (IsErrOf result ReadFault → ⊥) → (IsTooLong result → ⊥) → IsAnswered held steady faults took command old new result
   behind {X} {x} leaves result answered status refused caused read short =
       let small = answer_small x (took new) leaves.takes in
       record {
@@ -209,7 +209,7 @@ module _ {S X : Type 0} {held : S → Option Holding} {steady : S → Bool} {fau
   -- where it was not loaded
   pub uncertified : {Y : Type 0} {end : End} (audit : Audit) (problem : Problem) (posing : Posing) → PosesIt (held old) audit.asked Unbounded problem → posing_in problem ≡ Some posing
       → ((refusal : Refusal) → ◌≡◌ {A = Result Y End} (Err end) (Err (Refused refusal)) → SourceWith (held middle) audit.certificate (λ source. RefusesCertificate posing.question source refusal))
-      → (IsErrOf {T = Y} (Err end) ReadFault → steady middle ≡ true → IfKnown (held middle) (λ held. held audit.certificate ≡ None)) → LoadingLeaves {X = Y} held steady faults took middle new (Err end) → RefusesCaused {X = Y} (Err end)
+      → (IsErrOf {T = Y} (Err end) ReadFault → steady middle ≡ true → IfKnown (held middle) (λ held. held audit.certificate ≡ None)) → LoadingLeaves {X = Y} held steady faults took middle new (Err end) → EndsCaused {X = Y} (Err end)
       → IsAnswered held steady faults took (OfAudit audit) old new (Err end)
   uncertified {Y} {end} audit problem posing poses reached refused steadily rest caused = record {
     answered = λ words denoted. tt;
@@ -233,7 +233,7 @@ module _ {S X : Type 0} {held : S → Option Holding} {steady : S → Bool} {fau
   -- where values to begin with were not loaded
   pub unhinted : {Y : Type 0} {end : End} (solve : Solve) (problem : Problem) (posing : Posing) → PosesIt (held old) solve.asked Unbounded problem → posing_in problem ≡ Some posing
       → ((refusal : Refusal) → ◌≡◌ {A = Result Y End} (Err end) (Err (Refused refusal)) → RefusesValues (held middle) solve.values (states posing.question) refusal)
-      → (IsErrOf {T = Y} (Err end) ReadFault → steady middle ≡ true → LacksValues (held middle) solve.values) → LoadingLeaves {X = Y} held steady faults took middle new (Err end) → RefusesCaused {X = Y} (Err end)
+      → (IsErrOf {T = Y} (Err end) ReadFault → steady middle ≡ true → LacksValues (held middle) solve.values) → LoadingLeaves {X = Y} held steady faults took middle new (Err end) → EndsCaused {X = Y} (Err end)
       → IsAnswered held steady faults took (OfSolve solve) old new (Err end)
   unhinted {Y} {end} solve problem posing poses reached refused steadily rest caused = record {
     answered = λ words denoted. tt;

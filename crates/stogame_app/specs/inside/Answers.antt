@@ -6,7 +6,7 @@ use Rattle.command_words.specs.Words.{Asked, Command, AreCommand}
 use Rattle.run_refusals.specs.declared.refusal.Refusal.{Refusal}
 use Rattle.asked_files.specs.declared.load.End.{End}
 use Rattle.asked_files.specs.declared.load.End.TheVariants.{ReadFault, Refused}
-use Rattle.asked_files.specs.Loading.{ReadsNothing, RefusesCaused, Takes}
+use Rattle.asked_files.specs.Loading.{ReadsNothing, EndsCaused, Takes}
 use Rattle.asked_files.specs.Posed.{Reading}
 use Rattle.asked_files.specs.Questions.{Reads}
 use Rattle.asked_files.specs.Sources.{IfKnown}
@@ -35,7 +35,7 @@ pub record IsAnswered {S : Type 0} (held : S → Option Holding) (steady : S →
   pub status : IfOk result (λ answer. IsAnswer answer.status)
   -- its first refusal, and never one for want of memory
   pub refused : (refusal : Refusal) → result ≡ Err (Refused refusal) → RefusesIt (held old) command refusal
-  pub caused : RefusesCaused result
+  pub caused : EndsCaused result
   -- it doesn't fail by itself, and over a steady shelf only where a text is not held
   pub read_fault : IsErrOf result ReadFault → Rose (faults old) (faults new) × ReadsFiles command
   pub steadily : IsErrOf result ReadFault → steady old ≡ true → IfKnown (held old) (λ held. IsMissing held command)
