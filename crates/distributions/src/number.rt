@@ -215,6 +215,7 @@ fn line_fraction(above: &[u8], below: &[u8]) -> Result<Frac, NumberFault>
     quotient(digits_onto(0, above), digits_onto(0, below))
 }
 
+#[inline(never)]
 fn number_in(text: &[u8]) -> Result<Frac, NumberFault>
     ensures { result ≡ number_said text.now }
 {
@@ -227,6 +228,7 @@ fn number_in(text: &[u8]) -> Result<Frac, NumberFault>
 
 /// The fraction that a text spells, or the first reason why it spells none. Most texts are short decimals. What is said
 /// of a text is what it denotes: `laws::said_is_denoted`.
+#[inline(always)]
 pub fn read_number(text: &[u8]) -> Result<Frac, NumberFault>
     ensures { result ≡ number_said text.now }
 {

@@ -10,6 +10,7 @@ use crate::tens::Tens;
 const MOST_PLACES: usize = 18;
 
 /// What a short decimal spells, not in lowest terms. None where the text is something else.
+#[inline(always)]
 pub fn short_decimal(text: &[u8]) -> Option<Tens>
     ensures { IfSome result (λ tens. number_said text.now ≡ fraction_said (record { num = tens.num; den = tens.den })) }
 {
@@ -21,6 +22,7 @@ pub fn short_decimal(text: &[u8]) -> Option<Tens>
 }
 
 // The decimal with this digit before the point and these behind it.
+#[inline(always)]
 fn over_places(front: u8, back: &[u8]) -> Option<Tens>
     ensures { IfSome result (AreDecimal front back.now) }
 {

@@ -27,6 +27,7 @@ impl Tens {
     }
 
     /// In lowest terms, where it is in range.
+    #[inline(always)]
     pub fn fraction(self) -> Result<Frac, NumberFault>
         ensures { result ≡ fraction_said (record { num = self.num; den = self.den }) }
     {

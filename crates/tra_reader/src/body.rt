@@ -45,6 +45,7 @@ pub fn blank_between(number: u32) -> TraFault
 }
 
 /// What a line says by itself, where so many rows were read before it.
+#[inline(always)]
 pub fn read_row<'a>(
     header: &Header,
     read: usize,

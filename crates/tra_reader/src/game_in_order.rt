@@ -80,6 +80,7 @@ impl GameInOrder {
 
     /// Adds a transition that is not before the choice under way. The only error is want of memory; where a whole
     /// choice finds none, `finish` says so.
+    #[inline(always)]
     pub fn add(&mut self, alloc: Global, transition: &Transition) -> Result<(), AllocError>
         requires within { IsWithin self.old.states transition.now }
         requires order { place_under_way self.old ≤ transition_place transition.now }

@@ -52,6 +52,7 @@ pub fn place_at(state: u32, choice: u32) -> u64
 }
 
 /// Reads the transition and the action of a line.
+#[inline(always)]
 pub fn read_line<'a>(header: &Header, line: &'a [u8]) -> Result<(Transition, &'a [u8]), TraCause>
     ensures said { SaysRow result (row_said header.now (fields_of line.entry.now)) }
     ensures within { IfOk result (λ r. IsWithin header.now.states r.0) }
@@ -64,6 +65,7 @@ pub fn read_line<'a>(header: &Header, line: &'a [u8]) -> Result<(Transition, &'a
 }
 
 // `i k j x` or `i k j x a`.
+#[inline(always)]
 fn read_mdp_line(states: u32, line: &[u8]) -> Result<(Transition, &[u8]), TraCause>
     ensures said { SaysRow result (parts_said states (mdp_parts (fields_of line.entry.now))) }
     ensures within { IfOk result (λ r. IsWithin states r.0) }
@@ -90,6 +92,7 @@ fn read_mdp_line(states: u32, line: &[u8]) -> Result<(Transition, &[u8]), TraCau
 }
 
 // `i j x` or `i j x a`.
+#[inline(always)]
 fn read_dtmc_line(states: u32, line: &[u8]) -> Result<(Transition, &[u8]), TraCause>
     ensures said { SaysRow result (parts_said states (dtmc_parts (fields_of line.entry.now))) }
     ensures within { IfOk result (λ r. IsWithin states r.0) }
@@ -113,6 +116,7 @@ fn read_dtmc_line(states: u32, line: &[u8]) -> Result<(Transition, &[u8]), TraCa
 }
 
 // The one field that is left, or no byte where none is; none where more are.
+#[inline(always)]
 fn last_field(line: &[u8]) -> Option<&[u8]>
     ensures { IsLastField result (fields_of line.entry.now) }
 {
@@ -128,6 +132,7 @@ fn last_field(line: &[u8]) -> Option<&[u8]>
 }
 
 // The transition with these numbers and this probability.
+#[inline(always)]
 fn transition_of(
     states: u32,
     source: Option<u64>,
@@ -151,6 +156,7 @@ fn transition_of(
     within(states, i, k, j, probability)
 }
 
+#[inline(always)]
 fn within(
     states: u32,
     source: u64,
