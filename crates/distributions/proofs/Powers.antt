@@ -43,4 +43,8 @@ taken_out n r f i j h e divides is =
 -- of as many places as the finest denominator has
 pub few_powers : (i j : ℕ) → i ≤ 23 → j ≤ 23 → 2 ^ i * 5 ^ j ≤ finest
 few_powers i j hi hj =
-    omega (arith, mul-le-mul_right (5 ^ j) (pow-rises 2 i 23 (omega arith) hi), mul-le-mul_left (2 ^ 23) (pow-rises 5 j 23 (omega arith) hj))
+    omega (
+      arith,
+      mul-le-mul_right (5 ^ j) (pow-rises 2 i 23 (omega arith) hi),
+      mul-le-mul_left (2 ^ 23) (pow-rises 5 j 23 (omega arith) hj),
+    )

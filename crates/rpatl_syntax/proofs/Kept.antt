@@ -30,7 +30,8 @@ unquoted-quoted name =
     ap (λ n. take n (name ++ 34 ∷ [])) size ∙ take-append_seam name (34 ∷ [])
 
 -- a spelling that begins with `"` is that of a quoted name
-quoted_kept : (token : List ℕ) → IsSpelling token → is_quoted token ≡ true → (name : List ℕ) × (token ≡ 34 ∷ (name ++ 34 ∷ [])) × IsName name
+quoted_kept : (token : List ℕ) → IsSpelling token → is_quoted token ≡ true
+    → (name : List ℕ) × (token ≡ 34 ∷ (name ++ 34 ∷ [])) × IsName name
 quoted_kept _ (word b bytes w a) q = cc (q, word_no_quote b w)
 quoted_kept _ (number b bytes d a) q = cc (q, digit_no_quote b d)
 quoted_kept _ (quoted_name name is) q = (name, refl, is)
@@ -45,17 +46,21 @@ label_kept token q s =
 
 -- a spelling that begins with a letter or `_` is that of a word
 pub word_kept : (token : List ℕ) → IsSpelling token → is_word token ≡ true → IsWholeWord token
-word_kept _ (word b bytes w a) e = record { begins = e; bytes = and_from (in_word b) (list_all in_word bytes) (ap (λ t. t || is_digit b) w) a }
+word_kept _ (word b bytes w a) e =
+    record { begins = e; bytes = and_from (in_word b) (list_all in_word bytes) (ap (λ t. t || is_digit b) w) a }
 word_kept _ (number b bytes d a) e = cc (e, digit_begins_no_word b d)
 word_kept _ (quoted_name name is) e = cc e
 word_kept _ (long_sign b c f) e = cc (e, (long_is_other b c [] f).word)
 word_kept _ (short_sign b f) e = cc (e, (short_is_other b [] f).word)
 
-words_whole : (name : List ℕ) (others : List (List ℕ)) → AllByRecursion IsWord (name ∷ others) → AllByRecursion IsSpelling (with_commas (name ∷ others) ++ codes ">>" ∷ []) → AllByRecursion IsWholeWord (name ∷ others)
+words_whole : (name : List ℕ) (others : List (List ℕ)) → AllByRecursion IsWord (name ∷ others)
+    → AllByRecursion IsSpelling (with_commas (name ∷ others) ++ codes ">>" ∷ [])
+    → AllByRecursion IsWholeWord (name ∷ others)
 words_whole name [] w a = (word_kept name a.0 w.0, tt)
 words_whole name (other ∷ more) w a = (word_kept name a.0 w.0, let rest = a.1 in words_whole other more w.1 rest.1)
 
-pub coalition_kept : (us : List (List ℕ)) (team : Option (List (List ℕ))) → IsCoalition us team → AllByRecursion IsSpelling us → HasWords team
+pub coalition_kept : (us : List (List ℕ)) (team : Option (List (List ℕ))) → IsCoalition us team
+    → AllByRecursion IsSpelling us → HasWords team
 coalition_kept us None d a = tt
 coalition_kept us (Some []) d a = tt
 coalition_kept us (Some (name ∷ others)) d a =

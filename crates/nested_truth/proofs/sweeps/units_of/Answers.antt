@@ -4,4 +4,5 @@ use Rattle.formula_sets.proofs.Asking.{pushed-more}
 use Rattle.nested_truth.proofs.sweeps.units_of.Goals as goal
 
 pub loop-place-preserved : goal.loop-place-preserved
-loop-place-preserved c = pushed-more (units_at (λ s. get_or c.args.marks.now s false)) c.loop-place.place _ _ _ c.in_ok-push.ensures.items c.loop-place.invariant c.units_if.ensures
+loop-place-preserved c = pushed-more (units_at (λ s. get_or c.args.marks.now s false)) c.loop-place.place _ _ _
+    c.in_ok-push.ensures.items c.loop-place.invariant c.units_if.ensures

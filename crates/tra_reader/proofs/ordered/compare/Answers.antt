@@ -10,12 +10,17 @@ returns-then-place c = λ n rows row at is holds keeps.
     let begun : 0 < length c.args.game.now.parts = search rules in
     let same : c.args.place ≡ place_under_way c.args.game.now = search rules in
     let compared : c.ne.result ≡ not (bytes_eq c.args.kept.now.items c.args.action.now) = search rules in
-    same_choice rows row (place_under_way c.args.game.now) c.args.kept.now.items c.ne.result (at ∙ same) (keeps begun) (compared ∙ ap (λ (a : List ℕ). not (bytes_eq c.args.kept.now.items a)) (sym is))
+    same_choice rows row (place_under_way c.args.game.now) c.args.kept.now.items c.ne.result (at ∙ same) (keeps begun)
+    (compared ∙ ap (λ (a : List ℕ). not (bytes_eq c.args.kept.now.items a)) (sym is))
 
 pub returns : goal.returns
 returns c = λ n rows row at is holds keeps.
     let kept : c.extend_from_slice.new.self.items ≡ c.args.action.now = search rules in
     elim c.else-has_begun.branch [
-      | else-has_begun-via-then-has_begun+else-place w ↦ later_choice c.args.game.now n rows row c.extend_from_slice.new.self.items holds (omega (arith, at, c.requires, w.if-place.false, w.place.ensures)) (kept ∙ sym is)
-      | else-has_begun-via-else-has_begun w ↦ first_choice c.args.game.now n rows row c.extend_from_slice.new.self.items holds (no_parts c.args.game.now.parts c.has_begun.result w.if-has_begun.false c.has_begun.ensures) (kept ∙ sym is)
+      | else-has_begun-via-then-has_begun+else-place w ↦
+          later_choice c.args.game.now n rows row c.extend_from_slice.new.self.items holds
+          (omega (arith, at, c.requires, w.if-place.false, w.place.ensures)) (kept ∙ sym is)
+      | else-has_begun-via-else-has_begun w ↦
+          first_choice c.args.game.now n rows row c.extend_from_slice.new.self.items holds
+          (no_parts c.args.game.now.parts c.has_begun.result w.if-has_begun.false c.has_begun.ensures) (kept ∙ sym is)
     ]
