@@ -1,5 +1,6 @@
 -- What texts and words say by cases is what they ask.
-use Rattle.std.proofs.Common.{◌≡◌, ◌&&◌, ℕ, Bool, true, false, cond, List, length, Option, Some, None, Result, Ok, Err, refl, sym, ap, subst, ◌∙◌}
+use Rattle.std.proofs.Common.{◌≡◌, ◌&&◌, ℕ, Bool, true, false, cond, List, length, Option, Some, None, Result, Ok, Err}
+use Rattle.std.proofs.Common.{refl, sym, ap, subst, ◌∙◌}
 use Rattle.game_model.specs.Game.{Distribution}
 use Rattle.distributions.proofs.Said.{number-found, number-again}
 use Rattle.distributions.proofs.Chosen.{choice-found, choice-again}
@@ -23,16 +24,19 @@ use Rattle.formula_sets.specs.Posing.{Model, Posing, Poses, initial_said, pose_s
 use Rattle.formula_sets.proofs.Asking.{pose-found, pose-again}
 use Rattle.formula_sets.proofs.AskingNext.{pose_next-found, pose_next-again}
 use Rattle.run_refusals.specs.declared.refusal.Refusal.{Refusal}
-use Rattle.run_refusals.specs.declared.refusal.Refusal.TheVariants.{OfTra, OfLab, OfOwn, OfFormula, OfQuestion, WrongKind}
+use Rattle.run_refusals.specs.declared.refusal.Refusal.TheVariants.{OfTra, OfLab, OfOwn, OfFormula, OfQuestion}
+use Rattle.run_refusals.specs.declared.refusal.Refusal.TheVariants.{WrongKind}
 use Rattle.run_refusals.specs.declared.refusal.Text.{Text}
 use Rattle.run_refusals.specs.declared.refusal.Text.TheVariants.{Tra, Lab, Own}
 use Rattle.command_words.specs.Words.{Asked}
 use Rattle.asked_files.specs.declared.problem.Paths.{Paths}
-use Rattle.asked_files.specs.Problems.{Problem, OfReach, OfWithin, OfNext, OfNested, IsReaching, PosesProblem, takes_formula}
+use Rattle.asked_files.specs.Problems.{Problem, OfReach, OfWithin, OfNext, OfNested, IsReaching, PosesProblem}
+use Rattle.asked_files.specs.Problems.{takes_formula}
 use Rattle.asked_files.specs.Said.{Said, NotHeld, Refuses, Denoted, and_then, read_said}
 use Rattle.asked_files.specs.Sources.{Sources}
 use Rattle.asked_files.specs.Texts.{text_said, game_said, labels_said, owners_said}
-use Rattle.asked_files.specs.Posed.{formula_read, Reading, reading_with, behind_owners, behind_labels, behind_game, reading_said, posed_by, nested_posed, any_posed, where_taken, posed, problem_said}
+use Rattle.asked_files.specs.Posed.{formula_read, Reading, reading_with, behind_owners, behind_labels, behind_game}
+use Rattle.asked_files.specs.Posed.{reading_said, posed_by, nested_posed, any_posed, where_taken, posed, problem_said}
 use Rattle.asked_files.specs.Asks.{GivenTextWith, AreOwners, Asks}
 use Rattle.asked_files.proofs.Lengths.{short_says, says_short}
 

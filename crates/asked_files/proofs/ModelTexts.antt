@@ -14,7 +14,8 @@ use Rattle.asked_files.specs.Loading.{Loads}
 use Rattle.asked_files.specs.Said.{Said, NotHeld, Refuses, Denoted, and_then}
 use Rattle.asked_files.specs.Sources.{Sources, held_own, IfKnown, AreSources}
 use Rattle.asked_files.specs.Texts.{game_said, labels_said, owners_said}
-use Rattle.asked_files.specs.Posed.{Reading, formula_read, reading_with, behind_owners, behind_labels, behind_game, reading_said, posed}
+use Rattle.asked_files.specs.Posed.{Reading, formula_read, reading_with, behind_owners, behind_labels, behind_game}
+use Rattle.asked_files.specs.Posed.{reading_said, posed}
 use Rattle.asked_files.specs.Questions.{LacksText, Reads, ReadsAs}
 use Rattle.asked_files.proofs.Asking.{said_asks}
 use Rattle.asked_files.proofs.Loading.{TextSays}

@@ -8,7 +8,8 @@ use Rattle.game_model.specs.declared.game.Side.TheVariants.{Max, Min}
 use Rattle.game_model.specs.Game.{no_distribution, choices_of}
 use Rattle.game_model.specs.Query.{Query, states, is_goal, side_at}
 use Rattle.game_model.proofs.Each.{AllByRecursion-at}
-use Rattle.attractors.specs.Attractor.{Barred, serves, attracts, is_attracted, Grew, from_goals, with_state, IsClosed, IsAttractor}
+use Rattle.attractors.specs.Attractor.{Barred, serves, attracts, is_attracted, Grew, from_goals, with_state, IsClosed}
+use Rattle.attractors.specs.Attractor.{IsAttractor}
 use Rattle.attractors.specs.Growing.{IsLarger}
 use Rattle.attractors.proofs.Tests.{any-place, all-each}
 use Rattle.attractors.proofs.Serving.{attracts-one, attracts-all}

@@ -7,7 +7,8 @@ use Rattle.game_model.specs.Rounded.{opening}
 use Rattle.game_model.proofs.Rises.{pow-one}
 use Rattle.bounded_rounds.specs.Steps.{down_from, up_from, IsSweep}
 use Rattle.bounded_rounds.specs.Exact.{exact_from, next_numerator, IsNext, IsBracketed}
-use Rattle.bounded_rounds.proofs.Rounding.{steps_from-below, steps_from-above, down-above, down-below, up-above, up-below}
+use Rattle.bounded_rounds.proofs.Rounding.{steps_from-below, steps_from-above, down-above, down-below, up-above}
+use Rattle.bounded_rounds.proofs.Rounding.{up-below}
 use Rattle.bounded_rounds.proofs.Opening.{exact_from-opening, exact_from-next}
 
 pub IsBracketed-steps : (q : Query) (table : ℕ → ℕ) (k s : ℕ) → IsQuery q

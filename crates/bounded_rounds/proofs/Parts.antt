@@ -1,10 +1,12 @@
 -- What a step leaves of parts of tables, and of whole tables.
-use Rattle.std.proofs.Common.{◌≡◌, ℕ, ◌+◌, ◌-◌, ◌/◌, ◌<◌, ◌≤◌, Bool, false, List, [], ◌∷◌, length, ◌++◌, arith, ap, refl, sym, subst, ◌∙◌, inl, inr, zero-add, set, ◌≢◌, below_more}
+use Rattle.std.proofs.Common.{◌≡◌, ℕ, ◌+◌, ◌-◌, ◌/◌, ◌<◌, ◌≤◌, Bool, false, List, [], ◌∷◌, length, ◌++◌, arith, ap}
+use Rattle.std.proofs.Common.{refl, sym, subst, ◌∙◌, inl, inr, zero-add, set, ◌≢◌, below_more}
 use Rattle.std.specs.Prelude.{slice_index, All}
 use mathlib.Core.Bool.{◌||◌}
 use Rattle.std.proofs.lemmas.Bool.{cases_lt, or_parts}
 use Rattle.std.proofs.Math.ListN.{get_or-map}
-use Rattle.std.proofs.lemmas.List.{get_or_append_left, get_or-append_right, ext_get_or, length-map, map-append, map-set, get_or-set_same, get_or-set_other}
+use Rattle.std.proofs.lemmas.List.{get_or_append_left, get_or-append_right, ext_get_or, length-map, map-append, map-set}
+use Rattle.std.proofs.lemmas.List.{get_or-set_same, get_or-set_other}
 use Rattle.std.proofs.lemmas.List.Elements.{All-from_get_or, All-map}
 use Rattle.game_model.specs.Query.{Query, IsQuery, states}
 use Rattle.game_model.specs.Limits.{unit}

@@ -1,5 +1,6 @@
 -- Steps whose quotients are rounded in one way, over tables that agree at every state.
-use Rattle.std.proofs.Common.{◌≡◌, ℕ, zero, suc, ◌+◌, ◌-◌, ◌*◌, ◌<◌, ◌≤◌, List, arith, ap, sym, subst, ◌∙◌, add-one, add-zero, add-suc}
+use Rattle.std.proofs.Common.{◌≡◌, ℕ, zero, suc, ◌+◌, ◌-◌, ◌*◌, ◌<◌, ◌≤◌, List, arith, ap, sym, subst, ◌∙◌, add-one}
+use Rattle.std.proofs.Common.{add-zero, add-suc}
 use Rattle.std.specs.List.{AllByRecursion}
 use Rattle.game_model.specs.declared.game.Edge.{Edge}
 use Rattle.game_model.specs.Game.{Distribution, choices_of}

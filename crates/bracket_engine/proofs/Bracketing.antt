@@ -1,5 +1,6 @@
 -- The tables of two races are a bracket.
-use Rattle.std.proofs.Common.{◌≡◌, ℕ, ◌+◌, ◌-◌, ◌*◌, ◌^◌, ◌<◌, ◌≤◌, Bool, true, false, List, length, arith, refl, sym, ap, ◌∙◌, subst, inl, inr, le_refl, le_trans, get_or}
+use Rattle.std.proofs.Common.{◌≡◌, ℕ, ◌+◌, ◌-◌, ◌*◌, ◌^◌, ◌<◌, ◌≤◌, Bool, true, false, List, length, arith, refl, sym}
+use Rattle.std.proofs.Common.{ap, ◌∙◌, subst, inl, inr, le_refl, le_trans, get_or}
 use Rattle.std.specs.Prelude.{All, slice_index, ◌↔◌, ◌⊎◌, Option, Some, None, IfSome, is_some, if◌then◌else◌}
 use Rattle.std.proofs.lemmas.Bool.{cases_lt}
 use Rattle.std.proofs.lemmas.List.{length-map, get_or_default}
@@ -24,7 +25,8 @@ use Rattle.rpatl_syntax.specs.declared.formula.Bound.{Bound}
 use Rattle.verdicts.specs.Verdict.{is_asking}
 use Rattle.verdicts.proofs.Staying.{settled-on}
 use Rattle.bracket_engine.specs.declared.stopping.SettlingGuess.{SettlingGuess}
-use Rattle.bracket_engine.specs.Stop.{AreSettledAt, EndsWhereSettled, upper_from, with_kept, IsSettlingGuess, IsKeptGuess, AreUpperParts, IsUpperFrom}
+use Rattle.bracket_engine.specs.Stop.{AreSettledAt, EndsWhereSettled, upper_from, with_kept, IsSettlingGuess}
+use Rattle.bracket_engine.specs.Stop.{IsKeptGuess, AreUpperParts, IsUpperFrom}
 use Rattle.bracket_engine.specs.Bracket.{IsBracket, IsCloseBelow, IsNarrow, IsSweptAbove, IsLeastSettled}
 use Rattle.bracket_engine.specs.declared.race.Raced.{Raced}
 use Rattle.marked_rounds.specs.Rounds.{IsRaced}

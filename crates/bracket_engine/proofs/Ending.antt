@@ -1,5 +1,6 @@
 -- A run does not go on where down steps of both questions settle the threshold.
-use Rattle.std.proofs.Common.{◌≡◌, ℕ, ◌+◌, ◌-◌, ◌<◌, true, false, List, length, get_or, arith, ap, sym, subst, inl, inr, le_refl}
+use Rattle.std.proofs.Common.{◌≡◌, ℕ, ◌+◌, ◌-◌, ◌<◌, true, false, List, length, get_or, arith, ap, sym, subst, inl, inr}
+use Rattle.std.proofs.Common.{le_refl}
 use Rattle.std.specs.Prelude.{All, count_ones}
 use Rattle.std.specs.Int.{is_power_of_two}
 use Rattle.std.proofs.lemmas.Bool.{cases_lt, eqb-true}

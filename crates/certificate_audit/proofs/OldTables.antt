@@ -7,7 +7,9 @@ use Rattle.game_model.specs.Rounded.{IsInductive, IsInductiveIn}
 use Rattle.game_model.specs.Ranks.{Ranked, RankedIn}
 use Rattle.inductive_check.specs.Replies.{AreReplies}
 use Rattle.certificate_audit.specs.OldUnits.{old_unit, thousandfold}
-use Rattle.certificate_audit.proofs.Multiples.{slice_index-times, units-times, times-units, inductive-times, times-inductive, replies-times, times-replies, ranked-times, times-ranked}
+use Rattle.certificate_audit.proofs.Multiples.{slice_index-times, units-times, times-units, inductive-times}
+use Rattle.certificate_audit.proofs.Multiples.{times-inductive, replies-times, times-replies, ranked-times}
+use Rattle.certificate_audit.proofs.Multiples.{times-ranked}
 
 each : (xs : List ℕ) (t : ℕ) → slice_index (thousandfold xs) t ≡ 1000 * slice_index xs t
 each xs t = slice_index-times 1000 xs t

@@ -10,8 +10,12 @@ use Rattle.command_words.specs.declared.words.AuditWords.{AuditWords}
 use Rattle.command_words.specs.declared.words.CheckWords.{CheckWords}
 use Rattle.command_words.specs.declared.words.MakeWords.{MakeWords}
 use Rattle.command_words.specs.declared.words.SolveWords.{SolveWords}
-use Rattle.command_words.specs.Grammar.{FindsIn, audit_app, check_app, make_app, solve_app, sure_app, value_in, value_of}
-use Rattle.command_words.specs.Words.{Asked, Audit, Check, Make, Solve, AreAuditWords, AreCheckWords, AreMakeWords, AreSolveWords, AreSureWords, AreInRange, IsMakeInRange, SayAsked, SayAudit, SayCheck, SayMake, SaySolve, asked_of_words, audit_of, check_of, make_of, solve_of}
+use Rattle.command_words.specs.Grammar.{FindsIn, audit_app, check_app, make_app, solve_app, sure_app, value_in}
+use Rattle.command_words.specs.Grammar.{value_of}
+use Rattle.command_words.specs.Words.{Asked, Audit, Check, Make, Solve, AreAuditWords, AreCheckWords, AreMakeWords}
+use Rattle.command_words.specs.Words.{AreSolveWords, AreSureWords, AreInRange, IsMakeInRange, SayAsked, SayAudit}
+use Rattle.command_words.specs.Words.{SayCheck, SayMake, SaySolve, asked_of_words, audit_of, check_of, make_of}
+use Rattle.command_words.specs.Words.{solve_of}
 use Rattle.command_words.proofs.Ranges.{check_in_range, make_in_range}
 
 -- the values that were found are those that the words give

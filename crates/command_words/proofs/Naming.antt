@@ -1,5 +1,6 @@
 -- The name of a command, and the words behind it.
-use Rattle.std.proofs.Common.{◌≡◌, ◌∙◌, List, ◌∷◌, codes, get_or, Option, Some, None, MatchOption, ap, subst, sym, arith}
+use Rattle.std.proofs.Common.{◌≡◌, ◌∙◌, List, ◌∷◌, codes, get_or, Option, Some, None, MatchOption, ap, subst, sym}
+use Rattle.std.proofs.Common.{arith}
 use Rattle.clap.specs.Words.{Text}
 use Rattle.command_words.specs.declared.words.AskedWords.{AskedWords}
 use Rattle.command_words.specs.declared.words.AuditWords.{AuditWords}
@@ -7,7 +8,10 @@ use Rattle.command_words.specs.declared.words.CheckWords.{CheckWords}
 use Rattle.command_words.specs.declared.words.CommandWords.{CommandWords}
 use Rattle.command_words.specs.declared.words.CommandWords.TheVariants as variant
 use Rattle.command_words.specs.declared.words.SolveWords.{SolveWords}
-use Rattle.command_words.specs.Words.{Asked, Audit, Check, Command, Solve, OfAudit, OfCheck, OfMake, OfSolve, OfSure, AreAuditWords, AreCheckWords, AreSolveWords, AreSureWords, AreCommand, AreNoCommand, AreWordsOf, asked_of_words, audit_of, check_of, command_of, name_of, solve_of}
+use Rattle.command_words.specs.Words.{Asked, Audit, Check, Command, Solve, OfAudit, OfCheck, OfMake, OfSolve, OfSure}
+use Rattle.command_words.specs.Words.{AreAuditWords, AreCheckWords, AreSolveWords, AreSureWords, AreCommand}
+use Rattle.command_words.specs.Words.{AreNoCommand, AreWordsOf, asked_of_words, audit_of, check_of, command_of, name_of}
+use Rattle.command_words.specs.Words.{solve_of}
 
 -- the first byte of equal texts
 pub first_byte : {s t : Text} → s ≡ t → get_or s 0 0 ≡ get_or t 0 0

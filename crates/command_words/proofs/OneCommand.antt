@@ -1,10 +1,13 @@
 -- Words denote one command at most.
-use Rattle.std.proofs.Common.{◌≡◌, ◌∙◌, ℕ, Bool, true, false, List, codes, Option, Some, None, ap, sym, refl, subst, arith}
+use Rattle.std.proofs.Common.{◌≡◌, ◌∙◌, ℕ, Bool, true, false, List, codes, Option, Some, None, ap, sym, refl, subst}
+use Rattle.std.proofs.Common.{arith}
 use Rattle.std.specs.Prelude.{IsTrue, ◌↔◌}
 use Rattle.std.specs.Str.Parse.{digits_value, without_leading_plus}
 use Rattle.clap.specs.Words.{Text}
 use Rattle.command_words.proofs.Naming.{begun, first_byte, second_byte}
-use Rattle.command_words.specs.Words.{Asked, Audit, Check, Make, Solve, Command, OfAudit, OfCheck, OfMake, OfSolve, OfSure, AreCommand, AreWordsOf, IsNumber, GivesNumber, SayAsked, SayAudit, SayCheck, SayMake, SaySolve, name_of}
+use Rattle.command_words.specs.Words.{Asked, Audit, Check, Make, Solve, Command, OfAudit, OfCheck, OfMake, OfSolve}
+use Rattle.command_words.specs.Words.{OfSure, AreCommand, AreWordsOf, IsNumber, GivesNumber, SayAsked, SayAudit}
+use Rattle.command_words.specs.Words.{SayCheck, SayMake, SaySolve, name_of}
 
 -- an option has one number
 one_number : (default : ℕ) (word : Option (List ℕ)) (m n : ℕ) → IsNumber default word m

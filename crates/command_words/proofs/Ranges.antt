@@ -1,5 +1,6 @@
 -- A number that `clap` takes for an option is in the option's range.
-use Rattle.std.proofs.Common.{◌≡◌, ◌∙◌, ◌<◌, ◌≤◌, ◌&&◌, ℕ, Bool, true, false, not, true≢false, zero, suc, List, [], ◌∷◌, map, length, get_or, codes, Option, Some, None, refl, sym, ap, subst, inl, inr, arith}
+use Rattle.std.proofs.Common.{◌≡◌, ◌∙◌, ◌<◌, ◌≤◌, ◌&&◌, ℕ, Bool, true, false, not, true≢false, zero, suc, List, [], ◌∷◌}
+use Rattle.std.proofs.Common.{map, length, get_or, codes, Option, Some, None, refl, sym, ap, subst, inl, inr, arith}
 use Rattle.std.specs.Prelude.{option_map, option_and_then, slice_get, pos}
 use Rattle.std.specs.List.{All, list_all, slice_index_or}
 use Rattle.std.specs.Str.{bytes_eq}
@@ -11,7 +12,8 @@ use Rattle.std.proofs.lemmas.Int.{ints}
 use Rattle.std.proofs.lemmas.Bool.{ne_eqb}
 use Rattle.std.proofs.lemmas.Slice.Eq.{bytes_eq-Decides}
 use Rattle.std.proofs.lemmas.Str.Parse.{digit_from_value}
-use Rattle.clap.specs.Words.{App, Rule, Text, app_of, rule_of, new_rule, found_of, first_value, matched_of, Accepts, IsSignedIn, IsParsedFrom}
+use Rattle.clap.specs.Words.{App, Rule, Text, app_of, rule_of, new_rule, found_of, first_value, matched_of, Accepts}
+use Rattle.clap.specs.Words.{IsSignedIn, IsParsedFrom}
 use Rattle.clap.specs.Facts.{PassesArg, EntryPasses, args_of, groups_of, parser_of, parser_of_value}
 use Rattle.clap.specs.Built.{IsAuto}
 use Rattle.clap.specs.declared.builder.arg.Arg.{Arg}
@@ -25,7 +27,8 @@ use Rattle.clap.proofs.CallerLemmas.{entry_by_id, same_rules_by_id}
 use Rattle.clap.proofs.SimpleLemmas.{all_simple, simple_groups, plain_fields}
 use Rattle.clap.proofs.WalkLemmas.{both}
 use Rattle.command_words.specs.Grammar.{check_app, make_app, value_in}
-use Rattle.command_words.specs.Words.{Check, Make, Spells, IsNumber, GivesNumber, SayRunLimits, SayCheck, SayMake, AreRunLimits, AreInRange, IsMakeInRange}
+use Rattle.command_words.specs.Words.{Check, Make, Spells, IsNumber, GivesNumber, SayRunLimits, SayCheck, SayMake}
+use Rattle.command_words.specs.Words.{AreRunLimits, AreInRange, IsMakeInRange}
 
 -- 1. A value that was found passed the test of its rule.
 

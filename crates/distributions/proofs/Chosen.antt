@@ -1,5 +1,6 @@
 -- The distribution that is said of parts is the one that they denote.
-use Rattle.std.proofs.Common.{◌≡◌, ◌∙◌, ◌<◌, ◌≤◌, ◌*◌, inl, inr, ℕ, List, [], ◌∷◌, refl, ap, sym, subst, cond, length, get_or, arith, Result, Ok, Err}
+use Rattle.std.proofs.Common.{◌≡◌, ◌∙◌, ◌<◌, ◌≤◌, ◌*◌, inl, inr, ℕ, List, [], ◌∷◌, refl, ap, sym, subst, cond, length}
+use Rattle.std.proofs.Common.{get_or, arith, Result, Ok, Err}
 use Rattle.std.specs.Prelude.{nat_lt}
 use Prim.Native.Nat.{◌∣◌}
 use Rattle.std.specs.List.Sorted.{IsPermutation}
@@ -12,9 +13,11 @@ use Rattle.distributions.specs.declared.choice.ChoiceFault.{ChoiceFault}
 use Rattle.distributions.specs.declared.choice.ChoiceFault.TheVariants.{BadSum}
 use Rattle.distributions.specs.Divisors.{gcd_within, gcd, lcm}
 use Rattle.distributions.specs.Limits.{tolerance}
-use Rattle.distributions.specs.Parts.{edge_of_part, weighted, distance, DenotesChoice, denominator_said, gathered, sum_said, with_total, choice_over, choice_said}
+use Rattle.distributions.specs.Parts.{edge_of_part, weighted, distance, DenotesChoice, denominator_said, gathered}
+use Rattle.distributions.specs.Parts.{sum_said, with_total, choice_over, choice_said}
 use Rattle.distributions.proofs.Gathering.{gives, gathered-rises, gathered-weights, gathered-only}
-use Rattle.distributions.proofs.Multiples.{AreKept, over, over-is, ge-from, ge-test, common-same, denominator-found, denominator-again, denominator-is}
+use Rattle.distributions.proofs.Multiples.{AreKept, over, over-is, ge-from, ge-test, common-same, denominator-found}
+use Rattle.distributions.proofs.Multiples.{denominator-again, denominator-is}
 use Rattle.distributions.proofs.Grammar.{chosen}
 
 ok-same : (d e : Distribution) → ◌≡◌ {A = Result Distribution ChoiceFault} (Ok d) (Ok e) → d ≡ e

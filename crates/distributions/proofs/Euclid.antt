@@ -2,9 +2,14 @@
 use Rattle.std.proofs.Common.{◌≡◌, ◌∙◌, ℕ, zero, suc, ◌+◌, ◌*◌, ◌/◌, ◌%◌, ◌^◌, ◌<◌, ◌≤◌, sym, ap, refl, subst, arith}
 use Prim.Native.Nat.{◌∣◌}
 use Rattle.std.specs.Int.{IsGcd}
-use Rattle.std.proofs.lemmas.Nat.Gcd.{dvd_refl, dvd-zero, dvd_trans, dvd_antisymm, IsGcd-from_zero, IsGcd-from_mod, IsGcd-swap, same_from_IsGcd}
+use Rattle.std.proofs.lemmas.Nat.Gcd.{dvd_refl, dvd-zero, dvd_trans, dvd_antisymm, IsGcd-from_zero, IsGcd-from_mod}
+use Rattle.std.proofs.lemmas.Nat.Gcd.{IsGcd-swap, same_from_IsGcd}
 use Rattle.std.proofs.lemmas.Nat.{mod-mul-add}
-use Rattle.std.proofs.Math.Nat.{one-dvd, dvd-mul_left, dvd-mul_right, mul-dvd-mul_left, dvd_of_mul-dvd-mul_right, div-mul_cancel, mul-div_cancel', mul-div_cancel, mul-lt-mul_of_pos_left, pow-suc, pow-zero, eq-zero_of_zero-dvd, mul-div_cancel_left, div_self, one-mul, div-lt_iff_lt-mul, div-mul-le_self, mul-le-mul_right, dvd_of_mod-eq-zero, mul_assoc, mul_comm, mul_right_comm, mul-dvd-mul_right, mul-le-mul_left}
+use Rattle.std.proofs.Math.Nat.{one-dvd, dvd-mul_left, dvd-mul_right, mul-dvd-mul_left, dvd_of_mul-dvd-mul_right}
+use Rattle.std.proofs.Math.Nat.{div-mul_cancel, mul-div_cancel', mul-div_cancel, mul-lt-mul_of_pos_left, pow-suc}
+use Rattle.std.proofs.Math.Nat.{pow-zero, eq-zero_of_zero-dvd, mul-div_cancel_left, div_self, one-mul}
+use Rattle.std.proofs.Math.Nat.{div-lt_iff_lt-mul, div-mul-le_self, mul-le-mul_right, dvd_of_mod-eq-zero, mul_assoc}
+use Rattle.std.proofs.Math.Nat.{mul_comm, mul_right_comm, mul-dvd-mul_right, mul-le-mul_left}
 use Rattle.distributions.specs.Divisors.{gcd, gcd_within, lcm}
 use Rattle.distributions.specs.Fraction.{Fraction, lowest}
 

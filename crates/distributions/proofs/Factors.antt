@@ -1,11 +1,13 @@
 -- Factors that are taken out of both numbers of a fraction.
-use Rattle.std.proofs.Common.{◌≡◌, ◌≢◌, ◌∙◌, ℕ, zero, suc, ◌+◌, ◌-◌, ◌*◌, ◌/◌, ◌%◌, ◌^◌, ◌<◌, ◌≤◌, ◌⊎◌, inl, inr, sym, ap, subst, arith}
+use Rattle.std.proofs.Common.{◌≡◌, ◌≢◌, ◌∙◌, ℕ, zero, suc, ◌+◌, ◌-◌, ◌*◌, ◌/◌, ◌%◌, ◌^◌, ◌<◌, ◌≤◌, ◌⊎◌, inl, inr, sym}
+use Rattle.std.proofs.Common.{ap, subst, arith}
 use Prim.Native.Nat.{◌∣◌}
 use Rattle.std.specs.Int.{IsGcd, bit_at, trailing_zeros, w64}
 use Rattle.std.proofs.lemmas.Nat.Gcd.{dvd_refl, dvd_trans, dvd_of_mod-eq-zero, mod-eq-zero_of_dvd}
 use Rattle.std.proofs.lemmas.Nat.Bits.{bit_at-trailing_zeros}
 use Rattle.std.proofs.lemmas.Nat.{pow-add}
-use Rattle.std.proofs.Math.Nat.{one-dvd, dvd-mul_right, pow-zero, pow-suc, mul-dvd-mul_left, div-mul_cancel, mul-div_cancel, mul-div_cancel', mul_right_comm, mul_assoc}
+use Rattle.std.proofs.Math.Nat.{one-dvd, dvd-mul_right, pow-zero, pow-suc, mul-dvd-mul_left, div-mul_cancel}
+use Rattle.std.proofs.Math.Nat.{mul-div_cancel, mul-div_cancel', mul_right_comm, mul_assoc}
 use Rattle.distributions.specs.Fraction.{Fraction}
 use Rattle.distributions.specs.Number.{in_range, fraction_said}
 use Rattle.distributions.proofs.Euclid.{coprime-mul, coprime-pow, dvd-pos, lowest-is}

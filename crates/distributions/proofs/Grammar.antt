@@ -1,5 +1,6 @@
 -- What a text is taken apart into by cases is how it is spelled.
-use Rattle.std.proofs.Common.{◌≡◌, ◌≢◌, ◌∙◌, ◌<◌, ◌+◌, ◌⊎◌, inl, inr, ℕ, List, [], ◌∷◌, ◌++◌, refl, ap, sym, subst, Bool, true, false, cond, Option, Some, None, length, take, drop, add-one, ◌&&◌, arith}
+use Rattle.std.proofs.Common.{◌≡◌, ◌≢◌, ◌∙◌, ◌<◌, ◌+◌, ◌⊎◌, inl, inr, ℕ, List, [], ◌∷◌, ◌++◌, refl, ap, sym, subst}
+use Rattle.std.proofs.Common.{Bool, true, false, cond, Option, Some, None, length, take, drop, add-one, ◌&&◌, arith}
 use Rattle.std.proofs.Math.Seq.{take-append_seam, drop-append_seam}
 use Rattle.std.proofs.lemmas.List.{take-append-drop}
 use Rattle.std.specs.Prelude.{option_map, ◌==◌, ◌||◌}
@@ -11,7 +12,10 @@ use Rattle.distributions.specs.declared.number.Power.{Power}
 use Rattle.distributions.specs.declared.number.Written.{Written}
 use Rattle.distributions.specs.declared.number.Written.TheVariants.{Point, Line}
 use Rattle.distributions.specs.inside.Written.{exponent_in, spelling_in}
-use Rattle.distributions.specs.Number.{Exponent, no_exponent, Spelling, Decimal, Quotient, AreDigits, SpellsBack, SpellsSign, SpellsExponent, SpellsDecimal, SpellsQuotient, Spells, digits_len, leading_digits, behind_digits, exponent_digits, exponent_of, decimal_of, quotient_of, behind_front, spelling_of}
+use Rattle.distributions.specs.Number.{Exponent, no_exponent, Spelling, Decimal, Quotient, AreDigits, SpellsBack}
+use Rattle.distributions.specs.Number.{SpellsSign, SpellsExponent, SpellsDecimal, SpellsQuotient, Spells, digits_len}
+use Rattle.distributions.specs.Number.{leading_digits, behind_digits, exponent_digits, exponent_of, decimal_of}
+use Rattle.distributions.specs.Number.{quotient_of, behind_front, spelling_of}
 
 -- which way a test went
 pub chosen : {X : Type 0} (b : Bool) (x y z : X) → cond b x y ≡ z → ((b ≡ true) × (x ≡ z)) ⊎ ((b ≡ false) × (y ≡ z))

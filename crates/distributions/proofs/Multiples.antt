@@ -1,5 +1,6 @@
 -- Common denominators.
-use Rattle.std.proofs.Common.{◌≡◌, ◌∙◌, ◌<◌, ◌≤◌, ◌+◌, ◌*◌, ◌/◌, inl, inr, ℕ, suc, List, [], ◌∷◌, refl, ap, sym, subst, false, cond, length, get_or, drop, add-one, arith, Result, Ok, Err}
+use Rattle.std.proofs.Common.{◌≡◌, ◌∙◌, ◌<◌, ◌≤◌, ◌+◌, ◌*◌, ◌/◌, inl, inr, ℕ, suc, List, [], ◌∷◌, refl, ap, sym, subst}
+use Rattle.std.proofs.Common.{false, cond, length, get_or, drop, add-one, arith, Result, Ok, Err}
 use Prim.Native.Nat.{◌∣◌}
 use Rattle.std.specs.Prelude.{All, nat_lt}
 use Rattle.std.proofs.lemmas.Bool.Decides.{nat_tests}

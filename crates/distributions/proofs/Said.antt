@@ -1,13 +1,16 @@
 -- The fraction that is said of a text is the one that it denotes.
-use Rattle.std.proofs.Common.{◌≡◌, ◌∙◌, ◌≤◌, ◌+◌, ◌*◌, ◌^◌, inl, inr, ℕ, List, ◌++◌, refl, ap, sym, subst, Bool, false, cond, Option, Some, None, Result, Ok, Err, length, arith}
+use Rattle.std.proofs.Common.{◌≡◌, ◌∙◌, ◌≤◌, ◌+◌, ◌*◌, ◌^◌, inl, inr, ℕ, List, ◌++◌, refl, ap, sym, subst, Bool, false}
+use Rattle.std.proofs.Common.{cond, Option, Some, None, Result, Ok, Err, length, arith}
 use Rattle.std.specs.Prelude.{◌==◌, nat_lt}
 use Rattle.std.proofs.lemmas.Bool.Decides.{nat_tests}
 use Rattle.distributions.specs.declared.number.NumberFault.{NumberFault}
-use Rattle.distributions.specs.declared.number.NumberFault.TheVariants.{TooManyDigits, ZeroDenominator, TooFine, TooLarge}
+use Rattle.distributions.specs.declared.number.NumberFault.TheVariants.{TooManyDigits, ZeroDenominator, TooFine}
+use Rattle.distributions.specs.declared.number.NumberFault.TheVariants.{TooLarge}
 use Rattle.text_lines.specs.Text.{value_onto}
 use Rattle.distributions.specs.Limits.{finest, most_value, most_digits, most_exponent, most_exponent_digits}
 use Rattle.distributions.specs.Fraction.{Fraction, IsFraction, SameValue, lowest}
-use Rattle.distributions.specs.Number.{Spelling, Decimal, value_of, is_long, DenotesNumber, in_range, fraction_said, spelling_said, spelling_of, number_said}
+use Rattle.distributions.specs.Number.{Spelling, Decimal, value_of, is_long, DenotesNumber, in_range, fraction_said}
+use Rattle.distributions.specs.Number.{spelling_said, spelling_of, number_said}
 use Rattle.distributions.proofs.Euclid.{coprime-div, lowest-value, lowest-pos, lowest-is}
 use Rattle.distributions.proofs.Spelled.{value_append}
 use Rattle.distributions.proofs.Grammar.{chosen, spelling_of-found, spelling_of-again}

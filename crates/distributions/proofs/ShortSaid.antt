@@ -1,5 +1,6 @@
 -- What is said of a short decimal.
-use Rattle.std.proofs.Common.{◌≡◌, ◌∙◌, ◌≤◌, ◌-◌, ◌^◌, inr, inl, ℕ, suc, List, [], ◌∷◌, refl, ap, sym, subst, true, false, Option, Some, None, length, take, drop, slice_index_or, ◌&&◌, arith}
+use Rattle.std.proofs.Common.{◌≡◌, ◌∙◌, ◌≤◌, ◌-◌, ◌^◌, inr, inl, ℕ, suc, List, [], ◌∷◌, refl, ap, sym, subst, true}
+use Rattle.std.proofs.Common.{false, Option, Some, None, length, take, drop, slice_index_or, ◌&&◌, arith}
 use Rattle.std.specs.Prelude.{IfSome}
 use Rattle.std.proofs.lemmas.List.{take_all, append-nil}
 use Rattle.text_lines.specs.Text.{is_digit, all_digits, value_onto}

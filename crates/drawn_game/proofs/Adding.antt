@@ -1,5 +1,6 @@
 -- Edges by rising destination, with one part more.
-use Rattle.std.proofs.Common.{inl, inr, ◌==◌, ◌≡◌, ◌∙◌, ◌<◌, ◌+◌, ℕ, suc, List, [], ◌∷◌, ◌++◌, sym, ap, cond, length, get_or, set, take, drop, arith}
+use Rattle.std.proofs.Common.{inl, inr, ◌==◌, ◌≡◌, ◌∙◌, ◌<◌, ◌+◌, ℕ, suc, List, [], ◌∷◌, ◌++◌, sym, ap, cond, length}
+use Rattle.std.proofs.Common.{get_or, set, take, drop, arith}
 use Rattle.std.proofs.Math.Seq.{drop-cons}
 use Rattle.std.proofs.lemmas.Bool.{cases_order, lt-ltb, le-ltb, eq-eqb, ne_eqb}
 use Rattle.std.proofs.lemmas.List.{set_split, get_or_default}

@@ -1,5 +1,6 @@
 -- Every choice leads to the goal or the sink, by its first part.
-use Rattle.std.proofs.Common.{◌==◌, ◌≡◌, ◌∙◌, ◌<◌, ◌≤◌, ◌+◌, ◌-◌, ◌%◌, ◌⊎◌, inl, inr, ℕ, zero, suc, cond, List, [], ◌∷◌, refl, sym, ap, subst, map, arith}
+use Rattle.std.proofs.Common.{◌==◌, ◌≡◌, ◌∙◌, ◌<◌, ◌≤◌, ◌+◌, ◌-◌, ◌%◌, ◌⊎◌, inl, inr, ℕ, zero, suc, cond, List, [], ◌∷◌}
+use Rattle.std.proofs.Common.{refl, sym, ap, subst, map, arith}
 use Rattle.std.specs.Prelude.{All, Contains}
 use Rattle.std.proofs.lemmas.Bool.{cases_lt, cases_Bool, eq-eqb}
 use Rattle.std.proofs.lemmas.List.Sums.{sum_by-cons}
@@ -8,7 +9,8 @@ use Rattle.game_model.specs.declared.game.Edge.{Edge}
 use Rattle.game_model.specs.Game.{Distribution, destinations, weight_to}
 use Rattle.drawn_game.specs.Drawings.{next_draw, times}
 use Rattle.drawn_game.specs.Parts.{added_up}
-use Rattle.drawn_game.specs.Rules.{DrawnState, first_part, other_part, drawn_choice, drawn_state, game_of_states, stay, goal_of, sink_of}
+use Rattle.drawn_game.specs.Rules.{DrawnState, first_part, other_part, drawn_choice, drawn_state, game_of_states, stay}
+use Rattle.drawn_game.specs.Rules.{goal_of, sink_of}
 use Rattle.drawn_game.specs.Ends.{LeadsToEnd}
 use Rattle.drawn_game.proofs.Rising.{edges_of, edges_of-some, edges_of-none, none_or_some}
 use Rattle.drawn_game.proofs.Repeating.{All-times}

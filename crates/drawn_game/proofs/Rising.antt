@@ -1,5 +1,6 @@
 -- The edges that parts add up to: they rise, and one part more is one more sum.
-use Rattle.std.proofs.Common.{add-zero, ◌≡◌, ◌≢◌, ◌∙◌, ◌<◌, ◌≤◌, ◌+◌, ◌*◌, ◌==◌, ◌⊎◌, inl, inr, ℕ, zero, suc, cond, nat_lt, List, [], ◌∷◌, ◌++◌, refl, sym, ap, subst, length, map, filter, arith, zero-add}
+use Rattle.std.proofs.Common.{add-zero, ◌≡◌, ◌≢◌, ◌∙◌, ◌<◌, ◌≤◌, ◌+◌, ◌*◌, ◌==◌, ◌⊎◌, inl, inr, ℕ, zero, suc, cond}
+use Rattle.std.proofs.Common.{nat_lt, List, [], ◌∷◌, ◌++◌, refl, sym, ap, subst, length, map, filter, arith, zero-add}
 use Rattle.std.specs.Prelude.{All}
 use Rattle.std.specs.List.{range_with_len}
 use Rattle.std.proofs.lemmas.Bool.{cases_lt, lt-ltb, le-ltb, eq-eqb, ne_eqb}
@@ -11,7 +12,8 @@ use Rattle.game_model.specs.Rising.{RiseFrom}
 use Rattle.game_model.proofs.RisingEdges.{RiseFrom-less, IsRising-from, weighty-from}
 use Rattle.drawn_game.specs.Parts.{added_up}
 use Rattle.drawn_game.specs.inside.Adding.{with_part}
-use Rattle.drawn_game.proofs.Adding.{with_part-before, with_part-at, with_part-behind, with_part-some, total_of-with_part}
+use Rattle.drawn_game.proofs.Adding.{with_part-before, with_part-at, with_part-behind, with_part-some}
+use Rattle.drawn_game.proofs.Adding.{total_of-with_part}
 
 -- the edges of these weights to n states from `first` on
 abbrev pub edges_of : (ℕ → ℕ) → ℕ → ℕ → List Edge

@@ -1,5 +1,6 @@
 -- A table that solves the equations has ranks, or there is a trap.
-use Rattle.std.proofs.Common.{◌≡◌, ℕ, zero, suc, ◌+◌, ◌-◌, ◌*◌, ◌<◌, ◌≤◌, List, [], ◌∷◌, length, get_or, arith, refl, subst, inl, inr, ◌⊎◌}
+use Rattle.std.proofs.Common.{◌≡◌, ℕ, zero, suc, ◌+◌, ◌-◌, ◌*◌, ◌<◌, ◌≤◌, List, [], ◌∷◌, length, get_or, arith, refl}
+use Rattle.std.proofs.Common.{subst, inl, inr, ◌⊎◌}
 use Rattle.std.specs.List.{AllByRecursion}
 use Rattle.std.proofs.lemmas.Bool.{cases_lt}
 use Rattle.std.proofs.Math.Nat.{mul-le-mul_right}
@@ -12,8 +13,10 @@ use Rattle.game_model.specs.Values.{weighted_sum}
 use Rattle.game_model.proofs.Each.{AllByRecursion-weaker, AllByRecursion-both}
 use Rattle.exact_values.proofs.Sums.{tight, sum-constant}
 use Rattle.exact_values.proofs.Descent.{Fits, Enough, Further, Onward}
-use Rattle.exact_values.proofs.Arena.{Some, Some-weaker, SolvedAt, FitAll, Solves, Needs, RankedAt, Ranks, Stays, CaughtAt, Trap}
-use Rattle.exact_values.proofs.Decided.{Decided, dec-all, dec-both, dec-either, dec-eq, dec-false, dec-le, dec-lt, dec-not, dec-some, not-all, none-all, tally, tally-more, tally-most}
+use Rattle.exact_values.proofs.Arena.{Some, Some-weaker, SolvedAt, FitAll, Solves, Needs, RankedAt, Ranks, Stays}
+use Rattle.exact_values.proofs.Arena.{CaughtAt, Trap}
+use Rattle.exact_values.proofs.Decided.{Decided, dec-all, dec-both, dec-either, dec-eq, dec-false, dec-le, dec-lt}
+use Rattle.exact_values.proofs.Decided.{dec-not, dec-some, not-all, none-all, tally, tally-more, tally-most}
 
 module _ (q : Query) (choices : ℕ → List Distribution) (v : ℕ → ℕ) where
   -- an edge to a greater value, or to an equal one in a set

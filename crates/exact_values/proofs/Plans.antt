@@ -1,5 +1,6 @@
 -- The plans of exact values.
-use Rattle.std.proofs.Common.{◌≡◌, ℕ, suc, ◌+◌, ◌*◌, ◌^◌, ◌<◌, ◌≤◌, ◌⊎◌, Bool, true, false, List, [], ◌∷◌, length, map, take, drop, sum, get_or, arith, refl, sym, subst, inl, inr, ◌∙◌, Option, Some, None}
+use Rattle.std.proofs.Common.{◌≡◌, ℕ, suc, ◌+◌, ◌*◌, ◌^◌, ◌<◌, ◌≤◌, ◌⊎◌, Bool, true, false, List, [], ◌∷◌, length, map}
+use Rattle.std.proofs.Common.{take, drop, sum, get_or, arith, refl, sym, subst, inl, inr, ◌∙◌, Option, Some, None}
 use Rattle.std.specs.Prelude.{slice_index, slice_index_or}
 use Rattle.std.specs.List.{AllByRecursion, range_with_len}
 use Rattle.std.specs.Bool.{if◌then◌else◌}
@@ -15,7 +16,8 @@ use Rattle.game_model.specs.Values.{denominator}
 use Rattle.game_model.specs.Plans.{planned, planned_place, same_side, numerator_under}
 use Rattle.game_model.specs.Ranks.{IsRankedChoice}
 use Rattle.game_model.proofs.Each.{AllByRecursion-weaker, AllByRecursion-at}
-use Rattle.game_model.proofs.Choices.{IsChoiceOf, IsChoiceOf-choice_of, AreChoicesOf-choices_of, AreChoicesOf-planned, denominator-pos}
+use Rattle.game_model.proofs.Choices.{IsChoiceOf, IsChoiceOf-choice_of, AreChoicesOf-choices_of, AreChoicesOf-planned}
+use Rattle.game_model.proofs.Choices.{denominator-pos}
 use Rattle.game_laws.proofs.Planned.{one-at, planned_place-given, rank-most}
 use Rattle.game_laws.proofs.Horizon.{Certified, certified-reached}
 use Rattle.strategies.specs.Strategies.{Strategy, IsStrategyOf, reach, by_plan}

@@ -1,5 +1,6 @@
 -- A question in which a state has two sets of choices together is solved by the better of the two.
-use Rattle.std.proofs.Common.{◌≡◌, ℕ, suc, ◌+◌, ◌-◌, ◌*◌, ◌<◌, ◌≤◌, List, [], ◌∷◌, length, get_or, arith, sym, ap, subst, inl, inr, ◌⊎◌, ◌∙◌}
+use Rattle.std.proofs.Common.{◌≡◌, ℕ, suc, ◌+◌, ◌-◌, ◌*◌, ◌<◌, ◌≤◌, List, [], ◌∷◌, length, get_or, arith, sym, ap}
+use Rattle.std.proofs.Common.{subst, inl, inr, ◌⊎◌, ◌∙◌}
 use Rattle.std.specs.List.{AllByRecursion}
 use Rattle.std.proofs.lemmas.Bool.{cases_lt, cases_eq, cases_Bool}
 use Rattle.std.proofs.lemmas.List.Sums.{sum_by-cons}
@@ -13,7 +14,8 @@ use Rattle.game_model.specs.Values.{weighted_sum}
 use Rattle.game_model.proofs.Each.{AllByRecursion-weaker, AllByRecursion-at, AllByRecursion-both}
 use Rattle.exact_values.proofs.Sums.{weight, sums-in_order, sum-affine, sum-multiple, sum-constant}
 use Rattle.exact_values.proofs.Descent.{Fits, Held, Enough, Further, Onward, Meets, nowhere, compared, same-difference}
-use Rattle.exact_values.proofs.Arena.{Some, Some-both, Free, SolvedAt, FitAll, Solves, Needs, RankedAt, Ranks, Exact, Stays, CaughtAt, Trap}
+use Rattle.exact_values.proofs.Arena.{Some, Some-both, Free, SolvedAt, FitAll, Solves, Needs, RankedAt, Ranks, Exact}
+use Rattle.exact_values.proofs.Arena.{Stays, CaughtAt, Trap}
 use Rattle.exact_values.proofs.Layers.{ranks-of}
 
 -- some successor is greater where the average is

@@ -1,10 +1,12 @@
 -- The question that is said to be posed is the one that is posed.
-use Rattle.std.proofs.Common.{◌≡◌, ◌≢◌, ◌∙◌, ◌<◌, ◌+◌, inl, inr, ℕ, suc, Bool, true, false, cond, List, [], ◌∷◌, ◌++◌, length, get_or, refl, sym, ap, subst, arith, Option, Some, None, Result, Ok, Err}
+use Rattle.std.proofs.Common.{◌≡◌, ◌≢◌, ◌∙◌, ◌<◌, ◌+◌, inl, inr, ℕ, suc, Bool, true, false, cond, List, [], ◌∷◌, ◌++◌}
+use Rattle.std.proofs.Common.{length, get_or, refl, sym, ap, subst, arith, Option, Some, None, Result, Ok, Err}
 use Rattle.std.specs.Prelude.{find, not, ◌&&◌, All, slice_index_or}
 use Rattle.std.proofs.lemmas.Bool.{cases_Bool, cases_lt}
 use Rattle.std.proofs.Math.ListN.{get_or-eq_default}
 use Rattle.std.proofs.lemmas.List.Elements.{All-nil, All-cons}
-use Rattle.std.proofs.lemmas.List.FromFn.{get_or-map-range_with_len, length-map-range_with_len, map-range_with_len_more, fill_by_all}
+use Rattle.std.proofs.lemmas.List.FromFn.{get_or-map-range_with_len, length-map-range_with_len, map-range_with_len_more}
+use Rattle.std.proofs.lemmas.List.FromFn.{fill_by_all}
 use Rattle.game_model.specs.declared.game.Side.{Side}
 use Rattle.game_model.specs.declared.game.Side.TheVariants.{Max}
 use Rattle.game_model.specs.Game.{Distribution}
@@ -15,7 +17,9 @@ use Rattle.rpatl_syntax.specs.Formula.{Tree}
 use Rattle.formula_sets.specs.declared.fault.PoseFault.{PoseFault}
 use Rattle.formula_sets.specs.Truth.{holds, unknown_label}
 use Rattle.formula_sets.specs.Sides.{side_of, unknown_player}
-use Rattle.formula_sets.specs.Posing.{Posing, IsSetUp, Poses, init, formula_labels, formula_players, neither_holds, at_states, question_with, question_of, some_state, known_with, initial_said, made_of, pose_said}
+use Rattle.formula_sets.specs.Posing.{Posing, IsSetUp, Poses, init, formula_labels, formula_players, neither_holds}
+use Rattle.formula_sets.specs.Posing.{at_states, question_with, question_of, some_state, known_with, initial_said}
+use Rattle.formula_sets.specs.Posing.{made_of, pose_said}
 
 -- 1. What is said at each state.
 

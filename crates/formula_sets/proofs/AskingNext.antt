@@ -1,5 +1,6 @@
 -- The question with `X` that is said to be posed is the one that is posed.
-use Rattle.std.proofs.Common.{◌≡◌, ◌∙◌, ◌≤◌, ℕ, true, false, cond, inl, inr, List, length, get_or, refl, sym, ap, subst, arith, Result, Ok}
+use Rattle.std.proofs.Common.{◌≡◌, ◌∙◌, ◌≤◌, ℕ, true, false, cond, inl, inr, List, length, get_or, refl, sym, ap, subst}
+use Rattle.std.proofs.Common.{arith, Result, Ok}
 use Rattle.std.specs.Prelude.{All, slice_index_or}
 use Rattle.std.proofs.Math.ListN.{get_or-eq_default}
 use Rattle.std.proofs.lemmas.Bool.{cases_lt}
@@ -12,8 +13,10 @@ use Rattle.label_reader.specs.Owners.{Ownership}
 use Rattle.rpatl_syntax.specs.Formula.{Tree}
 use Rattle.formula_sets.specs.declared.fault.PoseFault.{PoseFault}
 use Rattle.formula_sets.specs.Truth.{holds}
-use Rattle.formula_sets.specs.Posing.{NextPosing, PosesNext, at_states, opening_at, unmarked, next_question_of, initial_said, made_of, pose_next_said}
-use Rattle.formula_sets.proofs.Asking.{at_states-at, length-at_states, made-found, initial-again, set_up, is_begun, question-same}
+use Rattle.formula_sets.specs.Posing.{NextPosing, PosesNext, at_states, opening_at, unmarked, next_question_of}
+use Rattle.formula_sets.specs.Posing.{initial_said, made_of, pose_next_said}
+use Rattle.formula_sets.proofs.Asking.{at_states-at, length-at_states, made-found, initial-again, set_up, is_begun}
+use Rattle.formula_sets.proofs.Asking.{question-same}
 
 pub never_marked : (n s : ℕ) → slice_index_or (unmarked n) s false ≡ false
 never_marked n s = elim (cases_lt s n) [

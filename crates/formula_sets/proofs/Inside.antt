@@ -1,5 +1,6 @@
 -- The initial states are states.
-use Rattle.std.proofs.Common.{◌≡◌, ◌<◌, ◌≤◌, ◌+◌, ℕ, Bool, true, false, List, [], ◌∷◌, length, All, if◌then◌else◌, bytes_eq, arith}
+use Rattle.std.proofs.Common.{◌≡◌, ◌<◌, ◌≤◌, ◌+◌, ℕ, Bool, true, false, List, [], ◌∷◌, length, All, if◌then◌else◌}
+use Rattle.std.proofs.Common.{bytes_eq, arith}
 use Rattle.std.specs.List.{AllByRecursion}
 use Rattle.std.proofs.lemmas.List.Elements.{All-from_recursion, recursion_from_All}
 use Rattle.label_reader.specs.Labels.{Label, Labelling, IsLabelling, marks_of, marked_from, states_with}

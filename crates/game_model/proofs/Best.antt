@@ -1,9 +1,12 @@
 -- Laws of optima and of weighted sums.
-use Rattle.std.proofs.Common.{◌≡◌, ℕ, zero, suc, ◌+◌, ◌*◌, ◌<◌, ◌≤◌, List, [], ◌∷◌, length, fold, sum_by, arith, refl, ap, inl, inr, ◌⊎◌, max, min, get_or}
+use Rattle.std.proofs.Common.{◌≡◌, ℕ, zero, suc, ◌+◌, ◌*◌, ◌<◌, ◌≤◌, List, [], ◌∷◌, length, fold, sum_by, arith, refl}
+use Rattle.std.proofs.Common.{ap, inl, inr, ◌⊎◌, max, min, get_or}
 use Rattle.std.specs.List.{AllByRecursion}
 use Rattle.std.proofs.lemmas.List.Sums.{sum_by-cons}
 use Rattle.std.proofs.lemmas.Bool.{cases_lt}
-use Rattle.std.proofs.Math.Nat.{mul-le-mul_left, max-le, add-max-add_right, add-min-add_right, max-eq_left, max-eq_right, min-eq_left, min-eq_right, le-max_left, le-max_right, min-le_left, min-le_right}
+use Rattle.std.proofs.Math.Nat.{mul-le-mul_left, max-le, add-max-add_right, add-min-add_right, max-eq_left}
+use Rattle.std.proofs.Math.Nat.{max-eq_right, min-eq_left, min-eq_right, le-max_left, le-max_right, min-le_left}
+use Rattle.std.proofs.Math.Nat.{min-le_right}
 use Rattle.game_model.specs.declared.game.Edge.{Edge}
 use Rattle.game_model.specs.declared.game.Side.{Side}
 use Rattle.game_model.specs.declared.game.Side.TheVariants.{Max, Min}

@@ -1,7 +1,9 @@
 -- The successors of a run of states: where they lie in the lists, and that they are states.
-use Rattle.std.proofs.Common.{◌≡◌, ℕ, ◌+◌, ◌-◌, ◌<◌, ◌≤◌, List, [], ◌∷◌, length, map, take, drop, get_or, arith, zero, suc, subst, ◌∙◌, ap}
+use Rattle.std.proofs.Common.{◌≡◌, ℕ, ◌+◌, ◌-◌, ◌<◌, ◌≤◌, List, [], ◌∷◌, length, map, take, drop, get_or, arith, zero}
+use Rattle.std.proofs.Common.{suc, subst, ◌∙◌, ap}
 use Rattle.std.specs.Prelude.{slice_index, flat_map, All}
-use Rattle.std.proofs.lemmas.List.Elements.{All-nil, All-append, All-map, All-get_or, All-from_get_or, All-take, All-drop}
+use Rattle.std.proofs.lemmas.List.Elements.{All-nil, All-append, All-map, All-get_or, All-from_get_or, All-take}
+use Rattle.std.proofs.lemmas.List.Elements.{All-drop}
 use Rattle.std.proofs.lemmas.List.{get_or_default}
 use Rattle.game_model.specs.declared.game.Edge.{Edge}
 use Rattle.game_model.specs.Game.{Distribution, IsGame, choices_of, no_distribution, all_successors, successors_between}

@@ -1,5 +1,6 @@
 -- What the laws need of choices: their weights sum to their totals, which divide the denominator.
-use Rattle.std.proofs.Common.{◌≡◌, ℕ, zero, suc, ◌*◌, ◌/◌, ◌<◌, ◌≤◌, List, [], ◌∷◌, length, arith, sym, subst, sum_by, inl, inr, true, false, Option, take, drop}
+use Rattle.std.proofs.Common.{◌≡◌, ℕ, zero, suc, ◌*◌, ◌/◌, ◌<◌, ◌≤◌, List, [], ◌∷◌, length, arith, sym, subst, sum_by}
+use Rattle.std.proofs.Common.{inl, inr, true, false, Option, take, drop}
 use Rattle.std.specs.Int.{◌∣◌}
 use Rattle.std.specs.List.{AllByRecursion}
 use Rattle.std.specs.Prelude.{slice_index_or}

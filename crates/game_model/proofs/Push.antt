@@ -1,5 +1,6 @@
 -- A choice more.
-use Rattle.std.proofs.Common.{◌≡◌, ℕ, suc, ◌+◌, ◌-◌, ◌%◌, ◌^◌, ◌<◌, List, [], ◌∷◌, ◌++◌, length, map, take, arith, refl, sym, ◌∙◌, ap, subst, inl, inr}
+use Rattle.std.proofs.Common.{◌≡◌, ℕ, suc, ◌+◌, ◌-◌, ◌%◌, ◌^◌, ◌<◌, List, [], ◌∷◌, ◌++◌, length, map, take, arith, refl}
+use Rattle.std.proofs.Common.{sym, ◌∙◌, ap, subst, inl, inr}
 use Rattle.std.specs.Prelude.{slice_index, ◌==◌}
 use Rattle.std.specs.Bool.{if◌then◌else◌}
 use Rattle.std.proofs.lemmas.Bool.Decides.{nat_tests}
@@ -8,12 +9,14 @@ use Rattle.std.proofs.lemmas.List.{get_or_push, length_push, length-append, leng
 use Rattle.game_model.specs.declared.game.Edge.{Edge}
 use Rattle.game_model.specs.Game.{IsDistribution, total_of}
 use Rattle.game_model.specs.Span.{span}
-use Rattle.game_model.specs.Flat.{edge_at, kept_total, total_with, choice_with, distribution_at, game_at, under_way_at, last_of, IsAscending, AreFlatLists}
+use Rattle.game_model.specs.Flat.{edge_at, kept_total, total_with, choice_with, distribution_at, game_at, under_way_at}
+use Rattle.game_model.specs.Flat.{last_of, IsAscending, AreFlatLists}
 use Rattle.game_model.specs.Draft.{Draft, distribution_of, with_choice}
 use Rattle.game_model.specs.Growing.{IsLonger, IsSameBelow, HasHighWords}
 use Rattle.game_model.proofs.Span.{span-more}
 use Rattle.game_model.proofs.Longer.{taken-at, taken-length}
-use Rattle.game_model.proofs.Same.{last-push, push-below, ascending-push, distribution-same, game-same, under_way-same, edges-added}
+use Rattle.game_model.proofs.Same.{last-push, push-below, ascending-push, distribution-same, game-same, under_way-same}
+use Rattle.game_model.proofs.Same.{edges-added}
 
 abbrev pub draft_at : List ℕ → List ℕ → List ℕ → List ℕ → List ℕ → List ℕ → Draft
 draft_at fc fe totals to low high =

@@ -1,11 +1,14 @@
 -- What the invariant of a row gives at a choice and an edge of the value.
-use Rattle.std.proofs.Common.{◌≡◌, ℕ, ◌+◌, ◌-◌, ◌*◌, ◌^◌, ◌<◌, ◌≤◌, List, length, map, sum_by, get_or, arith, take, drop, sym, ◌∙◌, ap, subst}
+use Rattle.std.proofs.Common.{◌≡◌, ℕ, ◌+◌, ◌-◌, ◌*◌, ◌^◌, ◌<◌, ◌≤◌, List, length, map, sum_by, get_or, arith, take}
+use Rattle.std.proofs.Common.{drop, sym, ◌∙◌, ap, subst}
 use Rattle.std.specs.Prelude.{slice_index}
-use Rattle.std.proofs.lemmas.List.{same_lists, length-map, get_or-map, get_or-take, get_or-drop, length-take-le, length-drop}
+use Rattle.std.proofs.lemmas.List.{same_lists, length-map, get_or-map, get_or-take, get_or-drop, length-take-le}
+use Rattle.std.proofs.lemmas.List.{length-drop}
 use Rattle.std.proofs.lemmas.List.Sums.{get_or-le-sum_by}
 use Rattle.std.proofs.lemmas.Bool.Decides.{nat_tests}
 use Rattle.game_model.specs.declared.game.Edge.{Edge}
-use Rattle.game_model.specs.Game.{Distribution, IsDistribution, IsGame, choices_of, choice_among, no_distribution, no_edge}
+use Rattle.game_model.specs.Game.{Distribution, IsDistribution, IsGame, choices_of, choice_among, no_distribution}
+use Rattle.game_model.specs.Game.{no_edge}
 use Rattle.game_model.specs.Span.{span}
 use Rattle.game_model.specs.Flat.{edge_at, total_with, choice_with, distribution_at, game_at, last_of, IsLaidOut}
 use Rattle.game_model.specs.Row.{row_at, IsRow}

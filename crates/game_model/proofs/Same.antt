@@ -1,13 +1,16 @@
 -- Lists that agree where they are in use hold the same game.
-use Rattle.std.proofs.Common.{◌≡◌, ℕ, ◌+◌, ◌-◌, ◌*◌, ◌/◌, ◌%◌, ◌^◌, ◌<◌, ◌≤◌, List, [], ◌∷◌, ◌++◌, length, get_or, map, arith, ◌∙◌, ap, subst, inl, inr}
+use Rattle.std.proofs.Common.{◌≡◌, ℕ, ◌+◌, ◌-◌, ◌*◌, ◌/◌, ◌%◌, ◌^◌, ◌<◌, ◌≤◌, List, [], ◌∷◌, ◌++◌, length, get_or, map}
+use Rattle.std.proofs.Common.{arith, ◌∙◌, ap, subst, inl, inr}
 use Rattle.std.specs.Prelude.{slice_index}
 use Rattle.std.proofs.lemmas.Bool.{cases_lt}
-use Rattle.std.proofs.lemmas.List.{get_or_append_left, get_or_push, length_push, get_or-append-add, get_or-map, get_or_default, same_lists}
+use Rattle.std.proofs.lemmas.List.{get_or_append_left, get_or_push, length_push, get_or-append-add, get_or-map}
+use Rattle.std.proofs.lemmas.List.{get_or_default, same_lists}
 use Rattle.game_model.specs.declared.game.Edge.{Edge}
 use Rattle.game_model.specs.Game.{no_edge}
 use Rattle.game_model.specs.Span.{span}
 use Rattle.game_model.specs.Growing.{HasHighWords}
-use Rattle.game_model.specs.Flat.{edge_at, choice_with, distribution_at, choices_at, game_at, under_way_at, last_of, IsAscending, IsLaidOut}
+use Rattle.game_model.specs.Flat.{edge_at, choice_with, distribution_at, choices_at, game_at, under_way_at, last_of}
+use Rattle.game_model.specs.Flat.{IsAscending, IsLaidOut}
 use Rattle.game_model.proofs.Span.{length-span, get_or-span, span-same}
 
 -- an entry more

@@ -1,5 +1,6 @@
 -- Spans: their elements and length, their parts, one more, several in a row, and two that are the same.
-use Rattle.std.proofs.Common.{◌≡◌, ℕ, zero, suc, ◌+◌, ◌-◌, ◌<◌, ◌≤◌, List, [], ◌∷◌, ◌++◌, length, map, take, drop, get_or, arith, refl, sym, ◌∙◌, ap}
+use Rattle.std.proofs.Common.{◌≡◌, ℕ, zero, suc, ◌+◌, ◌-◌, ◌<◌, ◌≤◌, List, [], ◌∷◌, ◌++◌, length, map, take, drop}
+use Rattle.std.proofs.Common.{get_or, arith, refl, sym, ◌∙◌, ap}
 use Rattle.std.proofs.lemmas.List.{get_or_default, get_or-take, get_or-drop, same_lists, length-take-le, length-drop}
 use Rattle.std.specs.Prelude.{slice_index, flat_map}
 use Rattle.game_model.specs.Span.{span}

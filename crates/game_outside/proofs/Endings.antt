@@ -1,5 +1,6 @@
 -- Bytes that are cut at the first LF.
-use Rattle.std.proofs.Common.{◌≡◌, ◌≤◌, ◌+◌, ◌-◌, ℕ, List, [], ◌∷◌, ◌++◌, take, drop, Some, None, sym, ap, ◌∙◌, arith, add-one}
+use Rattle.std.proofs.Common.{◌≡◌, ◌≤◌, ◌+◌, ◌-◌, ℕ, List, [], ◌∷◌, ◌++◌, take, drop, Some, None, sym, ap, ◌∙◌, arith}
+use Rattle.std.proofs.Common.{add-one}
 use Rattle.std.proofs.lemmas.List.{drop-drop, drop-take}
 use Rattle.memchr.specs.Find.{IsFirstByte, is_byte}
 use Rattle.text_lines.proofs.Endings as ending

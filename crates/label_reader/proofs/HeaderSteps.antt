@@ -1,5 +1,7 @@
 -- One item more in a header.
-use Rattle.std.proofs.Common.{◌≡◌, ◌<◌, ◌≤◌, ◌+◌, ◌⊎◌, ℕ, suc, zero, Bool, true, false, cond, List, [], ◌∷◌, ◌++◌, length, get_or, Option, Some, None, Ok, Err, Vec, Global, refl, sym, ap, ◌∙◌, subst, inl, inr, arith, eqb, ltb, leb, nat_eq, is_some, bytes_eq, ◌||◌}
+use Rattle.std.proofs.Common.{◌≡◌, ◌<◌, ◌≤◌, ◌+◌, ◌⊎◌, ℕ, suc, zero, Bool, true, false, cond, List, [], ◌∷◌, ◌++◌}
+use Rattle.std.proofs.Common.{length, get_or, Option, Some, None, Ok, Err, Vec, Global, refl, sym, ap, ◌∙◌, subst, inl}
+use Rattle.std.proofs.Common.{inr, arith, eqb, ltb, leb, nat_eq, is_some, bytes_eq, ◌||◌}
 use Rattle.std.proofs.lemmas.Bool.{cases_Bool}
 use Rattle.std.specs.Option.{option_map}
 use Rattle.std.specs.HashMap.{get}
@@ -12,7 +14,8 @@ use Rattle.text_lines.specs.Text.{saturated}
 use Rattle.label_reader.specs.declared.kind.FileKind.{FileKind}
 use Rattle.label_reader.specs.declared.faults.LabCause.TheVariants.{OverLimit, DoubleIndex, DoubleName}
 use Rattle.label_reader.specs.Limits.{greatest_index}
-use Rattle.label_reader.specs.Header.{Item, place_of, has_index, has_name, passes_limit, most_items, with_item, saturated_item}
+use Rattle.label_reader.specs.Header.{Item, place_of, has_index, has_name, passes_limit, most_items, with_item}
+use Rattle.label_reader.specs.Header.{saturated_item}
 use Rattle.label_reader.specs.inside.Placed.{item_at, items_of, indices_of, Places, AreSingle, ArePlaced}
 use Rattle.label_reader.specs.Named.{names_of}
 use Rattle.label_reader.proofs.Indexed.{place_of-push_other, place_of-push_new}

@@ -1,10 +1,12 @@
 -- A header has an item.
-use Rattle.std.proofs.Common.{◌≡◌, ◌<◌, ◌≤◌, ℕ, Bool, true, false, cond, List, [], ◌∷◌, ◌++◌, length, Option, Some, None, Ok, Err, Result, sym, ap, refl, arith}
+use Rattle.std.proofs.Common.{◌≡◌, ◌<◌, ◌≤◌, ℕ, Bool, true, false, cond, List, [], ◌∷◌, ◌++◌, length, Option, Some}
+use Rattle.std.proofs.Common.{None, Ok, Err, Result, sym, ap, refl, arith}
 use Rattle.std.proofs.lemmas.List.{length-append}
 use Rattle.label_reader.specs.declared.kind.FileKind.{FileKind}
 use Rattle.label_reader.specs.declared.faults.LabCause.{LabCause}
 use Rattle.label_reader.specs.declared.faults.LabCause.TheVariants.{OverLimit, DoubleIndex, DoubleName}
-use Rattle.label_reader.specs.Header.{Item, item_of, passes_limit, has_index, has_name, with_item, and_then, items_from, header_of}
+use Rattle.label_reader.specs.Header.{Item, item_of, passes_limit, has_index, has_name, with_item, and_then, items_from}
+use Rattle.label_reader.specs.Header.{header_of}
 
 -- an item that is added
 pub record IsAdded (kind : FileKind) (before : List Item) (read : Option Item) (more : List Item) : Type 0 where

@@ -1,5 +1,7 @@
 -- The header by cases is the header that the relation describes.
-use Rattle.std.proofs.Common.{◌≡◌, ◌≢◌, ◌<◌, ◌≤◌, ◌+◌, inl, inr, ℕ, Bool, true, false, cond, List, [], ◌∷◌, ◌++◌, length, Option, Some, None, Ok, Err, Result, sym, ap, ◌∙◌, refl, subst, arith, eqb, ltb, leb, is_some, bytes_eq, ◌||◌, append_assoc}
+use Rattle.std.proofs.Common.{◌≡◌, ◌≢◌, ◌<◌, ◌≤◌, ◌+◌, inl, inr, ℕ, Bool, true, false, cond, List, [], ◌∷◌, ◌++◌}
+use Rattle.std.proofs.Common.{length, Option, Some, None, Ok, Err, Result, sym, ap, ◌∙◌, refl, subst, arith, eqb, ltb}
+use Rattle.std.proofs.Common.{leb, is_some, bytes_eq, ◌||◌, append_assoc}
 use Rattle.std.proofs.lemmas.Bool.{and_parts, or_parts, eqb-false, ne_eqb, cases_Bool}
 use Rattle.std.specs.Option.{option_map}
 use Rattle.std.proofs.lemmas.Bool.Decides.{nat_tests}
@@ -10,7 +12,8 @@ use Rattle.text_lines.specs.Laws.{HasNo}
 use Rattle.label_reader.specs.declared.kind.FileKind.{FileKind}
 use Rattle.label_reader.specs.declared.faults.LabCause.{LabCause}
 use Rattle.label_reader.specs.Limits.{greatest_index}
-use Rattle.label_reader.specs.Header.{Item, split_first, quoted, is_name, item_named, item_parts, item_of, most_items, place_of, has_index, has_name, with_item, and_then, items_from, header_of}
+use Rattle.label_reader.specs.Header.{Item, split_first, quoted, is_name, item_named, item_parts, item_of, most_items}
+use Rattle.label_reader.specs.Header.{place_of, has_index, has_name, with_item, and_then, items_from, header_of}
 use Rattle.label_reader.specs.Denotes.{IsItem, AreItems, IsNew, AreApart, IsHeader}
 use Rattle.label_reader.proofs.Indexed.{none_behind}
 use Rattle.label_reader.proofs.HeaderSteps.{is_added, has_index-none}

@@ -1,5 +1,7 @@
 -- Names in a map, beside what stands at their places.
-use Rattle.std.proofs.Common.{◌≡◌, ◌<◌, ◌≤◌, ℕ, suc, zero, Bool, true, false, cond, List, [], ◌∷◌, length, replicate, get_or, Some, None, Vec, Global, All, refl, sym, ap, ◌∙◌, inl, inr, arith, is_some, bytes_eq, ltb, ◌||◌}
+use Rattle.std.proofs.Common.{◌≡◌, ◌<◌, ◌≤◌, ℕ, suc, zero, Bool, true, false, cond, List, [], ◌∷◌, length, replicate}
+use Rattle.std.proofs.Common.{get_or, Some, None, Vec, Global, All, refl, sym, ap, ◌∙◌, inl, inr, arith, is_some}
+use Rattle.std.proofs.Common.{bytes_eq, ltb, ◌||◌}
 use Rattle.std.proofs.lemmas.Bool.{cases_Bool}
 use Rattle.std.specs.List.{list_any, position_or_len}
 use Rattle.std.specs.Map.{keys_of, lookup}

@@ -1,5 +1,6 @@
 -- Owners by cases are those that the relation describes.
-use Rattle.std.proofs.Common.{◌≡◌, ◌<◌, inl, inr, ℕ, Bool, true, false, List, [], ◌∷◌, length, map, get_or, Option, Some, None, Ok, sym, ap, ◌∙◌, refl, subst, arith, eqb, is_some, ◌&&◌, ◌||◌}
+use Rattle.std.proofs.Common.{◌≡◌, ◌<◌, inl, inr, ℕ, Bool, true, false, List, [], ◌∷◌, length, map, get_or, Option}
+use Rattle.std.proofs.Common.{Some, None, Ok, sym, ap, ◌∙◌, refl, subst, arith, eqb, is_some, ◌&&◌, ◌||◌}
 use Rattle.std.proofs.lemmas.Bool.{and_parts, eqb-true, eq-eqb, or_cases}
 use Rattle.std.specs.Option.{unwrap_or}
 use Rattle.std.specs.List.{list_all, range_with_len}

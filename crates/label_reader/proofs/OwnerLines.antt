@@ -1,5 +1,6 @@
 -- A line of an owner file behind those before it.
-use Rattle.std.proofs.Common.{◌≡◌, ◌<◌, ◌++◌, ◌∷◌, [], ℕ, Bool, true, false, cond, List, length, get_or, set, All, Option, Some, None, Ok, Err, Result, MatchResult, sym, ◌∙◌, refl, subst}
+use Rattle.std.proofs.Common.{◌≡◌, ◌<◌, ◌++◌, ◌∷◌, [], ℕ, Bool, true, false, cond, List, length, get_or, set, All}
+use Rattle.std.proofs.Common.{Option, Some, None, Ok, Err, Result, MatchResult, sym, ◌∙◌, refl, subst}
 use Rattle.std.specs.Option.{unwrap_or}
 use Rattle.label_reader.specs.declared.kind.FileKind.TheVariants.{OwnerFile}
 use Rattle.label_reader.specs.declared.faults.LabCause.{LabCause}

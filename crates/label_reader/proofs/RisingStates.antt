@@ -1,5 +1,6 @@
 -- The states at which a label holds, as a rising list.
-use Rattle.std.proofs.Common.{◌≡◌, ◌<◌, ◌≤◌, ◌+◌, ℕ, suc, zero, Bool, true, false, List, [], ◌∷◌, length, get_or, sym, ap, ◌∙◌, refl, subst, arith, eqb, ◌||◌, add-one}
+use Rattle.std.proofs.Common.{◌≡◌, ◌<◌, ◌≤◌, ◌+◌, ℕ, suc, zero, Bool, true, false, List, [], ◌∷◌, length, get_or, sym}
+use Rattle.std.proofs.Common.{ap, ◌∙◌, refl, subst, arith, eqb, ◌||◌, add-one}
 use Rattle.std.proofs.lemmas.Bool.{eq-eqb}
 use Rattle.std.specs.List.{list_any}
 use Rattle.std.specs.List.Sorted.{IsStrictlyIncreasing}

@@ -1,5 +1,6 @@
 -- A line by cases is the line that the relation describes.
-use Rattle.std.proofs.Common.{◌≡◌, ◌<◌, ◌+◌, inl, inr, ℕ, Bool, true, false, cond, List, [], ◌∷◌, map, Option, Some, None, Ok, Err, Result, sym, ap, ◌∙◌, refl, subst, arith, eqb, ltb, is_some, ◌&&◌}
+use Rattle.std.proofs.Common.{◌≡◌, ◌<◌, ◌+◌, inl, inr, ℕ, Bool, true, false, cond, List, [], ◌∷◌, map, Option, Some}
+use Rattle.std.proofs.Common.{None, Ok, Err, Result, sym, ap, ◌∙◌, refl, subst, arith, eqb, ltb, is_some, ◌&&◌}
 use Rattle.std.proofs.lemmas.Bool.{and_parts, eqb-true, cases_Bool}
 use Rattle.std.specs.Option.{option_map, unwrap_or}
 use Rattle.std.specs.List.{list_all}
@@ -8,7 +9,8 @@ use Rattle.text_lines.specs.Text.{fields_of, number_of}
 use Rattle.label_reader.specs.declared.faults.LabCause.{LabCause}
 use Rattle.label_reader.specs.declared.faults.LabCause.TheVariants.{UnknownIndex, StateOutOfRange}
 use Rattle.label_reader.specs.Header.{Item, split_first, place_of, has_index}
-use Rattle.label_reader.specs.Lines.{StateLine, is_number, number_in, only_number, numbered, line_parts, state_line, known_line}
+use Rattle.label_reader.specs.Lines.{StateLine, is_number, number_in, only_number, numbered, line_parts, state_line}
+use Rattle.label_reader.specs.Lines.{known_line}
 use Rattle.label_reader.specs.Denotes.{Spells, AreNumbers, IsIndex, AreIndices, IsStateLine}
 use Rattle.label_reader.proofs.KnownLines.{line_with}
 use Rattle.label_reader.proofs.Splits.{split_first-found, split_first-again}

@@ -1,5 +1,6 @@
 -- What marks promise, kept from round to round.
-use Rattle.std.proofs.Common.{◌≡◌, ℕ, ◌<◌, ◌≤◌, Bool, true, false, List, arith, refl, sym, ap, ◌∙◌, le_trans, slice_index_or}
+use Rattle.std.proofs.Common.{◌≡◌, ℕ, ◌<◌, ◌≤◌, Bool, true, false, List, arith, refl, sym, ap, ◌∙◌, le_trans}
+use Rattle.std.proofs.Common.{slice_index_or}
 use Rattle.game_model.specs.Query.{Query, IsQuery, states}
 use Rattle.game_model.specs.Rounded.{down_step, IsSettled}
 use Rattle.game_model.proofs.Choices.{AreChoicesOf-choices_of}

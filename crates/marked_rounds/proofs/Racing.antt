@@ -1,5 +1,6 @@
 -- What a race leaves, from what its passes have seen.
-use Rattle.std.proofs.Common.{◌≡◌, ℕ, zero, suc, ◌+◌, ◌-◌, ◌<◌, ◌≤◌, List, arith, sym, subst, le_refl, le_trans, add-one}
+use Rattle.std.proofs.Common.{◌≡◌, ℕ, zero, suc, ◌+◌, ◌-◌, ◌<◌, ◌≤◌, List, arith, sym, subst, le_refl, le_trans}
+use Rattle.std.proofs.Common.{add-one}
 use Rattle.game_model.specs.Game.{choices_of}
 use Rattle.game_model.specs.Query.{Query, IsQuery, states}
 use Rattle.game_model.specs.Rounded.{down_step, down_steps, opening, IsBelow, IsSettled}

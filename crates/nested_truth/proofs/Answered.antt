@@ -1,5 +1,6 @@
 -- The answer to a formula, from the answers to its sides.
-use Rattle.std.proofs.Common.{◌≡◌, ◌∙◌, ◌<◌, ◌≤◌, ◌+◌, ◌-◌, ◌*◌, ◌^◌, ℕ, suc, List, length, get_or, arith, sym, ap, subst, Result, Ok, Err}
+use Rattle.std.proofs.Common.{◌≡◌, ◌∙◌, ◌<◌, ◌≤◌, ◌+◌, ◌-◌, ◌*◌, ◌^◌, ℕ, suc, List, length, get_or, arith, sym, ap}
+use Rattle.std.proofs.Common.{subst, Result, Ok, Err}
 use Rattle.std.specs.Prelude.{All, IfOk}
 use Rattle.std.specs.List.{range_with_len}
 use Rattle.std.proofs.Math.Nat.{mul-le-mul_left, mul-le-mul_right}
@@ -21,7 +22,8 @@ use Rattle.verdicts.specs.declared.verdict.Verdict.TheVariants.{Undecided}
 use Rattle.nested_truth.specs.declared.judging.Judged.{Judged}
 use Rattle.formula_sets.specs.Posing.{Model}
 use Rattle.nested_truth.specs.Truth.{Valuation, IsTruth, states, holds, everywhere}
-use Rattle.nested_truth.specs.Bands.{Band, Known, known, exactly, negated, judgement, undecided_at, undecided_in, verdict_at}
+use Rattle.nested_truth.specs.Bands.{Band, Known, known, exactly, negated, judgement, undecided_at, undecided_in}
+use Rattle.nested_truth.specs.Bands.{verdict_at}
 use Rattle.nested_truth.specs.Runs.{AreFoundBy, AreRaced, pessimistic, optimistic, mirrored}
 use Rattle.nested_truth.specs.Open.{IsOpenBy}
 use Rattle.nested_truth.specs.Nested.{IsNested}

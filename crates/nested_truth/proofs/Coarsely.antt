@@ -1,5 +1,6 @@
 -- Bounds that runs find say at least what coarse bounds of the same formula say, whose sides are known no better.
-use Rattle.std.proofs.Common.{◌≡◌, ◌∙◌, ◌<◌, ◌≤◌, ◌+◌, ◌-◌, ◌*◌, ◌/◌, ◌^◌, ℕ, Bool, true, false, List, length, arith, sym, ap, subst, refl}
+use Rattle.std.proofs.Common.{◌≡◌, ◌∙◌, ◌<◌, ◌≤◌, ◌+◌, ◌-◌, ◌*◌, ◌/◌, ◌^◌, ℕ, Bool, true, false, List, length, arith}
+use Rattle.std.proofs.Common.{sym, ap, subst, refl}
 use Rattle.std.specs.Prelude.{slice_index}
 use Rattle.std.specs.Bool.{if◌then◌else◌}
 use Rattle.std.proofs.Math.Nat.{mul-le-mul_left, one-le-pow, le_of_mul-le-mul_left, lt_of_mul-lt-mul_left}
@@ -32,7 +33,8 @@ use Rattle.nested_truth.specs.Runs.{AreRaced, AreSwept, AreFoundBy, pessimistic,
 use Rattle.nested_truth.specs.Sound.{IsAround, IsBetween}
 use Rattle.nested_truth.specs.Coarse.{AreStepped, AreCoarseBy, IsFiner}
 use Rattle.nested_truth.proofs.Posed.{is_query}
-use Rattle.nested_truth.proofs.Stepped.{IsRounding, IsUnder, down-rounding, up-rounding, steps-rise, marked-units, down_steps-most}
+use Rattle.nested_truth.proofs.Stepped.{IsRounding, IsUnder, down-rounding, up-rounding, steps-rise, marked-units}
+use Rattle.nested_truth.proofs.Stepped.{down_steps-most}
 use Rattle.nested_truth.proofs.Sharper.{IsSharper, test_of, test-more, sharper, nearer}
 use Rattle.nested_truth.proofs.Looked.{IsLookedAt, lower-valuation, upper-valuation, asked-lower, asked-upper}
 use Rattle.nested_truth.proofs.Finer.{stepped-by, down-by, swapped_down-by}

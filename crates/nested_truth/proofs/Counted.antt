@@ -1,5 +1,6 @@
 -- What bounds say of the states below one, and at how many they leave a threshold undecided.
-use Rattle.std.proofs.Common.{◌≡◌, ◌∙◌, ◌≤◌, ◌+◌, ◌*◌, ℕ, Bool, true, false, cond, List, [], ◌∷◌, ◌++◌, arith, sym, ap, refl, add-zero}
+use Rattle.std.proofs.Common.{◌≡◌, ◌∙◌, ◌≤◌, ◌+◌, ◌*◌, ℕ, Bool, true, false, cond, List, [], ◌∷◌, ◌++◌, arith, sym, ap}
+use Rattle.std.proofs.Common.{refl, add-zero}
 use Rattle.std.specs.Prelude.{count_by}
 use Rattle.std.specs.Int.{from_bool}
 use Rattle.std.specs.List.{range_with_len}

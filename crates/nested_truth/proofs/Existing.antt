@@ -1,5 +1,6 @@
 -- There is a truth: each formula is judged by the exact values of its question.
-use Rattle.std.proofs.Common.{◌≡◌, ◌∙◌, ◌<◌, ◌^◌, ◌*◌, ℕ, Bool, true, false, not, ◌&&◌, ◌||◌, arith, sym, ap, subst, refl, inl, inr}
+use Rattle.std.proofs.Common.{◌≡◌, ◌∙◌, ◌<◌, ◌^◌, ◌*◌, ℕ, Bool, true, false, not, ◌&&◌, ◌||◌, arith, sym, ap, subst}
+use Rattle.std.proofs.Common.{refl, inl, inr}
 use mathlib.Core.Path.{fun_ext}
 use Rattle.std.proofs.lemmas.Bool.{cases_lt}
 use Rattle.game_model.specs.Game.{IsGame}
@@ -16,7 +17,8 @@ use Rattle.rpatl_syntax.specs.Formula.{State, True, False, Label, Not, And, Or, 
 use Rattle.formula_sets.specs.Posing.{Model, next_question_of}
 use Rattle.bounded_rounds.specs.Exact.{next_numerator}
 use Rattle.verdicts.specs.Truth.{IsTrueOf}
-use Rattle.nested_truth.specs.Truth.{Valuation, IsTruth, IsTrueBy, states, holds, everywhere, question_by, dual_question_by}
+use Rattle.nested_truth.specs.Truth.{Valuation, IsTruth, IsTrueBy, states, holds, everywhere, question_by}
+use Rattle.nested_truth.specs.Truth.{dual_question_by}
 use Rattle.nested_truth.proofs.Posed.{is_query}
 use Rattle.exact_values.proofs.Decided.{Decided, dec-not, dec-lt, dec-le}
 use Rattle.exact_values.proofs.Deciding.{reaches-decided, exceeds-decided}

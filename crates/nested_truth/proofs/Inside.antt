@@ -1,5 +1,6 @@
 -- Formulas inside: what coarse bounds of them say, bounds that runs find say, too.
-use Rattle.std.proofs.Common.{◌≡◌, ◌<◌, ◌≤◌, ◌+◌, ℕ, zero, suc, Bool, true, false, cond, not, List, get_or, arith, subst, refl, add-one}
+use Rattle.std.proofs.Common.{◌≡◌, ◌<◌, ◌≤◌, ◌+◌, ℕ, zero, suc, Bool, true, false, cond, not, List, get_or, arith}
+use Rattle.std.proofs.Common.{subst, refl, add-one}
 use Rattle.std.specs.Prelude.{count_by, All}
 use Rattle.std.specs.List.{range_with_len}
 use Rattle.game_model.specs.Game.{IsGame}

@@ -1,6 +1,7 @@
 -- A run at a state where it looks whether its threshold is settled: what its bounds say of the threshold,
 -- so many down steps of the two questions do not say better.
-use Rattle.std.proofs.Common.{◌≡◌, ◌∙◌, ◌<◌, ◌≤◌, inl, inr, ◌+◌, ◌-◌, ◌*◌, ◌^◌, ℕ, Bool, true, false, List, length, get_or, arith, sym, ap, subst, le_trans}
+use Rattle.std.proofs.Common.{◌≡◌, ◌∙◌, ◌<◌, ◌≤◌, inl, inr, ◌+◌, ◌-◌, ◌*◌, ◌^◌, ℕ, Bool, true, false, List, length}
+use Rattle.std.proofs.Common.{get_or, arith, sym, ap, subst, le_trans}
 use Rattle.std.specs.Prelude.{slice_index}
 use Rattle.std.specs.List.{range_with_len}
 use Rattle.std.proofs.Math.Nat.{mul-le-mul_left, mul-le-mul_right, mul-pos, one-le-pow, le_of_mul-le-mul_left}

@@ -1,5 +1,6 @@
 -- More goals, fewer dead states and a greater opening table give no lesser rounded steps.
-use Rattle.std.proofs.Common.{◌≡◌, ◌<◌, ◌≤◌, ◌*◌, ◌/◌, ◌+◌, ◌-◌, ℕ, zero, suc, Bool, true, false, List, length, get_or, arith, subst, refl}
+use Rattle.std.proofs.Common.{◌≡◌, ◌<◌, ◌≤◌, ◌*◌, ◌/◌, ◌+◌, ◌-◌, ℕ, zero, suc, Bool, true, false, List, length, get_or}
+use Rattle.std.proofs.Common.{arith, subst, refl}
 use Rattle.std.specs.Bool.{if◌then◌else◌}
 use Rattle.std.proofs.Math.Nat.{div-lt_iff_lt-mul, le-div_iff_mul-le}
 use Rattle.game_model.specs.declared.game.Edge.{Edge}

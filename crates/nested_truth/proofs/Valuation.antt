@@ -1,5 +1,6 @@
 -- What the verdict of sound bounds says is the truth.
-use Rattle.std.proofs.Common.{◌≡◌, ◌∙◌, ◌<◌, ◌≤◌, ◌-◌, ◌*◌, ◌^◌, ℕ, Bool, true, false, not, List, length, arith, sym, ap, subst, refl}
+use Rattle.std.proofs.Common.{◌≡◌, ◌∙◌, ◌<◌, ◌≤◌, ◌-◌, ◌*◌, ◌^◌, ℕ, Bool, true, false, not, List, length, arith, sym}
+use Rattle.std.proofs.Common.{ap, subst, refl}
 use Rattle.std.specs.Prelude.{◌↔◌, slice_index}
 use Rattle.std.proofs.Math.Nat.{one-le-pow}
 use Rattle.game_model.specs.Game.{IsGame}
@@ -32,7 +33,8 @@ use Rattle.nested_truth.specs.Bands.{Band, Known, verdict_at, exactly, negated}
 use Rattle.nested_truth.specs.Runs.{AreFoundBy, mirrored}
 use Rattle.nested_truth.specs.Sound.{IsAround, IsBetween, IsRightOf}
 use Rattle.nested_truth.proofs.Posed.{is_query}
-use Rattle.nested_truth.proofs.Widened.{IsBounded, raced, swept, next-swept, negated-around, exactly-around, complement-at}
+use Rattle.nested_truth.proofs.Widened.{IsBounded, raced, swept, next-swept, negated-around, exactly-around}
+use Rattle.nested_truth.proofs.Widened.{complement-at}
 
 -- a verdict that is right of a fact, where the truth tells of it
 valuation-right : (v : Verdict) (truth : Bool) (P : Type 0) → (truth ≡ true) ↔ P → (v ≡ Yes → P)

@@ -1,5 +1,6 @@
 -- What is read is what a certificate in the text says, and all that one says is read.
-use Rattle.std.proofs.Common.{◌≡◌, ◌∙◌, ◌+◌, ℕ, Bool, true, false, cond, List, [], ◌∷◌, ◌++◌, length, Result, Ok, Err, refl, ap, sym, subst, arith}
+use Rattle.std.proofs.Common.{◌≡◌, ◌∙◌, ◌+◌, ℕ, Bool, true, false, cond, List, [], ◌∷◌, ◌++◌, length, Result, Ok, Err}
+use Rattle.std.proofs.Common.{refl, ap, sym, subst, arith}
 use Rattle.std.specs.Prelude.{All, IfOk}
 use Rattle.std.proofs.lemmas.List.Elements.{All-nil, All-cons, All-tail}
 use Rattle.text_lines.specs.Text.{lines_of, fields_of, significant, keep_line, is_nil}
@@ -9,7 +10,8 @@ use Rattle.plan_text.specs.declared.fault.PlanCause.{PlanCause}
 use Rattle.plan_text.specs.declared.fault.PlanCause.TheVariants.{NoCertificate}
 use Rattle.plan_text.specs.declared.version.Version.{Version}
 use Rattle.plan_text.specs.Entries.{Entry, IsInRange, entries_of}
-use Rattle.plan_text.specs.Said.{fault_at, then_at, header_said, is_heading, entries_from, certificate_from, entries_said, IsOutOfMemory}
+use Rattle.plan_text.specs.Said.{fault_at, then_at, header_said, is_heading, entries_from, certificate_from}
+use Rattle.plan_text.specs.Said.{entries_said, IsOutOfMemory}
 use Rattle.game_outside.specs.Answers.{AnswersOrWants}
 use Rattle.plan_text.specs.Certificate.{AreEntryLines, IsFirstLine, IsCertificate}
 use Rattle.plan_text.proofs.CertificatesReadBack.{keep_line-some}

@@ -1,5 +1,6 @@
 -- A state's line is read back.
-use Rattle.std.proofs.Common.{◌≡◌, ◌∙◌, ◌<◌, ◌^◌, ℕ, List, [], ◌∷◌, ◌++◌, Option, None, Some, Ok, true, false, refl, ap, arith, append_assoc}
+use Rattle.std.proofs.Common.{◌≡◌, ◌∙◌, ◌<◌, ◌^◌, ℕ, List, [], ◌∷◌, ◌++◌, Option, None, Some, Ok, true, false, refl, ap}
+use Rattle.std.proofs.Common.{arith, append_assoc}
 use Rattle.std.specs.Prelude.{◌==◌, decimal}
 use Rattle.std.proofs.lemmas.Bool.Decides.{nat_tests}
 use Rattle.text_lines.specs.Text.{lines_of, fields_of, number_of, is_nil}
@@ -9,7 +10,8 @@ use Rattle.plan_text.specs.Fixed.{fixed}
 use Rattle.plan_text.specs.Entries.{Entry, IsSmall, IsInRange}
 use Rattle.plan_text.specs.Written.{choice_text, behind_space, entry_text}
 use Rattle.plan_text.specs.Said.{units_of, choice_in, entry_in, is_small, is_in_range, judged, line_said}
-use Rattle.plan_text.proofs.WrittenFields.{spaced, AreFields, fields_of-spaced, lines_of-spaced, IsField-decimal, IsField-fixed, IsField-choice}
+use Rattle.plan_text.proofs.WrittenFields.{spaced, AreFields, fields_of-spaced, lines_of-spaced, IsField-decimal}
+use Rattle.plan_text.proofs.WrittenFields.{IsField-fixed, IsField-choice}
 use Rattle.plan_text.proofs.FieldsReadBack.{units_of-fixed, choice_in-choice_text}
 
 -- the fields behind the state

@@ -1,5 +1,6 @@
 -- An entry is judged as far as 64 bits go.
-use Rattle.std.proofs.Common.{◌≡◌, ◌<◌, ◌-◌, ◌^◌, ℕ, Bool, true, false, Option, Some, None, Ok, ap, ◌∙◌, refl, arith, leb, ◌&&◌}
+use Rattle.std.proofs.Common.{◌≡◌, ◌<◌, ◌-◌, ◌^◌, ℕ, Bool, true, false, Option, Some, None, Ok, ap, ◌∙◌, refl, arith}
+use Rattle.std.proofs.Common.{leb, ◌&&◌}
 use Rattle.std.specs.Option.{option_map}
 use Rattle.std.proofs.lemmas.Bool.Decides.{nat_tests}
 use Rattle.game_model.specs.Limits.{unit}

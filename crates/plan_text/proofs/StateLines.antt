@@ -1,5 +1,6 @@
 -- The lines of the states, one after another, and what stands behind them.
-use Rattle.std.proofs.Common.{◌≡◌, ◌<◌, ◌+◌, ℕ, Bool, true, false, cond, List, [], ◌∷◌, ◌++◌, length, Ok, Err, Result, ap, ◌∙◌, refl, arith, eqb, eq-eqb}
+use Rattle.std.proofs.Common.{◌≡◌, ◌<◌, ◌+◌, ℕ, Bool, true, false, cond, List, [], ◌∷◌, ◌++◌, length, Ok, Err, Result}
+use Rattle.std.proofs.Common.{ap, ◌∙◌, refl, arith, eqb, eq-eqb}
 use Rattle.std.proofs.lemmas.Bool.Decides.{nat_tests}
 use Rattle.text_lines.specs.Text.{fields_of, is_nil, keep_line, significant}
 use Rattle.plan_text.specs.declared.fault.PlanFault.{PlanFault}

@@ -1,5 +1,6 @@
 -- Predecessors are marked, one after another.
-use Rattle.std.proofs.Common.{◌≡◌, ℕ, ◌<◌, ◌⊎◌, Bool, true, List, [], length, refl, sym, ◌∙◌, subst, inl, inr, slice_index_or, get_or-set_other, get_or-set_same}
+use Rattle.std.proofs.Common.{◌≡◌, ℕ, ◌<◌, ◌⊎◌, Bool, true, List, [], length, refl, sym, ◌∙◌, subst, inl, inr}
+use Rattle.std.proofs.Common.{slice_index_or, get_or-set_other, get_or-set_same}
 use Rattle.std.specs.Prelude.{Contains, slice_set}
 use Rattle.std.proofs.lemmas.Bool.{cases_eq}
 use Rattle.std.proofs.lemmas.List.{get_or_default}

@@ -15,7 +15,8 @@ use Rattle.command_words.specs.Words.{Check}
 use Rattle.run_answers.specs.declared.status.Status.{Status}
 use Rattle.run_answers.specs.Printed.{output_of}
 use Rattle.asked_files.specs.declared.problem.Paths.TheVariants.{Unbounded}
-use Rattle.asked_files.specs.Problems.{Problem, OfReach, OfWithin, OfNext, OfNested, PosesProblem, posing_in, takes, takes_formula}
+use Rattle.asked_files.specs.Problems.{Problem, OfReach, OfWithin, OfNext, OfNested, PosesProblem, posing_in, takes}
+use Rattle.asked_files.specs.Problems.{takes_formula}
 use Rattle.rpatl_syntax.specs.Dual.{answered}
 use Rattle.question_reports.specs.Reports.{IsBracketReport}
 use Rattle.question_reports.specs.Solved.{IsSolved}

@@ -26,7 +26,8 @@ use Rattle.question_reports.specs.Solved.{IsSolved}
 use Rattle.question_reports.specs.Sweeps.{IsSweepReport}
 use Rattle.question_reports.specs.Nested.{IsNestedReport, inside_text}
 use Rattle.question_reports.proofs.Limits.{plan_line}
-use Rattle.run_answers.proofs.ShortLines.{entry_bytes, line_bytes, joined-short, decimal-short, report-short, certificate-short}
+use Rattle.run_answers.proofs.ShortLines.{entry_bytes, line_bytes, joined-short, decimal-short, report-short}
+use Rattle.run_answers.proofs.ShortLines.{certificate-short}
 use Rattle.run_answers.proofs.ShortSpellings.{most_spelled}
 
 -- the most bytes behind the report: the line of the formula, and the certificate

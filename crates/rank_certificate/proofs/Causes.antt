@@ -1,5 +1,6 @@
 -- Values, choices and ranks have one fault at most.
-use Rattle.std.proofs.Common.{◌≡◌, ℕ, ◌<◌, ◌≤◌, ◌⊎◌, List, arith, refl, ap, subst, sym, ◌∙◌, inl, inr, Option, Some, None}
+use Rattle.std.proofs.Common.{◌≡◌, ℕ, ◌<◌, ◌≤◌, ◌⊎◌, List, arith, refl, ap, subst, sym, ◌∙◌, inl, inr, Option, Some}
+use Rattle.std.proofs.Common.{None}
 use Rattle.std.specs.Prelude.{slice_index, slice_index_or}
 use Rattle.std.proofs.lemmas.Bool.{both_ways, cases_order}
 use Rattle.game_model.specs.declared.game.Side.{Side}
@@ -12,7 +13,8 @@ use Rattle.game_model.specs.Tables.{IsFirstOver}
 use Rattle.rank_certificate.specs.declared.check.RankCause.{RankCause}
 use Rattle.rank_certificate.specs.declared.check.RankCause.TheVariants.{Value, Choice, Short, NoStep}
 use Rattle.rank_certificate.specs.Ranking.{IsEnough, IsShort, NeedsRank, HasChoice, IsRankedAt}
-use Rattle.rank_certificate.specs.Faults.{IsMisvalued, HasToRank, IsNextToRank, IsLackOf, IsCauseAt, IsFirstUnranked, IsRankFault}
+use Rattle.rank_certificate.specs.Faults.{IsMisvalued, HasToRank, IsNextToRank, IsLackOf, IsCauseAt, IsFirstUnranked}
+use Rattle.rank_certificate.specs.Faults.{IsRankFault}
 use Rattle.rank_certificate.proofs.States.{given-choice, ranked-given, no_choice-unranked, misvalued-unranked}
 
 -- one number is the first

@@ -1,5 +1,6 @@
 -- The entries of the raised tables of one excess, at one state.
-use Rattle.std.proofs.Common.{◌≡◌, ℕ, zero, suc, ◌+◌, ◌-◌, ◌*◌, ◌^◌, ◌<◌, ◌≤◌, Bool, true, false, List, length, take, arith, refl, sym, subst, ap, ◌∙◌, le_refl, min}
+use Rattle.std.proofs.Common.{◌≡◌, ℕ, zero, suc, ◌+◌, ◌-◌, ◌*◌, ◌^◌, ◌<◌, ◌≤◌, Bool, true, false, List, length, take}
+use Rattle.std.proofs.Common.{arith, refl, sym, subst, ap, ◌∙◌, le_refl, min}
 use Rattle.std.specs.Prelude.{slice_index, slice_index_or}
 use Rattle.std.specs.Bool.{if◌then◌else◌}
 use Rattle.std.proofs.Math.Nat.{min-le_left, min-eq_left}

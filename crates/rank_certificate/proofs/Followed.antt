@@ -1,5 +1,6 @@
 -- Moves that are followed to a state of a layer.
-use Rattle.std.proofs.Common.{◌≡◌, ℕ, ◌+◌, ◌<◌, List, [], ◌∷◌, ◌++◌, length, arith, refl, sym, ◌∙◌, subst, inl, inr, Option, Some, None}
+use Rattle.std.proofs.Common.{◌≡◌, ℕ, ◌+◌, ◌<◌, List, [], ◌∷◌, ◌++◌, length, arith, refl, sym, ◌∙◌, subst, inl, inr}
+use Rattle.std.proofs.Common.{Option, Some, None}
 use Rattle.std.specs.Prelude.{slice_index_or, slice_set, unwrap_or, MatchOption}
 use Rattle.std.proofs.lemmas.List.Elements.{Contains-push_cases}
 use Rattle.game_model.specs.Game.{choices_of, choice_of, no_edge}

@@ -1,5 +1,6 @@
 -- Where choices are given: what the search finds are their layers, and the ranks vouch for them.
-use Rattle.std.proofs.Common.{◌≡◌, ℕ, zero, suc, ◌<◌, ◌⊎◌, List, length, arith, refl, subst, ◌∙◌, inl, inr, Option, Some, None}
+use Rattle.std.proofs.Common.{◌≡◌, ℕ, zero, suc, ◌<◌, ◌⊎◌, List, length, arith, refl, subst, ◌∙◌, inl, inr, Option}
+use Rattle.std.proofs.Common.{Some, None}
 use Rattle.std.specs.Prelude.{slice_index, slice_index_or, MatchOption, IsSome}
 use Rattle.std.proofs.lemmas.Bool.{cases_lt}
 use Rattle.game_model.specs.declared.game.Side.{Side}

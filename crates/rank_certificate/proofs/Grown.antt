@@ -1,5 +1,6 @@
 -- Layer 0, and a layer that is done: it begins the next one.
-use Rattle.std.proofs.Common.{◌≡◌, ℕ, zero, suc, ◌+◌, ◌<◌, ◌≤◌, List, [], length, append-nil, arith, refl, sym, ap, ◌∙◌, subst, inl, inr, Option, Some, None}
+use Rattle.std.proofs.Common.{◌≡◌, ℕ, zero, suc, ◌+◌, ◌<◌, ◌≤◌, List, [], length, append-nil, arith, refl, sym, ap, ◌∙◌}
+use Rattle.std.proofs.Common.{subst, inl, inr, Option, Some, None}
 use Rattle.std.specs.Prelude.{slice_index, slice_index_or}
 use Rattle.std.proofs.lemmas.Bool.{cases_lt}
 use Rattle.game_model.specs.declared.game.Side.{Side}
@@ -12,7 +13,8 @@ use Rattle.rank_certificate.specs.Carrying.{Carries, IsCarriedBy, IsCarried, IsC
 use Rattle.rank_certificate.specs.inside.Growth.{HasRankWithin, IsOpened, IsGrowth, IsApart, AreFollowed}
 use Rattle.rank_certificate.proofs.Found.{low-rank, rank-low, Some-none, low-inside, same-entry}
 use Rattle.predecessors.proofs.Successors.{edge-leads}
-use Rattle.rank_certificate.proofs.Carried.{Carries-more, IsCarried-more, carried-free, free-carried, suc-whole, next-parts}
+use Rattle.rank_certificate.proofs.Carried.{Carries-more, IsCarried-more, carried-free, free-carried, suc-whole}
+use Rattle.rank_certificate.proofs.Carried.{next-parts}
 
 -- where each state is apart or has a rank, the next layer begins
 module _ (q : Query) (value : ℕ → ℕ) (only : Option (List (Option ℕ))) (level begin : ℕ) (old : List ℕ)

@@ -1,5 +1,6 @@
 -- A layered plan has a choice only where a plan needs one, and its ranks are the layers of its choices.
-use Rattle.std.proofs.Common.{◌≡◌, ℕ, zero, suc, ◌<◌, ◌≤◌, ◌⊎◌, true, false, List, length, arith, refl, sym, subst, ◌∙◌, inl, inr, Option, Some, None, le_refl}
+use Rattle.std.proofs.Common.{◌≡◌, ℕ, zero, suc, ◌<◌, ◌≤◌, ◌⊎◌, true, false, List, length, arith, refl, sym, subst, ◌∙◌}
+use Rattle.std.proofs.Common.{inl, inr, Option, Some, None, le_refl}
 use Rattle.std.specs.Prelude.{slice_index, slice_index_or}
 use Rattle.game_model.specs.declared.game.Side.{Side}
 use Rattle.game_model.specs.declared.game.Side.TheVariants.{Max, Min}
@@ -7,7 +8,8 @@ use Rattle.game_model.specs.Game.{choices_of, choice_of, no_edge}
 use Rattle.game_model.specs.Query.{Query, IsQuery, states, is_goal, is_dead, side_at}
 use Rattle.rank_certificate.specs.Ranking.{IsEnough, NeedsRank}
 use Rattle.rank_certificate.specs.Layers.{IsAsked, LeadsInto, IsWithin, AreLayered}
-use Rattle.rank_certificate.specs.Carrying.{Carries, IsCarriedBy, IsCarried, IsFirstCarrying, IsChosen, IsChosenAt, IsLayeredPlan}
+use Rattle.rank_certificate.specs.Carrying.{Carries, IsCarriedBy, IsCarried, IsFirstCarrying, IsChosen, IsChosenAt}
+use Rattle.rank_certificate.specs.Carrying.{IsLayeredPlan}
 use Rattle.rank_certificate.proofs.States.{Some-one}
 use Rattle.rank_certificate.proofs.Causes.{asked-given, given-asked, always-asked}
 use Rattle.rank_certificate.proofs.Carried.{LeadsInto-more, carried-free, free-carried}

@@ -1,8 +1,10 @@
 -- A state that is looked at joins the next layer or stays, and what was found stays as it must be.
-use Rattle.std.proofs.Common.{◌≡◌, ℕ, ◌+◌, ◌<◌, ◌⊎◌, cond, List, [], ◌∷◌, ◌++◌, length, set, append_assoc, arith, refl, sym, ap, ◌∙◌, subst, inl, inr, Option, Some, None}
+use Rattle.std.proofs.Common.{◌≡◌, ℕ, ◌+◌, ◌<◌, ◌⊎◌, cond, List, [], ◌∷◌, ◌++◌, length, set, append_assoc, arith, refl}
+use Rattle.std.proofs.Common.{sym, ap, ◌∙◌, subst, inl, inr, Option, Some, None}
 use Rattle.std.specs.Prelude.{slice_index_or, is_some}
 use Rattle.std.proofs.lemmas.Bool.{cases_lt, cases_eq}
-use Rattle.std.proofs.lemmas.List.{length-set, get_or-set_same, get_or-set_other, get_or_append_left, get_or_push, length_push}
+use Rattle.std.proofs.lemmas.List.{length-set, get_or-set_same, get_or-set_other, get_or_append_left, get_or_push}
+use Rattle.std.proofs.lemmas.List.{length_push}
 use Rattle.std.proofs.lemmas.List.Sums.{sum_by-set}
 use Rattle.game_model.specs.Game.{choices_of, choice_of, no_edge}
 use Rattle.game_model.specs.Query.{Query, IsQuery, states, side_at}
@@ -11,7 +13,8 @@ use Rattle.rank_certificate.specs.Carrying.{IsCarriedBy, IsCarried, IsCarriedAt,
 use Rattle.rank_certificate.specs.inside.Growth.{HasRankWithin, IsGrowth, IsApart, Looks}
 use Rattle.rank_certificate.proofs.States.{Some-one}
 use Rattle.rank_certificate.proofs.Found.{low-rank, rank-low, Some-none, none-counts}
-use Rattle.rank_certificate.proofs.Carried.{IsCarriedBy-more, IsChosen-same, IsCarried-more, next-parts, next-whole, next-chosen}
+use Rattle.rank_certificate.proofs.Carried.{IsCarriedBy-more, IsChosen-same, IsCarried-more, next-parts, next-whole}
+use Rattle.rank_certificate.proofs.Carried.{next-chosen}
 
 -- what a state that is looked at leaves as it was
 pub Looks-many : (q : Query) (value : ℕ → ℕ) (only : Option (List (Option ℕ))) (level s : ℕ)

@@ -1,5 +1,6 @@
 -- There is one layered plan of a table, and one lower guess.
-use Rattle.std.proofs.Common.{◌≡◌, ℕ, zero, suc, ◌<◌, ◌≤◌, Bool, List, arith, sym, subst, ap, ◌∙◌, inl, inr, Option, Some, None}
+use Rattle.std.proofs.Common.{◌≡◌, ℕ, zero, suc, ◌<◌, ◌≤◌, Bool, List, arith, sym, subst, ap, ◌∙◌, inl, inr, Option}
+use Rattle.std.proofs.Common.{Some, None}
 use Rattle.std.specs.Prelude.{slice_index, slice_index_or}
 use Rattle.std.proofs.lemmas.Bool.{cases_lt}
 use Rattle.std.proofs.lemmas.List.{ext_get_or}
@@ -9,7 +10,8 @@ use Rattle.game_model.specs.Query.{Query, states, side_at}
 use Rattle.game_model.specs.Tables.{IsTable}
 use Rattle.rank_certificate.specs.Layers.{AreLayered}
 use Rattle.rank_certificate.specs.Carrying.{IsCarried, IsFirstCarrying, IsChosen, IsChosenAt, IsLayeredPlan}
-use Rattle.rank_certificate.specs.LowerGuess.{excess, raised_table, IsFirstAt, IsFirstGuess, IsRaised, IsUnraised, IsLowerGuess}
+use Rattle.rank_certificate.specs.LowerGuess.{excess, raised_table, IsFirstAt, IsFirstGuess, IsRaised, IsUnraised}
+use Rattle.rank_certificate.specs.LowerGuess.{IsLowerGuess}
 use Rattle.rank_certificate.proofs.Refused.{IsTable-one}
 
 first-least : (q : Query) (value : ℕ → ℕ) (among : ℕ → Type 0) (s c d : ℕ) → IsFirstCarrying q value None among s c

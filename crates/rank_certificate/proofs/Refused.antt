@@ -1,5 +1,6 @@
 -- Which raised tables can be ranked, and the first of them.
-use Rattle.std.proofs.Common.{◌≡◌, ℕ, zero, suc, ◌+◌, ◌-◌, ◌*◌, ◌^◌, ◌<◌, ◌≤◌, Bool, true, false, List, arith, refl, sym, subst, ap, ◌∙◌, le_refl, min, Option, add-one, inl, inr}
+use Rattle.std.proofs.Common.{◌≡◌, ℕ, zero, suc, ◌+◌, ◌-◌, ◌*◌, ◌^◌, ◌<◌, ◌≤◌, Bool, true, false, List, arith, refl}
+use Rattle.std.proofs.Common.{sym, subst, ap, ◌∙◌, le_refl, min, Option, add-one, inl, inr}
 use Rattle.std.specs.Prelude.{slice_index, slice_index_or}
 use Rattle.std.specs.Bool.{if◌then◌else◌}
 use Rattle.std.proofs.lemmas.List.{ext_get_or}
@@ -16,7 +17,8 @@ use Rattle.game_laws.proofs.Steps.{down_step-le}
 use Rattle.game_model.specs.Bounds.{IsNear}
 use Rattle.game_model.specs.Tables.{IsTable}
 use Rattle.rank_certificate.specs.Carrying.{CanBeRanked, Stands}
-use Rattle.rank_certificate.specs.LowerGuess.{most_steps, first_raised, lesser_step, raised_table, IsRefused, AreRefused}
+use Rattle.rank_certificate.specs.LowerGuess.{most_steps, first_raised, lesser_step, raised_table, IsRefused}
+use Rattle.rank_certificate.specs.LowerGuess.{AreRefused}
 use Rattle.rank_certificate.proofs.Standing.{Ranked-stands}
 
 -- tables that agree at the states have one down step

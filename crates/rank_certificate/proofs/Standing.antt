@@ -1,5 +1,6 @@
 -- Where all layers are done, the ranks and choices make the values ranked, or none do.
-use Rattle.std.proofs.Common.{◌≡◌, ℕ, zero, suc, ◌+◌, ◌<◌, ◌≤◌, true, false, List, length, arith, refl, sym, ap, ◌∙◌, subst, inl, inr, Option, Some, None}
+use Rattle.std.proofs.Common.{◌≡◌, ℕ, zero, suc, ◌+◌, ◌<◌, ◌≤◌, true, false, List, length, arith, refl, sym, ap, ◌∙◌}
+use Rattle.std.proofs.Common.{subst, inl, inr, Option, Some, None}
 use Rattle.std.specs.Prelude.{slice_index, slice_index_or, All, IsSomeAnd}
 use Rattle.std.proofs.lemmas.Bool.{cases_lt}
 use Rattle.std.proofs.Math.Nat.{le-div_iff_mul-le}
@@ -15,7 +16,8 @@ use Rattle.fixed_bellman.specs.Given.{IsGivenBy}
 use Rattle.fixed_bellman.proofs.Tables.{choice_fits, IsGivenBy-below}
 use Rattle.rank_certificate.specs.Ranking.{NeedsRank, IsEnough}
 use Rattle.rank_certificate.specs.Faults.{HasToRank}
-use Rattle.rank_certificate.specs.Carrying.{CanBeRanked, MayTake, Carries, IsCarriedBy, IsCarried, IsCarriedAt, IsFirstCarrying, IsChosen, IsChosenAt, IsLayeredPlan, Stands}
+use Rattle.rank_certificate.specs.Carrying.{CanBeRanked, MayTake, Carries, IsCarriedBy, IsCarried, IsCarriedAt}
+use Rattle.rank_certificate.specs.Carrying.{IsFirstCarrying, IsChosen, IsChosenAt, IsLayeredPlan, Stands}
 use Rattle.rank_certificate.specs.inside.Growth.{IsGrown, AreFollowed}
 use Rattle.rank_certificate.proofs.Causes.{given-asked, always-asked}
 use Rattle.rank_certificate.proofs.Found.{Some-none}

@@ -1,5 +1,6 @@
 -- What `check` writes is no longer than a text may be that is read, so an audit of the same question accepts it.
-use Rattle.std.proofs.Common.{◌≡◌, ◌∙◌, ◌≤◌, ◌+◌, ℕ, Bool, true, false, List, [], ◌∷◌, length, bytes_eq, Option, Some, None, if◌then◌else◌, refl, sym, ap, subst, arith}
+use Rattle.std.proofs.Common.{◌≡◌, ◌∙◌, ◌≤◌, ◌+◌, ℕ, Bool, true, false, List, [], ◌∷◌, length, bytes_eq, Option, Some}
+use Rattle.std.proofs.Common.{None, if◌then◌else◌, refl, sym, ap, subst, arith}
 use Rattle.std.specs.Prelude.{◌||◌, IsSome}
 use Rattle.text_lines.specs.Limits.{most_bytes}
 use Rattle.game_outside.specs.Outside.{Holding}
@@ -17,16 +18,19 @@ use Rattle.rpatl_syntax.specs.Spellable.{IsSpellable}
 use Rattle.rpatl_syntax.specs.Spelling.{spelling}
 use Rattle.formula_sets.specs.Posing.{Posing, init}
 use Rattle.formula_sets.proofs.Asking.{initial-found}
-use Rattle.command_words.specs.Words.{Asked, Check, Audit, Command, OfCheck, OfAudit, OfSolve, OfMake, OfSure, AreCommand}
+use Rattle.command_words.specs.Words.{Asked, Check, Audit, Command, OfCheck, OfAudit, OfSolve, OfMake, OfSure}
+use Rattle.command_words.specs.Words.{AreCommand}
 use Rattle.run_answers.specs.declared.status.Status.{Status}
 use Rattle.asked_files.specs.Asks.{Asks}
 use Rattle.asked_files.specs.declared.problem.Paths.{Paths}
 use Rattle.asked_files.specs.declared.problem.Paths.TheVariants.{Any, Unbounded}
-use Rattle.asked_files.specs.Problems.{Problem, OfReach, OfWithin, OfNext, OfNested, PosesProblem, initial_of, posing_in}
+use Rattle.asked_files.specs.Problems.{Problem, OfReach, OfWithin, OfNext, OfNested, PosesProblem, initial_of}
+use Rattle.asked_files.specs.Problems.{posing_in}
 use Rattle.rpatl_syntax.specs.Dual.{answered}
 use Rattle.asked_files.specs.Sources.{Sources, sources_of}
 use Rattle.stogame_app.specs.Commands.{IsAcceptedOf, check_paths}
-use Rattle.stogame_app.specs.Reports.{Checks, IsReportOfWords, of_reach, of_within, of_next, of_nested, of_audit, of_solve, of_sure, of_make}
+use Rattle.stogame_app.specs.Reports.{Checks, IsReportOfWords, of_reach, of_within, of_next, of_nested, of_audit}
+use Rattle.stogame_app.specs.Reports.{of_solve, of_sure, of_make}
 use Rattle.stogame_app.proofs.Complete.{AreOneCommand}
 use Rattle.run_answers.proofs.Passing.{AreReadBack}
 use Rattle.run_answers.proofs.PlainParts.{spellable-plain, answered-plain}

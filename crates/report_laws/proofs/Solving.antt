@@ -5,14 +5,16 @@ use Rattle.game_outside.specs.Outside.{Holding}
 use Rattle.game_model.specs.Limits.{most_states}
 use Rattle.rpatl_syntax.specs.Formula.{Tree}
 use Rattle.formula_sets.specs.Posing.{Posing}
-use Rattle.command_words.specs.Words.{Asked, Solve, Audit, Command, OfCheck, OfAudit, OfSolve, OfMake, OfSure, AreCommand}
+use Rattle.command_words.specs.Words.{Asked, Solve, Audit, Command, OfCheck, OfAudit, OfSolve, OfMake, OfSure}
+use Rattle.command_words.specs.Words.{AreCommand}
 use Rattle.run_answers.specs.declared.status.Status.{Status}
 use Rattle.asked_files.specs.Asks.{Asks}
 use Rattle.asked_files.specs.declared.problem.Paths.TheVariants.{Unbounded}
 use Rattle.asked_files.specs.Problems.{Problem, OfReach, OfWithin, OfNext, OfNested, initial_of, posing_in}
 use Rattle.asked_files.specs.Sources.{Sources, sources_of}
 use Rattle.stogame_app.specs.Commands.{IsAcceptedOf}
-use Rattle.stogame_app.specs.Reports.{WordsPose, IsReportOfWords, of_reach, of_within, of_next, of_nested, of_audit, of_solve, of_sure, of_make}
+use Rattle.stogame_app.specs.Reports.{WordsPose, IsReportOfWords, of_reach, of_within, of_next, of_nested, of_audit}
+use Rattle.stogame_app.specs.Reports.{of_solve, of_sure, of_make}
 use Rattle.stogame_app.proofs.Complete.{AreOneCommand}
 use Rattle.run_answers.proofs.Passing.{AreReadBack}
 use Rattle.run_answers.proofs.PlainParts.{spellable-plain, answered-plain}

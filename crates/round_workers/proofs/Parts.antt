@@ -1,5 +1,6 @@
 -- Two neighbouring parts of a round are one part.
-use Rattle.std.proofs.Common.{◌≡◌, ℕ, ◌+◌, ◌/◌, ◌<◌, ◌≤◌, Bool, List, length, arith, inl, inr, le_refl, le_trans, subst, zero-le}
+use Rattle.std.proofs.Common.{◌≡◌, ℕ, ◌+◌, ◌/◌, ◌<◌, ◌≤◌, Bool, List, length, arith, inl, inr, le_refl, le_trans, subst}
+use Rattle.std.proofs.Common.{zero-le}
 use Rattle.std.proofs.lemmas.Bool.{cases_lt}
 use Rattle.game_model.specs.Game.{Distribution, IsGame}
 use Rattle.game_model.specs.Query.{Query}

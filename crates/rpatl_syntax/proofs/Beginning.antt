@@ -1,12 +1,15 @@
 -- The first token of a state formula that the rules derive.
-use Rattle.std.proofs.Common.{◌≡◌, ◌∙◌, ◌⊎◌, inl, inr, ℕ, List, [], ◌∷◌, ◌++◌, true, false, Option, Some, None, refl, ap, sym, subst, arith}
+use Rattle.std.proofs.Common.{◌≡◌, ◌∙◌, ◌⊎◌, inl, inr, ℕ, List, [], ◌∷◌, ◌++◌, true, false, Option, Some, None, refl}
+use Rattle.std.proofs.Common.{ap, sym, subst, arith}
 use Rattle.std.specs.Prelude.{codes, bytes_eq}
 use Rattle.std.proofs.lemmas.Bool.Decides.{nat_tests}
 use Rattle.rpatl_syntax.specs.declared.formula.Bound.{Bound}
 use Rattle.rpatl_syntax.specs.declared.formula.Bound.TheVariants.{AtLeast, Above, AtMost, Below, AskMax, AskMin}
 use Rattle.rpatl_syntax.specs.Formula.{State}
 use Rattle.rpatl_syntax.specs.Grammar.{is_quoted}
-use Rattle.rpatl_syntax.specs.Rules.{between, with_commas, formula_of, IsCoalition, IsBound, Compares, IsState, IsEither, IsBoth, IsUnary, plain_state, implies, plain_either, or, plain_both, and, negation, brackets, everywhere, nowhere, label, inside}
+use Rattle.rpatl_syntax.specs.Rules.{between, with_commas, formula_of, IsCoalition, IsBound, Compares, IsState}
+use Rattle.rpatl_syntax.specs.Rules.{IsEither, IsBoth, IsUnary, plain_state, implies, plain_either, or, plain_both, and}
+use Rattle.rpatl_syntax.specs.Rules.{negation, brackets, everywhere, nowhere, label, inside}
 
 pub quoted_begins : (token : List ℕ) → is_quoted token ≡ true → (bytes : List ℕ) × (token ≡ 34 ∷ bytes)
 quoted_begins [] e = cc e

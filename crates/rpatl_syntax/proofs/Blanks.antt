@@ -1,12 +1,15 @@
 -- A blank parts tokens.
-use Rattle.std.proofs.Common.{◌≡◌, ◌∙◌, ◌+◌, ◌-◌, ℕ, zero, suc, List, [], ◌∷◌, ◌++◌, length, take, Bool, true, false, None, refl, ap, sym, subst, arith, append_assoc}
+use Rattle.std.proofs.Common.{◌≡◌, ◌∙◌, ◌+◌, ◌-◌, ℕ, zero, suc, List, [], ◌∷◌, ◌++◌, length, take, Bool, true, false}
+use Rattle.std.proofs.Common.{None, refl, ap, sym, subst, arith, append_assoc}
 use Rattle.std.specs.Prelude.{◌==◌, ◌||◌, ◌&&◌}
 use Rattle.text_lines.specs.Text.{begins_lf}
 use Rattle.rpatl_syntax.specs.declared.front.Front.{Front}
 use Rattle.rpatl_syntax.specs.declared.front.Front.TheVariants.{Blank, Spelling, Unclosed, Strange}
-use Rattle.rpatl_syntax.specs.Laws.{AreTokens, spellings_of, cause_of, AreAlike, IsBlank, space, tab, line_feed, return_and_line_feed}
+use Rattle.rpatl_syntax.specs.Laws.{AreTokens, spellings_of, cause_of, AreAlike, IsBlank, space, tab, line_feed}
+use Rattle.rpatl_syntax.specs.Laws.{return_and_line_feed}
 use Rattle.rpatl_syntax.specs.TokenRules.{AreCut, nothing, blank, token}
-use Rattle.rpatl_syntax.specs.Tokens.{Tokens, Finish, Broken, Then, tokens_of, in_front, tokens_from, front_from, is_blank}
+use Rattle.rpatl_syntax.specs.Tokens.{Tokens, Finish, Broken, Then, tokens_of, in_front, tokens_from, front_from}
+use Rattle.rpatl_syntax.specs.Tokens.{is_blank}
 use Rattle.rpatl_syntax.proofs.Spans.{Spans}
 use Rattle.rpatl_syntax.proofs.Cutting.{longest_read, blank_read, tokens_cut}
 use Rattle.rpatl_syntax.proofs.NoBlanks.{later, begins_blank}

@@ -1,17 +1,20 @@
 -- A bound that is read is derived by the rules.
-use Rattle.std.proofs.Common.{◌≡◌, ◌∙◌, inl, inr, ℕ, List, [], ◌∷◌, true, cond, Result, Ok, Err, refl, ap, sym, subst, nat_lt}
+use Rattle.std.proofs.Common.{◌≡◌, ◌∙◌, inl, inr, ℕ, List, [], ◌∷◌, true, cond, Result, Ok, Err, refl, ap, sym, subst}
+use Rattle.std.proofs.Common.{nat_lt}
 use Rattle.std.specs.Prelude.{codes, bytes_eq, ◌||◌}
 use Rattle.distributions.specs.Fraction.{Fraction}
 use Rattle.distributions.specs.Number.{number_said}
 use Rattle.distributions.specs.declared.number.NumberFault.{NumberFault}
-use Rattle.distributions.specs.declared.number.NumberFault.TheVariants.{NotANumber, TooManyDigits, ZeroDenominator, TooFine, TooLarge}
+use Rattle.distributions.specs.declared.number.NumberFault.TheVariants.{NotANumber, TooManyDigits, ZeroDenominator}
+use Rattle.distributions.specs.declared.number.NumberFault.TheVariants.{TooFine, TooLarge}
 use Rattle.distributions.proofs.Said.{number-found}
 use Rattle.rpatl_syntax.specs.declared.fault.FormulaCause.TheVariants.{Unexpected, ThresholdOutOfRange, AskInside}
 use Rattle.rpatl_syntax.specs.declared.formula.Bound.{Bound}
 use Rattle.rpatl_syntax.specs.declared.formula.Bound.TheVariants.{AtLeast, Above, AtMost, Below, AskMax, AskMin}
 use Rattle.rpatl_syntax.specs.Fault.{◌>>=◌}
 use Rattle.rpatl_syntax.specs.Tokens.{Tokens, Then, Token}
-use Rattle.rpatl_syntax.specs.Grammar.{next, behind, is, is_number, fails, threshold_of, threshold, compared, comparison, asked, bound, inner_bound}
+use Rattle.rpatl_syntax.specs.Grammar.{next, behind, is, is_number, fails, threshold_of, threshold, compared}
+use Rattle.rpatl_syntax.specs.Grammar.{comparison, asked, bound, inner_bound}
 use Rattle.rpatl_syntax.specs.Rules.{IsThreshold, IsComparison, IsBound, Compares}
 use Rattle.rpatl_syntax.proofs.Spans.{Found, same_read, chosen, bind_ok, next_ok, behind_ok, same_bytes}
 use Rattle.rpatl_syntax.proofs.Orders.{le_from}

@@ -1,11 +1,13 @@
 -- A coalition that is read is derived by the rules.
-use Rattle.std.proofs.Common.{◌≡◌, ◌∙◌, inl, inr, ℕ, List, [], ◌∷◌, ◌++◌, cond, Option, Some, None, Ok, Err, refl, ap, sym}
+use Rattle.std.proofs.Common.{◌≡◌, ◌∙◌, inl, inr, ℕ, List, [], ◌∷◌, ◌++◌, cond, Option, Some, None, Ok, Err, refl, ap}
+use Rattle.std.proofs.Common.{sym}
 use Rattle.std.specs.Prelude.{codes, bytes_eq}
 use Rattle.std.specs.List.{AllByRecursion}
 use Rattle.rpatl_syntax.specs.declared.fault.FormulaCause.TheVariants.{Unexpected}
 use Rattle.rpatl_syntax.specs.Fault.{fault_at}
 use Rattle.rpatl_syntax.specs.Tokens.{Tokens, Finish, Broken, Then}
-use Rattle.rpatl_syntax.specs.Grammar.{is_word, follows, where_next, names, further_names, with_name, some_names, coalition}
+use Rattle.rpatl_syntax.specs.Grammar.{is_word, follows, where_next, names, further_names, with_name, some_names}
+use Rattle.rpatl_syntax.specs.Grammar.{coalition}
 use Rattle.rpatl_syntax.specs.Rules.{with_commas, IsWord, IsCoalition}
 use Rattle.rpatl_syntax.proofs.Spans.{same_read, Found, chosen, bind_ok, follows_ok, same_bytes}
 

@@ -1,5 +1,6 @@
 -- The tokens of a text are those into which it is cut.
-use Rattle.std.proofs.Common.{◌≡◌, ◌∙◌, ◌+◌, ◌-◌, ◌≤◌, inl, inr, ℕ, zero, suc, List, [], ◌∷◌, ◌++◌, length, take, drop, true, cond, refl, ap, sym, subst, arith, nat_lt}
+use Rattle.std.proofs.Common.{◌≡◌, ◌∙◌, ◌+◌, ◌-◌, ◌≤◌, inl, inr, ℕ, zero, suc, List, [], ◌∷◌, ◌++◌, length, take, drop}
+use Rattle.std.proofs.Common.{true, cond, refl, ap, sym, subst, arith, nat_lt}
 use Rattle.std.specs.Prelude.{◌==◌, ◌&&◌}
 use Rattle.std.specs.List.{AllByRecursion}
 use Rattle.std.proofs.Math.Seq.{take-append_seam, drop-append_seam}
@@ -10,7 +11,9 @@ use Rattle.rpatl_syntax.specs.declared.front.Front.TheVariants.{Blank, Spelling,
 use Rattle.rpatl_syntax.specs.Laws.{AreTokens}
 use Rattle.rpatl_syntax.specs.TokenRules.{IsSpelling, IsLongest, AreCut, nothing, blank, token}
 use Rattle.rpatl_syntax.specs.Limits.{longest_name}
-use Rattle.rpatl_syntax.specs.Tokens.{Tokens, Then, tokens_of, in_front, tokens_from, front_from, begins_word, in_name, is_blank, is_long_sign, is_short_sign, word_length, number_length, name_from, sign_from, short_sign}
+use Rattle.rpatl_syntax.specs.Tokens.{Tokens, Then, tokens_of, in_front, tokens_from, front_from, begins_word, in_name}
+use Rattle.rpatl_syntax.specs.Tokens.{is_blank, is_long_sign, is_short_sign, word_length, number_length, name_from}
+use Rattle.rpatl_syntax.specs.Tokens.{sign_from, short_sign}
 use Rattle.rpatl_syntax.proofs.Spans.{chosen}
 use Rattle.rpatl_syntax.proofs.Passing.{token_cut}
 use Rattle.rpatl_syntax.proofs.Lexed.{token_found, found_longest, longest_found}

@@ -1,12 +1,14 @@
 -- A formula that is said is denoted.
-use Rattle.std.proofs.Common.{◌≡◌, inl, inr, ℕ, suc, List, [], ◌∷◌, ◌++◌, length, Option, Ok, Err, refl, ap, sym, subst, nat_lt, arith}
+use Rattle.std.proofs.Common.{◌≡◌, inl, inr, ℕ, suc, List, [], ◌∷◌, ◌++◌, length, Option, Ok, Err, refl, ap, sym, subst}
+use Rattle.std.proofs.Common.{nat_lt, arith}
 use Rattle.rpatl_syntax.specs.declared.fault.FormulaCause.TheVariants.{TooLong}
 use Rattle.rpatl_syntax.specs.declared.formula.Bound.{Bound}
 use Rattle.rpatl_syntax.specs.Fault.{fault_at, ◌>>=◌}
 use Rattle.rpatl_syntax.specs.Formula.{Path, Tree}
 use Rattle.rpatl_syntax.specs.Limits.{longest, most_nested}
 use Rattle.rpatl_syntax.specs.Tokens.{Tokens, Finish, Broken, Then, tokens_of}
-use Rattle.rpatl_syntax.specs.Grammar.{coalition, bound, sides, nested, finished, tree_with, behind_bound, formula, formula_said}
+use Rattle.rpatl_syntax.specs.Grammar.{coalition, bound, sides, nested, finished, tree_with, behind_bound, formula}
+use Rattle.rpatl_syntax.specs.Grammar.{formula_said}
 use Rattle.rpatl_syntax.specs.Rules.{IsCoalition, IsBound, IsFormula, IsPath, DenotesFormula}
 use Rattle.rpatl_syntax.specs.Laws.{AreTokens}
 use Rattle.rpatl_syntax.proofs.Spans.{Spans, Found, spans_append, chosen, bind_ok}

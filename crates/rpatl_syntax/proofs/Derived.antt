@@ -1,5 +1,6 @@
 -- What is read as a state formula is derived by the rules of the grammar.
-use Rattle.std.proofs.Common.{◌≡◌, ◌≤◌, inl, inr, ℕ, zero, suc, List, [], ◌∷◌, ◌++◌, Bool, true, false, cond, Option, Some, None, Ok, refl, ap, sym, subst, arith}
+use Rattle.std.proofs.Common.{◌≡◌, ◌≤◌, inl, inr, ℕ, zero, suc, List, [], ◌∷◌, ◌++◌, Bool, true, false, cond, Option}
+use Rattle.std.proofs.Common.{Some, None, Ok, refl, ap, sym, subst, arith}
 use Rattle.std.specs.Prelude.{codes, ◌||◌}
 use Rattle.rpatl_syntax.specs.declared.fault.FormulaCause.TheVariants.{Unexpected}
 use Rattle.rpatl_syntax.specs.declared.levels.Level.{Level}
@@ -8,9 +9,15 @@ use Rattle.rpatl_syntax.specs.Fault.{◌>>=◌}
 use Rattle.rpatl_syntax.specs.Formula.{State, True, False, Label, Not, And, Or, Implies, Path, Tree, inner_of}
 use Rattle.rpatl_syntax.specs.inside.Levels.{operand_of}
 use Rattle.rpatl_syntax.specs.Tokens.{Tokens, Then, Token, count_of}
-use Rattle.rpatl_syntax.specs.Grammar.{Reading, next, behind, is, is_quoted, unquoted, begins_formula, fails, plain, opens, coalition, inner_bound, tree_with, inner, sides, bracketed, path, unary, follows, where_next, further, joined, both, either, implied, negated, closed, inside_of, nested}
-use Rattle.rpatl_syntax.specs.Rules.{between, IsCoalition, IsState, IsEither, IsBoth, IsUnary, IsPath, plain_state, implies, plain_either, or, plain_both, and, negation, brackets, everywhere, nowhere, label, inside}
-use Rattle.rpatl_syntax.proofs.Spans.{Spans, Found, same_read, read, spans_append, spans_count, chosen, bind_ok, next_ok, behind_ok, follows_ok, same_bytes}
+use Rattle.rpatl_syntax.specs.Grammar.{Reading, next, behind, is, is_quoted, unquoted, begins_formula, fails, plain}
+use Rattle.rpatl_syntax.specs.Grammar.{opens, coalition, inner_bound, tree_with, inner, sides, bracketed, path, unary}
+use Rattle.rpatl_syntax.specs.Grammar.{follows, where_next, further, joined, both, either, implied, negated, closed}
+use Rattle.rpatl_syntax.specs.Grammar.{inside_of, nested}
+use Rattle.rpatl_syntax.specs.Rules.{between, IsCoalition, IsState, IsEither, IsBoth, IsUnary, IsPath, plain_state}
+use Rattle.rpatl_syntax.specs.Rules.{implies, plain_either, or, plain_both, and, negation, brackets, everywhere}
+use Rattle.rpatl_syntax.specs.Rules.{nowhere, label, inside}
+use Rattle.rpatl_syntax.proofs.Spans.{Spans, Found, same_read, read, spans_append, spans_count, chosen, bind_ok}
+use Rattle.rpatl_syntax.proofs.Spans.{next_ok, behind_ok, follows_ok, same_bytes}
 use Rattle.rpatl_syntax.proofs.CoalitionsFound.{coalition_found}
 use Rattle.rpatl_syntax.proofs.BoundsFound.{IsInnerBound, inner_bound_found}
 use Rattle.rpatl_syntax.proofs.PathsFound.{path_found}

@@ -5,8 +5,12 @@ use Rattle.std.proofs.lemmas.List.{length-append}
 use Rattle.rpatl_syntax.specs.declared.formula.PathKind.{PathKind}
 use Rattle.rpatl_syntax.specs.Formula.{State, Tree, formulas_in, formulas_inside}
 use Rattle.rpatl_syntax.specs.Limits.{longest}
-use Rattle.rpatl_syntax.specs.TokenRules.{IsSpelling, word, number, quoted_name, long_sign, short_sign, AreCut, nothing, blank, token}
-use Rattle.rpatl_syntax.specs.Rules.{between, formula_of, IsState, IsEither, IsBoth, IsUnary, IsPath, plain_state, implies, plain_either, or, plain_both, and, negation, brackets, everywhere, nowhere, label, inside, reach, reach_within, until, until_within, next, always, DenotesFormula}
+use Rattle.rpatl_syntax.specs.TokenRules.{IsSpelling, word, number, quoted_name, long_sign, short_sign, AreCut, nothing}
+use Rattle.rpatl_syntax.specs.TokenRules.{blank, token}
+use Rattle.rpatl_syntax.specs.Rules.{between, formula_of, IsState, IsEither, IsBoth, IsUnary, IsPath, plain_state}
+use Rattle.rpatl_syntax.specs.Rules.{implies, plain_either, or, plain_both, and, negation, brackets, everywhere}
+use Rattle.rpatl_syntax.specs.Rules.{nowhere, label, inside, reach, reach_within, until, until_within, next, always}
+use Rattle.rpatl_syntax.specs.Rules.{DenotesFormula}
 
 -- 1. Each formula inside has a token of its own.
 

@@ -1,5 +1,6 @@
 -- The tokens of a coalition and of a bound that the rules derive are read.
-use Rattle.std.proofs.Common.{◌≡◌, ◌∙◌, ℕ, List, [], ◌∷◌, ◌++◌, Bool, true, false, cond, Option, Some, None, Ok, Err, refl, ap, sym, subst, arith}
+use Rattle.std.proofs.Common.{◌≡◌, ◌∙◌, ℕ, List, [], ◌∷◌, ◌++◌, Bool, true, false, cond, Option, Some, None, Ok, Err}
+use Rattle.std.proofs.Common.{refl, ap, sym, subst, arith}
 use Rattle.std.specs.Prelude.{codes, bytes_eq, ◌==◌, ◌&&◌}
 use Rattle.std.specs.List.{AllByRecursion}
 use Rattle.std.proofs.lemmas.Bool.Decides.{nat_tests}
@@ -11,7 +12,9 @@ use Rattle.rpatl_syntax.specs.declared.formula.Bound.{Bound}
 use Rattle.rpatl_syntax.specs.declared.formula.Bound.TheVariants.{AtLeast, Above, AtMost, Below, AskMax, AskMin}
 use Rattle.rpatl_syntax.specs.Fault.{fault_at, ◌>>=◌}
 use Rattle.rpatl_syntax.specs.Tokens.{Tokens, Then, Token, begins_word}
-use Rattle.rpatl_syntax.specs.Grammar.{is_word, fails, follows, where_next, names, further_names, with_name, some_names, coalition, threshold_of, threshold, compared, comparison, asked, bound, inner_bound}
+use Rattle.rpatl_syntax.specs.Grammar.{is_word, fails, follows, where_next, names, further_names, with_name, some_names}
+use Rattle.rpatl_syntax.specs.Grammar.{coalition, threshold_of, threshold, compared, comparison, asked, bound}
+use Rattle.rpatl_syntax.specs.Grammar.{inner_bound}
 use Rattle.rpatl_syntax.specs.Rules.{with_commas, IsWord, IsCoalition, IsThreshold, IsComparison, IsBound, Compares}
 use Rattle.rpatl_syntax.proofs.Spans.{Spans, no_sign}
 use Rattle.rpatl_syntax.proofs.Orders.{not_above}

@@ -1,5 +1,6 @@
 -- Operands with a sign between them, as far as they are read.
-use Rattle.std.proofs.Common.{◌≡◌, ◌∙◌, ◌+◌, ◌-◌, ◌<◌, ◌≤◌, ℕ, zero, suc, List, Bool, true, false, cond, Some, None, Result, Ok, Err, refl, ap, sym, arith}
+use Rattle.std.proofs.Common.{◌≡◌, ◌∙◌, ◌+◌, ◌-◌, ◌<◌, ◌≤◌, ℕ, zero, suc, List, Bool, true, false, cond, Some, None}
+use Rattle.std.proofs.Common.{Result, Ok, Err, refl, ap, sym, arith}
 use Rattle.std.specs.Prelude.{bytes_eq}
 use Rattle.rpatl_syntax.specs.declared.fault.FormulaFault.{FormulaFault}
 use Rattle.rpatl_syntax.specs.declared.levels.Level.{Level}
@@ -8,7 +9,8 @@ use Rattle.rpatl_syntax.specs.declared.fault.FormulaCause.TheVariants.{TooDeep}
 use Rattle.rpatl_syntax.specs.Fault.{fault_at, ◌>>=◌}
 use Rattle.rpatl_syntax.specs.Formula.{State}
 use Rattle.rpatl_syntax.specs.Tokens.{Tokens, Finish, Broken, Then, Token, count_of}
-use Rattle.rpatl_syntax.specs.Grammar.{Reading, follows, further, joined, where_next, implied, unary, nested, inside_of, bracketed}
+use Rattle.rpatl_syntax.specs.Grammar.{Reading, follows, further, joined, where_next, implied, unary, nested, inside_of}
+use Rattle.rpatl_syntax.specs.Grammar.{bracketed}
 
 -- how many calls of the parser may be open below a level
 abbrev pub rank_of : Level → ℕ

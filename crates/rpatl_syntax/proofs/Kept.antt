@@ -1,5 +1,6 @@
 -- What is read as a name, a coalition or a bound can be spelled.
-use Rattle.std.proofs.Common.{◌≡◌, ◌∙◌, ◌-◌, ℕ, List, [], ◌∷◌, ◌++◌, length, take, true, Option, Some, None, refl, ap, sym, subst, arith}
+use Rattle.std.proofs.Common.{◌≡◌, ◌∙◌, ◌-◌, ℕ, List, [], ◌∷◌, ◌++◌, length, take, true, Option, Some, None, refl, ap}
+use Rattle.std.proofs.Common.{sym, subst, arith}
 use Rattle.std.proofs.lemmas.Bool.{and_from}
 use Rattle.std.specs.Prelude.{◌||◌, codes}
 use Rattle.std.specs.List.{list_all, AllByRecursion}
@@ -14,7 +15,8 @@ use Rattle.rpatl_syntax.specs.TokenRules.{IsName, IsSpelling, word, number, quot
 use Rattle.rpatl_syntax.specs.Grammar.{is_word, is_quoted, unquoted}
 use Rattle.rpatl_syntax.specs.Rules.{with_commas, IsWord, IsCoalition, IsComparison, IsBound, Compares}
 use Rattle.rpatl_syntax.specs.Spellable.{IsWholeWord, HasWords, IsShare, HasShare, HasThreshold}
-use Rattle.rpatl_syntax.proofs.Fronts.{word_no_quote, digit_no_quote, digit_begins_no_word, long_is_other, short_is_other}
+use Rattle.rpatl_syntax.proofs.Fronts.{word_no_quote, digit_no_quote, digit_begins_no_word, long_is_other}
+use Rattle.rpatl_syntax.proofs.Fronts.{short_is_other}
 
 pub all_left : (ts us : List (List ℕ)) → AllByRecursion IsSpelling (ts ++ us) → AllByRecursion IsSpelling ts
 all_left [] us a = tt

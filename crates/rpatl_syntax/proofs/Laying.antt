@@ -1,5 +1,6 @@
 -- The tokens of printed signs, names and numbers.
-use Rattle.std.proofs.Common.{◌≡◌, ◌∙◌, ◌+◌, ℕ, List, [], ◌∷◌, ◌++◌, length, Bool, true, false, cond, refl, ap, sym, subst, arith, append_assoc}
+use Rattle.std.proofs.Common.{◌≡◌, ◌∙◌, ◌+◌, ℕ, List, [], ◌∷◌, ◌++◌, length, Bool, true, false, cond, refl, ap, sym}
+use Rattle.std.proofs.Common.{subst, arith, append_assoc}
 use Rattle.std.proofs.lemmas.Bool.{and_parts}
 use Rattle.std.specs.Prelude.{◌==◌, ◌||◌, ◌&&◌, codes}
 use Rattle.std.specs.List.{list_all, AllByRecursion}
@@ -8,7 +9,8 @@ use Rattle.std.proofs.lemmas.Bool.Decides.{nat_tests}
 use Rattle.text_lines.specs.Text.{is_digit}
 use Rattle.rpatl_syntax.specs.declared.front.Front.TheVariants.{Spelling}
 use Rattle.rpatl_syntax.specs.Spelling.{names_spelling}
-use Rattle.rpatl_syntax.specs.Tokens.{tokens_from, front_from, in_word, is_letter, in_number, word_length, number_length, is_long_sign}
+use Rattle.rpatl_syntax.specs.Tokens.{tokens_from, front_from, in_word, is_letter, in_number, word_length}
+use Rattle.rpatl_syntax.specs.Tokens.{number_length, is_long_sign}
 use Rattle.rpatl_syntax.specs.Grammar.{is_word}
 use Rattle.rpatl_syntax.specs.Rules.{with_commas}
 use Rattle.rpatl_syntax.specs.Spellable.{IsWholeWord}

@@ -1,5 +1,6 @@
 -- A token that is found has a spelling, and the longest.
-use Rattle.std.proofs.Common.{◌≡◌, ◌∙◌, ◌+◌, ◌<◌, ◌≤◌, inl, inr, ℕ, suc, List, [], ◌∷◌, ◌++◌, length, take, drop, Bool, true, false, cond, not, refl, ap, sym, subst, arith, nat_lt}
+use Rattle.std.proofs.Common.{◌≡◌, ◌∙◌, ◌+◌, ◌<◌, ◌≤◌, inl, inr, ℕ, suc, List, [], ◌∷◌, ◌++◌, length, take, drop, Bool}
+use Rattle.std.proofs.Common.{true, false, cond, not, refl, ap, sym, subst, arith, nat_lt}
 use Rattle.std.proofs.lemmas.Bool.{and_from, and_parts}
 use Rattle.std.specs.Prelude.{◌==◌, ◌&&◌}
 use Rattle.std.specs.List.{list_all}
@@ -8,9 +9,12 @@ use Rattle.std.proofs.lemmas.List.{length-append, length-take-le, take-append-dr
 use Rattle.std.proofs.lemmas.Bool.Decides.{nat_tests}
 use Rattle.text_lines.specs.Text.{is_digit}
 use Rattle.rpatl_syntax.specs.declared.front.Front.TheVariants.{Blank, Spelling, Strange}
-use Rattle.rpatl_syntax.specs.TokenRules.{go_on_number, is_name_byte, IsSpelling, word, number, quoted_name, long_sign, short_sign, IsLongest}
+use Rattle.rpatl_syntax.specs.TokenRules.{go_on_number, is_name_byte, IsSpelling, word, number, quoted_name, long_sign}
+use Rattle.rpatl_syntax.specs.TokenRules.{short_sign, IsLongest}
 use Rattle.rpatl_syntax.specs.Limits.{longest_name}
-use Rattle.rpatl_syntax.specs.Tokens.{front_from, begins_word, in_word, in_number, in_name, is_blank, is_long_sign, is_short_sign, word_length, number_length, name_from, sign_from, short_sign as sign_alone}
+use Rattle.rpatl_syntax.specs.Tokens.{front_from, begins_word, in_word, in_number, in_name, is_blank, is_long_sign}
+use Rattle.rpatl_syntax.specs.Tokens.{is_short_sign, word_length, number_length, name_from, sign_from}
+use Rattle.rpatl_syntax.specs.Tokens.{short_sign as sign_alone}
 use Rattle.rpatl_syntax.proofs.Spans.{chosen}
 use Rattle.rpatl_syntax.proofs.Fronts.{met}
 

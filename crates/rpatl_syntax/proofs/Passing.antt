@@ -1,5 +1,6 @@
 -- The tokens behind a token.
-use Rattle.std.proofs.Common.{◌≡◌, ◌∙◌, ◌+◌, ◌-◌, ◌<◌, ◌≤◌, ℕ, zero, suc, List, [], ◌∷◌, length, take, drop, ap, sym, subst, arith}
+use Rattle.std.proofs.Common.{◌≡◌, ◌∙◌, ◌+◌, ◌-◌, ◌<◌, ◌≤◌, ℕ, zero, suc, List, [], ◌∷◌, length, take, drop, ap, sym}
+use Rattle.std.proofs.Common.{subst, arith}
 use Rattle.rpatl_syntax.specs.declared.tokens.Lead.{Lead}
 use Rattle.rpatl_syntax.specs.inside.Cursor.{Leads}
 use Rattle.rpatl_syntax.specs.declared.front.Front.TheVariants.{Spelling}

@@ -10,7 +10,8 @@ use Rattle.rpatl_syntax.specs.Fault.{◌>>=◌}
 use Rattle.rpatl_syntax.specs.Formula.{State, True, Path}
 use Rattle.rpatl_syntax.specs.Limits.{most_steps}
 use Rattle.rpatl_syntax.specs.Tokens.{Tokens, Then, Token}
-use Rattle.rpatl_syntax.specs.Grammar.{Reading, next, behind, is, fails, follows, where_next, steps_of, steps, within, right_side, reached, path}
+use Rattle.rpatl_syntax.specs.Grammar.{Reading, next, behind, is, fails, follows, where_next, steps_of, steps, within}
+use Rattle.rpatl_syntax.specs.Grammar.{right_side, reached, path}
 use Rattle.rpatl_syntax.specs.Rules.{between, IsSteps}
 use Rattle.rpatl_syntax.proofs.Spans.{Spans, spans_split, no_sign}
 use Rattle.rpatl_syntax.proofs.Beginning.{Begins}

@@ -1,5 +1,6 @@
 -- A path that is read is derived by the rules.
-use Rattle.std.proofs.Common.{◌≡◌, ◌∙◌, inl, inr, ℕ, List, [], ◌∷◌, ◌++◌, true, cond, nat_lt, Option, Some, None, Ok, refl, ap, sym, subst}
+use Rattle.std.proofs.Common.{◌≡◌, ◌∙◌, inl, inr, ℕ, List, [], ◌∷◌, ◌++◌, true, cond, nat_lt, Option, Some, None, Ok}
+use Rattle.std.proofs.Common.{refl, ap, sym, subst}
 use Rattle.std.specs.Prelude.{codes}
 use Rattle.text_lines.specs.Text.{number_of}
 use Rattle.rpatl_syntax.specs.declared.fault.FormulaCause.TheVariants.{BadSteps, Unexpected}
@@ -9,9 +10,12 @@ use Rattle.rpatl_syntax.specs.Fault.{◌>>=◌}
 use Rattle.rpatl_syntax.specs.Formula.{State, True, Path}
 use Rattle.rpatl_syntax.specs.Limits.{most_steps}
 use Rattle.rpatl_syntax.specs.Tokens.{Tokens, Then, Token}
-use Rattle.rpatl_syntax.specs.Grammar.{Reading, next, behind, is, is_number, fails, follows, where_next, steps_of, steps, within, right_side, reached, path}
-use Rattle.rpatl_syntax.specs.Rules.{between, IsState, IsSteps, IsPath, reach, reach_within, until, until_within, next as next_path, always}
-use Rattle.rpatl_syntax.proofs.Spans.{Spans, Found, same_read, spans_append, chosen, bind_ok, next_ok, behind_ok, follows_ok, same_bytes}
+use Rattle.rpatl_syntax.specs.Grammar.{Reading, next, behind, is, is_number, fails, follows, where_next, steps_of}
+use Rattle.rpatl_syntax.specs.Grammar.{steps, within, right_side, reached, path}
+use Rattle.rpatl_syntax.specs.Rules.{between, IsState, IsSteps, IsPath, reach, reach_within, until, until_within}
+use Rattle.rpatl_syntax.specs.Rules.{next as next_path, always}
+use Rattle.rpatl_syntax.proofs.Spans.{Spans, Found, same_read, spans_append, chosen, bind_ok, next_ok, behind_ok}
+use Rattle.rpatl_syntax.proofs.Spans.{follows_ok, same_bytes}
 use Rattle.rpatl_syntax.proofs.Orders.{le_from}
 use Rattle.rpatl_syntax.proofs.PathsAgain.{path_of}
 

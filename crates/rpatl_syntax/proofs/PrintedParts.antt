@@ -9,7 +9,8 @@ use Rattle.rpatl_syntax.specs.declared.formula.PathKind.{PathKind}
 use Rattle.rpatl_syntax.specs.declared.formula.PathKind.TheVariants.{Until, Within, Next, Always}
 use Rattle.rpatl_syntax.specs.Formula.{State, True, False, Label, Not, And, Or, Implies, Inner}
 use Rattle.rpatl_syntax.specs.Grammar.{is_number}
-use Rattle.rpatl_syntax.specs.Rules.{IsWord, IsCoalition, IsComparison, IsBound, IsState, IsSteps, IsPath, reach, reach_within, until, until_within, next, always}
+use Rattle.rpatl_syntax.specs.Rules.{IsWord, IsCoalition, IsComparison, IsBound, IsState, IsSteps, IsPath, reach}
+use Rattle.rpatl_syntax.specs.Rules.{reach_within, until, until_within, next, always}
 use Rattle.rpatl_syntax.specs.Spellable.{IsWholeWord, HasWords, IsShare, HasShare, HasThreshold, HasKind}
 use Rattle.rpatl_syntax.specs.Spelling.{fraction_spelling}
 use Rattle.rpatl_syntax.proofs.Numerals.{fraction_text, steps_text}

@@ -1,5 +1,6 @@
 -- The spelling of a formula that the grammar can spell denotes that formula, and nothing else is read.
-use Rattle.std.proofs.Common.{◌≡◌, ◌∙◌, ◌+◌, ◌≤◌, ℕ, List, [], ◌∷◌, ◌++◌, length, Result, Ok, Err, Vec, Global, refl, ap, sym, subst}
+use Rattle.std.proofs.Common.{◌≡◌, ◌∙◌, ◌+◌, ◌≤◌, ℕ, List, [], ◌∷◌, ◌++◌, length, Result, Ok, Err, Vec, Global, refl}
+use Rattle.std.proofs.Common.{ap, sym, subst}
 use Rattle.std.specs.Prelude.{codes, IfOk}
 use Rattle.game_outside.specs.declared.OutOfMemory.{OutOfMemory}
 use Rattle.std.specs.List.{AllByRecursion}

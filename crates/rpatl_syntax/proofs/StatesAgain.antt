@@ -1,18 +1,24 @@
 -- The tokens of a state formula and of a path that the rules derive are read.
-use Rattle.std.proofs.Common.{◌≡◌, ◌∙◌, inl, inr, ℕ, suc, List, [], ◌∷◌, ◌++◌, true, None, Ok, refl, ap, sym, subst, arith}
+use Rattle.std.proofs.Common.{◌≡◌, ◌∙◌, inl, inr, ℕ, suc, List, [], ◌∷◌, ◌++◌, true, None, Ok, refl, ap, sym, subst}
+use Rattle.std.proofs.Common.{arith}
 use Rattle.std.specs.Prelude.{codes}
 use Rattle.rpatl_syntax.specs.declared.formula.PathKind.{PathKind}
 use Rattle.rpatl_syntax.specs.declared.formula.PathKind.TheVariants.{Until, Within, Next, Always}
 use Rattle.rpatl_syntax.specs.Fault.{◌>>=◌}
 use Rattle.rpatl_syntax.specs.Formula.{State, True, False, Label, And, Or, Implies, Path, Tree, inner_of}
 use Rattle.rpatl_syntax.specs.Tokens.{Tokens, Then}
-use Rattle.rpatl_syntax.specs.Grammar.{behind, is_quoted, unquoted, inner_bound, tree_with, inner, sides, path, unary, follows, both, either, implied, negated, closed, nested}
-use Rattle.rpatl_syntax.specs.Rules.{formula_of, IsCoalition, IsBound, Compares, IsState, IsEither, IsBoth, IsUnary, IsPath, plain_state, implies, plain_either, or, plain_both, and, negation, brackets, everywhere, nowhere, label, inside, reach, reach_within, until, until_within, next as next_path, always}
+use Rattle.rpatl_syntax.specs.Grammar.{behind, is_quoted, unquoted, inner_bound, tree_with, inner, sides, path, unary}
+use Rattle.rpatl_syntax.specs.Grammar.{follows, both, either, implied, negated, closed, nested}
+use Rattle.rpatl_syntax.specs.Rules.{formula_of, IsCoalition, IsBound, Compares, IsState, IsEither, IsBoth, IsUnary}
+use Rattle.rpatl_syntax.specs.Rules.{IsPath, plain_state, implies, plain_either, or, plain_both, and, negation}
+use Rattle.rpatl_syntax.specs.Rules.{brackets, everywhere, nowhere, label, inside, reach, reach_within, until}
+use Rattle.rpatl_syntax.specs.Rules.{until_within, next as next_path, always}
 use Rattle.rpatl_syntax.proofs.Spans.{Spans, spans_split, spans_count}
 use Rattle.rpatl_syntax.proofs.Joining.{Stands, begun, went_on, ended}
 use Rattle.rpatl_syntax.proofs.Beginning.{quoted_begins, BeginsInner, inner_begins, state_begins}
 use Rattle.rpatl_syntax.proofs.HeadsAgain.{coalition_again, inner_bound_again, no_coalition}
-use Rattle.rpatl_syntax.proofs.PathsAgain.{path_of, Closes, Reads, right_again, reached_again, reached_within_again, until_again}
+use Rattle.rpatl_syntax.proofs.PathsAgain.{path_of, Closes, Reads, right_again, reached_again, reached_within_again}
+use Rattle.rpatl_syntax.proofs.PathsAgain.{until_again}
 
 label_read : (room : ℕ) (place : ℕ) (token : List ℕ) (after : Tokens) → is_quoted token ≡ true
     → unary (nested room) (Then place token after) ≡ Ok (Label (unquoted token), after)

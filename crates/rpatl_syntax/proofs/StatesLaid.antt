@@ -1,5 +1,6 @@
 -- The tokens of a printed formula.
-use Rattle.std.proofs.Common.{◌≡◌, ◌∙◌, ◌+◌, ◌≤◌, ℕ, List, [], ◌∷◌, ◌++◌, length, Bool, true, false, cond, Option, Some, None, refl, ap, sym, subst, arith, nat_lt, append_assoc}
+use Rattle.std.proofs.Common.{◌≡◌, ◌∙◌, ◌+◌, ◌≤◌, ℕ, List, [], ◌∷◌, ◌++◌, length, Bool, true, false, cond, Option, Some}
+use Rattle.std.proofs.Common.{None, refl, ap, sym, subst, arith, nat_lt, append_assoc}
 use Rattle.std.specs.Prelude.{codes, decimal}
 use Rattle.std.proofs.lemmas.List.{length-append}
 use Rattle.distributions.specs.Fraction.{Fraction}
@@ -13,14 +14,19 @@ use Rattle.rpatl_syntax.specs.Formula.{State, True, False, Label, Not, And, Or, 
 use Rattle.rpatl_syntax.specs.Limits.{most_steps}
 use Rattle.rpatl_syntax.specs.Rules.{between, with_commas}
 use Rattle.rpatl_syntax.specs.Spellable.{HasWords, IsShare, HasShare, HasKind, HasParts}
-use Rattle.rpatl_syntax.specs.Spelling.{strength_of, in_place, state_spelling, until_spelling, kind_spelling, spelling_with, names_spelling, coalition_spelling, fraction_spelling, bound_spelling}
+use Rattle.rpatl_syntax.specs.Spelling.{strength_of, in_place, state_spelling, until_spelling, kind_spelling}
+use Rattle.rpatl_syntax.specs.Spelling.{spelling_with, names_spelling, coalition_spelling, fraction_spelling}
+use Rattle.rpatl_syntax.specs.Spelling.{bound_spelling}
 use Rattle.rpatl_syntax.specs.TokenRules.{IsName}
 use Rattle.rpatl_syntax.specs.Tokens.{tokens_from, name_from}
 use Rattle.rpatl_syntax.proofs.Fronts.{name_reads}
-use Rattle.rpatl_syntax.proofs.Laying.{Lays, Ends, spaced, lays_append, lays_token, lays_blank, lays_spaced, lays_open, lays_close, lays_not, lays_bracket, lays_names, lays_number, lays_above, lays_below}
+use Rattle.rpatl_syntax.proofs.Laying.{Lays, Ends, spaced, lays_append, lays_token, lays_blank, lays_spaced, lays_open}
+use Rattle.rpatl_syntax.proofs.Laying.{lays_close, lays_not, lays_bracket, lays_names, lays_number, lays_above}
+use Rattle.rpatl_syntax.proofs.Laying.{lays_below}
 use Rattle.rpatl_syntax.proofs.Numerals.{fraction_text, steps_text}
 use Rattle.rpatl_syntax.proofs.PrintedParts.{threshold_share}
-use Rattle.rpatl_syntax.proofs.PrintedTokens.{team_tokens, bound_tokens, until_tokens, kind_tokens, tokens_with, tokens_in, state_tokens}
+use Rattle.rpatl_syntax.proofs.PrintedTokens.{team_tokens, bound_tokens, until_tokens, kind_tokens, tokens_with}
+use Rattle.rpatl_syntax.proofs.PrintedTokens.{tokens_in, state_tokens}
 
 -- 1. Coalitions and bounds.
 

@@ -1,5 +1,6 @@
 -- Texts in which no line ends, and lines that end with them.
-use Rattle.std.proofs.Common.{◌≡◌, ◌∙◌, ◌<◌, ◌^◌, ◌+◌, ◌%◌, ℕ, Bool, true, false, List, [], ◌∷◌, ◌++◌, Option, Some, None, refl, sym, ap, append_assoc, arith}
+use Rattle.std.proofs.Common.{◌≡◌, ◌∙◌, ◌<◌, ◌^◌, ◌+◌, ◌%◌, ℕ, Bool, true, false, List, [], ◌∷◌, ◌++◌, Option, Some}
+use Rattle.std.proofs.Common.{None, refl, sym, ap, append_assoc, arith}
 use Rattle.std.proofs.lemmas.Bool.{and_parts}
 use Rattle.std.specs.Prelude.{◌==◌, nat_lt, codes, decimal, if◌then◌else◌}
 use Rattle.std.specs.List.{list_all, AllByRecursion}
@@ -15,7 +16,9 @@ use Rattle.rpatl_syntax.specs.TokenRules.{is_name_byte}
 use Rattle.rpatl_syntax.specs.Tokens.{in_word}
 use Rattle.rpatl_syntax.specs.declared.formula.PathKind.{PathKind}
 use Rattle.rpatl_syntax.specs.declared.formula.PathKind.TheVariants.{Until, Within, Next, Always}
-use Rattle.rpatl_syntax.specs.Spelling.{strength_of, in_place, state_spelling, until_spelling, kind_spelling, spelling_with, names_spelling, coalition_spelling, fraction_spelling, bound_spelling, spelling}
+use Rattle.rpatl_syntax.specs.Spelling.{strength_of, in_place, state_spelling, until_spelling, kind_spelling}
+use Rattle.rpatl_syntax.specs.Spelling.{spelling_with, names_spelling, coalition_spelling, fraction_spelling}
+use Rattle.rpatl_syntax.specs.Spelling.{bound_spelling, spelling}
 use Rattle.rpatl_syntax.specs.Spellable.{IsWholeWord, HasWords, HasKind, HasParts}
 use Rattle.plan_text.specs.Fixed.{fixed}
 use Rattle.plan_text.proofs.WrittenFields.{AreFrom, IsField-fixed}

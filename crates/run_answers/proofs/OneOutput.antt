@@ -1,5 +1,6 @@
 -- A text says which output it is.
-use Rattle.std.proofs.Common.{◌≡◌, ◌≢◌, ◌∙◌, ◌≤◌, ℕ, List, [], ◌∷◌, ◌++◌, length, get_or, Option, Some, None, refl, sym, ap, append_assoc, arith}
+use Rattle.std.proofs.Common.{◌≡◌, ◌≢◌, ◌∙◌, ◌≤◌, ℕ, List, [], ◌∷◌, ◌++◌, length, get_or, Option, Some, None, refl, sym}
+use Rattle.std.proofs.Common.{ap, append_assoc, arith}
 use Rattle.std.specs.Prelude.{All, codes}
 use Rattle.std.proofs.lemmas.List.{append_cancel_left, append_cancel_right}
 use Rattle.std.proofs.lemmas.List.Elements.{All-nil, All-cons, All-head, All-tail}
@@ -11,7 +12,8 @@ use Rattle.plan_text.specs.Entries.{Entry, IsInRange}
 use Rattle.plan_text.specs.Written.{certificate_text}
 use Rattle.verdicts.specs.declared.report.ReportLine.{ReportLine}
 use Rattle.verdicts.specs.Report.{IsLine, line_text, report}
-use Rattle.run_answers.specs.Outputs.{Certificate, Output, certificate_part, output_text, AreEntriesInLimits, IsSpelledOut, IsWholeOutput}
+use Rattle.run_answers.specs.Outputs.{Certificate, Output, certificate_part, output_text, AreEntriesInLimits}
+use Rattle.run_answers.specs.Outputs.{IsSpelledOut, IsWholeOutput}
 use Rattle.run_answers.proofs.PlainParts.{spellable-plain}
 use Rattle.run_answers.proofs.Places.{at}
 use Rattle.run_answers.proofs.NoLineFeed.{ended-one, line-ended, formula-ended}

@@ -1,5 +1,6 @@
 -- How long the parts of a spelled formula are at most, in the bytes of the tokens that denote them.
-use Rattle.std.proofs.Common.{◌≡◌, ◌<◌, ◌≤◌, ◌+◌, ◌^◌, ℕ, Bool, true, false, List, [], ◌∷◌, ◌++◌, length, Option, Some, None, ap, arith}
+use Rattle.std.proofs.Common.{◌≡◌, ◌<◌, ◌≤◌, ◌+◌, ◌^◌, ℕ, Bool, true, false, List, [], ◌∷◌, ◌++◌, length, Option, Some}
+use Rattle.std.proofs.Common.{None, ap, arith}
 use Rattle.std.specs.Prelude.{◌==◌, codes, decimal, if◌then◌else◌}
 use Rattle.std.proofs.lemmas.List.{length-append}
 use Rattle.std.proofs.lemmas.Fmt.{length-decimal-le_wide}
@@ -11,7 +12,8 @@ use Rattle.rpatl_syntax.specs.Grammar.{is_number}
 use Rattle.rpatl_syntax.specs.declared.formula.PathKind.{PathKind}
 use Rattle.rpatl_syntax.specs.declared.formula.PathKind.TheVariants.{Within}
 use Rattle.rpatl_syntax.specs.Rules.{formula_of, with_commas, IsCoalition, IsComparison, IsBound, Compares}
-use Rattle.rpatl_syntax.specs.Spelling.{until_spelling, kind_spelling, spelling_with, names_spelling, coalition_spelling, fraction_spelling, bound_spelling, spelling}
+use Rattle.rpatl_syntax.specs.Spelling.{until_spelling, kind_spelling, spelling_with, names_spelling}
+use Rattle.rpatl_syntax.specs.Spelling.{coalition_spelling, fraction_spelling, bound_spelling, spelling}
 use Rattle.rpatl_syntax.specs.TokenRules.{AreCut, nothing, blank, token}
 use Rattle.run_answers.proofs.PlainParts.{IsFine, HasFine}
 use Rattle.run_answers.proofs.ShortLines.{joined-short}

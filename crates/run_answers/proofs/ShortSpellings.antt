@@ -1,6 +1,7 @@
 -- How long the spelling of a formula is at most: thirty bytes for each byte of the text that denotes it,
 -- and some for its threshold.
-use Rattle.std.proofs.Common.{◌≡◌, ◌≤◌, ◌+◌, ◌-◌, ◌*◌, ℕ, Bool, true, false, List, [], ◌∷◌, ◌++◌, length, drop, refl, ap, arith}
+use Rattle.std.proofs.Common.{◌≡◌, ◌≤◌, ◌+◌, ◌-◌, ◌*◌, ℕ, Bool, true, false, List, [], ◌∷◌, ◌++◌, length, drop, refl}
+use Rattle.std.proofs.Common.{ap, arith}
 use Rattle.std.specs.Prelude.{nat_lt, codes, if◌then◌else◌}
 use Rattle.std.proofs.lemmas.List.{length-append, length-take}
 use Rattle.rpatl_syntax.specs.Formula.{State, True, Not, Tree}
@@ -9,10 +10,15 @@ use Rattle.rpatl_syntax.specs.declared.formula.PathKind.{PathKind}
 use Rattle.rpatl_syntax.specs.declared.formula.PathKind.TheVariants.{Until, Within, Next, Always}
 use Rattle.rpatl_syntax.specs.Dual.{dual_of, answered_by, answered}
 use Rattle.rpatl_syntax.specs.Limits.{longest}
-use Rattle.rpatl_syntax.specs.Rules.{between, IsState, IsEither, IsBoth, IsUnary, IsPath, plain_state, implies, plain_either, or, plain_both, and, negation, brackets, everywhere, nowhere, label, inside, reach, reach_within, until, until_within, next, always, IsFormula, DenotesFormula}
-use Rattle.rpatl_syntax.specs.Spelling.{strength_of, in_place, state_spelling, kind_spelling, coalition_spelling, spelling}
+use Rattle.rpatl_syntax.specs.Rules.{between, IsState, IsEither, IsBoth, IsUnary, IsPath, plain_state, implies}
+use Rattle.rpatl_syntax.specs.Rules.{plain_either, or, plain_both, and, negation, brackets, everywhere, nowhere, label}
+use Rattle.rpatl_syntax.specs.Rules.{inside, reach, reach_within, until, until_within, next, always, IsFormula}
+use Rattle.rpatl_syntax.specs.Rules.{DenotesFormula}
+use Rattle.rpatl_syntax.specs.Spelling.{strength_of, in_place, state_spelling, kind_spelling, coalition_spelling}
+use Rattle.rpatl_syntax.specs.Spelling.{spelling}
 use Rattle.run_answers.proofs.PlainParts.{HasFine, HasPlainParts, answered-plain}
-use Rattle.run_answers.proofs.ShortParts.{bytes_in, bytes_in-append, cut-short, until-short, within-short, coalition-short, bound-fine, bound-some, with-short, formula-bytes}
+use Rattle.run_answers.proofs.ShortParts.{bytes_in, bytes_in-append, cut-short, until-short, within-short}
+use Rattle.run_answers.proofs.ShortParts.{coalition-short, bound-fine, bound-some, with-short, formula-bytes}
 
 -- 1. The spelling of a state formula, and of a path.
 

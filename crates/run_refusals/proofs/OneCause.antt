@@ -22,7 +22,8 @@ use Rattle.rank_certificate.specs.declared.check.RankCause.{RankCause}
 use Rattle.rank_certificate.specs.declared.check.RankCause.TheVariants as ranks
 use Rattle.values_reader.specs.declared.fault.ValuesCause.{ValuesCause}
 use Rattle.values_reader.specs.declared.fault.ValuesCause.TheVariants as values
-use Rattle.run_refusals.specs.Refusals.{number_text, choice_text, tra_text, lab_text, values_text, formula_text, question_text, plan_cause_text, upper_text, ranks_text}
+use Rattle.run_refusals.specs.Refusals.{number_text, choice_text, tra_text, lab_text, values_text, formula_text}
+use Rattle.run_refusals.specs.Refusals.{question_text, plan_cause_text, upper_text, ranks_text}
 use Rattle.run_refusals.specs.InFull.{IsInFull, AreInFull, ChoiceInFull, TraInFull, LabInFull, UpperInFull, RanksInFull}
 use Rattle.run_refusals.proofs.Labelled.{at, numbered-one, pair-one, place-onto}
 

@@ -21,12 +21,17 @@ use Rattle.certificate_audit.specs.declared.fault.AuditFault.TheVariants as audi
 use Rattle.run_refusals.specs.declared.refusal.Text.{Text}
 use Rattle.run_refusals.specs.declared.refusal.Text.TheVariants.{Tra, Lab, Own, Cert, Values}
 use Rattle.run_refusals.specs.declared.refusal.Refusal.{Refusal}
-use Rattle.run_refusals.specs.declared.refusal.Refusal.TheVariants.{OfTra, OfLab, OfOwn, OfFormula, OfQuestion, WrongKind, OfCertificate, OfValues, TooLong}
-use Rattle.run_refusals.specs.Refusals.{refused_line, certificate_refused, refusal_text, question_line, question_text, plan_cause_text, upper_text, ranks_text}
+use Rattle.run_refusals.specs.declared.refusal.Refusal.TheVariants.{OfTra, OfLab, OfOwn, OfFormula, OfQuestion}
+use Rattle.run_refusals.specs.declared.refusal.Refusal.TheVariants.{WrongKind, OfCertificate, OfValues, TooLong}
+use Rattle.run_refusals.specs.Refusals.{refused_line, certificate_refused, refusal_text, question_line, question_text}
+use Rattle.run_refusals.specs.Refusals.{plan_cause_text, upper_text, ranks_text}
 use Rattle.run_refusals.specs.InFull.{IsInFull, CertificateInFull, RefusalInFull}
 use Rattle.verdicts.proofs.Numbers.{number-one}
 use Rattle.run_refusals.proofs.Labelled.{at}
-use Rattle.run_refusals.proofs.OneCause.{tra-one, lab-one, values-one, values-not_long, formula-one, question-one, question-not_kind, tra-not_long, lab-not_long, plan_cause-one, upper-one, ranks-one, plan_cause-not_upper, plan_cause-not_ranks, upper-not_ranks, plan_cause-not_long, upper-not_long, ranks-not_long}
+use Rattle.run_refusals.proofs.OneCause.{tra-one, lab-one, values-one, values-not_long, formula-one, question-one}
+use Rattle.run_refusals.proofs.OneCause.{question-not_kind, tra-not_long, lab-not_long, plan_cause-one, upper-one}
+use Rattle.run_refusals.proofs.OneCause.{ranks-one, plan_cause-not_upper, plan_cause-not_ranks, upper-not_ranks}
+use Rattle.run_refusals.proofs.OneCause.{plan_cause-not_long, upper-not_long, ranks-not_long}
 
 -- a number, and a cause to the end of the line
 numbered_cause-one : (m n : ℕ) (cause other : List ℕ) → IsInFull m → IsInFull n

@@ -1,5 +1,6 @@
 -- What tables of bounds decide, and when they pass.
-use Rattle.std.proofs.Common.{◌≡◌, ℕ, ◌+◌, ◌*◌, ◌^◌, ◌<◌, ◌≤◌, ◌↔◌, Bool, true, false, List, [], ◌∷◌, ◌++◌, length, below_more, arith, sym, subst, ◌∙◌, inl, inr}
+use Rattle.std.proofs.Common.{◌≡◌, ℕ, ◌+◌, ◌*◌, ◌^◌, ◌<◌, ◌≤◌, ◌↔◌, Bool, true, false, List, [], ◌∷◌, ◌++◌, length}
+use Rattle.std.proofs.Common.{below_more, arith, sym, subst, ◌∙◌, inl, inr}
 use Rattle.std.specs.Prelude.{slice_index, slice_index_or}
 use Rattle.std.proofs.lemmas.Bool.{cases_Bool}
 use Rattle.std.proofs.lemmas.List.{ext_get_or, get_or_append_left, get_or_push}
@@ -17,7 +18,8 @@ use Rattle.rank_certificate.specs.Carrying.{CanBeRanked}
 use Rattle.almost_sure.specs.Values.{IsAlmostSure, AreAlmostSure}
 use Rattle.solved_plans.specs.Bounds.{lower_bound, upper_bound, HasRankedTable, IsLowerOf, IsUpperOf}
 use Rattle.solved_plans.specs.Plans.{IsNever}
-use Rattle.solved_plans.proofs.Entries.{lower-sure, lower-unsure, lower-zero, lower-none, upper-zero, upper-sure, upper-some, upper-none}
+use Rattle.solved_plans.proofs.Entries.{lower-sure, lower-unsure, lower-zero, lower-none, upper-zero, upper-sure}
+use Rattle.solved_plans.proofs.Entries.{upper-some, upper-none}
 use Rattle.solved_plans.proofs.SurePlans.{sure-plan}
 
 -- 1. Sets.

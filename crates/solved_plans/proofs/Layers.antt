@@ -1,5 +1,6 @@
 -- The almost-sure states have ranks: the number of steps to the goals by choices that stay among them.
-use Rattle.std.proofs.Common.{◌≡◌, ℕ, zero, suc, ◌+◌, ◌-◌, ◌*◌, ◌^◌, ◌<◌, ◌≤◌, Bool, true, false, List, length, map, get_or, arith, refl, sym, ap, ◌∙◌, subst, inl, inr, not}
+use Rattle.std.proofs.Common.{◌≡◌, ℕ, zero, suc, ◌+◌, ◌-◌, ◌*◌, ◌^◌, ◌<◌, ◌≤◌, Bool, true, false, List, length, map}
+use Rattle.std.proofs.Common.{get_or, arith, refl, sym, ap, ◌∙◌, subst, inl, inr, not}
 use Rattle.std.specs.Prelude.{slice_index_or, ◌&&◌, ◌||◌}
 use Rattle.std.specs.List.{AllByRecursion, range_with_len}
 use Rattle.std.proofs.lemmas.Bool.{cases_Bool, cases_lt}

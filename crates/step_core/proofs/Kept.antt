@@ -1,5 +1,6 @@
 -- Each lawful event keeps the invariant, and adds as many down steps as it wins exchanges.
-use Rattle.std.proofs.Common.{◌≡◌, ◌≢◌, ℕ, zero, suc, ◌+◌, ◌<◌, ◌≤◌, sum_by, add-one, le_refl, ◌∙◌, List, [], ◌∷◌, ◌++◌, length, get_or, set, arith, refl, sym, ap, subst, inl, inr, ◌⊎◌}
+use Rattle.std.proofs.Common.{◌≡◌, ◌≢◌, ℕ, zero, suc, ◌+◌, ◌<◌, ◌≤◌, sum_by, add-one, le_refl, ◌∙◌, List, [], ◌∷◌, ◌++◌}
+use Rattle.std.proofs.Common.{length, get_or, set, arith, refl, sym, ap, subst, inl, inr, ◌⊎◌}
 use Rattle.std.specs.Prelude.{slice_index, slice_set, Option, Some, None, IsSome, unwrap_or}
 use Rattle.std.proofs.lemmas.List.Sums.{sum_by-cons}
 use Rattle.std.proofs.lemmas.Option.{none-some}
@@ -13,7 +14,8 @@ use Rattle.step_core.specs.Sound.{AreSoundWords, Sees}
 use Rattle.step_core.specs.Configuration.{Configuration, view_of, seen_by, opening_configuration, IsWorld}
 use Rattle.step_core.specs.Events.{IsLive, Raises, Lawful, looked, after, wins, Leads}
 use Rattle.step_core.proofs.Sights.{Sees-raised, Sees-looked, Sees-both}
-use Rattle.step_core.proofs.Words.{AreSoundWords-goals, AreSoundWords-won, raised-within, AreSoundWords-opening, opening_words-value, Sees-itself}
+use Rattle.step_core.proofs.Words.{AreSoundWords-goals, AreSoundWords-won, raised-within, AreSoundWords-opening}
+use Rattle.step_core.proofs.Words.{opening_words-value, Sees-itself}
 
 abbrev Views : Type 0
 Views = List (Option (List ℕ))

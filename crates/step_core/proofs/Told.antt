@@ -1,6 +1,8 @@
 -- An event is lawful exactly where there is no reason against it.
-use Rattle.std.proofs.Common.{◌≡◌, ◌≢◌, ℕ, ◌<◌, ◌≤◌, Bool, true, false, List, [], ◌∷◌, length, arith, refl, sym, ap, ◌∙◌, subst, ne_eqb, eq-eqb, inl, inr, ◌⊎◌}
-use Rattle.std.specs.Prelude.{slice_index, ◌==◌, ◌||◌, not, Option, Some, None, IsSome, is_none, nat_lt, nat_le, if◌then◌else◌, Result, Ok, Err, OnOk, IfErr}
+use Rattle.std.proofs.Common.{◌≡◌, ◌≢◌, ℕ, ◌<◌, ◌≤◌, Bool, true, false, List, [], ◌∷◌, length, arith, refl, sym, ap}
+use Rattle.std.proofs.Common.{◌∙◌, subst, ne_eqb, eq-eqb, inl, inr, ◌⊎◌}
+use Rattle.std.specs.Prelude.{slice_index, ◌==◌, ◌||◌, not, Option, Some, None, IsSome, is_none, nat_lt, nat_le}
+use Rattle.std.specs.Prelude.{if◌then◌else◌, Result, Ok, Err, OnOk, IfErr}
 use Rattle.std.proofs.lemmas.Option.{none-some}
 use Rattle.std.proofs.lemmas.Bool.{true≢false, eqb-true, or_from, or_parts, not_from_true, eqb-false}
 use Rattle.std.proofs.lemmas.Bool.Decides.{nat_tests}
@@ -13,11 +15,13 @@ use Rattle.game_model.proofs.Best.{optimum-below}
 use Rattle.step_core.specs.declared.event.Event.{Event}
 use Rattle.step_core.specs.declared.event.Event.TheVariants.{Load, Won, Lost, Split, Join}
 use Rattle.step_core.specs.declared.event.Refused.{Refused}
-use Rattle.step_core.specs.declared.event.Refused.TheVariants.{OutOfMemory, NoView, SameView, NoState, FixedState, BadChoice, NotFrom, NotRaised, TooHigh, SameWord}
+use Rattle.step_core.specs.declared.event.Refused.TheVariants.{OutOfMemory, NoView, SameView, NoState, FixedState}
+use Rattle.step_core.specs.declared.event.Refused.TheVariants.{BadChoice, NotFrom, NotRaised, TooHigh, SameWord}
 use Rattle.step_core.specs.Word.{value_in, choice_in, value_at}
 use Rattle.fixed_bellman.specs.Given.{IsFree, IsGivenBy}
 use Rattle.step_core.specs.Configuration.{Configuration, view_of, seen_by}
-use Rattle.step_core.specs.Events.{IsLive, Raises, Lawful, on_side, is_bad_choice, given_by, unless_there, unless_raised, reasons, first_of, Answers}
+use Rattle.step_core.specs.Events.{IsLive, Raises, Lawful, on_side, is_bad_choice, given_by, unless_there}
+use Rattle.step_core.specs.Events.{unless_raised, reasons, first_of, Answers}
 use Rattle.fixed_bellman.proofs.Tables.{free_step, IsGivenBy-below}
 
 -- the first reason does not hold

@@ -1,5 +1,6 @@
 -- The opening words, and a won exchange, keep what holds of the words.
-use Rattle.std.proofs.Common.{◌≡◌, ℕ, zero, suc, ◌+◌, ◌<◌, ◌≤◌, Bool, true, false, List, [], ◌∷◌, ◌++◌, length, get_or, set, map, take, arith, refl, sym, ap, ◌∙◌, subst, inl, inr, le_refl, length-set}
+use Rattle.std.proofs.Common.{◌≡◌, ℕ, zero, suc, ◌+◌, ◌<◌, ◌≤◌, Bool, true, false, List, [], ◌∷◌, ◌++◌, length, get_or}
+use Rattle.std.proofs.Common.{set, map, take, arith, refl, sym, ap, ◌∙◌, subst, inl, inr, le_refl, length-set}
 use Rattle.std.specs.Prelude.{slice_index, slice_index_or, Some, if◌then◌else◌}
 use Rattle.std.proofs.lemmas.Bool.{cases_eq, true≢false, cases_Bool}
 use Rattle.std.proofs.lemmas.List.{map-set, length-map, take_more}
@@ -9,7 +10,8 @@ use Rattle.game_model.specs.Limits.{unit}
 use Rattle.game_model.specs.Rounded.{down_step, down_steps, opening, IsBelow}
 use Rattle.game_model.proofs.Choices.{AreChoicesOf, AreChoicesOf-choices_of}
 use Rattle.game_laws.proofs.Steps.{down_step-le, down_steps-rises}
-use Rattle.step_core.specs.Word.{packed, value_in, choice_in, value_at, values_of, picks_of, opening_words, opening_word}
+use Rattle.step_core.specs.Word.{packed, value_in, choice_in, value_at, values_of, picks_of, opening_words}
+use Rattle.step_core.specs.Word.{opening_word}
 use Rattle.step_core.specs.Sound.{AreSoundWords, Sees}
 use Rattle.fixed_bellman.specs.Given.{IsFree, IsGivenBy}
 use Rattle.fixed_bellman.proofs.Tables.{IsGivenBy-below}

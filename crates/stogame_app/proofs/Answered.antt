@@ -1,10 +1,12 @@
 -- The answer to a command that asks a question, from what its parts answered.
-use Rattle.std.proofs.Common.{◌≡◌, ◌<◌, ◌≤◌, ◌∙◌, All, inl, inr, ℕ, Bool, true, List, Option, Some, None, Result, Ok, Err, ap, subst, arith}
+use Rattle.std.proofs.Common.{◌≡◌, ◌<◌, ◌≤◌, ◌∙◌, All, inl, inr, ℕ, Bool, true, List, Option, Some, None, Result, Ok}
+use Rattle.std.proofs.Common.{Err, ap, subst, arith}
 use Rattle.std.specs.Prelude.{IfOk, IsErrOf}
 use Rattle.text_lines.specs.Limits.{most_bytes}
 use Rattle.game_outside.specs.Outside.{Holding, KeepsShelf}
 use Rattle.game_model.specs.Query.{states}
-use Rattle.command_words.specs.Words.{Asked, Check, Audit, Solve, Command, OfCheck, OfAudit, OfSolve, OfSure, AreCommand}
+use Rattle.command_words.specs.Words.{Asked, Check, Audit, Solve, Command, OfCheck, OfAudit, OfSolve, OfSure}
+use Rattle.command_words.specs.Words.{AreCommand}
 use Rattle.run_refusals.specs.declared.refusal.Refusal.{Refusal}
 use Rattle.run_refusals.specs.declared.refusal.Refusal.TheVariants.{TooLong}
 use Rattle.asked_files.specs.declared.load.End.{End}
@@ -18,7 +20,8 @@ use Rattle.asked_files.specs.Sources.{Sources, SourceWith, IfKnown, sources_of}
 use Rattle.asked_files.specs.Loading.{IsTooLong, LoadingLeaves, Loads, ReadsNothing, RefusesCaused, Takes}
 use Rattle.asked_files.specs.Posed.{Reading, posed, reading_said}
 use Rattle.asked_files.specs.Asks.{Asks}
-use Rattle.asked_files.specs.Questions.{LacksText, LacksValues, PosesIt, Reads, ReadsAs, RefusesCertificate, RefusesQuestion, RefusesValues}
+use Rattle.asked_files.specs.Questions.{LacksText, LacksValues, PosesIt, Reads, ReadsAs, RefusesCertificate}
+use Rattle.asked_files.specs.Questions.{RefusesQuestion, RefusesValues}
 use Rattle.run_answers.specs.declared.answer.Answer.{Answer}
 use Rattle.run_answers.specs.Status.{IsAnswer}
 use Rattle.stogame_app.specs.Commands.{IsMissing, ReadsFiles, RefusesIt, check_paths}

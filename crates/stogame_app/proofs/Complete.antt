@@ -1,5 +1,6 @@
 -- What is accepted is answered.
-use Rattle.std.proofs.Common.{◌≡◌, ◌<◌, ◌≤◌, ◌⊎◌, ◌↔◌, ◌∙◌, inl, inr, ℕ, Bool, List, length, Option, Some, None, ap, refl, subst, sym, arith}
+use Rattle.std.proofs.Common.{◌≡◌, ◌<◌, ◌≤◌, ◌⊎◌, ◌↔◌, ◌∙◌, inl, inr, ℕ, Bool, List, length, Option, Some, None, ap}
+use Rattle.std.proofs.Common.{refl, subst, sym, arith}
 use Rattle.text_lines.specs.Limits.{most_bytes}
 use Rattle.game_outside.specs.Outside.{Holding}
 use Rattle.game_model.specs.Query.{Query, states}
@@ -11,7 +12,8 @@ use Rattle.certificate_audit.specs.Refused.{IsRefused}
 use Rattle.command_words.specs.Words.{Asked, Command, OfCheck, OfAudit, OfSolve, OfMake, OfSure, AreCommand}
 use Rattle.run_refusals.specs.declared.refusal.Text.TheVariants.{Tra, Lab, Own, Cert, Values}
 use Rattle.run_refusals.specs.declared.refusal.Refusal.{Refusal}
-use Rattle.run_refusals.specs.declared.refusal.Refusal.TheVariants.{OfTra, OfLab, OfOwn, OfFormula, OfQuestion, WrongKind, OfCertificate, OfValues, TooLong}
+use Rattle.run_refusals.specs.declared.refusal.Refusal.TheVariants.{OfTra, OfLab, OfOwn, OfFormula, OfQuestion}
+use Rattle.run_refusals.specs.declared.refusal.Refusal.TheVariants.{WrongKind, OfCertificate, OfValues, TooLong}
 use Rattle.asked_files.specs.declared.problem.Paths.{Paths}
 use Rattle.asked_files.specs.declared.problem.Paths.TheVariants.{Unbounded, Reaching}
 use Rattle.formula_sets.specs.Posing.{Posing}
@@ -20,11 +22,14 @@ use Rattle.asked_files.specs.Said.{NotHeld, Denoted, and_then}
 use Rattle.asked_files.specs.Sources.{Sources, sources_of, IfKnown}
 use Rattle.asked_files.specs.Posed.{posed, problem_said, reading_said}
 use Rattle.asked_files.specs.Asks.{GivenTextWith, Asks}
-use Rattle.asked_files.specs.Questions.{PosesIt, RefusesQuestion, RefusesCertificate, GivesValues, RefusesValues, RefusesValuesText, LacksValues}
+use Rattle.asked_files.specs.Questions.{PosesIt, RefusesQuestion, RefusesCertificate, GivesValues, RefusesValues}
+use Rattle.asked_files.specs.Questions.{RefusesValuesText, LacksValues}
 use Rattle.run_answers.specs.declared.status.Status.{Status}
-use Rattle.run_answers.specs.declared.status.Status.TheVariants.{Fine, SomeFalse, SomeUndecided, Usage, ModelRefused, ReadFault, WriteFault, OutOfMemory, CertificateRefused}
+use Rattle.run_answers.specs.declared.status.Status.TheVariants.{Fine, SomeFalse, SomeUndecided, Usage, ModelRefused}
+use Rattle.run_answers.specs.declared.status.Status.TheVariants.{ReadFault, WriteFault, OutOfMemory, CertificateRefused}
 use Rattle.run_answers.specs.Status.{IsAnswer}
-use Rattle.stogame_app.specs.Commands.{IsAcceptedOf, IsAcceptedFrom, IsMissing, ReadsFiles, RefusesBehind, RefusesHints, RefusesIt, check_paths}
+use Rattle.stogame_app.specs.Commands.{IsAcceptedOf, IsAcceptedFrom, IsMissing, ReadsFiles, RefusesBehind, RefusesHints}
+use Rattle.stogame_app.specs.Commands.{RefusesIt, check_paths}
 use Rattle.stogame_app.specs.Run.{AsksShelf, IsAcceptedOfWords, IsEnding, IsMissingOfWords, IsReadable, RefusesWords}
 
 -- 1. A question, and a certificate.

@@ -1,5 +1,6 @@
 -- How a run ends, from what was made for its words and what was written.
-use Rattle.std.proofs.Common.{◌≡◌, ◌<◌, ◌≤◌, ◌⊎◌, inl, inr, ℕ, Bool, List, Option, Result, Ok, Err, ap, refl, subst, sym, arith}
+use Rattle.std.proofs.Common.{◌≡◌, ◌<◌, ◌≤◌, ◌⊎◌, inl, inr, ℕ, Bool, List, Option, Result, Ok, Err, ap, refl, subst}
+use Rattle.std.proofs.Common.{sym, arith}
 use Rattle.text_lines.specs.Limits.{most_bytes}
 use Rattle.game_outside.specs.Outside.{Holding, GrowsBy, GrowsByPrefix}
 use Rattle.command_words.specs.Words.{Command, OfCheck, OfAudit, OfSolve, OfMake, OfSure, AreCommand}
@@ -13,13 +14,15 @@ use Rattle.asked_files.specs.declared.load.End.TheVariants as end
 use Rattle.asked_files.specs.Loading.{Takes}
 use Rattle.run_answers.specs.declared.answer.Answer.{Answer}
 use Rattle.run_answers.specs.declared.status.Status.{Status}
-use Rattle.run_answers.specs.declared.status.Status.TheVariants.{Fine, SomeFalse, SomeUndecided, Usage, ModelRefused, ReadFault, WriteFault, OutOfMemory, CertificateRefused}
+use Rattle.run_answers.specs.declared.status.Status.TheVariants.{Fine, SomeFalse, SomeUndecided, Usage, ModelRefused}
+use Rattle.run_answers.specs.declared.status.Status.TheVariants.{ReadFault, WriteFault, OutOfMemory, CertificateRefused}
 use Rattle.stogame_app.specs.Status.{IsRefusal, refused_status}
 use Rattle.run_answers.specs.Status.{IsAnswer}
 use Rattle.stogame_app.specs.Commands.{ReadsFiles, RefusesIt}
 use Rattle.stogame_app.specs.inside.Answers.{IsAnswered}
 use Rattle.stogame_app.specs.Reports.{IsReportOfWords}
-use Rattle.stogame_app.specs.Run.{AnswersWords, AsksShelf, IsEnding, IsLong, IsOutput, IsRefusalOfWords, RefusesWords, Writes}
+use Rattle.stogame_app.specs.Run.{AnswersWords, AsksShelf, IsEnding, IsLong, IsOutput, IsRefusalOfWords, RefusesWords}
+use Rattle.stogame_app.specs.Run.{Writes}
 
 -- 1. What was made for a command that the words denote.
 

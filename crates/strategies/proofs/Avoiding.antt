@@ -4,7 +4,8 @@ use Rattle.std.proofs.Math.Nat.{mul_comm, mul-sub}
 use Rattle.game_model.specs.Limits.{unit}
 use Rattle.game_model.specs.Query.{Query}
 use Rattle.game_model.specs.Values.{denominator}
-use Rattle.strategies.specs.Strategies.{reach, by_plan, HoldsAgainstAll, ReachesAgainstAll, AvoidsAgainstAll, IsAvoidedAgainstAll}
+use Rattle.strategies.specs.Strategies.{reach, by_plan, HoldsAgainstAll, ReachesAgainstAll, AvoidsAgainstAll}
+use Rattle.strategies.specs.Strategies.{IsAvoidedAgainstAll}
 
 sub-mul : (a b c : ℕ) → (a - b) * c ≡ a * c - b * c
 sub-mul a b c = mul_comm (a - b) c ∙ mul-sub c a b ∙ ap (λ x. x - c * b) (mul_comm c a)

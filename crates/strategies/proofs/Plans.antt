@@ -1,5 +1,6 @@
 -- A plan against every strategy of the other side.
-use Rattle.std.proofs.Common.{◌≡◌, ℕ, zero, suc, ◌+◌, ◌*◌, ◌^◌, ◌<◌, ◌≤◌, List, [], ◌∷◌, length, get_or, take, drop, arith, refl, ap, subst, Option}
+use Rattle.std.proofs.Common.{◌≡◌, ℕ, zero, suc, ◌+◌, ◌*◌, ◌^◌, ◌<◌, ◌≤◌, List, [], ◌∷◌, length, get_or, take, drop}
+use Rattle.std.proofs.Common.{arith, refl, ap, subst, Option}
 use Rattle.std.specs.Bool.{if◌then◌else◌}
 use Rattle.std.proofs.Math.Nat.{mul-le-mul_left, pow-zero, pow-suc}
 use Rattle.game_model.specs.declared.game.Side.{Side}
@@ -13,7 +14,8 @@ use Rattle.game_model.specs.Plans.{same_side, planned, planned_place, numerator_
 use Rattle.game_model.specs.Ranks.{ReachesUnder}
 use Rattle.game_model.proofs.Best.{optimum-each, optimum-below}
 use Rattle.game_model.proofs.Choices.{planned_place-inside}
-use Rattle.strategies.specs.Strategies.{Turn, Strategy, IsStrategyOf, of_side, worth, reach, by_plan, HoldsOver, ReachesOver, HoldsAgainstAll, ReachesAgainstAll}
+use Rattle.strategies.specs.Strategies.{Turn, Strategy, IsStrategyOf, of_side, worth, reach, by_plan, HoldsOver}
+use Rattle.strategies.specs.Strategies.{ReachesOver, HoldsAgainstAll, ReachesAgainstAll}
 use Rattle.strategies.proofs.Turns.{pow-product}
 use Rattle.strategies.proofs.Bounds.{reach-least, reach-most}
 use Rattle.strategies.proofs.Best.{best_of, best_of-inside, best-least, best-most}

@@ -1,5 +1,6 @@
 -- Lines behind blank ones.
-use Rattle.std.proofs.Common.{◌≡◌, ◌≢◌, ℕ, List, [], ◌∷◌, ◌++◌, sym, ap, ◌∙◌, refl, subst, arith, append_assoc, if◌then◌else◌, ◌+◌, ◌<◌}
+use Rattle.std.proofs.Common.{◌≡◌, ◌≢◌, ℕ, List, [], ◌∷◌, ◌++◌, sym, ap, ◌∙◌, refl, subst, arith, append_assoc}
+use Rattle.std.proofs.Common.{if◌then◌else◌, ◌+◌, ◌<◌}
 use Rattle.std.proofs.lemmas.List.{append-nil, length-append}
 use Rattle.text_lines.specs.Text.{fields_of, is_nil, keep_line, significant}
 use Rattle.text_lines.specs.Blank.{AreBlank, BehindBlanks}

@@ -1,5 +1,6 @@
 -- Bytes that are cut at the first LF, and the ending of a line.
-use Rattle.std.proofs.Common.{◌≡◌, ◌≢◌, ◌<◌, ◌-◌, ℕ, zero, suc, true, false, List, [], ◌∷◌, ◌++◌, length, take, drop, Some, None, sym, ap, ◌∙◌, refl, subst, arith, eqb, slice_index, ◌==◌, append_assoc, Bool}
+use Rattle.std.proofs.Common.{◌≡◌, ◌≢◌, ◌<◌, ◌-◌, ℕ, zero, suc, true, false, List, [], ◌∷◌, ◌++◌, length, take, drop}
+use Rattle.std.proofs.Common.{Some, None, sym, ap, ◌∙◌, refl, subst, arith, eqb, slice_index, ◌==◌, append_assoc, Bool}
 use Rattle.std.proofs.lemmas.Bool.Decides.{nat_tests}
 use Rattle.memchr.specs.Find.{IsFirstByte, is_byte}
 use Rattle.text_lines.specs.Text.{lines_of}

@@ -1,5 +1,6 @@
 -- The laws of fields: a blank parts a line, and what has none is one field.
-use Rattle.std.proofs.Common.{◌≡◌, ◌<◌, ℕ, List, [], ◌∷◌, ◌++◌, length, ap, ◌∙◌, sym, refl, true, false, cond, arith, inl, inr}
+use Rattle.std.proofs.Common.{◌≡◌, ◌<◌, ℕ, List, [], ◌∷◌, ◌++◌, length, ap, ◌∙◌, sym, refl, true, false, cond, arith}
+use Rattle.std.proofs.Common.{inl, inr}
 use Rattle.std.proofs.lemmas.Bool.{cases_Bool}
 use Rattle.text_lines.specs.Text.{fields_of, prepend, ends_field, is_blank, is_nil}
 use Rattle.text_lines.specs.Laws.{HasNoBlank}

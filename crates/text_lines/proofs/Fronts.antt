@@ -1,12 +1,15 @@
 -- The field at the front, a digit after another.
-use Rattle.std.proofs.Common.{◌≡◌, ◌<◌, ◌+◌, ◌-◌, ◌*◌, ◌^◌, ℕ, List, [], ◌∷◌, length, take, drop, get_or, sym, ap, ◌∙◌, refl, subst, true, false, arith, suc, Option, Some, ◌&&◌, eqb}
+use Rattle.std.proofs.Common.{◌≡◌, ◌<◌, ◌+◌, ◌-◌, ◌*◌, ◌^◌, ℕ, List, [], ◌∷◌, length, take, drop, get_or, sym, ap, ◌∙◌}
+use Rattle.std.proofs.Common.{refl, subst, true, false, arith, suc, Option, Some, ◌&&◌, eqb}
 use Rattle.std.specs.Option.{option_map}
 use Rattle.std.proofs.lemmas.Bool.Decides.{nat_tests}
 use Rattle.std.proofs.lemmas.List.{take_all}
-use Rattle.text_lines.specs.Text.{fields_of, is_nil, ends_field, is_blank, is_digit, all_digits, value_onto, number_of, saturated, skip_blanks}
+use Rattle.text_lines.specs.Text.{fields_of, is_nil, ends_field, is_blank, is_digit, all_digits, value_onto, number_of}
+use Rattle.text_lines.specs.Text.{saturated, skip_blanks}
 use Rattle.text_lines.specs.Numbers.{BeginsWithNumber}
 use Rattle.text_lines.specs.inside.Digits.{front_field, behind_field, AreDigitsBefore}
-use Rattle.text_lines.proofs.Texts.{BeginsField, field_split, field_len_step, fields_behind_blanks, field_begins, no_more}
+use Rattle.text_lines.proofs.Texts.{BeginsField, field_split, field_len_step, fields_behind_blanks, field_begins}
+use Rattle.text_lines.proofs.Texts.{no_more}
 use Rattle.text_lines.proofs.Digits.{is_number}
 
 digit_no_blank : (b : ℕ) → is_digit b ≡ true → is_blank b ≡ false

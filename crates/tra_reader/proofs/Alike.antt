@@ -1,9 +1,13 @@
 -- What transitions make is known from those of each choice, in whatever order they stand.
-use Rattle.std.proofs.Common.{◌≡◌, ◌∙◌, ◌<◌, ℕ, zero, suc, ◌+◌, ◌==◌, cond, List, [], ◌∷◌, map, Option, option_map, Ok, refl, ap, ap₂, arith}
+use Rattle.std.proofs.Common.{◌≡◌, ◌∙◌, ◌<◌, ℕ, zero, suc, ◌+◌, ◌==◌, cond, List, [], ◌∷◌, map, Option, option_map, Ok}
+use Rattle.std.proofs.Common.{refl, ap, ap₂, arith}
 use Rattle.std.specs.Option.{option_or}
 use Rattle.distributions.specs.Parts.{choice_said}
 use Rattle.tra_reader.specs.declared.line.Transition.{Transition}
-use Rattle.tra_reader.specs.Choices.{transitions_of, part_of, choice_end, least_missing, first_gap, first_crowded, if_crowded, of_state, self_loop, sum_of_first, then_push, choice_at, choices_said, state_said, states_said, unless_gap, unless_crowded, if_as_stated, transitions_game}
+use Rattle.tra_reader.specs.Choices.{transitions_of, part_of, choice_end, least_missing, first_gap, first_crowded}
+use Rattle.tra_reader.specs.Choices.{if_crowded, of_state, self_loop, sum_of_first, then_push, choice_at, choices_said}
+use Rattle.tra_reader.specs.Choices.{state_said, states_said, unless_gap, unless_crowded, if_as_stated}
+use Rattle.tra_reader.specs.Choices.{transitions_game}
 use Rattle.tra_reader.proofs.Ends.{end_alike, missing_alike}
 
 pub choices_alike : (ts us : List Transition) (s n : ℕ)

@@ -1,5 +1,6 @@
 -- Gaps between whole choices, and what all whole choices make.
-use Rattle.std.proofs.Common.{◌≡◌, ◌∙◌, ◌<◌, ◌≤◌, inl, inr, ℕ, suc, ◌+◌, ◌*◌, List, [], ◌∷◌, length, map, unwrap_or, Option, Some, None, Result, Err, refl, sym, ap, ap₂, subst, arith, add-zero}
+use Rattle.std.proofs.Common.{◌≡◌, ◌∙◌, ◌<◌, ◌≤◌, inl, inr, ℕ, suc, ◌+◌, ◌*◌, List, [], ◌∷◌, length, map, unwrap_or}
+use Rattle.std.proofs.Common.{Option, Some, None, Result, Err, refl, sym, ap, ap₂, subst, arith, add-zero}
 use Rattle.std.specs.List.{All}
 use Rattle.game_model.specs.Limits.{most_states}
 use Rattle.game_model.specs.Game.{Distribution}
@@ -13,10 +14,13 @@ use Rattle.tra_reader.specs.declared.progress.Progress.TheVariants.{Builds, Faul
 use Rattle.tra_reader.specs.declared.whole_choices.WholeChoices.{WholeChoices}
 use Rattle.tra_reader.specs.Faults.{fault_of_all}
 use Rattle.distributions.specs.declared.choice.Part.{Part}
-use Rattle.tra_reader.specs.Choices.{part_of, parts_of, transitions_of, choice_end, sum_of_first, first_crowded, states_said, unless_gap, unless_crowded, if_as_stated, transitions_game}
+use Rattle.tra_reader.specs.Choices.{part_of, parts_of, transitions_of, choice_end, sum_of_first, first_crowded}
+use Rattle.tra_reader.specs.Choices.{states_said, unless_gap, unless_crowded, if_as_stated, transitions_game}
 use Rattle.tra_reader.specs.inside.Order.{IsWithin, place_of}
 use Rattle.tra_reader.specs.inside.Answers.{LeadsInside}
-use Rattle.tra_reader.specs.inside.GrowingGames.{AreCounted, AreDrafted, HaveFault, HasGap, IsMade, IsWhole, place_behind, NoneBetween, AreWholeBefore, IsReady, IfBuilds, IsAsStated}
+use Rattle.tra_reader.specs.inside.GrowingGames.{AreCounted, AreDrafted, HaveFault, HasGap, IsMade, IsWhole}
+use Rattle.tra_reader.specs.inside.GrowingGames.{place_behind, NoneBetween, AreWholeBefore, IsReady, IfBuilds}
+use Rattle.tra_reader.specs.inside.GrowingGames.{IsAsStated}
 use Rattle.tra_reader.proofs.Decisions.{cases_lt}
 use Rattle.tra_reader.proofs.Ends.{AreSmall, none_of_high, above_of, one_missing, gap_here, gap_stays}
 

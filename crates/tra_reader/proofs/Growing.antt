@@ -1,5 +1,6 @@
 -- A game under way with one transition more.
-use Rattle.std.proofs.Common.{◌≡◌, ◌∙◌, ◌<◌, ◌≤◌, ℕ, true, false, List, [], ◌∷◌, ◌++◌, length, map, refl, sym, ap, ap₂, subst, arith}
+use Rattle.std.proofs.Common.{◌≡◌, ◌∙◌, ◌<◌, ◌≤◌, ℕ, true, false, List, [], ◌∷◌, ◌++◌, length, map, refl, sym, ap, ap₂}
+use Rattle.std.proofs.Common.{subst, arith}
 use Rattle.std.specs.List.{All}
 use Rattle.game_model.specs.Limits.{most_states}
 use Rattle.game_model.specs.Draft.{Draft, no_states}
@@ -12,11 +13,13 @@ use Rattle.tra_reader.specs.declared.whole_choices.WholeChoices.{WholeChoices}
 use Rattle.tra_reader.specs.Lines.{is_of}
 use Rattle.tra_reader.specs.Choices.{transitions_of, part_of, parts_of}
 use Rattle.tra_reader.specs.inside.Order.{IsWithin, place_of, transition_place}
-use Rattle.tra_reader.specs.inside.GrowingGames.{IsWhole, IsMade, place_behind, AreWholeBefore, EndsBefore, GoesTo, Growing, place_under_way, HoldsInOrder}
+use Rattle.tra_reader.specs.inside.GrowingGames.{IsWhole, IsMade, place_behind, AreWholeBefore, EndsBefore, GoesTo}
+use Rattle.tra_reader.specs.inside.GrowingGames.{Growing, place_under_way, HoldsInOrder}
 use Rattle.std.proofs.lemmas.List.Elements.{All-push, All-weaker}
 use Rattle.tra_reader.proofs.Ends.{AreSmall}
 use Rattle.tra_reader.proofs.Stays.{same_other, made_stays}
-use Rattle.tra_reader.proofs.Behind.{rises-push, this_choice, same_this, above_test, none_above, none_behind, none_behind_all, last_there, small_of}
+use Rattle.tra_reader.proofs.Behind.{rises-push, this_choice, same_this, above_test, none_above, none_behind}
+use Rattle.tra_reader.proofs.Behind.{none_behind_all, last_there, small_of}
 
 part_there : (parts : List Part) (part : Part) → parts ++ part ∷ [] ≡ [] → ⊥
 part_there [] part e = cc

@@ -1,5 +1,6 @@
 -- A row that is read is one that its line says, and the other way round.
-use Rattle.std.proofs.Common.{◌≡◌, ◌∙◌, ◌<◌, ◌≤◌, inl, inr, ℕ, ◌+◌, false, cond, List, [], ◌∷◌, ◌++◌, length, Option, Some, None, Result, Ok, Err, refl, sym, ap, ap₂, subst, arith, nat_lt, append_assoc}
+use Rattle.std.proofs.Common.{◌≡◌, ◌∙◌, ◌<◌, ◌≤◌, inl, inr, ℕ, ◌+◌, false, cond, List, [], ◌∷◌, ◌++◌, length, Option}
+use Rattle.std.proofs.Common.{Some, None, Result, Ok, Err, refl, sym, ap, ap₂, subst, arith, nat_lt, append_assoc}
 use Rattle.std.proofs.lemmas.List.{length_push}
 use Rattle.text_lines.specs.Text.{fields_of, is_nil}
 use Rattle.distributions.specs.declared.number.NumberFault.{NumberFault}
@@ -11,7 +12,9 @@ use Rattle.tra_reader.specs.declared.line.Transition.{Transition}
 use Rattle.tra_reader.specs.declared.fault.TraCause.{TraCause}
 use Rattle.tra_reader.specs.declared.fault.TraCause.TheVariants.{StateOutOfRange, OverLimit, LineCount, ActionClash}
 use Rattle.tra_reader.specs.Faults.{fault_of_all}
-use Rattle.tra_reader.specs.Lines.{Row, LineParts, IsRow, AreRows, line_parts, transition_with, transition_within, transition_said, row_with, parts_said, row_said, clashes, action_checked, line_said, behind, rows_said}
+use Rattle.tra_reader.specs.Lines.{Row, LineParts, IsRow, AreRows, line_parts, transition_with, transition_within}
+use Rattle.tra_reader.specs.Lines.{transition_said, row_with, parts_said, row_said, clashes, action_checked, line_said}
+use Rattle.tra_reader.specs.Lines.{behind, rows_said}
 use Rattle.tra_reader.proofs.Decisions.{chosen, lt_from, ge_from, lt_test, ge_test}
 use Rattle.tra_reader.proofs.Rows.{said_with}
 

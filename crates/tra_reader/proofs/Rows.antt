@@ -1,5 +1,6 @@
 -- Rows behind one another.
-use Rattle.std.proofs.Common.{◌≡◌, ◌∙◌, ◌<◌, ℕ, suc, zero, ◌+◌, ◌*◌, ◌==◌, ◌&&◌, Bool, false, not, cond, List, [], ◌∷◌, length, Option, option_map, slice_get, Ok, Err, refl, ap, ap₂, arith, nat_lt}
+use Rattle.std.proofs.Common.{◌≡◌, ◌∙◌, ◌<◌, ℕ, suc, zero, ◌+◌, ◌*◌, ◌==◌, ◌&&◌, Bool, false, not, cond, List, [], ◌∷◌}
+use Rattle.std.proofs.Common.{length, Option, option_map, slice_get, Ok, Err, refl, ap, ap₂, arith, nat_lt}
 use Rattle.std.proofs.lemmas.Bool.Decides.{nat_tests}
 use Rattle.std.specs.List.{filter, All}
 use Rattle.std.specs.Option.{option_map_or}

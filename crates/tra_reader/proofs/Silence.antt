@@ -1,5 +1,6 @@
 -- Rows without an action.
-use Rattle.std.proofs.Common.{◌≡◌, ◌∙◌, ◌<◌, ◌+◌, inl, inr, ℕ, ◌==◌, not, Bool, false, cond, List, [], ◌∷◌, ◌++◌, length, take, get_or, option_map, slice_get, refl, ap, ap₂, sym}
+use Rattle.std.proofs.Common.{◌≡◌, ◌∙◌, ◌<◌, ◌+◌, inl, inr, ℕ, ◌==◌, not, Bool, false, cond, List, [], ◌∷◌, ◌++◌}
+use Rattle.std.proofs.Common.{length, take, get_or, option_map, slice_get, refl, ap, ap₂, sym}
 use Rattle.std.proofs.lemmas.Bool.{cases_Bool}
 use Rattle.std.proofs.lemmas.List.{take_more}
 use Rattle.std.specs.List.{filter}

@@ -1,5 +1,7 @@
 -- The choices of the states that are made are those that transitions come to, and the other way round.
-use Rattle.std.proofs.Common.{◌≡◌, ◌∙◌, ◌<◌, ◌≤◌, ◌⊎◌, inl, inr, ℕ, zero, suc, ◌==◌, nat_lt, Bool, true, false, cond, List, [], ◌∷◌, ◌++◌, length, map, get_or, take, Option, Some, None, option_map, Result, Ok, Err, refl, sym, ap, ap₂, subst, arith, add-one}
+use Rattle.std.proofs.Common.{◌≡◌, ◌∙◌, ◌<◌, ◌≤◌, ◌⊎◌, inl, inr, ℕ, zero, suc, ◌==◌, nat_lt, Bool, true, false, cond}
+use Rattle.std.proofs.Common.{List, [], ◌∷◌, ◌++◌, length, map, get_or, take, Option, Some, None, option_map, Result}
+use Rattle.std.proofs.Common.{Ok, Err, refl, sym, ap, ap₂, subst, arith, add-one}
 use Rattle.std.proofs.lemmas.Bool.{cases_eq, eqb-true, eq-eqb, ne_eqb}
 use Rattle.std.proofs.lemmas.List.{length_push, get_or_append_left, get_or_push, take_more}
 use Rattle.std.proofs.Math.Seq.{take-length}
@@ -15,7 +17,10 @@ use Rattle.tra_reader.specs.declared.line.Transition.{Transition}
 use Rattle.tra_reader.specs.declared.fault.TraCause.TheVariants.{ChoiceCount}
 use Rattle.tra_reader.specs.declared.fault.TraFault.{TraFault}
 use Rattle.tra_reader.specs.Faults.{fault_of_all}
-use Rattle.tra_reader.specs.Choices.{transitions_of, part_of, parts_of, HasChoices, IsState, self_loop, sum_of_first, choice_end, least_missing, first_gap, first_crowded, of_state, then_push, choice_at, choices_said, state_said, states_said, unless_gap, unless_crowded, if_as_stated, transitions_game}
+use Rattle.tra_reader.specs.Choices.{transitions_of, part_of, parts_of, HasChoices, IsState, self_loop, sum_of_first}
+use Rattle.tra_reader.specs.Choices.{choice_end, least_missing, first_gap, first_crowded, of_state, then_push}
+use Rattle.tra_reader.specs.Choices.{choice_at, choices_said, state_said, states_said, unless_gap, unless_crowded}
+use Rattle.tra_reader.specs.Choices.{if_as_stated, transitions_game}
 use Rattle.tra_reader.specs.Lines.{is_of}
 use Rattle.tra_reader.proofs.Decisions.{chosen, cases_lt, ge_from, ge_test}
 use Rattle.tra_reader.proofs.Ends.{end_is, end_none, all_there, none_missing, no_gap}

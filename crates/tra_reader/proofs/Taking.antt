@@ -1,5 +1,6 @@
 -- One line further: what a row that is held gives for the answers, whatever is kept of it.
-use Rattle.std.proofs.Common.{◌≡◌, ◌≢◌, ◌∙◌, ◌<◌, ◌⊎◌, inl, inr, ℕ, ◌+◌, true, false, List, [], ◌∷◌, ◌++◌, length, Option, Some, None, Result, Ok, Err, refl, sym, ap, subst}
+use Rattle.std.proofs.Common.{◌≡◌, ◌≢◌, ◌∙◌, ◌<◌, ◌⊎◌, inl, inr, ℕ, ◌+◌, true, false, List, [], ◌∷◌, ◌++◌, length}
+use Rattle.std.proofs.Common.{Option, Some, None, Result, Ok, Err, refl, sym, ap, subst}
 use Rattle.text_lines.specs.Text.{fields_of, is_nil}
 use Rattle.game_model.specs.Game.{Distribution}
 use Rattle.tra_reader.specs.declared.header.Header.{Header}
@@ -10,7 +11,8 @@ use Rattle.game_outside.specs.Answers.{AnswersOrWants}
 use Rattle.tra_reader.specs.Faults.{fault_at, fault_of_all, IsOutOfMemory}
 use Rattle.tra_reader.specs.Lines.{Row, row_said, header_said, behind, rows_said, clashes}
 use Rattle.tra_reader.specs.Text.{lines_game, rows_game, behind_header}
-use Rattle.tra_reader.specs.inside.Reading.{HasFault, IsAnswer, IsRight, Begins, TakesLine, AddsRow, RefusesLine, RefusesRow, Finishes, clash_of, at_first_line}
+use Rattle.tra_reader.specs.inside.Reading.{HasFault, IsAnswer, IsRight, Begins, TakesLine, AddsRow, RefusesLine}
+use Rattle.tra_reader.specs.inside.Reading.{RefusesRow, Finishes, clash_of, at_first_line}
 use Rattle.tra_reader.proofs.Rows.{said_with}
 
 pub filled : (fields : List (List ℕ)) → fields ≢ [] → is_nil fields ≡ false

@@ -14,7 +14,9 @@ use Rattle.tra_reader.proofs.HeaderLaws.{header_found, header_again}
 use Rattle.tra_reader.proofs.RowLaws.{NumbersFound, NumbersAgain, Follow, rows_found, rows_again}
 use Rattle.tra_reader.proofs.ActionLaws.{action_in, actions_found, actions_again}
 use Rattle.tra_reader.proofs.Alike.{sum_alike}
-use Rattle.tra_reader.proofs.StateLaws.{ChoicesFound, ChoicesAgain, HaveFractions, fraction_first, MakesGame, state_found, state_again, states_found, states_again, gaps_found, gaps_again, crowds_found, crowds_again, game_found, game_again}
+use Rattle.tra_reader.proofs.StateLaws.{ChoicesFound, ChoicesAgain, HaveFractions, fraction_first, MakesGame}
+use Rattle.tra_reader.proofs.StateLaws.{state_found, state_again, states_found, states_again, gaps_found, gaps_again}
+use Rattle.tra_reader.proofs.StateLaws.{crowds_found, crowds_again, game_found, game_again}
 
 -- the probabilities of rows are fractions
 fractions : (header : Header) (lines : List (List ℕ)) (rows : List Row) → AreRows header lines rows

@@ -1,5 +1,6 @@
 -- One choice more is whole, and one state more.
-use Rattle.std.proofs.Common.{◌≡◌, ◌∙◌, ◌<◌, ◌≤◌, inl, inr, ℕ, zero, suc, ◌+◌, cond, List, [], ◌∷◌, ◌++◌, length, Option, None, Some, Ok, Err, refl, sym, ap, ap₂, subst, arith, add-one, add-zero}
+use Rattle.std.proofs.Common.{◌≡◌, ◌∙◌, ◌<◌, ◌≤◌, inl, inr, ℕ, zero, suc, ◌+◌, cond, List, [], ◌∷◌, ◌++◌, length}
+use Rattle.std.proofs.Common.{Option, None, Some, Ok, Err, refl, sym, ap, ap₂, subst, arith, add-one, add-zero}
 use Rattle.std.proofs.lemmas.Bool.{eq-eqb, ne_eqb}
 use Rattle.std.proofs.lemmas.List.{length-map, length_push, nil_from_length}
 use Rattle.std.proofs.lemmas.List.Elements.{All-cons, All-filter, All-push, All-weaker}
@@ -20,10 +21,13 @@ use Rattle.tra_reader.specs.declared.progress.Progress.TheVariants.{Builds, Faul
 use Rattle.tra_reader.specs.Lines.{is_of}
 use Rattle.tra_reader.specs.declared.fault.TraCause.TheVariants.{Choice}
 use Rattle.tra_reader.specs.Faults.{fault_of_all}
-use Rattle.tra_reader.specs.Choices.{transitions_of, part_of, parts_of, choice_end, first_gap, first_crowded, if_crowded, least_missing, self_loop, sum_of_first, then_push, choice_at, choices_said, state_said, states_said}
+use Rattle.tra_reader.specs.Choices.{transitions_of, part_of, parts_of, choice_end, first_gap, first_crowded}
+use Rattle.tra_reader.specs.Choices.{if_crowded, least_missing, self_loop, sum_of_first, then_push, choice_at}
+use Rattle.tra_reader.specs.Choices.{choices_said, state_said, states_said}
 use Rattle.tra_reader.specs.inside.Order.{IsWithin}
 use Rattle.tra_reader.specs.inside.Answers.{LeadsInside}
-use Rattle.tra_reader.specs.inside.GrowingGames.{AreCounted, AreDrafted, HaveFault, IsMade, IsBuilt, IsChoiceFault, progress_of, ended}
+use Rattle.tra_reader.specs.inside.GrowingGames.{AreCounted, AreDrafted, HaveFault, IsMade, IsBuilt, IsChoiceFault}
+use Rattle.tra_reader.specs.inside.GrowingGames.{progress_of, ended}
 use Rattle.tra_reader.proofs.Decisions.{cases_lt, lt_test, ge_test}
 use Rattle.tra_reader.proofs.Ends.{end_is, none_missing, no_gap}
 use Rattle.tra_reader.proofs.Inside.{inside}

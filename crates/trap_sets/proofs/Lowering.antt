@@ -1,5 +1,6 @@
 -- A table that is lowered on closed sets stays inductive, and the replies stay held.
-use Rattle.std.proofs.Common.{◌≡◌, ◌≢◌, ℕ, ◌*◌, ◌<◌, ◌≤◌, List, length, get_or, min, arith, refl, sym, ap, subst, inl, inr, ◌∙◌, Option, Some, None}
+use Rattle.std.proofs.Common.{◌≡◌, ◌≢◌, ℕ, ◌*◌, ◌<◌, ◌≤◌, List, length, get_or, min, arith, refl, sym, ap, subst, inl}
+use Rattle.std.proofs.Common.{inr, ◌∙◌, Option, Some, None}
 use Rattle.std.specs.Prelude.{slice_index, slice_index_or, IsSomeAnd, All}
 use Rattle.std.specs.List.{AllByRecursion}
 use Rattle.std.proofs.Math.Nat.{min-le_left, min-le_right, le-min}

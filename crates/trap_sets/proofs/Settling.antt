@@ -4,7 +4,8 @@ use Rattle.std.specs.Prelude.{slice_index}
 use Rattle.std.proofs.lemmas.Bool.{cases_eq}
 use Rattle.game_model.specs.Query.{Query}
 use Rattle.trap_sets.specs.Ends.{IsEndComponent, IsMove, Walk, Reach}
-use Rattle.trap_sets.specs.inside.Parts.{Leaves, CutsPart, IsInner, IsStep, Comes, KeepsEnds, AreClasses, AreUncut, AreJoined}
+use Rattle.trap_sets.specs.inside.Parts.{Leaves, CutsPart, IsInner, IsStep, Comes, KeepsEnds, AreClasses, AreUncut}
+use Rattle.trap_sets.specs.inside.Parts.{AreJoined}
 use Rattle.trap_sets.specs.inside.Pairs.{pairs}
 use Rattle.trap_sets.proofs.Walking.{reach-join, reach-step, comes-part}
 use Rattle.trap_sets.proofs.Marking.{within}

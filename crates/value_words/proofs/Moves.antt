@@ -1,9 +1,11 @@
 -- Each step of a pass may be made: what it leaves is an event of the core.
-use Rattle.std.proofs.Common.{◌≡◌, ◌≢◌, ◌⊎◌, inl, inr, ℕ, ◌+◌, ◌<◌, ◌≤◌, true, List, [], length, get_or, set, eqb, refl, sym, ap, ◌∙◌, subst, le_refl, arith, length-set}
+use Rattle.std.proofs.Common.{◌≡◌, ◌≢◌, ◌⊎◌, inl, inr, ℕ, ◌+◌, ◌<◌, ◌≤◌, true, List, [], length, get_or, set, eqb, refl}
+use Rattle.std.proofs.Common.{sym, ap, ◌∙◌, subst, le_refl, arith, length-set}
 use Rattle.std.proofs.lemmas.Bool.{cases_eq}
 use mathlib.Core.Option.{none}
 use prog.Atomic.{either}
-use Rattle.atomic_table.specs.Table.{Act, keeps, step, stepped, opening, carried_after, Valid, Allows, Splits, Joins, Final, Seen}
+use Rattle.atomic_table.specs.Table.{Act, keeps, step, stepped, opening, carried_after, Valid, Allows, Splits, Joins}
+use Rattle.atomic_table.specs.Table.{Final, Seen}
 use Rattle.atomic_table.proofs.Lists.{at_set, exchanged}
 use Rattle.game_model.specs.Query.{Query, IsQuery, states}
 use Rattle.game_model.specs.Limits.{unit}
@@ -16,10 +18,12 @@ use Rattle.step_core.proofs.Sights.{value_at-here, value_at-else, value_at-rises
 use Rattle.step_core.proofs.Words.{AreSoundWords-units}
 use Rattle.value_words.specs.declared.rule.Sight.{Sight}
 use Rattle.value_words.specs.Shown.{Shared, Seated, IsPassOf}
-use Rattle.value_words.specs.Rule.{all_parts, opening_sight, halved, copied, joined, spent, MeetsRule, saw, Loaded, WonOrLost}
+use Rattle.value_words.specs.Rule.{all_parts, opening_sight, halved, copied, joined, spent, MeetsRule, saw, Loaded}
+use Rattle.value_words.specs.Rule.{WonOrLost}
 use Rattle.value_words.specs.Steps.{IsOffer, after_split, after_join}
 use Rattle.value_words.proofs.Parts.{parts-same, parts-alone, parts-split, parts-join, parts-opening}
-use Rattle.value_words.proofs.Events.{event-meets, pass-sees, load-event, won-event, lost-event, split-event, join-event}
+use Rattle.value_words.proofs.Events.{event-meets, pass-sees, load-event, won-event, lost-event, split-event}
+use Rattle.value_words.proofs.Events.{join-event}
 
 -- what was seen is no greater than what is found
 pub found-rises : (seen : List ℕ) (i found : ℕ)

@@ -1,5 +1,6 @@
 -- The last mark of a line.
-use Rattle.std.proofs.Common.{◌≡◌, ◌<◌, ◌≤◌, ◌∙◌, ℕ, zero, suc, true, List, [], ◌∷◌, length, take, drop, get_or, Some, None, ap, ap₂, sym, subst, cond, arith}
+use Rattle.std.proofs.Common.{◌≡◌, ◌<◌, ◌≤◌, ◌∙◌, ℕ, zero, suc, true, List, [], ◌∷◌, length, take, drop, get_or, Some}
+use Rattle.std.proofs.Common.{None, ap, ap₂, sym, subst, cond, arith}
 use Rattle.values_reader.specs.Lines.{is_mark, behind_byte, split_last}
 
 last_mark : (line : List ℕ) (k : ℕ) → k < length line → is_mark (get_or line k 0) ≡ true

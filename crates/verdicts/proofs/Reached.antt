@@ -1,6 +1,7 @@
 -- What a value that is reached says of thresholds, and values that a plan reaches.
 use Rattle.std.proofs.Common.{ℕ, ◌+◌, ◌*◌, ◌^◌, ◌<◌, ◌≤◌, List, Option, length, arith, lit<}
-use Rattle.std.proofs.Math.Nat.{mul-le-mul_left, mul-le-mul_right, le_of_mul-le-mul_left, lt_of_mul-lt-mul_left, one-le-pow}
+use Rattle.std.proofs.Math.Nat.{mul-le-mul_left, mul-le-mul_right, le_of_mul-le-mul_left, lt_of_mul-lt-mul_left}
+use Rattle.std.proofs.Math.Nat.{one-le-pow}
 use Rattle.game_model.specs.declared.game.Side.TheVariants.{Max}
 use Rattle.game_model.specs.Query.{Query, IsQuery}
 use Rattle.game_model.specs.Values.{denominator, numerator}

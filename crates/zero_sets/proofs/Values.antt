@@ -1,5 +1,6 @@
 -- Members of the attractor have positive values, and outside it all values are 0.
-use Rattle.std.proofs.Common.{◌≡◌, ℕ, zero, suc, ◌*◌, ◌/◌, ◌^◌, ◌<◌, ◌≤◌, Bool, true, false, List, length, map, get_or, arith, refl, sym, ◌∙◌, subst, sum_by, inl, inr, not}
+use Rattle.std.proofs.Common.{◌≡◌, ℕ, zero, suc, ◌*◌, ◌/◌, ◌^◌, ◌<◌, ◌≤◌, Bool, true, false, List, length, map, get_or}
+use Rattle.std.proofs.Common.{arith, refl, sym, ◌∙◌, subst, sum_by, inl, inr, not}
 use Rattle.std.specs.List.{AllByRecursion}
 use Rattle.std.specs.Prelude.{slice_index_or, slice_set}
 use Rattle.std.specs.Bool.{if◌then◌else◌}
@@ -18,7 +19,8 @@ use Rattle.game_model.proofs.Choices.{IsChoiceOf, AreChoicesOf, AreChoicesOf-cho
 use Rattle.game_model.proofs.Best.{optimum-most, optimum-below, optimum-each, weighted_sum-most}
 use Rattle.game_model.proofs.Rises.{numerator_of-rises}
 use Rattle.game_laws.proofs.Positive.{optimum-positive, marked-at-least, scaled-pos}
-use Rattle.attractors.specs.Attractor.{meets, attracts, is_attracted, dead_barred, Grew, from_goals, with_state, IsAttractor}
+use Rattle.attractors.specs.Attractor.{meets, attracts, is_attracted, dead_barred, Grew, from_goals, with_state}
+use Rattle.attractors.specs.Attractor.{IsAttractor}
 use Rattle.attractors.proofs.Tests.{any-place, any-none, all-each, all-place}
 use Rattle.attractors.proofs.Grown.{Grew-goals}
 

@@ -5,7 +5,8 @@ use Rattle.command_words.specs.Words.{asked_of_words}
 use Rattle.asked_files.specs.Texts.{labels_said, owners_said}
 use Rattle.asked_files.proofs.Leaving.{answer_leaves, both_leave, end_leaves, other_end}
 use Rattle.asked_files.proofs.Loading.{text_kept, text_missed, text_read, text_refused}
-use Rattle.asked_files.proofs.ModelTexts.{game_ends, labels_end, owners_end, formula_ends, formula_refused, all_read, lacks, reads}
+use Rattle.asked_files.proofs.ModelTexts.{game_ends, labels_end, owners_end, formula_ends, formula_refused, all_read}
+use Rattle.asked_files.proofs.ModelTexts.{lacks, reads}
 use Rattle.asked_files.proofs.model.load_model.Goals as goal
 
 pub returns-in_err-game-clause-refused : goal.returns-in_err-game-clause-refused

@@ -1,4 +1,5 @@
-use Rattle.std.proofs.Common.{◌≡◌, ◌∙◌, ◌+◌, ◌<◌, ℕ, All, List, Option, None, Some, false, arith, rules, inl, sym, subst, refl}
+use Rattle.std.proofs.Common.{◌≡◌, ◌∙◌, ◌+◌, ◌<◌, ℕ, All, List, Option, None, Some, false, arith, rules, inl, sym}
+use Rattle.std.proofs.Common.{subst, refl}
 use Rattle.std.specs.Prelude.{is_some, slice_index}
 use Rattle.game_model.specs.Query.{Query, states}
 use Rattle.game_model.specs.Rounded.{down_steps, IsBelow}

@@ -1,4 +1,5 @@
-use Rattle.std.proofs.Common.{◌≡◌, ◌∙◌, ◌≤◌, ◌+◌, ◌-◌, ◌*◌, ◌^◌, ℕ, true, get_or, drop, length, ap, subst, sym, refl, rules, arith}
+use Rattle.std.proofs.Common.{◌≡◌, ◌∙◌, ◌≤◌, ◌+◌, ◌-◌, ◌*◌, ◌^◌, ℕ, true, get_or, drop, length, ap, subst, sym, refl}
+use Rattle.std.proofs.Common.{rules, arith}
 use Prim.Native.Nat.{◌∣◌}
 use Rattle.text_lines.specs.Text.{is_digit, value_onto}
 use Rattle.distributions.proofs.Factors.{pow_divides}

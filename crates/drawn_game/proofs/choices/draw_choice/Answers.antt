@@ -6,7 +6,8 @@ use Rattle.drawn_game.specs.Drawings.{times}
 use Rattle.drawn_game.specs.inside.Adding.{with_part}
 use Rattle.drawn_game.specs.Rules.{other_part}
 use Rattle.drawn_game.proofs.Repeating.{value-times_more, last-times_more}
-use Rattle.drawn_game.proofs.Rising.{AreOfParts, IsPart, first_of_parts, more_of_parts, added_up-rises, added_up-weighty}
+use Rattle.drawn_game.proofs.Rising.{AreOfParts, IsPart, first_of_parts, more_of_parts, added_up-rises}
+use Rattle.drawn_game.proofs.Rising.{added_up-weighty}
 use Rattle.drawn_game.proofs.choices.draw_choice.Goals as goal
 
 pub loop-part-init : goal.loop-part-init

@@ -4,7 +4,8 @@ use Rattle.std.proofs.lemmas.Bool.{cases_eq}
 use Rattle.std.proofs.lemmas.List.{length-set}
 use Rattle.predecessors.specs.Moves.{move, LeadsTo}
 use Rattle.predecessors.specs.Marks.{IsMarked}
-use Rattle.predecessors.proofs.Marking.{predecessor-inside, predecessor-leads, all-marked, mark-kept, mark-set, mark-only}
+use Rattle.predecessors.proofs.Marking.{predecessor-inside, predecessor-leads, all-marked, mark-kept, mark-set}
+use Rattle.predecessors.proofs.Marking.{mark-only}
 use Rattle.predecessors.proofs.marks.mark_predecessors.Goals as goal
 
 pub bounds-marks-step : goal.bounds-marks-step

@@ -12,7 +12,8 @@ use Rattle.bracket_engine.specs.Found.{IsFound}
 use Rattle.verdicts.specs.declared.report.How.TheVariants.{Rounds}
 use Rattle.question_reports.proofs.Limits.{plan_line, plan-units, printed-in_limits}
 use Rattle.question_reports.proofs.Reported.{all-left_open, reported, verdict-answered, plan_verdict}
-use Rattle.question_reports.proofs.Shown.{held-found, shown-lists, shown-passes, shown-sound, shown-above, shown-printable}
+use Rattle.question_reports.proofs.Shown.{held-found, shown-lists, shown-passes, shown-sound, shown-above}
+use Rattle.question_reports.proofs.Shown.{shown-printable}
 use Rattle.question_reports.proofs.reports.bracket_report.Goals as goal
 
 pub shown-requires-clause-held : goal.shown-requires-clause-held

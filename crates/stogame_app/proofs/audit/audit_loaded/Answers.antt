@@ -10,7 +10,8 @@ use Rattle.formula_sets.specs.Seen.{posing_of}
 use Rattle.asked_files.specs.SeenProblems.{problem_of}
 use Rattle.asked_files.specs.Sources.{SourceWith}
 use Rattle.stogame_app.specs.Reports.{of_audit}
-use Rattle.stogame_app.proofs.Answered.{answered_by, audit_asks, more_loaded, reached-inside, reported, uncertified, unposed, wanting}
+use Rattle.stogame_app.proofs.Answered.{answered_by, audit_asks, more_loaded, reached-inside, reported, uncertified}
+use Rattle.stogame_app.proofs.Answered.{unposed, wanting}
 use Rattle.question_reports.proofs.AuditedTexts.{accepted_audited}
 use Rattle.stogame_app.proofs.audit.audit_loaded.Goals as goal
 

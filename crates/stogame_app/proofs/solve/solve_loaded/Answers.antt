@@ -9,7 +9,8 @@ use Rattle.asked_files.specs.Questions.{GivesValues}
 use Rattle.formula_sets.specs.Seen.{posing_of}
 use Rattle.asked_files.specs.SeenProblems.{problem_of}
 use Rattle.stogame_app.specs.Reports.{of_solve}
-use Rattle.stogame_app.proofs.Answered.{answered_by, more_loaded, reached-inside, reported, solve_asks, unhinted, unposed, wanting}
+use Rattle.stogame_app.proofs.Answered.{answered_by, more_loaded, reached-inside, reported, solve_asks, unhinted}
+use Rattle.stogame_app.proofs.Answered.{unposed, wanting}
 use Rattle.stogame_app.proofs.solve.solve_loaded.Goals as goal
 
 pub returns-in_err-problem : goal.returns-in_err-problem

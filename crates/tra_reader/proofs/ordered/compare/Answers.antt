@@ -2,7 +2,8 @@ use Rattle.std.proofs.Common.{rules, ◌≡◌, ◌∙◌, ◌<◌, ℕ, List, l
 use Rattle.std.specs.Str.{bytes_eq}
 use Rattle.tra_reader.specs.inside.GrowingGames.{place_under_way}
 use Rattle.tra_reader.proofs.UnderWay.{same_choice, later_choice, first_choice, no_parts}
-use Rattle.tra_reader.proofs.ordered.compare.Goals.{else-has_begun-via-then-has_begun+else-place, else-has_begun-via-else-has_begun}
+use Rattle.tra_reader.proofs.ordered.compare.Goals.{else-has_begun-via-then-has_begun+else-place}
+use Rattle.tra_reader.proofs.ordered.compare.Goals.{else-has_begun-via-else-has_begun}
 use Rattle.tra_reader.proofs.ordered.compare.Goals as goal
 
 pub returns-then-place : goal.returns-then-place

@@ -10,7 +10,9 @@ use Rattle.trap_sets.proofs.Leading.{listed-leads, leads-inside}
 use Rattle.trap_sets.proofs.Marking.{IsMarking-more, IsFurther-more, IsFurther-join}
 use Rattle.trap_sets.proofs.Following.{of-two, before-step}
 use Rattle.trap_sets.proofs.forward.follow_choice.Goals as goal
-use Rattle.trap_sets.proofs.forward.follow_choice.Goals.{then-seen-to+then-class-to+in_ok-push, else-seen-to, else-seen-to-via-then-seen-to+else-class-to, else-seen-to-via-else-seen-to}
+use Rattle.trap_sets.proofs.forward.follow_choice.Goals.{then-seen-to+then-class-to+in_ok-push, else-seen-to}
+use Rattle.trap_sets.proofs.forward.follow_choice.Goals.{else-seen-to-via-then-seen-to+else-class-to}
+use Rattle.trap_sets.proofs.forward.follow_choice.Goals.{else-seen-to-via-else-seen-to}
 
 pub bounds-seen-to : goal.bounds-seen-to
 bounds-seen-to c =

@@ -6,7 +6,8 @@ use Rattle.game_model.specs.Query.{side_at}
 use Rattle.trap_sets.specs.Exits.{IsBestBefore}
 use Rattle.trap_sets.proofs.Exits.{best-stays, best-less, best-raised}
 use Rattle.trap_sets.proofs.lower.raise_exit.Goals as goal
-use Rattle.trap_sets.proofs.lower.raise_exit.Goals.{then-not-stays+then-exits-trap, then-not-stays+else-exits-trap, else-not-stays}
+use Rattle.trap_sets.proofs.lower.raise_exit.Goals.{then-not-stays+then-exits-trap, then-not-stays+else-exits-trap}
+use Rattle.trap_sets.proofs.lower.raise_exit.Goals.{else-not-stays}
 
 pub loop-choice-preserved : goal.loop-choice-preserved
 loop-choice-preserved c =

@@ -3,7 +3,8 @@ use Rattle.std.specs.Prelude.{slice_index}
 use Rattle.std.proofs.lemmas.Bool.{cases_eq}
 use Rattle.trap_sets.specs.inside.OfInner.{IsInnerOf, IsUncutOf}
 use Rattle.trap_sets.proofs.split.any_cut.Goals as goal
-use Rattle.trap_sets.proofs.split.any_cut.Goals.{else-inner-state-ne0-via-then-inner-state-ne0+else-cut_at, else-inner-state-ne0-via-else-inner-state-ne0}
+use Rattle.trap_sets.proofs.split.any_cut.Goals.{else-inner-state-ne0-via-then-inner-state-ne0+else-cut_at}
+use Rattle.trap_sets.proofs.split.any_cut.Goals.{else-inner-state-ne0-via-else-inner-state-ne0}
 
 pub loop-state-preserved : goal.loop-state-preserved
 loop-state-preserved c = λ s k below some inner. elim (cases_eq s c.loop-state.state) [

@@ -13,7 +13,10 @@ use Rattle.trap_sets.proofs.Marking.{longer-join, longer-at, longer-length}
 use Rattle.trap_sets.proofs.Leading.{listed-move}
 use Rattle.trap_sets.proofs.Trimming.{of-three, AreWaiting-tested, passed-tested, AreWaiting-passed}
 use Rattle.trap_sets.proofs.trim.follow_gone.Goals as goal
-use Rattle.trap_sets.proofs.trim.follow_gone.Goals.{then-part-state-ne0+then-awaited-state+in_ok-test, else-part-state-ne0, else-part-state-ne0-via-then-part-state-ne0+else-awaited-state, else-part-state-ne0-via-else-part-state-ne0}
+use Rattle.trap_sets.proofs.trim.follow_gone.Goals.{then-part-state-ne0+then-awaited-state+in_ok-test}
+use Rattle.trap_sets.proofs.trim.follow_gone.Goals.{else-part-state-ne0}
+use Rattle.trap_sets.proofs.trim.follow_gone.Goals.{else-part-state-ne0-via-then-part-state-ne0+else-awaited-state}
+use Rattle.trap_sets.proofs.trim.follow_gone.Goals.{else-part-state-ne0-via-else-part-state-ne0}
 
 pub bounds-part-state : goal.bounds-part-state
 bounds-part-state c =

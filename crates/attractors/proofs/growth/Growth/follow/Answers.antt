@@ -1,12 +1,17 @@
-use Rattle.std.proofs.Common.{◌≡◌, ◌≤◌, ◌<◌, ◌+◌, ◌++◌, ◌∷◌, [], ℕ, List, Bool, true, false, length, arith, sym, ap, ◌∙◌, subst}
+use Rattle.std.proofs.Common.{◌≡◌, ◌≤◌, ◌<◌, ◌+◌, ◌++◌, ◌∷◌, [], ℕ, List, Bool, true, false, length, arith, sym, ap}
+use Rattle.std.proofs.Common.{◌∙◌, subst}
 use Rattle.std.specs.Prelude.{slice_index, slice_index_or, slice_set}
 use Rattle.std.proofs.lemmas.List.{get_or_read}
 use Rattle.game_model.specs.Game.{choices_of, choice_of}
 use Rattle.attractors.specs.Attractor.{Barred, serves, is_attracted}
 use Rattle.attractors.specs.Growing.{IsGrowth}
-use Rattle.attractors.proofs.Following.{IsGrowth-noted, IsGrowth-waits, IsGrowth-joins, attracted-greatest, attracted-least}
+use Rattle.attractors.proofs.Following.{IsGrowth-noted, IsGrowth-waits, IsGrowth-joins, attracted-greatest}
+use Rattle.attractors.proofs.Following.{attracted-least}
 use Rattle.attractors.proofs.growth.Growth.follow.Goals as goal
-use Rattle.attractors.proofs.growth.Growth.follow.Goals.{then-index-via-then-index, then-index-via-else-index+then-bars_state, then-index-via-else-index+else-bars_state+then-bars_choice, in-Max, in-Min+else-index-step+else-next-choices_of}
+use Rattle.attractors.proofs.growth.Growth.follow.Goals.{then-index-via-then-index}
+use Rattle.attractors.proofs.growth.Growth.follow.Goals.{then-index-via-else-index+then-bars_state}
+use Rattle.attractors.proofs.growth.Growth.follow.Goals.{then-index-via-else-index+else-bars_state+then-bars_choice}
+use Rattle.attractors.proofs.growth.Growth.follow.Goals.{in-Max, in-Min+else-index-step+else-next-choices_of}
 
 pub returns-then-index-clause-grows : goal.returns-then-index-clause-grows
 returns-then-index-clause-grows g c = λ followed h.

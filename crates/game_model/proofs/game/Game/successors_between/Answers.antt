@@ -4,7 +4,8 @@ use Rattle.game_model.specs.Game.{Distribution, successors_between}
 use Rattle.game_model.specs.Span.{span}
 use Rattle.game_model.proofs.Span.{take-drop-span}
 use Rattle.game_model.proofs.Facts.{states-count}
-use Rattle.game_model.proofs.Between.{begin-inside, begin-is, successors_between-at, between-within, successors_between-states}
+use Rattle.game_model.proofs.Between.{begin-inside, begin-is, successors_between-at, between-within}
+use Rattle.game_model.proofs.Between.{successors_between-states}
 use Rattle.game_model.proofs.game.Game.successors_between.Goals as goal
 
 pub index-requires : goal.index-requires

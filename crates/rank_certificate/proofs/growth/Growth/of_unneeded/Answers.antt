@@ -3,7 +3,8 @@ use Rattle.std.proofs.lemmas.Bool.{both_ways}
 use Rattle.rank_certificate.proofs.Found.{Opened-needs-in, Opened-free-in}
 use Rattle.rank_certificate.specs.inside.OfAsked.{value_in}
 use Rattle.rank_certificate.proofs.growth.Growth.of_unneeded.Goals as goal
-use Rattle.rank_certificate.proofs.growth.Growth.of_unneeded.Goals.{then-needs_rank+in_ok-push, else-needs_rank+in_ok-push-2+in_ok-push-3}
+use Rattle.rank_certificate.proofs.growth.Growth.of_unneeded.Goals.{then-needs_rank+in_ok-push}
+use Rattle.rank_certificate.proofs.growth.Growth.of_unneeded.Goals.{else-needs_rank+in_ok-push-2+in_ok-push-3}
 
 pub loop-state-preserved : goal.loop-state-preserved
 loop-state-preserved c = elim c.if-needs_rank.branch [

@@ -1,7 +1,8 @@
 use Rattle.std.proofs.Common.{◌≡◌, ℕ, ◌+◌, ◌-◌, ◌*◌, ◌^◌, ◌<◌, arith, ap, min, sym, subst, ◌∙◌}
 use Rattle.std.specs.Prelude.{IfSome}
 use Rattle.rank_certificate.specs.inside.OfGuesses.{entry_of}
-use Rattle.rank_certificate.proofs.Entries.{entry-first, entry-later, entry-zero, step-goal, step-dead, step-free, sum-more, sum-more-fits}
+use Rattle.rank_certificate.proofs.Entries.{entry-first, entry-later, entry-zero, step-goal, step-dead, step-free}
+use Rattle.rank_certificate.proofs.Entries.{sum-more, sum-more-fits}
 use Rattle.rank_certificate.proofs.guesses.Guesses.+local.Goals as goal
 
 pub entry-returns-then-steps-eq0 : goal.entry-returns-then-steps-eq0
