@@ -1,5 +1,6 @@
 -- Where the outer set is the inner one, its states reach a goal almost surely, and those that stay away do not.
-use Rattle.std.proofs.Common.{◌≡◌, ℕ, zero, suc, ◌+◌, ◌-◌, ◌*◌, ◌^◌, ◌<◌, ◌≤◌, Bool, true, false, List, length, map, arith, refl, sym, ap, ◌∙◌, subst, inl, inr, not}
+use Rattle.std.proofs.Common.{◌≡◌, ℕ, zero, suc, ◌+◌, ◌-◌, ◌*◌, ◌^◌, ◌<◌, ◌≤◌, Bool, true, false, List, length, map}
+use Rattle.std.proofs.Common.{arith, refl, sym, ap, ◌∙◌, subst, inl, inr, not}
 use Rattle.std.proofs.lemmas.Bool.{cases_Bool, not_from_false}
 use Rattle.std.specs.Prelude.{slice_index_or}
 use Rattle.std.proofs.lemmas.Nat.{pow-add}
@@ -21,24 +22,28 @@ next-round p x n a b base h =
     omega (arith, at)
 
 -- after j stretches the goals are missed with at most the j-th power of one less than the stretch's
-rounds : (q : Query) (gone set : List Bool) (near : ComesNearer q gone set) (a : ℕ) → a + 1 ≡ denominator q.game ^ near.horizon
+rounds : (q : Query) (gone set : List Bool) (near : ComesNearer q gone set) (a : ℕ)
+    → a + 1 ≡ denominator q.game ^ near.horizon
     → ((s : ℕ) → s < states q → slice_index_or gone s false ≡ false → slice_index_or set s false ≡ true)
-    → (j s : ℕ) → s < states q → slice_index_or gone s false ≡ false → denominator q.game ^ horizon_of near.horizon j ≤ numerator q (horizon_of near.horizon j) s + a ^ j
+    → (j s : ℕ) → s < states q → slice_index_or gone s false ≡ false
+    → denominator q.game ^ horizon_of near.horizon j ≤ numerator q (horizon_of near.horizon j) s + a ^ j
 unfolding horizon_of
 rounds q gone set near a base all zero s inside within = first-round (denominator q.game) a (numerator q 0 s)
 rounds q gone set near a base all (suc j) s inside within =
     let D : ℕ = denominator q.game in
     let n : ℕ = near.horizon in
     let h : ℕ = horizon_of n j in
-    let step : D ^ (h + n) + a ^ j ≤ numerator q (h + n) s + a ^ j * D ^ n = near.nearer h (a ^ j) (λ t lt out. rounds q gone set near a base all j t lt out) s inside (all s inside within) in
+    let step : D ^ (h + n) + a ^ j ≤ numerator q (h + n) s + a ^ j * D ^ n =
+    near.nearer h (a ^ j) (λ t lt out. rounds q gone set near a base all j t lt out) s inside (all s inside within) in
     rw (pow-suc a j) (next-round (D ^ (h + n)) (a ^ j) (numerator q (h + n) s) a (D ^ n) base step)
 
 last-round : (m p n x : ℕ) → p ≤ n + x → m * x ≤ p → m * p ≤ m * n + p
 last-round m p n x near far = omega (arith, mul-le-mul_left m near, far)
 
 -- a state of the outer set
-pub IsAlmostSure-within : (q : Query) (gone set : List Bool) → IsQuery q → ComesNearer q gone set → ((s : ℕ) → s < states q → slice_index_or gone s false ≡ false → slice_index_or set s false ≡ true)
-    → (s : ℕ) → s < states q → slice_index_or gone s false ≡ false → IsAlmostSure q s
+pub IsAlmostSure-within : (q : Query) (gone set : List Bool) → IsQuery q → ComesNearer q gone set
+    → ((s : ℕ) → s < states q → slice_index_or gone s false ≡ false → slice_index_or set s false ≡ true) → (s : ℕ)
+    → s < states q → slice_index_or gone s false ≡ false → IsAlmostSure q s
 IsAlmostSure-within q gone set posed near all s inside within = λ m some.
     let D : ℕ = denominator q.game in
     let n : ℕ = near.horizon in
@@ -46,7 +51,8 @@ IsAlmostSure-within q gone set posed near all s inside within = λ m some.
     let base : a + 1 ≡ D ^ n = omega (arith, one-le-pow n D (denominator-pos q.game posed.game)) in
     let j : ℕ = m * (a + 1) in
     let k : ℕ = horizon_of n j in
-    let far : m * a ^ j ≤ D ^ k = subst (λ x. m * a ^ j ≤ x) (ap (λ b. b ^ j) base ∙ sym (pow-horizon_of D n j)) (pow-far a m) in
+    let far : m * a ^ j ≤ D ^ k =
+    subst (λ x. m * a ^ j ≤ x) (ap (λ b. b ^ j) base ∙ sym (pow-horizon_of D n j)) (pow-far a m) in
     (k, last-round m (D ^ k) (numerator q k s) (a ^ j) (rounds q gone set near a base all j s inside within) far)
 
 both-ways : (E n p : ℕ) → 1 ≤ p → n * E + p ≤ E * p → (E + 1) * p ≤ (E + 1) * n + p → ⊥
@@ -60,7 +66,8 @@ IsAway-not_sure q e s posed away sure =
     let D : ℕ = denominator q.game in
     let positive : 0 < D = denominator-pos q.game posed.game in
     let at : (k : ℕ) × ((D ^ e + 1) * D ^ k ≤ (D ^ e + 1) * numerator q k s + D ^ k) = sure (D ^ e + 1) (omega arith) in
-    both-ways (D ^ e) (numerator q at.0 s) (D ^ at.0) (one-le-pow at.0 D positive) (subst (λ x. numerator q at.0 s * D ^ e + D ^ at.0 ≤ x) (pow-add D e at.0) (away at.0)) at.1
+    both-ways (D ^ e) (numerator q at.0 s) (D ^ at.0) (one-le-pow at.0 D positive)
+    (subst (λ x. numerator q at.0 s * D ^ e + D ^ at.0 ≤ x) (pow-add D e at.0) (away at.0)) at.1
 
 not-true : (b : Bool) → not b ≡ true → b ≡ false
 not-true true h = absurd (cc)
@@ -71,18 +78,24 @@ not-false true h = refl
 not-false false h = absurd (cc)
 
 -- the answer
-pub AreAlmostSure-others : (q : Query) (gone set : List Bool) → IsQuery q → length gone ≡ states q → ComesNearer q gone set
-    → ((s : ℕ) → s < states q → slice_index_or gone s false ≡ false → slice_index_or set s false ≡ true) → ((s : ℕ) → s < states q → slice_index_or gone s false ≡ true → IsAway q (states q) s) → AreAlmostSure q (map not gone)
+pub AreAlmostSure-others : (q : Query) (gone set : List Bool)
+    → IsQuery q → length gone ≡ states q → ComesNearer q gone set
+    → ((s : ℕ) → s < states q → slice_index_or gone s false ≡ false → slice_index_or set s false ≡ true)
+    → ((s : ℕ) → s < states q → slice_index_or gone s false ≡ true → IsAway q (states q) s)
+    → AreAlmostSure q (map not gone)
 AreAlmostSure-others q gone set posed many near all away =
-    let at : (s : ℕ) → s < states q → slice_index_or (map not gone) s false ≡ not (slice_index_or gone s false) = λ s inside. get_or-map not gone s false false (omega (arith, many)) in
+    let at : (s : ℕ) → s < states q → slice_index_or (map not gone) s false ≡ not (slice_index_or gone s false) =
+    λ s inside. get_or-map not gone s false false (omega (arith, many)) in
     record {
       as_many = length-map gone not ∙ many;
       exact = λ s inside. (
-        λ marked. IsAlmostSure-within q gone set posed near all s inside (not-true (slice_index_or gone s false) (sym (at s inside) ∙ marked)),
+        λ marked. IsAlmostSure-within q gone set posed near all s inside
+            (not-true (slice_index_or gone s false) (sym (at s inside) ∙ marked)),
         λ sure. at s inside ∙ (elim (cases_Bool (slice_index_or gone s false)) [
           | inl out ↦ absurd (IsAway-not_sure q (states q) s posed (away s inside out) sure)
           | inr within ↦ not_from_false (slice_index_or gone s false) within
         ]),
       );
-      unmarked = λ s inside unmarked. away s inside (not-false (slice_index_or gone s false) (sym (at s inside) ∙ unmarked));
+      unmarked = λ s inside unmarked.
+          away s inside (not-false (slice_index_or gone s false) (sym (at s inside) ∙ unmarked));
     }

@@ -40,18 +40,25 @@ module _ (q : Query) (posed : IsQuery q) (v : HasValues q) where
   -- an almost-sure state has the value 1
   sure-most : (s : ℕ) → s < states q → IsAlmostSure q s → v.top ≤ v.value s
   sure-most s inside sure =
-      let most : 1 * v.top ≤ 1 * v.value s = reached-to q posed v 1 1 s inside (λ m some. ((sure m some).0, omega (arith, (sure m some).1))) in
+      let most : 1 * v.top ≤ 1 * v.value s =
+      reached-to q posed v 1 1 s inside (λ m some. ((sure m some).0, omega (arith, (sure m some).1))) in
       omega (arith, most)
 
   -- the value of a state whose values stay away from 1 does so
-  away-most : (e s : ℕ) → s < states q → IsAway q e s → v.value s * denominator q.game ^ e + v.top ≤ denominator q.game ^ e * v.top
-  away-most e s inside away = elim (cases_lt ((denominator q.game ^ e - 1) * v.top) (denominator q.game ^ e * v.value s)) [
-    | inl more ↦
-        let exceeds : Exceeds q (denominator q.game ^ e - 1) (denominator q.game ^ e) s = exceeded-from q posed v (denominator q.game ^ e - 1) (denominator q.game ^ e) s inside more in
-        absurd (away-factors (denominator q.game ^ e) (denominator q.game ^ exceeds.0) (numerator q exceeds.0 s) (one-le-pow e (denominator q.game) (denominator-pos q.game posed.game))
-        (subst (λ x. numerator q exceeds.0 s * denominator q.game ^ e + denominator q.game ^ exceeds.0 ≤ x) (pow-add (denominator q.game) e exceeds.0) (away exceeds.0)) exceeds.1)
-    | inr most ↦ rest-factors (denominator q.game ^ e) v.top (v.value s) (one-le-pow e (denominator q.game) (denominator-pos q.game posed.game)) most
-  ]
+  away-most : (e s : ℕ) → s < states q → IsAway q e s
+      → v.value s * denominator q.game ^ e + v.top ≤ denominator q.game ^ e * v.top
+  away-most e s inside away =
+      elim (cases_lt ((denominator q.game ^ e - 1) * v.top) (denominator q.game ^ e * v.value s)) [
+        | inl more ↦
+            let exceeds : Exceeds q (denominator q.game ^ e - 1) (denominator q.game ^ e) s =
+            exceeded-from q posed v (denominator q.game ^ e - 1) (denominator q.game ^ e) s inside more in
+            absurd (away-factors (denominator q.game ^ e) (denominator q.game ^ exceeds.0) (numerator q exceeds.0 s)
+            (one-le-pow e (denominator q.game) (denominator-pos q.game posed.game))
+            (subst (λ x. numerator q exceeds.0 s * denominator q.game ^ e + denominator q.game ^ exceeds.0 ≤ x)
+            (pow-add (denominator q.game) e exceeds.0) (away exceeds.0)) exceeds.1)
+        | inr most ↦ rest-factors (denominator q.game ^ e) v.top (v.value s)
+            (one-le-pow e (denominator q.game) (denominator-pos q.game posed.game)) most
+      ]
 
 pub have-strategies : (q : Query) (marks : List Bool) → IsQuery q → AreAlmostSure q marks → HaveStrategies q marks
 have-strategies q marks posed are =
@@ -62,11 +69,13 @@ have-strategies q marks posed are =
           let at = v.reached m some in (
             at.0,
             λ faces s opponent down inside marked.
-                reached-factors v.top (v.value s) m ((faces * denominator q.game) ^ at.0) (reach q faces (by_plan q v.plan) opponent at.0 [] s) v.positive
+                reached-factors v.top (v.value s) m ((faces * denominator q.game) ^ at.0)
+                (reach q faces (by_plan q v.plan) opponent at.0 [] s) v.positive
                 (sure-most q posed v s inside ((are.exact s inside).0 marked)) (at.1 faces s opponent down inside),
           );
       replies = v.replies;
       held = λ faces k s opponent up inside out.
-          held-factors v.top (v.value s) (denominator q.game ^ states q) ((faces * denominator q.game) ^ k) (reach q faces opponent (by_plan q v.replies) k [] s) v.positive
+          held-factors v.top (v.value s) (denominator q.game ^ states q) ((faces * denominator q.game) ^ k)
+          (reach q faces opponent (by_plan q v.replies) k [] s) v.positive
           (away-most q posed v (states q) s inside (are.unmarked s inside out)) (v.held faces k s opponent up inside);
     }

@@ -14,7 +14,8 @@ use Rattle.asked_files.specs.Loading.{Loads}
 use Rattle.asked_files.specs.Said.{Said, NotHeld, Refuses, Denoted, and_then}
 use Rattle.asked_files.specs.Sources.{Sources, held_own, IfKnown, AreSources}
 use Rattle.asked_files.specs.Texts.{game_said, labels_said, owners_said}
-use Rattle.asked_files.specs.Posed.{Reading, formula_read, reading_with, behind_owners, behind_labels, behind_game, reading_said, posed}
+use Rattle.asked_files.specs.Posed.{Reading, formula_read, reading_with, behind_owners, behind_labels, behind_game}
+use Rattle.asked_files.specs.Posed.{reading_said, posed}
 use Rattle.asked_files.specs.Questions.{LacksText, Reads, ReadsAs}
 use Rattle.asked_files.proofs.Asking.{said_asks}
 use Rattle.asked_files.proofs.Loading.{TextSays}
@@ -22,12 +23,15 @@ use Rattle.asked_files.proofs.Loading.{TextSays}
 -- 1. Sources as they are told.
 
 -- a source for a text that plays no part
-as_told : (holding : Option Holding) (place : Holding → Option (List ℕ)) → (source : Option (List ℕ)) × IfKnown holding (λ held. source ≡ place held)
+as_told : (holding : Option Holding) (place : Holding → Option (List ℕ))
+    → (source : Option (List ℕ)) × IfKnown holding (λ held. source ≡ place held)
 as_told None place = (None, tt)
 as_told (Some held) place = (place held, refl)
 
-all_told : (holding : Option Holding) (asked : Asked) (tra lab own : Option (List ℕ)) → IfKnown holding (λ held. tra ≡ held asked.tra) → IfKnown holding (λ held. lab ≡ held asked.lab)
-    → IfKnown holding (λ held. own ≡ held_own asked.own held) → AreSources holding asked (record { tra = tra; lab = lab; own = own })
+all_told : (holding : Option Holding) (asked : Asked) (tra lab own : Option (List ℕ))
+    → IfKnown holding (λ held. tra ≡ held asked.tra) → IfKnown holding (λ held. lab ≡ held asked.lab)
+    → IfKnown holding (λ held. own ≡ held_own asked.own held)
+    → AreSources holding asked (record { tra = tra; lab = lab; own = own })
 all_told None asked tra lab own of_tra of_lab of_own = tt
 all_told (Some held) asked tra lab own of_tra of_lab of_own = cc (of_tra, of_lab, of_own)
 
@@ -61,7 +65,8 @@ module _ (holding : Option Holding) (asked : Asked) where
       record {
         sources = sources;
         told = all_told holding asked tra.source lab.0 own.0 tra.told lab.1 own.1;
-        says = ap (λ s. and_then s (λ game. behind_game sources asked game)) tra.says ∙ ends-behind end (λ game. behind_game sources asked game);
+        says = ap (λ s. and_then s (λ game. behind_game sources asked game)) tra.says
+            ∙ ends-behind end (λ game. behind_game sources asked game);
       }
 
   module _ (game : List (List Distribution)) (tra : SaysGame (Denoted game)) where
@@ -72,42 +77,53 @@ module _ (holding : Option Holding) (asked : Asked) where
         record {
           sources = sources;
           told = all_told holding asked tra.source lab.source own.0 tra.told lab.told own.1;
-          says = ap (λ s. and_then s (λ game. behind_game sources asked game)) tra.says ∙ ap (λ s. and_then s (λ labels. behind_labels sources asked game labels)) lab.says
+          says = ap (λ s. and_then s (λ game. behind_game sources asked game)) tra.says
+              ∙ ap (λ s. and_then s (λ labels. behind_labels sources asked game labels)) lab.says
               ∙ ends-behind end (λ labels. behind_labels sources asked game labels);
         }
 
     module _ (labels : Labelling) (lab : SaysLabels (length game) (Denoted labels)) where
       -- what the owner text says is what is said of the reading behind it
-      behind : (said : Said Ownership) → SaysOwners (length game) said → ReadsAs holding asked (and_then said (λ owners. behind_owners asked game labels owners))
+      behind : (said : Said Ownership) → SaysOwners (length game) said
+          → ReadsAs holding asked (and_then said (λ owners. behind_owners asked game labels owners))
       behind said own =
           let sources : Sources = record { tra = tra.source; lab = lab.source; own = own.source } in
           record {
             sources = sources;
             told = all_told holding asked tra.source lab.source own.source tra.told lab.told own.told;
-            says = ap (λ s. and_then s (λ game. behind_game sources asked game)) tra.says ∙ ap (λ s. and_then s (λ labels. behind_labels sources asked game labels)) lab.says
+            says = ap (λ s. and_then s (λ game. behind_game sources asked game)) tra.says
+                ∙ ap (λ s. and_then s (λ labels. behind_labels sources asked game labels)) lab.says
                 ∙ ap (λ s. and_then s (λ owners. behind_owners asked game labels owners)) own.says;
           }
 
       pub owners_end : (end : Option Refusal) → SaysOwners (length game) (ends end) → ReadsAs holding asked (ends end)
-      owners_end end own = subst (λ (s : Said Reading). ReadsAs holding asked s) (ends-behind end (λ owners. behind_owners asked game labels owners)) (behind (ends end) own)
+      owners_end end own = subst (λ (s : Said Reading). ReadsAs holding asked s)
+          (ends-behind end (λ owners. behind_owners asked game labels owners)) (behind (ends end) own)
 
-      pub formula_ends : (owners : Ownership) → SaysOwners (length game) (Denoted owners) → (end : Option Refusal) → formula_read asked.formula ≡ ends end → ReadsAs holding asked (ends end)
+      pub formula_ends : (owners : Ownership) → SaysOwners (length game) (Denoted owners) → (end : Option Refusal)
+          → formula_read asked.formula ≡ ends end → ReadsAs holding asked (ends end)
       formula_ends owners own end is =
           let next = λ (formula : Tree). Denoted (reading_with game labels owners formula) in
-          subst (λ (s : Said Reading). ReadsAs holding asked s) (ap (λ s. and_then s next) is ∙ ends-behind end next) (behind (Denoted owners) own)
+          subst (λ (s : Said Reading). ReadsAs holding asked s) (ap (λ s. and_then s next) is ∙ ends-behind end next)
+          (behind (Denoted owners) own)
 
-      pub all_read : (owners : Ownership) → SaysOwners (length game) (Denoted owners) → (formula : Tree) → formula_read asked.formula ≡ Denoted formula → ReadsAs holding asked (Denoted (reading_with game labels owners formula))
+      pub all_read : (owners : Ownership) → SaysOwners (length game) (Denoted owners)
+          → (formula : Tree) → formula_read asked.formula ≡ Denoted formula
+          → ReadsAs holding asked (Denoted (reading_with game labels owners formula))
       all_read owners own formula is =
           let next = λ (formula : Tree). Denoted (reading_with game labels owners formula) in
-          subst (λ (s : Said Reading). ReadsAs holding asked s) (ap (λ s. and_then s next) is) (behind (Denoted owners) own)
+          subst (λ (s : Said Reading). ReadsAs holding asked s) (ap (λ s. and_then s next) is)
+          (behind (Denoted owners) own)
 
 -- a formula that is refused
-pub formula_refused : (text : List ℕ) {end : End} {refusal : Refusal} → Loads tree_of (Err end) (formula_read text) → end ≡ Refused refusal → formula_read text ≡ Refuses refusal
+pub formula_refused : (text : List ℕ) {end : End} {refusal : Refusal} → Loads tree_of (Err end) (formula_read text)
+    → end ≡ Refused refusal → formula_read text ≡ Refuses refusal
 formula_refused text loads is = subst (λ (e : End). Loads tree_of (Err e) (formula_read text)) is loads
 
 -- 3. What is read of the texts is asked.
 
-pub reads : (holding : Option Holding) (asked : Asked) (reading : Reading) → ReadsAs holding asked (Denoted reading) → DenotesFormula asked.formula reading.formula → Reads holding asked reading
+pub reads : (holding : Option Holding) (asked : Asked) (reading : Reading) → ReadsAs holding asked (Denoted reading)
+    → DenotesFormula asked.formula reading.formula → Reads holding asked reading
 reads holding asked reading said spelled = record {
   said = said;
   spelled = spelled;
@@ -116,7 +132,11 @@ reads holding asked reading said spelled = record {
     told = said.told;
     asks = said_asks paths said.sources asked problem (ap (λ s. and_then s (λ r. posed paths r)) said.says ∙ is);
   };
-  refuses = λ paths refusal is. record { sources = said.sources; told = said.told; refuses = ap (λ s. and_then s (λ r. posed paths r)) said.says ∙ is };
+  refuses = λ paths refusal is. record {
+    sources = said.sources;
+    told = said.told;
+    refuses = ap (λ s. and_then s (λ r. posed paths r)) said.says ∙ is;
+  };
 }
 
 -- where the holding is told, it lacks a text that is not held

@@ -14,8 +14,8 @@ use Rattle.asked_files.specs.declared.problem.Paths.TheVariants.{Any, Unbounded,
 
 -- 1. Problems.
 
--- what a formula asks: to reach a goal (of `G`, one of the dual), to do so within so many steps or in the next one; or, of
--- a formula with others inside, the game with labels, owners and initial states
+-- what a formula asks: to reach a goal (of `G`, one of the dual), to do so within so many steps or in the next one; or,
+-- of a formula with others inside, the game with labels, owners and initial states
 pub data Problem : Type 0 where
   OfReach : (posing : Posing) → Problem
   OfWithin : (steps : ℕ) → (posing : Posing) → Problem

@@ -1,5 +1,6 @@
 -- A set that grows stays as it must be when a move to a member is followed.
-use Rattle.std.proofs.Common.{◌≡◌, ◌≢◌, ℕ, zero, suc, ◌+◌, ◌<◌, ◌≤◌, Bool, true, false, List, [], ◌∷◌, ◌++◌, length, set, arith, sym, ap, ◌∙◌, subst, inl, inr}
+use Rattle.std.proofs.Common.{◌≡◌, ◌≢◌, ℕ, zero, suc, ◌+◌, ◌<◌, ◌≤◌, Bool, true, false, List, [], ◌∷◌, ◌++◌, length}
+use Rattle.std.proofs.Common.{set, arith, sym, ap, ◌∙◌, subst, inl, inr}
 use Rattle.std.specs.Prelude.{slice_index, slice_index_or, Contains}
 use Rattle.std.proofs.lemmas.Bool.{cases_eq, cases_lt}
 use Rattle.std.proofs.lemmas.List.{length-set, get_or-set_same, get_or-set_other}
@@ -26,21 +27,30 @@ pub sides-differ : (side : Side) → side ≡ Max → side ≡ Min → ⊥
 sides-differ side a b = cc
 
 -- a choice serves a larger set too
-pub serves-more : (barred : Barred) (set more : List Bool) (q : Query) (s c : ℕ) → ((t : ℕ) → slice_index_or set t false ≡ true → slice_index_or more t false ≡ true) → serves barred set (choice_of q.game s c) ≡ true → serves barred more (choice_of q.game s c) ≡ true
+pub serves-more : (barred : Barred) (set more : List Bool) (q : Query) (s c : ℕ)
+    → ((t : ℕ) → slice_index_or set t false ≡ true → slice_index_or more t false ≡ true)
+    → serves barred set (choice_of q.game s c) ≡ true → serves barred more (choice_of q.game s c) ≡ true
 serves-more barred set more q s c larger h =
-    let both : (barred.choices (choice_of q.game s c) ≡ false) × (meets set (choice_of q.game s c) ≡ true) = serves-both barred set (choice_of q.game s c) h in
+    let both : (barred.choices (choice_of q.game s c) ≡ false) × (meets set (choice_of q.game s c) ≡ true) =
+    serves-both barred set (choice_of q.game s c) h in
     serves-by barred more (choice_of q.game s c) both.0 (meets-more set more (choice_of q.game s c) larger both.1)
 
 -- a state of the minimiser waits for another choice from now on
-pub IsGrowth-awaits : (q : Query) (barred : Barred) (followed : List Move) (members : List Bool) (awaited order : List ℕ) (t next : ℕ) → IsGrowth q barred followed members awaited order → t < states q → side_at q t ≡ Min → next < length (choices_of q.game t)
-    → ((c : ℕ) → c < next → serves barred members (choice_of q.game t c) ≡ true) → serves barred members (choice_of q.game t next) ≡ false → IsGrowth q barred followed members (set awaited t next) order
+pub IsGrowth-awaits : (q : Query) (barred : Barred) (followed : List Move) (members : List Bool)
+    (awaited order : List ℕ) (t next : ℕ) → IsGrowth q barred followed members awaited order
+    → t < states q → side_at q t ≡ Min → next < length (choices_of q.game t)
+    → ((c : ℕ) → c < next → serves barred members (choice_of q.game t c) ≡ true)
+    → serves barred members (choice_of q.game t next) ≡ false
+    → IsGrowth q barred followed members (set awaited t next) order
 IsGrowth-awaits q barred followed members awaited order t next h inside minimiser within before unserved =
-    let at : slice_index (set awaited t next) t ≡ next = get_or-set_same awaited t next 0 (omega (arith, inside, h.as_many)) in
+    let at : slice_index (set awaited t next) t ≡ next =
+    get_or-set_same awaited t next 0 (omega (arith, inside, h.as_many)) in
     let new : Awaits q barred followed members t next = record {
       inside = within;
       before = before;
       still = λ stays among.
-          let serve : serves barred members (choice_of q.game t next) ≡ true = serves-by barred members (choice_of q.game t next) stays (h.leads t next among) in
+          let serve : serves barred members (choice_of q.game t next) ≡ true =
+          serves-by barred members (choice_of q.game t next) stays (h.leads t next among) in
           cc;
     } in
     let here : IsLeft q barred followed members (set awaited t next) t = record {
@@ -56,18 +66,25 @@ IsGrowth-awaits q barred followed members awaited order t next h inside minimise
       left = λ s l out within. elim (cases_eq s t) [
         | inl same ↦ subst (IsLeft q barred followed members (set awaited t next)) (sym same) here
         | inr other ↦
-            let kept : slice_index (set awaited t next) s ≡ slice_index awaited s = get_or-set_other awaited t s next 0 other in
+            let kept : slice_index (set awaited t next) s ≡ slice_index awaited s =
+            get_or-set_other awaited t s next 0 other in
             let old : IsLeft q barred followed members awaited s = h.left s l out within in
-            record { greatest = old.greatest; least = λ is_side. subst (Awaits q barred followed members s) (sym kept) (old.least is_side) }
+            record {
+              greatest = old.greatest;
+              least = λ is_side. subst (Awaits q barred followed members s) (sym kept) (old.least is_side);
+            }
       ];
     }
 
 -- a state that is attracted joins
-pub IsGrowth-member : (q : Query) (barred : Barred) (followed : List Move) (members : List Bool) (awaited order : List ℕ) (t : ℕ) → IsGrowth q barred followed members awaited order → t < states q → slice_index_or members t false ≡ false
-    → barred.states t ≡ false → is_attracted q barred members t ≡ true → IsGrowth q barred followed (set members t true) awaited (order ++ t ∷ [])
+pub IsGrowth-member : (q : Query) (barred : Barred) (followed : List Move) (members : List Bool)
+    (awaited order : List ℕ) (t : ℕ) → IsGrowth q barred followed members awaited order → t < states q
+    → slice_index_or members t false ≡ false → barred.states t ≡ false → is_attracted q barred members t ≡ true
+    → IsGrowth q barred followed (set members t true) awaited (order ++ t ∷ [])
 IsGrowth-member q barred followed members awaited order t h inside out within drawn =
     let place : t < length members = omega (arith, inside, h.many) in
-    let larger : (s : ℕ) → slice_index_or members s false ≡ true → slice_index_or (set members t true) s false ≡ true = λ s member. stays-member members t s place member in
+    let larger : (s : ℕ) → slice_index_or members s false ≡ true → slice_index_or (set members t true) s false ≡ true =
+    λ s member. stays-member members t s place member in
     record {
       many = length-set members t true ∙ h.many;
       as_many = h.as_many;
@@ -75,14 +92,19 @@ IsGrowth-member q barred followed members awaited order t h inside out within dr
       grew = with_state members t h.grew inside within drawn;
       leads = λ s c among. meets-more members (set members t true) (choice_of q.game s c) larger (h.leads s c among);
       left = λ s l out' inner. elim (cases_eq s t) [
-        | inl same ↦ let member : slice_index_or (set members t true) s false ≡ true = ap (λ u. slice_index_or (set members t true) u false) same ∙ get_or-set_same members t true false place in absurd (cc)
+        | inl same ↦
+            let member : slice_index_or (set members t true) s false ≡ true =
+            ap (λ u. slice_index_or (set members t true) u false) same ∙ get_or-set_same members t true false place in
+            absurd (cc)
         | inr other ↦
-            let old : IsLeft q barred followed members awaited s = h.left s l (sym (get_or-set_other members t s true false other) ∙ out') inner in
+            let old : IsLeft q barred followed members awaited s =
+            h.left s l (sym (get_or-set_other members t s true false other) ∙ out') inner in
             record {
               greatest = old.greatest;
               least = λ is_side. record {
                 inside = (old.least is_side).inside;
-                before = λ c lc. serves-more barred members (set members t true) q s c larger ((old.least is_side).before c lc);
+                before = λ c lc. serves-more barred members (set members t true) q s c larger
+                    ((old.least is_side).before c lc);
                 still = (old.least is_side).still;
               };
             }
@@ -90,26 +112,33 @@ IsGrowth-member q barred followed members awaited order t h inside out within dr
     }
 
 -- the choices up to the next one that a state waits for
-pub before-next : (q : Query) (barred : Barred) (members : List Bool) (t choice next : ℕ) → ((c : ℕ) → c < choice → serves barred members (choice_of q.game t c) ≡ true)
-    → ((c : ℕ) → choice ≤ c → c < next → serves barred members (choice_of q.game t c) ≡ true) → (c : ℕ) → c < next → serves barred members (choice_of q.game t c) ≡ true
+pub before-next : (q : Query) (barred : Barred) (members : List Bool) (t choice next : ℕ)
+    → ((c : ℕ) → c < choice → serves barred members (choice_of q.game t c) ≡ true)
+    → ((c : ℕ) → choice ≤ c → c < next → serves barred members (choice_of q.game t c) ≡ true) → (c : ℕ) → c < next
+    → serves barred members (choice_of q.game t c) ≡ true
 before-next q barred members t choice next old passed c l = elim (cases_lt c choice) [
   | inl below ↦ old c below
   | inr upward ↦ passed c upward l
 ]
 
-module _ (q : Query) (barred : Barred) (followed : List Move) (members : List Bool) (awaited order : List ℕ) (m : Move) (leads : LeadsIn q.game members m) (h : IsGrowth q barred followed members awaited order) where
+module _ (q : Query) (barred : Barred) (followed : List Move) (members : List Bool) (awaited order : List ℕ) (m : Move)
+    (leads : LeadsIn q.game members m) (h : IsGrowth q barred followed members awaited order) where
   meets-here : meets members (choice_of q.game m.state m.choice) ≡ true
   meets-here = meets-at members (choice_of q.game m.state m.choice) leads.to leads.leads.successor leads.member
 
   leads-more : (s c : ℕ) → Contains (followed ++ m ∷ []) (move s c) → meets members (choice_of q.game s c) ≡ true
   leads-more s c among = elim (Contains-append_cases followed (m ∷ []) (move s c) among) [
     | inl earlier ↦ h.leads s c earlier
-    | inr last ↦ subst (λ (x : Move). meets members (choice_of q.game x.state x.choice) ≡ true) (single m (move s c) last) meets-here
+    | inr last ↦ subst (λ (x : Move). meets members (choice_of q.game x.state x.choice) ≡ true)
+        (single m (move s c) last) meets-here
   ]
 
   -- a state of which no choice that it minds is that of the move is left as it was
-  left-still : (s : ℕ) → (side_at q s ≡ Max → (c : ℕ) → barred.choices (choice_of q.game s c) ≡ false → m ≡ move s c → ⊥) → (side_at q s ≡ Min → barred.choices (choice_of q.game s (slice_index awaited s)) ≡ false → m ≡ move s (slice_index awaited s) → ⊥)
-      → IsLeft q barred followed members awaited s → IsLeft q barred (followed ++ m ∷ []) members awaited s
+  left-still : (s : ℕ)
+      → (side_at q s ≡ Max → (c : ℕ) → barred.choices (choice_of q.game s c) ≡ false → m ≡ move s c → ⊥)
+      → (side_at q s ≡ Min → barred.choices (choice_of q.game s (slice_index awaited s)) ≡ false
+      → m ≡ move s (slice_index awaited s) → ⊥) → IsLeft q barred followed members awaited s
+      → IsLeft q barred (followed ++ m ∷ []) members awaited s
   left-still s greatest least old = record {
     greatest = λ is_side c lc stays among. elim (Contains-append_cases followed (m ∷ []) (move s c) among) [
       | inl earlier ↦ old.greatest is_side c lc stays earlier
@@ -125,8 +154,11 @@ module _ (q : Query) (barred : Barred) (followed : List Move) (members : List Bo
     };
   }
 
-  -- a move that changes nothing: its state is a member or gone, its choice barred, or its state one of the minimiser that waits for another choice
-  pub IsGrowth-noted : (slice_index_or members m.state false ≡ false → barred.states m.state ≡ false → barred.choices (choice_of q.game m.state m.choice) ≡ false → (side_at q m.state ≡ Min) × (slice_index awaited m.state ≢ m.choice))
+  -- a move that changes nothing: its state is a member or gone, its choice barred,
+  -- or its state one of the minimiser that waits for another choice
+  pub IsGrowth-noted : (slice_index_or members m.state false ≡ false
+      → barred.states m.state ≡ false → barred.choices (choice_of q.game m.state m.choice) ≡ false
+      → (side_at q m.state ≡ Min) × (slice_index awaited m.state ≢ m.choice))
       → IsGrowth q barred (followed ++ m ∷ []) members awaited order
   IsGrowth-noted idle = record {
     many = h.many;
@@ -137,53 +169,81 @@ module _ (q : Query) (barred : Barred) (followed : List Move) (members : List Bo
     left = λ s l out within. left-still s
         (λ is_side c stays is.
         let at : m.state ≡ s = ap (λ (x : Move). x.state) is in
-        let stays' : barred.choices (choice_of q.game m.state m.choice) ≡ false = subst (λ (x : Move). barred.choices (choice_of q.game x.state x.choice) ≡ false) (sym is) stays in
-        sides-differ (side_at q s) is_side (ap (side_at q) (sym at) ∙ (idle (ap (λ t. slice_index_or members t false) at ∙ out) (ap (λ t. barred.states t) at ∙ within) stays').0))
+        let stays' : barred.choices (choice_of q.game m.state m.choice) ≡ false =
+        subst (λ (x : Move). barred.choices (choice_of q.game x.state x.choice) ≡ false) (sym is) stays in
+        sides-differ (side_at q s) is_side (ap (side_at q) (sym at)
+        ∙ (idle (ap (λ t. slice_index_or members t false) at ∙ out) (ap (λ t. barred.states t) at ∙ within) stays').0))
         (λ is_side stays is.
         let at : m.state ≡ s = ap (λ (x : Move). x.state) is in
-        let stays' : barred.choices (choice_of q.game m.state m.choice) ≡ false = subst (λ (x : Move). barred.choices (choice_of q.game x.state x.choice) ≡ false) (sym is) stays in
-        (idle (ap (λ t. slice_index_or members t false) at ∙ out) (ap (λ t. barred.states t) at ∙ within) stays').1 (ap (slice_index awaited) at ∙ sym (ap (λ (x : Move). x.choice) is)))
+        let stays' : barred.choices (choice_of q.game m.state m.choice) ≡ false =
+        subst (λ (x : Move). barred.choices (choice_of q.game x.state x.choice) ≡ false) (sym is) stays in
+        (idle (ap (λ t. slice_index_or members t false) at ∙ out) (ap (λ t. barred.states t) at ∙ within) stays').1
+        (ap (slice_index awaited) at ∙ sym (ap (λ (x : Move). x.choice) is)))
         (h.left s l out within);
   }
 
-  serves-here : barred.choices (choice_of q.game m.state m.choice) ≡ false → serves barred members (choice_of q.game m.state m.choice) ≡ true
+  serves-here : barred.choices (choice_of q.game m.state m.choice) ≡ false
+      → serves barred members (choice_of q.game m.state m.choice) ≡ true
   serves-here stays = serves-by barred members (choice_of q.game m.state m.choice) stays meets-here
 
   -- one choice of the maximiser attracts its state
-  pub attracted-greatest : side_at q m.state ≡ Max → barred.choices (choice_of q.game m.state m.choice) ≡ false → is_attracted q barred members m.state ≡ true
-  attracted-greatest maximiser stays = attracts-one q barred members m.state m.choice maximiser leads.leads.choice (serves-here stays)
+  pub attracted-greatest : side_at q m.state ≡ Max → barred.choices (choice_of q.game m.state m.choice) ≡ false
+      → is_attracted q barred members m.state ≡ true
+  attracted-greatest maximiser stays =
+      attracts-one q barred members m.state m.choice maximiser leads.leads.choice (serves-here stays)
 
   -- the choices before the next one
-  passed-here : slice_index_or members m.state false ≡ false → barred.states m.state ≡ false → side_at q m.state ≡ Min → slice_index awaited m.state ≡ m.choice → barred.choices (choice_of q.game m.state m.choice) ≡ false
-      → (next : ℕ) → ((c : ℕ) → m.choice + 1 ≤ c → c < next → serves barred members (choice_of q.game m.state c) ≡ true) → (c : ℕ) → c < next → serves barred members (choice_of q.game m.state c) ≡ true
+  passed-here : slice_index_or members m.state false ≡ false → barred.states m.state ≡ false → side_at q m.state ≡ Min
+      → slice_index awaited m.state ≡ m.choice → barred.choices (choice_of q.game m.state m.choice) ≡ false → (next : ℕ)
+      → ((c : ℕ) → m.choice + 1 ≤ c → c < next → serves barred members (choice_of q.game m.state c) ≡ true) → (c : ℕ)
+      → c < next → serves barred members (choice_of q.game m.state c) ≡ true
   passed-here out within minimiser is_awaited stays next passed =
-      let old : Awaits q barred followed members m.state m.choice = subst (Awaits q barred followed members m.state) is_awaited ((h.left m.state leads.leads.state out within).least minimiser) in
+      let old : Awaits q barred followed members m.state m.choice = subst (Awaits q barred followed members m.state)
+      is_awaited ((h.left m.state leads.leads.state out within).least minimiser) in
       before-next q barred members m.state m.choice next old.before (λ c from upto. elim (cases_eq c m.choice) [
         | inl same ↦ ap (λ k. serves barred members (choice_of q.game m.state k)) same ∙ serves-here stays
         | inr later ↦ passed c (omega arith) upto
       ])
 
   -- the last choice of the minimiser attracts its state
-  pub attracted-least : slice_index_or members m.state false ≡ false → barred.states m.state ≡ false → side_at q m.state ≡ Min → slice_index awaited m.state ≡ m.choice → barred.choices (choice_of q.game m.state m.choice) ≡ false
-      → ((c : ℕ) → m.choice + 1 ≤ c → c < length (choices_of q.game m.state) → serves barred members (choice_of q.game m.state c) ≡ true) → is_attracted q barred members m.state ≡ true
-  attracted-least out within minimiser is_awaited stays passed = attracts-all q barred members m.state minimiser (passed-here out within minimiser is_awaited stays (length (choices_of q.game m.state)) passed)
+  pub attracted-least : slice_index_or members m.state false ≡ false → barred.states m.state ≡ false
+      → side_at q m.state ≡ Min → slice_index awaited m.state ≡ m.choice
+      → barred.choices (choice_of q.game m.state m.choice) ≡ false → ((c : ℕ) → m.choice + 1 ≤ c
+      → c < length (choices_of q.game m.state) → serves barred members (choice_of q.game m.state c) ≡ true)
+      → is_attracted q barred members m.state ≡ true
+  attracted-least out within minimiser is_awaited stays passed = attracts-all q barred members m.state minimiser
+      (passed-here out within minimiser is_awaited stays (length (choices_of q.game m.state)) passed)
 
 -- the state of the move joins
-pub IsGrowth-joins : (q : Query) (barred : Barred) (followed : List Move) (members : List Bool) (awaited order : List ℕ) (m : Move) → LeadsIn q.game members m → IsGrowth q barred followed members awaited order
-    → slice_index_or members m.state false ≡ false → barred.states m.state ≡ false → is_attracted q barred members m.state ≡ true → IsGrowth q barred (followed ++ m ∷ []) (set members m.state true) awaited (order ++ m.state ∷ [])
+pub IsGrowth-joins : (q : Query) (barred : Barred) (followed : List Move)
+    (members : List Bool) (awaited order : List ℕ) (m : Move) → LeadsIn q.game members m
+    → IsGrowth q barred followed members awaited order → slice_index_or members m.state false ≡ false
+    → barred.states m.state ≡ false → is_attracted q barred members m.state ≡ true
+    → IsGrowth q barred (followed ++ m ∷ []) (set members m.state true) awaited (order ++ m.state ∷ [])
 IsGrowth-joins q barred followed members awaited order m leads h out within drawn =
     let inside : m.state < length members = omega (arith, leads.leads.state, h.many) in
-    let leads' : LeadsIn q.game (set members m.state true) m = record { to = leads.to; leads = leads.leads; member = stays-member members m.state leads.to inside leads.member } in
-    IsGrowth-noted q barred followed (set members m.state true) awaited (order ++ m.state ∷ []) m leads' (IsGrowth-member q barred followed members awaited order m.state h leads.leads.state out within drawn)
-    (λ out' within' stays. let member : slice_index_or (set members m.state true) m.state false ≡ true = get_or-set_same members m.state true false inside in absurd (cc))
+    let leads' : LeadsIn q.game (set members m.state true) m =
+    record { to = leads.to; leads = leads.leads; member = stays-member members m.state leads.to inside leads.member } in
+    IsGrowth-noted q barred followed (set members m.state true) awaited (order ++ m.state ∷ []) m leads'
+    (IsGrowth-member q barred followed members awaited order m.state h leads.leads.state out within drawn)
+    (λ out' within' stays. let member : slice_index_or (set members m.state true) m.state false ≡ true =
+    get_or-set_same members m.state true false inside in absurd (cc))
 
 -- the state of the move waits for another choice
-pub IsGrowth-waits : (q : Query) (barred : Barred) (followed : List Move) (members : List Bool) (awaited order : List ℕ) (m : Move) (next : ℕ) → LeadsIn q.game members m → IsGrowth q barred followed members awaited order
-    → slice_index_or members m.state false ≡ false → barred.states m.state ≡ false → side_at q m.state ≡ Min → slice_index awaited m.state ≡ m.choice → barred.choices (choice_of q.game m.state m.choice) ≡ false
-    → m.choice < next → next < length (choices_of q.game m.state) → ((c : ℕ) → m.choice + 1 ≤ c → c < next → serves barred members (choice_of q.game m.state c) ≡ true)
-    → serves barred members (choice_of q.game m.state next) ≡ false → IsGrowth q barred (followed ++ m ∷ []) members (set awaited m.state next) order
-IsGrowth-waits q barred followed members awaited order m next leads h out within minimiser is_awaited stays later inside passed unserved =
-    let before : (c : ℕ) → c < next → serves barred members (choice_of q.game m.state c) ≡ true = passed-here q barred followed members awaited order m leads h out within minimiser is_awaited stays next passed in
-    let at : slice_index (set awaited m.state next) m.state ≡ next = get_or-set_same awaited m.state next 0 (omega (arith, leads.leads.state, h.as_many)) in
-    IsGrowth-noted q barred followed members (set awaited m.state next) order m leads (IsGrowth-awaits q barred followed members awaited order m.state next h leads.leads.state minimiser inside before unserved)
+pub IsGrowth-waits : (q : Query) (barred : Barred) (followed : List Move) (members : List Bool) (awaited order : List ℕ)
+    (m : Move) (next : ℕ) → LeadsIn q.game members m → IsGrowth q barred followed members awaited order
+    → slice_index_or members m.state false ≡ false → barred.states m.state ≡ false → side_at q m.state ≡ Min
+    → slice_index awaited m.state ≡ m.choice → barred.choices (choice_of q.game m.state m.choice) ≡ false
+    → m.choice < next → next < length (choices_of q.game m.state)
+    → ((c : ℕ) → m.choice + 1 ≤ c → c < next → serves barred members (choice_of q.game m.state c) ≡ true)
+    → serves barred members (choice_of q.game m.state next) ≡ false
+    → IsGrowth q barred (followed ++ m ∷ []) members (set awaited m.state next) order
+IsGrowth-waits q barred followed members awaited order m next leads h out within minimiser is_awaited stays later
+    inside passed unserved =
+    let before : (c : ℕ) → c < next → serves barred members (choice_of q.game m.state c) ≡ true =
+    passed-here q barred followed members awaited order m leads h out within minimiser is_awaited stays next passed in
+    let at : slice_index (set awaited m.state next) m.state ≡ next =
+    get_or-set_same awaited m.state next 0 (omega (arith, leads.leads.state, h.as_many)) in
+    IsGrowth-noted q barred followed members (set awaited m.state next) order m leads (IsGrowth-awaits q barred followed
+    members awaited order m.state next h leads.leads.state minimiser inside before unserved)
     (λ out' within' stays'. (minimiser, λ e. omega (arith, e, at, later)))

@@ -8,9 +8,12 @@ use Rattle.attractors.proofs.Ordering.{stays-member}
 
 pub Grew-many : (q : Query) (barred : Barred) (members : List Bool) → Grew q barred members → length members ≡ states q
 Grew-many q barred _ (from_goals members goals) = goals.many
-Grew-many q barred _ (with_state members s grew inside within drawn) = length-set members s true ∙ Grew-many q barred members grew
+Grew-many q barred _ (with_state members s grew inside within drawn) =
+    length-set members s true ∙ Grew-many q barred members grew
 
-pub Grew-goals : (q : Query) (barred : Barred) (members : List Bool) → Grew q barred members → (s : ℕ) → s < states q → is_goal q s ≡ true → slice_index_or members s false ≡ true
+pub Grew-goals : (q : Query) (barred : Barred) (members : List Bool) → Grew q barred members → (s : ℕ) → s < states q
+    → is_goal q s ≡ true → slice_index_or members s false ≡ true
 Grew-goals q barred _ (from_goals members goals) s inside goal = goals.each s inside ∙ goal
 Grew-goals q barred _ (with_state members t grew within_states within drawn) s inside goal =
-    stays-member members t s (omega (arith, within_states, Grew-many q barred members grew)) (Grew-goals q barred members grew s inside goal)
+    stays-member members t s (omega (arith, within_states, Grew-many q barred members grew))
+    (Grew-goals q barred members grew s inside goal)

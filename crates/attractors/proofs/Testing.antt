@@ -1,5 +1,6 @@
 -- Testing the states that are no members.
-use Rattle.std.proofs.Common.{◌≡◌, ◌≢◌, ℕ, suc, ◌+◌, ◌<◌, Bool, true, false, List, [], ◌∷◌, length, set, take, arith, refl, sym, ap, ◌∙◌, subst, inl, inr}
+use Rattle.std.proofs.Common.{◌≡◌, ◌≢◌, ℕ, suc, ◌+◌, ◌<◌, Bool, true, false, List, [], ◌∷◌, length, set, take, arith}
+use Rattle.std.proofs.Common.{refl, sym, ap, ◌∙◌, subst, inl, inr}
 use Rattle.std.specs.Prelude.{slice_index, slice_index_or, Contains}
 use Rattle.std.proofs.lemmas.Bool.{cases_eq, cases_Bool}
 use Rattle.std.proofs.lemmas.List.{take_all, take-append-le, get_or_default}
@@ -17,74 +18,96 @@ use Rattle.attractors.proofs.Meeting.{meets-at, meets-more}
 use Rattle.attractors.proofs.Serving.{serves-by}
 use Rattle.attractors.proofs.Following.{serves-more}
 
-smaller-fails : (q : Query) (barred : Barred) (set more : List Bool) (s c : ℕ) → IsLarger set more → serves barred more (choice_of q.game s c) ≡ false → serves barred set (choice_of q.game s c) ≡ false
+smaller-fails : (q : Query) (barred : Barred) (set more : List Bool) (s c : ℕ) → IsLarger set more
+    → serves barred more (choice_of q.game s c) ≡ false → serves barred set (choice_of q.game s c) ≡ false
 smaller-fails q barred set more s c larger fails = elim (cases_Bool (serves barred set (choice_of q.game s c))) [
-  | inl serve ↦ let too : serves barred more (choice_of q.game s c) ≡ true = serves-more barred set more q s c larger serve in absurd (cc)
+  | inl serve ↦
+      let too : serves barred more (choice_of q.game s c) ≡ true = serves-more barred set more q s c larger serve in
+      absurd (cc)
   | inr not_ ↦ not_
 ]
 
 -- a state that a set does not attract is not attracted by a smaller one
-IsTested-smaller : (q : Query) (barred : Barred) (set more : List Bool) (awaited : List ℕ) (s : ℕ) → IsLarger set more → IsTested q barred more awaited s → IsTested q barred set awaited s
+IsTested-smaller : (q : Query) (barred : Barred) (set more : List Bool) (awaited : List ℕ) (s : ℕ) → IsLarger set more
+    → IsTested q barred more awaited s → IsTested q barred set awaited s
 IsTested-smaller q barred set more awaited s larger h = record {
   greatest = λ is_side c lc. smaller-fails q barred set more s c larger (h.greatest is_side c lc);
   least = λ is_side. smaller-fails q barred set more s (slice_index awaited s) larger (h.least is_side);
 }
 
 -- what the state waits for is all that counts
-IsTested-in : (q : Query) (barred : Barred) (set : List Bool) (awaited awaited' : List ℕ) (s : ℕ) → slice_index awaited' s ≡ slice_index awaited s → IsTested q barred set awaited s → IsTested q barred set awaited' s
+IsTested-in : (q : Query) (barred : Barred) (set : List Bool) (awaited awaited' : List ℕ) (s : ℕ)
+    → slice_index awaited' s ≡ slice_index awaited s → IsTested q barred set awaited s
+    → IsTested q barred set awaited' s
 IsTested-in q barred set awaited awaited' s same h = record {
   greatest = h.greatest;
   least = λ is_side. subst (λ c. serves barred set (choice_of q.game s c) ≡ false) (sym same) (h.least is_side);
 }
 
 -- a state tested before the next one was
-pub AreTested-more : (q : Query) (barred : Barred) (old members members' : List Bool) (awaited awaited' : List ℕ) (t : ℕ) → IsLarger old members → IsLarger members members'
+pub AreTested-more : (q : Query) (barred : Barred) (old members members' : List Bool)
+    (awaited awaited' : List ℕ) (t : ℕ) → IsLarger old members → IsLarger members members'
     → AreTested q barred old members awaited t → ((s : ℕ) → s ≢ t → slice_index awaited' s ≡ slice_index awaited s)
-    → (slice_index_or members' t false ≡ false → barred.states t ≡ false → IsTested q barred members awaited' t) → AreTested q barred old members' awaited' (t + 1)
-AreTested-more q barred old members members' awaited awaited' t larger grown before others here s l out within = elim (cases_eq s t) [
-  | inl same ↦
-      subst (λ u. slice_index_or members' u false ≡ false → barred.states u ≡ false → IsTested q barred old awaited' u) (sym same)
-      (λ out' within'. IsTested-smaller q barred old members awaited' t larger (here out' within')) out within
-  | inr other ↦
-      let was_out : slice_index_or members s false ≡ false = elim (cases_Bool (slice_index_or members s false)) [
-        | inl member ↦ let still : slice_index_or members' s false ≡ true = grown s member in absurd (cc)
-        | inr left ↦ left
-      ] in
-      IsTested-in q barred old awaited awaited' s (others s other) (before s (omega arith) was_out within)
-]
+    → (slice_index_or members' t false ≡ false → barred.states t ≡ false → IsTested q barred members awaited' t)
+    → AreTested q barred old members' awaited' (t + 1)
+AreTested-more q barred old members members' awaited awaited' t larger grown before others here s l out within =
+    elim (cases_eq s t) [
+      | inl same ↦
+          subst
+          (λ u. slice_index_or members' u false ≡ false → barred.states u ≡ false → IsTested q barred old awaited' u)
+          (sym same)
+          (λ out' within'. IsTested-smaller q barred old members awaited' t larger (here out' within')) out within
+      | inr other ↦
+          let was_out : slice_index_or members s false ≡ false = elim (cases_Bool (slice_index_or members s false)) [
+            | inl member ↦ let still : slice_index_or members' s false ≡ true = grown s member in absurd (cc)
+            | inr left ↦ left
+          ] in
+          IsTested-in q barred old awaited awaited' s (others s other) (before s (omega arith) was_out within)
+    ]
 
 -- a move in these lists is in one of them
-moves_into-cases : (lists : List (List Move)) (order : List ℕ) (m : Move) → Contains (moves_into lists order) m → (u : ℕ) × Contains order u × Contains (slice_index_or lists u []) m
+moves_into-cases : (lists : List (List Move)) (order : List ℕ) (m : Move) → Contains (moves_into lists order) m
+    → (u : ℕ) × Contains order u × Contains (slice_index_or lists u []) m
 moves_into-cases lists [] m among = absurd (omega (arith, among.1))
-moves_into-cases lists (u ∷ order) m among = elim (Contains-append_cases (slice_index_or lists u []) (moves_into lists order) m among) [
-  | inl here ↦ (u, (0, omega arith, refl), here)
-  | inr later ↦
-      let rest : (v : ℕ) × Contains order v × Contains (slice_index_or lists v []) m = moves_into-cases lists order m later in
-      (rest.0, (suc rest.1.0, omega (arith, rest.1.1), rest.1.2), rest.2)
-]
+moves_into-cases lists (u ∷ order) m among =
+    elim (Contains-append_cases (slice_index_or lists u []) (moves_into lists order) m among) [
+      | inl here ↦ (u, (0, omega arith, refl), here)
+      | inr later ↦
+          let rest : (v : ℕ) × Contains order v × Contains (slice_index_or lists v []) m =
+          moves_into-cases lists order m later in
+          (rest.0, (suc rest.1.0, omega (arith, rest.1.1), rest.1.2), rest.2)
+    ]
 
 -- the choice of such a move meets the set of these states
-move-meets : (q : Query) (lists : List (List Move)) (set : List Bool) (order : List ℕ) (s c : ℕ) → ArePredecessors q.game lists → length set ≡ states q → IsOrder set order → Contains (moves_into lists order) (move s c) → meets set (choice_of q.game s c) ≡ true
+move-meets : (q : Query) (lists : List (List Move)) (set : List Bool) (order : List ℕ) (s c : ℕ)
+    → ArePredecessors q.game lists → length set ≡ states q → IsOrder set order
+    → Contains (moves_into lists order) (move s c) → meets set (choice_of q.game s c) ≡ true
 move-meets q lists set order s c are many ordered among =
-    let one : (u : ℕ) × Contains order u × Contains (slice_index_or lists u []) (move s c) = moves_into-cases lists order (move s c) among in
+    let one : (u : ℕ) × Contains order u × Contains (slice_index_or lists u []) (move s c) =
+    moves_into-cases lists order (move s c) among in
     let at : slice_index order one.1.0 ≡ one.0 = get_or_default order one.1.0 0 one.0 one.1.1 ∙ one.1.2 in
     let inside : one.0 < length set = subst (λ u. u < length set) at (ordered.inside one.1.0 one.1.1) in
-    let member : slice_index_or set one.0 false ≡ true = subst (λ u. slice_index_or set u false ≡ true) at (ordered.joined one.1.0 one.1.1) in
+    let member : slice_index_or set one.0 false ≡ true =
+    subst (λ u. slice_index_or set u false ≡ true) at (ordered.joined one.1.0 one.1.1) in
     let leads : LeadsTo q.game s c one.0 = (listed-exactly are s c one.0 (omega (arith, inside, many))).0 one.2 in
     meets-at set (choice_of q.game s c) one.0 leads.successor member
 
 -- where each state that is left was tested, the moves to the tested set may count as followed
-pub IsGrowth-tested : (q : Query) (barred : Barred) (lists : List (List Move)) (old members : List Bool) (awaited order order' : List ℕ) → ArePredecessors q.game lists → length old ≡ states q → IsOrder old order → IsLarger old members
-    → AreTested q barred old members awaited (states q) → IsGrowth q barred [] members awaited order' → IsGrowth q barred (moves_into lists order) members awaited order'
+pub IsGrowth-tested : (q : Query) (barred : Barred) (lists : List (List Move)) (old members : List Bool)
+    (awaited order order' : List ℕ) → ArePredecessors q.game lists → length old ≡ states q
+    → IsOrder old order → IsLarger old members → AreTested q barred old members awaited (states q)
+    → IsGrowth q barred [] members awaited order' → IsGrowth q barred (moves_into lists order) members awaited order'
 IsGrowth-tested q barred lists old members awaited order order' are many ordered larger tested h = record {
   many = h.many;
   as_many = h.as_many;
   ordered = h.ordered;
   grew = h.grew;
-  leads = λ s c among. meets-more old members (choice_of q.game s c) larger (move-meets q lists old order s c are many ordered among);
+  leads = λ s c among.
+      meets-more old members (choice_of q.game s c) larger (move-meets q lists old order s c are many ordered among);
   left = λ s l out within. record {
     greatest = λ is_side c lc free among.
-        let serve : serves barred old (choice_of q.game s c) ≡ true = serves-by barred old (choice_of q.game s c) free (move-meets q lists old order s c are many ordered among) in
+        let serve : serves barred old (choice_of q.game s c) ≡ true =
+        serves-by barred old (choice_of q.game s c) free (move-meets q lists old order s c are many ordered among) in
         let fails : serves barred old (choice_of q.game s c) ≡ false = (tested s l out within).greatest is_side c lc in
         cc;
     least = λ is_side. record {
@@ -92,7 +115,8 @@ IsGrowth-tested q barred lists old members awaited order order' are many ordered
       before = ((h.left s l out within).least is_side).before;
       still = λ free among.
           let c : ℕ = slice_index awaited s in
-          let serve : serves barred old (choice_of q.game s c) ≡ true = serves-by barred old (choice_of q.game s c) free (move-meets q lists old order s c are many ordered among) in
+          let serve : serves barred old (choice_of q.game s c) ≡ true =
+          serves-by barred old (choice_of q.game s c) free (move-meets q lists old order s c are many ordered among) in
           let fails : serves barred old (choice_of q.game s c) ≡ false = (tested s l out within).least is_side in
           cc;
     };
@@ -101,4 +125,5 @@ IsGrowth-tested q barred lists old members awaited order order' are many ordered
 
 -- a longer list begins with the shorter one
 pub take-longer : (xs ys : List ℕ) → IsLonger xs ys → take (length xs) ys ≡ xs
-take-longer xs ys h = ap (take (length xs)) h.1 ∙ take-append-le (length xs) xs h.0 (omega arith) ∙ take_all (length xs) xs (omega arith)
+take-longer xs ys h =
+    ap (take (length xs)) h.1 ∙ take-append-le (length xs) xs h.0 (omega arith) ∙ take_all (length xs) xs (omega arith)

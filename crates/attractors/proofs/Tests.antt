@@ -3,24 +3,34 @@ use Rattle.std.proofs.Common.{◌≡◌, ℕ, zero, suc, ◌<◌, Bool, true, fa
 use Rattle.std.specs.List.{AllByRecursion, list_any, list_all}
 use Rattle.std.proofs.lemmas.Bool.{or_cases, or_parts, and_parts, and_cases}
 
-pub any-place : {X : Type 0} (p : X → Bool) (xs : List X) (d : X) → list_any p xs ≡ true → (i : ℕ) × (i < length xs) × (p (get_or xs i d) ≡ true)
+pub any-place : {X : Type 0} (p : X → Bool) (xs : List X) (d : X) → list_any p xs ≡ true
+    → (i : ℕ) × (i < length xs) × (p (get_or xs i d) ≡ true)
 any-place p [] d h = absurd (cc)
 any-place p (x ∷ xs) d h = elim (or_cases (p x) (list_any p xs) h) [
   | inl here ↦ (zero, omega arith, here)
-  | inr later ↦ let rest : (i : ℕ) × (i < length xs) × (p (get_or xs i d) ≡ true) = any-place p xs d later in (suc rest.0, omega (arith, rest.1), rest.2)
+  | inr later ↦
+      let rest : (i : ℕ) × (i < length xs) × (p (get_or xs i d) ≡ true) = any-place p xs d later in
+      (suc rest.0, omega (arith, rest.1), rest.2)
 ]
 
 pub any-none : {X : Type 0} (p : X → Bool) (xs : List X) → list_any p xs ≡ false → AllByRecursion (λ x. p x ≡ false) xs
 any-none p [] h = tt
-any-none p (x ∷ xs) h = let both : (p x ≡ false) × (list_any p xs ≡ false) = or_parts (p x) (list_any p xs) h in (both.0, any-none p xs both.1)
+any-none p (x ∷ xs) h =
+    let both : (p x ≡ false) × (list_any p xs ≡ false) = or_parts (p x) (list_any p xs) h in
+    (both.0, any-none p xs both.1)
 
 pub all-each : {X : Type 0} (p : X → Bool) (xs : List X) → list_all p xs ≡ true → AllByRecursion (λ x. p x ≡ true) xs
 all-each p [] h = tt
-all-each p (x ∷ xs) h = let both : (p x ≡ true) × (list_all p xs ≡ true) = and_parts (p x) (list_all p xs) h in (both.0, all-each p xs both.1)
+all-each p (x ∷ xs) h =
+    let both : (p x ≡ true) × (list_all p xs ≡ true) = and_parts (p x) (list_all p xs) h in
+    (both.0, all-each p xs both.1)
 
-pub all-place : {X : Type 0} (p : X → Bool) (xs : List X) (d : X) → list_all p xs ≡ false → (i : ℕ) × (i < length xs) × (p (get_or xs i d) ≡ false)
+pub all-place : {X : Type 0} (p : X → Bool) (xs : List X) (d : X) → list_all p xs ≡ false
+    → (i : ℕ) × (i < length xs) × (p (get_or xs i d) ≡ false)
 all-place p [] d h = absurd (cc)
 all-place p (x ∷ xs) d h = elim (and_cases (p x) (list_all p xs) h) [
   | inl here ↦ (zero, omega arith, here)
-  | inr later ↦ let rest : (i : ℕ) × (i < length xs) × (p (get_or xs i d) ≡ false) = all-place p xs d later in (suc rest.0, omega (arith, rest.1), rest.2)
+  | inr later ↦
+      let rest : (i : ℕ) × (i < length xs) × (p (get_or xs i d) ≡ false) = all-place p xs d later in
+      (suc rest.0, omega (arith, rest.1), rest.2)
 ]

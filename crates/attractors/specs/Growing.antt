@@ -1,5 +1,6 @@
 -- A set of states that grows backward from the goals.
-use Rattle.std.specs.Prelude.{◌≡◌, ℕ, ◌<◌, ◌≤◌, Bool, true, false, List, [], length, take, flat_map, count_by, slice_index, slice_index_or, Contains}
+use Rattle.std.specs.Prelude.{◌≡◌, ℕ, ◌<◌, ◌≤◌, Bool, true, false, List, [], length, take, flat_map, count_by}
+use Rattle.std.specs.Prelude.{slice_index, slice_index_or, Contains}
 use Rattle.game_model.specs.declared.game.Side.TheVariants.{Max, Min}
 use Rattle.game_model.specs.Game.{Distribution, choices_of, choice_of}
 use Rattle.game_model.specs.Query.{Query, states, side_at}

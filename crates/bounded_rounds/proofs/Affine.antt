@@ -10,22 +10,28 @@ use Rattle.game_model.proofs.Each.{AllByRecursion-always, AllByRecursion-weaker}
 use Rattle.game_model.proofs.Best.{optimum-le, optimum-plus}
 
 -- the optimum of values that are tied like this
-pub optimum-affine : {X : Type 0} (side : Side) (f g : X → ℕ) (a b c : ℕ) (xs : List X) → AllByRecursion (λ y. a * f y ≤ b * g y + c) xs → a * optimum side f xs ≤ b * optimum side g xs + c
+pub optimum-affine : {X : Type 0} (side : Side) (f g : X → ℕ) (a b c : ℕ) (xs : List X)
+    → AllByRecursion (λ y. a * f y ≤ b * g y + c) xs → a * optimum side f xs ≤ b * optimum side g xs + c
 optimum-affine {X} side f g a b c xs each =
     let raised : a * optimum side f xs ≤ 1 * optimum side (λ y. b * g y + c) xs =
-    optimum-le side f (λ y. b * g y + c) a 1 xs (AllByRecursion-weaker (λ (y : X). a * f y ≤ b * g y + c) _ (λ y h. omega arith) xs each) in
+    optimum-le side f (λ y. b * g y + c) a 1 xs
+    (AllByRecursion-weaker (λ (y : X). a * f y ≤ b * g y + c) _ (λ y h. omega arith) xs each) in
     let scaled : 1 * optimum side (λ y. b * g y) xs ≤ b * optimum side g xs =
     optimum-le side (λ y. b * g y) g 1 b xs (AllByRecursion-always _ (λ y. omega arith) xs) in
     omega (arith, raised, scaled, optimum-plus side (λ y. b * g y) c xs)
 
 -- one step from such values
-pub bellman-affine : (q : Query) (choices : ℕ → List Distribution) (a b c top top' : ℕ) (f g : Distribution → ℕ) (s : ℕ) → a * top ≤ b * top' + c → AllByRecursion (λ m. a * f m ≤ b * g m + c) (choices s)
+pub bellman-affine : (q : Query) (choices : ℕ → List Distribution) (a b c top top' : ℕ) (f g : Distribution → ℕ) (s : ℕ)
+    → a * top ≤ b * top' + c → AllByRecursion (λ m. a * f m ≤ b * g m + c) (choices s)
     → a * bellman q choices top f s ≤ b * bellman q choices top' g s + c
 bellman-affine q choices a b c top top' f g s at_goal each =
-    elim (is_goal q s) as (λ goal. a * (if goal then top else (if is_dead q s then 0 else optimum (side_at q s) f (choices s))) ≤ b * (if goal then top' else (if is_dead q s then 0 else optimum (side_at q s) g (choices s))) + c) [
+    elim (is_goal q s)
+    as (λ goal. a * (if goal then top else (if is_dead q s then 0 else optimum (side_at q s) f (choices s)))
+    ≤ b * (if goal then top' else (if is_dead q s then 0 else optimum (side_at q s) g (choices s))) + c) [
       | true ↦ at_goal
-      | false ↦ elim (is_dead q s) as (λ dead. a * (if dead then 0 else optimum (side_at q s) f (choices s)) ≤ b * (if dead then 0 else optimum (side_at q s) g (choices s)) + c) [
-        | true ↦ omega arith
-        | false ↦ optimum-affine (side_at q s) f g a b c (choices s) each
-      ]
+      | false ↦ elim (is_dead q s) as (λ dead. a * (if dead then 0 else optimum (side_at q s) f (choices s))
+          ≤ b * (if dead then 0 else optimum (side_at q s) g (choices s)) + c) [
+            | true ↦ omega arith
+            | false ↦ optimum-affine (side_at q s) f g a b c (choices s) each
+          ]
     ]

@@ -11,13 +11,15 @@ use Rattle.rank_certificate.proofs.Layered.{none-at-goals, none-at-deads, none-a
 use Rattle.bracket_engine.specs.Choices.{AreChoices}
 
 -- ranked values are at most the unit
-pub all-units-ranked : (q : Query) (values : List ℕ) (choices : List (Option ℕ)) (ranks : List ℕ) → length values ≡ states q → Ranked q values choices ranks → All (λ v. v ≤ unit) values
+pub all-units-ranked : (q : Query) (values : List ℕ) (choices : List (Option ℕ)) (ranks : List ℕ)
+    → length values ≡ states q → Ranked q values choices ranks → All (λ v. v ≤ unit) values
 all-units-ranked q values choices ranks many ranked = λ s d inside.
     omega (arith, get_or_default values s d 0 inside, ranked.units s (subst (λ n. s < n) many inside))
 
 module _ (q : Query) (zero : List Bool) (base values : List ℕ) (given choices : List (Option ℕ)) (ranks : List ℕ) where
   -- a guess that is accepted has choices only where they are needed; else they are those handed in
-  pub AreChoices-guessed : IsLowerGuess q zero base given values choices ranks → AreChoices q base given → AreChoices q values choices
+  pub AreChoices-guessed : IsLowerGuess q zero base given values choices ranks → AreChoices q base given
+      → AreChoices q values choices
   AreChoices-guessed (inl raised) are = record {
     as_many = raised.plan.as_many;
     none_at_goals = none-at-goals q values choices ranks raised.plan;
@@ -26,9 +28,12 @@ module _ (q : Query) (zero : List Bool) (base values : List ℕ) (given choices 
     none_at_zero = none-at-zero q values choices ranks raised.plan;
   }
   AreChoices-guessed (inr same) are =
-      subst (λ (l : List ℕ). AreChoices q l choices) (sym same.values_are) (subst (λ (l : List (Option ℕ)). AreChoices q base l) (sym same.choices_are) are)
+      subst (λ (l : List ℕ). AreChoices q l choices) (sym same.values_are)
+      (subst (λ (l : List (Option ℕ)). AreChoices q base l) (sym same.choices_are) are)
 
-  pub AreLayered-guessed : IsQuery q → IsLowerGuess q zero base given values choices ranks → AreLayered q values choices ranks
+  pub AreLayered-guessed : IsQuery q → IsLowerGuess q zero base given values choices ranks
+      → AreLayered q values choices ranks
   AreLayered-guessed posed (inl raised) = plan-layered q values choices ranks raised.plan posed
   AreLayered-guessed posed (inr same) =
-      subst (λ (l : List ℕ). AreLayered q l choices ranks) (sym same.values_are) (subst (λ (l : List (Option ℕ)). AreLayered q base l ranks) (sym same.choices_are) same.ranks_are)
+      subst (λ (l : List ℕ). AreLayered q l choices ranks) (sym same.values_are)
+      (subst (λ (l : List (Option ℕ)). AreLayered q base l ranks) (sym same.choices_are) same.ranks_are)

@@ -1,5 +1,6 @@
 -- What may end a run before its rounds: a guess that settles the threshold at the initial states.
-use Rattle.std.specs.Prelude.{◌≡◌, ℕ, ◌-◌, ◌<◌, ◌≤◌, Bool, true, false, List, length, All, Option, Some, None, min, slice_index, IfSome}
+use Rattle.std.specs.Prelude.{◌≡◌, ℕ, ◌-◌, ◌<◌, ◌≤◌, Bool, true, false, List, length, All, Option, Some, None, min}
+use Rattle.std.specs.Prelude.{slice_index, IfSome}
 use Rattle.std.specs.Int.{is_power_of_two}
 use Rattle.game_model.specs.Limits.{unit}
 use Rattle.game_model.specs.Query.{Query, states}

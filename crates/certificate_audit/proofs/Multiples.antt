@@ -1,5 +1,6 @@
 -- Tables of which one is a multiple of the other: what is said of the one in its units is said of the other in its own.
-use Rattle.std.proofs.Common.{◌≡◌, ◌∙◌, ℕ, zero, suc, ◌+◌, ◌*◌, ◌<◌, ◌≤◌, Bool, true, false, cond, List, [], ◌∷◌, map, fold, inl, inr, refl, ap, sym, arith}
+use Rattle.std.proofs.Common.{◌≡◌, ◌∙◌, ℕ, zero, suc, ◌+◌, ◌*◌, ◌<◌, ◌≤◌, Bool, true, false, cond, List, [], ◌∷◌, map}
+use Rattle.std.proofs.Common.{fold, inl, inr, refl, ap, sym, arith}
 use Rattle.std.specs.Prelude.{Option, Some, None, All, slice_index, slice_index_or}
 use Rattle.std.specs.List.{AllByRecursion}
 use Rattle.std.proofs.lemmas.Bool.{cases_lt}
@@ -34,7 +35,10 @@ pub times-eq : (f a b : ℕ) → 1 ≤ f → f * a ≡ f * b → a ≡ b
 times-eq f a b some h = omega (arith, times-le f a b some (omega (arith, h)), times-le f b a some (omega (arith, h)))
 
 pub times-lt : (f a b : ℕ) → f * a < f * b → a < b
-times-lt f a b h = elim (cases_lt a b) [ inl less ↦ less | inr most ↦ absurd (omega (arith, h, mul-le-mul_left f most)) ]
+times-lt f a b h = elim (cases_lt a b) [
+  | inl less ↦ less
+  | inr most ↦ absurd (omega (arith, h, mul-le-mul_left f most))
+]
 
 pub lt-times : (f a b : ℕ) → 1 ≤ f → a < b → f * a < f * b
 lt-times f a b some h =
@@ -43,28 +47,35 @@ lt-times f a b some h =
 
 -- 2. An optimum is at most a number as far as the values are.
 
-better-bound : (side : Side) (a b x y x' y' : ℕ) → (x ≤ a → x' ≤ b) → (y ≤ a → y' ≤ b) → better side x y ≤ a → better side x' y' ≤ b
-better-bound Max a b x y x' y' h k most = max-le (h (omega (arith, most, le-max_left x y))) (k (omega (arith, most, le-max_right x y)))
+better-bound : (side : Side) (a b x y x' y' : ℕ) → (x ≤ a → x' ≤ b) → (y ≤ a → y' ≤ b) → better side x y ≤ a
+    → better side x' y' ≤ b
+better-bound Max a b x y x' y' h k most =
+    max-le (h (omega (arith, most, le-max_left x y))) (k (omega (arith, most, le-max_right x y)))
 better-bound Min a b x y x' y' h k most = elim (min-cases x y) [
   | inl e ↦ let first : x' ≤ b = h (omega (arith, e, most)) in omega (arith, first, min-le_left x' y')
   | inr e ↦ let second : y' ≤ b = k (omega (arith, e, most)) in omega (arith, second, min-le_right x' y')
 ]
 
-fold-bound : (side : Side) (f g : Distribution → ℕ) (a b x x' : ℕ) (ms : List Distribution) → (x ≤ a → x' ≤ b) → AllByRecursion (λ m. f m ≤ a → g m ≤ b) ms
-    → fold (λ best m. better side best (f m)) x ms ≤ a → fold (λ best m. better side best (g m)) x' ms ≤ b
+fold-bound : (side : Side) (f g : Distribution → ℕ) (a b x x' : ℕ) (ms : List Distribution) → (x ≤ a → x' ≤ b)
+    → AllByRecursion (λ m. f m ≤ a → g m ≤ b) ms → fold (λ best m. better side best (f m)) x ms ≤ a
+    → fold (λ best m. better side best (g m)) x' ms ≤ b
 fold-bound side f g a b x x' [] h k most = h most
 fold-bound side f g a b x x' (m ∷ ms) h k most =
-    fold-bound side f g a b (better side x (f m)) (better side x' (g m)) ms (better-bound side a b x (f m) x' (g m) h k.0) k.1 most
+    fold-bound side f g a b (better side x (f m)) (better side x' (g m)) ms
+    (better-bound side a b x (f m) x' (g m) h k.0) k.1 most
 
-optimum-bound : (side : Side) (f g : Distribution → ℕ) (a b : ℕ) (ms : List Distribution) → AllByRecursion (λ m. f m ≤ a → g m ≤ b) ms → optimum side f ms ≤ a → optimum side g ms ≤ b
+optimum-bound : (side : Side) (f g : Distribution → ℕ) (a b : ℕ) (ms : List Distribution)
+    → AllByRecursion (λ m. f m ≤ a → g m ≤ b) ms → optimum side f ms ≤ a → optimum side g ms ≤ b
 optimum-bound side f g a b [] k most = omega arith
 optimum-bound side f g a b (m ∷ ms) k most = fold-bound side f g a b (f m) (g m) ms k.0 k.1 most
 
-bellman-bound : (q : Query) (choices : ℕ → List Distribution) (s top top' a b : ℕ) (f g : Distribution → ℕ) → (top ≤ a → top' ≤ b) → AllByRecursion (λ m. f m ≤ a → g m ≤ b) (choices s)
-    → bellman q choices top f s ≤ a → bellman q choices top' g s ≤ b
+bellman-bound : (q : Query) (choices : ℕ → List Distribution) (s top top' a b : ℕ) (f g : Distribution → ℕ)
+    → (top ≤ a → top' ≤ b) → AllByRecursion (λ m. f m ≤ a → g m ≤ b) (choices s) → bellman q choices top f s ≤ a
+    → bellman q choices top' g s ≤ b
 bellman-bound q choices s top top' a b f g h k = by (is_goal q s) (is_dead q s)
   where
-    by : (goal dead : Bool) → cond goal top (cond dead 0 (optimum (side_at q s) f (choices s))) ≤ a → cond goal top' (cond dead 0 (optimum (side_at q s) g (choices s))) ≤ b
+    by : (goal dead : Bool) → cond goal top (cond dead 0 (optimum (side_at q s) f (choices s))) ≤ a
+        → cond goal top' (cond dead 0 (optimum (side_at q s) g (choices s))) ≤ b
     by true dead most = h most
     by false true most = omega arith
     by false false most = optimum-bound (side_at q s) f g a b (choices s) k most
@@ -75,9 +86,11 @@ module _ (f : ℕ) (some : 1 ≤ f) (v w : ℕ → ℕ) (times : (t : ℕ) → w
   sums : (edges : List Edge) → weighted_sum w edges ≡ f * weighted_sum v edges
   sums edges =
       let most : 1 * weighted_sum w edges ≤ f * weighted_sum v edges =
-      weighted_sum-le w v 1 f edges (AllByRecursion-always (λ (e : Edge). 1 * w e.to ≤ f * v e.to) (λ e. omega (arith, times e.to)) edges) in
+      weighted_sum-le w v 1 f edges
+      (AllByRecursion-always (λ (e : Edge). 1 * w e.to ≤ f * v e.to) (λ e. omega (arith, times e.to)) edges) in
       let least : f * weighted_sum v edges ≤ 1 * weighted_sum w edges =
-      weighted_sum-le v w f 1 edges (AllByRecursion-always (λ (e : Edge). f * v e.to ≤ 1 * w e.to) (λ e. omega (arith, times e.to)) edges) in
+      weighted_sum-le v w f 1 edges
+      (AllByRecursion-always (λ (e : Edge). f * v e.to ≤ 1 * w e.to) (λ e. omega (arith, times e.to)) edges) in
       omega (arith, most, least)
 
   held-times : (u x : ℕ) (m : Distribution) → x ≡ f * u → IsHeld v u m → IsHeld w x m
@@ -90,23 +103,31 @@ module _ (f : ℕ) (some : 1 ≤ f) (v w : ℕ → ℕ) (times : (t : ℕ) → w
       let worth : x * m.total ≡ f * u * m.total = ap (λ n. n * m.total) is in
       times-le f (weighted_sum v m.edges) (u * m.total) some (omega (arith, worth, sums m.edges, held))
 
-  up-times : (game : List (List Distribution)) (u x : ℕ) (m : Distribution) → x ≡ f * u → IsChoiceOf game m → up_value v m ≤ u → up_value w m ≤ x
-  up-times game u x m is fits most = up_value-held w x m fits.positive (held-times u x m is (held-up_value v u m fits.positive most))
+  up-times : (game : List (List Distribution)) (u x : ℕ) (m : Distribution) → x ≡ f * u → IsChoiceOf game m
+      → up_value v m ≤ u → up_value w m ≤ x
+  up-times game u x m is fits most =
+      up_value-held w x m fits.positive (held-times u x m is (held-up_value v u m fits.positive most))
 
-  times-up : (game : List (List Distribution)) (u x : ℕ) (m : Distribution) → x ≡ f * u → IsChoiceOf game m → up_value w m ≤ x → up_value v m ≤ u
-  times-up game u x m is fits most = up_value-held v u m fits.positive (times-held u x m is (held-up_value w x m fits.positive most))
+  times-up : (game : List (List Distribution)) (u x : ℕ) (m : Distribution) → x ≡ f * u → IsChoiceOf game m
+      → up_value w m ≤ x → up_value v m ≤ u
+  times-up game u x m is fits most =
+      up_value-held v u m fits.positive (times-held u x m is (held-up_value w x m fits.positive most))
 
   pub inductive-times : (q : Query) (top : ℕ) → IsQuery q → IsInductiveIn top q v → IsInductiveIn (f * top) q w
   inductive-times q top posed inductive s inside =
-      bellman-bound q (choices_of q.game) s top (f * top) (v s) (w s) (up_value v) (up_value w) (λ most. omega (arith, times s, mul-le-mul_left f most))
-      (AllByRecursion-weaker (IsChoiceOf q.game) (λ m. up_value v m ≤ v s → up_value w m ≤ w s) (λ m fits. up-times q.game (v s) (w s) m (times s) fits) (choices_of q.game s)
+      bellman-bound q (choices_of q.game) s top (f * top) (v s) (w s) (up_value v) (up_value w)
+      (λ most. omega (arith, times s, mul-le-mul_left f most))
+      (AllByRecursion-weaker (IsChoiceOf q.game) (λ m. up_value v m ≤ v s → up_value w m ≤ w s)
+      (λ m fits. up-times q.game (v s) (w s) m (times s) fits) (choices_of q.game s)
       ((AreChoicesOf-choices_of q.game posed.game).each s))
       (inductive s inside)
 
   pub times-inductive : (q : Query) (top : ℕ) → IsQuery q → IsInductiveIn (f * top) q w → IsInductiveIn top q v
   times-inductive q top posed inductive s inside =
-      bellman-bound q (choices_of q.game) s (f * top) top (w s) (v s) (up_value w) (up_value v) (λ most. times-le f top (v s) some (omega (arith, times s, most)))
-      (AllByRecursion-weaker (IsChoiceOf q.game) (λ m. up_value w m ≤ w s → up_value v m ≤ v s) (λ m fits. times-up q.game (v s) (w s) m (times s) fits) (choices_of q.game s)
+      bellman-bound q (choices_of q.game) s (f * top) top (w s) (v s) (up_value w) (up_value v)
+      (λ most. times-le f top (v s) some (omega (arith, times s, most)))
+      (AllByRecursion-weaker (IsChoiceOf q.game) (λ m. up_value w m ≤ w s → up_value v m ≤ v s)
+      (λ m fits. times-up q.game (v s) (w s) m (times s) fits) (choices_of q.game s)
       ((AreChoicesOf-choices_of q.game posed.game).each s))
       (inductive s inside)
 
@@ -143,7 +164,8 @@ module _ (f : ℕ) (some : 1 ≤ f) (v w : ℕ → ℕ) (times : (t : ℕ) → w
       let t = (slice_index_or m.edges r.place no_edge).to in
       let worth : w s * m.total ≡ f * v s * m.total = ap (λ n. n * m.total) (times s) in
       record {
-        enough = times-le f (v s * m.total) (weighted_sum v m.edges) some (omega (arith, worth, sums m.edges, r.enough));
+        enough = times-le f (v s * m.total) (weighted_sum v m.edges) some
+            (omega (arith, worth, sums m.edges, r.enough));
         place = r.place;
         inside = r.inside;
         onward = elim r.onward [
@@ -152,7 +174,8 @@ module _ (f : ℕ) (some : 1 ≤ f) (v w : ℕ → ℕ) (times : (t : ℕ) → w
         ];
       }
 
-  has-times : (q : Query) (rank : ℕ → ℕ) (choices : List (Option ℕ)) (s : ℕ) → HasRankedChoice q v rank choices s → HasRankedChoice q w rank choices s
+  has-times : (q : Query) (rank : ℕ → ℕ) (choices : List (Option ℕ)) (s : ℕ) → HasRankedChoice q v rank choices s
+      → HasRankedChoice q w rank choices s
   has-times q rank choices s has = record {
     choice = has.choice;
     given = has.given;
@@ -160,7 +183,8 @@ module _ (f : ℕ) (some : 1 ≤ f) (v w : ℕ → ℕ) (times : (t : ℕ) → w
     ranked = choice-times rank s (choice_of q.game s has.choice) has.ranked;
   }
 
-  times-has : (q : Query) (rank : ℕ → ℕ) (choices : List (Option ℕ)) (s : ℕ) → HasRankedChoice q w rank choices s → HasRankedChoice q v rank choices s
+  times-has : (q : Query) (rank : ℕ → ℕ) (choices : List (Option ℕ)) (s : ℕ) → HasRankedChoice q w rank choices s
+      → HasRankedChoice q v rank choices s
   times-has q rank choices s has = record {
     choice = has.choice;
     given = has.given;
@@ -171,7 +195,8 @@ module _ (f : ℕ) (some : 1 ≤ f) (v w : ℕ → ℕ) (times : (t : ℕ) → w
 -- 4. Lists, of which the second is a multiple of the first.
 
 module _ (f : ℕ) (some : 1 ≤ f) (xs ys : List ℕ) (times : (t : ℕ) → slice_index ys t ≡ f * slice_index xs t) where
-  pub ranked-times : (q : Query) (top : ℕ) (choices : List (Option ℕ)) (ranks : List ℕ) → RankedIn top q xs choices ranks → RankedIn (f * top) q ys choices ranks
+  pub ranked-times : (q : Query) (top : ℕ) (choices : List (Option ℕ)) (ranks : List ℕ)
+      → RankedIn top q xs choices ranks → RankedIn (f * top) q ys choices ranks
   ranked-times q top choices ranks r = record {
     units = λ s inside. omega (arith, times s, mul-le-mul_left f (r.units s inside));
     goals = λ s inside goal. times s ∙ ap (λ n. f * n) (r.goals s inside goal);
@@ -184,7 +209,8 @@ module _ (f : ℕ) (some : 1 ≤ f) (xs ys : List ℕ) (times : (t : ℕ) → sl
         (r.least s inside goal dead (times-lt f 0 (slice_index xs s) (omega (arith, times s, positive))) side c within);
   }
 
-  pub times-ranked : (q : Query) (top : ℕ) (choices : List (Option ℕ)) (ranks : List ℕ) → RankedIn (f * top) q ys choices ranks → RankedIn top q xs choices ranks
+  pub times-ranked : (q : Query) (top : ℕ) (choices : List (Option ℕ)) (ranks : List ℕ)
+      → RankedIn (f * top) q ys choices ranks → RankedIn top q xs choices ranks
   times-ranked q top choices ranks r = record {
     units = λ s inside. times-le f (slice_index xs s) top some (omega (arith, times s, r.units s inside));
     goals = λ s inside goal. times-eq f (slice_index xs s) top some (sym (times s) ∙ r.goals s inside goal);
@@ -194,22 +220,28 @@ module _ (f : ℕ) (some : 1 ≤ f) (xs ys : List ℕ) (times : (t : ℕ) → sl
         (r.greatest s inside goal dead (omega (arith, times s, lt-times f 0 (slice_index xs s) some positive)) side);
     least = λ s inside goal dead positive side c within.
         times-choice f some (slice_index xs) (slice_index ys) times (slice_index ranks) s (choice_of q.game s c)
-        (r.least s inside goal dead (omega (arith, times s, lt-times f 0 (slice_index xs s) some positive)) side c within);
+        (r.least s inside goal dead
+        (omega (arith, times s, lt-times f 0 (slice_index xs s) some positive)) side c within);
   }
 
 -- each entry of a multiple
-pub slice_index-times : (f : ℕ) (xs : List ℕ) (t : ℕ) → slice_index (map (λ value. f * value) xs) t ≡ f * slice_index xs t
+pub slice_index-times : (f : ℕ) (xs : List ℕ) (t : ℕ)
+    → slice_index (map (λ value. f * value) xs) t ≡ f * slice_index xs t
 slice_index-times f [] t = omega arith
 slice_index-times f (x ∷ xs) zero = refl
 slice_index-times f (x ∷ xs) (suc t) = slice_index-times f xs t
 
-pub units-times : (f top : ℕ) (xs : List ℕ) → All (λ v. v ≤ top) xs → All (λ v. v ≤ f * top) (map (λ value. f * value) xs)
+pub units-times : (f top : ℕ) (xs : List ℕ) → All (λ v. v ≤ top) xs
+    → All (λ v. v ≤ f * top) (map (λ value. f * value) xs)
 units-times f top [] are = All-nil (λ v. v ≤ f * top)
 units-times f top (x ∷ xs) are =
-    All-cons (λ v. v ≤ f * top) (f * x) (map (λ value. f * value) xs) (mul-le-mul_left f (All-head (λ v. v ≤ top) x xs are)) (units-times f top xs (All-tail (λ v. v ≤ top) x xs are))
+    All-cons (λ v. v ≤ f * top) (f * x) (map (λ value. f * value) xs)
+    (mul-le-mul_left f (All-head (λ v. v ≤ top) x xs are)) (units-times f top xs (All-tail (λ v. v ≤ top) x xs are))
 
-pub times-units : (f top : ℕ) (xs : List ℕ) → 1 ≤ f → All (λ v. v ≤ f * top) (map (λ value. f * value) xs) → All (λ v. v ≤ top) xs
+pub times-units : (f top : ℕ) (xs : List ℕ) → 1 ≤ f → All (λ v. v ≤ f * top) (map (λ value. f * value) xs)
+    → All (λ v. v ≤ top) xs
 times-units f top [] some are = All-nil (λ v. v ≤ top)
 times-units f top (x ∷ xs) some are =
-    All-cons (λ v. v ≤ top) x xs (times-le f x top some (All-head (λ v. v ≤ f * top) (f * x) (map (λ value. f * value) xs) are))
+    All-cons (λ v. v ≤ top) x xs
+    (times-le f x top some (All-head (λ v. v ≤ f * top) (f * x) (map (λ value. f * value) xs) are))
     (times-units f top xs some (All-tail (λ v. v ≤ f * top) (f * x) (map (λ value. f * value) xs) are))

@@ -26,27 +26,38 @@ pub record SameLists (plan other : Plan) : Type 0 where
   pub replies : plan.replies.items ≡ other.replies.items
 
 -- lists of this length with the same items, where d stands past the end
-same_column : {X : Type 0} (xs ys : List X) (d : X) (n : ℕ) → length xs ≡ n → length ys ≡ n → ((k : ℕ) → k < n → get_or xs k d ≡ get_or ys k d) → xs ≡ ys
+same_column : {X : Type 0} (xs ys : List X) (d : X) (n : ℕ) → length xs ≡ n → length ys ≡ n
+    → ((k : ℕ) → k < n → get_or xs k d ≡ get_or ys k d) → xs ≡ ys
 same_column xs ys d n long as_long same =
     same_lists xs ys (long ∙ sym as_long)
-    (λ k e inside. get_or_default xs k e d inside ∙ same k (omega (arith, inside, long)) ∙ get_or_default ys k d e (omega (arith, inside, long, as_long)))
+    (λ k e inside. get_or_default xs k e d inside ∙ same k (omega (arith, inside, long))
+    ∙ get_or_default ys k d e (omega (arith, inside, long, as_long)))
 
-same_entries : (plan other : Plan) (n : ℕ) → HasStates plan n → HasStates other n → entries_of plan ≡ entries_of other → (k : ℕ) → k < n → entry_at plan k ≡ entry_at other k
+same_entries : (plan other : Plan) (n : ℕ) → HasStates plan n → HasStates other n → entries_of plan ≡ entries_of other
+    → (k : ℕ) → k < n → entry_at plan k ≡ entry_at other k
 same_entries plan other n has has_other same k inside =
     let none : Entry = entry_at plan 0 in
-    sym (get_or-map-range_with_len (entry_at plan) 0 (length plan.lower.items) k k none (omega (arith, inside, has.lower)) (omega arith))
+    sym (get_or-map-range_with_len (entry_at plan) 0 (length plan.lower.items) k k none
+    (omega (arith, inside, has.lower)) (omega arith))
     ∙ ap (λ entries. get_or entries k none) same
-    ∙ get_or-map-range_with_len (entry_at other) 0 (length other.lower.items) k k none (omega (arith, inside, has_other.lower)) (omega arith)
+    ∙ get_or-map-range_with_len (entry_at other) 0 (length other.lower.items) k k none
+    (omega (arith, inside, has_other.lower)) (omega arith)
 
-pub same_lists_of : (plan other : Plan) (n : ℕ) → HasStates plan n → HasStates other n → entries_of plan ≡ entries_of other → SameLists plan other
+pub same_lists_of : (plan other : Plan) (n : ℕ) → HasStates plan n → HasStates other n
+    → entries_of plan ≡ entries_of other → SameLists plan other
 same_lists_of plan other n has has_other same =
     let each = same_entries plan other n has has_other same in
     record {
-      lower = same_column plan.lower.items other.lower.items 0 n has.lower has_other.lower (λ k inside. ap (λ (e : Entry). e.lower) (each k inside));
-      choices = same_column plan.choices.items other.choices.items None n has.choices has_other.choices (λ k inside. ap (λ (e : Entry). e.choice) (each k inside));
-      ranks = same_column plan.ranks.items other.ranks.items 0 n has.ranks has_other.ranks (λ k inside. ap (λ (e : Entry). e.rank) (each k inside));
-      upper = same_column plan.upper.items other.upper.items 0 n has.upper has_other.upper (λ k inside. ap (λ (e : Entry). e.upper) (each k inside));
-      replies = same_column plan.replies.items other.replies.items None n has.replies has_other.replies (λ k inside. ap (λ (e : Entry). e.reply) (each k inside));
+      lower = same_column plan.lower.items other.lower.items 0 n has.lower has_other.lower
+          (λ k inside. ap (λ (e : Entry). e.lower) (each k inside));
+      choices = same_column plan.choices.items other.choices.items None n has.choices has_other.choices
+          (λ k inside. ap (λ (e : Entry). e.choice) (each k inside));
+      ranks = same_column plan.ranks.items other.ranks.items 0 n has.ranks has_other.ranks
+          (λ k inside. ap (λ (e : Entry). e.rank) (each k inside));
+      upper = same_column plan.upper.items other.upper.items 0 n has.upper has_other.upper
+          (λ k inside. ap (λ (e : Entry). e.upper) (each k inside));
+      replies = same_column plan.replies.items other.replies.items None n has.replies has_other.replies
+          (λ k inside. ap (λ (e : Entry). e.reply) (each k inside));
     }
 
 module _ (q : Query) (plan other : Plan) (same : SameLists plan other) where
@@ -71,9 +82,12 @@ module _ (q : Query) (plan other : Plan) (same : SameLists plan other) where
     inductive = same_inductive is.inductive;
     replies = subst (λ replies. AreReplies q (slice_index other.upper.items) replies) same.replies
         (subst (λ upper. AreReplies q (slice_index upper) plan.replies.items) same.upper is.replies);
-    first = subst (λ ranks. IsRankFault q other.lower.items other.choices.items ranks fault.state fault.cause) same.ranks
-        (subst (λ choices. IsRankFault q other.lower.items choices plan.ranks.items fault.state fault.cause) same.choices
-        (subst (λ lower. IsRankFault q lower plan.choices.items plan.ranks.items fault.state fault.cause) same.lower is.first));
+    first =
+        subst (λ ranks. IsRankFault q other.lower.items other.choices.items ranks fault.state fault.cause) same.ranks
+        (subst (λ choices. IsRankFault q other.lower.items choices plan.ranks.items fault.state fault.cause)
+        same.choices
+        (subst (λ lower. IsRankFault q lower plan.choices.items plan.ranks.items fault.state fault.cause)
+        same.lower is.first));
   }
 
   pub same_fault : (fault : AuditFault) → IsFaultOf q plan fault → IsFaultOf q other fault

@@ -10,13 +10,15 @@ use Rattle.certificate_audit.specs.declared.fault.AuditFault.TheVariants.{Text, 
 use Rattle.certificate_audit.specs.Accepted.{IsSaid}
 use Rattle.certificate_audit.specs.Refused.{IsFaultOf, IsRefused}
 
-pub read-said : (q : Query) (text : List ℕ) (plan : Plan) (n : ℕ) → n ≡ states q → HasStates plan n → entries_said text n ≡ Ok (entries_of plan) → IsSaid q text plan
+pub read-said : (q : Query) (text : List ℕ) (plan : Plan) (n : ℕ) → n ≡ states q → HasStates plan n
+    → entries_said text n ≡ Ok (entries_of plan) → IsSaid q text plan
 read-said q text plan n all has read = record {
   lists = subst (λ k. HasStates plan k) all has;
   said = (what_is_read text n (entries_of plan) read).1;
 }
 
-pub fault-refused : (q : Query) (text : List ℕ) (plan : Plan) (fault : AuditFault) → IsSaid q text plan → IsFaultOf q plan fault → IsRefused q text fault
+pub fault-refused : (q : Query) (text : List ℕ) (plan : Plan) (fault : AuditFault) → IsSaid q text plan
+    → IsFaultOf q plan fault → IsRefused q text fault
 fault-refused q text plan (Text fault) said is = absurd is
 fault-refused q text plan (Upper fault) said is = record { plan = plan; read = said; first = is }
 fault-refused q text plan (Ranks fault) said is = record { plan = plan; read = said; first = is }

@@ -3,7 +3,8 @@
 -- `TRA LAB FORMULA CERT [--own FILE]`, `TRA LAB FORMULA [--own FILE] [--values FILE] [--plan]`, `SEED STATES [--rounds
 -- R] [--workers W]` and `TRA LAB FORMULA [--own FILE]`.
 use Rattle.std.specs.Prelude.{◌≡◌, ℕ, List, [], codes, pos, true, Option, Some}
-use Rattle.clap.specs.Words.{App, IsParsedFrom, Rule, Text, app_of, fault_of, first_of, first_value, found_of, matches_of, new_app, new_rule, rows_of, with_rule}
+use Rattle.clap.specs.Words.{App, IsParsedFrom, Rule, Text, app_of, fault_of, first_of, first_value, found_of}
+use Rattle.clap.specs.Words.{matches_of, new_app, new_rule, rows_of, with_rule}
 use Rattle.clap.specs.declared.builder.ArgAction.TheVariants.{SetTrue}
 use Rattle.clap.specs.declared.builder.command.Command.{Command}
 use Rattle.clap.specs.declared.builder.value_parser.ValueParser.TheVariants as vp

@@ -1,9 +1,11 @@
 -- The words of a command line.
-use Rattle.std.specs.Prelude.{◌≡◌, ◌<◌, ◌≤◌, ◌↔◌, ℕ, Bool, IsTrue, List, [], ◌∷◌, length, codes, Option, Some, None, option_map}
+use Rattle.std.specs.Prelude.{◌≡◌, ◌<◌, ◌≤◌, ◌↔◌, ℕ, Bool, IsTrue, List, [], ◌∷◌, length, codes, Option, Some, None}
+use Rattle.std.specs.Prelude.{option_map}
 use Rattle.std.specs.Str.Parse.{IsNumeral, digits_value, without_leading_plus}
 use Rattle.clap.specs.Words.{Text, fault_of}
 use Rattle.command_words.specs.Grammar.{check_app, audit_app, solve_app, make_app, sure_app, value_of}
-use Rattle.command_words.specs.Limits.{most_rounds, most_workers, default_rounds, default_workers, most_seed, least_states, most_states}
+use Rattle.command_words.specs.Limits.{most_rounds, most_workers, default_rounds, default_workers, most_seed}
+use Rattle.command_words.specs.Limits.{least_states, most_states}
 use Rattle.command_words.specs.declared.words.AskedWords.{AskedWords}
 use Rattle.command_words.specs.declared.words.CheckWords.{CheckWords}
 use Rattle.command_words.specs.declared.words.AuditWords.{AuditWords}

@@ -1,5 +1,6 @@
 -- A game whose lists pass a test, state by state, is a question.
-use Rattle.std.proofs.Common.{◌≡◌, ℕ, zero, suc, ◌<◌, ◌≤◌, Bool, true, false, List, [], ◌∷◌, length, get_or, sym, refl, rules}
+use Rattle.std.proofs.Common.{◌≡◌, ℕ, zero, suc, ◌<◌, ◌≤◌, Bool, true, false, List, [], ◌∷◌, length, get_or, sym, refl}
+use Rattle.std.proofs.Common.{rules}
 use Rattle.std.specs.List.{AllByRecursion}
 use Rattle.std.specs.Prelude.{slice_index_or}
 use Rattle.game_model.specs.declared.game.Edge.{Edge}
@@ -12,21 +13,31 @@ use Rattle.game_model.proofs.RisingEdges.{IsRising-from, weighty-from}
 use Rattle.counted_plays.specs.Games.{coin_loop, give_and_take, lingering}
 
 abbrev Fits : ℕ → Distribution → Type 0
-Fits n m = (0 < length m.edges) × RiseFrom 0 m.edges × (total_of m.edges ≡ m.total) × (m.total < total_bound) × AllByRecursion (λ e. e.to < n) m.edges
+Fits n m = (0 < length m.edges) × RiseFrom 0 m.edges × (total_of m.edges ≡ m.total) × (m.total < total_bound)
+    × AllByRecursion (λ e. e.to < n) m.edges
 
 abbrev AreFit : ℕ → List Distribution → Type 0
 AreFit n choices = (0 < length choices) × (length choices ≤ most_choices) × AllByRecursion (Fits n) choices
 
 abbrev IsFit : Query → Type 0
-IsFit q = (0 < states q) × (states q ≤ most_states) × (length q.sides ≡ states q) × (length q.goals ≡ states q) × (length q.deads ≡ states q) × AllByRecursion (AreFit (states q)) q.game
+IsFit q = (0 < states q) × (states q ≤ most_states) × (length q.sides ≡ states q) × (length q.goals ≡ states q)
+    × (length q.deads ≡ states q) × AllByRecursion (AreFit (states q)) q.game
 
 distribution : (n : ℕ) (m : Distribution) → Fits n m → IsDistribution m
-distribution n m h = record { some = h.0; rising = IsRising-from 0 m.edges h.1; weights = weighty-from 0 m.edges h.1; sums = h.2; small = h.3 }
+distribution n m h = record {
+  some = h.0;
+  rising = IsRising-from 0 m.edges h.1;
+  weights = weighty-from 0 m.edges h.1;
+  sums = h.2;
+  small = h.3;
+}
 
 posed : (q : Query) → IsFit q → ((s : ℕ) → is_goal q s ≡ true → is_dead q s ≡ false) → IsQuery q
 posed q h apart =
-    let at : (s : ℕ) → s < states q → AreFit (states q) (choices_of q.game s) = λ s l. AllByRecursion-at (AreFit (states q)) q.game s [] l h.5 in
-    let choice : (s c : ℕ) → s < states q → c < length (choices_of q.game s) → Fits (states q) (get_or (choices_of q.game s) c no_distribution) =
+    let at : (s : ℕ) → s < states q → AreFit (states q) (choices_of q.game s) =
+    λ s l. AllByRecursion-at (AreFit (states q)) q.game s [] l h.5 in
+    let choice : (s c : ℕ) → s < states q → c < length (choices_of q.game s)
+    → Fits (states q) (get_or (choices_of q.game s) c no_distribution) =
     λ s c l k. AllByRecursion-at (Fits (states q)) (choices_of q.game s) c no_distribution k (at s l).2 in
     record {
       game = record {
@@ -43,7 +54,8 @@ posed q h apart =
       apart = apart;
     }
 
-none-dead : (deads : List Bool) → AllByRecursion (λ dead. dead ≡ false) deads → (s : ℕ) → slice_index_or deads s false ≡ false
+none-dead : (deads : List Bool) → AllByRecursion (λ dead. dead ≡ false) deads → (s : ℕ)
+    → slice_index_or deads s false ≡ false
 none-dead [] h s = refl
 none-dead (dead ∷ deads) h zero = h.0
 none-dead (dead ∷ deads) h (suc s) = none-dead deads h.1 s

@@ -54,7 +54,8 @@ unfolding numerator_of
 bold-thirds zero zero l = omega arith
 bold-thirds (suc k) zero l = omega (arith, bold-thirds k 1 (omega arith), won by_bold k, pow-suc 4 k, pow-suc 2 k)
 bold-thirds zero (suc zero) l = omega arith
-bold-thirds (suc k) (suc zero) l = omega (arith, bold-thirds k 0 (omega arith), lost by_bold k, pow-suc 4 k, pow-suc 2 k)
+bold-thirds (suc k) (suc zero) l =
+    omega (arith, bold-thirds k 0 (omega arith), lost by_bold k, pow-suc 4 k, pow-suc 2 k)
 bold-thirds k (suc (suc zero)) l = omega (arith, won by_bold k)
 bold-thirds k (suc (suc (suc zero))) l = omega arith
 bold-thirds k (suc (suc (suc (suc s)))) l = absurd (omega (arith, l))
@@ -79,16 +80,27 @@ bold-reaches m some = (
   m,
   λ faces s opponent down inside.
       rw (pow-product faces 4 m)
-      (least-factors (reach give_and_take faces (by_plan give_and_take bold_plan) opponent m [] s) (faces ^ m) (bold m s) m (slice_index thirds s) (4 ^ m)
+      (least-factors (reach give_and_take faces (by_plan give_and_take bold_plan) opponent m [] s) (faces ^ m)
+      (bold m s) m (slice_index thirds s) (4 ^ m)
       (plan-least give_and_take posed_give bold_plan faces opponent down m [] s inside)
-      (near m (2 ^ m) (slice_index thirds s) (bold m s) (4 ^ m) (power-more m) (pow-product 2 2 m) (bold-thirds m s inside))),
+      (near m (2 ^ m) (slice_index thirds s) (bold m s) (4 ^ m) (power-more m) (pow-product 2 2 m)
+      (bold-thirds m s inside))),
 )
 
 pub harsh-holds : HoldsOver 3 give_and_take harsh_plan (slice_index thirds)
 harsh-holds faces k s opponent up inside =
     rw (pow-product faces 4 k)
-    (most-factors (reach give_and_take faces opponent (by_plan give_and_take harsh_plan) k [] s) (faces ^ k) (harsh k s) (slice_index thirds s) (4 ^ k)
+    (most-factors (reach give_and_take faces opponent (by_plan give_and_take harsh_plan) k [] s) (faces ^ k) (harsh k s)
+    (slice_index thirds s) (4 ^ k)
     (plan-most give_and_take posed_give harsh_plan faces opponent up k [] s inside) (harsh-thirds k s inside))
 
 abbrev pub in-thirds : HasValues give_and_take
-in-thirds = record { top = 3; positive = omega arith; value = slice_index thirds; plan = bold_plan; reached = bold-reaches; replies = harsh_plan; held = harsh-holds }
+in-thirds = record {
+  top = 3;
+  positive = omega arith;
+  value = slice_index thirds;
+  plan = bold_plan;
+  reached = bold-reaches;
+  replies = harsh_plan;
+  held = harsh-holds;
+}

@@ -2,9 +2,14 @@
 use Rattle.std.proofs.Common.{◌≡◌, ◌∙◌, ℕ, zero, suc, ◌+◌, ◌*◌, ◌/◌, ◌%◌, ◌^◌, ◌<◌, ◌≤◌, sym, ap, refl, subst, arith}
 use Prim.Native.Nat.{◌∣◌}
 use Rattle.std.specs.Int.{IsGcd}
-use Rattle.std.proofs.lemmas.Nat.Gcd.{dvd_refl, dvd-zero, dvd_trans, dvd_antisymm, IsGcd-from_zero, IsGcd-from_mod, IsGcd-swap, same_from_IsGcd}
+use Rattle.std.proofs.lemmas.Nat.Gcd.{dvd_refl, dvd-zero, dvd_trans, dvd_antisymm, IsGcd-from_zero, IsGcd-from_mod}
+use Rattle.std.proofs.lemmas.Nat.Gcd.{IsGcd-swap, same_from_IsGcd}
 use Rattle.std.proofs.lemmas.Nat.{mod-mul-add}
-use Rattle.std.proofs.Math.Nat.{one-dvd, dvd-mul_left, dvd-mul_right, mul-dvd-mul_left, dvd_of_mul-dvd-mul_right, div-mul_cancel, mul-div_cancel', mul-div_cancel, mul-lt-mul_of_pos_left, pow-suc, pow-zero, eq-zero_of_zero-dvd, mul-div_cancel_left, div_self, one-mul, div-lt_iff_lt-mul, div-mul-le_self, mul-le-mul_right, dvd_of_mod-eq-zero, mul_assoc, mul_comm, mul_right_comm, mul-dvd-mul_right, mul-le-mul_left}
+use Rattle.std.proofs.Math.Nat.{one-dvd, dvd-mul_left, dvd-mul_right, mul-dvd-mul_left, dvd_of_mul-dvd-mul_right}
+use Rattle.std.proofs.Math.Nat.{div-mul_cancel, mul-div_cancel', mul-div_cancel, mul-lt-mul_of_pos_left, pow-suc}
+use Rattle.std.proofs.Math.Nat.{pow-zero, eq-zero_of_zero-dvd, mul-div_cancel_left, div_self, one-mul}
+use Rattle.std.proofs.Math.Nat.{div-lt_iff_lt-mul, div-mul-le_self, mul-le-mul_right, dvd_of_mod-eq-zero, mul_assoc}
+use Rattle.std.proofs.Math.Nat.{mul_comm, mul_right_comm, mul-dvd-mul_right, mul-le-mul_left}
 use Rattle.distributions.specs.Divisors.{gcd, gcd_within, lcm}
 use Rattle.distributions.specs.Fraction.{Fraction, lowest}
 
@@ -14,7 +19,8 @@ unfolding gcd_within
 gcd_within-is zero a b h = IsGcd-from_zero a b (omega arith)
 gcd_within-is (suc steps) a zero h = IsGcd-from_zero a zero refl
 gcd_within-is (suc steps) a (suc b) h =
-    IsGcd-from_mod a (suc b) (gcd_within steps (suc b) (a % suc b)) (gcd_within-is steps (suc b) (a % suc b) (omega arith))
+    IsGcd-from_mod a (suc b) (gcd_within steps (suc b) (a % suc b))
+    (gcd_within-is steps (suc b) (a % suc b) (omega arith))
 
 pub gcd-is : (a b : ℕ) → IsGcd a b (gcd a b)
 unfolding gcd
@@ -35,7 +41,8 @@ mod-scaled k a b hk hb =
 
 gcd_within-scaled : (k steps a b : ℕ) → 0 < k → b ≤ steps → IsGcd (k * a) (k * b) (k * gcd_within steps a b)
 unfolding gcd_within
-gcd_within-scaled k zero a b hk h = IsGcd-from_zero (k * a) (k * b) (let e : b ≡ 0 = omega arith in omega (arith, ap (λ n. k * n) e))
+gcd_within-scaled k zero a b hk h =
+    IsGcd-from_zero (k * a) (k * b) (let e : b ≡ 0 = omega arith in omega (arith, ap (λ n. k * n) e))
 gcd_within-scaled k (suc steps) a zero hk h = IsGcd-from_zero (k * a) (k * zero) (omega arith)
 gcd_within-scaled k (suc steps) a (suc b) hk h =
     let more = gcd_within-scaled k steps (suc b) (a % suc b) hk (omega arith) in
@@ -75,7 +82,9 @@ coprime-one n = (one-dvd n, one-dvd 1, λ d p q. q)
 
 pub coprime-pow : (n a j : ℕ) → IsGcd n a 1 → IsGcd n (a ^ j) 1
 coprime-pow n a zero h = let P : ℕ → Type 0 = λ m. IsGcd n m 1 in subst P (sym (pow-zero a)) (coprime-one n)
-coprime-pow n a (suc j) h = let P : ℕ → Type 0 = λ m. IsGcd n m 1 in subst P (sym (pow-suc a j)) (coprime-mul n (a ^ j) a (coprime-pow n a j h) h)
+coprime-pow n a (suc j) h =
+    let P : ℕ → Type 0 = λ m. IsGcd n m 1 in
+    subst P (sym (pow-suc a j)) (coprime-mul n (a ^ j) a (coprime-pow n a j h) h)
 
 -- a divisor of a positive number is positive
 pub dvd-pos : (d n : ℕ) → 1 ≤ n → d ∣ n → 1 ≤ d
@@ -133,17 +142,20 @@ lowest-pos f h =
     let is = gcd-is f.num f.den in
     let P : ℕ → Type 0 = λ n. 1 ≤ n in
     dvd-pos (f.den / gcd f.num f.den) f.den h
-    (let Q : ℕ → Type 0 = λ n. f.den / gcd f.num f.den ∣ n in subst Q (mul-div_cancel' (gcd f.num f.den) is.1) (dvd-mul_left (f.den / gcd f.num f.den) (gcd f.num f.den)))
+    (let Q : ℕ → Type 0 = λ n. f.den / gcd f.num f.den ∣ n in
+    subst Q (mul-div_cancel' (gcd f.num f.den) is.1) (dvd-mul_left (f.den / gcd f.num f.den) (gcd f.num f.den)))
 
 -- fractions that have the value of a third have one value
 pub crossed : (a b c d p q : ℕ) → 1 ≤ b → c * b ≡ a * d → p * b ≡ a * q → c * q ≡ p * d
 crossed a b c d p q hb first second =
     let left : c * q * b ≡ a * d * q = mul_right_comm c q b ∙ ap (λ n. n * q) first in
     let right : p * d * b ≡ a * q * d = mul_right_comm p d b ∙ ap (λ n. n * d) second in
-    sym (mul-div_cancel (c * q) hb) ∙ ap (λ n. n / b) (left ∙ mul_right_comm a d q ∙ sym right) ∙ mul-div_cancel (p * d) hb
+    sym (mul-div_cancel (c * q) hb) ∙ ap (λ n. n / b) (left ∙ mul_right_comm a d q ∙ sym right)
+    ∙ mul-div_cancel (p * d) hb
 
 -- a fraction of the same value in lowest terms is the reduced one
-pub lowest-is : (f g : Fraction) → 1 ≤ f.den → 1 ≤ g.den → IsGcd g.num g.den 1 → g.num * f.den ≡ f.num * g.den → lowest f ≡ g
+pub lowest-is : (f g : Fraction) → 1 ≤ f.den → 1 ≤ g.den → IsGcd g.num g.den 1
+    → g.num * f.den ≡ f.num * g.den → lowest f ≡ g
 lowest-is f g hf hg is same =
     let low = lowest f in
     let nums = lowest-same low.num low.den g.num g.den (lowest-pos f hf) hg (coprime-div f.num f.den hf) is
@@ -166,7 +178,8 @@ lcm-left a b h =
     let first : a / g * g ≡ a = div-mul_cancel g is.0 in
     let second : g * (b / g) ≡ b = mul-div_cancel' g is.1 in
     let P : ℕ → Type 0 = λ n. a ∣ n in
-    let whole : a * (b / g) ≡ a / g * b = ap (λ n. n * (b / g)) (sym first) ∙ mul_assoc (a / g) g (b / g) ∙ ap (λ n. (a / g) * n) second in
+    let whole : a * (b / g) ≡ a / g * b =
+    ap (λ n. n * (b / g)) (sym first) ∙ mul_assoc (a / g) g (b / g) ∙ ap (λ n. (a / g) * n) second in
     subst P whole (dvd-mul_right a (b / g))
 
 pub lcm-right : (a b : ℕ) → b ∣ lcm a b
@@ -194,7 +207,8 @@ unfolding lcm
 lcm-pos a b ha hb =
     let is = gcd-is a b in
     let P : ℕ → Type 0 = λ n. a / gcd a b ∣ n in
-    let some : 1 ≤ a / gcd a b = dvd-pos (a / gcd a b) a ha (subst P (mul-div_cancel' (gcd a b) is.0) (dvd-mul_left (a / gcd a b) (gcd a b))) in
+    let some : 1 ≤ a / gcd a b =
+    dvd-pos (a / gcd a b) a ha (subst P (mul-div_cancel' (gcd a b) is.0) (dvd-mul_left (a / gcd a b) (gcd a b))) in
     pos-mul (a / gcd a b) b some hb
   where
     pos-mul : (x y : ℕ) → 1 ≤ x → 1 ≤ y → 1 ≤ x * y

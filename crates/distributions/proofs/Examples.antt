@@ -1,6 +1,7 @@
 -- Spellings and what is said of them.
 use Rattle.std.proofs.Common.{◌≡◌, refl, Ok, Err, codes, ◌^◌}
-use Rattle.distributions.specs.declared.number.NumberFault.TheVariants.{NotANumber, TooManyDigits, ZeroDenominator, TooFine, TooLarge}
+use Rattle.distributions.specs.declared.number.NumberFault.TheVariants.{NotANumber, TooManyDigits, ZeroDenominator}
+use Rattle.distributions.specs.declared.number.NumberFault.TheVariants.{TooFine, TooLarge}
 use Rattle.distributions.specs.Divisors.{gcd, gcd_within}
 use Rattle.distributions.specs.Number.{number_said}
 

@@ -1,11 +1,13 @@
 -- Factors that are taken out of both numbers of a fraction.
-use Rattle.std.proofs.Common.{◌≡◌, ◌≢◌, ◌∙◌, ℕ, zero, suc, ◌+◌, ◌-◌, ◌*◌, ◌/◌, ◌%◌, ◌^◌, ◌<◌, ◌≤◌, ◌⊎◌, inl, inr, sym, ap, subst, arith}
+use Rattle.std.proofs.Common.{◌≡◌, ◌≢◌, ◌∙◌, ℕ, zero, suc, ◌+◌, ◌-◌, ◌*◌, ◌/◌, ◌%◌, ◌^◌, ◌<◌, ◌≤◌, ◌⊎◌, inl, inr, sym}
+use Rattle.std.proofs.Common.{ap, subst, arith}
 use Prim.Native.Nat.{◌∣◌}
 use Rattle.std.specs.Int.{IsGcd, bit_at, trailing_zeros, w64}
 use Rattle.std.proofs.lemmas.Nat.Gcd.{dvd_refl, dvd_trans, dvd_of_mod-eq-zero, mod-eq-zero_of_dvd}
 use Rattle.std.proofs.lemmas.Nat.Bits.{bit_at-trailing_zeros}
 use Rattle.std.proofs.lemmas.Nat.{pow-add}
-use Rattle.std.proofs.Math.Nat.{one-dvd, dvd-mul_right, pow-zero, pow-suc, mul-dvd-mul_left, div-mul_cancel, mul-div_cancel, mul-div_cancel', mul_right_comm, mul_assoc}
+use Rattle.std.proofs.Math.Nat.{one-dvd, dvd-mul_right, pow-zero, pow-suc, mul-dvd-mul_left, div-mul_cancel}
+use Rattle.std.proofs.Math.Nat.{mul-div_cancel, mul-div_cancel', mul_right_comm, mul_assoc}
 use Rattle.distributions.specs.Fraction.{Fraction}
 use Rattle.distributions.specs.Number.{in_range, fraction_said}
 use Rattle.distributions.proofs.Euclid.{coprime-mul, coprime-pow, dvd-pos, lowest-is}
@@ -40,11 +42,14 @@ twos_out n some small = λ e. omega (arith, (bit_at-trailing_zeros w64 n some sm
 pub value_over : (f a b num den : ℕ) → 1 ≤ f → f ∣ num → f ∣ den → num * b ≡ a * den → (num / f) * b ≡ a * (den / f)
 value_over f a b num den some n d same =
     let whole : (num / f) * b * f ≡ a * (den / f) * f =
-    mul_right_comm (num / f) b f ∙ ap (λ m. m * b) (div-mul_cancel f n) ∙ same ∙ ap (λ m. a * m) (sym (div-mul_cancel f d)) ∙ sym (mul_assoc a (den / f) f) in
+    mul_right_comm (num / f) b f ∙ ap (λ m. m * b) (div-mul_cancel f n) ∙ same
+    ∙ ap (λ m. a * m) (sym (div-mul_cancel f d)) ∙ sym (mul_assoc a (den / f) f) in
     sym (mul-div_cancel ((num / f) * b) some) ∙ ap (λ m. m / f) whole ∙ mul-div_cancel (a * (den / f)) some
 
 pub over_divides : (f n m : ℕ) → f ∣ n → n ∣ m → n / f ∣ m
-over_divides f n m d h = let P : ℕ → Type 0 = λ k. n / f ∣ k in dvd_trans (n / f) (subst P (div-mul_cancel f d) (dvd-mul_right (n / f) f)) h
+over_divides f n m d h =
+    let P : ℕ → Type 0 = λ k. n / f ∣ k in
+    dvd_trans (n / f) (subst P (div-mul_cancel f d) (dvd-mul_right (n / f) f)) h
 
 -- 3. Lowest terms.
 
@@ -53,10 +58,12 @@ pub still_out : (f m n : ℕ) → m ∣ n → n % f ≢ 0 → m % f ≢ 0
 still_out f m n d out = λ e. out (mod-eq-zero_of_dvd f (dvd_trans f (dvd_of_mod-eq-zero f e) d))
 
 -- without a two on one side and without a five on one side
-pub tens_lowest : (num den : ℕ) → den ∣ 10 ^ 19 → (num % 2 ≢ 0) ⊎ (den % 2 ≢ 0) → (num % 5 ≢ 0) ⊎ (den % 5 ≢ 0) → IsGcd num den 1
+pub tens_lowest : (num den : ℕ) → den ∣ 10 ^ 19 → (num % 2 ≢ 0) ⊎ (den % 2 ≢ 0)
+    → (num % 5 ≢ 0) ⊎ (den % 5 ≢ 0) → IsGcd num den 1
 tens_lowest num den tens two five = (one-dvd num, one-dvd den, common)
   where
-    apart : (e f : ℕ) → e ∣ num → e ∣ den → ((n : ℕ) → n % f ≢ 0 → IsGcd n f 1) → (num % f ≢ 0) ⊎ (den % f ≢ 0) → IsGcd e f 1
+    apart : (e f : ℕ) → e ∣ num → e ∣ den → ((n : ℕ) → n % f ≢ 0 → IsGcd n f 1)
+        → (num % f ≢ 0) ⊎ (den % f ≢ 0) → IsGcd e f 1
     apart e f p q lacks out = elim out [
       | inl n ↦ divisor-coprime e num f p (lacks num n)
       | inr d ↦ divisor-coprime e den f q (lacks den d)
@@ -73,7 +80,8 @@ pub tens_some : (den : ℕ) → den ∣ 10 ^ 19 → 1 ≤ den
 tens_some den h = dvd-pos den (10 ^ 19) (omega arith) h
 
 -- what is said of a fraction, by one of the same value in lowest terms
-pub said_lowest : (a b num den : ℕ) → 1 ≤ b → 1 ≤ den → IsGcd num den 1 → num * b ≡ a * den → fraction_said (record { num = a; den = b }) ≡ in_range (record { num = num; den = den })
+pub said_lowest : (a b num den : ℕ) → 1 ≤ b → 1 ≤ den → IsGcd num den 1 → num * b ≡ a * den
+    → fraction_said (record { num = a; den = b }) ≡ in_range (record { num = num; den = den })
 said_lowest a b num den hb hd is same =
     let fraction : ℕ → ℕ → Fraction = λ n d. record { num = n; den = d } in
     said-above_zero (fraction a b) hb ∙ ap in_range (lowest-is (fraction a b) (fraction num den) hb hd is same)

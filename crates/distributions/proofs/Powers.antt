@@ -1,6 +1,7 @@
 -- Powers of two and of five beside the finest denominator.
 use Rattle.std.proofs.Common.{◌≡◌, ◌∙◌, ℕ, zero, suc, ◌+◌, ◌-◌, ◌*◌, ◌/◌, ◌%◌, ◌^◌, ◌<◌, ◌≤◌, sym, ap, add-one, arith}
-use Rattle.std.proofs.Math.Nat.{div-mul_cancel, dvd_of_mod-eq-zero, mul_comm, mul_assoc, pow-suc, pow-zero, mul-le-mul_left, mul-le-mul_right}
+use Rattle.std.proofs.Math.Nat.{div-mul_cancel, dvd_of_mod-eq-zero, mul_comm, mul_assoc, pow-suc, pow-zero}
+use Rattle.std.proofs.Math.Nat.{mul-le-mul_left, mul-le-mul_right}
 use Rattle.std.proofs.lemmas.Nat.{pow-add}
 use Rattle.distributions.specs.Limits.{finest}
 
@@ -43,4 +44,8 @@ taken_out n r f i j h e divides is =
 -- of as many places as the finest denominator has
 pub few_powers : (i j : ℕ) → i ≤ 23 → j ≤ 23 → 2 ^ i * 5 ^ j ≤ finest
 few_powers i j hi hj =
-    omega (arith, mul-le-mul_right (5 ^ j) (pow-rises 2 i 23 (omega arith) hi), mul-le-mul_left (2 ^ 23) (pow-rises 5 j 23 (omega arith) hj))
+    omega (
+      arith,
+      mul-le-mul_right (5 ^ j) (pow-rises 2 i 23 (omega arith) hi),
+      mul-le-mul_left (2 ^ 23) (pow-rises 5 j 23 (omega arith) hj),
+    )

@@ -1,5 +1,6 @@
 -- Numbers as they are spelled.
-use Rattle.std.proofs.Common.{◌≡◌, ◌∙◌, ℕ, suc, true, List, [], ◌∷◌, ◌++◌, length, get_or, drop, ◌+◌, ◌-◌, ◌*◌, ◌^◌, ◌<◌, ◌≤◌, inl, inr, refl, ◌&&◌, sym, ap, subst, arith}
+use Rattle.std.proofs.Common.{◌≡◌, ◌∙◌, ℕ, suc, true, List, [], ◌∷◌, ◌++◌, length, get_or, drop, ◌+◌, ◌-◌, ◌*◌, ◌^◌}
+use Rattle.std.proofs.Common.{◌<◌, ◌≤◌, inl, inr, refl, ◌&&◌, sym, ap, subst, arith}
 use Rattle.std.specs.Prelude.{◌==◌}
 use Rattle.std.proofs.Common.{add-one}
 use Rattle.std.proofs.Math.Dec.{eqb-suc-suc, eqb-zero-suc}
@@ -18,7 +19,8 @@ pub digits_whole : (text : List ℕ) → (digits_len text == length text) ≡ al
 digits_whole [] = refl
 digits_whole (b ∷ bytes) =
     elim (cases_Bool (is_digit b)) [
-      | inl e ↦ rw e (ap (λ n. n == suc (length bytes)) (add-one (digits_len bytes)) ∙ eqb-suc-suc (digits_len bytes) (length bytes) ∙ digits_whole bytes)
+      | inl e ↦ rw e (ap (λ n. n == suc (length bytes)) (add-one (digits_len bytes))
+          ∙ eqb-suc-suc (digits_len bytes) (length bytes) ∙ digits_whole bytes)
       | inr e ↦ rw e (eqb-zero-suc (length bytes))
     ]
 
@@ -32,15 +34,20 @@ pub record DigitStep (bytes : List ℕ) (i v bound : ℕ) : Type 0 where
   pub small : (10 * v + (get_or bytes i 0 - 48) + 1) * 10 ^ (length bytes - (i + 1)) ≤ bound
   pub room : (v + 1) * 10 ≤ bound
 
-pub digit_step : (bytes : List ℕ) (i v bound : ℕ) → i < length bytes → is_digit (get_or bytes i 0) ≡ true → (v + 1) * 10 ^ (length bytes - i) ≤ bound → DigitStep bytes i v bound
+pub digit_step : (bytes : List ℕ) (i v bound : ℕ) → i < length bytes → is_digit (get_or bytes i 0) ≡ true
+    → (v + 1) * 10 ^ (length bytes - i) ≤ bound → DigitStep bytes i v bound
 digit_step bytes i v bound h is small =
     let most = digit-most (get_or bytes i 0) is in
     let left : length bytes - i ≡ suc (length bytes - (i + 1)) = omega arith in
-    let power : 10 ^ (length bytes - i) ≡ 10 ^ (length bytes - (i + 1)) * 10 = ap (λ n. 10 ^ n) left ∙ pow-suc 10 (length bytes - (i + 1)) in
-    let whole : (v + 1) * (10 ^ (length bytes - (i + 1)) * 10) ≤ bound = let P : ℕ → Type 0 = λ n. (v + 1) * n ≤ bound in subst P power small in
-    let bigger : (10 * v + (get_or bytes i 0 - 48) + 1) * 10 ^ (length bytes - (i + 1)) ≤ (10 * (v + 1)) * 10 ^ (length bytes - (i + 1)) =
+    let power : 10 ^ (length bytes - i) ≡ 10 ^ (length bytes - (i + 1)) * 10 =
+    ap (λ n. 10 ^ n) left ∙ pow-suc 10 (length bytes - (i + 1)) in
+    let whole : (v + 1) * (10 ^ (length bytes - (i + 1)) * 10) ≤ bound =
+    let P : ℕ → Type 0 = λ n. (v + 1) * n ≤ bound in subst P power small in
+    let bigger : (10 * v + (get_or bytes i 0 - 48) + 1) * 10 ^ (length bytes - (i + 1))
+    ≤ (10 * (v + 1)) * 10 ^ (length bytes - (i + 1)) =
     mul-le-mul_right (10 ^ (length bytes - (i + 1))) (omega arith) in
-    let some : ((v + 1) * 10) * 1 ≤ ((v + 1) * 10) * 10 ^ (length bytes - (i + 1)) = mul-le-mul_left ((v + 1) * 10) (pow-pos 10 (length bytes - (i + 1)) (omega arith)) in
+    let some : ((v + 1) * 10) * 1 ≤ ((v + 1) * 10) * 10 ^ (length bytes - (i + 1)) =
+    mul-le-mul_left ((v + 1) * 10) (pow-pos 10 (length bytes - (i + 1)) (omega arith)) in
     record {
       value = sym (at_drop_more (λ (t : List ℕ). value_onto v t) bytes i 0 h);
       digit = most;
@@ -49,11 +56,14 @@ digit_step bytes i v bound h is small =
     }
 
 -- the first of digits, and those behind it
-pub digits_next : (bytes : List ℕ) (i : ℕ) → i < length bytes → all_digits (drop i bytes) ≡ true → (is_digit (get_or bytes i 0) ≡ true) × (all_digits (drop (i + 1) bytes) ≡ true)
-digits_next bytes i h all = and_parts (is_digit (get_or bytes i 0)) (all_digits (drop (i + 1) bytes)) (sym (at_drop_more all_digits bytes i 0 h) ∙ all)
+pub digits_next : (bytes : List ℕ) (i : ℕ) → i < length bytes → all_digits (drop i bytes) ≡ true
+    → (is_digit (get_or bytes i 0) ≡ true) × (all_digits (drop (i + 1) bytes) ≡ true)
+digits_next bytes i h all = and_parts (is_digit (get_or bytes i 0)) (all_digits (drop (i + 1) bytes))
+    (sym (at_drop_more all_digits bytes i 0 h) ∙ all)
 
 -- behind a digit the digits are what they were
-pub digits_behind : (bytes : List ℕ) (i : ℕ) → i < length bytes → is_digit (get_or bytes i 0) ≡ true → all_digits (drop i bytes) ≡ all_digits (drop (i + 1) bytes)
+pub digits_behind : (bytes : List ℕ) (i : ℕ) → i < length bytes → is_digit (get_or bytes i 0) ≡ true
+    → all_digits (drop i bytes) ≡ all_digits (drop (i + 1) bytes)
 digits_behind bytes i h is = at_drop_more all_digits bytes i 0 h ∙ ap (λ b. b && all_digits (drop (i + 1) bytes)) is
 
 pub digits_room : (n : ℕ) → n ≤ most_digits → 1 * 10 ^ n ≤ 10 ^ most_digits

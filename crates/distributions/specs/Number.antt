@@ -1,8 +1,11 @@
 -- The numbers that texts spell: decimals with an optional point and exponent, and fractions.
-use Rattle.std.specs.Prelude.{◌≡◌, ◌≢◌, ℕ, ◌+◌, ◌*◌, ◌^◌, ◌==◌, ◌||◌, ◌≤◌, ◌⊎◌, nat_lt, Bool, true, false, List, [], ◌∷◌, ◌++◌, length, take, drop, Option, Some, None, option_map, Result, Ok, Err, if◌then◌else◌}
+use Rattle.std.specs.Prelude.{◌≡◌, ◌≢◌, ℕ, ◌+◌, ◌*◌, ◌^◌, ◌==◌, ◌||◌, ◌≤◌, ◌⊎◌, nat_lt, Bool, true, false, List, []}
+use Rattle.std.specs.Prelude.{◌∷◌, ◌++◌, length, take, drop, Option, Some, None, option_map, Result, Ok, Err}
+use Rattle.std.specs.Prelude.{if◌then◌else◌}
 use Rattle.text_lines.specs.Text.{is_digit, all_digits, is_nil, value_onto}
 use Rattle.distributions.specs.declared.number.NumberFault.{NumberFault}
-use Rattle.distributions.specs.declared.number.NumberFault.TheVariants.{NotANumber, TooManyDigits, ZeroDenominator, TooFine, TooLarge}
+use Rattle.distributions.specs.declared.number.NumberFault.TheVariants.{NotANumber, TooManyDigits, ZeroDenominator}
+use Rattle.distributions.specs.declared.number.NumberFault.TheVariants.{TooFine, TooLarge}
 use Rattle.distributions.specs.Limits.{finest, most_value, most_digits, most_exponent, most_exponent_digits}
 use Rattle.distributions.specs.Fraction.{Fraction, IsFraction, SameValue, lowest}
 

@@ -1,5 +1,6 @@
 -- The distribution that the parts of a choice add up to.
-use Rattle.std.specs.Prelude.{◌≡◌, ◌≤◌, ℕ, zero, suc, ◌+◌, ◌-◌, ◌*◌, ◌/◌, ◌==◌, nat_lt, max, List, [], ◌∷◌, map, All, Result, Ok, Err, if◌then◌else◌}
+use Rattle.std.specs.Prelude.{◌≡◌, ◌≤◌, ℕ, zero, suc, ◌+◌, ◌-◌, ◌*◌, ◌/◌, ◌==◌, nat_lt, max, List, [], ◌∷◌, map, All}
+use Rattle.std.specs.Prelude.{Result, Ok, Err, if◌then◌else◌}
 use Prim.Native.Nat.{◌∣◌}
 use Rattle.game_model.specs.declared.game.Edge.{Edge}
 use Rattle.game_model.specs.Game.{Distribution, IsRising, weight_to, total_of}

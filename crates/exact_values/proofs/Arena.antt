@@ -18,7 +18,8 @@ Some-weaker P Q h (x ∷ xs) (inl here) = inl (h x here)
 Some-weaker P Q h (x ∷ xs) (inr later) = inr (Some-weaker P Q h xs later)
 
 -- one that has a fact that all have
-pub Some-both : {X : Type 0} (P Q R : X → Type 0) → ((x : X) → P x → Q x → R x) → (xs : List X) → AllByRecursion P xs → Some Q xs → (x : X) × R x
+pub Some-both : {X : Type 0} (P Q R : X → Type 0) → ((x : X) → P x → Q x → R x) → (xs : List X) → AllByRecursion P xs
+    → Some Q xs → (x : X) × R x
 Some-both P Q R h [] all s = absurd s
 Some-both P Q R h (x ∷ xs) all (inl here) = (x, h x all.0 here)
 Some-both P Q R h (x ∷ xs) all (inr later) = Some-both P Q R h xs all.1 later

@@ -1,5 +1,6 @@
 -- Facts that hold or don't, and how many numbers have one.
-use Rattle.std.proofs.Common.{◌≡◌, ℕ, zero, suc, ◌<◌, ◌≤◌, Bool, true, false, List, [], ◌∷◌, arith, refl, subst, inl, inr, ◌⊎◌}
+use Rattle.std.proofs.Common.{◌≡◌, ℕ, zero, suc, ◌<◌, ◌≤◌, Bool, true, false, List, [], ◌∷◌, arith, refl, subst, inl}
+use Rattle.std.proofs.Common.{inr, ◌⊎◌}
 use Rattle.std.specs.List.{AllByRecursion}
 use Rattle.std.proofs.lemmas.Bool.{cases_lt, cases_eq}
 use Rattle.exact_values.proofs.Arena.{Some}
@@ -31,7 +32,8 @@ pub none-all : {X : Type 0} (P : X → Type 0) (xs : List X) → (Some P xs → 
 none-all P [] h = tt
 none-all P (x ∷ xs) h = (λ here. h (inl here), none-all P xs (λ later. h (inr later)))
 
-pub not-all : {X : Type 0} (P : X → Type 0) → ((x : X) → Decided (P x)) → (xs : List X) → (AllByRecursion P xs → ⊥) → Some (λ x. P x → ⊥) xs
+pub not-all : {X : Type 0} (P : X → Type 0) → ((x : X) → Decided (P x)) → (xs : List X) → (AllByRecursion P xs → ⊥)
+    → Some (λ x. P x → ⊥) xs
 not-all P d [] h = absurd (h tt)
 not-all P d (x ∷ xs) h = elim (d x) [
   | inr hasnt ↦ inl hasnt
@@ -79,16 +81,20 @@ tally-most d (suc k) = elim (d k) as (λ c. elim c [ inl has ↦ suc (tally d k)
 ]
 
 -- where all that have the one fact have the other, both have the same, or the other has more
-pub tally-more : {A B : ℕ → Type 0} (d : (s : ℕ) → Decided (A s)) (e : (s : ℕ) → Decided (B s)) → ((s : ℕ) → A s → B s) → (k : ℕ)
-    → (tally d k ≤ tally e k) × (((s : ℕ) → s < k → B s → A s) ⊎ (tally d k < tally e k))
+pub tally-more : {A B : ℕ → Type 0} (d : (s : ℕ) → Decided (A s)) (e : (s : ℕ) → Decided (B s)) → ((s : ℕ) → A s → B s)
+    → (k : ℕ) → (tally d k ≤ tally e k) × (((s : ℕ) → s < k → B s → A s) ⊎ (tally d k < tally e k))
 unfolding tally
 tally-more d e h zero = (omega arith, inl (λ s l b. absurd (omega (arith, l))))
 tally-more {A} {B} d e h (suc k) =
-    let old : (tally d k ≤ tally e k) × (((s : ℕ) → s < k → B s → A s) ⊎ (tally d k < tally e k)) = tally-more d e h k in
-    elim (d k) as (λ c. (elim c [ inl has ↦ suc (tally d k) | inr none ↦ tally d k ] ≤ elim (e k) [ inl has ↦ suc (tally e k) | inr none ↦ tally e k ])
-    × (((s : ℕ) → s < suc k → B s → A s) ⊎ (elim c [ inl has ↦ suc (tally d k) | inr none ↦ tally d k ] < elim (e k) [ inl has ↦ suc (tally e k) | inr none ↦ tally e k ]))) [
+    let old : (tally d k ≤ tally e k) × (((s : ℕ) → s < k → B s → A s) ⊎ (tally d k < tally e k)) =
+    tally-more d e h k in
+    elim (d k) as (λ c. (elim c [ inl has ↦ suc (tally d k) | inr none ↦ tally d k ]
+    ≤ elim (e k) [ inl has ↦ suc (tally e k) | inr none ↦ tally e k ])
+    × (((s : ℕ) → s < suc k → B s → A s) ⊎ (elim c [ inl has ↦ suc (tally d k) | inr none ↦ tally d k ]
+    < elim (e k) [ inl has ↦ suc (tally e k) | inr none ↦ tally e k ]))) [
       | inl a ↦ elim (e k) as (λ c. (suc (tally d k) ≤ elim c [ inl has ↦ suc (tally e k) | inr none ↦ tally e k ])
-          × (((s : ℕ) → s < suc k → B s → A s) ⊎ (suc (tally d k) < elim c [ inl has ↦ suc (tally e k) | inr none ↦ tally e k ]))) [
+          × (((s : ℕ) → s < suc k → B s → A s)
+          ⊎ (suc (tally d k) < elim c [ inl has ↦ suc (tally e k) | inr none ↦ tally e k ]))) [
             | inl b ↦ (
               omega (arith, old.0),
               elim old.1 [
@@ -102,7 +108,8 @@ tally-more {A} {B} d e h (suc k) =
             | inr b ↦ absurd (b (h k a))
           ]
       | inr a ↦ elim (e k) as (λ c. (tally d k ≤ elim c [ inl has ↦ suc (tally e k) | inr none ↦ tally e k ])
-          × (((s : ℕ) → s < suc k → B s → A s) ⊎ (tally d k < elim c [ inl has ↦ suc (tally e k) | inr none ↦ tally e k ]))) [
+          × (((s : ℕ) → s < suc k → B s → A s)
+          ⊎ (tally d k < elim c [ inl has ↦ suc (tally e k) | inr none ↦ tally e k ]))) [
             | inl b ↦ (omega (arith, old.0), inr (omega (arith, old.0)))
             | inr b ↦ (
               old.0,

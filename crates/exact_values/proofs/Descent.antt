@@ -32,7 +32,8 @@ pub record Onward (v rank : ℕ → ℕ) (s : ℕ) (m : Distribution) : Type 0 w
   pub further : Further v rank s (get_or m.edges place no_edge).to
 
 -- no set of states leads ever further in itself
-module _ (v rank : ℕ → ℕ) (top : ℕ) (P : ℕ → Type 0) (most : (s : ℕ) → P s → v s ≤ top) (step : (s : ℕ) → P s → (t : ℕ) × (P t × Further v rank s t)) where
+module _ (v rank : ℕ → ℕ) (top : ℕ) (P : ℕ → Type 0) (most : (s : ℕ) → P s → v s ≤ top)
+    (step : (s : ℕ) → P s → (t : ℕ) × (P t × Further v rank s t)) where
   level : (g : ℕ) → ((s : ℕ) → P s → top < v s + g → ⊥) → (r s : ℕ) → P s → top < v s + suc g → rank s < r → ⊥
   level g higher zero s h near few = absurd (omega (arith, few))
   level g higher (suc r) s h near few = let next = step s h in elim next.1.1 [
@@ -72,18 +73,22 @@ greatest f (suc (suc n)) some =
       )
     ]
 
-shares : (v v' t t' x x' d w tot : ℕ) → v * t' ≡ v' * t + d → v * tot ≤ x → x' ≤ v' * tot → w ≤ tot → x' * t + w * d ≤ x * t'
+shares : (v v' t t' x x' d w tot : ℕ) → v * t' ≡ v' * t + d → v * tot ≤ x → x' ≤ v' * tot → w ≤ tot
+    → x' * t + w * d ≤ x * t'
 shares v v' t t' x x' d w tot same enough held few =
     omega (arith, mul-le-mul_right t' enough, mul-le-mul_right t held, mul-le-mul_right d few, ap (λ z. z * tot) same)
 
--- where the difference is the greatest, it is so at each successor of a choice that is enough for one table and held by the other
-pub same-difference : (n : ℕ) (v v' : ℕ → ℕ) (t t' d : ℕ) → ((y : ℕ) → y < n → v y * t' ≤ v' y * t + d) → (s : ℕ) (m : Distribution) → Fits n m → v s * t' ≡ v' s * t + d → Enough v s m → Held v' s m
+-- where the difference is the greatest, it is so at each successor of a choice that is enough for one
+-- table and held by the other
+pub same-difference : (n : ℕ) (v v' : ℕ → ℕ) (t t' d : ℕ) → ((y : ℕ) → y < n → v y * t' ≤ v' y * t + d)
+    → (s : ℕ) (m : Distribution) → Fits n m → v s * t' ≡ v' s * t + d → Enough v s m → Held v' s m
     → AllByRecursion (λ e. v e.to * t' ≡ v' e.to * t + d) m.edges
 same-difference n v v' t t' d most s m fits same enough held =
     tight (λ y. v y * t') (λ y. v' y * t + d) m.edges fits.weights
     (AllByRecursion-weaker (λ (e : Edge). e.to < n) _ (λ e inside. most e.to inside) m.edges fits.inside)
     (rw (sum-affine v' t d m.edges, sum-multiple v t' m.edges)
-    (shares (v s) (v' s) t t' (weighted_sum v m.edges) (weighted_sum v' m.edges) d (weight m.edges) m.total same enough held fits.few))
+    (shares (v s) (v' s) t t' (weighted_sum v m.edges) (weighted_sum v' m.edges) d
+    (weight m.edges) m.total same enough held fits.few))
 
 -- a choice by which one table goes onward and which the other holds
 pub record Meets (n : ℕ) (v rank v' : ℕ → ℕ) (s : ℕ) : Type 0 where
@@ -94,14 +99,16 @@ pub record Meets (n : ℕ) (v rank v' : ℕ → ℕ) (s : ℕ) : Type 0 where
   pub held : Held v' s choice
 
 -- one table is above the other by at most d, if such a choice is at each state where it would be more
-module _ (n : ℕ) (v rank v' : ℕ → ℕ) (t t' d : ℕ) (most : (y : ℕ) → y < n → v y ≤ t) (step : (y : ℕ) → y < n → v' y * t + d < v y * t' → Meets n v rank v' y) where
+module _ (n : ℕ) (v rank v' : ℕ → ℕ) (t t' d : ℕ) (most : (y : ℕ) → y < n → v y ≤ t)
+    (step : (y : ℕ) → y < n → v' y * t + d < v y * t' → Meets n v rank v' y) where
   difference : ℕ → ℕ
   difference y = v y * t' - v' y * t
 
   gap : ℕ → Type 0
   gap e = (y : ℕ) → y < n → v y * t' ≤ v' y * t + e
 
-  no-more : (e : ℕ) → d < e → ((y : ℕ) → y < n → v y * t' ≤ v' y * t + e) → (x : ℕ) → x < n → v x * t' ≡ v' x * t + e → ⊥
+  no-more : (e : ℕ) → d < e → ((y : ℕ) → y < n → v y * t' ≤ v' y * t + e) → (x : ℕ) → x < n
+      → v x * t' ≡ v' x * t + e → ⊥
   no-more e more all x inside same =
       nowhere v rank t (λ y. (y < n) × (v y * t' ≡ v' y * t + e)) (λ y h. most y h.0)
       (λ y h.
@@ -111,8 +118,10 @@ module _ (n : ℕ) (v rank v' : ℕ → ℕ) (t t' d : ℕ) (most : (y : ℕ) �
         (get_or at.choice.edges at.onward.place no_edge).to,
         (
           (
-            AllByRecursion-at (λ (e : Edge). e.to < n) at.choice.edges at.onward.place no_edge at.onward.within at.fits.inside,
-            AllByRecursion-at (λ (f : Edge). v f.to * t' ≡ v' f.to * t + e) at.choice.edges at.onward.place no_edge at.onward.within equal,
+            AllByRecursion-at (λ (e : Edge). e.to < n) at.choice.edges at.onward.place no_edge
+                at.onward.within at.fits.inside,
+            AllByRecursion-at (λ (f : Edge). v f.to * t' ≡ v' f.to * t + e) at.choice.edges at.onward.place no_edge
+                at.onward.within equal,
           ),
           at.onward.further,
         ),
@@ -121,8 +130,10 @@ module _ (n : ℕ) (v rank v' : ℕ → ℕ) (t t' d : ℕ) (most : (y : ℕ) �
 
   pub compared : (x : ℕ) → x < n → v x * t' ≤ v' x * t + d
   compared x inside =
-      let top : (z : ℕ) × (z < n) × ((y : ℕ) → y < n → v y * t' - v' y * t ≤ v z * t' - v' z * t) = greatest (λ y. v y * t' - v' y * t) n (omega (arith, inside)) in
+      let top : (z : ℕ) × (z < n) × ((y : ℕ) → y < n → v y * t' - v' y * t ≤ v z * t' - v' z * t) =
+      greatest (λ y. v y * t' - v' y * t) n (omega (arith, inside)) in
       elim (cases_lt d (v top.0 * t' - v' top.0 * t)) [
-        | inl more ↦ absurd (no-more (v top.0 * t' - v' top.0 * t) more (λ y l. omega (arith, top.2 y l)) top.0 top.1 (omega (arith, more)))
+        | inl more ↦ absurd (no-more (v top.0 * t' - v' top.0 * t) more (λ y l. omega (arith, top.2 y l)) top.0 top.1
+            (omega (arith, more)))
         | inr few ↦ omega (arith, top.2 x inside, few)
       ]

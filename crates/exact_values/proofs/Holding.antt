@@ -1,5 +1,6 @@
 -- What the minimiser holds with exact values.
-use Rattle.std.proofs.Common.{◌≡◌, ℕ, zero, suc, ◌*◌, ◌/◌, ◌^◌, ◌<◌, ◌≤◌, Bool, true, false, List, [], ◌∷◌, length, sum_by, arith, refl, sym, ap, subst}
+use Rattle.std.proofs.Common.{◌≡◌, ℕ, zero, suc, ◌*◌, ◌/◌, ◌^◌, ◌<◌, ◌≤◌, Bool, true, false, List, [], ◌∷◌, length}
+use Rattle.std.proofs.Common.{sum_by, arith, refl, sym, ap, subst}
 use Rattle.std.specs.List.{range_with_len}
 use Rattle.std.specs.Bool.{if◌then◌else◌}
 use Rattle.std.proofs.lemmas.List.FromFn.{length-range_with_len}
@@ -22,7 +23,8 @@ use Rattle.exact_values.proofs.Descent.{Held}
 use Rattle.exact_values.proofs.Arena.{Free, SolvedAt, Exact}
 use Rattle.exact_values.proofs.Plans.{exact-of, answering, reply-at, replies, plan, reached}
 
-sums-most : (t : ℕ) (f : ℕ → ℕ) (most : ℕ) (xs : List ℕ) → ((x : ℕ) → t * f x ≤ most) → t * sum_by f xs ≤ length xs * most
+sums-most : (t : ℕ) (f : ℕ → ℕ) (most : ℕ) (xs : List ℕ) → ((x : ℕ) → t * f x ≤ most)
+    → t * sum_by f xs ≤ length xs * most
 sums-most t f most [] h = omega arith
 sums-most t f most (x ∷ xs) h = rw (sum_by-cons f x xs) (omega (arith, sums-most t f most xs h, h x))
 
@@ -36,45 +38,80 @@ opens : (goal : Bool) (t v p : ℕ) → p ≡ 1 → (goal ≡ true → v ≡ t) 
 opens true t v p one h = rw (one, h refl) (omega arith)
 opens false t v p one h = let at : t * 0 ≤ v * p = omega arith in at
 
-turns : (goal dead : Bool) (t v p x : ℕ) → (goal ≡ true → v ≡ t) → (goal ≡ false → dead ≡ false → t * x ≤ v * p) → t * (if goal then p else (if dead then 0 else x)) ≤ v * p
+turns : (goal dead : Bool) (t v p x : ℕ) → (goal ≡ true → v ≡ t) → (goal ≡ false → dead ≡ false → t * x ≤ v * p)
+    → t * (if goal then p else (if dead then 0 else x)) ≤ v * p
 turns true dead t v p x h k = let at : t * p ≤ v * p = rw (h refl) (omega arith) in at
 turns false true t v p x h k = let at : t * 0 ≤ v * p = omega arith in at
 turns false false t v p x h k = k refl refl
 
 module _ (q : Query) (posed : IsQuery q) (a : Exact q (choices_of q.game)) where
-  worth-held : (s : ℕ) (m : Distribution) → IsChoiceOf q.game m → Held a.value s m → worth q a.value m ≤ a.value s * denominator q.game
-  worth-held s m fits held = held-share (denominator q.game) (denominator q.game / m.total) m.total (a.value s) (weighted_sum a.value m.edges) fits.divides held
+  worth-held : (s : ℕ) (m : Distribution) → IsChoiceOf q.game m → Held a.value s m
+      → worth q a.value m ≤ a.value s * denominator q.game
+  worth-held s m fits held = held-share (denominator q.game) (denominator q.game / m.total) m.total (a.value s)
+      (weighted_sum a.value m.edges) fits.divides held
 
   module _ (faces : ℕ) (opponent : Strategy) (up : IsStrategyOf q Max opponent) where
-    held-choice : (past : List Turn) (s throw : ℕ) → s < states q → Free q s → (side : Side) → side_at q s ≡ side → Held a.value s (choice_of q.game s (of_side side opponent (by_plan q (replies q posed a)) past s throw))
+    held-choice : (past : List Turn) (s throw : ℕ) → s < states q → Free q s → (side : Side) → side_at q s ≡ side
+        → Held a.value s (choice_of q.game s (of_side side opponent (by_plan q (replies q posed a)) past s throw))
     held-choice past s throw inside free Max is =
-        let solved : SolvedAt Max a.value s (choices_of q.game s) = subst (λ side. SolvedAt side a.value s (choices_of q.game s)) is (a.solves.solved s inside free) in
-        AllByRecursion-at (Held a.value s) (choices_of q.game s) (opponent past s throw) no_distribution (up past s throw inside is) solved.0
+        let solved : SolvedAt Max a.value s (choices_of q.game s) =
+        subst (λ side. SolvedAt side a.value s (choices_of q.game s)) is (a.solves.solved s inside free) in
+        AllByRecursion-at (Held a.value s) (choices_of q.game s) (opponent past s throw) no_distribution
+        (up past s throw inside is) solved.0
     held-choice past s throw inside free Min is =
         let answer = (answering q posed a s (side_at q s) refl).1 inside free is in
-        let place : planned_place (replies q posed a) s (length (choices_of q.game s)) ≡ (answering q posed a s (side_at q s) refl).0 =
-        planned_place-given (replies q posed a) s (length (choices_of q.game s)) (answering q posed a s (side_at q s) refl).0 (reply-at q posed a s inside) answer.0 in
+        let place : planned_place (replies q posed a) s (length (choices_of q.game s))
+        ≡ (answering q posed a s (side_at q s) refl).0 =
+        planned_place-given (replies q posed a) s (length (choices_of q.game s))
+        (answering q posed a s (side_at q s) refl).0 (reply-at q posed a s inside) answer.0 in
         subst (λ c. Held a.value s (choice_of q.game s c)) (sym place) answer.1
 
-    hold : (k : ℕ) (past : List Turn) (s : ℕ) → s < states q → a.top * reach q faces opponent (by_plan q (replies q posed a)) k past s ≤ a.value s * (faces * denominator q.game) ^ k
+    hold : (k : ℕ) (past : List Turn) (s : ℕ) → s < states q
+        → a.top * reach q faces opponent (by_plan q (replies q posed a)) k past s
+        ≤ a.value s * (faces * denominator q.game) ^ k
     unfolding reach
-    hold zero past s inside = opens (is_goal q s) a.top (a.value s) ((faces * denominator q.game) ^ 0) (pow-zero (faces * denominator q.game)) (a.solves.goals s inside)
+    hold zero past s inside = opens (is_goal q s) a.top (a.value s) ((faces * denominator q.game) ^ 0)
+        (pow-zero (faces * denominator q.game)) (a.solves.goals s inside)
     hold (suc k) past s inside =
         let P : ℕ = (faces * denominator q.game) ^ k in
-        turns (is_goal q s) (is_dead q s) a.top (a.value s) ((faces * denominator q.game) ^ suc k) _ (a.solves.goals s inside) (λ other alive.
-        let each : (throw : ℕ) → a.top * worth q (reach q faces opponent (by_plan q (replies q posed a)) k (record { state = s; throw = throw; choice = of_side (side_at q s) opponent (by_plan q (replies q posed a)) past s throw } ∷ past)) (choice_of q.game s (of_side (side_at q s) opponent (by_plan q (replies q posed a)) past s throw))
+        turns (is_goal q s) (is_dead q s) a.top (a.value s) ((faces * denominator q.game) ^ suc k) _
+        (a.solves.goals s inside) (λ other alive.
+        let each : (throw : ℕ) → a.top * worth q (reach q faces opponent (by_plan q (replies q posed a)) k (record {
+          state = s;
+          throw = throw;
+          choice = of_side (side_at q s) opponent (by_plan q (replies q posed a)) past s throw;
+        } ∷ past)) (choice_of q.game s (of_side (side_at q s) opponent (by_plan q (replies q posed a)) past s throw))
         ≤ (faces * denominator q.game) ^ k * (a.value s * denominator q.game) =
         λ throw.
-        let turn : Turn = record { state = s; throw = throw; choice = of_side (side_at q s) opponent (by_plan q (replies q posed a)) past s throw } in
-        let m : Distribution = choice_of q.game s (of_side (side_at q s) opponent (by_plan q (replies q posed a)) past s throw) in
-        let fits : IsChoiceOf q.game m = IsChoiceOf-choice_of q.game s _ posed.game inside (of_side-inside q opponent (by_plan q (replies q posed a)) up (by_plan-inside q posed Min (replies q posed a)) past s throw inside (side_at q s) refl) in
-        turn-held a.top (worth q (reach q faces opponent (by_plan q (replies q posed a)) k (turn ∷ past)) m) ((faces * denominator q.game) ^ k) (worth q a.value m) (a.value s) (denominator q.game)
-        (worth-le q (reach q faces opponent (by_plan q (replies q posed a)) k (turn ∷ past)) a.value a.top ((faces * denominator q.game) ^ k) m fits (λ t within. omega (arith, hold k (turn ∷ past) t within)))
+        let turn : Turn = record {
+          state = s;
+          throw = throw;
+          choice = of_side (side_at q s) opponent (by_plan q (replies q posed a)) past s throw;
+        } in
+        let m : Distribution =
+        choice_of q.game s (of_side (side_at q s) opponent (by_plan q (replies q posed a)) past s throw) in
+        let fits : IsChoiceOf q.game m =
+        IsChoiceOf-choice_of q.game s _ posed.game inside (of_side-inside q opponent (by_plan q (replies q posed a)) up
+        (by_plan-inside q posed Min (replies q posed a)) past s throw inside (side_at q s) refl) in
+        turn-held a.top (worth q (reach q faces opponent (by_plan q (replies q posed a)) k (turn ∷ past)) m)
+        ((faces * denominator q.game) ^ k) (worth q a.value m) (a.value s) (denominator q.game)
+        (worth-le q (reach q faces opponent (by_plan q (replies q posed a)) k (turn ∷ past)) a.value a.top
+        ((faces * denominator q.game) ^ k) m fits (λ t within. omega (arith, hold k (turn ∷ past) t within)))
         (worth-held s m fits (held-choice past s throw inside (other, alive) (side_at q s) refl)) in
-        let sums : a.top * sum_by (λ throw. worth q (reach q faces opponent (by_plan q (replies q posed a)) k (record { state = s; throw = throw; choice = of_side (side_at q s) opponent (by_plan q (replies q posed a)) past s throw } ∷ past)) (choice_of q.game s (of_side (side_at q s) opponent (by_plan q (replies q posed a)) past s throw))) (range_with_len 0 faces)
-        ≤ length (range_with_len 0 faces) * ((faces * denominator q.game) ^ k * (a.value s * denominator q.game)) = sums-most a.top _ ((faces * denominator q.game) ^ k * (a.value s * denominator q.game)) (range_with_len 0 faces) each in
-        let dice : length (range_with_len 0 faces) * ((faces * denominator q.game) ^ k * (a.value s * denominator q.game)) ≡ faces * ((faces * denominator q.game) ^ k * (a.value s * denominator q.game)) =
-        ap (λ n. n * ((faces * denominator q.game) ^ k * (a.value s * denominator q.game))) (length-range_with_len 0 faces) in
+        let sums : a.top * sum_by (λ throw. worth q (reach q faces opponent (by_plan q (replies q posed a)) k (record {
+          state = s;
+          throw = throw;
+          choice = of_side (side_at q s) opponent (by_plan q (replies q posed a)) past s throw;
+        } ∷ past)) (choice_of q.game s (of_side (side_at q s) opponent (by_plan q (replies q posed a)) past s throw)))
+        (range_with_len 0 faces)
+        ≤ length (range_with_len 0 faces) * ((faces * denominator q.game) ^ k * (a.value s * denominator q.game)) =
+        sums-most a.top _ ((faces * denominator q.game) ^ k * (a.value s * denominator q.game))
+        (range_with_len 0 faces) each in
+        let dice : length (range_with_len 0 faces)
+        * ((faces * denominator q.game) ^ k * (a.value s * denominator q.game))
+        ≡ faces * ((faces * denominator q.game) ^ k * (a.value s * denominator q.game)) =
+        ap (λ n. n * ((faces * denominator q.game) ^ k * (a.value s * denominator q.game)))
+        (length-range_with_len 0 faces) in
         rw (pow-suc (faces * denominator q.game) k) (omega (arith, sums, dice)))
 
   pub values-of : HasValues q

@@ -1,5 +1,6 @@
 -- A table that solves the equations has ranks, or there is a trap.
-use Rattle.std.proofs.Common.{◌≡◌, ℕ, zero, suc, ◌+◌, ◌-◌, ◌*◌, ◌<◌, ◌≤◌, List, [], ◌∷◌, length, get_or, arith, refl, subst, inl, inr, ◌⊎◌}
+use Rattle.std.proofs.Common.{◌≡◌, ℕ, zero, suc, ◌+◌, ◌-◌, ◌*◌, ◌<◌, ◌≤◌, List, [], ◌∷◌, length, get_or, arith, refl}
+use Rattle.std.proofs.Common.{subst, inl, inr, ◌⊎◌}
 use Rattle.std.specs.List.{AllByRecursion}
 use Rattle.std.proofs.lemmas.Bool.{cases_lt}
 use Rattle.std.proofs.Math.Nat.{mul-le-mul_right}
@@ -12,8 +13,10 @@ use Rattle.game_model.specs.Values.{weighted_sum}
 use Rattle.game_model.proofs.Each.{AllByRecursion-weaker, AllByRecursion-both}
 use Rattle.exact_values.proofs.Sums.{tight, sum-constant}
 use Rattle.exact_values.proofs.Descent.{Fits, Enough, Further, Onward}
-use Rattle.exact_values.proofs.Arena.{Some, Some-weaker, SolvedAt, FitAll, Solves, Needs, RankedAt, Ranks, Stays, CaughtAt, Trap}
-use Rattle.exact_values.proofs.Decided.{Decided, dec-all, dec-both, dec-either, dec-eq, dec-false, dec-le, dec-lt, dec-not, dec-some, not-all, none-all, tally, tally-more, tally-most}
+use Rattle.exact_values.proofs.Arena.{Some, Some-weaker, SolvedAt, FitAll, Solves, Needs, RankedAt, Ranks, Stays}
+use Rattle.exact_values.proofs.Arena.{CaughtAt, Trap}
+use Rattle.exact_values.proofs.Decided.{Decided, dec-all, dec-both, dec-either, dec-eq, dec-false, dec-le, dec-lt}
+use Rattle.exact_values.proofs.Decided.{dec-not, dec-some, not-all, none-all, tally, tally-more, tally-most}
 
 module _ (q : Query) (choices : ℕ → List Distribution) (v : ℕ → ℕ) where
   -- an edge to a greater value, or to an equal one in a set
@@ -29,16 +32,20 @@ module _ (q : Query) (choices : ℕ → List Distribution) (v : ℕ → ℕ) whe
   Layer (suc r) s = Layer r s ⊎ Leads (side_at q s) (Layer r) s (choices s)
 
   pub dec-needs : (s : ℕ) → Decided (Needs q v s)
-  dec-needs s = elim (dec-both _ _ (dec-lt s (states q)) (dec-both _ _ (dec-both _ _ (dec-false (is_goal q s)) (dec-false (is_dead q s))) (dec-lt 0 (v s)))) [
-    | inl h ↦ inl (record { inside = h.0; free = h.1.0; some = h.1.1 })
-    | inr h ↦ inr (λ n. h (n.inside, (n.free, n.some)))
-  ]
+  dec-needs s = elim (dec-both _ _ (dec-lt s (states q))
+      (dec-both _ _ (dec-both _ _ (dec-false (is_goal q s)) (dec-false (is_dead q s))) (dec-lt 0 (v s)))) [
+        | inl h ↦ inl (record { inside = h.0; free = h.1.0; some = h.1.1 })
+        | inr h ↦ inr (λ n. h (n.inside, (n.free, n.some)))
+      ]
 
   dec-into : (A : ℕ → Type 0) → ((s : ℕ) → Decided (A s)) → (s : ℕ) (m : Distribution) → Decided (Into A s m)
-  dec-into A d s m = dec-some (λ (e : Edge). (v s < v e.to) ⊎ ((v e.to ≡ v s) × A e.to)) (λ e. dec-either _ _ (dec-lt (v s) (v e.to)) (dec-both _ _ (dec-eq (v e.to) (v s)) (d e.to))) m.edges
+  dec-into A d s m = dec-some (λ (e : Edge). (v s < v e.to) ⊎ ((v e.to ≡ v s) × A e.to))
+      (λ e. dec-either _ _ (dec-lt (v s) (v e.to)) (dec-both _ _ (dec-eq (v e.to) (v s)) (d e.to))) m.edges
 
-  dec-leads : (A : ℕ → Type 0) → ((s : ℕ) → Decided (A s)) → (side : Side) (s : ℕ) (ms : List Distribution) → Decided (Leads side A s ms)
-  dec-leads A d Max s ms = dec-some (λ m. Enough v s m × Into A s m) (λ m. dec-both _ _ (dec-le (v s * m.total) (weighted_sum v m.edges)) (dec-into A d s m)) ms
+  dec-leads : (A : ℕ → Type 0) → ((s : ℕ) → Decided (A s)) → (side : Side) (s : ℕ) (ms : List Distribution)
+      → Decided (Leads side A s ms)
+  dec-leads A d Max s ms = dec-some (λ m. Enough v s m × Into A s m)
+      (λ m. dec-both _ _ (dec-le (v s * m.total) (weighted_sum v m.edges)) (dec-into A d s m)) ms
   dec-leads A d Min s ms = dec-all (Into A s) (dec-into A d s) ms
 
   dec-layer : (r s : ℕ) → Decided (Layer r s)
@@ -46,20 +53,23 @@ module _ (q : Query) (choices : ℕ → List Distribution) (v : ℕ → ℕ) whe
   dec-layer (suc r) s = dec-either _ _ (dec-layer r s) (dec-leads (Layer r) (dec-layer r) (side_at q s) s (choices s))
 
   -- after so many layers no more is added, or there are at least so many states
-  search : (r : ℕ) → ((k : ℕ) × ((s : ℕ) → s < states q → Layer (suc k) s → Layer k s)) ⊎ (r ≤ tally {A = Layer r} (dec-layer r) (states q))
+  search : (r : ℕ) → ((k : ℕ) × ((s : ℕ) → s < states q → Layer (suc k) s → Layer k s))
+      ⊎ (r ≤ tally {A = Layer r} (dec-layer r) (states q))
   search zero = inr (omega arith)
   search (suc r) = elim (search r) [
     | inl found ↦ inl found
-    | inr many ↦ elim (tally-more {A = Layer r} {B = Layer (suc r)} (dec-layer r) (dec-layer (suc r)) (λ s h. inl h) (states q)).1 [
-      | inl same ↦ inl (r, same)
-      | inr more ↦ inr (omega (arith, many, more))
-    ]
+    | inr many ↦ elim (tally-more {A = Layer r} {B = Layer (suc r)} (dec-layer r) (dec-layer (suc r))
+        (λ s h. inl h) (states q)).1 [
+          | inl same ↦ inl (r, same)
+          | inr more ↦ inr (omega (arith, many, more))
+        ]
   ]
 
   settled : (k : ℕ) × ((s : ℕ) → s < states q → Layer (suc k) s → Layer k s)
   settled = elim (search (suc (states q))) [
     | inl found ↦ found
-    | inr many ↦ absurd (omega (arith, many, tally-most {A = Layer (suc (states q))} (dec-layer (suc (states q))) (states q)))
+    | inr many ↦
+        absurd (omega (arith, many, tally-most {A = Layer (suc (states q))} (dec-layer (suc (states q))) (states q)))
   ]
 
   later : (d r k s : ℕ) → d + r ≡ k → Layer r s → Layer k s
@@ -90,26 +100,36 @@ module _ (q : Query) (choices : ℕ → List Distribution) (v : ℕ → ℕ) whe
   ]
 
   -- an edge of a list, by its place
-  edge-place : (A : ℕ → Type 0) (rank : ℕ → ℕ) (s r : ℕ) (edges : List Edge) → ((t : ℕ) → A t → rank t < rank s) → Some (λ (e : Edge). (v s < v e.to) ⊎ ((v e.to ≡ v s) × A e.to)) edges
+  edge-place : (A : ℕ → Type 0) (rank : ℕ → ℕ) (s r : ℕ) (edges : List Edge) → ((t : ℕ) → A t → rank t < rank s)
+      → Some (λ (e : Edge). (v s < v e.to) ⊎ ((v e.to ≡ v s) × A e.to)) edges
       → (i : ℕ) × (i < length edges) × Further v rank s (get_or edges i no_edge).to
   edge-place A rank s r [] lower h = absurd h
   edge-place A rank s r (e ∷ es) lower (inl (inl greater)) = (0, omega arith, inl greater)
   edge-place A rank s r (e ∷ es) lower (inl (inr equal)) = (0, omega arith, inr (equal.0, lower e.to equal.1))
-  edge-place A rank s r (e ∷ es) lower (inr later) = let rest = edge-place A rank s r es lower later in (suc rest.0, omega (arith, rest.1), rest.2)
+  edge-place A rank s r (e ∷ es) lower (inr later) =
+      let rest = edge-place A rank s r es lower later in
+      (suc rest.0, omega (arith, rest.1), rest.2)
 
-  into-onward : (A : ℕ → Type 0) (rank : ℕ → ℕ) (s : ℕ) (m : Distribution) → ((t : ℕ) → A t → rank t < rank s) → Into A s m → Onward v rank s m
-  into-onward A rank s m lower h = let at = edge-place A rank s 0 m.edges lower h in record { place = at.0; within = at.1; further = at.2 }
+  into-onward : (A : ℕ → Type 0) (rank : ℕ → ℕ) (s : ℕ) (m : Distribution) → ((t : ℕ) → A t → rank t < rank s)
+      → Into A s m → Onward v rank s m
+  into-onward A rank s m lower h =
+      let at = edge-place A rank s 0 m.edges lower h in
+      record { place = at.0; within = at.1; further = at.2 }
 
-  leads-ranked : (A : ℕ → Type 0) (rank : ℕ → ℕ) (s : ℕ) (side : Side) (ms : List Distribution) → ((t : ℕ) → A t → rank t < rank s) → Leads side A s ms → RankedAt side v rank s ms
+  leads-ranked : (A : ℕ → Type 0) (rank : ℕ → ℕ) (s : ℕ) (side : Side) (ms : List Distribution)
+      → ((t : ℕ) → A t → rank t < rank s) → Leads side A s ms → RankedAt side v rank s ms
   leads-ranked A rank s Max ms lower h = Some-weaker _ _ (λ m both. (both.0, into-onward A rank s m lower both.1)) ms h
   leads-ranked A rank s Min ms lower h = AllByRecursion-weaker _ _ (λ m into. into-onward A rank s m lower into) ms h
 
 -- nothing is greater, and all are given: all have one value
-all-equal : (n : ℕ) (v : ℕ → ℕ) (s : ℕ) (m : Distribution) → Fits n m → Enough v s m → AllByRecursion (λ e. v e.to ≤ v s) m.edges → AllByRecursion (λ e. v e.to ≡ v s) m.edges
+all-equal : (n : ℕ) (v : ℕ → ℕ) (s : ℕ) (m : Distribution) → Fits n m → Enough v s m
+    → AllByRecursion (λ e. v e.to ≤ v s) m.edges → AllByRecursion (λ e. v e.to ≡ v s) m.edges
 all-equal n v s m fits enough most =
-    tight v (λ t. v s) m.edges fits.weights most (rw (sum-constant (v s) m.edges) (omega (arith, enough, mul-le-mul_right (v s) fits.few)))
+    tight v (λ t. v s) m.edges fits.weights most
+    (rw (sum-constant (v s) m.edges) (omega (arith, enough, mul-le-mul_right (v s) fits.few)))
 
-module _ (q : Query) (choices : ℕ → List Distribution) (fit : FitAll q choices) (t : ℕ) (v : ℕ → ℕ) (solves : Solves q choices t v) where
+module _ (q : Query) (choices : ℕ → List Distribution) (fit : FitAll q choices) (t : ℕ) (v : ℕ → ℕ)
+    (solves : Solves q choices t v) where
   abbrev L : ℕ → ℕ → Type 0
   L r s = Layer q choices v r s
 
@@ -124,22 +144,33 @@ module _ (q : Query) (choices : ℕ → List Distribution) (fit : FitAll q choic
   left-needs (suc k) s h = left-needs k s (λ there. h (inl there))
 
   -- a choice that is enough and leads nowhere stays among those that are left
-  stays : (k s : ℕ) (m : Distribution) → Fits (states q) m → Enough v s m → (Into q choices v (L k) s m → ⊥) → Stays (λ x. L k x → ⊥) v s m
+  stays : (k s : ℕ) (m : Distribution) → Fits (states q) m → Enough v s m → (Into q choices v (L k) s m → ⊥)
+      → Stays (λ x. L k x → ⊥) v s m
   stays k s m fits enough none =
-      let nowhere : AllByRecursion (λ (e : Edge). ((v s < v e.to) ⊎ ((v e.to ≡ v s) × L k e.to)) → ⊥) m.edges = none-all (λ (e : Edge). (v s < v e.to) ⊎ ((v e.to ≡ v s) × L k e.to)) m.edges none in
+      let nowhere : AllByRecursion (λ (e : Edge). ((v s < v e.to) ⊎ ((v e.to ≡ v s) × L k e.to)) → ⊥) m.edges =
+      none-all (λ (e : Edge). (v s < v e.to) ⊎ ((v e.to ≡ v s) × L k e.to)) m.edges none in
       let equal : AllByRecursion (λ (e : Edge). v e.to ≡ v s) m.edges =
-      all-equal (states q) v s m fits enough (AllByRecursion-weaker (λ (e : Edge). ((v s < v e.to) ⊎ ((v e.to ≡ v s) × L k e.to)) → ⊥) _ (λ e h. elim (cases_lt (v s) (v e.to)) [ inl more ↦ absurd (h (inl more)) | inr few ↦ few ]) m.edges nowhere) in
-      AllByRecursion-weaker (λ (e : Edge). (v e.to ≡ v s) × (((v s < v e.to) ⊎ ((v e.to ≡ v s) × L k e.to)) → ⊥)) _ (λ e both. ((λ there. both.1 (inr (both.0, there))), both.0)) m.edges
-      (AllByRecursion-both (λ (e : Edge). v e.to ≡ v s) (λ (e : Edge). ((v s < v e.to) ⊎ ((v e.to ≡ v s) × L k e.to)) → ⊥) m.edges equal nowhere)
+      all-equal (states q) v s m fits enough
+      (AllByRecursion-weaker (λ (e : Edge). ((v s < v e.to) ⊎ ((v e.to ≡ v s) × L k e.to)) → ⊥) _
+      (λ e h. elim (cases_lt (v s) (v e.to)) [ inl more ↦ absurd (h (inl more)) | inr few ↦ few ]) m.edges nowhere) in
+      AllByRecursion-weaker (λ (e : Edge). (v e.to ≡ v s) × (((v s < v e.to) ⊎ ((v e.to ≡ v s) × L k e.to)) → ⊥)) _
+      (λ e both. ((λ there. both.1 (inr (both.0, there))), both.0)) m.edges
+      (AllByRecursion-both (λ (e : Edge). v e.to ≡ v s)
+      (λ (e : Edge). ((v s < v e.to) ⊎ ((v e.to ≡ v s) × L k e.to)) → ⊥) m.edges equal nowhere)
 
-  caught : (k s : ℕ) (side : Side) (ms : List Distribution) → AllByRecursion (Fits (states q)) ms → SolvedAt side v s ms → (Leads q choices v side (L k) s ms → ⊥) → CaughtAt side (λ x. L k x → ⊥) v s ms
+  caught : (k s : ℕ) (side : Side) (ms : List Distribution) → AllByRecursion (Fits (states q)) ms → SolvedAt side v s ms
+      → (Leads q choices v side (L k) s ms → ⊥) → CaughtAt side (λ x. L k x → ⊥) v s ms
   caught k s Max ms fits solved none =
-      AllByRecursion-weaker (λ m. Fits (states q) m × ((Enough v s m × Into q choices v (L k) s m) → ⊥)) _ (λ m both enough. stays k s m both.0 enough (λ into. both.1 (enough, into))) ms
-      (AllByRecursion-both (Fits (states q)) (λ m. (Enough v s m × Into q choices v (L k) s m) → ⊥) ms fits (none-all (λ m. Enough v s m × Into q choices v (L k) s m) ms none))
+      AllByRecursion-weaker (λ m. Fits (states q) m × ((Enough v s m × Into q choices v (L k) s m) → ⊥)) _
+      (λ m both enough. stays k s m both.0 enough (λ into. both.1 (enough, into))) ms
+      (AllByRecursion-both (Fits (states q)) (λ m. (Enough v s m × Into q choices v (L k) s m) → ⊥) ms fits
+      (none-all (λ m. Enough v s m × Into q choices v (L k) s m) ms none))
   caught k s Min ms fits solved none =
-      some-caught k s ms (AllByRecursion-both (Fits (states q)) (Enough v s) ms fits solved.0) (not-all (Into q choices v (L k) s) (dec-into q choices v (L k) (dec-layer q choices v k) s) ms none)
+      some-caught k s ms (AllByRecursion-both (Fits (states q)) (Enough v s) ms fits solved.0)
+      (not-all (Into q choices v (L k) s) (dec-into q choices v (L k) (dec-layer q choices v k) s) ms none)
     where
-      some-caught : (k s : ℕ) (ms : List Distribution) → AllByRecursion (λ m. Fits (states q) m × Enough v s m) ms → Some (λ m. Into q choices v (L k) s m → ⊥) ms → Some (Stays (λ x. L k x → ⊥) v s) ms
+      some-caught : (k s : ℕ) (ms : List Distribution) → AllByRecursion (λ m. Fits (states q) m × Enough v s m) ms
+          → Some (λ m. Into q choices v (L k) s m → ⊥) ms → Some (Stays (λ x. L k x → ⊥) v s) ms
       some-caught k s [] both h = absurd h
       some-caught k s (m ∷ ms) both (inl here) = inl (stays k s m both.0.0 both.0.1 here)
       some-caught k s (m ∷ ms) both (inr more) = inr (some-caught k s ms both.1 more)
@@ -149,17 +180,21 @@ module _ (q : Query) (choices : ℕ → List Distribution) (fit : FitAll q choic
     needs = λ s h. left-needs last s h;
     caught = λ s h.
         let needs : Needs q v s = left-needs last s h in
-        caught last s (side_at q s) (choices s) (fit s needs.inside) (solves.solved s needs.inside needs.free) (λ leads. h ((settled q choices v).1 s needs.inside (inr leads)));
+        caught last s (side_at q s) (choices s) (fit s needs.inside) (solves.solved s needs.inside needs.free)
+        (λ leads. h ((settled q choices v).1 s needs.inside (inr leads)));
   }
 
   ranked-by : ((s : ℕ) → s < states q → L last s) → Ranks q choices v (λ s. (ranking q choices v last s).0)
-  ranked-by all s needs = by-layer (ranking q choices v last s).0 refl ((ranking q choices v last s).1.0 (all s needs.inside))
+  ranked-by all s needs =
+      by-layer (ranking q choices v last s).0 refl ((ranking q choices v last s).1.0 (all s needs.inside))
     where
-      by-layer : (r : ℕ) → (ranking q choices v last s).0 ≡ r → L r s → RankedAt (side_at q s) v (λ x. (ranking q choices v last x).0) s (choices s)
+      by-layer : (r : ℕ) → (ranking q choices v last s).0 ≡ r → L r s
+          → RankedAt (side_at q s) v (λ x. (ranking q choices v last x).0) s (choices s)
       by-layer zero is none = absurd (none needs)
       by-layer (suc r) is (inl before) = absurd (omega (arith, is, (ranking q choices v last s).1.1 r before))
       by-layer (suc r) is (inr leads) =
-          leads-ranked q choices v (L r) (λ x. (ranking q choices v last x).0) s (side_at q s) (choices s) (λ x there. omega (arith, is, (ranking q choices v last x).1.1 r there)) leads
+          leads-ranked q choices v (L r) (λ x. (ranking q choices v last x).0) s (side_at q s) (choices s)
+          (λ x there. omega (arith, is, (ranking q choices v last x).1.1 r there)) leads
 
   all-or-one : (k : ℕ) → ((s : ℕ) → s < k → L last s) ⊎ ((s : ℕ) × Left s)
   all-or-one zero = inl (λ s l. absurd (omega (arith, l)))

@@ -1,5 +1,6 @@
 -- The plans of exact values.
-use Rattle.std.proofs.Common.{◌≡◌, ℕ, suc, ◌+◌, ◌*◌, ◌^◌, ◌<◌, ◌≤◌, ◌⊎◌, Bool, true, false, List, [], ◌∷◌, length, map, take, drop, sum, get_or, arith, refl, sym, subst, inl, inr, ◌∙◌, Option, Some, None}
+use Rattle.std.proofs.Common.{◌≡◌, ℕ, suc, ◌+◌, ◌*◌, ◌^◌, ◌<◌, ◌≤◌, ◌⊎◌, Bool, true, false, List, [], ◌∷◌, length, map}
+use Rattle.std.proofs.Common.{take, drop, sum, get_or, arith, refl, sym, subst, inl, inr, ◌∙◌, Option, Some, None}
 use Rattle.std.specs.Prelude.{slice_index, slice_index_or}
 use Rattle.std.specs.List.{AllByRecursion, range_with_len}
 use Rattle.std.specs.Bool.{if◌then◌else◌}
@@ -15,7 +16,8 @@ use Rattle.game_model.specs.Values.{denominator}
 use Rattle.game_model.specs.Plans.{planned, planned_place, same_side, numerator_under}
 use Rattle.game_model.specs.Ranks.{IsRankedChoice}
 use Rattle.game_model.proofs.Each.{AllByRecursion-weaker, AllByRecursion-at}
-use Rattle.game_model.proofs.Choices.{IsChoiceOf, IsChoiceOf-choice_of, AreChoicesOf-choices_of, AreChoicesOf-planned, denominator-pos}
+use Rattle.game_model.proofs.Choices.{IsChoiceOf, IsChoiceOf-choice_of, AreChoicesOf-choices_of, AreChoicesOf-planned}
+use Rattle.game_model.proofs.Choices.{denominator-pos}
 use Rattle.game_laws.proofs.Planned.{one-at, planned_place-given, rank-most}
 use Rattle.game_laws.proofs.Horizon.{Certified, certified-reached}
 use Rattle.strategies.specs.Strategies.{Strategy, IsStrategyOf, reach, by_plan}
@@ -34,13 +36,17 @@ fits-of game m h = record { positive = h.positive; weights = h.weights; few = om
 pub exact-of : (q : Query) → IsQuery q → Exact q (choices_of q.game)
 exact-of q posed =
     let all = AreChoicesOf-choices_of q.game posed.game in
-    exact-values q (choices_of q.game) (λ s inside. AllByRecursion-weaker (IsChoiceOf q.game) _ (fits-of q.game) (choices_of q.game s) (all.each s)) all.some
+    exact-values q (choices_of q.game) (λ s inside.
+    AllByRecursion-weaker (IsChoiceOf q.game) _ (fits-of q.game) (choices_of q.game s) (all.each s)) all.some
 
 -- an element with a fact, by its place
-some-place : {X : Type 0} (P : X → Type 0) (xs : List X) (d : X) → arena.Some P xs → (c : ℕ) × ((c < length xs) × P (get_or xs c d))
+some-place : {X : Type 0} (P : X → Type 0) (xs : List X) (d : X) → arena.Some P xs
+    → (c : ℕ) × ((c < length xs) × P (get_or xs c d))
 some-place P [] d h = absurd h
 some-place P (x ∷ xs) d (inl here) = (0, (omega arith, here))
-some-place P (x ∷ xs) d (inr later) = let rest = some-place P xs d later in (suc rest.0, (omega (arith, rest.1.0), rest.1.1))
+some-place P (x ∷ xs) d (inr later) =
+    let rest = some-place P xs d later in
+    (suc rest.0, (omega (arith, rest.1.0), rest.1.1))
 
 module _ (q : Query) (posed : IsQuery q) (a : Exact q (choices_of q.game)) where
   abbrev pub ranks : List ℕ
@@ -50,48 +56,72 @@ module _ (q : Query) (posed : IsQuery q) (a : Exact q (choices_of q.game)) where
   rank-at s inside = get_or-map-range_with_len (λ t. a.rank t) 0 (states q) s s 0 inside (omega arith)
 
   -- a choice that is enough and goes onward is ranked
-  as-ranked : (s : ℕ) → s < states q → (m : Distribution) → Fits (states q) m → Enough a.value s m → Onward a.value a.rank s m → IsRankedChoice a.value (slice_index ranks) s m
+  as-ranked : (s : ℕ) → s < states q → (m : Distribution) → Fits (states q) m → Enough a.value s m
+      → Onward a.value a.rank s m → IsRankedChoice a.value (slice_index ranks) s m
   as-ranked s inside m fits enough onward = record {
     enough = enough;
     place = onward.place;
     inside = onward.within;
     onward = elim onward.further [
       | inl greater ↦ inl greater
-      | inr equal ↦ inr (equal.0, omega (arith, equal.1, rank-at s inside, rank-at (get_or m.edges onward.place no_edge).to (AllByRecursion-at (λ (e : Edge). e.to < states q) m.edges onward.place no_edge onward.within fits.inside)))
+      | inr equal ↦ inr (
+        equal.0,
+        omega (
+          arith,
+          equal.1,
+          rank-at s inside,
+          rank-at (get_or m.edges onward.place no_edge).to (AllByRecursion-at (λ (e : Edge). e.to < states q) m.edges
+              onward.place no_edge onward.within fits.inside),
+        ),
+      )
     ];
   }
 
   fit-at : (s c : ℕ) → s < states q → c < length (choices_of q.game s) → Fits (states q) (choice_of q.game s c)
-  fit-at s c inside within = fits-of q.game (choice_of q.game s c) (IsChoiceOf-choice_of q.game s c posed.game inside within)
+  fit-at s c inside within =
+      fits-of q.game (choice_of q.game s c) (IsChoiceOf-choice_of q.game s c posed.game inside within)
 
   -- the choice of a state of the maximiser, and of one of the minimiser
-  pub picking : (s : ℕ) (side : Side) → side_at q s ≡ side → (c : ℕ) × (Needs q a.value s → side_at q s ≡ Max → (c < length (choices_of q.game s)) × IsRankedChoice a.value (slice_index ranks) s (choice_of q.game s c))
+  pub picking : (s : ℕ) (side : Side) → side_at q s ≡ side → (c : ℕ) × (Needs q a.value s → side_at q s ≡ Max
+      → (c < length (choices_of q.game s)) × IsRankedChoice a.value (slice_index ranks) s (choice_of q.game s c))
   picking s Min is = (0, λ needs max. absurd (let no : Max ≡ Min = sym max ∙ is in cc))
   picking s Max is = elim (dec-needs q (choices_of q.game) a.value s) [
     | inr none ↦ (0, λ needs max. absurd (none needs))
     | inl needs ↦
-        let ranked : RankedAt Max a.value a.rank s (choices_of q.game s) = subst (λ side. RankedAt side a.value a.rank s (choices_of q.game s)) is (a.ranks s needs) in
-        let at = some-place (λ m. Enough a.value s m × Onward a.value a.rank s m) (choices_of q.game s) no_distribution ranked in
-        (at.0, λ _ _. (at.1.0, as-ranked s needs.inside (choice_of q.game s at.0) (fit-at s at.0 needs.inside at.1.0) at.1.1.0 at.1.1.1))
+        let ranked : RankedAt Max a.value a.rank s (choices_of q.game s) =
+        subst (λ side. RankedAt side a.value a.rank s (choices_of q.game s)) is (a.ranks s needs) in
+        let at =
+        some-place (λ m. Enough a.value s m × Onward a.value a.rank s m)
+        (choices_of q.game s) no_distribution ranked in (
+          at.0,
+          λ _ _. (
+            at.1.0,
+            as-ranked s needs.inside (choice_of q.game s at.0) (fit-at s at.0 needs.inside at.1.0) at.1.1.0 at.1.1.1,
+          ),
+        )
   ]
 
   abbrev pub plan : List (Option ℕ)
   plan = map (λ s. Some (picking s (side_at q s) refl).0) (range_with_len 0 (states q))
 
   plan-at : (s : ℕ) → s < states q → slice_index_or plan s None ≡ Some (picking s (side_at q s) refl).0
-  plan-at s inside = get_or-map-range_with_len (λ t. Some (picking t (side_at q t) refl).0) 0 (states q) s s None inside (omega arith)
+  plan-at s inside = get_or-map-range_with_len (λ t. Some (picking t (side_at q t) refl).0) 0
+      (states q) s s None inside (omega arith)
 
-  pub answering : (s : ℕ) (side : Side) → side_at q s ≡ side → (c : ℕ) × (s < states q → Free q s → side_at q s ≡ Min → (c < length (choices_of q.game s)) × Held a.value s (choice_of q.game s c))
+  pub answering : (s : ℕ) (side : Side) → side_at q s ≡ side → (c : ℕ) × (s < states q → Free q s → side_at q s ≡ Min
+      → (c < length (choices_of q.game s)) × Held a.value s (choice_of q.game s c))
   answering s Max is = (0, λ inside free min. absurd (let no : Max ≡ Min = sym is ∙ min in cc))
   answering s Min is = answers (states q) refl
     where
-      answers : (n : ℕ) → states q ≡ n → (c : ℕ) × (s < states q → Free q s → side_at q s ≡ Min → (c < length (choices_of q.game s)) × Held a.value s (choice_of q.game s c))
+      answers : (n : ℕ) → states q ≡ n → (c : ℕ) × (s < states q → Free q s → side_at q s ≡ Min
+          → (c < length (choices_of q.game s)) × Held a.value s (choice_of q.game s c))
       answers n same = elim (cases_lt s (states q)) [
         | inr past ↦ (0, λ inside free min. absurd (omega (arith, inside, past)))
         | inl inside ↦ elim (cases_free (is_goal q s) (is_dead q s)) [
           | inr over ↦ (0, λ _ free min. absurd (over free))
           | inl free ↦
-              let solved : SolvedAt Min a.value s (choices_of q.game s) = subst (λ side. SolvedAt side a.value s (choices_of q.game s)) is (a.solves.solved s inside free) in
+              let solved : SolvedAt Min a.value s (choices_of q.game s) =
+              subst (λ side. SolvedAt side a.value s (choices_of q.game s)) is (a.solves.solved s inside free) in
               let at = some-place (Held a.value s) (choices_of q.game s) no_distribution solved.1 in
               (at.0, λ _ _ _. at.1)
         ]
@@ -106,23 +136,34 @@ module _ (q : Query) (posed : IsQuery q) (a : Exact q (choices_of q.game)) where
   replies = map (λ s. Some (answering s (side_at q s) refl).0) (range_with_len 0 (states q))
 
   pub reply-at : (s : ℕ) → s < states q → slice_index_or replies s None ≡ Some (answering s (side_at q s) refl).0
-  reply-at s inside = get_or-map-range_with_len (λ t. Some (answering t (side_at q t) refl).0) 0 (states q) s s None inside (omega arith)
+  reply-at s inside = get_or-map-range_with_len (λ t. Some (answering t (side_at q t) refl).0) 0
+      (states q) s s None inside (omega arith)
 
   -- 1. What the maximiser reaches.
   all-ranked : (s : ℕ) → s < states q → (needs : Needs q a.value s) → (side : Side) → side_at q s ≡ side
-      → AllByRecursion (IsRankedChoice a.value (slice_index ranks) s) (if same_side side Max then take 1 (drop (planned_place plan s (length (choices_of q.game s))) (choices_of q.game s)) else choices_of q.game s)
+      → AllByRecursion (IsRankedChoice a.value (slice_index ranks) s) (if same_side side Max then take 1
+      (drop (planned_place plan s (length (choices_of q.game s))) (choices_of q.game s)) else choices_of q.game s)
   all-ranked s inside needs Max is =
       let pick = (picking s (side_at q s) refl).1 needs is in
-      let place : planned_place plan s (length (choices_of q.game s)) ≡ (picking s (side_at q s) refl).0 = planned_place-given plan s (length (choices_of q.game s)) (picking s (side_at q s) refl).0 (plan-at s inside) pick.0 in
-      subst (λ p. AllByRecursion (IsRankedChoice a.value (slice_index ranks) s) (take 1 (drop p (choices_of q.game s)))) (sym place)
-      (one-at (IsRankedChoice a.value (slice_index ranks) s) (choices_of q.game s) (picking s (side_at q s) refl).0 no_distribution pick.0 pick.1)
+      let place : planned_place plan s (length (choices_of q.game s)) ≡ (picking s (side_at q s) refl).0 =
+      planned_place-given plan s (length (choices_of q.game s)) (picking s (side_at q s) refl).0
+      (plan-at s inside) pick.0 in
+      subst (λ p. AllByRecursion (IsRankedChoice a.value (slice_index ranks) s) (take 1 (drop p (choices_of q.game s))))
+      (sym place)
+      (one-at (IsRankedChoice a.value (slice_index ranks) s) (choices_of q.game s)
+      (picking s (side_at q s) refl).0 no_distribution pick.0 pick.1)
   all-ranked s inside needs Min is =
       let all = AreChoicesOf-choices_of q.game posed.game in
-      let solved : SolvedAt Min a.value s (choices_of q.game s) = subst (λ side. SolvedAt side a.value s (choices_of q.game s)) is (a.solves.solved s inside needs.free) in
-      let ranked : RankedAt Min a.value a.rank s (choices_of q.game s) = subst (λ side. RankedAt side a.value a.rank s (choices_of q.game s)) is (a.ranks s needs) in
-      each (choices_of q.game s) (AllByRecursion-weaker (IsChoiceOf q.game) _ (fits-of q.game) (choices_of q.game s) (all.each s)) solved.0 ranked
+      let solved : SolvedAt Min a.value s (choices_of q.game s) =
+      subst (λ side. SolvedAt side a.value s (choices_of q.game s)) is (a.solves.solved s inside needs.free) in
+      let ranked : RankedAt Min a.value a.rank s (choices_of q.game s) =
+      subst (λ side. RankedAt side a.value a.rank s (choices_of q.game s)) is (a.ranks s needs) in
+      each (choices_of q.game s)
+      (AllByRecursion-weaker (IsChoiceOf q.game) _ (fits-of q.game) (choices_of q.game s) (all.each s)) solved.0 ranked
     where
-      each : (ms : List Distribution) → AllByRecursion (Fits (states q)) ms → AllByRecursion (Enough a.value s) ms → AllByRecursion (Onward a.value a.rank s) ms → AllByRecursion (IsRankedChoice a.value (slice_index ranks) s) ms
+      each : (ms : List Distribution) → AllByRecursion (Fits (states q)) ms
+          → AllByRecursion (Enough a.value s) ms → AllByRecursion (Onward a.value a.rank s) ms
+          → AllByRecursion (IsRankedChoice a.value (slice_index ranks) s) ms
       each [] f e o = tt
       each (m ∷ ms) f e o = (as-ranked s inside m f.0 e.0 o.0, each ms f.1 e.1 o.1)
 
@@ -140,19 +181,24 @@ module _ (q : Query) (posed : IsQuery q) (a : Exact q (choices_of q.game)) where
     units = a.solves.most;
     deads = dead-none;
     ranks = rank-most ranks;
-    ranked = λ s inside other alive some. all-ranked s inside (record { inside = inside; free = (other, alive); some = some }) (side_at q s) refl;
+    ranked = λ s inside other alive some.
+        all-ranked s inside (record { inside = inside; free = (other, alive); some = some }) (side_at q s) refl;
   }
 
-  reached-factors : (top r f n m v d : ℕ) → f * n ≤ r → m * v * d ≤ top * (m * n + d) → m * v * (f * d) ≤ top * (m * r + f * d)
+  reached-factors : (top r f n m v d : ℕ) → f * n ≤ r → m * v * d ≤ top * (m * n + d)
+      → m * v * (f * d) ≤ top * (m * r + f * d)
   reached-factors top r f n m v d h k = omega (arith, mul-le-mul_left (top * m) h, mul-le-mul_left f k)
 
-  pub reached : (m : ℕ) → 1 ≤ m → (k : ℕ) × ((faces s : ℕ) (opponent : Strategy) → IsStrategyOf q Min opponent → s < states q →
-      m * a.value s * (faces * denominator q.game) ^ k ≤ a.top * (m * reach q faces (by_plan q plan) opponent k [] s + (faces * denominator q.game) ^ k))
+  pub reached : (m : ℕ) → 1 ≤ m
+      → (k : ℕ) × ((faces s : ℕ) (opponent : Strategy) → IsStrategyOf q Min opponent → s < states q →
+      m * a.value s * (faces * denominator q.game) ^ k
+      ≤ a.top * (m * reach q faces (by_plan q plan) opponent k [] s + (faces * denominator q.game) ^ k))
   reached m some =
       let at = certified-reached a.top q (planned q Max plan) a.value (slice_index ranks) (sum ranks) certified m in (
         at.0,
         λ faces s opponent down inside.
             rw (pow-product faces (denominator q.game) at.0)
-            (reached-factors a.top (reach q faces (by_plan q plan) opponent at.0 [] s) (faces ^ at.0) (numerator_under q Max plan at.0 s) m (a.value s) (denominator q.game ^ at.0)
+            (reached-factors a.top (reach q faces (by_plan q plan) opponent at.0 [] s) (faces ^ at.0)
+            (numerator_under q Max plan at.0 s) m (a.value s) (denominator q.game ^ at.0)
             (plan-least q posed plan faces opponent down at.0 [] s inside) (at.1 s inside)),
       )

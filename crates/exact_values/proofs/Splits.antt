@@ -1,5 +1,6 @@
 -- A question in which a state has two sets of choices together is solved by the better of the two.
-use Rattle.std.proofs.Common.{◌≡◌, ℕ, suc, ◌+◌, ◌-◌, ◌*◌, ◌<◌, ◌≤◌, List, [], ◌∷◌, length, get_or, arith, sym, ap, subst, inl, inr, ◌⊎◌, ◌∙◌}
+use Rattle.std.proofs.Common.{◌≡◌, ℕ, suc, ◌+◌, ◌-◌, ◌*◌, ◌<◌, ◌≤◌, List, [], ◌∷◌, length, get_or, arith, sym, ap}
+use Rattle.std.proofs.Common.{subst, inl, inr, ◌⊎◌, ◌∙◌}
 use Rattle.std.specs.List.{AllByRecursion}
 use Rattle.std.proofs.lemmas.Bool.{cases_lt, cases_eq, cases_Bool}
 use Rattle.std.proofs.lemmas.List.Sums.{sum_by-cons}
@@ -13,20 +14,24 @@ use Rattle.game_model.specs.Values.{weighted_sum}
 use Rattle.game_model.proofs.Each.{AllByRecursion-weaker, AllByRecursion-at, AllByRecursion-both}
 use Rattle.exact_values.proofs.Sums.{weight, sums-in_order, sum-affine, sum-multiple, sum-constant}
 use Rattle.exact_values.proofs.Descent.{Fits, Held, Enough, Further, Onward, Meets, nowhere, compared, same-difference}
-use Rattle.exact_values.proofs.Arena.{Some, Some-both, Free, SolvedAt, FitAll, Solves, Needs, RankedAt, Ranks, Exact, Stays, CaughtAt, Trap}
+use Rattle.exact_values.proofs.Arena.{Some, Some-both, Free, SolvedAt, FitAll, Solves, Needs, RankedAt, Ranks, Exact}
+use Rattle.exact_values.proofs.Arena.{Stays, CaughtAt, Trap}
 use Rattle.exact_values.proofs.Layers.{ranks-of}
 
 -- some successor is greater where the average is
-some-greater : (v : ℕ → ℕ) (c : ℕ) (edges : List Edge) → weight edges * c < weighted_sum v edges → (i : ℕ) × (i < length edges) × (c < v (get_or edges i no_edge).to)
+some-greater : (v : ℕ → ℕ) (c : ℕ) (edges : List Edge) → weight edges * c < weighted_sum v edges
+    → (i : ℕ) × (i < length edges) × (c < v (get_or edges i no_edge).to)
 some-greater v c [] h = absurd (omega (arith, h))
 some-greater v c (e ∷ es) h =
-    let first : weighted_sum v (e ∷ es) ≡ e.weight * v e.to + weighted_sum v es = sum_by-cons (λ (d : Edge). d.weight * v d.to) e es in
+    let first : weighted_sum v (e ∷ es) ≡ e.weight * v e.to + weighted_sum v es =
+    sum_by-cons (λ (d : Edge). d.weight * v d.to) e es in
     let second : weight (e ∷ es) ≡ e.weight + weight es = sum_by-cons (λ (d : Edge). d.weight) e es in
     elim (cases_lt c (v e.to)) [
       | inl more ↦ (0, omega arith, more)
       | inr few ↦
           let whole : weight (e ∷ es) * c ≡ e.weight * c + weight es * c = ap (λ x. x * c) second ∙ omega arith in
-          let rest = some-greater v c es (omega (arith, h, first, whole, mul-le-mul_left e.weight few)) in (suc rest.0, omega (arith, rest.1), rest.2)
+          let rest = some-greater v c es (omega (arith, h, first, whole, mul-le-mul_left e.weight few)) in
+          (suc rest.0, omega (arith, rest.1), rest.2)
     ]
 
 equal-of : (t x y : ℕ) → 0 < t → x * t ≡ y * t → x ≡ y
@@ -36,21 +41,29 @@ equal-of t x y positive h =
     omega (arith, one, two)
 
 -- one choice that serves both tables, where the state has the same choices for both
-meet : (n : ℕ) (v rank v' : ℕ → ℕ) (y : ℕ) (side : Side) (ms : List Distribution) → AllByRecursion (Fits n) ms → RankedAt side v rank y ms → SolvedAt side v y ms → SolvedAt side v' y ms → Meets n v rank v' y
+meet : (n : ℕ) (v rank v' : ℕ → ℕ) (y : ℕ) (side : Side) (ms : List Distribution) → AllByRecursion (Fits n) ms
+    → RankedAt side v rank y ms → SolvedAt side v y ms → SolvedAt side v' y ms → Meets n v rank v' y
 meet n v rank v' y Max ms fits ranked lower upper =
-    let one = Some-both (λ m. Fits n m × Held v' y m) (λ m. Enough v y m × Onward v rank y m) (λ m. (Fits n m × Held v' y m) × (Enough v y m × Onward v rank y m)) (λ m a b. (a, b)) ms (AllByRecursion-both (Fits n) (Held v' y) ms fits upper.0) ranked in
+    let one = Some-both (λ m. Fits n m × Held v' y m) (λ m. Enough v y m × Onward v rank y m)
+    (λ m. (Fits n m × Held v' y m) × (Enough v y m × Onward v rank y m)) (λ m a b. (a, b)) ms
+    (AllByRecursion-both (Fits n) (Held v' y) ms fits upper.0) ranked in
     record { choice = one.0; fits = one.1.0.0; enough = one.1.1.0; onward = one.1.1.1; held = one.1.0.1 }
 meet n v rank v' y Min ms fits ranked lower upper =
-    let one = Some-both (λ m. (Fits n m × Enough v y m) × Onward v rank y m) (Held v' y) (λ m. ((Fits n m × Enough v y m) × Onward v rank y m) × Held v' y m) (λ m a b. (a, b)) ms
-    (AllByRecursion-both (λ m. Fits n m × Enough v y m) (Onward v rank y) ms (AllByRecursion-both (Fits n) (Enough v y) ms fits lower.0) ranked) upper.1 in
+    let one = Some-both (λ m. (Fits n m × Enough v y m) × Onward v rank y m) (Held v' y)
+    (λ m. ((Fits n m × Enough v y m) × Onward v rank y m) × Held v' y m) (λ m a b. (a, b)) ms
+    (AllByRecursion-both (λ m. Fits n m × Enough v y m) (Onward v rank y) ms
+    (AllByRecursion-both (Fits n) (Enough v y) ms fits lower.0) ranked) upper.1 in
     record { choice = one.0; fits = one.1.0.0.0; enough = one.1.0.0.1; onward = one.1.0.1; held = one.1.1 }
 
 -- a solution and ranks over one set of choices, and a solution over another, which differ at one state alone
-module _ (q : Query) (j : ℕ) (one two : ℕ → List Distribution) (fit : FitAll q one) (off : (s : ℕ) → (s ≡ j → ⊥) → one s ≡ two s)
-    (t t' : ℕ) (v rank v' : ℕ → ℕ) (lower : Solves q one t v) (ranks : Ranks q one v rank) (upper : Solves q two t' v') where
+module _ (q : Query) (j : ℕ) (one two : ℕ → List Distribution) (fit : FitAll q one)
+    (off : (s : ℕ) → (s ≡ j → ⊥) → one s ≡ two s)
+    (t t' : ℕ) (v rank v' : ℕ → ℕ) (lower : Solves q one t v) (ranks : Ranks q one v rank)
+    (upper : Solves q two t' v') where
   needs-more : (d y : ℕ) → y < states q → v' y * t + d < v y * t' → Needs q v y
   needs-more d y inside more = elim (cases_Bool (is_goal q y)) [
-    | inl goal ↦ absurd (omega (arith, more, ap (λ x. x * t') (lower.goals y inside goal), ap (λ x. x * t) (upper.goals y inside goal)))
+    | inl goal ↦ absurd
+        (omega (arith, more, ap (λ x. x * t') (lower.goals y inside goal), ap (λ x. x * t) (upper.goals y inside goal)))
     | inr other ↦ elim (cases_Bool (is_dead q y)) [
       | inl dead ↦ absurd (omega (arith, more, ap (λ x. x * t') (lower.deads y inside other dead)))
       | inr alive ↦ record {
@@ -58,25 +71,30 @@ module _ (q : Query) (j : ℕ) (one two : ℕ → List Distribution) (fit : FitA
         free = (other, alive);
         some = elim (cases_lt 0 (v y)) [
           | inl some ↦ some
-          | inr none ↦ let no_value : v y ≡ 0 = omega (arith, none) in absurd (omega (arith, more, ap (λ x. x * t') no_value))
+          | inr none ↦
+              let no_value : v y ≡ 0 = omega (arith, none) in
+              absurd (omega (arith, more, ap (λ x. x * t') no_value))
         ];
       }
     ]
   ]
 
-  pub compare-off : (d : ℕ) → (v' j * t + d < v j * t' → Meets (states q) v rank v' j) → (x : ℕ) → x < states q → v x * t' ≤ v' x * t + d
+  pub compare-off : (d : ℕ) → (v' j * t + d < v j * t' → Meets (states q) v rank v' j) → (x : ℕ) → x < states q
+      → v x * t' ≤ v' x * t + d
   compare-off d at_j = compared (states q) v rank v' t t' d lower.most (λ y inside more. elim (cases_eq y j) [
     | inl same ↦ subst (Meets (states q) v rank v') (sym same) (at_j (subst (λ z. v' z * t + d < v z * t') same more))
     | inr other ↦
         let needs : Needs q v y = needs-more d y inside more in
-        meet (states q) v rank v' y (side_at q y) (one y) (fit y inside) (ranks y needs) (lower.solved y inside needs.free)
+        meet (states q) v rank v' y (side_at q y) (one y) (fit y inside) (ranks y needs)
+        (lower.solved y inside needs.free)
         (subst (λ ms. SolvedAt (side_at q y) v' y ms) (sym (off y other)) (upper.solved y inside needs.free))
   ])
 
 module _ (q : Query) (j : ℕ) (inside_j : j < states q) (free_j : Free q j) (both one two : ℕ → List Distribution)
     (fit_both : FitAll q both) (fit_one : FitAll q one) (fit_two : FitAll q two)
     (off_one : (s : ℕ) → (s ≡ j → ⊥) → one s ≡ both s) (off_two : (s : ℕ) → (s ≡ j → ⊥) → two s ≡ both s)
-    (all_at : (P : Distribution → Type 0) → AllByRecursion P (one j) → AllByRecursion P (two j) → AllByRecursion P (both j))
+    (all_at : (P : Distribution → Type 0) → AllByRecursion P (one j) → AllByRecursion P (two j)
+    → AllByRecursion P (both j))
     (some_at : (P : Distribution → Type 0) → Some P (one j) → Some P (both j))
     (which : (P : Distribution → Type 0) → Some P (both j) → Some P (one j) ⊎ Some P (two j))
     (a : Exact q one) (b : Exact q two) where
@@ -113,14 +131,24 @@ module _ (q : Query) (j : ℕ) (inside_j : j < states q) (free_j : Free q j) (bo
     held-two m fits held = elim (cases_lt (a.value j * m.total) (weighted_sum a.value m.edges)) [
       | inr few ↦ few
       | inl more ↦
-          let place = some-greater a.value (a.value j) m.edges (omega (arith, more, mul-le-mul_right (a.value j) fits.few)) in
+          let place =
+          some-greater a.value (a.value j) m.edges (omega (arith, more, mul-le-mul_right (a.value j) fits.few)) in
           let all : (x : ℕ) → x < states q → a.value x * b.top ≤ b.value x * a.top + 0 =
           compare-off q j one two fit_one off a.top b.top a.value a.rank b.value a.solves a.ranks b.solves 0
-          (λ _. record { choice = m; fits = fits; enough = omega (arith, more); onward = record { place = place.0; within = place.1; further = inl place.2 }; held = held }) in
+          (λ _. record {
+            choice = m;
+            fits = fits;
+            enough = omega (arith, more);
+            onward = record { place = place.0; within = place.1; further = inl place.2 };
+            held = held;
+          }) in
           let sums : weighted_sum a.value m.edges * b.top ≤ weighted_sum b.value m.edges * a.top =
-          subst (λ x. x ≤ weighted_sum b.value m.edges * a.top) (sum-multiple a.value b.top m.edges) (subst (λ x. weighted_sum (λ s. a.value s * b.top) m.edges ≤ x) (sum-multiple b.value a.top m.edges)
-          (sums-in_order (λ s. a.value s * b.top) (λ s. b.value s * a.top) m.edges (AllByRecursion-weaker (λ (e : Edge). e.to < states q) _ (λ e inside. omega (arith, all e.to inside)) m.edges fits.inside))) in
-          sums-le (weighted_sum a.value m.edges) (weighted_sum b.value m.edges) (a.value j) (b.value j) a.top b.top m.total b.solves.positive sums held better
+          subst (λ x. x ≤ weighted_sum b.value m.edges * a.top) (sum-multiple a.value b.top m.edges)
+          (subst (λ x. weighted_sum (λ s. a.value s * b.top) m.edges ≤ x) (sum-multiple b.value a.top m.edges)
+          (sums-in_order (λ s. a.value s * b.top) (λ s. b.value s * a.top) m.edges (AllByRecursion-weaker
+          (λ (e : Edge). e.to < states q) _ (λ e inside. omega (arith, all e.to inside)) m.edges fits.inside))) in
+          sums-le (weighted_sum a.value m.edges) (weighted_sum b.value m.edges) (a.value j)
+          (b.value j) a.top b.top m.total b.solves.positive sums held better
     ]
 
     pub max-both : Exact q both
@@ -129,14 +157,19 @@ module _ (q : Query) (j : ℕ) (inside_j : j < states q) (free_j : Free q j) (bo
       value = a.value;
       rank = a.rank;
       solves = solves-both (subst (λ side. SolvedAt side a.value j (both j)) (sym maximiser) (
-        all_at (Held a.value j) at_one.0 (AllByRecursion-weaker (λ m. Fits (states q) m × Held b.value j m) _ (λ m h. held-two m h.0 h.1) (two j) (AllByRecursion-both (Fits (states q)) (Held b.value j) (two j) (fit_two j inside_j) at_two.0)),
+        all_at (Held a.value j) at_one.0
+            (AllByRecursion-weaker (λ m. Fits (states q) m × Held b.value j m) _ (λ m h. held-two m h.0 h.1) (two j)
+            (AllByRecursion-both (Fits (states q)) (Held b.value j) (two j) (fit_two j inside_j) at_two.0)),
         some_at (Enough a.value j) at_one.1,
       ));
       ranks = λ s needs. elim (cases_eq s j) [
         | inl same ↦
             let here : Needs q a.value j = subst (Needs q a.value) same needs in
-            let old : RankedAt Max a.value a.rank j (one j) = subst (λ side. RankedAt side a.value a.rank j (one j)) maximiser (a.ranks j here) in
-            subst (λ x. RankedAt (side_at q x) a.value a.rank x (both x)) (sym same) (subst (λ side. RankedAt side a.value a.rank j (both j)) (sym maximiser) (some_at (λ m. Enough a.value j m × Onward a.value a.rank j m) old))
+            let old : RankedAt Max a.value a.rank j (one j) =
+            subst (λ side. RankedAt side a.value a.rank j (one j)) maximiser (a.ranks j here) in
+            subst (λ x. RankedAt (side_at q x) a.value a.rank x (both x)) (sym same)
+            (subst (λ side. RankedAt side a.value a.rank j (both j)) (sym maximiser)
+            (some_at (λ m. Enough a.value j m × Onward a.value a.rank j m) old))
         | inr other ↦ subst (λ ms. RankedAt (side_at q s) a.value a.rank s ms) (off_one s other) (a.ranks s needs)
       ];
     }
@@ -155,7 +188,8 @@ module _ (q : Query) (j : ℕ) (inside_j : j < states q) (free_j : Free q j) (bo
     ranked_two : Needs q b.value j → AllByRecursion (Onward b.value b.rank j) (two j)
     ranked_two needs = subst (λ side. RankedAt side b.value b.rank j (two j)) minimiser (b.ranks j needs)
 
-    less-strict : (x x' v v' t t' tot : ℕ) → 0 < t → x' * t ≤ x * t' → v' * tot ≤ x' → v * t' ≤ v' * t → x < v * tot → 0 < t' → ⊥
+    less-strict : (x x' v v' t t' tot : ℕ) → 0 < t → x' * t ≤ x * t' → v' * tot ≤ x' → v * t' ≤ v' * t
+        → x < v * tot → 0 < t' → ⊥
     less-strict x x' v v' t t' tot positive h enough less strict positive' =
         let whole : t' * (v * tot) ≤ t' * x = omega (arith, h, mul-le-mul_right t enough, mul-le-mul_right tot less) in
         let no_less : v * tot ≤ x = le_of_mul-le-mul_left whole positive' in
@@ -168,40 +202,60 @@ module _ (q : Query) (j : ℕ) (inside_j : j < states q) (free_j : Free q j) (bo
       free = free_j;
       some = elim (cases_lt 0 (b.value j)) [
         | inl some ↦ some
-        | inr none ↦ let no_value : b.value j ≡ 0 = omega (arith, none) in absurd (omega (arith, more, ap (λ x. x * a.top) no_value))
+        | inr none ↦
+            let no_value : b.value j ≡ 0 = omega (arith, none) in
+            absurd (omega (arith, more, ap (λ x. x * a.top) no_value))
       ];
     }
 
     -- each choice of the second is enough for the first
-    enough-two : (m : Distribution) → Fits (states q) m → Enough b.value j m → (Needs q b.value j → Onward b.value b.rank j m) → Enough a.value j m
+    enough-two : (m : Distribution) → Fits (states q) m → Enough b.value j m
+        → (Needs q b.value j → Onward b.value b.rank j m) → Enough a.value j m
     enough-two m fits enough onward = elim (cases_lt (weighted_sum a.value m.edges) (a.value j * m.total)) [
       | inr few ↦ few
       | inl less ↦
           let all : (x : ℕ) → x < states q → b.value x * a.top ≤ a.value x * b.top + 0 =
-          compare-off q j two one fit_two (λ s other. sym (off s other)) b.top a.top b.value b.rank a.value b.solves b.ranks a.solves 0
-          (λ more. record { choice = m; fits = fits; enough = enough; onward = onward (needs-two (omega (arith, more))); held = omega (arith, less) }) in
+          compare-off q j two one fit_two
+          (λ s other. sym (off s other)) b.top a.top b.value b.rank a.value b.solves b.ranks a.solves 0
+          (λ more. record {
+            choice = m;
+            fits = fits;
+            enough = enough;
+            onward = onward (needs-two (omega (arith, more)));
+            held = omega (arith, less);
+          }) in
           let sums : weighted_sum b.value m.edges * a.top ≤ weighted_sum a.value m.edges * b.top =
-          subst (λ x. x ≤ weighted_sum a.value m.edges * b.top) (sum-multiple b.value a.top m.edges) (subst (λ x. weighted_sum (λ s. b.value s * a.top) m.edges ≤ x) (sum-multiple a.value b.top m.edges)
-          (sums-in_order (λ s. b.value s * a.top) (λ s. a.value s * b.top) m.edges (AllByRecursion-weaker (λ (e : Edge). e.to < states q) _ (λ e inside. omega (arith, all e.to inside)) m.edges fits.inside))) in
-          absurd (less-strict (weighted_sum a.value m.edges) (weighted_sum b.value m.edges) (a.value j) (b.value j) a.top b.top m.total a.solves.positive sums enough better less b.solves.positive)
+          subst (λ x. x ≤ weighted_sum a.value m.edges * b.top) (sum-multiple b.value a.top m.edges)
+          (subst (λ x. weighted_sum (λ s. b.value s * a.top) m.edges ≤ x) (sum-multiple a.value b.top m.edges)
+          (sums-in_order (λ s. b.value s * a.top) (λ s. a.value s * b.top) m.edges (AllByRecursion-weaker
+          (λ (e : Edge). e.to < states q) _ (λ e inside. omega (arith, all e.to inside)) m.edges fits.inside))) in
+          absurd (less-strict (weighted_sum a.value m.edges) (weighted_sum b.value m.edges) (a.value j)
+          (b.value j) a.top b.top m.total a.solves.positive sums enough better less b.solves.positive)
     ]
 
     min-solves : Solves q both a.top a.value
     min-solves = solves-both (subst (λ side. SolvedAt side a.value j (both j)) (sym minimiser) (
-      all_at (Enough a.value j) least_one.0 (enough-all (two j) (fit_two j inside_j) least_two.0 (λ needs. ranked_two needs)),
+      all_at (Enough a.value j) least_one.0
+          (enough-all (two j) (fit_two j inside_j) least_two.0 (λ needs. ranked_two needs)),
       some_at (Held a.value j) least_one.1,
     ))
       where
-        enough-all : (ms : List Distribution) → AllByRecursion (Fits (states q)) ms → AllByRecursion (Enough b.value j) ms → (Needs q b.value j → AllByRecursion (Onward b.value b.rank j) ms) → AllByRecursion (Enough a.value j) ms
+        enough-all : (ms : List Distribution) → AllByRecursion (Fits (states q)) ms
+            → AllByRecursion (Enough b.value j) ms → (Needs q b.value j → AllByRecursion (Onward b.value b.rank j) ms)
+            → AllByRecursion (Enough a.value j) ms
         enough-all [] fits enough onward = tt
-        enough-all (m ∷ ms) fits enough onward = (enough-two m fits.0 enough.0 (λ needs. (onward needs).0), enough-all ms fits.1 enough.1 (λ needs. (onward needs).1))
+        enough-all (m ∷ ms) fits enough onward = (
+          enough-two m fits.0 enough.0 (λ needs. (onward needs).0),
+          enough-all ms fits.1 enough.1 (λ needs. (onward needs).1),
+        )
 
     -- the second game's values are above by as much as at the state, at most
     ahead : ℕ
     ahead = b.value j * a.top - a.value j * b.top
 
     all-ahead : (x : ℕ) → x < states q → b.value x * a.top ≤ a.value x * b.top + (b.value j * a.top - a.value j * b.top)
-    all-ahead = compare-off q j two one fit_two (λ s other. sym (off s other)) b.top a.top b.value b.rank a.value b.solves b.ranks a.solves (b.value j * a.top - a.value j * b.top)
+    all-ahead = compare-off q j two one fit_two (λ s other. sym (off s other)) b.top a.top b.value b.rank a.value
+        b.solves b.ranks a.solves (b.value j * a.top - a.value j * b.top)
         (λ more. absurd (omega (arith, more)))
 
     module _ (X : ℕ → Type 0) (trap : Trap q both a.value X) where
@@ -214,93 +268,157 @@ module _ (q : Query) (j : ℕ) (inside_j : j < states q) (free_j : Free q j) (bo
         held : Held a.value y choice
         stays : Stays X a.value y choice
 
-      enough-first : (sa sb va vb ta tb d w tot : ℕ) → 0 < tb → vb * ta ≡ va * tb + d → vb * tot ≤ sb → sb * ta ≤ sa * tb + w * d → w ≤ tot → va * tot ≤ sa
+      enough-first : (sa sb va vb ta tb d w tot : ℕ) → 0 < tb → vb * ta ≡ va * tb + d → vb * tot ≤ sb
+          → sb * ta ≤ sa * tb + w * d → w ≤ tot → va * tot ≤ sa
       enough-first sa sb va vb ta tb d w tot positive same enough most few =
-          let whole : tb * (va * tot) ≤ tb * sa = omega (arith, ap (λ x. x * tot) same, mul-le-mul_right ta enough, most, mul-le-mul_right d few) in
+          let whole : tb * (va * tot) ≤ tb * sa =
+          omega (arith, ap (λ x. x * tot) same, mul-le-mul_right ta enough, most, mul-le-mul_right d few) in
           le_of_mul-le-mul_left whole positive
 
-      sums-ahead : (m : Distribution) → Fits (states q) m → weighted_sum b.value m.edges * a.top ≤ weighted_sum a.value m.edges * b.top + weight m.edges * (b.value j * a.top - a.value j * b.top)
+      sums-ahead : (m : Distribution) → Fits (states q) m → weighted_sum b.value m.edges * a.top
+          ≤ weighted_sum a.value m.edges * b.top + weight m.edges * (b.value j * a.top - a.value j * b.top)
       sums-ahead m fits =
-          subst (λ x. x ≤ weighted_sum a.value m.edges * b.top + weight m.edges * (b.value j * a.top - a.value j * b.top)) (sum-multiple b.value a.top m.edges)
-          (subst (λ x. weighted_sum (λ s. b.value s * a.top) m.edges ≤ x) (sum-affine a.value b.top (b.value j * a.top - a.value j * b.top) m.edges)
-          (sums-in_order (λ s. b.value s * a.top) (λ s. a.value s * b.top + (b.value j * a.top - a.value j * b.top)) m.edges (AllByRecursion-weaker (λ (e : Edge). e.to < states q) _ (λ e inside. all-ahead e.to inside) m.edges fits.inside)))
+          subst
+          (λ x. x ≤ weighted_sum a.value m.edges * b.top + weight m.edges * (b.value j * a.top - a.value j * b.top))
+          (sum-multiple b.value a.top m.edges)
+          (subst (λ x. weighted_sum (λ s. b.value s * a.top) m.edges ≤ x)
+          (sum-affine a.value b.top (b.value j * a.top - a.value j * b.top) m.edges)
+          (sums-in_order (λ s. b.value s * a.top) (λ s. a.value s * b.top + (b.value j * a.top - a.value j * b.top))
+          m.edges (AllByRecursion-weaker (λ (e : Edge). e.to < states q) _
+          (λ e inside. all-ahead e.to inside) m.edges fits.inside)))
 
       stays-held : (y : ℕ) (m : Distribution) → Fits (states q) m → Stays X a.value y m → Held a.value y m
       stays-held y m fits stays =
-          let sums : weighted_sum a.value m.edges ≤ weighted_sum (λ s. a.value y) m.edges = sums-in_order a.value (λ s. a.value y) m.edges (AllByRecursion-weaker (λ (e : Edge). X e.to × (a.value e.to ≡ a.value y)) _ (λ e h. omega (arith, h.1)) m.edges stays) in
+          let sums : weighted_sum a.value m.edges ≤ weighted_sum (λ s. a.value y) m.edges =
+          sums-in_order a.value (λ s. a.value y) m.edges (AllByRecursion-weaker
+          (λ (e : Edge). X e.to × (a.value e.to ≡ a.value y)) _ (λ e h. omega (arith, h.1)) m.edges stays) in
           omega (arith, sums, sum-constant (a.value y) m.edges, mul-le-mul_right (a.value y) fits.few)
 
-      walk : (y : ℕ) → y < states q → b.value y * a.top ≡ a.value y * b.top + (b.value j * a.top - a.value j * b.top) → (side : Side) (ms : List Distribution) → AllByRecursion (Fits (states q)) ms
-          → SolvedAt side a.value y ms → SolvedAt side b.value y ms → RankedAt side b.value b.rank y ms → CaughtAt side X a.value y ms → Walks y
+      walk : (y : ℕ) → y < states q → b.value y * a.top ≡ a.value y * b.top + (b.value j * a.top - a.value j * b.top)
+          → (side : Side) (ms : List Distribution) → AllByRecursion (Fits (states q)) ms → SolvedAt side a.value y ms
+          → SolvedAt side b.value y ms → RankedAt side b.value b.rank y ms → CaughtAt side X a.value y ms → Walks y
       walk y inside same Max ms fits first second ranked caught =
-          let m = Some-both (λ m. (Fits (states q) m × Held a.value y m) × (Enough a.value y m → Stays X a.value y m)) (λ m. Enough b.value y m × Onward b.value b.rank y m)
-          (λ m. ((Fits (states q) m × Held a.value y m) × (Enough a.value y m → Stays X a.value y m)) × (Enough b.value y m × Onward b.value b.rank y m)) (λ m x z. (x, z)) ms
-          (AllByRecursion-both (λ m. Fits (states q) m × Held a.value y m) (λ m. Enough a.value y m → Stays X a.value y m) ms (AllByRecursion-both (Fits (states q)) (Held a.value y) ms fits first.0) caught) ranked in
+          let m = Some-both (λ m. (Fits (states q) m × Held a.value y m) × (Enough a.value y m → Stays X a.value y m))
+          (λ m. Enough b.value y m × Onward b.value b.rank y m)
+          (λ m. ((Fits (states q) m × Held a.value y m) × (Enough a.value y m → Stays X a.value y m))
+          × (Enough b.value y m × Onward b.value b.rank y m)) (λ m x z. (x, z)) ms
+          (AllByRecursion-both (λ m. Fits (states q) m × Held a.value y m)
+          (λ m. Enough a.value y m → Stays X a.value y m) ms
+          (AllByRecursion-both (Fits (states q)) (Held a.value y) ms fits first.0) caught) ranked in
           record {
             choice = m.0;
             fits = m.1.0.0.0;
             enough = m.1.1.0;
             onward = m.1.1.1;
             held = m.1.0.0.1;
-            stays = m.1.0.1 (enough-first (weighted_sum a.value m.0.edges) (weighted_sum b.value m.0.edges) (a.value y) (b.value y) a.top b.top (b.value j * a.top - a.value j * b.top) (weight m.0.edges) m.0.total
+            stays = m.1.0.1 (enough-first (weighted_sum a.value m.0.edges) (weighted_sum b.value m.0.edges) (a.value y)
+                (b.value y) a.top b.top (b.value j * a.top - a.value j * b.top) (weight m.0.edges) m.0.total
                 b.solves.positive same m.1.1.0 (sums-ahead m.0 m.1.0.0.0) m.1.0.0.0.few);
           }
       walk y inside same Min ms fits first second ranked caught =
-          let m = Some-both (λ m. (Fits (states q) m × Enough b.value y m) × Onward b.value b.rank y m) (Stays X a.value y) (λ m. ((Fits (states q) m × Enough b.value y m) × Onward b.value b.rank y m) × Stays X a.value y m) (λ m x z. (x, z)) ms
-          (AllByRecursion-both (λ m. Fits (states q) m × Enough b.value y m) (Onward b.value b.rank y) ms (AllByRecursion-both (Fits (states q)) (Enough b.value y) ms fits second.0) ranked) caught in
-          record { choice = m.0; fits = m.1.0.0.0; enough = m.1.0.0.1; onward = m.1.0.1; held = stays-held y m.0 m.1.0.0.0 m.1.1; stays = m.1.1 }
+          let m =
+          Some-both (λ m. (Fits (states q) m × Enough b.value y m) × Onward b.value b.rank y m) (Stays X a.value y)
+          (λ m. ((Fits (states q) m × Enough b.value y m) × Onward b.value b.rank y m) × Stays X a.value y m)
+          (λ m x z. (x, z)) ms
+          (AllByRecursion-both (λ m. Fits (states q) m × Enough b.value y m) (Onward b.value b.rank y) ms
+          (AllByRecursion-both (Fits (states q)) (Enough b.value y) ms fits second.0) ranked) caught in
+          record {
+            choice = m.0;
+            fits = m.1.0.0.0;
+            enough = m.1.0.0.1;
+            onward = m.1.0.1;
+            held = stays-held y m.0 m.1.0.0.0 m.1.1;
+            stays = m.1.1;
+          }
 
       positive-two : (va vb ta tb d : ℕ) → 0 < va → 0 < tb → vb * ta ≡ va * tb + d → 0 < vb
       positive-two va vb ta tb d some positive same = elim (cases_lt 0 vb) [
         | inl more ↦ more
-        | inr none ↦ let no_value : vb ≡ 0 = omega (arith, none) in absurd (omega (arith, same, ap (λ x. x * ta) no_value, mul-pos some positive))
+        | inr none ↦
+            let no_value : vb ≡ 0 = omega (arith, none) in
+            absurd (omega (arith, same, ap (λ x. x * ta) no_value, mul-pos some positive))
       ]
 
       -- it does not hold a choice of the second game
       two-free : X j → Some (Stays X a.value j) (two j) → ⊥
       two-free here stay =
-          nowhere b.value b.rank b.top (λ y. X y × (b.value y * a.top ≡ a.value y * b.top + (b.value j * a.top - a.value j * b.top))) (λ y h. b.solves.most y (trap.needs y h.0).inside)
+          nowhere b.value b.rank b.top
+          (λ y. X y × (b.value y * a.top ≡ a.value y * b.top + (b.value j * a.top - a.value j * b.top)))
+          (λ y h. b.solves.most y (trap.needs y h.0).inside)
           (λ y h.
           let needs : Needs q a.value y = trap.needs y h.0 in
-          let needs' : Needs q b.value y = record { inside = needs.inside; free = needs.free; some = positive-two (a.value y) (b.value y) a.top b.top (b.value j * a.top - a.value j * b.top) needs.some b.solves.positive h.1 } in
+          let needs' : Needs q b.value y = record {
+            inside = needs.inside;
+            free = needs.free;
+            some = positive-two (a.value y) (b.value y) a.top b.top
+                (b.value j * a.top - a.value j * b.top) needs.some b.solves.positive h.1;
+          } in
           let m : Walks y = elim (cases_eq y j) [
             | inl same ↦ subst Walks (sym same)
-                (walk j inside_j (subst (λ z. b.value z * a.top ≡ a.value z * b.top + (b.value j * a.top - a.value j * b.top)) same h.1) Min (two j) (fit_two j inside_j)
-                (enough-some (two j) (fit_two j inside_j) least_two.0 (ranked_two (subst (Needs q b.value) same needs')) stay) least_two (ranked_two (subst (Needs q b.value) same needs')) stay)
+                (walk j inside_j
+                (subst (λ z. b.value z * a.top ≡ a.value z * b.top + (b.value j * a.top - a.value j * b.top)) same h.1)
+                Min (two j) (fit_two j inside_j)
+                (enough-some (two j) (fit_two j inside_j) least_two.0 (ranked_two (subst (Needs q b.value) same needs'))
+                stay) least_two (ranked_two (subst (Needs q b.value) same needs')) stay)
             | inr other ↦
-                walk y needs.inside h.1 (side_at q y) (two y) (fit_two y needs.inside) (subst (λ ms. SolvedAt (side_at q y) a.value y ms) (off y other) (a.solves.solved y needs.inside needs.free))
-                (b.solves.solved y needs.inside needs.free) (b.ranks y needs') (subst (λ ms. CaughtAt (side_at q y) X a.value y ms) (sym (off_two y other)) (trap.caught y h.0))
+                walk y needs.inside h.1 (side_at q y) (two y) (fit_two y needs.inside) (subst
+                (λ ms. SolvedAt (side_at q y) a.value y ms) (off y other) (a.solves.solved y needs.inside needs.free))
+                (b.solves.solved y needs.inside needs.free) (b.ranks y needs')
+                (subst (λ ms. CaughtAt (side_at q y) X a.value y ms) (sym (off_two y other)) (trap.caught y h.0))
           ] in
-          let equal = same-difference (states q) b.value a.value b.top a.top (b.value j * a.top - a.value j * b.top) all-ahead y m.choice m.fits h.1 m.enough m.held in
-          let stays_at : X (get_or m.choice.edges m.onward.place no_edge).to × (a.value (get_or m.choice.edges m.onward.place no_edge).to ≡ a.value y) =
-          AllByRecursion-at (λ (e : Edge). X e.to × (a.value e.to ≡ a.value y)) m.choice.edges m.onward.place no_edge m.onward.within m.stays in
-          let equal_at : b.value (get_or m.choice.edges m.onward.place no_edge).to * a.top ≡ a.value (get_or m.choice.edges m.onward.place no_edge).to * b.top + (b.value j * a.top - a.value j * b.top) =
-          AllByRecursion-at (λ (e : Edge). b.value e.to * a.top ≡ a.value e.to * b.top + (b.value j * a.top - a.value j * b.top)) m.choice.edges m.onward.place no_edge m.onward.within equal in
+          let equal = same-difference (states q) b.value a.value b.top a.top
+          (b.value j * a.top - a.value j * b.top) all-ahead y m.choice m.fits h.1 m.enough m.held in
+          let stays_at : X (get_or m.choice.edges m.onward.place no_edge).to
+          × (a.value (get_or m.choice.edges m.onward.place no_edge).to ≡ a.value y) =
+          AllByRecursion-at (λ (e : Edge). X e.to × (a.value e.to ≡ a.value y)) m.choice.edges m.onward.place no_edge
+          m.onward.within m.stays in
+          let equal_at : b.value (get_or m.choice.edges m.onward.place no_edge).to * a.top
+          ≡ a.value (get_or m.choice.edges m.onward.place no_edge).to * b.top
+          + (b.value j * a.top - a.value j * b.top) =
+          AllByRecursion-at
+          (λ (e : Edge). b.value e.to * a.top ≡ a.value e.to * b.top + (b.value j * a.top - a.value j * b.top))
+          m.choice.edges m.onward.place no_edge m.onward.within equal in
           ((get_or m.choice.edges m.onward.place no_edge).to, ((stays_at.0, equal_at), m.onward.further)))
           j (here, omega (arith, better))
         where
-          enough-some : (ms : List Distribution) → AllByRecursion (Fits (states q)) ms → AllByRecursion (Enough b.value j) ms → AllByRecursion (Onward b.value b.rank j) ms → Some (Stays X a.value j) ms → SolvedAt Min a.value j ms
+          enough-some : (ms : List Distribution) → AllByRecursion (Fits (states q)) ms
+              → AllByRecursion (Enough b.value j) ms → AllByRecursion (Onward b.value b.rank j) ms
+              → Some (Stays X a.value j) ms → SolvedAt Min a.value j ms
           enough-some ms fits enough onward some = (
-            AllByRecursion-weaker (λ m. (Fits (states q) m × Enough b.value j m) × Onward b.value b.rank j m) _ (λ m h. enough-two m h.0.0 h.0.1 (λ _. h.1)) ms
-                (AllByRecursion-both (λ m. Fits (states q) m × Enough b.value j m) (Onward b.value b.rank j) ms (AllByRecursion-both (Fits (states q)) (Enough b.value j) ms fits enough) onward),
+            AllByRecursion-weaker (λ m. (Fits (states q) m × Enough b.value j m) × Onward b.value b.rank j m) _
+                (λ m h. enough-two m h.0.0 h.0.1 (λ _. h.1)) ms
+                (AllByRecursion-both (λ m. Fits (states q) m × Enough b.value j m) (Onward b.value b.rank j) ms
+                (AllByRecursion-both (Fits (states q)) (Enough b.value j) ms fits enough) onward),
             held-some ms fits some,
           )
             where
-              held-some : (ms : List Distribution) → AllByRecursion (Fits (states q)) ms → Some (Stays X a.value j) ms → Some (Held a.value j) ms
+              held-some : (ms : List Distribution) → AllByRecursion (Fits (states q)) ms → Some (Stays X a.value j) ms
+                  → Some (Held a.value j) ms
               held-some [] fits h = absurd h
               held-some (m ∷ ms) fits (inl here) = inl (stays-held j m fits.0 here)
               held-some (m ∷ ms) fits (inr later) = inr (held-some ms fits.1 later)
 
-      onward-in : (y : ℕ) (m : Distribution) → Onward a.value a.rank y m → Stays X a.value y m → (t : ℕ) × (X t × Further a.value a.rank y t)
-      onward-in y m onward stays =
-          ((get_or m.edges onward.place no_edge).to, ((AllByRecursion-at (λ (e : Edge). X e.to × (a.value e.to ≡ a.value y)) m.edges onward.place no_edge onward.within stays).0, onward.further))
+      onward-in : (y : ℕ) (m : Distribution) → Onward a.value a.rank y m → Stays X a.value y m
+          → (t : ℕ) × (X t × Further a.value a.rank y t)
+      onward-in y m onward stays = (
+        (get_or m.edges onward.place no_edge).to,
+        (
+          (AllByRecursion-at (λ (e : Edge). X e.to × (a.value e.to ≡ a.value y)) m.edges onward.place no_edge
+              onward.within stays).0,
+          onward.further,
+        ),
+      )
 
-      step-in : (y : ℕ) (side : Side) (ms : List Distribution) → RankedAt side a.value a.rank y ms → CaughtAt side X a.value y ms → (t : ℕ) × (X t × Further a.value a.rank y t)
+      step-in : (y : ℕ) (side : Side) (ms : List Distribution) → RankedAt side a.value a.rank y ms
+          → CaughtAt side X a.value y ms → (t : ℕ) × (X t × Further a.value a.rank y t)
       step-in y Max ms ranked caught =
-          let m = Some-both (λ m. Enough a.value y m → Stays X a.value y m) (λ m. Enough a.value y m × Onward a.value a.rank y m) (λ m. Onward a.value a.rank y m × Stays X a.value y m) (λ m x z. (z.1, x z.0)) ms caught ranked in
+          let m = Some-both (λ m. Enough a.value y m → Stays X a.value y m)
+          (λ m. Enough a.value y m × Onward a.value a.rank y m) (λ m. Onward a.value a.rank y m × Stays X a.value y m)
+          (λ m x z. (z.1, x z.0)) ms caught ranked in
           onward-in y m.0 m.1.0 m.1.1
       step-in y Min ms ranked caught =
-          let m = Some-both (Onward a.value a.rank y) (Stays X a.value y) (λ m. Onward a.value a.rank y m × Stays X a.value y m) (λ m x z. (x, z)) ms ranked caught in
+          let m = Some-both (Onward a.value a.rank y) (Stays X a.value y)
+          (λ m. Onward a.value a.rank y m × Stays X a.value y m) (λ m x z. (x, z)) ms ranked caught in
           onward-in y m.0 m.1.0 m.1.1
 
       -- nor any state
@@ -312,12 +430,15 @@ module _ (q : Query) (j : ℕ) (inside_j : j < states q) (free_j : Free q j) (bo
           elim (cases_eq y j) [
             | inl same ↦
                 let here : X j = subst X same x in
-                let stay : Some (Stays X a.value j) (both j) = subst (λ side. CaughtAt side X a.value j (both j)) minimiser (trap.caught j here) in
+                let stay : Some (Stays X a.value j) (both j) =
+                subst (λ side. CaughtAt side X a.value j (both j)) minimiser (trap.caught j here) in
                 elim (which (Stays X a.value j) stay) [
                   | inr second ↦ absurd (two-free here second)
-                  | inl first ↦ subst (λ z. (t : ℕ) × (X t × Further a.value a.rank z t)) (sym same) (step-in j Min (one j) (ranked_one (trap.needs j here)) first)
+                  | inl first ↦ subst (λ z. (t : ℕ) × (X t × Further a.value a.rank z t)) (sym same)
+                      (step-in j Min (one j) (ranked_one (trap.needs j here)) first)
                 ]
-            | inr other ↦ step-in y (side_at q y) (one y) (a.ranks y needs) (subst (λ ms. CaughtAt (side_at q y) X a.value y ms) (sym (off_one y other)) (trap.caught y x))
+            | inr other ↦ step-in y (side_at q y) (one y) (a.ranks y needs)
+                (subst (λ ms. CaughtAt (side_at q y) X a.value y ms) (sym (off_one y other)) (trap.caught y x))
           ])
           s h
 

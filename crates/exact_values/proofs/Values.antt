@@ -1,5 +1,6 @@
 -- Every question has exact values: state after state, its choices are split into single ones.
-use Rattle.std.proofs.Common.{◌≡◌, ℕ, zero, suc, ◌*◌, ◌<◌, ◌≤◌, false, List, [], ◌∷◌, length, arith, refl, sym, ap, subst, inl, inr, ◌⊎◌, ◌∙◌}
+use Rattle.std.proofs.Common.{◌≡◌, ℕ, zero, suc, ◌*◌, ◌<◌, ◌≤◌, false, List, [], ◌∷◌, length, arith, refl, sym, ap}
+use Rattle.std.proofs.Common.{subst, inl, inr, ◌⊎◌, ◌∙◌}
 use Rattle.std.specs.List.{AllByRecursion}
 use Rattle.std.proofs.lemmas.Bool.{cases_lt, cases_eq, cases_Bool}
 use Rattle.game_model.specs.declared.game.Edge.{Edge}
@@ -16,7 +17,8 @@ use Rattle.exact_values.proofs.Splits.{max-both, min-both}
 use Rattle.exact_values.proofs.Chains.{Chain, Solution, solution}
 
 -- the same choices give the same
-exact-same : (q : Query) (c c' : ℕ → List Distribution) → ((s : ℕ) → s < states q → Free q s → c s ≡ c' s) → Exact q c → Exact q c'
+exact-same : (q : Query) (c c' : ℕ → List Distribution) → ((s : ℕ) → s < states q → Free q s → c s ≡ c' s)
+    → Exact q c → Exact q c'
 exact-same q c c' same a = record {
   top = a.top;
   value = a.value;
@@ -26,9 +28,11 @@ exact-same q c c' same a = record {
     most = a.solves.most;
     goals = a.solves.goals;
     deads = a.solves.deads;
-    solved = λ s inside free. subst (λ ms. SolvedAt (side_at q s) a.value s ms) (same s inside free) (a.solves.solved s inside free);
+    solved = λ s inside free.
+        subst (λ ms. SolvedAt (side_at q s) a.value s ms) (same s inside free) (a.solves.solved s inside free);
   };
-  ranks = λ s needs. subst (λ ms. RankedAt (side_at q s) a.value a.rank s ms) (same s needs.inside needs.free) (a.ranks s needs);
+  ranks = λ s needs. subst (λ ms. RankedAt (side_at q s) a.value a.rank s ms)
+      (same s needs.inside needs.free) (a.ranks s needs);
 }
 
 abbrev pub first : List Distribution → Distribution
@@ -40,11 +44,13 @@ module _ (q : Query) (m : ℕ → Distribution) (fit : FitAll q (λ s. m s ∷ [
   as-chain : Chain q (states q) m
   as-chain = record {
     fits = λ s inside less free. (fit s inside).0;
-    closed = λ s inside less free. AllByRecursion-weaker (λ (e : Edge). e.to < states q) _ (λ e l open_yet. l) (m s).edges (fit s inside).0.inside;
+    closed = λ s inside less free.
+        AllByRecursion-weaker (λ (e : Edge). e.to < states q) _ (λ e l open_yet. l) (m s).edges (fit s inside).0.inside;
   }
 
   module _ (sol : Solution q (states q) m) where
-    solved-one : (side : Side) (s : ℕ) → weighted_sum sol.value (m s).edges ≡ sol.value s * (m s).total → SolvedAt side sol.value s (m s ∷ [])
+    solved-one : (side : Side) (s : ℕ) → weighted_sum sol.value (m s).edges ≡ sol.value s * (m s).total
+        → SolvedAt side sol.value s (m s ∷ [])
     solved-one Max s same = ((omega (arith, same), tt), inl (omega (arith, same)))
     solved-one Min s same = ((omega (arith, same), tt), inl (omega (arith, same)))
 
@@ -57,7 +63,8 @@ module _ (q : Query) (m : ℕ → Distribution) (fit : FitAll q (λ s. m s ∷ [
       solved = λ s inside free. solved-one (side_at q s) s (sol.harmonic s inside inside free);
     }
 
-    stays-one : (X : ℕ → Type 0) (side : Side) (s : ℕ) → weighted_sum sol.value (m s).edges ≡ sol.value s * (m s).total → CaughtAt side X sol.value s (m s ∷ []) → Stays X sol.value s (m s)
+    stays-one : (X : ℕ → Type 0) (side : Side) (s : ℕ) → weighted_sum sol.value (m s).edges ≡ sol.value s * (m s).total
+        → CaughtAt side X sol.value s (m s ∷ []) → Stays X sol.value s (m s)
     stays-one X Max s same caught = caught.0 (omega (arith, same))
     stays-one X Min s same (inl stays) = stays
     stays-one X Min s same (inr none) = absurd none
@@ -66,8 +73,11 @@ module _ (q : Query) (m : ℕ → Distribution) (fit : FitAll q (λ s. m s ∷ [
     one-exact =
         let made = ranks-of q (λ s. m s ∷ []) fit sol.top sol.value one-solves
         (λ X trap. sol.no_trap X (λ s h.
-        let needs = trap.needs s h in
-        (needs.inside, needs, stays-one X (side_at q s) s (sol.harmonic s needs.inside needs.inside needs.free) (trap.caught s h)))) in
+        let needs = trap.needs s h in (
+          needs.inside,
+          needs,
+          stays-one X (side_at q s) s (sol.harmonic s needs.inside needs.inside needs.free) (trap.caught s h),
+        ))) in
         record { top = sol.top; value = sol.value; rank = made.0; solves = one-solves; ranks = made.1 }
 
   pub single-exact : Exact q (λ s. m s ∷ [])
@@ -79,20 +89,29 @@ with_at c j ms s = elim (cases_eq s j) [ inl _ ↦ ms | inr _ ↦ c s ]
 
 at-here : (c : ℕ → List Distribution) (j : ℕ) (ms : List Distribution) (s : ℕ) → s ≡ j → with_at c j ms s ≡ ms
 unfolding with_at
-at-here c j ms s same = elim (cases_eq s j) as (λ e. elim e [ inl _ ↦ ms | inr _ ↦ c s ] ≡ ms) [ inl _ ↦ refl | inr other ↦ absurd (other same) ]
+at-here c j ms s same = elim (cases_eq s j) as (λ e. elim e [ inl _ ↦ ms | inr _ ↦ c s ] ≡ ms) [
+  | inl _ ↦ refl
+  | inr other ↦ absurd (other same)
+]
 
 at-off : (c : ℕ → List Distribution) (j : ℕ) (ms : List Distribution) (s : ℕ) → (s ≡ j → ⊥) → with_at c j ms s ≡ c s
 unfolding with_at
-at-off c j ms s other = elim (cases_eq s j) as (λ e. elim e [ inl _ ↦ ms | inr _ ↦ c s ] ≡ c s) [ inl same ↦ absurd (other same) | inr _ ↦ refl ]
+at-off c j ms s other = elim (cases_eq s j) as (λ e. elim e [ inl _ ↦ ms | inr _ ↦ c s ] ≡ c s) [
+  | inl same ↦ absurd (other same)
+  | inr _ ↦ refl
+]
 
-fit-at : (q : Query) (c : ℕ → List Distribution) (j : ℕ) (ms : List Distribution) → FitAll q c → AllByRecursion (Fits (states q)) ms → FitAll q (with_at c j ms)
+fit-at : (q : Query) (c : ℕ → List Distribution) (j : ℕ) (ms : List Distribution) → FitAll q c
+    → AllByRecursion (Fits (states q)) ms → FitAll q (with_at c j ms)
 fit-at q c j ms fit fits s inside = elim (cases_eq s j) [
   | inl same ↦ subst (AllByRecursion (Fits (states q))) (sym (at-here c j ms s same)) fits
   | inr other ↦ subst (AllByRecursion (Fits (states q))) (sym (at-off c j ms s other)) (fit s inside)
 ]
 
 -- a choice more
-module _ (q : Query) (c : ℕ → List Distribution) (fit : FitAll q c) (j : ℕ) (inside : j < states q) (free : Free q j) (m : Distribution) (ms : List Distribution) (fit_m : Fits (states q) m) (fit_ms : AllByRecursion (Fits (states q)) ms) where
+module _ (q : Query) (c : ℕ → List Distribution) (fit : FitAll q c) (j : ℕ) (inside : j < states q)
+    (free : Free q j) (m : Distribution) (ms : List Distribution) (fit_m : Fits (states q) m)
+    (fit_ms : AllByRecursion (Fits (states q)) ms) where
   abbrev one : ℕ → List Distribution
   one = with_at c j (m ∷ [])
 
@@ -105,11 +124,14 @@ module _ (q : Query) (c : ℕ → List Distribution) (fit : FitAll q c) (j : ℕ
   off : (xs ys : List Distribution) (s : ℕ) → (s ≡ j → ⊥) → with_at c j xs s ≡ with_at c j ys s
   off xs ys s other = at-off c j xs s other ∙ sym (at-off c j ys s other)
 
-  all-first : (P : Distribution → Type 0) → AllByRecursion P (one j) → AllByRecursion P (rest j) → AllByRecursion P (all j)
-  all-first P h k = subst (AllByRecursion P) (sym (at-here c j (m ∷ ms) j refl)) ((subst (AllByRecursion P) (at-here c j (m ∷ []) j refl) h).0, subst (AllByRecursion P) (at-here c j ms j refl) k)
+  all-first : (P : Distribution → Type 0) → AllByRecursion P (one j) → AllByRecursion P (rest j)
+      → AllByRecursion P (all j)
+  all-first P h k = subst (AllByRecursion P) (sym (at-here c j (m ∷ ms) j refl))
+      ((subst (AllByRecursion P) (at-here c j (m ∷ []) j refl) h).0, subst (AllByRecursion P) (at-here c j ms j refl) k)
 
   some-first : (P : Distribution → Type 0) → Some P (one j) → Some P (all j)
-  some-first P h = subst (Some P) (sym (at-here c j (m ∷ ms) j refl)) (elim (subst (Some P) (at-here c j (m ∷ []) j refl) h) [ inl here ↦ inl here | inr none ↦ absurd none ])
+  some-first P h = subst (Some P) (sym (at-here c j (m ∷ ms) j refl))
+      (elim (subst (Some P) (at-here c j (m ∷ []) j refl) h) [ inl here ↦ inl here | inr none ↦ absurd none ])
 
   some-rest : (P : Distribution → Type 0) → Some P (rest j) → Some P (all j)
   some-rest P h = subst (Some P) (sym (at-here c j (m ∷ ms) j refl)) (inr (subst (Some P) (at-here c j ms j refl) h))
@@ -134,12 +156,16 @@ module _ (q : Query) (c : ℕ → List Distribution) (fit : FitAll q c) (j : ℕ
 
   by-side : (side : Side) → side_at q j ≡ side → Exact q one → Exact q rest → Exact q all
   by-side Max is a b = elim (cases_lt (a.value j * b.top) (b.value j * a.top)) [
-    | inr first ↦ max-both q j inside free all one rest fit_all fit_one fit_rest (off _ _) (off _ _) all-first some-first which-first a b is first
-    | inl second ↦ max-both q j inside free all rest one fit_all fit_rest fit_one (off _ _) (off _ _) (λ P h k. all-first P k h) some-rest which-rest b a is (omega (arith, second))
+    | inr first ↦ max-both q j inside free all one rest fit_all fit_one fit_rest (off _ _)
+        (off _ _) all-first some-first which-first a b is first
+    | inl second ↦ max-both q j inside free all rest one fit_all fit_rest fit_one (off _ _) (off _ _)
+        (λ P h k. all-first P k h) some-rest which-rest b a is (omega (arith, second))
   ]
   by-side Min is a b = elim (cases_lt (b.value j * a.top) (a.value j * b.top)) [
-    | inr first ↦ min-both q j inside free all one rest fit_all fit_one fit_rest (off _ _) (off _ _) all-first some-first which-first a b is first
-    | inl second ↦ min-both q j inside free all rest one fit_all fit_rest fit_one (off _ _) (off _ _) (λ P h k. all-first P k h) some-rest which-rest b a is (omega (arith, second))
+    | inr first ↦ min-both q j inside free all one rest fit_all fit_one fit_rest (off _ _)
+        (off _ _) all-first some-first which-first a b is first
+    | inl second ↦ min-both q j inside free all rest one fit_all fit_rest fit_one (off _ _) (off _ _)
+        (λ P h k. all-first P k h) some-rest which-rest b a is (omega (arith, second))
   ]
 
 -- 3. All states.
@@ -149,36 +175,45 @@ SingleFrom q j c = (s : ℕ) → s < states q → j ≤ s → c s ≡ first (c s
 abbrev SomeAll : Query → (ℕ → List Distribution) → Type 0
 SomeAll q c = (s : ℕ) → s < states q → 0 < length (c s)
 
-single-at : (q : Query) (c : ℕ → List Distribution) (j : ℕ) (m : Distribution) → SingleFrom q (suc j) c → SingleFrom q j (with_at c j (m ∷ []))
+single-at : (q : Query) (c : ℕ → List Distribution) (j : ℕ) (m : Distribution) → SingleFrom q (suc j) c
+    → SingleFrom q j (with_at c j (m ∷ []))
 single-at q c j m single s inside from = elim (cases_eq s j) [
-  | inl same ↦ let at : with_at c j (m ∷ []) s ≡ m ∷ [] = at-here c j (m ∷ []) s same in at ∙ sym (ap (λ ms. first ms ∷ []) at)
+  | inl same ↦
+      let at : with_at c j (m ∷ []) s ≡ m ∷ [] = at-here c j (m ∷ []) s same in
+      at ∙ sym (ap (λ ms. first ms ∷ []) at)
   | inr other ↦
       let at : with_at c j (m ∷ []) s ≡ c s = at-off c j (m ∷ []) s other in
-      let later : suc j ≤ s = elim (cases_lt j s) [ inl l ↦ omega (arith, l) | inr r ↦ absurd (other (omega (arith, from, r))) ] in
+      let later : suc j ≤ s =
+      elim (cases_lt j s) [ inl l ↦ omega (arith, l) | inr r ↦ absurd (other (omega (arith, from, r))) ] in
       at ∙ single s inside later ∙ sym (ap (λ ms. first ms ∷ []) at)
 ]
 
-some-at : (q : Query) (c : ℕ → List Distribution) (j : ℕ) (m : Distribution) → SomeAll q c → SomeAll q (with_at c j (m ∷ []))
+some-at : (q : Query) (c : ℕ → List Distribution) (j : ℕ) (m : Distribution) → SomeAll q c
+    → SomeAll q (with_at c j (m ∷ []))
 some-at q c j m some s inside = elim (cases_eq s j) [
   | inl same ↦ subst (λ ms. 0 < length ms) (sym (at-here c j (m ∷ []) s same)) (omega arith)
   | inr other ↦ subst (λ ms. 0 < length ms) (sym (at-off c j (m ∷ []) s other)) (some s inside)
 ]
 
 -- the choices of one state, one after another
-grown : (q : Query) (c : ℕ → List Distribution) (j : ℕ) → FitAll q c → SomeAll q c → SingleFrom q (suc j) c → j < states q → Free q j
-    → ((d : ℕ → List Distribution) → FitAll q d → SomeAll q d → SingleFrom q j d → Exact q d)
-    → (m : Distribution) (ms : List Distribution) → Fits (states q) m → AllByRecursion (Fits (states q)) ms → Exact q (with_at c j (m ∷ ms))
-grown q c j fit some single inside free before m [] fit_m fit_ms = before (with_at c j (m ∷ [])) (fit-at q c j (m ∷ []) fit (fit_m, tt)) (some-at q c j m some) (single-at q c j m single)
+grown : (q : Query) (c : ℕ → List Distribution) (j : ℕ) → FitAll q c → SomeAll q c → SingleFrom q (suc j) c
+    → j < states q → Free q j → ((d : ℕ → List Distribution) → FitAll q d → SomeAll q d → SingleFrom q j d → Exact q d)
+    → (m : Distribution) (ms : List Distribution) → Fits (states q) m → AllByRecursion (Fits (states q)) ms
+    → Exact q (with_at c j (m ∷ ms))
+grown q c j fit some single inside free before m [] fit_m fit_ms = before (with_at c j (m ∷ []))
+    (fit-at q c j (m ∷ []) fit (fit_m, tt)) (some-at q c j m some) (single-at q c j m single)
 grown q c j fit some single inside free before m (m' ∷ ms) fit_m fit_ms =
     by-side q c fit j inside free m (m' ∷ ms) fit_m fit_ms (side_at q j) refl
-    (before (with_at c j (m ∷ [])) (fit-at q c j (m ∷ []) fit (fit_m, tt)) (some-at q c j m some) (single-at q c j m single))
+    (before (with_at c j (m ∷ [])) (fit-at q c j (m ∷ []) fit (fit_m, tt)) (some-at q c j m some)
+    (single-at q c j m single))
     (grown q c j fit some single inside free before m' ms fit_ms.0 fit_ms.1)
 
 -- a state with its choices
-at-state : (q : Query) (c : ℕ → List Distribution) (j : ℕ) → FitAll q c → SomeAll q c → SingleFrom q (suc j) c → j < states q → Free q j
-    → ((d : ℕ → List Distribution) → FitAll q d → SomeAll q d → SingleFrom q j d → Exact q d)
+at-state : (q : Query) (c : ℕ → List Distribution) (j : ℕ) → FitAll q c → SomeAll q c → SingleFrom q (suc j) c
+    → j < states q → Free q j → ((d : ℕ → List Distribution) → FitAll q d → SomeAll q d → SingleFrom q j d → Exact q d)
     → (ms : List Distribution) → c j ≡ ms → Exact q c
-at-state q c j fit some single inside free before [] is = absurd (omega (arith, some j inside, ap (λ (xs : List Distribution). length xs) is))
+at-state q c j fit some single inside free before [] is =
+    absurd (omega (arith, some j inside, ap (λ (xs : List Distribution). length xs) is))
 at-state q c j fit some single inside free before (m ∷ ms) is =
     let fits : AllByRecursion (Fits (states q)) (m ∷ ms) = subst (AllByRecursion (Fits (states q))) is (fit j inside) in
     exact-same q (with_at c j (m ∷ ms)) c (λ s l f. elim (cases_eq s j) [
@@ -186,27 +221,35 @@ at-state q c j fit some single inside free before (m ∷ ms) is =
       | inr other ↦ at-off c j (m ∷ ms) s other
     ]) (grown q c j fit some single inside free before m ms fits.0 fits.1)
 
-first-fits : (q : Query) (ms : List Distribution) → 0 < length ms → AllByRecursion (Fits (states q)) ms → Fits (states q) (first ms)
+first-fits : (q : Query) (ms : List Distribution) → 0 < length ms → AllByRecursion (Fits (states q)) ms
+    → Fits (states q) (first ms)
 first-fits q [] some h = absurd (omega (arith, some))
 first-fits q (m ∷ ms) some h = h.0
 
 -- a state that is over needs no choices: one will do
-over-state : (q : Query) (c : ℕ → List Distribution) (j : ℕ) → FitAll q c → SomeAll q c → SingleFrom q (suc j) c → j < states q → (Free q j → ⊥)
+over-state : (q : Query) (c : ℕ → List Distribution) (j : ℕ) → FitAll q c
+    → SomeAll q c → SingleFrom q (suc j) c → j < states q → (Free q j → ⊥)
     → ((d : ℕ → List Distribution) → FitAll q d → SomeAll q d → SingleFrom q j d → Exact q d) → Exact q c
 over-state q c j fit some single inside over before =
-    exact-same q (with_at c j (first (c j) ∷ [])) c (λ s l free. at-off c j (first (c j) ∷ []) s (λ same. over (subst (Free q) same free)))
-    (before (with_at c j (first (c j) ∷ [])) (fit-at q c j (first (c j) ∷ []) fit (first-fits q (c j) (some j inside) (fit j inside), tt)) (some-at q c j (first (c j)) some) (single-at q c j (first (c j)) single))
+    exact-same q (with_at c j (first (c j) ∷ [])) c
+    (λ s l free. at-off c j (first (c j) ∷ []) s (λ same. over (subst (Free q) same free)))
+    (before (with_at c j (first (c j) ∷ []))
+    (fit-at q c j (first (c j) ∷ []) fit (first-fits q (c j) (some j inside) (fit j inside), tt))
+    (some-at q c j (first (c j)) some) (single-at q c j (first (c j)) single))
 
-pub exact-from : (q : Query) (j : ℕ) (c : ℕ → List Distribution) → FitAll q c → SomeAll q c → SingleFrom q j c → Exact q c
+pub exact-from : (q : Query) (j : ℕ) (c : ℕ → List Distribution) → FitAll q c → SomeAll q c
+    → SingleFrom q j c → Exact q c
 exact-from q zero c fit some single =
     exact-same q (λ s. first (c s) ∷ []) c (λ s inside free. sym (single s inside (omega arith)))
     (single-exact q (λ s. first (c s)) (λ s inside. (first-fits q (c s) (some s inside) (fit s inside), tt)))
 exact-from q (suc j) c fit some single = elim (cases_lt j (states q)) [
   | inr past ↦ exact-from q j c fit some (λ s inside from. absurd (omega (arith, inside, past, from)))
   | inl inside ↦ elim (cases_Bool (is_goal q j)) [
-    | inl goal ↦ over-state q c j fit some single inside (λ free. absurd (let no : is_goal q j ≡ false = free.0 in cc)) (exact-from q j)
+    | inl goal ↦ over-state q c j fit some single inside
+        (λ free. absurd (let no : is_goal q j ≡ false = free.0 in cc)) (exact-from q j)
     | inr other ↦ elim (cases_Bool (is_dead q j)) [
-      | inl dead ↦ over-state q c j fit some single inside (λ free. absurd (let no : is_dead q j ≡ false = free.1 in cc)) (exact-from q j)
+      | inl dead ↦ over-state q c j fit some single inside
+          (λ free. absurd (let no : is_dead q j ≡ false = free.1 in cc)) (exact-from q j)
       | inr alive ↦ at-state q c j fit some single inside (other, alive) (exact-from q j) (c j) refl
     ]
   ]

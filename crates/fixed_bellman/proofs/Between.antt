@@ -24,52 +24,80 @@ div-rises x y w positive h =
 
 module _ (r : Quotient) (old new : ℕ → ℕ) (m : Distribution) (h : IsBetween r old new m) where
   pub down-low : down_value old m ≤ rounded_down r
-  down-low = subst (λ n. weighted_sum old m.edges / n ≤ rounded_down r) h.total (div-rises (weighted_sum old m.edges) r.sum r.total r.positive h.low)
+  down-low = subst (λ n. weighted_sum old m.edges / n ≤ rounded_down r) h.total
+      (div-rises (weighted_sum old m.edges) r.sum r.total r.positive h.low)
 
   pub down-high : rounded_down r ≤ down_value new m
-  down-high = subst (λ n. rounded_down r ≤ weighted_sum new m.edges / n) h.total (div-rises r.sum (weighted_sum new m.edges) r.total r.positive h.high)
+  down-high = subst (λ n. rounded_down r ≤ weighted_sum new m.edges / n) h.total
+      (div-rises r.sum (weighted_sum new m.edges) r.total r.positive h.high)
 
 -- what a test that fails says
 pub not-less : (x y : ℕ) → (x < y → IsTrue false) → y ≤ x
 not-less x y fails = elim (cases_lt x y) [ inl less ↦ absurd (true≢false (sym (fails less))) | inr rest ↦ rest ]
 
 -- the loop is at a choice
-pub at-choice : (row choices : List Distribution) (count p : ℕ) → row ≡ choices → count ≡ length row → p < count → p < length choices
+pub at-choice : (row choices : List Distribution) (count p : ℕ) → row ≡ choices → count ≡ length row → p < count
+    → p < length choices
 at-choice row choices count p same is_count before = omega (arith, ap length same)
 
 -- one more choice, over values that have risen
-module _ (q : Query) (s i : ℕ) (r : Quotient) (old mid new : ℕ → ℕ) (h : IsQuery q) (inside : s < states q) (chosen : i < length (choices_of q.game s)) (between : IsBetween r mid new (choice_of q.game s i)) (earlier : (t : ℕ) → old t ≤ mid t) (later : (t : ℕ) → mid t ≤ new t) where
+module _ (q : Query) (s i : ℕ) (r : Quotient) (old mid new : ℕ → ℕ) (h : IsQuery q) (inside : s < states q)
+    (chosen : i < length (choices_of q.game s)) (between : IsBetween r mid new (choice_of q.game s i))
+    (earlier : (t : ℕ) → old t ≤ mid t) (later : (t : ℕ) → mid t ≤ new t) where
   pub value-old : down_value old (choice_of q.game s i) ≤ rounded_down r
-  value-old = omega (arith, down-low r mid new (choice_of q.game s i) between, down_value-le q.game old mid (choice_of q.game s i) (choice_fits q s i h inside chosen) (λ t _. earlier t))
+  value-old = omega (
+    arith,
+    down-low r mid new (choice_of q.game s i) between,
+    down_value-le q.game old mid (choice_of q.game s i) (choice_fits q s i h inside chosen) (λ t _. earlier t),
+  )
 
   pub value-new : rounded_down r ≤ down_value new (choice_of q.game s i)
   value-new = down-high r mid new (choice_of q.game s i) between
 
-  pub low-gains : (best next : ℕ) → ((c : ℕ) → c < i → down_value old (choice_of q.game s c) ≤ best) → best ≤ next → rounded_down r ≤ next → (c : ℕ) → c < i + 1 → down_value old (choice_of q.game s c) ≤ next
-  low-gains best next below more here = below_more (λ c. down_value old (choice_of q.game s c) ≤ next) i (λ c l. omega (arith, below c l)) (omega (arith, value-old))
+  pub low-gains : (best next : ℕ) → ((c : ℕ) → c < i → down_value old (choice_of q.game s c) ≤ best) → best ≤ next
+      → rounded_down r ≤ next → (c : ℕ) → c < i + 1 → down_value old (choice_of q.game s c) ≤ next
+  low-gains best next below more here = below_more (λ c. down_value old (choice_of q.game s c) ≤ next) i
+      (λ c l. omega (arith, below c l)) (omega (arith, value-old))
 
-  pub given-later : (c x : ℕ) → c < length (choices_of q.game s) → x ≤ down_value mid (choice_of q.game s c) → x ≤ down_value new (choice_of q.game s c)
-  given-later c x there h' = omega (arith, h', down_value-le q.game mid new (choice_of q.game s c) (choice_fits q s c h inside there) (λ t _. later t))
+  pub given-later : (c x : ℕ) → c < length (choices_of q.game s) → x ≤ down_value mid (choice_of q.game s c)
+      → x ≤ down_value new (choice_of q.game s c)
+  given-later c x there h' = omega (
+    arith,
+    h',
+    down_value-le q.game mid new (choice_of q.game s c) (choice_fits q s c h inside there) (λ t _. later t),
+  )
 
-  pub high-gains : (best next : ℕ) → ((c : ℕ) → c < i → best ≤ down_value mid (choice_of q.game s c)) → next ≤ best → next ≤ rounded_down r → (c : ℕ) → c < i + 1 → next ≤ down_value new (choice_of q.game s c)
+  pub high-gains : (best next : ℕ) → ((c : ℕ) → c < i → best ≤ down_value mid (choice_of q.game s c)) → next ≤ best
+      → next ≤ rounded_down r → (c : ℕ) → c < i + 1 → next ≤ down_value new (choice_of q.game s c)
   high-gains best next above less here =
       below_more (λ c. next ≤ down_value new (choice_of q.game s c)) i
       (λ c l. given-later c next (omega arith) (omega (arith, above c l)))
       (omega (arith, value-new))
 
 -- the step of a free state, from its choices
-pub greatest-step : (q : Query) (v : ℕ → ℕ) (s x : ℕ) → IsFree q s → Max ≡ side_at q s → ((c : ℕ) → c < length (choices_of q.game s) → down_value v (choice_of q.game s c) ≤ x) → down_step q v s ≤ x
+pub greatest-step : (q : Query) (v : ℕ → ℕ) (s x : ℕ) → IsFree q s → Max ≡ side_at q s
+    → ((c : ℕ) → c < length (choices_of q.game s) → down_value v (choice_of q.game s c) ≤ x) → down_step q v s ≤ x
 greatest-step q v s x free is each =
-    let best : optimum Max (down_value v) (choices_of q.game s) ≤ x = optimum-most Max (down_value v) x (choices_of q.game s)
-    (recursion_from_All (λ m. down_value v m ≤ x) (choices_of q.game s) (All-from_get_or (λ m. down_value v m ≤ x) (choices_of q.game s) no_distribution each)) in
+    let best : optimum Max (down_value v) (choices_of q.game s) ≤ x =
+    optimum-most Max (down_value v) x (choices_of q.game s)
+    (recursion_from_All (λ m. down_value v m ≤ x) (choices_of q.game s)
+    (All-from_get_or (λ m. down_value v m ≤ x) (choices_of q.game s) no_distribution each)) in
     omega (arith, best, free_step q v s free, ap (λ side. optimum side (down_value v) (choices_of q.game s)) is)
 
-pub least-step : (q : Query) (v : ℕ → ℕ) (s c x : ℕ) → IsFree q s → Min ≡ side_at q s → c < length (choices_of q.game s) → down_value v (choice_of q.game s c) ≤ x → down_step q v s ≤ x
+pub least-step : (q : Query) (v : ℕ → ℕ) (s c x : ℕ) → IsFree q s → Min ≡ side_at q s → c < length (choices_of q.game s)
+    → down_value v (choice_of q.game s c) ≤ x → down_step q v s ≤ x
 least-step q v s c x free is chosen low =
-    omega (arith, optimum-below (down_value v) (choices_of q.game s) c no_distribution chosen, low, free_step q v s free, ap (λ side. optimum side (down_value v) (choices_of q.game s)) is)
+    omega (
+      arith,
+      optimum-below (down_value v) (choices_of q.game s) c no_distribution chosen,
+      low,
+      free_step q v s free,
+      ap (λ side. optimum side (down_value v) (choices_of q.game s)) is,
+    )
 
 -- over a table that stays, a step that is above the floor, or over the floor 0, is the down step
-module _ (q : Query) (v : ℕ → ℕ) (s floor x c : ℕ) (h : IsQuery q) (inside : s < states q) (free : IsFree q s) (e : IsStepAbove q v v s floor x c) where
+module _ (q : Query) (v : ℕ → ℕ) (s floor x c : ℕ) (h : IsQuery q) (inside : s < states q) (free : IsFree q s)
+    (e : IsStepAbove q v v s floor x c) where
   pub step-exact : (floor < x) ⊎ (floor ≡ 0) → x ≡ down_step q v s
   step-exact reached = elim reached [
     | inl above ↦ omega (arith, e.low, IsGivenBy-below q v s x c h inside free (e.given above))
@@ -80,7 +108,12 @@ module _ (q : Query) (v : ℕ → ℕ) (s floor x c : ℕ) (h : IsQuery q) (insi
   ]
 
   given-most : Max ≡ side_at q s → down_value v (choice_of q.game s c) ≤ down_step q v s
-  given-most is = omega (arith, optimum-each (down_value v) (choices_of q.game s) c no_distribution e.inside, free_step q v s free, ap (λ side. optimum side (down_value v) (choices_of q.game s)) is)
+  given-most is = omega (
+    arith,
+    optimum-each (down_value v) (choices_of q.game s) c no_distribution e.inside,
+    free_step q v s free,
+    ap (λ side. optimum side (down_value v) (choices_of q.game s)) is,
+  )
 
   pub step-named : (floor < x) ⊎ (floor ≡ 0) → DownChoice q v s x c
   step-named reached =

@@ -1,5 +1,6 @@
 -- What the loops over the choices of a state find.
-use Rattle.std.proofs.Common.{◌≡◌, ℕ, ◌+◌, ◌-◌, ◌*◌, ◌/◌, ◌<◌, ◌≤◌, List, [], ◌∷◌, length, take, fold, arith, ap, subst, ◌∙◌, min}
+use Rattle.std.proofs.Common.{◌≡◌, ℕ, ◌+◌, ◌-◌, ◌*◌, ◌/◌, ◌<◌, ◌≤◌, List, [], ◌∷◌, length, take, fold, arith, ap, subst}
+use Rattle.std.proofs.Common.{◌∙◌, min}
 use Rattle.std.specs.Prelude.{slice_index, slice_index_or, All}
 use Rattle.std.proofs.lemmas.List.{take_all}
 use Rattle.std.proofs.Math.Nat.{div-lt_iff_lt-mul, min-eq_right}
@@ -12,31 +13,40 @@ use Rattle.game_model.proofs.Rising.{total-pos}
 use Rattle.fixed_bellman.proofs.Sums.{weighted_sum-whole}
 
 -- the weighted sum is within the total's worth
-whole-total : (choice : Distribution) (table : List ℕ) → IsDistribution choice → All (λ v. v ≤ unit) table → weighted_sum (slice_index table) choice.edges ≤ choice.total * unit
-whole-total choice table h units = subst (λ w. weighted_sum (slice_index table) choice.edges ≤ w * unit) h.sums (weighted_sum-whole choice.edges table units)
+whole-total : (choice : Distribution) (table : List ℕ) → IsDistribution choice → All (λ v. v ≤ unit) table
+    → weighted_sum (slice_index table) choice.edges ≤ choice.total * unit
+whole-total choice table h units = subst (λ w. weighted_sum (slice_index table) choice.edges ≤ w * unit) h.sums
+    (weighted_sum-whole choice.edges table units)
 
 up-units : (sum total m : ℕ) → 0 < total → sum ≤ total * m → (sum + (total - 1)) / total ≤ m
 up-units sum total m positive h =
     let below : (sum + (total - 1)) / total < m + 1 = (div-lt_iff_lt-mul positive).1 (omega (arith, h)) in
     omega arith
 
-pub up_value-units : (choice : Distribution) (table : List ℕ) → IsDistribution choice → All (λ v. v ≤ unit) table → up_value (slice_index table) choice ≤ unit
-up_value-units choice table h units = up-units (weighted_sum (slice_index table) choice.edges) choice.total unit (total-pos choice h) (whole-total choice table h units)
+pub up_value-units : (choice : Distribution) (table : List ℕ) → IsDistribution choice → All (λ v. v ≤ unit) table
+    → up_value (slice_index table) choice ≤ unit
+up_value-units choice table h units = up-units (weighted_sum (slice_index table) choice.edges) choice.total unit
+    (total-pos choice h) (whole-total choice table h units)
 
-pub down_value-most : (choice : Distribution) (table : List ℕ) → IsDistribution choice → All (λ v. v ≤ unit) table → down_value (slice_index table) choice ≤ unit
+pub down_value-most : (choice : Distribution) (table : List ℕ) → IsDistribution choice → All (λ v. v ≤ unit) table
+    → down_value (slice_index table) choice ≤ unit
 down_value-most choice table h units =
-    let below : weighted_sum (slice_index table) choice.edges / choice.total < unit + 1 = (div-lt_iff_lt-mul (total-pos choice h)).1 (omega (arith, whole-total choice table h units, total-pos choice h)) in
+    let below : weighted_sum (slice_index table) choice.edges / choice.total < unit + 1 =
+    (div-lt_iff_lt-mul (total-pos choice h)).1 (omega (arith, whole-total choice table h units, total-pos choice h)) in
     omega arith
 
 -- the least value of all, as the loop finds it from a top that the first value does not pass
-pub least-whole : (f : Distribution → ℕ) (xs : List Distribution) (p best top : ℕ) → 0 < length xs → length xs ≤ p → f (slice_index_or xs 0 no_distribution) ≤ top
-    → best ≡ fold (λ least y. better Min least (f y)) top (take p xs) → best ≡ optimum Min f xs
+pub least-whole : (f : Distribution → ℕ) (xs : List Distribution) (p best top : ℕ) → 0 < length xs → length xs ≤ p
+    → f (slice_index_or xs 0 no_distribution) ≤ top → best ≡ fold (λ least y. better Min least (f y)) top (take p xs)
+    → best ≡ optimum Min f xs
 least-whole f [] p best top some past first same = absurd (omega arith)
 least-whole f (x ∷ xs) p best top some past first same =
     let whole : take p (x ∷ xs) ≡ x ∷ xs = take_all p (x ∷ xs) past in
     let start : min top (f x) ≡ f x = min-eq_right first in
-    same ∙ ap (λ ys. fold (λ least y. better Min least (f y)) top ys) whole ∙ ap (λ a. fold (λ least y. better Min least (f y)) a xs) start
+    same ∙ ap (λ ys. fold (λ least y. better Min least (f y)) top ys) whole
+    ∙ ap (λ a. fold (λ least y. better Min least (f y)) a xs) start
 
 -- the loop has gone over all choices
-pub all-choices : (row choices : List Distribution) (count p : ℕ) → row ≡ choices → count ≡ length row → count ≤ p → length choices ≤ p
+pub all-choices : (row choices : List Distribution) (count p : ℕ) → row ≡ choices → count ≡ length row → count ≤ p
+    → length choices ≤ p
 all-choices row choices count p same is_count past = omega (arith, ap length same)

@@ -1,5 +1,6 @@
 -- The weighted sum of edges over values that are read one after another.
-use Rattle.std.proofs.Common.{◌≡◌, ℕ, ◌+◌, ◌*◌, ◌^◌, ◌<◌, ◌≤◌, List, length, take, get_or, sum_by, sym, ap, ◌∙◌, subst, arith, inl, inr}
+use Rattle.std.proofs.Common.{◌≡◌, ℕ, ◌+◌, ◌*◌, ◌^◌, ◌<◌, ◌≤◌, List, length, take, get_or, sum_by, sym, ap, ◌∙◌, subst}
+use Rattle.std.proofs.Common.{arith, inl, inr}
 use Rattle.std.specs.Prelude.{slice_index, All}
 use Rattle.std.proofs.lemmas.List.{get_or_past, take_all}
 use Rattle.std.proofs.lemmas.List.Sums.{sum_by_more, sum_by-take-le}
@@ -22,33 +23,45 @@ slice_index-units table units t = elim (cases_lt t (length table)) [
 ]
 
 -- the whole sum is within the weights' worth
-pub weighted_sum-whole : (edges : List Edge) (table : List ℕ) → All (λ v. v ≤ unit) table → weighted_sum (slice_index table) edges ≤ sum_by (λ e. e.weight) edges * unit
-weighted_sum-whole edges table units = weighted_sum-most (slice_index table) unit edges (AllByRecursion-always _ (λ e. slice_index-units table units e.to) edges)
+pub weighted_sum-whole : (edges : List Edge) (table : List ℕ) → All (λ v. v ≤ unit) table
+    → weighted_sum (slice_index table) edges ≤ sum_by (λ e. e.weight) edges * unit
+weighted_sum-whole edges table units = weighted_sum-most (slice_index table) unit edges
+    (AllByRecursion-always _ (λ e. slice_index-units table units e.to) edges)
 
 -- one more edge
-module _ (edges : List Edge) (p sum value : ℕ) (edge : Edge) (there : p < length edges) (is : edge ≡ get_or edges p no_edge) where
+module _ (edges : List Edge) (p sum value : ℕ) (edge : Edge) (there : p < length edges)
+    (is : edge ≡ get_or edges p no_edge) where
   weights-more : sum_by (λ e. e.weight) (take (p + 1) edges) ≡ sum_by (λ e. e.weight) (take p edges) + edge.weight
-  weights-more = sum_by_more (λ (e : Edge). e.weight) edges p no_edge there ∙ ap (λ (e : Edge). sum_by (λ d. d.weight) (take p edges) + e.weight) (sym is)
+  weights-more = sum_by_more (λ (e : Edge). e.weight) edges p no_edge there
+      ∙ ap (λ (e : Edge). sum_by (λ d. d.weight) (take p edges) + e.weight) (sym is)
 
   sum-more : (v : ℕ → ℕ) → weighted_sum v (take (p + 1) edges) ≡ weighted_sum v (take p edges) + edge.weight * v edge.to
-  sum-more v = sum_by_more (λ (e : Edge). e.weight * v e.to) edges p no_edge there ∙ ap (λ (e : Edge). weighted_sum v (take p edges) + e.weight * v e.to) (sym is)
+  sum-more v = sum_by_more (λ (e : Edge). e.weight * v e.to) edges p no_edge there
+      ∙ ap (λ (e : Edge). weighted_sum v (take p edges) + e.weight * v e.to) (sym is)
 
-  pub units-more : sum ≤ sum_by (λ e. e.weight) (take p edges) * unit → value ≤ unit → sum + edge.weight * value ≤ sum_by (λ e. e.weight) (take (p + 1) edges) * unit
+  pub units-more : sum ≤ sum_by (λ e. e.weight) (take p edges) * unit → value ≤ unit
+      → sum + edge.weight * value ≤ sum_by (λ e. e.weight) (take (p + 1) edges) * unit
   units-more so_far units = omega (arith, weights-more, mul-le-mul_left edge.weight units, so_far)
 
-  pub sum-fits : sum ≤ sum_by (λ e. e.weight) (take p edges) * unit → value ≤ unit → sum_by (λ e. e.weight) edges < total_bound → sum + edge.weight * value < 2 ^ 128
-  sum-fits so_far units small = omega (arith, units-more so_far units, sum_by-take-le (λ (e : Edge). e.weight) edges (p + 1), small)
+  pub sum-fits : sum ≤ sum_by (λ e. e.weight) (take p edges) * unit → value ≤ unit
+      → sum_by (λ e. e.weight) edges < total_bound → sum + edge.weight * value < 2 ^ 128
+  sum-fits so_far units small =
+      omega (arith, units-more so_far units, sum_by-take-le (λ (e : Edge). e.weight) edges (p + 1), small)
 
-  pub low-more : (v : ℕ → ℕ) → weighted_sum v (take p edges) ≤ sum → v edge.to ≤ value → weighted_sum v (take (p + 1) edges) ≤ sum + edge.weight * value
+  pub low-more : (v : ℕ → ℕ) → weighted_sum v (take p edges) ≤ sum → v edge.to ≤ value
+      → weighted_sum v (take (p + 1) edges) ≤ sum + edge.weight * value
   low-more v so_far less = omega (arith, sum-more v, mul-le-mul_left edge.weight less, so_far)
 
-  pub high-more : (v w : ℕ → ℕ) → sum ≤ weighted_sum v (take p edges) → ((t : ℕ) → v t ≤ w t) → value ≤ w edge.to → sum + edge.weight * value ≤ weighted_sum w (take (p + 1) edges)
+  pub high-more : (v w : ℕ → ℕ) → sum ≤ weighted_sum v (take p edges) → ((t : ℕ) → v t ≤ w t) → value ≤ w edge.to
+      → sum + edge.weight * value ≤ weighted_sum w (take (p + 1) edges)
   high-more v w so_far up less =
-      let rise : 1 * weighted_sum v (take p edges) ≤ 1 * weighted_sum w (take p edges) = weighted_sum-le v w 1 1 (take p edges) (AllByRecursion-always _ (λ e. omega (arith, up e.to)) (take p edges)) in
+      let rise : 1 * weighted_sum v (take p edges) ≤ 1 * weighted_sum w (take p edges) =
+      weighted_sum-le v w 1 1 (take p edges) (AllByRecursion-always _ (λ e. omega (arith, up e.to)) (take p edges)) in
       omega (arith, sum-more w, mul-le-mul_left edge.weight less, so_far, rise)
 
   -- the sum so far and one more product
-  pub IsSumBetween-more : (old mid new : ℕ → ℕ) → IsSumBetween (take p edges) old mid sum → old edge.to ≤ value → ((t : ℕ) → mid t ≤ new t) → value ≤ new edge.to → value ≤ unit
+  pub IsSumBetween-more : (old mid new : ℕ → ℕ) → IsSumBetween (take p edges) old mid sum
+      → old edge.to ≤ value → ((t : ℕ) → mid t ≤ new t) → value ≤ new edge.to → value ≤ unit
       → IsSumBetween (take (p + 1) edges) old new (sum + edge.weight * value)
   IsSumBetween-more old mid new so_far low later high units = record {
     low = low-more old so_far.low low;
@@ -56,25 +69,37 @@ module _ (edges : List Edge) (p sum value : ℕ) (edge : Edge) (there : p < leng
     whole = units-more so_far.whole units;
   }
 
-  pub narrow-fits : (old mid : ℕ → ℕ) → IsSumBetween (take p edges) old mid sum → value ≤ unit → sum_by (λ e. e.weight) edges * unit < 2 ^ 64 → sum + edge.weight * value < 2 ^ 64
-  narrow-fits old mid so_far units narrow = omega (arith, units-more so_far.whole units, sum_by-take-le (λ (e : Edge). e.weight) edges (p + 1), narrow)
+  pub narrow-fits : (old mid : ℕ → ℕ) → IsSumBetween (take p edges) old mid sum → value ≤ unit
+      → sum_by (λ e. e.weight) edges * unit < 2 ^ 64 → sum + edge.weight * value < 2 ^ 64
+  narrow-fits old mid so_far units narrow =
+      omega (arith, units-more so_far.whole units, sum_by-take-le (λ (e : Edge). e.weight) edges (p + 1), narrow)
 
 -- the sum over all edges
-pub IsSumBetween-all : (edges : List Edge) (p sum : ℕ) (old new : ℕ → ℕ) → length edges ≤ p → IsSumBetween (take p edges) old new sum → IsSumBetween edges old new sum
+pub IsSumBetween-all : (edges : List Edge) (p sum : ℕ) (old new : ℕ → ℕ) → length edges ≤ p
+    → IsSumBetween (take p edges) old new sum → IsSumBetween edges old new sum
 IsSumBetween-all edges p sum old new past h = subst (λ es. IsSumBetween es old new sum) (take_all p edges past) h
 
 -- Edges that lie as two lists, of successors and of weights: one more, and all.
 module _ (successors weights : List ℕ) (many : length weights ≡ length successors) (p sum : ℕ) where
-  pub listed-more : (value : ℕ) → p < length successors → (old mid new : ℕ → ℕ) → IsSumBetween (take p (edges_of successors weights)) old mid sum
-      → old (get_or successors p 0) ≤ value → ((t : ℕ) → mid t ≤ new t) → value ≤ new (get_or successors p 0) → value ≤ unit
+  pub listed-more : (value : ℕ) → p < length successors → (old mid new : ℕ → ℕ)
+      → IsSumBetween (take p (edges_of successors weights)) old mid sum → old (get_or successors p 0) ≤ value
+      → ((t : ℕ) → mid t ≤ new t) → value ≤ new (get_or successors p 0) → value ≤ unit
       → IsSumBetween (take (p + 1) (edges_of successors weights)) old new (sum + get_or weights p 0 * value)
-  listed-more value inside = IsSumBetween-more (edges_of successors weights) p sum value (record { to = get_or successors p 0; weight = get_or weights p 0 })
-      (omega (arith, length-edges_of successors weights many, inside)) (get_or-edges_of successors weights p 0 0 many inside)
+  listed-more value inside = IsSumBetween-more (edges_of successors weights) p sum value
+      (record { to = get_or successors p 0; weight = get_or weights p 0 })
+      (omega (arith, length-edges_of successors weights many, inside))
+      (get_or-edges_of successors weights p 0 0 many inside)
 
-  pub listed-fits : (value : ℕ) → p < length successors → (old mid : ℕ → ℕ) → IsSumBetween (take p (edges_of successors weights)) old mid sum
-      → value ≤ unit → sum_by (λ e. e.weight) (edges_of successors weights) * unit < 2 ^ 64 → sum + get_or weights p 0 * value < 2 ^ 64
-  listed-fits value inside = narrow-fits (edges_of successors weights) p sum value (record { to = get_or successors p 0; weight = get_or weights p 0 })
-      (omega (arith, length-edges_of successors weights many, inside)) (get_or-edges_of successors weights p 0 0 many inside)
+  pub listed-fits : (value : ℕ) → p < length successors → (old mid : ℕ → ℕ)
+      → IsSumBetween (take p (edges_of successors weights)) old mid sum → value ≤ unit
+      → sum_by (λ e. e.weight) (edges_of successors weights) * unit < 2 ^ 64 → sum + get_or weights p 0 * value < 2 ^ 64
+  listed-fits value inside = narrow-fits (edges_of successors weights) p sum value
+      (record { to = get_or successors p 0; weight = get_or weights p 0 })
+      (omega (arith, length-edges_of successors weights many, inside))
+      (get_or-edges_of successors weights p 0 0 many inside)
 
-  pub listed-all : (old new : ℕ → ℕ) → length successors ≤ p → IsSumBetween (take p (edges_of successors weights)) old new sum → IsSumBetween (edges_of successors weights) old new sum
-  listed-all old new past = IsSumBetween-all (edges_of successors weights) p sum old new (omega (arith, length-edges_of successors weights many, past))
+  pub listed-all : (old new : ℕ → ℕ) → length successors ≤ p
+      → IsSumBetween (take p (edges_of successors weights)) old new sum
+      → IsSumBetween (edges_of successors weights) old new sum
+  listed-all old new past = IsSumBetween-all (edges_of successors weights) p sum old new
+      (omega (arith, length-edges_of successors weights many, past))

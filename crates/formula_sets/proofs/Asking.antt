@@ -1,10 +1,12 @@
 -- The question that is said to be posed is the one that is posed.
-use Rattle.std.proofs.Common.{◌≡◌, ◌≢◌, ◌∙◌, ◌<◌, ◌+◌, inl, inr, ℕ, suc, Bool, true, false, cond, List, [], ◌∷◌, ◌++◌, length, get_or, refl, sym, ap, subst, arith, Option, Some, None, Result, Ok, Err}
+use Rattle.std.proofs.Common.{◌≡◌, ◌≢◌, ◌∙◌, ◌<◌, ◌+◌, inl, inr, ℕ, suc, Bool, true, false, cond, List, [], ◌∷◌, ◌++◌}
+use Rattle.std.proofs.Common.{length, get_or, refl, sym, ap, subst, arith, Option, Some, None, Result, Ok, Err}
 use Rattle.std.specs.Prelude.{find, not, ◌&&◌, All, slice_index_or}
 use Rattle.std.proofs.lemmas.Bool.{cases_Bool, cases_lt}
 use Rattle.std.proofs.Math.ListN.{get_or-eq_default}
 use Rattle.std.proofs.lemmas.List.Elements.{All-nil, All-cons}
-use Rattle.std.proofs.lemmas.List.FromFn.{get_or-map-range_with_len, length-map-range_with_len, map-range_with_len_more, fill_by_all}
+use Rattle.std.proofs.lemmas.List.FromFn.{get_or-map-range_with_len, length-map-range_with_len, map-range_with_len_more}
+use Rattle.std.proofs.lemmas.List.FromFn.{fill_by_all}
 use Rattle.game_model.specs.declared.game.Side.{Side}
 use Rattle.game_model.specs.declared.game.Side.TheVariants.{Max}
 use Rattle.game_model.specs.Game.{Distribution}
@@ -15,7 +17,9 @@ use Rattle.rpatl_syntax.specs.Formula.{Tree}
 use Rattle.formula_sets.specs.declared.fault.PoseFault.{PoseFault}
 use Rattle.formula_sets.specs.Truth.{holds, unknown_label}
 use Rattle.formula_sets.specs.Sides.{side_of, unknown_player}
-use Rattle.formula_sets.specs.Posing.{Posing, IsSetUp, Poses, init, formula_labels, formula_players, neither_holds, at_states, question_with, question_of, some_state, known_with, initial_said, made_of, pose_said}
+use Rattle.formula_sets.specs.Posing.{Posing, IsSetUp, Poses, init, formula_labels, formula_players, neither_holds}
+use Rattle.formula_sets.specs.Posing.{at_states, question_with, question_of, some_state, known_with, initial_said}
+use Rattle.formula_sets.specs.Posing.{made_of, pose_said}
 
 -- 1. What is said at each state.
 
@@ -25,12 +29,14 @@ at_states-at value n s d h = get_or-map-range_with_len value 0 n s s d h (omega 
 pub length-at_states : {X : Type 0} (value : ℕ → X) (n : ℕ) → length (at_states value n) ≡ n
 length-at_states value n = length-map-range_with_len value 0 n
 
-pub goals-apart : (l : Labelling) (f : Tree) (n s : ℕ) → slice_index_or (at_states (holds l f.right) n) s false ≡ true → slice_index_or (at_states (neither_holds l f) n) s false ≡ false
+pub goals-apart : (l : Labelling) (f : Tree) (n s : ℕ) → slice_index_or (at_states (holds l f.right) n) s false ≡ true
+    → slice_index_or (at_states (neither_holds l f) n) s false ≡ false
 goals-apart l f n s goal = elim (cases_lt s n) [
   | inl h ↦
       let holding : holds l f.right s ≡ true = sym (at_states-at (holds l f.right) n s false h) ∙ goal in
       at_states-at (neither_holds l f) n s false h ∙ ap (λ v. not v && not (holds l f.left s)) holding
-  | inr h ↦ get_or-eq_default (at_states (neither_holds l f) n) false (omega (arith, length-at_states (neither_holds l f) n))
+  | inr h ↦ get_or-eq_default (at_states (neither_holds l f) n) false
+      (omega (arith, length-at_states (neither_holds l f) n))
 ]
 
 -- one state more
@@ -38,22 +44,27 @@ pub at_states-more : {X : Type 0} (value : ℕ → X) (n : ℕ) → at_states va
 at_states-more value n = map-range_with_len_more value 0 n n (omega arith)
 
 -- pushed behind those before
-pub pushed-more : {X : Type 0} (value : ℕ → X) (n : ℕ) (new old : List X) (x : X) → new ≡ old ++ x ∷ [] → old ≡ at_states value n → x ≡ value n → new ≡ at_states value (n + 1)
+pub pushed-more : {X : Type 0} (value : ℕ → X) (n : ℕ) (new old : List X) (x : X) → new ≡ old ++ x ∷ []
+    → old ≡ at_states value n → x ≡ value n → new ≡ at_states value (n + 1)
 pushed-more {X} value n new old x is before here =
-    is ∙ ap (λ (xs : List X). xs ++ x ∷ []) before ∙ ap (λ y. at_states value n ++ y ∷ []) here ∙ sym (at_states-more value n)
+    is ∙ ap (λ (xs : List X). xs ++ x ∷ []) before ∙ ap (λ y. at_states value n ++ y ∷ []) here
+    ∙ sym (at_states-more value n)
 
 -- 2. Names that are known.
 
-none-refused : (test : List ℕ → Bool) (names : List (List ℕ)) → find (λ name. not (test name)) names ≡ None → All (λ name. test name ≡ true) names
+none-refused : (test : List ℕ → Bool) (names : List (List ℕ)) → find (λ name. not (test name)) names ≡ None
+    → All (λ name. test name ≡ true) names
 none-refused test [] e = All-nil (λ (name : List ℕ). test name ≡ true)
 none-refused test (name ∷ names) e = elim (cases_Bool (test name)) [
   | inl t ↦
       All-cons (λ (n : List ℕ). test n ≡ true) name names t
       (none-refused test names (sym (ap (λ b. cond (not b) (Some name) (find (λ n. not (test n)) names)) t) ∙ e))
-  | inr t ↦ absurd (let some : Some name ≡ None = sym (ap (λ b. cond (not b) (Some name) (find (λ n. not (test n)) names)) t) ∙ e in cc)
+  | inr t ↦ absurd (let some : Some name ≡ None =
+      sym (ap (λ b. cond (not b) (Some name) (find (λ n. not (test n)) names)) t) ∙ e in cc)
 ]
 
-refused-none : (test : List ℕ → Bool) (names : List (List ℕ)) → All (λ name. test name ≡ true) names → find (λ name. not (test name)) names ≡ None
+refused-none : (test : List ℕ → Bool) (names : List (List ℕ)) → All (λ name. test name ≡ true) names
+    → find (λ name. not (test name)) names ≡ None
 refused-none test [] h = refl
 refused-none test (name ∷ names) h =
     ap (λ b. cond (not b) (Some name) (find (λ n. not (test n)) names)) (h 0 name (omega arith))
@@ -69,7 +80,8 @@ module _ (l : Labelling) (o : Ownership) (f : Tree) where
     pub starts : initial ≡ states_with l init
     pub some : initial ≢ []
 
-  begun : (found initial : List ℕ) → found ≡ states_with l init → unknown_label l (formula_labels f) ≡ None → unknown_player o (formula_players f) ≡ None → some_state found ≡ Ok initial → IsBegun initial
+  begun : (found initial : List ℕ) → found ≡ states_with l init → unknown_label l (formula_labels f) ≡ None
+      → unknown_player o (formula_players f) ≡ None → some_state found ≡ Ok initial → IsBegun initial
   begun [] initial starts label player is = cc
   begun (s ∷ found) initial starts label player is =
       let P : List ℕ → Type 0 = λ xs. IsBegun xs in
@@ -81,14 +93,16 @@ module _ (l : Labelling) (o : Ownership) (f : Tree) where
         some = λ e. cc e;
       })
 
-  said : (label player : Option (List ℕ)) (initial : List ℕ) → unknown_label l (formula_labels f) ≡ label → unknown_player o (formula_players f) ≡ player
+  said : (label player : Option (List ℕ)) (initial : List ℕ)
+      → unknown_label l (formula_labels f) ≡ label → unknown_player o (formula_players f) ≡ player
       → known_with label player (some_state (states_with l init)) ≡ Ok initial → IsBegun initial
   said (Some label) player initial known played is = cc
   said None (Some player) initial known played is = cc
   said None None initial known played is = begun (states_with l init) initial refl known played is
 
   pub initial-found : (initial : List ℕ) → initial_said l o f ≡ Ok initial → IsBegun initial
-  initial-found initial is = said (unknown_label l (formula_labels f)) (unknown_player o (formula_players f)) initial refl refl is
+  initial-found initial is =
+      said (unknown_label l (formula_labels f)) (unknown_player o (formula_players f)) initial refl refl is
 
   begins : (initial : List ℕ) → initial ≢ [] → some_state initial ≡ Ok initial
   begins [] some = absurd (some refl)
@@ -96,21 +110,24 @@ module _ (l : Labelling) (o : Ownership) (f : Tree) where
 
   pub initial-again : (initial : List ℕ) → IsBegun initial → initial_said l o f ≡ Ok initial
   initial-again initial h =
-      ap (λ label. known_with label (unknown_player o (formula_players f)) (some_state (states_with l init))) (refused-none (is_known l) (formula_labels f) h.labels)
-      ∙ ap (λ player. known_with None player (some_state (states_with l init))) (refused-none (is_player o) (formula_players f) h.players)
+      ap (λ label. known_with label (unknown_player o (formula_players f)) (some_state (states_with l init)))
+      (refused-none (is_known l) (formula_labels f) h.labels)
+      ∙ ap (λ player. known_with None player (some_state (states_with l init)))
+      (refused-none (is_player o) (formula_players f) h.players)
       ∙ ap some_state (sym h.starts)
       ∙ begins initial h.some
 
   -- what is made of them
-  pub made-found : {X : Type 0} (make : List ℕ → X) (said : Result (List ℕ) PoseFault) (x : X) → initial_said l o f ≡ said → made_of make said ≡ Ok x → (initial : List ℕ) × (make initial ≡ x) × IsBegun initial
+  pub made-found : {X : Type 0} (make : List ℕ → X) (said : Result (List ℕ) PoseFault) (x : X)
+      → initial_said l o f ≡ said → made_of make said ≡ Ok x → (initial : List ℕ) × (make initial ≡ x) × IsBegun initial
   made-found make (Ok initial) x is made = (initial, (cc), initial-found initial is)
   made-found make (Err fault) x is made = absurd (cc)
 
 -- 4. The question, whatever the path.
 
 module _ (game : List (List Distribution)) (l : Labelling) (o : Ownership) (f : Tree) where
-  pub set_up : (goals deads : List Bool) (initial : List ℕ) → length goals ≡ length game → length deads ≡ length game → IsBegun l o f initial
-      → IsSetUp game l o f (question_with game o f goals deads) initial
+  pub set_up : (goals deads : List Bool) (initial : List ℕ) → length goals ≡ length game → length deads ≡ length game
+      → IsBegun l o f initial → IsSetUp game l o f (question_with game o f goals deads) initial
   set_up goals deads initial goal_count dead_count h = record {
     labels = h.labels;
     players = h.players;
@@ -126,11 +143,13 @@ module _ (game : List (List Distribution)) (l : Labelling) (o : Ownership) (f : 
   pub is_begun : (question : Query) (initial : List ℕ) → IsSetUp game l o f question initial → IsBegun l o f initial
   is_begun question initial h = record { labels = h.labels; players = h.players; starts = h.starts; some = h.some }
 
-  pub question-same : (question : Query) (initial : List ℕ) (goals deads : List Bool) → IsSetUp game l o f question initial → question.goals ≡ goals → question.deads ≡ deads
+  pub question-same : (question : Query) (initial : List ℕ) (goals deads : List Bool)
+      → IsSetUp game l o f question initial → question.goals ≡ goals → question.deads ≡ deads
       → question_with game o f goals deads ≡ question
   question-same question initial goals deads h goals_are deads_are =
       let sides = fill_by_all (side_of f.coalition f.bound o) question.sides (length game) Max h.side_count h.sides in
-      let query : List (List Distribution) → List Side → List Bool → List Bool → Query = λ g s a b. record { game = g; sides = s; goals = a; deads = b } in
+      let query : List (List Distribution) → List Side → List Bool → List Bool → Query =
+      λ g s a b. record { game = g; sides = s; goals = a; deads = b } in
       ap (λ g. query g (at_states (side_of f.coalition f.bound o) (length game)) goals deads) (sym h.game_same)
       ∙ ap (λ s. query question.game s goals deads) (sym sides)
       ∙ ap (λ a. query question.game question.sides a deads) (sym goals_are)
@@ -148,7 +167,8 @@ module _ (game : List (List Distribution)) (l : Labelling) (o : Ownership) (f : 
       let made = made-found l o f posing (initial_said l o f) p refl is in
       let P : Posing → Type 0 = λ x. Poses game l o f x in
       subst P made.1 (record {
-        set_up = set_up (at_states (holds l f.right) n) (at_states (neither_holds l f) n) made.0 (length-at_states (holds l f.right) n) (length-at_states (neither_holds l f) n) made.2;
+        set_up = set_up (at_states (holds l f.right) n) (at_states (neither_holds l f) n) made.0
+            (length-at_states (holds l f.right) n) (length-at_states (neither_holds l f) n) made.2;
         goals = λ s h. at_states-at (holds l f.right) n s false h;
         deads = λ s h. at_states-at (neither_holds l f) n s false h;
       })
@@ -159,6 +179,7 @@ module _ (game : List (List Distribution)) (l : Labelling) (o : Ownership) (f : 
       let n = length game in
       let goals = fill_by_all (holds l f.right) p.question.goals n false h.set_up.goal_count h.goals in
       let deads = fill_by_all (neither_holds l f) p.question.deads n false h.set_up.dead_count h.deads in
-      let same = question-same p.question p.initial (at_states (holds l f.right) n) (at_states (neither_holds l f) n) h.set_up goals deads in
+      let same = question-same p.question p.initial (at_states (holds l f.right) n)
+      (at_states (neither_holds l f) n) h.set_up goals deads in
       let whole : Query → Result Posing PoseFault = λ q. Ok (record { question = q; initial = p.initial }) in
       ap (made_of posing) (initial-again l o f p.initial (is_begun p.question p.initial h.set_up)) ∙ ap whole same

@@ -1,5 +1,6 @@
 -- The question that a formula poses.
-use Rattle.std.specs.Prelude.{◌≡◌, ◌≢◌, ◌<◌, ℕ, Bool, true, false, not, ◌&&◌, List, [], ◌∷◌, ◌++◌, length, map, slice_index, Option, Some, None, Result, Ok, Err, All, if◌then◌else◌, codes}
+use Rattle.std.specs.Prelude.{◌≡◌, ◌≢◌, ◌<◌, ℕ, Bool, true, false, not, ◌&&◌, List, [], ◌∷◌, ◌++◌, length, map}
+use Rattle.std.specs.Prelude.{slice_index, Option, Some, None, Result, Ok, Err, All, if◌then◌else◌, codes}
 use Rattle.std.specs.List.{range_with_len}
 use Rattle.game_model.specs.Game.{Distribution}
 use Rattle.game_model.specs.Limits.{unit}

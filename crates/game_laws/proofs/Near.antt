@@ -15,9 +15,13 @@ use Rattle.game_model.proofs.Swap.{open_numerator-swapped}
 near-above : (top u c r d m n : ℕ) → m + n ≡ d → top * n ≤ d * (c + r) → u + c ≤ top → u * d ≤ top * m + r * d
 near-above top u c r d m n whole near within = omega (arith, near, mul-le-mul_right d within, ap (λ x. top * x) whole)
 
--- an upper value that is at most the unit less the swapped value is at most r units above the value of not being lost after r steps
-pub swapped-value-near : (q : Query) (lost : List Bool) → AreChoicesOf q.game (choices_of q.game) → length q.sides ≡ length q.game → ((s : ℕ) → slice_index_or lost s false ≡ true → is_goal q s ≡ false)
-    → (r s u : ℕ) → s < length q.game → u + down_steps (swapped q lost) r s ≤ unit → u * denominator q.game ^ r ≤ unit * open_numerator q lost r s + r * denominator q.game ^ r
+-- an upper value that is at most the unit less the swapped value is at most r units above the value of not being lost
+-- after r steps
+pub swapped-value-near : (q : Query) (lost : List Bool) → AreChoicesOf q.game (choices_of q.game)
+    → length q.sides ≡ length q.game → ((s : ℕ) → slice_index_or lost s false ≡ true → is_goal q s ≡ false)
+    → (r s u : ℕ) → s < length q.game → u + down_steps (swapped q lost) r s ≤ unit
+    → u * denominator q.game ^ r ≤ unit * open_numerator q lost r s + r * denominator q.game ^ r
 swapped-value-near q lost chosen sides apart r s u inside within =
-    near-above unit u (down_steps (swapped q lost) r s) r (denominator q.game ^ r) (open_numerator q lost r s) (numerator (swapped q lost) r s)
+    near-above unit u (down_steps (swapped q lost) r s) r (denominator q.game ^ r) (open_numerator q lost r s)
+    (numerator (swapped q lost) r s)
     (open_numerator-swapped q lost chosen sides apart r s inside) (down_steps-near (swapped q lost) chosen r s) within

@@ -1,5 +1,6 @@
 -- What a plan leaves of a list of choices, and the ranks of a list.
-use Rattle.std.proofs.Common.{◌≡◌, ℕ, zero, suc, ◌<◌, ◌≤◌, List, [], ◌∷◌, length, take, drop, get_or, sum, arith, inl, inr, Option, Some, None}
+use Rattle.std.proofs.Common.{◌≡◌, ℕ, zero, suc, ◌<◌, ◌≤◌, List, [], ◌∷◌, length, take, drop, get_or, sum, arith, inl}
+use Rattle.std.proofs.Common.{inr, Option, Some, None}
 use Rattle.std.specs.Prelude.{slice_index, slice_index_or}
 use Rattle.std.specs.List.{AllByRecursion}
 use Rattle.std.proofs.lemmas.Bool.{cases_lt}
@@ -9,13 +10,15 @@ use Rattle.std.proofs.lemmas.List.Sums.{get_or-le-sum_by}
 use Rattle.game_model.specs.Plans.{planned_place}
 
 -- one element that satisfies it, as a list
-pub one-at : {X : Type 0} (P : X → Type 0) (xs : List X) (i : ℕ) (d : X) → i < length xs → P (get_or xs i d) → AllByRecursion P (take 1 (drop i xs))
+pub one-at : {X : Type 0} (P : X → Type 0) (xs : List X) (i : ℕ) (d : X) → i < length xs → P (get_or xs i d)
+    → AllByRecursion P (take 1 (drop i xs))
 one-at P [] i d l h = absurd (omega (arith, l))
 one-at P (x ∷ xs) zero d l h = (h, tt)
 one-at P (x ∷ xs) (suc i) d l h = one-at P xs i d (omega (arith, l)) h
 
 -- a plan gives the choice that stands in it, where there is such a choice
-pub planned_place-given : (plan : List (Option ℕ)) (s count c : ℕ) → slice_index_or plan s None ≡ Some c → c < count → planned_place plan s count ≡ c
+pub planned_place-given : (plan : List (Option ℕ)) (s count c : ℕ) → slice_index_or plan s None ≡ Some c → c < count
+    → planned_place plan s count ≡ c
 planned_place-given plan s count c given inside = rw given (grind (arith, nat_tests))
 
 -- no rank of a list is above their sum

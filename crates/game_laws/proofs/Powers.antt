@@ -15,7 +15,8 @@ pub pow-far : (c m : ℕ) → m * c ^ (m * (c + 1)) ≤ (c + 1) ^ (m * (c + 1))
 pow-far c m =
     let b : ℕ = c + 1 in
     let behind : c ^ (m * b) * (b + m * b) ≤ b ^ suc (m * b) = pow-behind c (m * b) in
-    let whole : b * ((1 + m) * c ^ (m * b)) ≤ b * b ^ (m * b) = subst (λ x. b * ((1 + m) * c ^ (m * b)) ≤ x) (pow-succ' b (m * b)) (omega (arith, behind)) in
+    let whole : b * ((1 + m) * c ^ (m * b)) ≤ b * b ^ (m * b) =
+    subst (λ x. b * ((1 + m) * c ^ (m * b)) ≤ x) (pow-succ' b (m * b)) (omega (arith, behind)) in
     let cut : (1 + m) * c ^ (m * b) ≤ b ^ (m * b) = le_of_mul-le-mul_left whole (omega arith) in
     omega (arith, cut)
 
@@ -27,4 +28,5 @@ horizon_of stretch (suc j) = horizon_of stretch j + stretch
 pub pow-horizon_of : (d stretch j : ℕ) → d ^ horizon_of stretch j ≡ (d ^ stretch) ^ j
 unfolding horizon_of
 pow-horizon_of d stretch zero = pow-zero d ∙ sym (pow-zero (d ^ stretch))
-pow-horizon_of d stretch (suc j) = pow-add d (horizon_of stretch j) stretch ∙ ap (λ n. n * d ^ stretch) (pow-horizon_of d stretch j) ∙ sym (pow-suc (d ^ stretch) j)
+pow-horizon_of d stretch (suc j) = pow-add d (horizon_of stretch j) stretch
+    ∙ ap (λ n. n * d ^ stretch) (pow-horizon_of d stretch j) ∙ sym (pow-suc (d ^ stretch) j)

@@ -1,5 +1,6 @@
 -- What the laws need of choices: their weights sum to their totals, which divide the denominator.
-use Rattle.std.proofs.Common.{◌≡◌, ℕ, zero, suc, ◌*◌, ◌/◌, ◌<◌, ◌≤◌, List, [], ◌∷◌, length, arith, sym, subst, sum_by, inl, inr, true, false, Option, take, drop}
+use Rattle.std.proofs.Common.{◌≡◌, ℕ, zero, suc, ◌*◌, ◌/◌, ◌<◌, ◌≤◌, List, [], ◌∷◌, length, arith, sym, subst, sum_by}
+use Rattle.std.proofs.Common.{inl, inr, true, false, Option, take, drop}
 use Rattle.std.specs.Int.{◌∣◌}
 use Rattle.std.specs.List.{AllByRecursion}
 use Rattle.std.specs.Prelude.{slice_index_or}
@@ -32,19 +33,24 @@ pub record AreChoicesOf (game : List (List Distribution)) (choices : ℕ → Lis
   pub some : (s : ℕ) → s < length game → 0 < length (choices s)
 
 -- a total divides the product of the totals of its state
-total-divides-product : (choices : List Distribution) (c : ℕ) → c < length choices → (slice_index_or choices c no_distribution).total ∣ total_product choices
+total-divides-product : (choices : List Distribution) (c : ℕ) → c < length choices
+    → (slice_index_or choices c no_distribution).total ∣ total_product choices
 total-divides-product [] c l = absurd (omega arith)
 total-divides-product (m ∷ ms) zero l = dvd-mul_right m.total (total_product ms)
 total-divides-product (m ∷ ms) (suc c) l = dvd-mul_left_of_dvd _ (total-divides-product ms c (omega arith)) m.total
 
 -- and the common denominator
-total-divides : (game : List (List Distribution)) (s c : ℕ) → s < length game → c < length (choices_of game s) → (choice_of game s c).total ∣ denominator game
+total-divides : (game : List (List Distribution)) (s c : ℕ) → s < length game → c < length (choices_of game s)
+    → (choice_of game s c).total ∣ denominator game
 total-divides [] s c ls lc = absurd (omega arith)
-total-divides (choices ∷ game) zero c ls lc = dvd-mul_right_of_dvd _ (total-divides-product choices c lc) (denominator game)
-total-divides (choices ∷ game) (suc s) c ls lc = dvd-mul_left_of_dvd _ (total-divides game s c (omega arith) lc) (total_product choices)
+total-divides (choices ∷ game) zero c ls lc =
+    dvd-mul_right_of_dvd _ (total-divides-product choices c lc) (denominator game)
+total-divides (choices ∷ game) (suc s) c ls lc =
+    dvd-mul_left_of_dvd _ (total-divides game s c (omega arith) lc) (total_product choices)
 
 -- each choice of a game is such a choice
-pub IsChoiceOf-choice_of : (game : List (List Distribution)) (s c : ℕ) → IsGame game → s < length game → c < length (choices_of game s) → IsChoiceOf game (choice_of game s c)
+pub IsChoiceOf-choice_of : (game : List (List Distribution)) (s c : ℕ) → IsGame game → s < length game
+    → c < length (choices_of game s) → IsChoiceOf game (choice_of game s c)
 IsChoiceOf-choice_of game s c h ls lc = record {
   sums = (h.distribution s c ls lc).sums;
   positive = total-pos _ (h.distribution s c ls lc);
@@ -56,19 +62,24 @@ IsChoiceOf-choice_of game s c h ls lc = record {
 pub AreChoicesOf-choices_of : (game : List (List Distribution)) → IsGame game → AreChoicesOf game (choices_of game)
 AreChoicesOf-choices_of game h = record {
   each = λ s. elim (cases_lt s (length game)) [
-    | inl inside ↦ recursion_from_All (IsChoiceOf game) (choices_of game s) (All-from_get_or (IsChoiceOf game) (choices_of game s) no_distribution (λ c l. IsChoiceOf-choice_of game s c h inside l))
+    | inl inside ↦ recursion_from_All (IsChoiceOf game) (choices_of game s) (All-from_get_or (IsChoiceOf game)
+        (choices_of game s) no_distribution (λ c l. IsChoiceOf-choice_of game s c h inside l))
     | inr past ↦ subst (AllByRecursion (IsChoiceOf game)) (sym (get_or_past game s [] past)) tt
   ];
   some = h.chosen;
 }
 
-total_product-pos : (choices : List Distribution) → ((c : ℕ) → c < length choices → 0 < (slice_index_or choices c no_distribution).total) → 0 < total_product choices
+total_product-pos : (choices : List Distribution)
+    → ((c : ℕ) → c < length choices → 0 < (slice_index_or choices c no_distribution).total) → 0 < total_product choices
 total_product-pos [] h = omega arith
 total_product-pos (m ∷ ms) h = mul-pos (h zero (omega arith)) (total_product-pos ms (λ c l. h (suc c) (omega arith)))
 
-product-pos : (game : List (List Distribution)) → ((s c : ℕ) → s < length game → c < length (choices_of game s) → 0 < (choice_of game s c).total) → 0 < denominator game
+product-pos : (game : List (List Distribution))
+    → ((s c : ℕ) → s < length game → c < length (choices_of game s) → 0 < (choice_of game s c).total)
+    → 0 < denominator game
 product-pos [] h = omega arith
-product-pos (choices ∷ game) h = mul-pos (total_product-pos choices (λ c l. h zero c (omega arith) l)) (product-pos game (λ s c ls lc. h (suc s) c (omega arith) lc))
+product-pos (choices ∷ game) h = mul-pos (total_product-pos choices (λ c l. h zero c (omega arith) l))
+    (product-pos game (λ s c ls lc. h (suc s) c (omega arith) lc))
 
 -- the common denominator is positive
 pub denominator-pos : (game : List (List Distribution)) → IsGame game → 0 < denominator game
@@ -83,16 +94,22 @@ pub planned_place-inside : (plan : List (Option ℕ)) (s count : ℕ) → 0 < co
 planned_place-inside plan s count some = grind (arith, nat_tests)
 
 -- choices under a plan are choices of the game
-pub AreChoicesOf-planned : (q : Query) (side : Side) (plan : List (Option ℕ)) → IsGame q.game → AreChoicesOf q.game (planned q side plan)
+pub AreChoicesOf-planned : (q : Query) (side : Side) (plan : List (Option ℕ)) → IsGame q.game
+    → AreChoicesOf q.game (planned q side plan)
 AreChoicesOf-planned q side plan h =
     let all : AreChoicesOf q.game (choices_of q.game) = AreChoicesOf-choices_of q.game h in
     record {
-      each = λ s. elim (same_side (side_at q s) side) as (λ mine. AllByRecursion (IsChoiceOf q.game) (if mine then take 1 (drop (planned_place plan s (length (choices_of q.game s))) (choices_of q.game s)) else choices_of q.game s)) [
-        | true ↦ AllByRecursion-one (IsChoiceOf q.game) (choices_of q.game s) _ (all.each s)
-        | false ↦ all.each s
-      ];
-      some = λ s inside. elim (same_side (side_at q s) side) as (λ mine. 0 < length {A = Distribution} (if mine then take 1 (drop (planned_place plan s (length (choices_of q.game s))) (choices_of q.game s)) else choices_of q.game s)) [
-        | true ↦ length-one (choices_of q.game s) _ (planned_place-inside plan s (length (choices_of q.game s)) (all.some s inside))
-        | false ↦ all.some s inside
-      ];
+      each = λ s. elim (same_side (side_at q s) side) as (λ mine. AllByRecursion (IsChoiceOf q.game)
+          (if mine then take 1 (drop (planned_place plan s (length (choices_of q.game s))) (choices_of q.game s))
+          else choices_of q.game s)) [
+            | true ↦ AllByRecursion-one (IsChoiceOf q.game) (choices_of q.game s) _ (all.each s)
+            | false ↦ all.each s
+          ];
+      some = λ s inside. elim (same_side (side_at q s) side) as (λ mine. 0 < length {A = Distribution}
+          (if mine then take 1 (drop (planned_place plan s (length (choices_of q.game s))) (choices_of q.game s))
+          else choices_of q.game s)) [
+            | true ↦ length-one (choices_of q.game s) _
+                (planned_place-inside plan s (length (choices_of q.game s)) (all.some s inside))
+            | false ↦ all.some s inside
+          ];
     }

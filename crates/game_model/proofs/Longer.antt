@@ -18,8 +18,10 @@ pub longer-length : (xs ys : List ℕ) → IsLonger xs ys → length xs ≤ leng
 longer-length xs ys h = omega (arith, ap length h.1, length-append xs h.0)
 
 -- a list that begins with the first n of another
-pub taken-at : (n : ℕ) (xs ys : List ℕ) → n ≤ length xs → IsLonger (take n xs) ys → (i : ℕ) → i < n → slice_index ys i ≡ slice_index xs i
-taken-at n xs ys le h i l = longer-at (take n xs) ys h i (omega (arith, length-take-le n xs le)) ∙ get_or-take n xs i 0 l
+pub taken-at : (n : ℕ) (xs ys : List ℕ) → n ≤ length xs → IsLonger (take n xs) ys → (i : ℕ) → i < n
+    → slice_index ys i ≡ slice_index xs i
+taken-at n xs ys le h i l =
+    longer-at (take n xs) ys h i (omega (arith, length-take-le n xs le)) ∙ get_or-take n xs i 0 l
 
 pub taken-length : (n : ℕ) (xs ys : List ℕ) → n ≤ length xs → IsLonger (take n xs) ys → n ≤ length ys
 taken-length n xs ys le h = omega (arith, longer-length (take n xs) ys h, length-take-le n xs le)

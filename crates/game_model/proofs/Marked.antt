@@ -9,7 +9,8 @@ use Rattle.game_model.specs.Values.{numerator, numerator_of}
 use Rattle.game_model.specs.Dual.{IsZeroSet}
 
 -- a marked state has only values 0
-pub marked-none : (q : Query) (marks : List Bool) → IsZeroSet q marks → (s : ℕ) → slice_index_or marks s false ≡ true → (k : ℕ) → numerator q k s ≡ 0
+pub marked-none : (q : Query) (marks : List Bool) → IsZeroSet q marks → (s : ℕ) → slice_index_or marks s false ≡ true
+    → (k : ℕ) → numerator q k s ≡ 0
 marked-none q marks h s marked k = elim (cases_lt s (length marks)) [
   | inl inside ↦ h.marked s (omega (arith, h.as_many)) marked k
   | inr past ↦ let no : false ≡ true = sym (get_or_past marks s false past) ∙ marked in absurd (cc)
@@ -20,6 +21,7 @@ opening-goal true h = absurd (let one : ℕ = 1 in let at : one ≡ 0 = h in ome
 opening-goal false h = refl
 
 -- a marked state is no goal
-pub marked-goal : (q : Query) (marks : List Bool) → IsZeroSet q marks → (s : ℕ) → slice_index_or marks s false ≡ true → is_goal q s ≡ false
+pub marked-goal : (q : Query) (marks : List Bool) → IsZeroSet q marks → (s : ℕ) → slice_index_or marks s false ≡ true
+    → is_goal q s ≡ false
 unfolding numerator_of
 marked-goal q marks h s marked = opening-goal (is_goal q s) (marked-none q marks h s marked zero)

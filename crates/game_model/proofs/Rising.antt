@@ -8,6 +8,7 @@ use Rattle.game_model.specs.Game.{Distribution, IsDistribution, no_edge}
 pub total-pos : (distribution : Distribution) → IsDistribution distribution → 0 < distribution.total
 total-pos distribution h =
     let one : 1 ≤ (get_or distribution.edges 0 no_edge).weight = h.weights 0 no_edge h.some in
-    let part : (get_or distribution.edges 0 no_edge).weight ≤ sum_by (λ e. e.weight) distribution.edges = get_or-le-sum_by (λ (e : Edge). e.weight) distribution.edges 0 no_edge h.some in
+    let part : (get_or distribution.edges 0 no_edge).weight ≤ sum_by (λ e. e.weight) distribution.edges =
+    get_or-le-sum_by (λ (e : Edge). e.weight) distribution.edges 0 no_edge h.some in
     let same : sum_by (λ e. e.weight) distribution.edges ≡ distribution.total = h.sums in
     omega arith

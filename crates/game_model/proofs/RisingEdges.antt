@@ -10,7 +10,8 @@ pub RiseFrom-less : (less least : ℕ) (edges : List Edge) → less ≤ least �
 RiseFrom-less less least [] h rise = tt
 RiseFrom-less less least (e ∷ edges) h rise = (omega (arith, rise.0), rise.1, rise.2)
 
-least-at : (least : ℕ) (edges : List Edge) (j : ℕ) → RiseFrom least edges → j < length edges → least ≤ slice_index (destinations edges) j
+least-at : (least : ℕ) (edges : List Edge) (j : ℕ) → RiseFrom least edges → j < length edges
+    → least ≤ slice_index (destinations edges) j
 least-at least [] j rise h = absurd (omega arith)
 least-at least (e ∷ edges) zero rise h = rise.0
 least-at least (e ∷ edges) (suc j) rise h = omega (arith, least-at (e.to + 1) edges j rise.2 (omega arith), rise.0)
@@ -20,19 +21,23 @@ IsRising-from least [] rise i j h l = absurd (omega arith)
 IsRising-from least (e ∷ edges) rise zero zero h l = absurd (omega arith)
 IsRising-from least (e ∷ edges) rise zero (suc j) h l = omega (arith, least-at (e.to + 1) edges j rise.2 (omega arith))
 IsRising-from least (e ∷ edges) rise (suc i) zero h l = absurd (omega arith)
-IsRising-from least (e ∷ edges) rise (suc i) (suc j) h l = IsRising-from (e.to + 1) edges rise.2 i j (omega arith) (omega arith)
+IsRising-from least (e ∷ edges) rise (suc i) (suc j) h l =
+    IsRising-from (e.to + 1) edges rise.2 i j (omega arith) (omega arith)
 
 pub weighty-from : (least : ℕ) (edges : List Edge) → RiseFrom least edges → All (λ e. 1 ≤ e.weight) edges
 weighty-from least [] rise = All-nil (λ (e : Edge). 1 ≤ e.weight)
-weighty-from least (e ∷ edges) rise = All-cons (λ (e : Edge). 1 ≤ e.weight) e edges rise.1 (weighty-from (e.to + 1) edges rise.2)
+weighty-from least (e ∷ edges) rise =
+    All-cons (λ (e : Edge). 1 ≤ e.weight) e edges rise.1 (weighty-from (e.to + 1) edges rise.2)
 
 -- from the places of a list
-pub RiseFrom-rising : (least : ℕ) (edges : List Edge) → ((d : Edge) → 0 < length edges → least ≤ (get_or edges 0 d).to) → IsRising edges → All (λ e. 1 ≤ e.weight) edges → RiseFrom least edges
+pub RiseFrom-rising : (least : ℕ) (edges : List Edge) → ((d : Edge) → 0 < length edges → least ≤ (get_or edges 0 d).to)
+    → IsRising edges → All (λ e. 1 ≤ e.weight) edges → RiseFrom least edges
 RiseFrom-rising least [] first rising weighty = tt
 RiseFrom-rising least (e ∷ edges) first rising weighty = (
   first e (omega arith),
   weighty 0 e (omega arith),
-  RiseFrom-rising (e.to + 1) edges (next edges rising) (λ i j h l. rising (suc i) (suc j) (omega arith) (omega arith)) (λ k d l. weighty (suc k) d (omega arith)),
+  RiseFrom-rising (e.to + 1) edges (next edges rising) (λ i j h l. rising (suc i) (suc j) (omega arith) (omega arith))
+      (λ k d l. weighty (suc k) d (omega arith)),
 )
   where
     next : (rest : List Edge) → IsRising (e ∷ rest) → (d : Edge) → 0 < length rest → e.to + 1 ≤ (get_or rest 0 d).to

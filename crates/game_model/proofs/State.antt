@@ -12,7 +12,8 @@ use Rattle.game_model.proofs.Same.{last-push, push-below}
 use Rattle.game_model.proofs.Push.{draft_at}
 use Rattle.game_model.proofs.Facts.{choice-inside, choice-is}
 
-module _ (fc fe totals to low high fc' : List ℕ) (h : AreFlatLists fc fe totals to low high) (is : fc' ≡ fc ++ (length fe - 1) ∷ []) where
+module _ (fc fe totals to low high fc' : List ℕ) (h : AreFlatLists fc fe totals to low high)
+    (is : fc' ≡ fc ++ (length fe - 1) ∷ []) where
   length-fc : length fc' ≡ length fc + 1
   length-fc = ap length is ∙ length_push fc (length fe - 1)
 
@@ -22,16 +23,21 @@ module _ (fc fe totals to low high fc' : List ℕ) (h : AreFlatLists fc fe total
   same-fc : (s : ℕ) → s < length fc → slice_index fc' s ≡ slice_index fc s
   same-fc s l = ap (λ xs. slice_index xs s) is ∙ push-below fc (length fe - 1) s l
 
-  choices-same : (s : ℕ) → s + 1 < length fc → choices_at fc' fe totals to low high s ≡ choices_at fc fe totals to low high s
+  choices-same : (s : ℕ) → s + 1 < length fc
+      → choices_at fc' fe totals to low high s ≡ choices_at fc fe totals to low high s
   choices-same s l =
       ap (λ n. span (distribution_at fe totals to low high) n (slice_index fc' (s + 1) - n)) (same-fc s (omega arith))
-      ∙ ap (λ n. span (distribution_at fe totals to low high) (slice_index fc s) (n - slice_index fc s)) (same-fc (s + 1) l)
+      ∙ ap (λ n. span (distribution_at fe totals to low high) (slice_index fc s) (n - slice_index fc s))
+      (same-fc (s + 1) l)
 
   choices-last : choices_at fc' fe totals to low high (length fc - 1) ≡ under_way_at fc fe totals to low high
   choices-last =
       let some : 0 < length fc = h.laid_out.states.some in
-      let end_is : slice_index fc' (length fc - 1 + 1) ≡ length fe - 1 = ap (λ xs. slice_index xs (length fc - 1 + 1)) is ∙ get_or_push fc (length fe - 1) 0 (length fc - 1 + 1) (omega arith) in
-      ap (λ n. span (distribution_at fe totals to low high) n (slice_index fc' (length fc - 1 + 1) - n)) (same-fc (length fc - 1) (omega arith))
+      let end_is : slice_index fc' (length fc - 1 + 1) ≡ length fe - 1 =
+      ap (λ xs. slice_index xs (length fc - 1 + 1)) is
+      ∙ get_or_push fc (length fe - 1) 0 (length fc - 1 + 1) (omega arith) in
+      ap (λ n. span (distribution_at fe totals to low high) n (slice_index fc' (length fc - 1 + 1) - n))
+      (same-fc (length fc - 1) (omega arith))
       ∙ ap (λ n. span (distribution_at fe totals to low high) (last_of fc) (n - last_of fc)) end_is
 
   under_way-none : under_way_at fc' fe totals to low high ≡ []
@@ -48,19 +54,23 @@ module _ (fc fe totals to low high fc' : List ℕ) (h : AreFlatLists fc fe total
       ∙ ap (λ g. record { done = g; under_way = [] })
       (ap (span (choices_at fc' fe totals to low high) 0) count_is
       ∙ span-more (choices_at fc' fe totals to low high) 0 (length fc - 1)
-      ∙ ap (λ n. span (choices_at fc' fe totals to low high) 0 (length fc - 1) ++ choices_at fc' fe totals to low high n ∷ []) place_is
+      ∙ ap (λ n. span (choices_at fc' fe totals to low high) 0 (length fc - 1)
+      ++ choices_at fc' fe totals to low high n ∷ []) place_is
       ∙ ap (λ cs. span (choices_at fc' fe totals to low high) 0 (length fc - 1) ++ cs ∷ []) choices-last
-      ∙ ap (λ g. g ++ under_way_at fc fe totals to low high ∷ []) (span-same (choices_at fc' fe totals to low high) (choices_at fc fe totals to low high) 0 (length fc - 1) (λ s from upto. choices-same s (omega arith))))
+      ∙ ap (λ g. g ++ under_way_at fc fe totals to low high ∷ []) (span-same (choices_at fc' fe totals to low high)
+      (choices_at fc fe totals to low high) 0 (length fc - 1) (λ s from upto. choices-same s (omega arith))))
 
 -- a draft whose states are few, and have choices within, is a game
-pub finished : (fc fe totals to low high : List ℕ) (game : List (List Distribution)) → AreFlatLists fc fe totals to low high → game_at fc fe totals to low high ≡ game
-    → 0 < length game → length game ≤ most_states → All (λ c. 0 < length c) game → All (λ c. length c ≤ most_choices) game
+pub finished : (fc fe totals to low high : List ℕ) (game : List (List Distribution))
+    → AreFlatLists fc fe totals to low high → game_at fc fe totals to low high ≡ game → 0 < length game
+    → length game ≤ most_states → All (λ c. 0 < length c) game → All (λ c. length c ≤ most_choices) game
     → All (λ c. All (λ m. All (λ e. e.to < length game) m.edges) c) game → IsGame (game_at fc fe totals to low high)
 finished fc fe totals to low high game h is some few chosen bounded inside = subst IsGame (sym is) (record {
   some = some;
   few = few;
   chosen = λ s l. chosen s [] l;
   bounded = λ s l. bounded s [] l;
-  distribution = λ s c l k. subst IsDistribution (choice-is fc fe totals to low high game is s c l k) (h.distributions _ (choice-inside fc fe totals to low high game is h.laid_out s c l k));
+  distribution = λ s c l k. subst IsDistribution (choice-is fc fe totals to low high game is s c l k)
+      (h.distributions _ (choice-inside fc fe totals to low high game is h.laid_out s c l k));
   inside = λ s c l k. inside s [] l c no_distribution k;
 })

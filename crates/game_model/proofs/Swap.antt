@@ -1,5 +1,6 @@
 -- The swapped question: not being lost for k steps is not losing in k steps.
-use Rattle.std.proofs.Common.{◌≡◌, ℕ, zero, suc, ◌+◌, ◌*◌, ◌/◌, ◌^◌, ◌<◌, Bool, true, false, List, [], ◌∷◌, length, fold, max, min, arith, refl, sym, ap, subst}
+use Rattle.std.proofs.Common.{◌≡◌, ℕ, zero, suc, ◌+◌, ◌*◌, ◌/◌, ◌^◌, ◌<◌, Bool, true, false, List, [], ◌∷◌, length}
+use Rattle.std.proofs.Common.{fold, max, min, arith, refl, sym, ap, subst}
 use Rattle.std.specs.List.{AllByRecursion}
 use Rattle.std.specs.Prelude.{slice_index_or}
 use Rattle.std.specs.Bool.{if◌then◌else◌}
@@ -17,17 +18,21 @@ use Rattle.game_model.proofs.Choices.{IsChoiceOf, AreChoicesOf}
 use Rattle.game_model.proofs.Best.{weighted_sum-both}
 
 -- the better of one side and of the other
-better-both : (side : Side) (m x y x' y' : ℕ) → x + x' ≡ m → y + y' ≡ m → better side x y + better (other_side side) x' y' ≡ m
+better-both : (side : Side) (m x y x' y' : ℕ) → x + x' ≡ m → y + y' ≡ m
+    → better side x y + better (other_side side) x' y' ≡ m
 better-both Max m x y x' y' h k = let at : max x y + min x' y' ≡ m = omega arith in at
 better-both Min m x y x' y' h k = let at : min x y + max x' y' ≡ m = omega arith in at
 
-fold-better-both : {X : Type 0} (side : Side) (f g : X → ℕ) (m x x' : ℕ) (xs : List X) → x + x' ≡ m → AllByRecursion (λ y. f y + g y ≡ m) xs
+fold-better-both : {X : Type 0} (side : Side) (f g : X → ℕ) (m x x' : ℕ) (xs : List X)
+    → x + x' ≡ m → AllByRecursion (λ y. f y + g y ≡ m) xs
     → fold (λ best y. better side best (f y)) x xs + fold (λ best y. better (other_side side) best (g y)) x' xs ≡ m
 fold-better-both side f g m x x' [] h k = h
-fold-better-both side f g m x x' (y ∷ ys) h k = fold-better-both side f g m (better side x (f y)) (better (other_side side) x' (g y)) ys (better-both side m x (f y) x' (g y) h k.0) k.1
+fold-better-both side f g m x x' (y ∷ ys) h k = fold-better-both side f g m (better side x (f y))
+    (better (other_side side) x' (g y)) ys (better-both side m x (f y) x' (g y) h k.0) k.1
 
 -- the optimum of one side and of the other
-optimum-both : {X : Type 0} (side : Side) (f g : X → ℕ) (m : ℕ) (xs : List X) → 0 < length xs → AllByRecursion (λ y. f y + g y ≡ m) xs → optimum side f xs + optimum (other_side side) g xs ≡ m
+optimum-both : {X : Type 0} (side : Side) (f g : X → ℕ) (m : ℕ) (xs : List X) → 0 < length xs
+    → AllByRecursion (λ y. f y + g y ≡ m) xs → optimum side f xs + optimum (other_side side) g xs ≡ m
 optimum-both side f g m [] h k = absurd (omega arith)
 optimum-both side f g m (x ∷ xs) h k = fold-better-both side f g m (f x) (g x) xs k.0 k.1
 
@@ -48,24 +53,33 @@ scaled-both : (d w p x y : ℕ) → d / w * w ≡ d → x + y ≡ w * p → d / 
 scaled-both d w p x y same both = omega (arith, ap (λ n. d / w * n) both, ap (λ n. n * p) same)
 
 -- the side of the swapped question
-side_at-swapped : (q : Query) (lost : List Bool) (s : ℕ) → s < length q.sides → side_at (swapped q lost) s ≡ other_side (side_at q s)
+side_at-swapped : (q : Query) (lost : List Bool) (s : ℕ) → s < length q.sides
+    → side_at (swapped q lost) s ≡ other_side (side_at q s)
 side_at-swapped q lost s inside = get_or-map other_side q.sides s Max Max inside
 
 -- what is not lost after k steps and what is lost by then make the whole
-pub open_numerator-swapped : (q : Query) (lost : List Bool) → AreChoicesOf q.game (choices_of q.game) → length q.sides ≡ length q.game → ((s : ℕ) → slice_index_or lost s false ≡ true → is_goal q s ≡ false)
-    → (k s : ℕ) → s < length q.game → open_numerator q lost k s + numerator (swapped q lost) k s ≡ denominator q.game ^ k
+pub open_numerator-swapped : (q : Query) (lost : List Bool) → AreChoicesOf q.game (choices_of q.game)
+    → length q.sides ≡ length q.game → ((s : ℕ) → slice_index_or lost s false ≡ true → is_goal q s ≡ false) → (k s : ℕ)
+    → s < length q.game → open_numerator q lost k s + numerator (swapped q lost) k s ≡ denominator q.game ^ k
 unfolding open_numerator numerator_of
-open_numerator-swapped q lost chosen sides apart zero s inside = opening-both (slice_index_or lost s false) (denominator q.game)
+open_numerator-swapped q lost chosen sides apart zero s inside =
+    opening-both (slice_index_or lost s false) (denominator q.game)
 open_numerator-swapped q lost chosen sides apart (suc k) s inside =
     let D : ℕ = denominator q.game in
     let f : Distribution → ℕ = λ m. D / m.total * weighted_sum (open_numerator q lost k) m.edges in
     let g : Distribution → ℕ = λ m. D / m.total * weighted_sum (numerator (swapped q lost) k) m.edges in
     let each : AllByRecursion (λ m. f m + g m ≡ D ^ suc k) (choices_of q.game s) =
-    AllByRecursion-weaker (IsChoiceOf q.game) _ (λ m fits. rw pow-suc (scaled-both D m.total (D ^ k) (weighted_sum (open_numerator q lost k) m.edges) (weighted_sum (numerator (swapped q lost) k) m.edges) fits.divides
-    (subst (λ w. weighted_sum (open_numerator q lost k) m.edges + weighted_sum (numerator (swapped q lost) k) m.edges ≡ w * D ^ k) fits.sums
+    AllByRecursion-weaker (IsChoiceOf q.game) _ (λ m fits. rw pow-suc (scaled-both D m.total (D ^ k)
+    (weighted_sum (open_numerator q lost k) m.edges) (weighted_sum (numerator (swapped q lost) k) m.edges) fits.divides
+    (subst (λ w. weighted_sum (open_numerator q lost k) m.edges + weighted_sum (numerator (swapped q lost) k) m.edges
+    ≡ w * D ^ k) fits.sums
     (weighted_sum-both (open_numerator q lost k) (numerator (swapped q lost) k) (D ^ k) m.edges
-    (AllByRecursion-weaker (λ (e : Edge). e.to < length q.game) _ (λ e within. open_numerator-swapped q lost chosen sides apart k e.to within) m.edges fits.inside))))) (choices_of q.game s) (chosen.each s) in
-    let best : optimum (side_at q s) f (choices_of q.game s) + optimum (side_at (swapped q lost) s) g (choices_of q.game s) ≡ D ^ suc k =
-    subst (λ side. optimum (side_at q s) f (choices_of q.game s) + optimum side g (choices_of q.game s) ≡ D ^ suc k) (sym (side_at-swapped q lost s (subst (λ n. s < n) (sym sides) inside)))
+    (AllByRecursion-weaker (λ (e : Edge). e.to < length q.game) _
+    (λ e within. open_numerator-swapped q lost chosen sides apart k e.to within) m.edges fits.inside)))))
+    (choices_of q.game s) (chosen.each s) in
+    let best : optimum (side_at q s) f (choices_of q.game s)
+    + optimum (side_at (swapped q lost) s) g (choices_of q.game s) ≡ D ^ suc k =
+    subst (λ side. optimum (side_at q s) f (choices_of q.game s) + optimum side g (choices_of q.game s) ≡ D ^ suc k)
+    (sym (side_at-swapped q lost s (subst (λ n. s < n) (sym sides) inside)))
     (optimum-both (side_at q s) f g (D ^ suc k) (choices_of q.game s) (chosen.some s inside) each) in
     marked-both (is_goal q s) (slice_index_or lost s false) (D ^ suc k) _ _ (apart s) best

@@ -1,6 +1,7 @@
--- A game in flat lists: where the choices of each state begin, where the edges of each choice begin, what is kept for the
--- totals (0 for one of 2^64 or more), the successors and the weights.
-use Rattle.std.specs.Prelude.{◌≡◌, ℕ, ◌+◌, ◌-◌, ◌*◌, ◌^◌, ◌<◌, ◌≤◌, ◌==◌, nat_lt, if◌then◌else◌, List, length, slice_index}
+-- A game in flat lists: where the choices of each state begin, where the edges of each choice begin,
+-- what is kept for the totals (0 for one of 2^64 or more), the successors and the weights.
+use Rattle.std.specs.Prelude.{◌≡◌, ℕ, ◌+◌, ◌-◌, ◌*◌, ◌^◌, ◌<◌, ◌≤◌, ◌==◌, nat_lt, if◌then◌else◌, List, length}
+use Rattle.std.specs.Prelude.{slice_index}
 use Rattle.game_model.specs.declared.game.Edge.{Edge}
 use Rattle.game_model.specs.Game.{Distribution, IsDistribution, total_of}
 use Rattle.game_model.specs.Span.{span}

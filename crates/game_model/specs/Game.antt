@@ -1,5 +1,6 @@
 -- What contracts see of a choice and of a game, and the facts that each of them keeps.
-use Rattle.std.specs.Prelude.{◌≡◌, ℕ, ◌-◌, ◌<◌, ◌≤◌, ◌==◌, if◌then◌else◌, List, [], length, map, sum_by, take, drop, flat_map, All, slice_index, slice_index_or}
+use Rattle.std.specs.Prelude.{◌≡◌, ℕ, ◌-◌, ◌<◌, ◌≤◌, ◌==◌, if◌then◌else◌, List, [], length, map, sum_by, take, drop}
+use Rattle.std.specs.Prelude.{flat_map, All, slice_index, slice_index_or}
 use Rattle.game_model.specs.declared.game.Edge.{Edge}
 use Rattle.game_model.specs.Limits.{most_states, most_choices, total_bound}
 

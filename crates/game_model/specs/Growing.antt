@@ -1,5 +1,6 @@
 -- How the lists behind a game grow, and stay where they are in use.
-use Rattle.std.specs.Prelude.{◌≡◌, ℕ, ◌+◌, ◌-◌, List, [], ◌∷◌, ◌++◌, length, map, take, replicate, slice_index, slice_index_or, ◌<◌, ◌/◌, ◌%◌, ◌^◌}
+use Rattle.std.specs.Prelude.{◌≡◌, ℕ, ◌+◌, ◌-◌, List, [], ◌∷◌, ◌++◌, length, map, take, replicate, slice_index}
+use Rattle.std.specs.Prelude.{slice_index_or, ◌<◌, ◌/◌, ◌%◌, ◌^◌}
 use Rattle.game_model.specs.declared.game.Edge.{Edge}
 use Rattle.game_model.specs.Game.{no_edge, total_of}
 use Rattle.game_model.specs.Flat.{kept_total, last_of}

@@ -1,5 +1,6 @@
 -- The values where one side plays a plan: a memoryless strategy.
-use Rattle.std.specs.Prelude.{ℕ, Bool, true, false, List, length, slice_index_or, if◌then◌else◌, Option, None, unwrap_or, nat_lt, take, drop}
+use Rattle.std.specs.Prelude.{ℕ, Bool, true, false, List, length, slice_index_or, if◌then◌else◌, Option, None}
+use Rattle.std.specs.Prelude.{unwrap_or, nat_lt, take, drop}
 use Rattle.game_model.specs.declared.game.Side.{Side}
 use Rattle.game_model.specs.declared.game.Side.TheVariants.{Max, Min}
 use Rattle.game_model.specs.Game.{Distribution, choices_of}

@@ -1,12 +1,15 @@
 -- Bytes that are cut at the first LF.
-use Rattle.std.proofs.Common.{◌≡◌, ◌≤◌, ◌+◌, ◌-◌, ℕ, List, [], ◌∷◌, ◌++◌, take, drop, Some, None, sym, ap, ◌∙◌, arith, add-one}
+use Rattle.std.proofs.Common.{◌≡◌, ◌≤◌, ◌+◌, ◌-◌, ℕ, List, [], ◌∷◌, ◌++◌, take, drop, Some, None, sym, ap, ◌∙◌, arith}
+use Rattle.std.proofs.Common.{add-one}
 use Rattle.std.proofs.lemmas.List.{drop-drop, drop-take}
 use Rattle.memchr.specs.Find.{IsFirstByte, is_byte}
 use Rattle.text_lines.proofs.Endings as ending
 use Rattle.game_outside.specs.LineTexts.{IsCut, IsUncut}
 
-pub without_lf : (line line' held held' : List ℕ) → IsFirstByte (is_byte 10) held None → line' ≡ line ++ held → held' ≡ [] → IsUncut line line' held held'
-without_lf line line' held held' nowhere grown none = record { no_lf = ending.without_lf held nowhere; grown = grown; none = none }
+pub without_lf : (line line' held held' : List ℕ) → IsFirstByte (is_byte 10) held None → line' ≡ line ++ held
+    → held' ≡ [] → IsUncut line line' held held'
+without_lf line line' held held' nowhere grown none =
+    record { no_lf = ending.without_lf held nowhere; grown = grown; none = none }
 
 pub cut_at_lf : (line line' held held' : List ℕ) (place : ℕ) → IsFirstByte (is_byte 10) held (Some place)
     → line' ≡ line ++ take place held → held' ≡ drop (place + 1) held → IsCut line line' held held'
@@ -20,7 +23,8 @@ cut_at_lf line line' held held' place first grown rest =
     }
 
 -- what is held of a piece, less its first bytes
-pub drop_held : (bytes : List ℕ) (begin end count : ℕ) → begin + count ≤ end → take (end - (begin + count)) (drop (begin + count) bytes) ≡ drop count (take (end - begin) (drop begin bytes))
+pub drop_held : (bytes : List ℕ) (begin end count : ℕ) → begin + count ≤ end
+    → take (end - (begin + count)) (drop (begin + count) bytes) ≡ drop count (take (end - begin) (drop begin bytes))
 drop_held bytes begin end count within =
     ap (λ t. take (end - (begin + count)) t) (sym (drop-drop count begin bytes))
     ∙ sym (drop-take count (end - (begin + count)) (drop begin bytes))

@@ -1,5 +1,6 @@
 -- A text that is read in part: what is still to be said of its lines decides what is said of the whole.
-use Rattle.std.proofs.Common.{◌≡◌, ◌≤◌, inl, inr, ℕ, true, false, List, [], ◌∷◌, ◌++◌, length, Option, Result, Ok, Err, IsErr, IsErrAnd, sym, ap, refl, subst, arith, append_assoc}
+use Rattle.std.proofs.Common.{◌≡◌, ◌≤◌, inl, inr, ℕ, true, false, List, [], ◌∷◌, ◌++◌, length, Option, Result, Ok, Err}
+use Rattle.std.proofs.Common.{IsErr, IsErrAnd, sym, ap, refl, subst, arith, append_assoc}
 use Rattle.std.proofs.lemmas.Bool.{cases_Bool}
 use Rattle.std.proofs.lemmas.List.{append-nil, length-append}
 use Rattle.std.specs.Io.KnownBytes.{IsAtEnd}
@@ -19,25 +20,31 @@ none_left (b ∷ bytes) is = absurd (omega (arith, is))
 
 module _ {A : Type 0} (holding : Option Holding) (name : List ℕ) (Whole : List (List ℕ) → A → Type 0) where
   -- these bytes were taken, and what `Still` says of the lines to come, `Whole` says of all
-  pub record IsPartRead (rest : Option (List ℕ)) (text : TextUnderWay) (Still : List (List ℕ) → A → Type 0) : Type 0 where
+  pub record IsPartRead (rest : Option (List ℕ)) (text : TextUnderWay)
+      (Still : List (List ℕ) → A → Type 0) : Type 0 where
     pub bytes : List ℕ
     pub so_far : IsReadSoFar holding name rest bytes
     pub count : text.taken ≡ length bytes
     pub at_end : text.ended ≡ true → IsAtEnd rest
-    pub goes_on : (behind : List ℕ) → MayFollow text behind → (answer : A) → Still (lines_of (text.held ++ behind)) answer → Whole (lines_of (bytes ++ behind)) answer
+    pub goes_on : (behind : List ℕ) → MayFollow text behind → (answer : A)
+        → Still (lines_of (text.held ++ behind)) answer → Whole (lines_of (bytes ++ behind)) answer
 
-  pub begins : (rest : Option (List ℕ)) (text : TextUnderWay) (Still : List (List ℕ) → A → Type 0) → Begins holding name rest
-      → text.held ≡ [] → text.taken ≡ 0 → text.ended ≡ false → ((lines : List (List ℕ)) (answer : A) → Still lines answer → Whole lines answer) → IsPartRead rest text Still
+  pub begins : (rest : Option (List ℕ)) (text : TextUnderWay) (Still : List (List ℕ) → A → Type 0)
+      → Begins holding name rest → text.held ≡ [] → text.taken ≡ 0 → text.ended ≡ false
+      → ((lines : List (List ℕ)) (answer : A) → Still lines answer → Whole lines answer) → IsPartRead rest text Still
   begins rest text Still b none taken going same = record {
     bytes = [];
     so_far = begun holding name rest b;
     count = taken;
     at_end = λ over. cc;
-    goes_on = λ behind _ answer still. same (lines_of behind) answer (subst (λ t. Still (lines_of (t ++ behind)) answer) none still);
+    goes_on = λ behind _ answer still.
+        same (lines_of behind) answer (subst (λ t. Still (lines_of (t ++ behind)) answer) none still);
   }
 
-  pub line_read : (rest rest' : Option (List ℕ)) (old new : TextUnderWay) (Still Still' : List (List ℕ) → A → Type 0) (line : List ℕ)
-      → IsPartRead rest old Still → GivesLine old new rest rest' line → ((lines : List (List ℕ)) (answer : A) → Still' lines answer → Still (line ∷ lines) answer) → IsPartRead rest' new Still'
+  pub line_read : (rest rest' : Option (List ℕ)) (old new : TextUnderWay) (Still Still' : List (List ℕ) → A → Type 0)
+      (line : List ℕ) → IsPartRead rest old Still → GivesLine old new rest rest' line
+      → ((lines : List (List ℕ)) (answer : A) → Still' lines answer → Still (line ∷ lines) answer)
+      → IsPartRead rest' new Still'
   line_read rest rest' old new Still Still' line part gives step = record {
     bytes = part.bytes ++ gives.more;
     so_far = read_more holding name rest rest' part.bytes gives.more part.so_far gives.takes.consumed;
@@ -50,8 +57,10 @@ module _ {A : Type 0} (holding : Option Holding) (name : List ℕ) (Whole : List
         (subst (λ ls. Still ls answer) (sym (gives.first behind follows)) (step _ answer still))));
   }
 
-  pub all_read : (rest rest' : Option (List ℕ)) (old new : TextUnderWay) (Still : List (List ℕ) → A → Type 0) (line : List ℕ) (limit : ℕ) (answer : A)
-      → IsPartRead rest old Still → MeetsEnd old new rest rest' line → (old.ended ≡ true → rest' ≡ rest) → old.taken ≤ limit → Still [] answer → HeldTextWith holding name limit (λ text. Whole (lines_of text) answer)
+  pub all_read : (rest rest' : Option (List ℕ)) (old new : TextUnderWay) (Still : List (List ℕ) → A → Type 0)
+      (line : List ℕ) (limit : ℕ) (answer : A) → IsPartRead rest old Still → MeetsEnd old new rest rest' line
+      → (old.ended ≡ true → rest' ≡ rest) → old.taken ≤ limit → Still [] answer
+      → HeldTextWith holding name limit (λ text. Whole (lines_of text) answer)
   all_read rest rest' old new Still line limit answer part end still_there within still = record {
     text = part.bytes;
     told = read_whole holding name rest rest' part.bytes part.so_far end.takes.consumed
@@ -64,31 +73,40 @@ module _ {A : Type 0} (holding : Option Holding) (name : List ℕ) (Whole : List
         (part.goes_on [] (λ _. refl) answer (subst (λ t. Still (lines_of (t ++ [])) answer) (sym end.held) still));
   }
 
-  pub rest_dropped : (rest rest' : Option (List ℕ)) (old new : TextUnderWay) (Still : List (List ℕ) → A → Type 0) (limit : ℕ) (answer : A)
-      → IsPartRead rest old Still → Drops old new rest rest' → (old.ended ≡ true → rest' ≡ rest) → (old.ended ≡ true → new.taken ≡ old.taken) → new.taken ≤ limit
-      → ((lines : List (List ℕ)) → Still lines answer) → HeldTextWith holding name limit (λ text. Whole (lines_of text) answer)
+  pub rest_dropped : (rest rest' : Option (List ℕ)) (old new : TextUnderWay) (Still : List (List ℕ) → A → Type 0)
+      (limit : ℕ) (answer : A) → IsPartRead rest old Still → Drops old new rest rest'
+      → (old.ended ≡ true → rest' ≡ rest) → (old.ended ≡ true → new.taken ≡ old.taken)
+      → new.taken ≤ limit → ((lines : List (List ℕ)) → Still lines answer)
+      → HeldTextWith holding name limit (λ text. Whole (lines_of text) answer)
   rest_dropped rest rest' old new Still limit answer part drops still_there none within still = record {
     text = part.bytes ++ drops.more;
-    told = read_whole holding name rest' rest' (part.bytes ++ drops.more) (read_more holding name rest rest' part.bytes drops.more part.so_far drops.takes.consumed) (consumes_none rest')
+    told = read_whole holding name rest' rest' (part.bytes ++ drops.more)
+        (read_more holding name rest rest' part.bytes drops.more part.so_far drops.takes.consumed) (consumes_none rest')
         (elim (cases_Bool old.ended) [
           | inl over ↦ subst (λ t. IsAtEnd t) (sym (still_there over)) (part.at_end over)
           | inr going ↦ drops.takes.end going drops.ended
         ]);
     within = omega (arith, part.count, drops.takes.count, length-append part.bytes drops.more, within);
-    holds = part.goes_on drops.more (λ over. none_left drops.more (omega (arith, none over, drops.takes.count))) answer (still _);
+    holds = part.goes_on drops.more
+        (λ over. none_left drops.more (omega (arith, none over, drops.takes.count))) answer (still _);
   }
 
-  pub limit_passed : (rest rest' : Option (List ℕ)) (text : TextUnderWay) (Still : List (List ℕ) → A → Type 0) (limit : ℕ)
-      → IsPartRead rest text Still → text.limit ≡ limit → PassesLimit text rest rest' → IsHeldLonger holding name limit
+  pub limit_passed : (rest rest' : Option (List ℕ)) (text : TextUnderWay) (Still : List (List ℕ) → A → Type 0)
+      (limit : ℕ) → IsPartRead rest text Still → text.limit ≡ limit → PassesLimit text rest rest'
+      → IsHeldLonger holding name limit
   limit_passed rest rest' text Still limit part is passes =
-      longer holding name rest rest' part.bytes passes.more limit part.so_far passes.consumed (omega (arith, part.count, is, passes.over))
+      longer holding name rest rest' part.bytes passes.more limit part.so_far passes.consumed
+      (omega (arith, part.count, is, passes.over))
 
 -- an end of reading is that of the file
-pub ends_so : {X F : Type 0} (Answers : List ℕ → Result X F → Type 0) (holding : Option Holding) (name : List ℕ) (limit : ℕ) (end : ReadEnd) (result : Result X (FileEnd F))
-    → result ≡ Err (of_read end) → (end ≡ read.TooLong → IsHeldLonger holding name limit) → ReadsFile Answers holding name limit result
-ends_so Answers holding name limit end result is longer = subst (λ r. ReadsFile Answers holding name limit r) (sym is) (by end longer)
+pub ends_so : {X F : Type 0} (Answers : List ℕ → Result X F → Type 0) (holding : Option Holding)
+    (name : List ℕ) (limit : ℕ) (end : ReadEnd) (result : Result X (FileEnd F)) → result ≡ Err (of_read end)
+    → (end ≡ read.TooLong → IsHeldLonger holding name limit) → ReadsFile Answers holding name limit result
+ends_so Answers holding name limit end result is longer =
+    subst (λ r. ReadsFile Answers holding name limit r) (sym is) (by end longer)
   where
-    by : (end : ReadEnd) → (end ≡ read.TooLong → IsHeldLonger holding name limit) → ReadsFile Answers holding name limit (Err (of_read end))
+    by : (end : ReadEnd) → (end ≡ read.TooLong → IsHeldLonger holding name limit)
+        → ReadsFile Answers holding name limit (Err (of_read end))
     by read.OutOfMemory longer = tt
     by read.ReadFault longer = tt
     by read.TooLong longer = longer refl

@@ -23,16 +23,19 @@ first-one P s t here there before before' = elim (cases_order s t) [
 ]
 
 over-one : (table : List ℕ) (s t : ℕ) → IsFirstOver table s → IsFirstOver table t → s ≡ t
-over-one table s t h k = first-one (λ r. slice_index table r ≤ unit) s t (λ low. omega (arith, low, h.over)) (λ low. omega (arith, low, k.over)) h.before k.before
+over-one table s t h k = first-one (λ r. slice_index table r ≤ unit) s t (λ low. omega (arith, low, h.over))
+    (λ low. omega (arith, low, k.over)) h.before k.before
 
 above-one : (q : Query) (table : ℕ → ℕ) (s t : ℕ) → IsFirstAbove q table s → IsFirstAbove q table t → s ≡ t
-above-one q table s t h k = first-one (λ r. up_step q table r ≤ table r) s t (λ low. omega (arith, low, h.above)) (λ low. omega (arith, low, k.above)) h.before k.before
+above-one q table s t h k = first-one (λ r. up_step q table r ≤ table r) s t (λ low. omega (arith, low, h.above))
+    (λ low. omega (arith, low, k.above)) h.before k.before
 
 unheld-one : (q : Query) (table : ℕ → ℕ) (s c d : ℕ) → IsFirstUnheld q table s c → IsFirstUnheld q table s d → c ≡ d
 unheld-one q table s c d h k = first-one (λ r. IsHeldAt q table s r) c d h.unheld k.unheld h.before k.before
 
 -- a state has one cause at most
-cause-one : (q : Query) (table : ℕ → ℕ) (s : ℕ) (cause other : UpperCause) → IsCauseAt q table s cause → IsCauseAt q table s other → cause ≡ other
+cause-one : (q : Query) (table : ℕ → ℕ) (s : ℕ) (cause other : UpperCause) → IsCauseAt q table s cause
+    → IsCauseAt q table s other → cause ≡ other
 cause-one q table s OverOne other h k = absurd h
 cause-one q table s Reply other h k = absurd h
 cause-one q table s Goal OverOne h k = absurd k
@@ -51,23 +54,30 @@ cause-one q table s NoReply (Above c) h k = let side : Max ≡ Min = sym k.1 ∙
 cause-one q table s NoReply NoReply h k = refl
 cause-one q table s NoReply Reply h k = absurd k
 
-raised-one : (q : Query) (upper : List ℕ) (s t : ℕ) (cause other : UpperCause) → IsNotInductiveAt q upper s cause → IsNotInductiveAt q upper t other → (s ≡ t) × (cause ≡ other)
+raised-one : (q : Query) (upper : List ℕ) (s t : ℕ) (cause other : UpperCause) → IsNotInductiveAt q upper s cause
+    → IsNotInductiveAt q upper t other → (s ≡ t) × (cause ≡ other)
 raised-one q upper s t cause other h k =
-    let same : s ≡ t = above-one q (slice_index upper) s t h.first k.first in
-    (same, cause-one q (slice_index upper) t cause other (subst (λ r. IsCauseAt q (slice_index upper) r cause) same h.caused) k.caused)
+    let same : s ≡ t = above-one q (slice_index upper) s t h.first k.first in (
+      same,
+      cause-one q (slice_index upper) t cause other
+          (subst (λ r. IsCauseAt q (slice_index upper) r cause) same h.caused) k.caused,
+    )
 
-over-raised : (q : Query) (upper : List ℕ) (s t : ℕ) (cause : UpperCause) → IsFirstOver upper s → IsNotInductiveAt q upper t cause → ⊥
+over-raised : (q : Query) (upper : List ℕ) (s t : ℕ) (cause : UpperCause) → IsFirstOver upper s
+    → IsNotInductiveAt q upper t cause → ⊥
 over-raised q upper s t cause h k = omega (arith, k.units s 0 h.inside, h.over)
 
 -- a fault is an entry above the unit, or a state that rises
-kind : (q : Query) (upper : List ℕ) (s : ℕ) (cause : UpperCause) → IsUpperFault q upper s cause → ((cause ≡ OverOne) × IsFirstOver upper s) ⊎ IsNotInductiveAt q upper s cause
+kind : (q : Query) (upper : List ℕ) (s : ℕ) (cause : UpperCause) → IsUpperFault q upper s cause
+    → ((cause ≡ OverOne) × IsFirstOver upper s) ⊎ IsNotInductiveAt q upper s cause
 kind q upper s OverOne h = inl (refl, h)
 kind q upper s Goal h = inr h
 kind q upper s (Above c) h = inr h
 kind q upper s NoReply h = inr h
 kind q upper s Reply h = absurd h
 
-pub upper_fault-one : (q : Query) (upper : List ℕ) (s t : ℕ) (cause other : UpperCause) → IsUpperFault q upper s cause → IsUpperFault q upper t other → (s ≡ t) × (cause ≡ other)
+pub upper_fault-one : (q : Query) (upper : List ℕ) (s t : ℕ) (cause other : UpperCause) → IsUpperFault q upper s cause
+    → IsUpperFault q upper t other → (s ≡ t) × (cause ≡ other)
 upper_fault-one q upper s t cause other h k = elim (kind q upper s cause h) [
   | inl over ↦ elim (kind q upper t other k) [
     | inl over' ↦ (over-one upper s t over.1 over'.1, over.0 ∙ sym over'.0)

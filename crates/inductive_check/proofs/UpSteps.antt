@@ -26,32 +26,41 @@ pub up_value-held : (table : ℕ → ℕ) (u : ℕ) (m : Distribution) → 0 < m
 up_value-held table u m positive held = ceil-most (weighted_sum table m.edges) m.total u positive (omega (arith, held))
 
 pub held-up_value : (table : ℕ → ℕ) (u : ℕ) (m : Distribution) → 0 < m.total → up_value table m ≤ u → IsHeld table u m
-held-up_value table u m positive most = omega (arith, ceil-above (weighted_sum table m.edges) m.total positive, mul-le-mul_right m.total most)
+held-up_value table u m positive most =
+    omega (arith, ceil-above (weighted_sum table m.edges) m.total positive, mul-le-mul_right m.total most)
 
 -- the up step of a goal, and of a state that is neither goal nor dead
 pub up_step-goal : (q : Query) (table : ℕ → ℕ) (s : ℕ) → is_goal q s ≡ true → up_step q table s ≡ unit
-up_step-goal q table s goal = ap (λ mark. if mark then unit else (if is_dead q s then 0 else optimum (side_at q s) (up_value table) (choices_of q.game s))) goal
+up_step-goal q table s goal = ap (λ mark. if mark then unit
+    else (if is_dead q s then 0 else optimum (side_at q s) (up_value table) (choices_of q.game s))) goal
 
-pub up_step-free : (q : Query) (table : ℕ → ℕ) (s : ℕ) → IsFree q s → up_step q table s ≡ optimum (side_at q s) (up_value table) (choices_of q.game s)
-up_step-free q table s free = ap (λ mark. if mark then unit else (if is_dead q s then 0 else optimum (side_at q s) (up_value table) (choices_of q.game s))) free.0
+pub up_step-free : (q : Query) (table : ℕ → ℕ) (s : ℕ) → IsFree q s
+    → up_step q table s ≡ optimum (side_at q s) (up_value table) (choices_of q.game s)
+up_step-free q table s free = ap (λ mark. if mark then unit
+    else (if is_dead q s then 0 else optimum (side_at q s) (up_value table) (choices_of q.game s))) free.0
     ∙ ap (λ mark. if mark then 0 else optimum (side_at q s) (up_value table) (choices_of q.game s)) free.1
 
 -- a greater table gives a choice a greater up value
-up_value-le : (game : List (List Distribution)) (v w : ℕ → ℕ) (m : Distribution) → IsChoiceOf game m → ((t : ℕ) → t < length game → v t ≤ w t) → up_value v m ≤ up_value w m
+up_value-le : (game : List (List Distribution)) (v w : ℕ → ℕ) (m : Distribution) → IsChoiceOf game m
+    → ((t : ℕ) → t < length game → v t ≤ w t) → up_value v m ≤ up_value w m
 up_value-le game v w m fits h =
     let same : up_value w m ≤ up_value w m = omega arith in
     let held : IsHeld w (up_value w m) m = held-up_value w (up_value w m) m fits.positive same in
     up_value-held v (up_value w m) m fits.positive (omega (arith, held, weighted_sum-rises game v w m fits h))
 
 -- a greater table has a greater up step
-pub up_step-le : (q : Query) (v w : ℕ → ℕ) → AreChoicesOf q.game (choices_of q.game) → IsBelow q v w → (s : ℕ) → up_step q v s ≤ up_step q w s
+pub up_step-le : (q : Query) (v w : ℕ → ℕ) → AreChoicesOf q.game (choices_of q.game) → IsBelow q v w → (s : ℕ)
+    → up_step q v s ≤ up_step q w s
 up_step-le q v w chosen h s =
-    let step : 1 * up_step q v s ≤ 1 * up_step q w s = bellman-le q (choices_of q.game) 1 1 unit unit (up_value v) (up_value w) s (omega arith)
-    (AllByRecursion-weaker (IsChoiceOf q.game) _ (λ m fits. omega (arith, up_value-le q.game v w m fits h)) (choices_of q.game s) (chosen.each s)) in
+    let step : 1 * up_step q v s ≤ 1 * up_step q w s =
+    bellman-le q (choices_of q.game) 1 1 unit unit (up_value v) (up_value w) s (omega arith)
+    (AllByRecursion-weaker (IsChoiceOf q.game) _ (λ m fits. omega (arith, up_value-le q.game v w m fits h))
+    (choices_of q.game s) (chosen.each s)) in
     omega (arith, step)
 
 -- the lesser of two inductive tables is inductive
-pub IsInductive-min : (q : Query) (v w : ℕ → ℕ) → IsQuery q → IsInductive q v → IsInductive q w → IsInductive q (λ s. min (v s) (w s))
+pub IsInductive-min : (q : Query) (v w : ℕ → ℕ) → IsQuery q → IsInductive q v → IsInductive q w
+    → IsInductive q (λ s. min (v s) (w s))
 IsInductive-min q v w h inductive inductive' s inside =
     let chosen : AreChoicesOf q.game (choices_of q.game) = AreChoicesOf-choices_of q.game h.game in
     let least : ℕ → ℕ = λ t. min (v t) (w t) in

@@ -1,5 +1,6 @@
 -- A blank line is no state and numbers.
-use Rattle.std.proofs.Common.{◌≡◌, ℕ, suc, Bool, true, false, cond, List, [], ◌∷◌, length, Some, None, Err, ap, ◌∙◌, refl, arith, eqb, ltb}
+use Rattle.std.proofs.Common.{◌≡◌, ℕ, suc, Bool, true, false, cond, List, [], ◌∷◌, length, Some, None, Err, ap, ◌∙◌}
+use Rattle.std.proofs.Common.{refl, arith, eqb, ltb}
 use Rattle.std.specs.Option.{option_map}
 use Rattle.std.specs.List.{position_or_len}
 use Rattle.std.proofs.lemmas.Bool.Decides.{nat_tests}
@@ -15,7 +16,8 @@ use Rattle.label_reader.proofs.Bodies.{add_line-unknown}
 blank_first : (b : ℕ) (bytes : List ℕ) → fields_of (b ∷ bytes) ≡ [] → (is_blank b ≡ true) × (fields_of bytes ≡ [])
 blank_first b bytes h = by (is_blank b) (ends_field bytes) (fields_of bytes) h
   where
-    by : (v e : Bool) (fields : List (List ℕ)) → cond v fields (cond e ((b ∷ []) ∷ fields) (prepend (b ∷ []) fields)) ≡ [] → (v ≡ true) × (fields ≡ [])
+    by : (v e : Bool) (fields : List (List ℕ))
+        → cond v fields (cond e ((b ∷ []) ∷ fields) (prepend (b ∷ []) fields)) ≡ [] → (v ≡ true) × (fields ≡ [])
     by true e fields g = (refl, g)
     by false true fields g = cc
     by false false [] g = cc
@@ -40,5 +42,7 @@ split_first-blank line h =
     ∙ ap (λ v. option_map (parted_at line) (cond v (Some (length line)) None)) (not_below (length line))
 
 -- a blank line is refused
-pub add_line-blank : (kind : FileKind) (n : ℕ) (items : List Item) (read : List StateLine) (line : List ℕ) → fields_of line ≡ [] → add_line kind n items read line ≡ Err BadField
-add_line-blank kind n items read line h = add_line-unknown kind n items read line BadField (ap (λ p. known_line n items (line_parts p)) (split_first-blank line h))
+pub add_line-blank : (kind : FileKind) (n : ℕ) (items : List Item) (read : List StateLine) (line : List ℕ)
+    → fields_of line ≡ [] → add_line kind n items read line ≡ Err BadField
+add_line-blank kind n items read line h = add_line-unknown kind n items read line BadField
+    (ap (λ p. known_line n items (line_parts p)) (split_first-blank line h))

@@ -12,19 +12,26 @@ use Rattle.label_reader.proofs.LabelLaws.{labels_of-found}
 use Rattle.label_reader.proofs.OwnerLaws.{owners_of-found}
 
 module _ (states : ℕ) (text : List ℕ) where
-  pub labels_of_text_sized : (result : Result Labelling LabFault) → AnswersOrWants IsOutOfMemory (λ x. x) result (labels_of text states) → IfOk result (λ l. l.states ≡ states)
+  pub labels_of_text_sized : (result : Result Labelling LabFault)
+      → AnswersOrWants IsOutOfMemory (λ x. x) result (labels_of text states) → IfOk result (λ l. l.states ≡ states)
   labels_of_text_sized (Ok l) said = (labels_of-found text states l said).states
   labels_of_text_sized (Err fault) said = tt
 
-  pub owners_of_text_sized : (result : Result Ownership LabFault) → AnswersOrWants IsOutOfMemory (λ x. x) result (owners_of text states) → IfOk result (λ o. length o.owners ≡ states)
+  pub owners_of_text_sized : (result : Result Ownership LabFault)
+      → AnswersOrWants IsOutOfMemory (λ x. x) result (owners_of text states)
+      → IfOk result (λ o. length o.owners ≡ states)
   owners_of_text_sized (Ok o) said = (owners_of-found text states o said).owners
   owners_of_text_sized (Err fault) said = tt
 
 module _ (states : ℕ) (holding : Option Holding) (name : List ℕ) (limit : ℕ) where
-  pub labels_sized : (result : Result Labelling (FileEnd LabFault)) → ReadsFile (λ text answer. labels_of text states ≡ answer) holding name limit result → IfOk result (λ l. l.states ≡ states)
+  pub labels_sized : (result : Result Labelling (FileEnd LabFault))
+      → ReadsFile (λ text answer. labels_of text states ≡ answer) holding name limit result
+      → IfOk result (λ l. l.states ≡ states)
   labels_sized (Ok l) of = (labels_of-found of.text states l of.holds).states
   labels_sized (Err end) of = tt
 
-  pub owners_sized : (result : Result Ownership (FileEnd LabFault)) → ReadsFile (λ text answer. owners_of text states ≡ answer) holding name limit result → IfOk result (λ o. length o.owners ≡ states)
+  pub owners_sized : (result : Result Ownership (FileEnd LabFault))
+      → ReadsFile (λ text answer. owners_of text states ≡ answer) holding name limit result
+      → IfOk result (λ o. length o.owners ≡ states)
   owners_sized (Ok o) of = (owners_of-found of.text states o of.holds).owners
   owners_sized (Err end) of = tt

@@ -11,7 +11,13 @@ pub labels_of-found : (text : List ℕ) (n : ℕ) (l : Labelling) → labels_of 
 labels_of-found text n l h =
     let read = said_by-found LabelFile n (labelling n) text l h in
     let P : Labelling → Type 0 = λ x. DenotesLabels text n x in
-    subst P read.made (record { items = read.items; lines = read.lines; text_is = read.text_is; states = refl; labels = AreLabels-made n read.lines read.items })
+    subst P read.made (record {
+      items = read.items;
+      lines = read.lines;
+      text_is = read.text_is;
+      states = refl;
+      labels = AreLabels-made n read.lines read.items;
+    })
 
 abbrev with_labels : ℕ → List Label → Labelling
 with_labels n labels = record { states = n; labels = labels }
@@ -19,4 +25,5 @@ with_labels n labels = record { states = n; labels = labels }
 pub labels_of-again : (text : List ℕ) (n : ℕ) (l : Labelling) → DenotesLabels text n l → labels_of text n ≡ Ok l
 labels_of-again text n l is =
     said_by-again LabelFile n (labelling n) text is.items is.lines is.text_is tt
-    ∙ ap (λ x. Ok x) (ap (λ (labels : List Label). with_labels n labels) (AreLabels-are n is.lines is.items l.labels is.labels) ∙ ap (λ m. with_labels m l.labels) (sym is.states))
+    ∙ ap (λ x. Ok x) (ap (λ (labels : List Label). with_labels n labels)
+    (AreLabels-are n is.lines is.items l.labels is.labels) ∙ ap (λ m. with_labels m l.labels) (sym is.states))

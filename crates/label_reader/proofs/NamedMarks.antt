@@ -1,5 +1,7 @@
 -- Names in a map, beside what stands at their places.
-use Rattle.std.proofs.Common.{◌≡◌, ◌<◌, ◌≤◌, ℕ, suc, zero, Bool, true, false, cond, List, [], ◌∷◌, length, replicate, get_or, Some, None, Vec, Global, All, refl, sym, ap, ◌∙◌, inl, inr, arith, is_some, bytes_eq, ltb, ◌||◌}
+use Rattle.std.proofs.Common.{◌≡◌, ◌<◌, ◌≤◌, ℕ, suc, zero, Bool, true, false, cond, List, [], ◌∷◌, length, replicate}
+use Rattle.std.proofs.Common.{get_or, Some, None, Vec, Global, All, refl, sym, ap, ◌∙◌, inl, inr, arith, is_some}
+use Rattle.std.proofs.Common.{bytes_eq, ltb, ◌||◌}
 use Rattle.std.proofs.lemmas.Bool.{cases_Bool}
 use Rattle.std.specs.List.{list_any, position_or_len}
 use Rattle.std.specs.Map.{keys_of, lookup}
@@ -45,13 +47,17 @@ not_placed true m h = cc
 not_placed false m h = refl
 
 -- a name that is not there has a place behind all sets
-pub past_sets : (entries : Entries) (sets : List (List Bool)) (name : List ℕ) → length sets ≡ length entries → ltb (place_named entries name) (length (keys_of entries)) ≡ false → length sets ≤ place_named entries name
-past_sets entries sets name same far = past (place_named entries name) (length (keys_of entries)) (length sets) (same ∙ sym (length-map entries (λ (e : Vec ℕ Global × ℕ). e.0))) far
+pub past_sets : (entries : Entries) (sets : List (List Bool)) (name : List ℕ) → length sets ≡ length entries
+    → ltb (place_named entries name) (length (keys_of entries)) ≡ false → length sets ≤ place_named entries name
+past_sets entries sets name same far = past (place_named entries name) (length (keys_of entries)) (length sets)
+    (same ∙ sym (length-map entries (λ (e : Vec ℕ Global × ℕ). e.0))) far
   where
     past : (p k n : ℕ) → n ≡ k → ltb p k ≡ false → n ≤ p
     past p k n e h = grind (arith, nat_tests)
 
-pub is_some-lookup : (entries : Entries) (name : List ℕ) → is_some (lookup (λ (k : Vec ℕ Global). bytes_eq name k.items) entries) ≡ list_any (λ n. bytes_eq name n) (names_of entries)
+pub is_some-lookup : (entries : Entries) (name : List ℕ)
+    → is_some (lookup (λ (k : Vec ℕ Global). bytes_eq name k.items) entries)
+    ≡ list_any (λ n. bytes_eq name n) (names_of entries)
 is_some-lookup [] name = refl
 is_some-lookup (entry ∷ entries) name = elim (cases_Bool (bytes_eq name entry.0.items)) [
   | inl e ↦
@@ -63,12 +69,14 @@ is_some-lookup (entry ∷ entries) name = elim (cases_Bool (bytes_eq name entry.
       ∙ sym (ap (λ v. v || list_any (λ n. bytes_eq name n) (names_of entries)) e)
 ]
 
-pub list_any-labels_named : (entries : Entries) (sets : List (List Bool)) (name : List ℕ) → length sets ≡ length entries
-    → list_any (λ n. bytes_eq name n) (names_of entries) ≡ list_any (λ (label : Label). bytes_eq name label.name) (labels_named entries sets)
+pub list_any-labels_named : (entries : Entries) (sets : List (List Bool)) (name : List ℕ)
+    → length sets ≡ length entries → list_any (λ n. bytes_eq name n) (names_of entries)
+    ≡ list_any (λ (label : Label). bytes_eq name label.name) (labels_named entries sets)
 list_any-labels_named [] [] name same = refl
 list_any-labels_named [] (marks ∷ sets) name same = absurd (omega arith)
 list_any-labels_named (entry ∷ entries) [] name same = absurd (omega arith)
-list_any-labels_named (entry ∷ entries) (marks ∷ sets) name same = ap (λ v. bytes_eq name entry.0.items || v) (list_any-labels_named entries sets name (omega arith))
+list_any-labels_named (entry ∷ entries) (marks ∷ sets) name same =
+    ap (λ v. bytes_eq name entry.0.items || v) (list_any-labels_named entries sets name (omega arith))
 
 All-front : {X : Type 0} (P : X → Type 0) (x : X) (xs : List X) → P x → All P xs → All P (x ∷ xs)
 All-front {X} P x xs first rest = each
@@ -80,10 +88,14 @@ All-front {X} P x xs first rest = each
 abbrev labelled : List ℕ → List Bool → Label
 labelled name marks = record { name = name; marks = marks }
 
-pub All-labels_named : (n : ℕ) (entries : Entries) (sets : List (List Bool)) → All (λ (marks : List Bool). length marks ≡ n) sets → All (λ (label : Label). length label.marks ≡ n) (labels_named entries sets)
+pub All-labels_named : (n : ℕ) (entries : Entries) (sets : List (List Bool))
+    → All (λ (marks : List Bool). length marks ≡ n) sets
+    → All (λ (label : Label). length label.marks ≡ n) (labels_named entries sets)
 All-labels_named n [] sets h = λ k d lt. absurd (omega arith)
 All-labels_named n (entry ∷ entries) [] h = λ k d lt. absurd (omega arith)
-All-labels_named n (entry ∷ entries) (marks ∷ sets) h = All-front (λ (label : Label). length label.marks ≡ n) (labelled entry.0.items marks) (labels_named entries sets) (h zero [] (omega arith)) (All-labels_named n entries sets (λ j e l. h (suc j) e (omega arith)))
+All-labels_named n (entry ∷ entries) (marks ∷ sets) h =
+    All-front (λ (label : Label). length label.marks ≡ n) (labelled entry.0.items marks) (labels_named entries sets)
+    (h zero [] (omega arith)) (All-labels_named n entries sets (λ j e l. h (suc j) e (omega arith)))
 
 pub places_of-replicate : (n : ℕ) → places_of (replicate n None) ≡ replicate n 0
 places_of-replicate zero = refl

@@ -1,5 +1,6 @@
 -- Sets and owners by cases are those that the relation describes.
-use Rattle.std.proofs.Common.{◌≡◌, ◌<◌, ◌⊎◌, inl, inr, ℕ, Bool, true, false, cond, List, [], ◌∷◌, ◌++◌, length, map, get_or, sym, ap, ◌∙◌, refl, arith, eqb}
+use Rattle.std.proofs.Common.{◌≡◌, ◌<◌, ◌⊎◌, inl, inr, ℕ, Bool, true, false, cond, List, [], ◌∷◌, ◌++◌, length, map}
+use Rattle.std.proofs.Common.{get_or, sym, ap, ◌∙◌, refl, arith, eqb}
 use Rattle.std.proofs.lemmas.Bool.{eqb-true, eq-eqb, or_cases, or_left, or_right, cases_Bool}
 use Rattle.std.specs.List.{list_any, range_with_len}
 use Rattle.std.proofs.lemmas.List.{ext_get_or}
@@ -21,27 +22,35 @@ one_of (other ∷ numbers) number h = elim (or_cases (eqb other number) (list_an
 
 any_of : (numbers : List ℕ) (number : ℕ) → IsOneOf numbers number → list_any (λ other. eqb other number) numbers ≡ true
 any_of [] number h = absurd h
-any_of (other ∷ numbers) number (inl e) = or_left (eqb other number) (list_any (λ o. eqb o number) numbers) (eq-eqb other number e)
-any_of (other ∷ numbers) number (inr e) = or_right (eqb other number) (list_any (λ o. eqb o number) numbers) (any_of numbers number e)
+any_of (other ∷ numbers) number (inl e) =
+    or_left (eqb other number) (list_any (λ o. eqb o number) numbers) (eq-eqb other number e)
+any_of (other ∷ numbers) number (inr e) =
+    or_right (eqb other number) (list_any (λ o. eqb o number) numbers) (any_of numbers number e)
 
 -- what the lines say
 abbrev pub among : List ℕ → ℕ → Bool
 among numbers number = list_any (λ other. eqb other number) numbers
 
-pub is_said-LineNames : (lines : List StateLine) (number s : ℕ) → is_said lines number s ≡ true → LineNames lines number s
+pub is_said-LineNames : (lines : List StateLine) (number s : ℕ) → is_said lines number s ≡ true
+    → LineNames lines number s
 is_said-LineNames [] number s h = cc
-is_said-LineNames (line ∷ lines) number s h = by (cases_Bool (eqb line.state s)) (λ e. is_said-LineNames lines number s e)
+is_said-LineNames (line ∷ lines) number s h =
+    by (cases_Bool (eqb line.state s)) (λ e. is_said-LineNames lines number s e)
   where
-    by : (eqb line.state s ≡ true) ⊎ (eqb line.state s ≡ false) → (is_said lines number s ≡ true → LineNames lines number s) → LineNames (line ∷ lines) number s
+    by : (eqb line.state s ≡ true) ⊎ (eqb line.state s ≡ false)
+        → (is_said lines number s ≡ true → LineNames lines number s) → LineNames (line ∷ lines) number s
     by (inl e) rest =
-        let both = sym (list_any-append (λ other. eqb other number) line.numbers (said_of lines s)) ∙ sym (ap (λ v. among (cond v (line.numbers ++ said_of lines s) (said_of lines s)) number) e) ∙ h in
+        let both = sym (list_any-append (λ other. eqb other number) line.numbers (said_of lines s))
+        ∙ sym (ap (λ v. among (cond v (line.numbers ++ said_of lines s) (said_of lines s)) number) e) ∙ h in
         elim (or_cases (among line.numbers number) (among (said_of lines s) number) both) [
           | inl a ↦ inl (eqb-true line.state s e, one_of line.numbers number a)
           | inr a ↦ inr (rest a)
         ]
-    by (inr e) rest = inr (rest (sym (ap (λ v. among (cond v (line.numbers ++ said_of lines s) (said_of lines s)) number) e) ∙ h))
+    by (inr e) rest =
+        inr (rest (sym (ap (λ v. among (cond v (line.numbers ++ said_of lines s) (said_of lines s)) number) e) ∙ h))
 
-pub LineNames-is_said : (lines : List StateLine) (number s : ℕ) → LineNames lines number s → is_said lines number s ≡ true
+pub LineNames-is_said : (lines : List StateLine) (number s : ℕ) → LineNames lines number s
+    → is_said lines number s ≡ true
 LineNames-is_said [] number s h = absurd h
 LineNames-is_said (line ∷ lines) number s (inl h) =
     ap (λ v. among (cond v (line.numbers ++ said_of lines s) (said_of lines s)) number) (eq-eqb line.state s h.0)
@@ -49,21 +58,28 @@ LineNames-is_said (line ∷ lines) number s (inl h) =
     ∙ or_left (among line.numbers number) (among (said_of lines s) number) (any_of line.numbers number h.1)
 LineNames-is_said (line ∷ lines) number s (inr h) = by (eqb line.state s) (LineNames-is_said lines number s h)
   where
-    by : (v : Bool) → is_said lines number s ≡ true → among (cond v (line.numbers ++ said_of lines s) (said_of lines s)) number ≡ true
-    by true e = list_any-append (λ other. eqb other number) line.numbers (said_of lines s) ∙ or_right (among line.numbers number) (among (said_of lines s) number) e
+    by : (v : Bool) → is_said lines number s ≡ true
+        → among (cond v (line.numbers ++ said_of lines s) (said_of lines s)) number ≡ true
+    by true e = list_any-append (λ other. eqb other number) line.numbers (said_of lines s)
+        ∙ or_right (among line.numbers number) (among (said_of lines s) number) e
     by false e = e
 
 -- labels
-row_at : (n : ℕ) (lines : List StateLine) (index s : ℕ) → s < n → get_or (map (is_said lines index) (range_with_len 0 n)) s false ≡ is_said lines index s
+row_at : (n : ℕ) (lines : List StateLine) (index s : ℕ) → s < n
+    → get_or (map (is_said lines index) (range_with_len 0 n)) s false ≡ is_said lines index s
 row_at n lines index s small = get_or-map-range_with_len (is_said lines index) 0 n s s false small (omega arith)
 
-pub AreLabels-made : (n : ℕ) (lines : List StateLine) (items : List Item) → AreLabels n lines items (map (label_from n lines) items)
+pub AreLabels-made : (n : ℕ) (lines : List StateLine) (items : List Item)
+    → AreLabels n lines items (map (label_from n lines) items)
 AreLabels-made n lines [] = tt
 AreLabels-made n lines (item ∷ items) = (
   record {
     name = refl;
     marks = length-map-range_with_len (is_said lines item.index) 0 n;
-    holds = λ s small. (λ h. is_said-LineNames lines item.index s (sym (row_at n lines item.index s small) ∙ h), λ h. row_at n lines item.index s small ∙ LineNames-is_said lines item.index s h);
+    holds = λ s small. (
+      λ h. is_said-LineNames lines item.index s (sym (row_at n lines item.index s small) ∙ h),
+      λ h. row_at n lines item.index s small ∙ LineNames-is_said lines item.index s h,
+    );
   },
   AreLabels-made n lines items,
 )
@@ -76,20 +92,28 @@ same_truth false false f g = refl
 abbrev labelled : List ℕ → List Bool → Label
 labelled name marks = record { name = name; marks = marks }
 
-label_is : (n : ℕ) (lines : List StateLine) (item : Item) (label : Label) → IsLabel n lines item label → label_from n lines item ≡ label
+label_is : (n : ℕ) (lines : List StateLine) (item : Item) (label : Label) → IsLabel n lines item label
+    → label_from n lines item ≡ label
 label_is n lines item label is =
-    ap (λ (marks : List Bool). labelled item.name marks) (ext_get_or false (map (is_said lines item.index) (range_with_len 0 n)) label.marks (length-map-range_with_len (is_said lines item.index) 0 n ∙ sym is.marks) each)
+    ap (λ (marks : List Bool). labelled item.name marks)
+    (ext_get_or false (map (is_said lines item.index) (range_with_len 0 n)) label.marks
+    (length-map-range_with_len (is_said lines item.index) 0 n ∙ sym is.marks) each)
     ∙ ap (λ (name : List ℕ). labelled name label.marks) (sym is.name)
   where
-    each : (s : ℕ) → s < length (map (is_said lines item.index) (range_with_len 0 n)) → get_or (map (is_said lines item.index) (range_with_len 0 n)) s false ≡ get_or label.marks s false
+    each : (s : ℕ) → s < length (map (is_said lines item.index) (range_with_len 0 n))
+        → get_or (map (is_said lines item.index) (range_with_len 0 n)) s false ≡ get_or label.marks s false
     each s h =
         let small : s < n = omega (arith, h, length-map-range_with_len (is_said lines item.index) 0 n) in
         row_at n lines item.index s small
-        ∙ same_truth (is_said lines item.index s) (get_or label.marks s false) (λ e. (is.holds s small).1 (is_said-LineNames lines item.index s e)) (λ e. LineNames-is_said lines item.index s ((is.holds s small).0 e))
+        ∙ same_truth (is_said lines item.index s) (get_or label.marks s false)
+        (λ e. (is.holds s small).1 (is_said-LineNames lines item.index s e))
+        (λ e. LineNames-is_said lines item.index s ((is.holds s small).0 e))
 
-pub AreLabels-are : (n : ℕ) (lines : List StateLine) (items : List Item) (labels : List Label) → AreLabels n lines items labels → map (label_from n lines) items ≡ labels
+pub AreLabels-are : (n : ℕ) (lines : List StateLine) (items : List Item) (labels : List Label)
+    → AreLabels n lines items labels → map (label_from n lines) items ≡ labels
 AreLabels-are n lines [] [] h = refl
 AreLabels-are n lines [] (label ∷ labels) h = absurd h
 AreLabels-are n lines (item ∷ items) [] h = absurd h
 AreLabels-are n lines (item ∷ items) (label ∷ labels) h =
-    ap (λ (l : Label). l ∷ map (label_from n lines) items) (label_is n lines item label h.0) ∙ ap (λ (ls : List Label). label ∷ ls) (AreLabels-are n lines items labels h.1)
+    ap (λ (l : Label). l ∷ map (label_from n lines) items) (label_is n lines item label h.0)
+    ∙ ap (λ (ls : List Label). label ∷ ls) (AreLabels-are n lines items labels h.1)

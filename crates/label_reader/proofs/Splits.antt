@@ -1,5 +1,7 @@
 -- Bytes that are split at the first of a byte, and what stands between quotes.
-use Rattle.std.proofs.Common.{◌≡◌, ◌≢◌, ◌<◌, ◌+◌, ◌-◌, ℕ, suc, Bool, true, false, cond, List, [], ◌∷◌, ◌++◌, length, get_or, take, drop, Some, None, sym, ap, ◌∙◌, refl, subst, arith, eqb, ltb, leb, ◌&&◌, ◌⊎◌, inl, inr, add-one}
+use Rattle.std.proofs.Common.{◌≡◌, ◌≢◌, ◌<◌, ◌+◌, ◌-◌, ℕ, suc, Bool, true, false, cond, List, [], ◌∷◌, ◌++◌, length}
+use Rattle.std.proofs.Common.{get_or, take, drop, Some, None, sym, ap, ◌∙◌, refl, subst, arith, eqb, ltb, leb, ◌&&◌}
+use Rattle.std.proofs.Common.{◌⊎◌, inl, inr, add-one}
 use Rattle.std.proofs.lemmas.Bool.{eqb-true, eqb-false, cases_Bool}
 use Rattle.std.specs.Option.{option_map}
 use Rattle.std.specs.List.{position_or_len}
@@ -26,27 +28,34 @@ pub record IsSplit (x : ℕ) (bytes front back : List ℕ) : Type 0 where
   pub first : HasNo x front
 
 -- up to the first of a byte there is none
-split_at_place : (x : ℕ) (bytes : List ℕ) → place x bytes < length bytes → IsSplit x bytes (take (place x bytes) bytes) (drop (suc (place x bytes)) bytes)
+split_at_place : (x : ℕ) (bytes : List ℕ) → place x bytes < length bytes
+    → IsSplit x bytes (take (place x bytes) bytes) (drop (suc (place x bytes)) bytes)
 split_at_place x [] h = absurd (omega arith)
 split_at_place x (b ∷ bytes) h = by (cases_Bool (eqb b x)) (λ lt. split_at_place x bytes lt)
   where
-    by : (eqb b x ≡ true) ⊎ (eqb b x ≡ false) → (place x bytes < length bytes → IsSplit x bytes (take (place x bytes) bytes) (drop (suc (place x bytes)) bytes)) → IsSplit x (b ∷ bytes) (take (place x (b ∷ bytes)) (b ∷ bytes)) (drop (suc (place x (b ∷ bytes))) (b ∷ bytes))
+    by : (eqb b x ≡ true) ⊎ (eqb b x ≡ false) → (place x bytes < length bytes
+        → IsSplit x bytes (take (place x bytes) bytes) (drop (suc (place x bytes)) bytes))
+        → IsSplit x (b ∷ bytes) (take (place x (b ∷ bytes)) (b ∷ bytes)) (drop (suc (place x (b ∷ bytes))) (b ∷ bytes))
     by (inl e) rest =
         let P : ℕ → Type 0 = λ k. IsSplit x (b ∷ bytes) (take k (b ∷ bytes)) (drop (suc k) (b ∷ bytes)) in
         subst P (sym (place_here x b bytes e)) (record { form = ap (λ y. y ∷ bytes) (eqb-true b x e); first = tt })
     by (inr e) rest =
         let P : ℕ → Type 0 = λ k. IsSplit x (b ∷ bytes) (take k (b ∷ bytes)) (drop (suc k) (b ∷ bytes)) in
         let behind = rest (omega (arith, place_behind x b bytes e, h)) in
-        subst P (sym (place_behind x b bytes e)) (record { form = ap (λ t. b ∷ t) behind.form; first = (eqb-false b x e, behind.first) })
+        subst P (sym (place_behind x b bytes e))
+        (record { form = ap (λ t. b ∷ t) behind.form; first = (eqb-false b x e, behind.first) })
 
-split_by : (x : ℕ) (bytes front back : List ℕ) (v : Bool) → v ≡ ltb (place x bytes) (length bytes) → option_map (parted_at bytes) (cond v (Some (place x bytes)) None) ≡ Some (front, back) → IsSplit x bytes front back
+split_by : (x : ℕ) (bytes front back : List ℕ) (v : Bool) → v ≡ ltb (place x bytes) (length bytes)
+    → option_map (parted_at bytes) (cond v (Some (place x bytes)) None) ≡ Some (front, back)
+    → IsSplit x bytes front back
 split_by x bytes front back false e g = cc
 split_by x bytes front back true e g =
     let within : place x bytes < length bytes = below (place x bytes) (length bytes) (sym e) in
     let at = split_at_place x bytes within in
     let pair : parted_at bytes (place x bytes) ≡ (front, back) = some_is _ _ g in
     let front_is : take (place x bytes) bytes ≡ front = ap (λ (p : List ℕ × List ℕ). p.0) pair in
-    let back_is : drop (suc (place x bytes)) bytes ≡ back = ap (λ k. drop k bytes) (sym (add-one (place x bytes))) ∙ ap (λ (p : List ℕ × List ℕ). p.1) pair in
+    let back_is : drop (suc (place x bytes)) bytes ≡ back =
+    ap (λ k. drop k bytes) (sym (add-one (place x bytes))) ∙ ap (λ (p : List ℕ × List ℕ). p.1) pair in
     let P : List ℕ → Type 0 = λ f. IsSplit x bytes f back in
     let Q : List ℕ → Type 0 = λ b. IsSplit x bytes (take (place x bytes) bytes) b in
     subst P front_is (subst Q back_is at)
@@ -57,7 +66,8 @@ split_by x bytes front back true e g =
     some_is : (p q : List ℕ × List ℕ) → Some p ≡ Some q → p ≡ q
     some_is p q h = cc
 
-pub split_first-found : (x : ℕ) (bytes front back : List ℕ) → split_first x bytes ≡ Some (front, back) → IsSplit x bytes front back
+pub split_first-found : (x : ℕ) (bytes front back : List ℕ) → split_first x bytes ≡ Some (front, back)
+    → IsSplit x bytes front back
 split_first-found x bytes front back h = split_by x bytes front back (ltb (place x bytes) (length bytes)) refl h
 
 place_at : (x : ℕ) (front back : List ℕ) → HasNo x front → place x (front ++ x ∷ back) ≡ length front
@@ -65,7 +75,8 @@ place_at x [] back h = place_here x x back (itself x)
   where
     itself : (a : ℕ) → eqb a a ≡ true
     itself a = grind (arith, nat_tests)
-place_at x (b ∷ front) back h = place_behind x b (front ++ x ∷ back) (different b x h.0) ∙ ap (λ k. suc k) (place_at x front back h.1)
+place_at x (b ∷ front) back h =
+    place_behind x b (front ++ x ∷ back) (different b x h.0) ∙ ap (λ k. suc k) (place_at x front back h.1)
 
 take_front : (front back : List ℕ) → take (length front) (front ++ back) ≡ front
 take_front [] back = refl
@@ -79,20 +90,26 @@ drop_front front back x = ap (λ k. drop k (front ++ x ∷ back)) (add-one (leng
     by (b ∷ f) = by f
 
 -- bytes are split at the first of a byte, and nowhere else
-pub split_first-again : (x : ℕ) (front back : List ℕ) → HasNo x front → split_first x (front ++ x ∷ back) ≡ Some (front, back)
+pub split_first-again : (x : ℕ) (front back : List ℕ) → HasNo x front
+    → split_first x (front ++ x ∷ back) ≡ Some (front, back)
 split_first-again x front back h =
-    ap (λ k. option_map (parted_at (front ++ x ∷ back)) (cond (ltb k (length (front ++ x ∷ back))) (Some k) None)) (place_at x front back h)
-    ∙ ap (λ v. option_map (parted_at (front ++ x ∷ back)) (cond v (Some (length front)) None)) (below (length front) (length (front ++ x ∷ back)) (omega (arith, length-append front (x ∷ back))))
+    ap (λ k. option_map (parted_at (front ++ x ∷ back)) (cond (ltb k (length (front ++ x ∷ back))) (Some k) None))
+    (place_at x front back h)
+    ∙ ap (λ v. option_map (parted_at (front ++ x ∷ back)) (cond v (Some (length front)) None))
+    (below (length front) (length (front ++ x ∷ back)) (omega (arith, length-append front (x ∷ back))))
     ∙ ap (λ f. Some (f, drop (length front + 1) (front ++ x ∷ back))) (take_front front (x ∷ back))
     ∙ ap (λ b. Some (front, b)) (drop_front front back x)
   where
     below : (a b : ℕ) → a < b → ltb a b ≡ true
     below a b h = grind (arith, nat_tests)
 
-last_of : (bytes : List ℕ) → 0 < length bytes → bytes ≡ take (length bytes - 1) bytes ++ get_or bytes (length bytes - 1) 0 ∷ []
+last_of : (bytes : List ℕ) → 0 < length bytes
+    → bytes ≡ take (length bytes - 1) bytes ++ get_or bytes (length bytes - 1) 0 ∷ []
 last_of [] h = absurd (omega arith)
 last_of (b ∷ []) h = refl
-last_of (b ∷ c ∷ bytes) h = ap (λ t. b ∷ t) (last_of (c ∷ bytes) (omega arith) ∙ ap (λ k. take k (c ∷ bytes) ++ get_or (c ∷ bytes) k 0 ∷ []) (same_place (length bytes))) ∙ sym (ap (λ k. take k (b ∷ c ∷ bytes) ++ get_or (b ∷ c ∷ bytes) k 0 ∷ []) (behind (length bytes)))
+last_of (b ∷ c ∷ bytes) h = ap (λ t. b ∷ t) (last_of (c ∷ bytes) (omega arith)
+    ∙ ap (λ k. take k (c ∷ bytes) ++ get_or (c ∷ bytes) k 0 ∷ []) (same_place (length bytes)))
+    ∙ sym (ap (λ k. take k (b ∷ c ∷ bytes) ++ get_or (b ∷ c ∷ bytes) k 0 ∷ []) (behind (length bytes)))
   where
     same_place : (n : ℕ) → suc n - 1 ≡ n
     same_place n = omega arith
@@ -100,8 +117,10 @@ last_of (b ∷ c ∷ bytes) h = ap (λ t. b ∷ t) (last_of (c ∷ bytes) (omega
     behind : (n : ℕ) → suc (suc n) - 1 ≡ suc n
     behind n = omega arith
 
-quoted_by : (bytes name : List ℕ) (a b c : Bool) → a ≡ leb 2 (length bytes) → b ≡ eqb (get_or bytes 0 0) 34 → c ≡ eqb (get_or bytes (length bytes - 1) 0) 34
-    → cond (a && b && c) (Some (take (length bytes - 2) (drop 1 bytes))) None ≡ Some name → bytes ≡ 34 ∷ (name ++ 34 ∷ [])
+quoted_by : (bytes name : List ℕ) (a b c : Bool) → a ≡ leb 2 (length bytes)
+    → b ≡ eqb (get_or bytes 0 0) 34 → c ≡ eqb (get_or bytes (length bytes - 1) 0) 34
+    → cond (a && b && c) (Some (take (length bytes - 2) (drop 1 bytes))) None ≡ Some name
+    → bytes ≡ 34 ∷ (name ++ 34 ∷ [])
 quoted_by bytes name false b c p q r g = cc
 quoted_by bytes name true false c p q r g = cc
 quoted_by bytes name true true false p q r g = cc
@@ -115,9 +134,13 @@ quoted_by (x ∷ []) name true true true p q r g = absurd (long (sym p))
     long h = grind (arith, nat_tests)
 quoted_by (x ∷ y ∷ bytes) name true true true p q r g =
     let first : x ≡ 34 = eqb-true x 34 (sym q) in
-    let last : get_or (y ∷ bytes) (length (y ∷ bytes) - 1) 0 ≡ 34 = ap (λ k. get_or (y ∷ bytes) k 0) (behind (length bytes)) ∙ ap (λ k. get_or (x ∷ y ∷ bytes) k 0) (before (length bytes)) ∙ eqb-true (get_or (x ∷ y ∷ bytes) (length (x ∷ y ∷ bytes) - 1) 0) 34 (sym r) in
-    let inside : take (length (y ∷ bytes) - 1) (y ∷ bytes) ≡ name = ap (λ k. take k (y ∷ bytes)) (within (length bytes)) ∙ some_is _ _ g in
-    ap (λ b. b ∷ y ∷ bytes) first ∙ ap (λ t. 34 ∷ t) (last_of (y ∷ bytes) (omega arith) ∙ ap (λ t. t ++ get_or (y ∷ bytes) (length (y ∷ bytes) - 1) 0 ∷ []) inside ∙ ap (λ b. name ++ b ∷ []) last)
+    let last : get_or (y ∷ bytes) (length (y ∷ bytes) - 1) 0 ≡ 34 =
+    ap (λ k. get_or (y ∷ bytes) k 0) (behind (length bytes)) ∙ ap (λ k. get_or (x ∷ y ∷ bytes) k 0)
+    (before (length bytes)) ∙ eqb-true (get_or (x ∷ y ∷ bytes) (length (x ∷ y ∷ bytes) - 1) 0) 34 (sym r) in
+    let inside : take (length (y ∷ bytes) - 1) (y ∷ bytes) ≡ name =
+    ap (λ k. take k (y ∷ bytes)) (within (length bytes)) ∙ some_is _ _ g in
+    ap (λ b. b ∷ y ∷ bytes) first ∙ ap (λ t. 34 ∷ t) (last_of (y ∷ bytes) (omega arith)
+    ∙ ap (λ t. t ++ get_or (y ∷ bytes) (length (y ∷ bytes) - 1) 0 ∷ []) inside ∙ ap (λ b. name ++ b ∷ []) last)
   where
     behind : (n : ℕ) → suc n - 1 ≡ n
     behind n = omega arith
@@ -132,7 +155,8 @@ quoted_by (x ∷ y ∷ bytes) name true true true p q r g =
     some_is p q h = cc
 
 pub quoted-found : (bytes name : List ℕ) → quoted bytes ≡ Some name → bytes ≡ 34 ∷ (name ++ 34 ∷ [])
-quoted-found bytes name h = quoted_by bytes name (leb 2 (length bytes)) (eqb (get_or bytes 0 0) 34) (eqb (get_or bytes (length bytes - 1) 0) 34) refl refl refl h
+quoted-found bytes name h = quoted_by bytes name (leb 2 (length bytes)) (eqb (get_or bytes 0 0) 34)
+    (eqb (get_or bytes (length bytes - 1) 0) 34) refl refl refl h
 
 last_is : (name : List ℕ) → get_or (name ++ 34 ∷ []) (length name) 0 ≡ 34
 last_is [] = refl
@@ -141,9 +165,12 @@ last_is (b ∷ name) = last_is name
 pub quoted-again : (name : List ℕ) → quoted (34 ∷ (name ++ 34 ∷ [])) ≡ Some name
 quoted-again name =
     let long : length (name ++ 34 ∷ []) ≡ length name + 1 = length-append name (34 ∷ []) in
-    ap (λ n. cond (leb 2 (suc n) && true && eqb (get_or (34 ∷ (name ++ 34 ∷ [])) (suc n - 1) 0) 34) (Some (take (suc n - 2) (name ++ 34 ∷ []))) None) long
-    ∙ ap (λ v. cond (v && true && eqb (get_or (34 ∷ (name ++ 34 ∷ [])) (suc (length name + 1) - 1) 0) 34) (Some (take (suc (length name + 1) - 2) (name ++ 34 ∷ []))) None) (at_least (length name))
-    ∙ ap (λ k. cond (eqb (get_or (34 ∷ (name ++ 34 ∷ [])) k 0) 34) (Some (take (suc (length name + 1) - 2) (name ++ 34 ∷ []))) None) (end (length name))
+    ap (λ n. cond (leb 2 (suc n) && true && eqb (get_or (34 ∷ (name ++ 34 ∷ [])) (suc n - 1) 0) 34)
+    (Some (take (suc n - 2) (name ++ 34 ∷ []))) None) long
+    ∙ ap (λ v. cond (v && true && eqb (get_or (34 ∷ (name ++ 34 ∷ [])) (suc (length name + 1) - 1) 0) 34)
+    (Some (take (suc (length name + 1) - 2) (name ++ 34 ∷ []))) None) (at_least (length name))
+    ∙ ap (λ k. cond (eqb (get_or (34 ∷ (name ++ 34 ∷ [])) k 0) 34)
+    (Some (take (suc (length name + 1) - 2) (name ++ 34 ∷ []))) None) (end (length name))
     ∙ ap (λ b. cond (eqb b 34) (Some (take (suc (length name + 1) - 2) (name ++ 34 ∷ []))) None) (last_is name)
     ∙ ap (λ k. Some (take k (name ++ 34 ∷ []))) (inner (length name))
     ∙ ap (λ t. Some t) (take_front name (34 ∷ []))

@@ -1,5 +1,6 @@
 -- What texts denote, by lines and fields. The order of lines plays no part.
-use Rattle.std.specs.Prelude.{◌≡◌, ◌≢◌, ◌<◌, ◌≤◌, ◌↔◌, ◌⊎◌, ℕ, true, false, List, [], ◌∷◌, ◌++◌, length, map, slice_index, slice_index_or, Some}
+use Rattle.std.specs.Prelude.{◌≡◌, ◌≢◌, ◌<◌, ◌≤◌, ◌↔◌, ◌⊎◌, ℕ, true, false, List, [], ◌∷◌, ◌++◌, length, map}
+use Rattle.std.specs.Prelude.{slice_index, slice_index_or, Some}
 use Rattle.text_lines.specs.Text.{lines_of, fields_of, number_of, significant}
 use Rattle.text_lines.specs.Laws.{HasNo}
 use Rattle.label_reader.specs.declared.kind.FileKind.{FileKind}

@@ -1,11 +1,14 @@
 -- The header of a label file or an owner file: its items, or its first fault.
-use Rattle.std.specs.Prelude.{◌==◌, ◌&&◌, ◌||◌, ◌+◌, ◌-◌, ℕ, nat_le, nat_lt, not, Bool, List, [], ◌∷◌, ◌++◌, length, take, drop, slice_index, position, Option, Some, None, option_map, option_and_then, is_some, if◌then◌else◌, bytes_eq, Result, Ok, Err}
+use Rattle.std.specs.Prelude.{◌==◌, ◌&&◌, ◌||◌, ◌+◌, ◌-◌, ℕ, nat_le, nat_lt, not, Bool, List, [], ◌∷◌, ◌++◌, length}
+use Rattle.std.specs.Prelude.{take, drop, slice_index, position, Option, Some, None, option_map, option_and_then}
+use Rattle.std.specs.Prelude.{is_some, if◌then◌else◌, bytes_eq, Result, Ok, Err}
 use Rattle.std.specs.List.{list_any, list_all}
 use Rattle.text_lines.specs.Text.{number_of, is_digit, saturated}
 use Rattle.label_reader.specs.declared.kind.FileKind.{FileKind}
 use Rattle.label_reader.specs.declared.kind.FileKind.TheVariants.{LabelFile, OwnerFile}
 use Rattle.label_reader.specs.declared.faults.LabCause.{LabCause}
-use Rattle.label_reader.specs.declared.faults.LabCause.TheVariants.{NoHeader, BadHeader, OverLimit, DoubleIndex, DoubleName}
+use Rattle.label_reader.specs.declared.faults.LabCause.TheVariants.{NoHeader, BadHeader, OverLimit, DoubleIndex}
+use Rattle.label_reader.specs.declared.faults.LabCause.TheVariants.{DoubleName}
 use Rattle.label_reader.specs.Limits.{most_labels, most_players, greatest_index, longest_name}
 
 -- an item of a header: the index of a name

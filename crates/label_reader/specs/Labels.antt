@@ -1,5 +1,6 @@
 -- What contracts see of labels: which states each of them holds at.
-use Rattle.std.specs.Prelude.{◌≡◌, ◌+◌, ℕ, Bool, false, List, [], ◌∷◌, length, slice_index_or, if◌then◌else◌, bytes_eq, All}
+use Rattle.std.specs.Prelude.{◌≡◌, ◌+◌, ℕ, Bool, false, List, [], ◌∷◌, length, slice_index_or, if◌then◌else◌, bytes_eq}
+use Rattle.std.specs.Prelude.{All}
 use Rattle.std.specs.List.{list_any}
 
 -- a label: its name, and whether it holds at each state

@@ -1,5 +1,6 @@
 -- The lines behind the header, each a state and numbers.
-use Rattle.std.specs.Prelude.{◌==◌, ℕ, nat_lt, Bool, true, List, [], ◌∷◌, ◌++◌, map, Option, Some, None, is_some, unwrap_or, if◌then◌else◌, Result, Ok, Err}
+use Rattle.std.specs.Prelude.{◌==◌, ℕ, nat_lt, Bool, true, List, [], ◌∷◌, ◌++◌, map, Option, Some, None, is_some}
+use Rattle.std.specs.Prelude.{unwrap_or, if◌then◌else◌, Result, Ok, Err}
 use Rattle.std.specs.List.{list_all}
 use Rattle.text_lines.specs.Text.{fields_of, number_of}
 use Rattle.label_reader.specs.declared.kind.FileKind.{FileKind}

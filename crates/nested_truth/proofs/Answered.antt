@@ -1,5 +1,6 @@
 -- The answer to a formula, from the answers to its sides.
-use Rattle.std.proofs.Common.{◌≡◌, ◌∙◌, ◌<◌, ◌≤◌, ◌+◌, ◌-◌, ◌*◌, ◌^◌, ℕ, suc, List, length, get_or, arith, sym, ap, subst, Result, Ok, Err}
+use Rattle.std.proofs.Common.{◌≡◌, ◌∙◌, ◌<◌, ◌≤◌, ◌+◌, ◌-◌, ◌*◌, ◌^◌, ℕ, suc, List, length, get_or, arith, sym, ap}
+use Rattle.std.proofs.Common.{subst, Result, Ok, Err}
 use Rattle.std.specs.Prelude.{All, IfOk}
 use Rattle.std.specs.List.{range_with_len}
 use Rattle.std.proofs.Math.Nat.{mul-le-mul_left, mul-le-mul_right}
@@ -21,7 +22,8 @@ use Rattle.verdicts.specs.declared.verdict.Verdict.TheVariants.{Undecided}
 use Rattle.nested_truth.specs.declared.judging.Judged.{Judged}
 use Rattle.formula_sets.specs.Posing.{Model}
 use Rattle.nested_truth.specs.Truth.{Valuation, IsTruth, states, holds, everywhere}
-use Rattle.nested_truth.specs.Bands.{Band, Known, known, exactly, negated, judgement, undecided_at, undecided_in, verdict_at}
+use Rattle.nested_truth.specs.Bands.{Band, Known, known, exactly, negated, judgement, undecided_at, undecided_in}
+use Rattle.nested_truth.specs.Bands.{verdict_at}
 use Rattle.nested_truth.specs.Runs.{AreFoundBy, AreRaced, pessimistic, optimistic, mirrored}
 use Rattle.nested_truth.specs.Open.{IsOpenBy}
 use Rattle.nested_truth.specs.Nested.{IsNested}
@@ -45,7 +47,9 @@ rest-few v = omega arith
 
 complements-units : (values : List ℕ) → All (λ v. v ≤ unit) (complements_of values)
 complements-units values = All-from_get_or (λ v. v ≤ unit) (complements_of values) 0 (λ s h.
-    subst (λ v. v ≤ unit) (sym (get_or-map (λ v. unit - v) values s 0 0 (omega (arith, h, length-map values (λ (v : ℕ). unit - v))))) (rest-few (get_or values s 0)))
+    subst (λ v. v ≤ unit)
+    (sym (get_or-map (λ v. unit - v) values s 0 0 (omega (arith, h, length-map values (λ (v : ℕ). unit - v)))))
+    (rest-few (get_or values s 0)))
 
 pub mirrored-band : (n : ℕ) (band : Band) → IsBand n band → IsBand n (mirrored band)
 mirrored-band n band h = record {
@@ -55,26 +59,41 @@ mirrored-band n band h = record {
   upper_units = complements-units band.lower;
 }
 
-pub if_ok-band : {X E : Type 0} (n : ℕ) (view : X → Band) (result : Result X E) (other : Band) → IsBand n other → IfOk result (λ x. view x ≡ mirrored other) → IfOk result (λ x. IsBand n (view x))
+pub if_ok-band : {X E : Type 0} (n : ℕ) (view : X → Band) (result : Result X E) (other : Band) → IsBand n other
+    → IfOk result (λ x. view x ≡ mirrored other) → IfOk result (λ x. IsBand n (view x))
 if_ok-band n view (Ok x) other band is = subst (λ (b : Band). IsBand n b) (sym is) (mirrored-band n other band)
 if_ok-band n view (Err e) other band is = tt
 
-module _ (m : Model) (f dual : Tree) (is : dual ≡ dual_of f) (kl kr right : Known) (lefts : AreAlike (states m) (exactly everywhere) kl) (rights : AreAlike (states m) (negated right) kr) (starts : List ℕ) (asked : ℕ) (other : Band) (how : How)
+module _ (m : Model) (f dual : Tree) (is : dual ≡ dual_of f) (kl kr right : Known)
+    (lefts : AreAlike (states m) (exactly everywhere) kl) (rights : AreAlike (states m) (negated right) kr)
+    (starts : List ℕ) (asked : ℕ) (other : Band) (how : How)
     (found : AreFoundBy Until m dual kl kr starts asked other how) where
-  dual-raced : AreRaced (pessimistic m (dual_of f) (exactly everywhere) (negated right)) (optimistic m (dual_of f) (exactly everywhere) (negated right)) (dual_bound f.bound) starts asked other how
+  dual-raced : AreRaced (pessimistic m (dual_of f) (exactly everywhere) (negated right))
+      (optimistic m (dual_of f) (exactly everywhere) (negated right)) (dual_bound f.bound) starts asked other how
   dual-raced =
-      both-same m (dual_of f) kl kr (exactly everywhere) (negated right) (alike-back (states m) (exactly everywhere) kl lefts) (alike-back (states m) (negated right) kr rights)
+      both-same m (dual_of f) kl kr (exactly everywhere) (negated right)
+      (alike-back (states m) (exactly everywhere) kl lefts) (alike-back (states m) (negated right) kr rights)
       (λ low high. AreRaced low high (dual_bound f.bound) starts asked other how)
       (subst (λ (t : Tree). AreFoundBy Until m t kl kr starts asked other how) is found)
 
-  pub always-found : {X E : Type 0} (view : X → Band) (ways : X → How) (result : Result X E) → IfOk result (λ x. view x ≡ mirrored other) → IfOk result (λ x. ways x ≡ how)
+  pub always-found : {X E : Type 0} (view : X → Band) (ways : X → How) (result : Result X E)
+      → IfOk result (λ x. view x ≡ mirrored other) → IfOk result (λ x. ways x ≡ how)
       → IfOk result (λ x. (left : Known) → AreFoundBy Always m f left right starts asked (view x) (ways x))
-  always-found view ways (Ok x) band same = λ left. (other, subst (λ (h : How). AreRaced (pessimistic m (dual_of f) (exactly everywhere) (negated right)) (optimistic m (dual_of f) (exactly everywhere) (negated right)) (dual_bound f.bound) starts asked other h) (sym same) dual-raced, band)
+  always-found view ways (Ok x) band same = λ left. (
+    other,
+    subst (λ (h : How). AreRaced (pessimistic m (dual_of f) (exactly everywhere) (negated right))
+        (optimistic m (dual_of f) (exactly everywhere) (negated right)) (dual_bound f.bound) starts asked other h)
+        (sym same) dual-raced,
+    band,
+  )
   always-found view ways (Err e) band same = tt
 
-pub always-of : {X E : Type 0} (kind : PathKind) → kind ≡ Always → (m : Model) (f : Tree) (left right : Known) (starts : List ℕ) (asked : ℕ) (view : X → Band) (ways : X → How) (result : Result X E)
-    → IfOk result (λ x. (any : Known) → AreFoundBy Always m f any right starts asked (view x) (ways x)) → IfOk result (λ x. AreFoundBy kind m f left right starts asked (view x) (ways x))
-always-of kind is m f left right starts asked view ways (Ok x) found = subst (λ (k : PathKind). AreFoundBy k m f left right starts asked (view x) (ways x)) (sym is) (found left)
+pub always-of : {X E : Type 0} (kind : PathKind) → kind ≡ Always → (m : Model) (f : Tree) (left right : Known)
+    (starts : List ℕ) (asked : ℕ) (view : X → Band) (ways : X → How) (result : Result X E)
+    → IfOk result (λ x. (any : Known) → AreFoundBy Always m f any right starts asked (view x) (ways x))
+    → IfOk result (λ x. AreFoundBy kind m f left right starts asked (view x) (ways x))
+always-of kind is m f left right starts asked view ways (Ok x) found =
+    subst (λ (k : PathKind). AreFoundBy k m f left right starts asked (view x) (ways x)) (sym is) (found left)
 always-of kind is m f left right starts asked view ways (Err e) found = tt
 
 -- 2. There are few undecided pairs.
@@ -82,19 +101,38 @@ always-of kind is m f left right starts asked view ways (Err e) found = tt
 pairs-few : (a n : ℕ) → a ≤ longest → n ≤ most_states → a * n < 2 ^ 32
 pairs-few a n h k = omega (arith, mul-le-mul_right n h, mul-le-mul_left longest k)
 
-module _ (m : Model) (game : IsGame m.game) (asked : ℕ) (x y : State) (one other : Judged) (h : IsJudged m asked x one) (i : IsJudged m asked y other) where
+module _ (m : Model) (game : IsGame m.game) (asked : ℕ) (x y : State) (one other : Judged) (h : IsJudged m asked x one)
+    (i : IsJudged m asked y other) where
   pub undecided-fits : formulas_in x + formulas_in y ≤ longest → one.undecided + other.undecided < 2 ^ 32
   undecided-fits few =
-      omega (arith, h.undecided_are, i.undecided_are, undecided-pairs x h.bands (states m), undecided-pairs y i.bands (states m), pairs-few (formulas_in x + formulas_in y) (states m) few game.few)
+      omega (
+        arith,
+        h.undecided_are,
+        i.undecided_are,
+        undecided-pairs x h.bands (states m),
+        undecided-pairs y i.bands (states m),
+        pairs-few (formulas_in x + formulas_in y) (states m) few game.few,
+      )
 
   -- the same, where the numbers of formulas inside are at hand
   pub undecided-fits-by : one.inner + other.inner ≤ longest → one.undecided + other.undecided < 2 ^ 32
   undecided-fits-by few = undecided-fits (omega (arith, few, h.inner_are, i.inner_are))
 
-  pub undecided-fits-inside : (bound : Bound) (band : Band) (here before : ℕ) → here ≡ undecided_at bound band (states m) → before ≡ one.undecided + other.undecided → suc (formulas_in x + formulas_in y) ≤ longest
-      → here + before < 2 ^ 32
+  pub undecided-fits-inside : (bound : Bound) (band : Band) (here before : ℕ)
+      → here ≡ undecided_at bound band (states m) → before ≡ one.undecided + other.undecided
+      → suc (formulas_in x + formulas_in y) ≤ longest → here + before < 2 ^ 32
   undecided-fits-inside bound band here before here_is before_is few =
-      omega (arith, here_is, before_is, undecided-few bound band (states m), h.undecided_are, i.undecided_are, undecided-pairs x h.bands (states m), undecided-pairs y i.bands (states m), pairs-few (suc (formulas_in x + formulas_in y)) (states m) few game.few)
+      omega (
+        arith,
+        here_is,
+        before_is,
+        undecided-few bound band (states m),
+        h.undecided_are,
+        i.undecided_are,
+        undecided-pairs x h.bands (states m),
+        undecided-pairs y i.bands (states m),
+        pairs-few (suc (formulas_in x + formulas_in y)) (states m) few game.few,
+      )
 
 -- every state is a state
 pub everywhere-inside : (n : ℕ) (xs : List ℕ) → xs ≡ range_with_len 0 n → All (λ s. s < n) xs
@@ -105,18 +143,32 @@ everywhere-inside n xs is =
 
 -- 3. A formula inside.
 
-module _ (m : Model) (game : IsGame m.game) (asked : ℕ) (f : Tree) (left right : Judged) (h : IsJudged m asked f.left left) (i : IsJudged m asked f.right right) (starts : List ℕ) (band : Band) (how : How)
+module _ (m : Model) (game : IsGame m.game) (asked : ℕ) (f : Tree) (left right : Judged)
+    (h : IsJudged m asked f.left left) (i : IsJudged m asked f.right right) (starts : List ℕ) (band : Band) (how : How)
     (found : AreFoundBy f.kind m f (seen left.sets) (seen right.sets) starts asked band how) where
-  found-known : AreFoundBy f.kind m f (known m.labels f.left h.bands) (known m.labels f.right i.bands) starts asked band how
+  found-known : AreFoundBy f.kind m f (known m.labels f.left h.bands)
+      (known m.labels f.right i.bands) starts asked band how
   found-known =
-      found-same m game f (seen left.sets) (seen right.sets) (known m.labels f.left h.bands) (known m.labels f.right i.bands) (alike-back (states m) (known m.labels f.left h.bands) (seen left.sets) h.alike)
-      (alike-back (states m) (known m.labels f.right i.bands) (seen right.sets) i.alike) starts asked band how f.kind found
+      found-same m game f (seen left.sets) (seen right.sets) (known m.labels f.left h.bands)
+      (known m.labels f.right i.bands) (alike-back (states m) (known m.labels f.left h.bands) (seen left.sets) h.alike)
+      (alike-back (states m) (known m.labels f.right i.bands) (seen right.sets) i.alike) starts asked
+      band how f.kind found
 
-  pub judged-inside : (result : Judged) (here : ℕ) → starts ≡ range_with_len 0 (states m) → length result.sets.sure.items ≡ states m → AreAlike (states m) (judgement f.bound band) (seen result.sets)
-      → here ≡ undecided_at f.bound band (states m) → result.inner ≡ left.inner + right.inner + 1 → result.undecided ≡ here + (left.undecided + right.undecided) → IsJudged m asked (inner_of f) result
+  pub judged-inside : (result : Judged) (here : ℕ) → starts ≡ range_with_len 0 (states m)
+      → length result.sets.sure.items ≡ states m → AreAlike (states m) (judgement f.bound band) (seen result.sets)
+      → here ≡ undecided_at f.bound band (states m) → result.inner ≡ left.inner + right.inner + 1
+      → result.undecided ≡ here + (left.undecided + right.undecided) → IsJudged m asked (inner_of f) result
   judged-inside result here all many alike here_is inner undecided = record {
     bands = (band, h.bands, i.bands);
-    found = ((how, subst (λ (from : List ℕ). AreFoundBy f.kind m f (known m.labels f.left h.bands) (known m.labels f.right i.bands) from asked band how) all found-known), h.found, i.found);
+    found = (
+      (
+        how,
+        subst (λ (from : List ℕ). AreFoundBy f.kind m f (known m.labels f.left h.bands)
+            (known m.labels f.right i.bands) from asked band how) all found-known,
+      ),
+      h.found,
+      i.found,
+    );
     many = many;
     alike = alike;
     inner_are = omega (arith, inner, h.inner_are, i.inner_are);
@@ -140,28 +192,38 @@ module _ (m : Model) (game : IsGame m.game) (asked : ℕ) (f : Tree) (left right
     right-around = around m game truth is-truth asked f.right i.bands spellable.right.parts i.found
 
     sound-truth : AreSoundBy f.kind m f (holds m.labels truth f.left) (holds m.labels truth f.right) band
-    sound-truth = sound-by m game f (holds m.labels truth f.left) (holds m.labels truth f.right) (known m.labels f.left h.bands) (known m.labels f.right i.bands) left-around right-around starts asked band how f.kind found-known
+    sound-truth = sound-by m game f (holds m.labels truth f.left)
+        (holds m.labels truth f.right) (known m.labels f.left h.bands)
+        (known m.labels f.right i.bands) left-around right-around starts asked band how f.kind found-known
 
     right-truth : (s : ℕ) → s < states m → IsRightOf (verdict_at f.bound band s) (truth f s)
     right-truth s there =
-        right-by m game f spellable.share (holds m.labels truth f.left) (holds m.labels truth f.right) (known m.labels f.left h.bands) (known m.labels f.right i.bands) left-around right-around starts asked band how f.kind found-known
+        right-by m game f spellable.share (holds m.labels truth f.left)
+        (holds m.labels truth f.right) (known m.labels f.left h.bands)
+        (known m.labels f.right i.bands) left-around right-around starts asked band how f.kind found-known
         s there (truth f s) (is-truth f s there)
 
     -- where nothing inside is undecided, what is known of the sides is the truth
     exact-truth : undecided_in f.left h.bands (states m) + undecided_in f.right i.bands (states m) ≡ 0
-        → AreFoundBy f.kind m f (exactly (holds m.labels truth f.left)) (exactly (holds m.labels truth f.right)) starts asked band how
+        → AreFoundBy f.kind m f (exactly (holds m.labels truth f.left))
+        (exactly (holds m.labels truth f.right)) starts asked band how
     exact-truth none =
-        found-same m game f (known m.labels f.left h.bands) (known m.labels f.right i.bands) (exactly (holds m.labels truth f.left)) (exactly (holds m.labels truth f.right))
+        found-same m game f (known m.labels f.left h.bands) (known m.labels f.right i.bands)
+        (exactly (holds m.labels truth f.left)) (exactly (holds m.labels truth f.right))
         (decided-truth m game truth is-truth asked f.left h.bands spellable.left.parts h.found (omega (arith, none)))
         (decided-truth m game truth is-truth asked f.right i.bands spellable.right.parts i.found (omega (arith, none)))
         starts asked band how f.kind found-known
 
     -- and what is undecided is left open
-    open-truth : All (λ s. s < states m) starts → undecided_in f.left h.bands (states m) + undecided_in f.right i.bands (states m) ≡ 0
-        → All (λ s. verdict_at f.bound band s ≡ Undecided → IsOpenBy f.kind m f (holds m.labels truth f.left) (holds m.labels truth f.right) asked band s) starts
-    open-truth inside none = all-opened m game f (small-share f.bound spellable.share) (holds m.labels truth f.left) (holds m.labels truth f.right) starts asked band how inside (exact-truth none)
+    open-truth : All (λ s. s < states m) starts
+        → undecided_in f.left h.bands (states m) + undecided_in f.right i.bands (states m) ≡ 0
+        → All (λ s. verdict_at f.bound band s ≡ Undecided
+        → IsOpenBy f.kind m f (holds m.labels truth f.left) (holds m.labels truth f.right) asked band s) starts
+    open-truth inside none = all-opened m game f (small-share f.bound spellable.share) (holds m.labels truth f.left)
+        (holds m.labels truth f.right) starts asked band how inside (exact-truth none)
 
-    pub nested-of : All (λ s. s < states m) starts → (inner undecided : ℕ) → inner ≡ left.inner + right.inner → undecided ≡ left.undecided + right.undecided → IsNested m f starts asked band how inner undecided
+    pub nested-of : All (λ s. s < states m) starts → (inner undecided : ℕ) → inner ≡ left.inner + right.inner
+        → undecided ≡ left.undecided + right.undecided → IsNested m f starts asked band how inner undecided
     nested-of inside inner undecided inner_is undecided_is = record {
       left = h.bands;
       right = i.bands;
@@ -178,7 +240,8 @@ module _ (m : Model) (game : IsGame m.game) (asked : ℕ) (f : Tree) (left right
       right_of = right-truth;
       left_within = λ coarse c. open-within m game asked f.left h.bands coarse spellable.left.parts h.found c;
       right_within = λ coarse c. open-within m game asked f.right i.bands coarse spellable.right.parts i.found c;
-      within = λ cl cr coarse c. outermost m game asked f starts h.bands cl i.bands cr band coarse how spellable.share spellable.left.parts spellable.right.parts inside h.found i.found found-known c;
+      within = λ cl cr coarse c. outermost m game asked f starts h.bands cl i.bands cr band coarse how spellable.share
+          spellable.left.parts spellable.right.parts inside h.found i.found found-known c;
       exact = λ none. exact-truth (omega (arith, none, undecided_is, h.undecided_are, i.undecided_are));
       left_open = λ none. open-truth inside (omega (arith, none, undecided_is, h.undecided_are, i.undecided_are));
     }

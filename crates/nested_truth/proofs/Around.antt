@@ -21,7 +21,10 @@ use Rattle.nested_truth.proofs.Valuation.{right-by}
 -- 1. The connectives.
 
 pub and-on : (a b c d : Bool) → (a ≡ true → c ≡ true) → (b ≡ true → d ≡ true) → (a && b) ≡ true → (c && d) ≡ true
-and-on true true c d h k both = let first : c ≡ true = h refl in let second : d ≡ true = k refl in ap (λ x. x && d) first ∙ second
+and-on true true c d h k both =
+    let first : c ≡ true = h refl in
+    let second : d ≡ true = k refl in
+    ap (λ x. x && d) first ∙ second
 and-on true false c d h k both = let wrong : false ≡ true = both in absurd (cc)
 and-on false b c d h k both = let wrong : false ≡ true = both in absurd (cc)
 
@@ -68,23 +71,31 @@ threshold-share AskMin h = absurd h
 -- 3. Every state formula.
 
 module _ (m : Model) (game : IsGame m.game) (valuation : Valuation) (truth : IsTruth m valuation) (asked : ℕ) where
-  pub around : (x : State) (b : Bands x) → HasParts x → AreFound m asked x b → IsAround m (holds m.labels valuation x) (known m.labels x b)
+  pub around : (x : State) (b : Bands x) → HasParts x → AreFound m asked x b
+      → IsAround m (holds m.labels valuation x) (known m.labels x b)
   around True b parts found = record { sure = λ s inside h. refl; possible = λ s inside h. refl }
   around False b parts found = record { sure = λ s inside h. h; possible = λ s inside h. h }
   around (Label name) b parts found = record { sure = λ s inside h. h; possible = λ s inside h. h }
-  around (Not x) b parts found = negated-around m (holds m.labels valuation x) (known m.labels x b) (around x b parts found)
+  around (Not x) b parts found =
+      negated-around m (holds m.labels valuation x) (known m.labels x b) (around x b parts found)
   around (And x y) b parts found =
-      both-around m (holds m.labels valuation x) (holds m.labels valuation y) (known m.labels x b.0) (known m.labels y b.1) (around x b.0 parts.0 found.0) (around y b.1 parts.1 found.1)
+      both-around m (holds m.labels valuation x) (holds m.labels valuation y) (known m.labels x b.0)
+      (known m.labels y b.1) (around x b.0 parts.0 found.0) (around y b.1 parts.1 found.1)
   around (Or x y) b parts found =
-      either-around m (holds m.labels valuation x) (holds m.labels valuation y) (known m.labels x b.0) (known m.labels y b.1) (around x b.0 parts.0 found.0) (around y b.1 parts.1 found.1)
+      either-around m (holds m.labels valuation x) (holds m.labels valuation y) (known m.labels x b.0)
+      (known m.labels y b.1) (around x b.0 parts.0 found.0) (around y b.1 parts.1 found.1)
   around (Implies x y) b parts found =
-      either-around m (λ s. not (holds m.labels valuation x s)) (holds m.labels valuation y) (negated (known m.labels x b.0)) (known m.labels y b.1)
-      (negated-around m (holds m.labels valuation x) (known m.labels x b.0) (around x b.0 parts.0 found.0)) (around y b.1 parts.1 found.1)
+      either-around m (λ s. not (holds m.labels valuation x s)) (holds m.labels valuation y)
+      (negated (known m.labels x b.0)) (known m.labels y b.1)
+      (negated-around m (holds m.labels valuation x) (known m.labels x b.0) (around x b.0 parts.0 found.0))
+      (around y b.1 parts.1 found.1)
   around (Inner team bound kind left right) b parts found =
       let f : Tree = record { coalition = team; bound = bound; kind = kind; left = left; right = right } in
       let at : (s : ℕ) → s < states m → IsRightOf (verdict_at bound b.0 s) (valuation f s) = λ s inside.
-      right-by m game f (threshold-share bound parts.0.threshold) (holds m.labels valuation left) (holds m.labels valuation right) (known m.labels left b.1) (known m.labels right b.2)
-      (around left b.1 parts.1 found.1) (around right b.2 parts.2 found.2) (range_with_len 0 (states m)) asked b.0 found.0.0 kind found.0.1 s inside (valuation f s) (truth f s inside) in
+      right-by m game f (threshold-share bound parts.0.threshold) (holds m.labels valuation left)
+      (holds m.labels valuation right) (known m.labels left b.1) (known m.labels right b.2)
+      (around left b.1 parts.1 found.1) (around right b.2 parts.2 found.2)
+      (range_with_len 0 (states m)) asked b.0 found.0.0 kind found.0.1 s inside (valuation f s) (truth f s inside) in
       record {
         sure = λ s inside. yes-valuation (verdict_at bound b.0 s) (valuation f s) (at s inside);
         possible = λ s inside. valuation-possible (verdict_at bound b.0 s) (valuation f s) (at s inside);

@@ -11,6 +11,8 @@ use Rattle.nested_truth.specs.Seen.{AreAlike}
 use Rattle.nested_truth.proofs.Around.{around}
 use Rattle.nested_truth.proofs.Exactly.{known-exactly, settled}
 
-pub decided-truth : (m : Model) → IsGame m.game → (truth : Valuation) → IsTruth m truth → (asked : ℕ) (x : State) (found : Bands x) → HasParts x → AreFound m asked x found → undecided_in x found (states m) ≡ 0
+pub decided-truth : (m : Model) → IsGame m.game → (truth : Valuation) → IsTruth m truth → (asked : ℕ)
+    (x : State) (found : Bands x) → HasParts x → AreFound m asked x found → undecided_in x found (states m) ≡ 0
     → AreAlike (states m) (known m.labels x found) (exactly (holds m.labels truth x))
-decided-truth m game truth is asked x found parts h none = known-exactly m (holds m.labels truth x) (known m.labels x found) (around m game truth is asked x found parts h) (settled m x found parts none)
+decided-truth m game truth is asked x found parts h none = known-exactly m (holds m.labels truth x)
+    (known m.labels x found) (around m game truth is asked x found parts h) (settled m x found parts none)

@@ -1,5 +1,6 @@
 -- There is a truth: each formula is judged by the exact values of its question.
-use Rattle.std.proofs.Common.{◌≡◌, ◌∙◌, ◌<◌, ◌^◌, ◌*◌, ℕ, Bool, true, false, not, ◌&&◌, ◌||◌, arith, sym, ap, subst, refl, inl, inr}
+use Rattle.std.proofs.Common.{◌≡◌, ◌∙◌, ◌<◌, ◌^◌, ◌*◌, ℕ, Bool, true, false, not, ◌&&◌, ◌||◌, arith, sym, ap, subst}
+use Rattle.std.proofs.Common.{refl, inl, inr}
 use mathlib.Core.Path.{fun_ext}
 use Rattle.std.proofs.lemmas.Bool.{cases_lt}
 use Rattle.game_model.specs.Game.{IsGame}
@@ -16,7 +17,8 @@ use Rattle.rpatl_syntax.specs.Formula.{State, True, False, Label, Not, And, Or, 
 use Rattle.formula_sets.specs.Posing.{Model, next_question_of}
 use Rattle.bounded_rounds.specs.Exact.{next_numerator}
 use Rattle.verdicts.specs.Truth.{IsTrueOf}
-use Rattle.nested_truth.specs.Truth.{Valuation, IsTruth, IsTrueBy, states, holds, everywhere, question_by, dual_question_by}
+use Rattle.nested_truth.specs.Truth.{Valuation, IsTruth, IsTrueBy, states, holds, everywhere, question_by}
+use Rattle.nested_truth.specs.Truth.{dual_question_by}
 use Rattle.nested_truth.proofs.Posed.{is_query}
 use Rattle.exact_values.proofs.Decided.{Decided, dec-not, dec-lt, dec-le}
 use Rattle.exact_values.proofs.Deciding.{reaches-decided, exceeds-decided}
@@ -38,11 +40,16 @@ dec-met AskMax n whole = inl tt
 dec-met AskMin n whole = inl tt
 
 module _ (m : Model) (game : IsGame m.game) where
-  dec-by : (kind : PathKind) (f : Tree) (left right : ℕ → Bool) (s : ℕ) → s < states m → Decided (IsTrueBy kind m f left right s)
-  dec-by Until f left right s inside = dec-of (question_by m f left right) f.bound s (is_query m f left right game) inside
-  dec-by (Within k) f left right s inside = dec-met f.bound (numerator (question_by m f left right) k s) (denominator m.game ^ k)
-  dec-by Next f left right s inside = dec-met f.bound (next_numerator (next_question_of m.game m.owners f) right s) (denominator m.game)
-  dec-by Always f left right s inside = dec-of (dual_question_by m f right) (dual_bound f.bound) s (is_query m (dual_of f) everywhere (λ s. not (right s)) game) inside
+  dec-by : (kind : PathKind) (f : Tree) (left right : ℕ → Bool) (s : ℕ) → s < states m
+      → Decided (IsTrueBy kind m f left right s)
+  dec-by Until f left right s inside =
+      dec-of (question_by m f left right) f.bound s (is_query m f left right game) inside
+  dec-by (Within k) f left right s inside =
+      dec-met f.bound (numerator (question_by m f left right) k s) (denominator m.game ^ k)
+  dec-by Next f left right s inside =
+      dec-met f.bound (next_numerator (next_question_of m.game m.owners f) right s) (denominator m.game)
+  dec-by Always f left right s inside = dec-of (dual_question_by m f right) (dual_bound f.bound) s
+      (is_query m (dual_of f) everywhere (λ s. not (right s)) game) inside
 
   is_so : (A : Type 0) → Decided A → Bool
   is_so A (inl a) = true
@@ -55,14 +62,22 @@ module _ (m : Model) (game : IsGame m.game) where
 
   -- what a formula whose sides hold at these states is at a state
   judged : (f : Tree) (left right : ℕ → Bool) → ℕ → Bool
-  judged f left right s = elim (cases_lt s (states m)) [ inl inside ↦ is_so _ (dec-by f.kind f left right s inside) | inr _ ↦ false ]
-
-  judged-right : (f : Tree) (left right : ℕ → Bool) (s : ℕ) → s < states m → ((judged f left right s ≡ true) → IsTrueBy f.kind m f left right s) × (IsTrueBy f.kind m f left right s → judged f left right s ≡ true)
-  unfolding judged
-  judged-right f left right s inside = elim (cases_lt s (states m)) as (λ c. ((elim c [ inl inside ↦ is_so _ (dec-by f.kind f left right s inside) | inr _ ↦ false ] ≡ true) → IsTrueBy f.kind m f left right s) × (IsTrueBy f.kind m f left right s → elim c [ inl inside ↦ is_so _ (dec-by f.kind f left right s inside) | inr _ ↦ false ] ≡ true)) [
-    | inl within ↦ so-right _ (dec-by f.kind f left right s within)
-    | inr past ↦ absurd (omega (arith, inside, past))
+  judged f left right s = elim (cases_lt s (states m)) [
+    | inl inside ↦ is_so _ (dec-by f.kind f left right s inside)
+    | inr _ ↦ false
   ]
+
+  judged-right : (f : Tree) (left right : ℕ → Bool) (s : ℕ) → s < states m
+      → ((judged f left right s ≡ true) → IsTrueBy f.kind m f left right s)
+      × (IsTrueBy f.kind m f left right s → judged f left right s ≡ true)
+  unfolding judged
+  judged-right f left right s inside = elim (cases_lt s (states m))
+      as (λ c. ((elim c [ inl inside ↦ is_so _ (dec-by f.kind f left right s inside) | inr _ ↦ false ] ≡ true)
+      → IsTrueBy f.kind m f left right s) × (IsTrueBy f.kind m f left right s
+      → elim c [ inl inside ↦ is_so _ (dec-by f.kind f left right s inside) | inr _ ↦ false ] ≡ true)) [
+        | inl within ↦ so-right _ (dec-by f.kind f left right s within)
+        | inr past ↦ absurd (omega (arith, inside, past))
+      ]
 
   -- where a state formula holds
   truth : State → ℕ → Bool
@@ -73,7 +88,8 @@ module _ (m : Model) (game : IsGame m.game) where
   truth (And x y) s = truth x s && truth y s
   truth (Or x y) s = truth x s || truth y s
   truth (Implies x y) s = not (truth x s) || truth y s
-  truth (Inner team bound kind left right) s = judged (record { coalition = team; bound = bound; kind = kind; left = left; right = right }) (truth left) (truth right) s
+  truth (Inner team bound kind left right) s = judged
+      (record { coalition = team; bound = bound; kind = kind; left = left; right = right }) (truth left) (truth right) s
 
   valued : Valuation
   valued = λ f s. truth (Inner f.coalition f.bound f.kind f.left f.right) s
@@ -84,9 +100,12 @@ module _ (m : Model) (game : IsGame m.game) where
   holds-truth False s = refl
   holds-truth (Label name) s = refl
   holds-truth (Not x) s = ap not (holds-truth x s)
-  holds-truth (And x y) s = ap (λ v. v && holds m.labels valued y s) (holds-truth x s) ∙ ap (λ v. truth x s && v) (holds-truth y s)
-  holds-truth (Or x y) s = ap (λ v. v || holds m.labels valued y s) (holds-truth x s) ∙ ap (λ v. truth x s || v) (holds-truth y s)
-  holds-truth (Implies x y) s = ap (λ v. not v || holds m.labels valued y s) (holds-truth x s) ∙ ap (λ v. not (truth x s) || v) (holds-truth y s)
+  holds-truth (And x y) s =
+      ap (λ v. v && holds m.labels valued y s) (holds-truth x s) ∙ ap (λ v. truth x s && v) (holds-truth y s)
+  holds-truth (Or x y) s =
+      ap (λ v. v || holds m.labels valued y s) (holds-truth x s) ∙ ap (λ v. truth x s || v) (holds-truth y s)
+  holds-truth (Implies x y) s =
+      ap (λ v. not v || holds m.labels valued y s) (holds-truth x s) ∙ ap (λ v. not (truth x s) || v) (holds-truth y s)
   holds-truth (Inner team bound kind left right) s = refl
 
   valued-true : IsTruth m valued
@@ -95,8 +114,10 @@ module _ (m : Model) (game : IsGame m.game) where
       let left : holds m.labels valued f.left ≡ truth f.left = fun_ext (holds-truth f.left) in
       let right : holds m.labels valued f.right ≡ truth f.right = fun_ext (holds-truth f.right) in
       let is = judged-right f (truth f.left) (truth f.right) s inside in (
-        (λ h. subst (λ x. IsTrueBy f.kind m f x (holds m.labels valued f.right) s) (sym left) (subst (λ y. IsTrueBy f.kind m f (truth f.left) y s) (sym right) (is.0 h))),
-        (λ h. is.1 (subst (λ x. IsTrueBy f.kind m f x (truth f.right) s) left (subst (λ y. IsTrueBy f.kind m f (holds m.labels valued f.left) y s) right h))),
+        (λ h. subst (λ x. IsTrueBy f.kind m f x (holds m.labels valued f.right) s) (sym left)
+            (subst (λ y. IsTrueBy f.kind m f (truth f.left) y s) (sym right) (is.0 h))),
+        (λ h. is.1 (subst (λ x. IsTrueBy f.kind m f x (truth f.right) s) left
+            (subst (λ y. IsTrueBy f.kind m f (holds m.labels valued f.left) y s) right h))),
       )
 
 pub truth-of : (m : Model) → IsGame m.game → (valuation : Valuation) × IsTruth m valuation

@@ -1,5 +1,6 @@
 -- Where nothing inside is undecided, what is undecided is left open.
-use Rattle.std.proofs.Common.{◌≡◌, ◌∙◌, ◌<◌, ◌≤◌, ◌+◌, ◌-◌, ◌*◌, ◌^◌, inl, inr, ℕ, Bool, true, false, not, List, length, get_or, arith, sym, ap, subst, refl, le_refl}
+use Rattle.std.proofs.Common.{◌≡◌, ◌∙◌, ◌<◌, ◌≤◌, ◌+◌, ◌-◌, ◌*◌, ◌^◌, inl, inr, ℕ, Bool, true, false, not, List, length}
+use Rattle.std.proofs.Common.{get_or, arith, sym, ap, subst, refl, le_refl}
 use Rattle.std.specs.Prelude.{slice_index, All}
 use Rattle.std.proofs.Math.Nat.{mul-le-mul_right, one-le-pow}
 use Rattle.std.proofs.lemmas.List.{length-map}
@@ -42,7 +43,8 @@ use Rattle.nested_truth.proofs.Coarsely.{HasUnits, bounded-units, verdict-mirror
 near-over : (v w r p x : ℕ) → x ≤ (v + r) * p → v ≤ w → x ≤ (w + r) * p
 near-over v w r p x near above = omega (arith, near, mul-le-mul_right p above)
 
-module _ (q : Query) (zero : List Bool) (bound : Bound) (starts : List ℕ) (asked : ℕ) (found : Bracket) (posed : IsQuery q) (run : IsFound q zero bound starts asked found) (s : ℕ) (inside : s < length q.game) where
+module _ (q : Query) (zero : List Bool) (bound : Bound) (starts : List ℕ) (asked : ℕ) (found : Bracket)
+    (posed : IsQuery q) (run : IsFound q zero bound starts asked found) (s : ℕ) (inside : s < length q.game) where
   abbrev base : ℕ
   base = slice_index found.base.items s
 
@@ -52,65 +54,94 @@ module _ (q : Query) (zero : List Bool) (bound : Bound) (starts : List ℕ) (ask
   abbrev upper : ℕ
   upper = slice_index found.upper.items s
 
-  narrow-open : IsNarrow q zero asked (slice_index found.base.items) (slice_index found.upper.items) → verdict_of bound lower upper ≡ Undecided → IsLeftOpen q zero bound asked (slice_index found.lower.items) (slice_index found.upper.items) s
+  narrow-open : IsNarrow q zero asked (slice_index found.base.items) (slice_index found.upper.items)
+      → verdict_of bound lower upper ≡ Undecided
+      → IsLeftOpen q zero bound asked (slice_index found.lower.items) (slice_index found.upper.items) s
   narrow-open narrow undecided =
       let above : base ≤ lower = run.lower.above s inside in
       let power : ℕ = denominator q.game ^ asked in
       let printed = open-here bound lower upper undecided in
       record {
         printed = printed;
-        swept = open-wider bound lower upper (down_steps q asked s) (unit - down_steps (swapped q zero) asked s) 1 0 (omega arith) (omega (arith, narrow.swept s inside, above)) (omega (arith, narrow.swept_above s inside)) printed;
-        near = open-wider bound lower upper (unit * numerator q asked s) (unit * open_numerator q zero asked s) power asked (one-le-pow asked (denominator q.game) (denominator-pos q.game posed.game))
-            (near-over base lower asked power (unit * numerator q asked s) (narrow.near s inside) above) (narrow.near_above s inside) printed;
+        swept = open-wider bound lower upper (down_steps q asked s) (unit - down_steps (swapped q zero) asked s) 1 0
+            (omega arith) (omega (arith, narrow.swept s inside, above))
+            (omega (arith, narrow.swept_above s inside)) printed;
+        near = open-wider bound lower upper (unit * numerator q asked s) (unit * open_numerator q zero asked s) power
+            asked (one-le-pow asked (denominator q.game) (denominator-pos q.game posed.game))
+            (near-over base lower asked power (unit * numerator q asked s) (narrow.near s inside) above)
+            (narrow.near_above s inside) printed;
       }
 
-  found-open : IsLookedAt bound starts s → verdict_of bound lower upper ≡ Undecided → IsLeftOpen q zero bound asked (slice_index found.lower.items) (slice_index found.upper.items) s
+  found-open : IsLookedAt bound starts s → verdict_of bound lower upper ≡ Undecided
+      → IsLeftOpen q zero bound asked (slice_index found.lower.items) (slice_index found.upper.items) s
   found-open looked undecided = elim run.bounds.near.narrow_asked [
     | inl settled ↦
-        let yes : is_settling (verdict_of bound lower upper) ≡ true = settled-on bound base lower upper upper (run.lower.above s inside) (le_refl upper) (looked (slice_index found.base.items) (slice_index found.upper.items) settled) in
+        let yes : is_settling (verdict_of bound lower upper) ≡ true =
+        settled-on bound base lower upper upper (run.lower.above s inside) (le_refl upper)
+        (looked (slice_index found.base.items) (slice_index found.upper.items) settled) in
         let no : is_settling (verdict_of bound lower upper) ≡ false = ap is_settling undecided in
         absurd (cc (yes, no))
     | inr narrow ↦ narrow-open narrow undecided
   ]
 
-raced-open : (q : Query) (bound : Bound) (starts : List ℕ) (asked : ℕ) (band : Band) (how : How) (s : ℕ) → IsQuery q → s < length q.game → IsLookedAt bound starts s → AreRaced q q bound starts asked band how
+raced-open : (q : Query) (bound : Bound) (starts : List ℕ) (asked : ℕ) (band : Band) (how : How) (s : ℕ)
+    → IsQuery q → s < length q.game → IsLookedAt bound starts s → AreRaced q q bound starts asked band how
     → verdict_at bound band s ≡ Undecided → IsRunOpen q bound asked band s
 raced-open q bound starts asked band how s posed inside looked h undecided =
     let found : Bracket = h.low_found in
     let lower : band.lower ≡ found.lower.items = h.lower in
     let upper : band.upper ≡ found.upper.items = h.upper ∙ ap (λ (b : Bracket). b.upper.items) (sym (h.one refl)) in
     let here : verdict_of bound (slice_index found.lower.items s) (slice_index found.upper.items s) ≡ Undecided =
-    subst (λ (l : List ℕ). verdict_of bound (slice_index l s) (slice_index found.upper.items s) ≡ Undecided) lower (subst (λ (u : List ℕ). verdict_of bound (slice_index band.lower s) (slice_index u s) ≡ Undecided) upper undecided) in
+    subst (λ (l : List ℕ). verdict_of bound (slice_index l s) (slice_index found.upper.items s) ≡ Undecided) lower
+    (subst (λ (u : List ℕ). verdict_of bound (slice_index band.lower s) (slice_index u s) ≡ Undecided) upper
+    undecided) in
     let at : IsLeftOpen q h.low_run.zero bound asked (slice_index found.lower.items) (slice_index found.upper.items) s =
     found-open q h.low_run.zero bound starts asked found posed h.low_run.is_found s inside looked here in
     record {
       zero = h.low_run.zero;
       is_zero = h.low_run.is_zero;
-      is_open = subst (λ (l : List ℕ). IsLeftOpen q h.low_run.zero bound asked (slice_index l) (slice_index band.upper) s) (sym lower)
-          (subst (λ (u : List ℕ). IsLeftOpen q h.low_run.zero bound asked (slice_index found.lower.items) (slice_index u) s) (sym upper) at);
+      is_open = subst (λ (l : List ℕ).
+          IsLeftOpen q h.low_run.zero bound asked (slice_index l) (slice_index band.upper) s) (sym lower)
+          (subst (λ (u : List ℕ).
+          IsLeftOpen q h.low_run.zero bound asked (slice_index found.lower.items) (slice_index u) s) (sym upper) at);
     }
 
 -- 2. So many steps, and one.
 
-bracketed-open : (bound : Bound) (steps n d lower upper : ℕ) → 1 ≤ d → IsBracketed steps d lower upper (unit * n) → verdict_of bound lower upper ≡ Undecided → IsLeftOpenBy bound steps n d lower upper
+bracketed-open : (bound : Bound) (steps n d lower upper : ℕ) → 1 ≤ d → IsBracketed steps d lower upper (unit * n)
+    → verdict_of bound lower upper ≡ Undecided → IsLeftOpenBy bound steps n d lower upper
 bracketed-open bound steps n d lower upper some h undecided =
     let printed = open-here bound lower upper undecided in
-    record { printed = printed; near = open-wider bound lower upper (unit * n) (unit * n) d steps some h.near_low h.near_high printed }
+    record {
+      printed = printed;
+      near = open-wider bound lower upper (unit * n) (unit * n) d steps some h.near_low h.near_high printed;
+    }
 
-swept-sweep : (q : Query) (opens : ℕ → ℕ) (steps : ℕ) (band : Band) (how : How) → AreSwept q q opens opens steps band how → IsSweep q opens steps band.lower band.upper
-swept-sweep q opens steps band how h = record { lowers = h.low_swept.lowers; uppers = h.high_swept.uppers; down = h.low_swept.down; up = h.high_swept.up }
+swept-sweep : (q : Query) (opens : ℕ → ℕ) (steps : ℕ) (band : Band) (how : How)
+    → AreSwept q q opens opens steps band how → IsSweep q opens steps band.lower band.upper
+swept-sweep q opens steps band how h =
+    record { lowers = h.low_swept.lowers; uppers = h.high_swept.uppers; down = h.low_swept.down; up = h.high_swept.up }
 
 -- 3. 1 less the bounds of 1 less the bounds.
 
-twice-complement : (values : List ℕ) (s : ℕ) → s < length values → slice_index values s ≤ unit → slice_index (complements_of (complements_of values)) s ≡ slice_index values s
-twice-complement values s inside small = omega (arith, complement-entry (complements_of values) s (omega (arith, inside, length-map values (λ (v : ℕ). unit - v))), complement-entry values s inside, small)
+twice-complement : (values : List ℕ) (s : ℕ) → s < length values → slice_index values s ≤ unit
+    → slice_index (complements_of (complements_of values)) s ≡ slice_index values s
+twice-complement values s inside small = omega (
+  arith,
+  complement-entry (complements_of values) s (omega (arith, inside, length-map values (λ (v : ℕ). unit - v))),
+  complement-entry values s inside,
+  small,
+)
 
-open-same : (q : Query) (bound : Bound) (asked : ℕ) (band other : Band) (s : ℕ) → slice_index other.lower s ≡ slice_index band.lower s → slice_index other.upper s ≡ slice_index band.upper s → IsRunOpen q bound asked band s → IsRunOpen q bound asked other s
+open-same : (q : Query) (bound : Bound) (asked : ℕ) (band other : Band) (s : ℕ)
+    → slice_index other.lower s ≡ slice_index band.lower s → slice_index other.upper s ≡ slice_index band.upper s
+    → IsRunOpen q bound asked band s → IsRunOpen q bound asked other s
 open-same q bound asked band other s lower upper h = record {
   zero = h.zero;
   is_zero = h.is_zero;
   is_open = record {
-    printed = subst (λ l. LeavesOpen bound l (slice_index other.upper s) 1 0) (sym lower) (subst (λ u. LeavesOpen bound (slice_index band.lower s) u 1 0) (sym upper) h.is_open.printed);
+    printed = subst (λ l. LeavesOpen bound l (slice_index other.upper s) 1 0) (sym lower)
+        (subst (λ u. LeavesOpen bound (slice_index band.lower s) u 1 0) (sym upper) h.is_open.printed);
     swept = h.is_open.swept;
     near = h.is_open.near;
   };
@@ -118,34 +149,52 @@ open-same q bound asked band other s lower upper h = record {
 
 -- 4. Of every kind of path.
 
-module _ (m : Model) (game : IsGame m.game) (f : Tree) (small : IsAtMostOne f.bound) (left right : ℕ → Bool) (starts : List ℕ) (asked : ℕ) (band : Band) (how : How) (s : ℕ) (inside : s < states m) (looked : (bound : Bound) → IsLookedAt bound starts s) where
-  always-open : AreFoundBy Always m f (exactly left) (exactly right) starts asked band how → verdict_at f.bound band s ≡ Undecided → IsOpenBy Always m f left right asked band s
+module _ (m : Model) (game : IsGame m.game) (f : Tree) (small : IsAtMostOne f.bound) (left right : ℕ → Bool)
+    (starts : List ℕ) (asked : ℕ) (band : Band) (how : How) (s : ℕ) (inside : s < states m)
+    (looked : (bound : Bound) → IsLookedAt bound starts s) where
+  always-open : AreFoundBy Always m f (exactly left) (exactly right) starts asked band how
+      → verdict_at f.bound band s ≡ Undecided → IsOpenBy Always m f left right asked band s
   always-open h undecided =
       let g : Tree = dual_of f in
       let bound : Bound = dual_bound f.bound in
       let fails : ℕ → Bool = λ t. not (right t) in
       let q : Query = question_by m g everywhere fails in
-      let fine = raced m game g everywhere fails (exactly everywhere) (negated (exactly right)) (exactly-around m everywhere) (negated-around m right (exactly right) (exactly-around m right)) bound starts asked h.0 how h.1 in
+      let fine =
+      raced m game g everywhere fails (exactly everywhere) (negated (exactly right)) (exactly-around m everywhere)
+      (negated-around m right (exactly right) (exactly-around m right)) bound starts asked h.0 how h.1 in
       let units : HasUnits h.0 s = bounded-units m g everywhere fails h.0 fine s inside in
-      let here : verdict_at bound h.0 s ≡ Undecided = sym (verdict-mirrored f.bound h.0 s small units) ∙ ap (λ (b : Band). verdict_at f.bound b s) (sym h.2) ∙ undecided in
-      let at : IsRunOpen q bound asked h.0 s = raced-open q bound starts asked h.0 how s (is_query m g everywhere fails game) inside (looked bound) h.1 here in
+      let here : verdict_at bound h.0 s ≡ Undecided = sym (verdict-mirrored f.bound h.0 s small units)
+      ∙ ap (λ (b : Band). verdict_at f.bound b s) (sym h.2) ∙ undecided in
+      let at : IsRunOpen q bound asked h.0 s =
+      raced-open q bound starts asked h.0 how s (is_query m g everywhere fails game) inside (looked bound) h.1 here in
       subst (λ (b : Band). IsRunOpen q bound asked (mirrored b) s) (sym h.2)
-      (open-same q bound asked h.0 (mirrored (mirrored h.0)) s (twice-complement h.0.lower s units.lowers units.lower) (twice-complement h.0.upper s units.uppers units.upper) at)
+      (open-same q bound asked h.0 (mirrored (mirrored h.0)) s (twice-complement h.0.lower s units.lowers units.lower)
+      (twice-complement h.0.upper s units.uppers units.upper) at)
 
-  pub opened : (kind : PathKind) → AreFoundBy kind m f (exactly left) (exactly right) starts asked band how → verdict_at f.bound band s ≡ Undecided → IsOpenBy kind m f left right asked band s
-  opened Until h undecided = raced-open (question_by m f left right) f.bound starts asked band how s (is_query m f left right game) inside (looked f.bound) h undecided
+  pub opened : (kind : PathKind) → AreFoundBy kind m f (exactly left) (exactly right) starts asked band how
+      → verdict_at f.bound band s ≡ Undecided → IsOpenBy kind m f left right asked band s
+  opened Until h undecided = raced-open (question_by m f left right) f.bound starts asked band how s
+      (is_query m f left right game) inside (looked f.bound) h undecided
   opened (Within k) h undecided =
       let q : Query = question_by m f left right in
-      bracketed-open f.bound k (numerator q k s) (denominator m.game ^ k) (slice_index band.lower s) (slice_index band.upper s) (one-le-pow k (denominator m.game) (denominator-pos m.game game))
-      (IsBracketed-opening q k band.lower band.upper (is_query m f left right game) (swept-sweep q (opening q) k band how h) s inside) undecided
+      bracketed-open f.bound k (numerator q k s) (denominator m.game ^ k) (slice_index band.lower s)
+      (slice_index band.upper s) (one-le-pow k (denominator m.game) (denominator-pos m.game game))
+      (IsBracketed-opening q k band.lower band.upper (is_query m f left right game)
+      (swept-sweep q (opening q) k band how h) s inside) undecided
   opened Next h undecided =
       let q : Query = next_question_of m.game m.owners f in
-      bracketed-open f.bound 1 (next_numerator q right s) (denominator m.game) (slice_index band.lower s) (slice_index band.upper s) (denominator-pos m.game game)
-      (IsBracketed-next q (units_at right) right band.lower band.upper (is_next_query m f game) (next-opens m game f right right (exactly right) (exactly right) (exactly-around m right) (exactly-around m right) right) (swept-sweep q (units_at right) 1 band how h) s inside) undecided
+      bracketed-open f.bound 1 (next_numerator q right s) (denominator m.game) (slice_index band.lower s)
+      (slice_index band.upper s) (denominator-pos m.game game)
+      (IsBracketed-next q (units_at right) right band.lower band.upper (is_next_query m f game)
+      (next-opens m game f right right (exactly right) (exactly right) (exactly-around m right)
+      (exactly-around m right) right) (swept-sweep q (units_at right) 1 band how h) s inside) undecided
   opened Always h undecided = always-open h undecided
 
 -- at each of the states where the run looks
-pub all-opened : (m : Model) → IsGame m.game → (f : Tree) → IsAtMostOne f.bound → (left right : ℕ → Bool) (starts : List ℕ) (asked : ℕ) (band : Band) (how : How) → All (λ s. s < states m) starts
-    → AreFoundBy f.kind m f (exactly left) (exactly right) starts asked band how → All (λ s. verdict_at f.bound band s ≡ Undecided → IsOpenBy f.kind m f left right asked band s) starts
+pub all-opened : (m : Model) → IsGame m.game → (f : Tree) → IsAtMostOne f.bound
+    → (left right : ℕ → Bool) (starts : List ℕ) (asked : ℕ) (band : Band) (how : How)
+    → All (λ s. s < states m) starts → AreFoundBy f.kind m f (exactly left) (exactly right) starts asked band how
+    → All (λ s. verdict_at f.bound band s ≡ Undecided → IsOpenBy f.kind m f left right asked band s) starts
 all-opened m game f small left right starts asked band how inside h =
-    λ k d there undecided. opened m game f small left right starts asked band how (get_or starts k d) (inside k d there) (λ any. looked-start any starts k d there) f.kind h undecided
+    λ k d there undecided. opened m game f small left right starts asked band how (get_or starts k d) (inside k d there)
+    (λ any. looked-start any starts k d there) f.kind h undecided

@@ -1,5 +1,6 @@
 -- More goals and fewer dead states give no smaller values.
-use Rattle.std.proofs.Common.{◌≡◌, ◌<◌, ◌≤◌, ◌*◌, ◌/◌, ◌+◌, ◌^◌, ℕ, zero, suc, Bool, true, false, List, [], ◌∷◌, length, get_or, arith, refl, sum_by}
+use Rattle.std.proofs.Common.{◌≡◌, ◌<◌, ◌≤◌, ◌*◌, ◌/◌, ◌+◌, ◌^◌, ℕ, zero, suc, Bool, true, false, List, [], ◌∷◌, length}
+use Rattle.std.proofs.Common.{get_or, arith, refl, sum_by}
 use Rattle.std.specs.List.{AllByRecursion}
 use Rattle.std.specs.Bool.{if◌then◌else◌}
 use Rattle.std.proofs.Math.Nat.{mul-le-mul_left}
@@ -19,8 +20,8 @@ use Rattle.bounded_rounds.specs.Exact.{next_numerator}
 
 -- 1. One step.
 
-pub step-wider : (goal dead goal' dead' : Bool) (top x y : ℕ) → (goal ≡ true → goal' ≡ true) → (dead' ≡ true → dead ≡ true) → x ≤ y
-    → (if goal then top else (if dead then 0 else x)) ≤ top
+pub step-wider : (goal dead goal' dead' : Bool) (top x y : ℕ) → (goal ≡ true → goal' ≡ true)
+    → (dead' ≡ true → dead ≡ true) → x ≤ y → (if goal then top else (if dead then 0 else x)) ≤ top
     → (if goal then top else (if dead then 0 else x)) ≤ (if goal' then top else (if dead' then 0 else y))
 step-wider true dead true dead' top x y rises falls le most = most
 step-wider true dead false dead' top x y rises falls le most = let no : false ≡ true = rises refl in absurd (cc)
@@ -54,11 +55,16 @@ module _ (game : List (List Distribution)) (sides : List Side) (goals deads more
   numerator-wider zero s = opening-wider (is_goal narrow s) (is_goal wide s) (rises s)
   numerator-wider (suc k) s =
       let D : ℕ = denominator game in
-      let each : 1 * optimum (side_at narrow s) (λ m. D / m.total * weighted_sum (numerator narrow k) m.edges) (choices_of game s) ≤ 1 * optimum (side_at wide s) (λ m. D / m.total * weighted_sum (numerator wide k) m.edges) (choices_of game s) =
+      let each : 1
+      * optimum (side_at narrow s) (λ m. D / m.total * weighted_sum (numerator narrow k) m.edges) (choices_of game s)
+      ≤ 1 * optimum (side_at wide s) (λ m. D / m.total * weighted_sum (numerator wide k) m.edges) (choices_of game s) =
       optimum-le (side_at narrow s) _ _ 1 1 (choices_of game s)
-      (AllByRecursion-always _ (λ m. scaled-le (D / m.total) (weighted_sum (numerator narrow k) m.edges) (weighted_sum (numerator wide k) m.edges)
-      (weighted_sum-le (numerator narrow k) (numerator wide k) 1 1 m.edges (AllByRecursion-always _ (λ e. omega (arith, numerator-wider k e.to)) m.edges))) (choices_of game s)) in
-      step-wider (is_goal narrow s) (is_dead narrow s) (is_goal wide s) (is_dead wide s) (D ^ suc k) _ _ (rises s) (falls s) (omega (arith, each))
+      (AllByRecursion-always _ (λ m.
+      scaled-le (D / m.total) (weighted_sum (numerator narrow k) m.edges) (weighted_sum (numerator wide k) m.edges)
+      (weighted_sum-le (numerator narrow k) (numerator wide k) 1 1 m.edges
+      (AllByRecursion-always _ (λ e. omega (arith, numerator-wider k e.to)) m.edges))) (choices_of game s)) in
+      step-wider (is_goal narrow s) (is_dead narrow s) (is_goal wide s) (is_dead wide s) (D ^ suc k) _ _ (rises s)
+      (falls s) (omega (arith, each))
       (numerator_of-most narrow (choices_of game) chosen (suc k) s)
 
   near-on : (m v d n n' : ℕ) → n ≤ n' → m * v * d ≤ unit * (m * n + d) → m * v * d ≤ unit * (m * n' + d)
@@ -67,32 +73,47 @@ module _ (game : List (List Distribution)) (sides : List Side) (goals deads more
   -- so bounds from below stay so with more goals, and bounds from above with fewer
   pub IsNear-wider : (table : ℕ → ℕ) → IsNear narrow table → IsNear wide table
   IsNear-wider table near = λ m some.
-      let at = near m some in
-      (at.0, λ s inside. near-on m (table s) (denominator game ^ at.0) (numerator narrow at.0 s) (numerator wide at.0 s) (numerator-wider at.0 s) (at.1 s inside))
+      let at = near m some in (
+        at.0,
+        λ s inside. near-on m (table s) (denominator game ^ at.0) (numerator narrow at.0 s) (numerator wide at.0 s)
+            (numerator-wider at.0 s) (at.1 s inside),
+      )
 
   pub IsHigh-narrower : (table : ℕ → ℕ) → IsHigh wide table → IsHigh narrow table
   IsHigh-narrower table high = λ k s inside. omega (arith, mul-le-mul_left unit (numerator-wider k s), high k s inside)
 
 -- 3. The next state.
 
-term-wider : (here there : Bool) (weight : ℕ) → (here ≡ true → there ≡ true) → (if here then weight else 0) ≤ (if there then weight else 0)
+term-wider : (here there : Bool) (weight : ℕ) → (here ≡ true → there ≡ true)
+    → (if here then weight else 0) ≤ (if there then weight else 0)
 term-wider true true weight more = let at : weight ≤ weight = omega arith in at
 term-wider true false weight more = let no : false ≡ true = more refl in absurd (cc)
 term-wider false there weight more = let at : 0 ≤ (if there then weight else 0) = omega arith in at
 
-terms-wider : (n : ℕ) (here there : ℕ → Bool) (edges : List Edge) → ((s : ℕ) → s < n → here s ≡ true → there s ≡ true) → AllByRecursion (λ e. e.to < n) edges
-    → 1 * sum_by (λ e. if here e.to then e.weight else 0) edges ≤ 1 * sum_by (λ e. if there e.to then e.weight else 0) edges
+terms-wider : (n : ℕ) (here there : ℕ → Bool) (edges : List Edge) → ((s : ℕ) → s < n → here s ≡ true → there s ≡ true)
+    → AllByRecursion (λ e. e.to < n) edges → 1 * sum_by (λ e. if here e.to then e.weight else 0) edges
+    ≤ 1 * sum_by (λ e. if there e.to then e.weight else 0) edges
 terms-wider n here there [] more inside = omega arith
 terms-wider n here there (e ∷ es) more inside =
-    rw (sum_by-cons (λ (d : Edge). if here d.to then d.weight else 0) e es, sum_by-cons (λ (d : Edge). if there d.to then d.weight else 0) e es)
-    (omega (arith, term-wider (here e.to) (there e.to) e.weight (more e.to inside.0), terms-wider n here there es more inside.1))
+    rw (
+      sum_by-cons (λ (d : Edge). if here d.to then d.weight else 0) e es,
+      sum_by-cons (λ (d : Edge). if there d.to then d.weight else 0) e es,
+    )
+    (omega (
+      arith,
+      term-wider (here e.to) (there e.to) e.weight (more e.to inside.0),
+      terms-wider n here there es more inside.1,
+    ))
 
 -- the more states are hoped for, the likelier one of them is next
-pub next_numerator-wider : (q : Query) (here there : ℕ → Bool) → AreChoicesOf q.game (choices_of q.game) → ((s : ℕ) → s < length q.game → here s ≡ true → there s ≡ true)
-    → (s : ℕ) → next_numerator q here s ≤ next_numerator q there s
+pub next_numerator-wider : (q : Query) (here there : ℕ → Bool) → AreChoicesOf q.game (choices_of q.game)
+    → ((s : ℕ) → s < length q.game → here s ≡ true → there s ≡ true) → (s : ℕ)
+    → next_numerator q here s ≤ next_numerator q there s
 next_numerator-wider q here there chosen more s =
     let D : ℕ = denominator q.game in
     let each : 1 * next_numerator q here s ≤ 1 * next_numerator q there s =
     optimum-le (side_at q s) _ _ 1 1 (choices_of q.game s)
-    (AllByRecursion-weaker (IsChoiceOf q.game) _ (λ m fits. scaled-le (D / m.total) _ _ (terms-wider (length q.game) here there m.edges more fits.inside)) (choices_of q.game s) (chosen.each s)) in
+    (AllByRecursion-weaker (IsChoiceOf q.game) _
+    (λ m fits. scaled-le (D / m.total) _ _ (terms-wider (length q.game) here there m.edges more fits.inside))
+    (choices_of q.game s) (chosen.each s)) in
     omega (arith, each)

@@ -1,5 +1,6 @@
 -- More goals, fewer dead states and a greater opening table give no lesser rounded steps.
-use Rattle.std.proofs.Common.{◌≡◌, ◌<◌, ◌≤◌, ◌*◌, ◌/◌, ◌+◌, ◌-◌, ℕ, zero, suc, Bool, true, false, List, length, get_or, arith, subst, refl}
+use Rattle.std.proofs.Common.{◌≡◌, ◌<◌, ◌≤◌, ◌*◌, ◌/◌, ◌+◌, ◌-◌, ℕ, zero, suc, Bool, true, false, List, length, get_or}
+use Rattle.std.proofs.Common.{arith, subst, refl}
 use Rattle.std.specs.Bool.{if◌then◌else◌}
 use Rattle.std.proofs.Math.Nat.{div-lt_iff_lt-mul, le-div_iff_mul-le}
 use Rattle.game_model.specs.declared.game.Edge.{Edge}
@@ -53,26 +54,37 @@ abbrev pub AreUnits : ℕ → (ℕ → ℕ) → Type 0
 AreUnits n v = (t : ℕ) → t < n → v t ≤ unit
 
 module _ (round : ℕ → ℕ → ℕ) (is : IsRounding round) (game : List (List Distribution)) where
-  value-rises : (v w : ℕ → ℕ) (m : Distribution) → IsChoiceOf game m → IsUnder (length game) v w → 1 * round (weighted_sum v m.edges) m.total ≤ 1 * round (weighted_sum w m.edges) m.total
+  value-rises : (v w : ℕ → ℕ) (m : Distribution) → IsChoiceOf game m → IsUnder (length game) v w
+      → 1 * round (weighted_sum v m.edges) m.total ≤ 1 * round (weighted_sum w m.edges) m.total
   value-rises v w m fits h =
       let sums : 1 * weighted_sum v m.edges ≤ 1 * weighted_sum w m.edges =
-      weighted_sum-le v w 1 1 m.edges (AllByRecursion-weaker (λ (e : Edge). e.to < length game) _ (λ e inside. omega (arith, h e.to inside)) m.edges fits.inside) in
-      omega (arith, is.rises (weighted_sum v m.edges) (weighted_sum w m.edges) m.total fits.positive (omega (arith, sums)))
+      weighted_sum-le v w 1 1 m.edges (AllByRecursion-weaker (λ (e : Edge). e.to < length game) _
+      (λ e inside. omega (arith, h e.to inside)) m.edges fits.inside) in
+      omega (
+        arith,
+        is.rises (weighted_sum v m.edges) (weighted_sum w m.edges) m.total fits.positive (omega (arith, sums)),
+      )
 
-  value-most : (v : ℕ → ℕ) (m : Distribution) → IsChoiceOf game m → AreUnits (length game) v → round (weighted_sum v m.edges) m.total ≤ unit
+  value-most : (v : ℕ → ℕ) (m : Distribution) → IsChoiceOf game m → AreUnits (length game) v
+      → round (weighted_sum v m.edges) m.total ≤ unit
   value-most v m fits h =
       is.most (weighted_sum v m.edges) m.total unit fits.positive
-      (subst (λ w. weighted_sum v m.edges ≤ w * unit) fits.sums (weighted_sum-most v unit m.edges (AllByRecursion-weaker (λ (e : Edge). e.to < length game) _ (λ e inside. h e.to inside) m.edges fits.inside)))
+      (subst (λ w. weighted_sum v m.edges ≤ w * unit) fits.sums (weighted_sum-most v unit m.edges
+      (AllByRecursion-weaker (λ (e : Edge). e.to < length game) _ (λ e inside. h e.to inside) m.edges fits.inside)))
 
-pub step-most : (round : ℕ → ℕ → ℕ) → IsRounding round → (q : Query) → AreChoicesOf q.game (choices_of q.game) → (v : ℕ → ℕ) → AreUnits (length q.game) v → (s : ℕ) → step_of round q v s ≤ unit
+pub step-most : (round : ℕ → ℕ → ℕ) → IsRounding round → (q : Query) → AreChoicesOf q.game (choices_of q.game)
+    → (v : ℕ → ℕ) → AreUnits (length q.game) v → (s : ℕ) → step_of round q v s ≤ unit
 step-most round is q chosen v h s =
     bellman-most q (choices_of q.game) unit unit _ s (omega arith)
-    (AllByRecursion-weaker (IsChoiceOf q.game) _ (λ m fits. value-most round is q.game v m fits h) (choices_of q.game s) (chosen.each s))
+    (AllByRecursion-weaker (IsChoiceOf q.game) _ (λ m fits. value-most round is q.game v m fits h)
+    (choices_of q.game s) (chosen.each s))
 
-pub steps-most : (round : ℕ → ℕ → ℕ) → IsRounding round → (q : Query) → AreChoicesOf q.game (choices_of q.game) → (v : ℕ → ℕ) → AreUnits (length q.game) v → (k : ℕ) → AreUnits (length q.game) (steps_from (step_of round q) v k)
+pub steps-most : (round : ℕ → ℕ → ℕ) → IsRounding round → (q : Query) → AreChoicesOf q.game (choices_of q.game)
+    → (v : ℕ → ℕ) → AreUnits (length q.game) v → (k : ℕ) → AreUnits (length q.game) (steps_from (step_of round q) v k)
 unfolding steps_from
 steps-most round is q chosen v h zero t inside = h t inside
-steps-most round is q chosen v h (suc k) t inside = step-most round is q chosen (steps_from (step_of round q) v k) (steps-most round is q chosen v h k) t
+steps-most round is q chosen v h (suc k) t inside =
+    step-most round is q chosen (steps_from (step_of round q) v k) (steps-most round is q chosen v h k) t
 
 -- 3. Of two questions about one game with one ownership.
 
@@ -86,20 +98,27 @@ module _ (game : List (List Distribution)) (sides : List Side) (goals deads more
   abbrev wide : Query
   wide = record { game = game; sides = sides; goals = more; deads = fewer }
 
-  step-rises : (round : ℕ → ℕ → ℕ) → IsRounding round → (v w : ℕ → ℕ) → AreUnits (length game) v → IsUnder (length game) v w → (s : ℕ) → step_of round narrow v s ≤ step_of round wide w s
+  step-rises : (round : ℕ → ℕ → ℕ) → IsRounding round → (v w : ℕ → ℕ) → AreUnits (length game) v
+      → IsUnder (length game) v w → (s : ℕ) → step_of round narrow v s ≤ step_of round wide w s
   step-rises round is v w units under s =
-      let each : 1 * optimum (side_at narrow s) (λ m. round (weighted_sum v m.edges) m.total) (choices_of game s) ≤ 1 * optimum (side_at wide s) (λ m. round (weighted_sum w m.edges) m.total) (choices_of game s) =
-      optimum-le (side_at narrow s) _ _ 1 1 (choices_of game s) (AllByRecursion-weaker (IsChoiceOf game) _ (λ m fits. value-rises round is game v w m fits under) (choices_of game s) (chosen.each s)) in
-      step-wider (is_goal narrow s) (is_dead narrow s) (is_goal wide s) (is_dead wide s) unit _ _ (rises s) (falls s) (omega (arith, each)) (step-most round is narrow chosen v units s)
+      let each : 1 * optimum (side_at narrow s) (λ m. round (weighted_sum v m.edges) m.total) (choices_of game s)
+      ≤ 1 * optimum (side_at wide s) (λ m. round (weighted_sum w m.edges) m.total) (choices_of game s) =
+      optimum-le (side_at narrow s) _ _ 1 1 (choices_of game s) (AllByRecursion-weaker (IsChoiceOf game) _
+      (λ m fits. value-rises round is game v w m fits under) (choices_of game s) (chosen.each s)) in
+      step-wider (is_goal narrow s) (is_dead narrow s) (is_goal wide s) (is_dead wide s) unit _ _ (rises s) (falls s)
+      (omega (arith, each)) (step-most round is narrow chosen v units s)
 
-  pub steps-rise : (round : ℕ → ℕ → ℕ) → IsRounding round → (v w : ℕ → ℕ) → AreUnits (length game) v → IsUnder (length game) v w
-      → (k : ℕ) → IsUnder (length game) (steps_from (step_of round narrow) v k) (steps_from (step_of round wide) w k)
+  pub steps-rise : (round : ℕ → ℕ → ℕ) → IsRounding round → (v w : ℕ → ℕ)
+      → AreUnits (length game) v → IsUnder (length game) v w → (k : ℕ)
+      → IsUnder (length game) (steps_from (step_of round narrow) v k) (steps_from (step_of round wide) w k)
   unfolding steps_from
   steps-rise round is v w units under zero t inside = under t inside
   steps-rise round is v w units under (suc k) t inside =
-      step-rises round is (steps_from (step_of round narrow) v k) (steps_from (step_of round wide) w k) (steps-most round is narrow chosen v units k) (steps-rise round is v w units under k) t
+      step-rises round is (steps_from (step_of round narrow) v k) (steps_from (step_of round wide) w k)
+      (steps-most round is narrow chosen v units k) (steps-rise round is v w units under k) t
 
-  opening-rises : (goal goal' : Bool) → (goal ≡ true → goal' ≡ true) → (if goal then unit else 0) ≤ (if goal' then unit else 0)
+  opening-rises : (goal goal' : Bool) → (goal ≡ true → goal' ≡ true)
+      → (if goal then unit else 0) ≤ (if goal' then unit else 0)
   opening-rises true true h = let at : unit ≤ unit = omega arith in at
   opening-rises true false h = let no : false ≡ true = h refl in absurd (cc)
   opening-rises false goal' h = let at : 0 ≤ (if goal' then unit else 0) = omega arith in at
@@ -121,4 +140,5 @@ marked-units n marks s inside = units-if (marks s)
 
 pub down_steps-most : (q : Query) → IsQuery q → (r s : ℕ) → s < length q.game → down_steps q r s ≤ unit
 down_steps-most q posed r s inside =
-    subst (λ v. v ≤ unit) (down_from-opening q posed r s) (steps-most (λ x w. x / w) down-rounding q (AreChoicesOf-choices_of q.game posed.game) (opening q) (opening-units q) r s inside)
+    subst (λ v. v ≤ unit) (down_from-opening q posed r s) (steps-most (λ x w. x / w) down-rounding q
+    (AreChoicesOf-choices_of q.game posed.game) (opening q) (opening-units q) r s inside)

@@ -16,9 +16,11 @@ module _ {X : Type 0} (value : ℕ → X) (n : ℕ) (xs : List X) (is : xs ≡ a
   filled-at d s h = ap (λ (ys : List X). get_or ys s d) is ∙ at_states-at value n s d h
 
 -- tables of units
-pub filled-units : (value : ℕ → ℕ) (n : ℕ) (xs : List ℕ) → xs ≡ at_states value n → ((s : ℕ) → value s ≤ unit) → All (λ v. v ≤ unit) xs
+pub filled-units : (value : ℕ → ℕ) (n : ℕ) (xs : List ℕ) → xs ≡ at_states value n → ((s : ℕ) → value s ≤ unit)
+    → All (λ v. v ≤ unit) xs
 filled-units value n xs is units =
-    All-from_get_or (λ v. v ≤ unit) xs 0 (λ s h. subst (λ v. v ≤ unit) (sym (filled-at value n xs is 0 s (omega (arith, h, filled-length value n xs is)))) (units s))
+    All-from_get_or (λ v. v ≤ unit) xs 0 (λ s h.
+    subst (λ v. v ≤ unit) (sym (filled-at value n xs is 0 s (omega (arith, h, filled-length value n xs is)))) (units s))
 
 unit-or-none : (holds : Bool) → (if holds then unit else 0) ≤ unit
 unit-or-none true = let at : unit ≤ unit = omega arith in at

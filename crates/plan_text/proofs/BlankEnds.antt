@@ -1,5 +1,6 @@
 -- Lines of which the last are blank.
-use Rattle.std.proofs.Common.{◌≡◌, ◌∙◌, ◌+◌, ℕ, Bool, true, false, cond, List, [], ◌∷◌, Result, Ok, Err, refl, ap, arith}
+use Rattle.std.proofs.Common.{◌≡◌, ◌∙◌, ◌+◌, ℕ, Bool, true, false, cond, List, [], ◌∷◌, Result, Ok, Err, refl, ap}
+use Rattle.std.proofs.Common.{arith}
 use Rattle.std.specs.Prelude.{All}
 use Rattle.std.proofs.lemmas.List.Elements.{All-nil, All-cons, All-tail}
 use Rattle.text_lines.specs.Text.{fields_of, keep_line, is_nil}
@@ -13,7 +14,8 @@ abbrev pub IsBlank : List ℕ → Type 0
 IsBlank line = fields_of line ≡ []
 
 -- a line stays where what is said of its place has no fault
-pub kept : (X : Type 0) (say : List (List ℕ) → Result X PlanFault) (x : X) (fault : PlanFault) (line : List ℕ) (lines : List (List ℕ)) → say [] ≡ Err fault → say (keep_line line lines) ≡ Ok x → say (line ∷ lines) ≡ Ok x
+pub kept : (X : Type 0) (say : List (List ℕ) → Result X PlanFault) (x : X) (fault : PlanFault) (line : List ℕ)
+    (lines : List (List ℕ)) → say [] ≡ Err fault → say (keep_line line lines) ≡ Ok x → say (line ∷ lines) ≡ Ok x
 kept X say x fault line (next ∷ lines) none said = said
 kept X say x fault line [] none said = by (is_nil (fields_of line)) said
   where
@@ -25,7 +27,8 @@ pub blank-end : (number : ℕ) (lines : List (List ℕ)) → end_said number lin
 blank-end number [] said = All-nil IsBlank
 blank-end number (line ∷ lines) said = by (fields_of line) refl said (blank-end (number + 1) lines)
   where
-    by : (fields : List (List ℕ)) → fields_of line ≡ fields → cond (is_nil fields) (end_said (number + 1) lines) (Err (fault_at number BadLine)) ≡ Ok tt
+    by : (fields : List (List ℕ)) → fields_of line ≡ fields
+        → cond (is_nil fields) (end_said (number + 1) lines) (Err (fault_at number BadLine)) ≡ Ok tt
         → (end_said (number + 1) lines ≡ Ok tt → All IsBlank lines) → All IsBlank (line ∷ lines)
     by [] is rest behind = All-cons IsBlank line lines is (behind rest)
     by (field ∷ fields) is rest behind = cc
@@ -34,4 +37,5 @@ pub end_said-blank : (number : ℕ) (lines : List (List ℕ)) → All IsBlank li
 end_said-blank number [] are = refl
 end_said-blank number (line ∷ lines) are =
     let is : fields_of line ≡ [] = are 0 line (omega arith) in
-    ap (λ fields. cond (is_nil fields) (end_said (number + 1) lines) (Err (fault_at number BadLine))) is ∙ end_said-blank (number + 1) lines (All-tail IsBlank line lines are)
+    ap (λ fields. cond (is_nil fields) (end_said (number + 1) lines) (Err (fault_at number BadLine))) is
+    ∙ end_said-blank (number + 1) lines (All-tail IsBlank line lines are)

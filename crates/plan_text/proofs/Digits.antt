@@ -1,5 +1,6 @@
 -- The last digits of a number, written one after another, and read back.
-use Rattle.std.proofs.Common.{◌≡◌, ℕ, zero, suc, ◌+◌, ◌-◌, ◌*◌, ◌/◌, ◌%◌, ◌^◌, ◌<◌, ◌≤◌, List, [], ◌∷◌, ◌++◌, length, drop, set, append_assoc, add-one, arith, refl}
+use Rattle.std.proofs.Common.{◌≡◌, ℕ, zero, suc, ◌+◌, ◌-◌, ◌*◌, ◌/◌, ◌%◌, ◌^◌, ◌<◌, ◌≤◌, List, [], ◌∷◌, ◌++◌, length}
+use Rattle.std.proofs.Common.{drop, set, append_assoc, add-one, arith, refl}
 use Rattle.std.proofs.Math.Nat.{pow-suc}
 use Rattle.std.proofs.lemmas.List.{drop-set}
 use Rattle.game_model.specs.Limits.{unit}
@@ -42,7 +43,8 @@ last_digits-one zero m n small_m small_n same = omega (arith, small_m, small_n)
 last_digits-one (suc k) m n small_m small_n same =
     let parts = snoc-parts (last_digits k (m / 10)) (last_digits k (n / 10)) (48 + m % 10) (48 + n % 10) same in
     let power : 10 ^ suc k ≡ 10 ^ k * 10 = pow-suc 10 k in
-    let front : m / 10 ≡ n / 10 = last_digits-one k (m / 10) (n / 10) (omega (arith, power)) (omega (arith, power)) parts.0 in
+    let front : m / 10 ≡ n / 10 =
+    last_digits-one k (m / 10) (n / 10) (omega (arith, power)) (omega (arith, power)) parts.0 in
     let last : 48 + m % 10 ≡ 48 + n % 10 = parts.1 in
     omega (arith, front, last)
 
@@ -51,5 +53,6 @@ pub fixed-one : (u v : ℕ) → u ≤ unit → v ≤ unit → fixed u ≡ fixed 
 fixed-one u v small_u small_v same =
     let whole : 48 + u / unit ≡ 48 + v / unit = cc in
     let digits : last_digits unit_digits (u % unit) ≡ last_digits unit_digits (v % unit) = cc in
-    let rest : u % unit ≡ v % unit = last_digits-one unit_digits (u % unit) (v % unit) (omega arith) (omega arith) digits in
+    let rest : u % unit ≡ v % unit =
+    last_digits-one unit_digits (u % unit) (v % unit) (omega arith) (omega arith) digits in
     omega (arith, whole, rest)

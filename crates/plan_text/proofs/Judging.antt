@@ -1,5 +1,6 @@
 -- An entry is judged as far as 64 bits go.
-use Rattle.std.proofs.Common.{◌≡◌, ◌<◌, ◌-◌, ◌^◌, ℕ, Bool, true, false, Option, Some, None, Ok, ap, ◌∙◌, refl, arith, leb, ◌&&◌}
+use Rattle.std.proofs.Common.{◌≡◌, ◌<◌, ◌-◌, ◌^◌, ℕ, Bool, true, false, Option, Some, None, Ok, ap, ◌∙◌, refl, arith}
+use Rattle.std.proofs.Common.{leb, ◌&&◌}
 use Rattle.std.specs.Option.{option_map}
 use Rattle.std.proofs.lemmas.Bool.Decides.{nat_tests}
 use Rattle.game_model.specs.Limits.{unit}
@@ -27,8 +28,13 @@ saturated-small (Some c) small = ap (λ n. Some n) (saturated-within c greatest_
 
 saturated_entry-in_range : (entry : Entry) → is_in_range entry ≡ true → saturated_entry entry ≡ entry
 saturated_entry-in_range entry within =
-    let parts = and_all (leb entry.lower unit) (leb entry.upper unit) (is_small entry.choice) (is_small entry.reply) (leb entry.rank greatest_rank) within in
-    simp (saturated-small entry.choice parts.0, saturated-small entry.reply parts.1, saturated-within entry.rank greatest_rank (omega arith) parts.2)
+    let parts = and_all (leb entry.lower unit) (leb entry.upper unit) (is_small entry.choice) (is_small entry.reply)
+    (leb entry.rank greatest_rank) within in
+    simp (
+      saturated-small entry.choice parts.0,
+      saturated-small entry.reply parts.1,
+      saturated-within entry.rank greatest_rank (omega arith) parts.2,
+    )
   where
     and_all : (a b c d e : Bool) → (a && b && c && d && e) ≡ true → (c ≡ true) × (d ≡ true) × (e ≡ true)
     and_all a b c d e all = grind (arith, nat_tests)

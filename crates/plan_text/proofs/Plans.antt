@@ -2,7 +2,8 @@
 use Rattle.std.proofs.Common.{◌≡◌, ◌<◌, ◌+◌, ℕ, List, [], ◌∷◌, ◌++◌, length, map, None, sym, ap, ◌∙◌, arith}
 use Rattle.std.specs.List.{range_with_len}
 use Rattle.std.proofs.lemmas.List.{length_push, get_or_append_left, get_or_push}
-use Rattle.std.proofs.lemmas.List.FromFn.{map-range_with_len_more, fill_by_all, length-map-range_with_len, get_or-map-range_with_len}
+use Rattle.std.proofs.lemmas.List.FromFn.{map-range_with_len_more, fill_by_all, length-map-range_with_len}
+use Rattle.std.proofs.lemmas.List.FromFn.{get_or-map-range_with_len}
 use Rattle.plan_text.specs.declared.plan.Plan.{Plan}
 use Rattle.plan_text.specs.Entries.{Entry, HasStates, entry_at, entries_of}
 
@@ -15,7 +16,8 @@ pub record IsPushed (old new : Plan) (entry : Entry) : Type 0 where
   pub replies : new.replies.items ≡ old.replies.items ++ entry.reply ∷ []
 
 -- the states before are as they were
-entry_at-before : (old new : Plan) (entry : Entry) (n k : ℕ) → HasStates old n → IsPushed old new entry → k < n → entry_at old k ≡ entry_at new k
+entry_at-before : (old new : Plan) (entry : Entry) (n k : ℕ) → HasStates old n → IsPushed old new entry → k < n
+    → entry_at old k ≡ entry_at new k
 entry_at-before old new entry n k size pushed before =
     let a = get_or_append_left old.lower.items (entry.lower ∷ []) 0 k (omega (arith, size.lower)) in
     let b = get_or_append_left old.choices.items (entry.choice ∷ []) None k (omega (arith, size.choices)) in
@@ -25,7 +27,8 @@ entry_at-before old new entry n k size pushed before =
     cc
 
 -- the last state has this entry
-entry_at-last : (old new : Plan) (entry : Entry) (n : ℕ) → HasStates old n → IsPushed old new entry → entry_at new n ≡ entry
+entry_at-last : (old new : Plan) (entry : Entry) (n : ℕ) → HasStates old n → IsPushed old new entry
+    → entry_at new n ≡ entry
 entry_at-last old new entry n size pushed = simp (
   pushed.lower,
   pushed.choices,
@@ -39,14 +42,19 @@ entry_at-last old new entry n size pushed = simp (
   get_or_push old.replies.items entry.reply None n size.replies,
 )
 
-pub entries_of-push : (old new : Plan) (entry : Entry) (n : ℕ) → HasStates old n → IsPushed old new entry → entries_of new ≡ entries_of old ++ entry ∷ []
+pub entries_of-push : (old new : Plan) (entry : Entry) (n : ℕ) → HasStates old n → IsPushed old new entry
+    → entries_of new ≡ entries_of old ++ entry ∷ []
 entries_of-push old new entry n size pushed =
     let before : map (entry_at old) (range_with_len 0 n) ≡ map (entry_at new) (range_with_len 0 n) =
-    fill_by_all (entry_at new) (map (entry_at old) (range_with_len 0 n)) n entry (length-map-range_with_len (entry_at old) 0 n)
-    (λ k h. get_or-map-range_with_len (entry_at old) 0 n k k entry h (omega arith) ∙ entry_at-before old new entry n k size pushed h) in
-    let length_is : length new.lower.items ≡ n + 1 = ap (λ (xs : List ℕ). length xs) pushed.lower ∙ length_push old.lower.items entry.lower ∙ ap (λ k. k + 1) size.lower in
+    fill_by_all (entry_at new) (map (entry_at old) (range_with_len 0 n)) n entry
+    (length-map-range_with_len (entry_at old) 0 n)
+    (λ k h. get_or-map-range_with_len (entry_at old) 0 n k k entry h (omega arith)
+    ∙ entry_at-before old new entry n k size pushed h) in
+    let length_is : length new.lower.items ≡ n + 1 = ap (λ (xs : List ℕ). length xs) pushed.lower
+    ∙ length_push old.lower.items entry.lower ∙ ap (λ k. k + 1) size.lower in
     let all : entries_of new ≡ map (entry_at new) (range_with_len 0 n) ++ entry_at new n ∷ [] =
-    ap (λ k. map (entry_at new) (range_with_len 0 k)) length_is ∙ map-range_with_len_more (entry_at new) 0 n n (omega arith) in
+    ap (λ k. map (entry_at new) (range_with_len 0 k)) length_is
+    ∙ map-range_with_len_more (entry_at new) 0 n n (omega arith) in
     all
     ∙ ap (λ e. map (entry_at new) (range_with_len 0 n) ++ e ∷ []) (entry_at-last old new entry n size pushed)
     ∙ ap (λ es. es ++ entry ∷ []) (sym before)

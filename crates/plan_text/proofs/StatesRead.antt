@@ -1,5 +1,6 @@
 -- The lines of the states are read, and all that they tell.
-use Rattle.std.proofs.Common.{◌≡◌, ◌∙◌, ◌+◌, ℕ, Bool, true, false, List, [], ◌∷◌, ◌++◌, length, Result, Ok, Err, refl, ap, sym, subst, arith, eqb, append_assoc}
+use Rattle.std.proofs.Common.{◌≡◌, ◌∙◌, ◌+◌, ℕ, Bool, true, false, List, [], ◌∷◌, ◌++◌, length, Result, Ok, Err, refl}
+use Rattle.std.proofs.Common.{ap, sym, subst, arith, eqb, append_assoc}
 use Rattle.std.specs.Prelude.{All}
 use Rattle.std.proofs.lemmas.Bool.{eqb-true}
 use Rattle.std.proofs.lemmas.Bool.Decides.{nat_tests}
@@ -27,17 +28,23 @@ pub record HasEntryLines (version : Version) (s : ℕ) (lines : List (List ℕ))
   pub blank : All IsBlank behind
 
 -- the entries before, and those of the lines
-pub record AreRead (version : Version) (states : ℕ) (before : List Entry) (lines : List (List ℕ)) (entries : List Entry) : Type 0 where
+pub record AreRead (version : Version) (states : ℕ) (before : List Entry) (lines : List (List ℕ))
+    (entries : List Entry) : Type 0 where
   pub more : List Entry
   pub all : entries ≡ before ++ more
   pub count : length before + length more ≡ states
   pub has : HasEntryLines version (length before) lines more
 
 -- all states are read: the lines are blank
-read_end : (version : Version) (states : ℕ) (before : List Entry) (number : ℕ) (lines : List (List ℕ)) (entries : List Entry) → length before ≡ states → entries_from version states before number (significant lines) ≡ Ok entries → AreRead version states before lines entries
-read_end version states before number lines entries full said = by (end_said number lines) refl (sym (entries_from-end version states before full number lines) ∙ said)
+read_end : (version : Version) (states : ℕ) (before : List Entry) (number : ℕ)
+    (lines : List (List ℕ)) (entries : List Entry) → length before ≡ states
+    → entries_from version states before number (significant lines) ≡ Ok entries
+    → AreRead version states before lines entries
+read_end version states before number lines entries full said =
+    by (end_said number lines) refl (sym (entries_from-end version states before full number lines) ∙ said)
   where
-    by : (r : Result (Unit {0}) PlanFault) → end_said number lines ≡ r → all_read before r ≡ Ok entries → AreRead version states before lines entries
+    by : (r : Result (Unit {0}) PlanFault) → end_said number lines ≡ r → all_read before r ≡ Ok entries
+        → AreRead version states before lines entries
     by (Err fault) end same = cc
     by (Ok done) end same =
         let is : before ≡ entries = cc in
@@ -49,7 +56,9 @@ read_end version states before number lines entries full said = by (end_said num
         }
 
 -- one line more
-read_more : (version : Version) (states : ℕ) (before : List Entry) (line : List ℕ) (lines : List (List ℕ)) (entry : Entry) (entries : List Entry) → IsEntryLine version (length before) line entry → AreRead version states (before ++ entry ∷ []) lines entries → AreRead version states before (line ∷ lines) entries
+read_more : (version : Version) (states : ℕ) (before : List Entry) (line : List ℕ) (lines : List (List ℕ))
+    (entry : Entry) (entries : List Entry) → IsEntryLine version (length before) line entry
+    → AreRead version states (before ++ entry ∷ []) lines entries → AreRead version states before (line ∷ lines) entries
 read_more version states before line lines entry entries is read =
     let one_more = length_push before entry in
     record {
@@ -66,18 +75,29 @@ read_more version states before line lines entry entries is read =
     }
 
 -- a line that is read
-read_line : (version : Version) (states : ℕ) (before : List Entry) (number : ℕ) (line : List ℕ) (lines rest : List (List ℕ)) (entries : List Entry) → eqb (length before) states ≡ false → entries_from version states before number (line ∷ rest) ≡ Ok entries
-    → ((entry : Entry) → entries_from version states (before ++ entry ∷ []) (number + 1) rest ≡ Ok entries → AreRead version states (before ++ entry ∷ []) lines entries) → AreRead version states before (line ∷ lines) entries
-read_line version states before number line lines rest entries fewer said behind = by (line_said version (length before) line) refl (sym from ∙ said)
+read_line : (version : Version) (states : ℕ) (before : List Entry) (number : ℕ) (line : List ℕ)
+    (lines rest : List (List ℕ)) (entries : List Entry) → eqb (length before) states ≡ false
+    → entries_from version states before number (line ∷ rest) ≡ Ok entries
+    → ((entry : Entry) → entries_from version states (before ++ entry ∷ []) (number + 1) rest ≡ Ok entries
+    → AreRead version states (before ++ entry ∷ []) lines entries)
+    → AreRead version states before (line ∷ lines) entries
+read_line version states before number line lines rest entries fewer said behind =
+    by (line_said version (length before) line) refl (sym from ∙ said)
   where
-    from : entries_from version states before number (line ∷ rest) ≡ then_at number (line_said version (length before) line) (more_from version states before number rest)
+    from : entries_from version states before number (line ∷ rest)
+        ≡ then_at number (line_said version (length before) line) (more_from version states before number rest)
     from = simp fewer
 
-    by : (r : Result Entry PlanCause) → line_said version (length before) line ≡ r → then_at number r (more_from version states before number rest) ≡ Ok entries → AreRead version states before (line ∷ lines) entries
-    by (Ok entry) told same = read_more version states before line lines entry entries (line_said-one version (length before) line entry told) (behind entry same)
+    by : (r : Result Entry PlanCause) → line_said version (length before) line ≡ r
+        → then_at number r (more_from version states before number rest) ≡ Ok entries
+        → AreRead version states before (line ∷ lines) entries
+    by (Ok entry) told same = read_more version states before line lines entry entries
+        (line_said-one version (length before) line entry told) (behind entry same)
     by (Err cause) told same = cc
 
-pub entries_from-one : (version : Version) (states : ℕ) (before : List Entry) (number : ℕ) (lines : List (List ℕ)) (entries : List Entry) → entries_from version states before number (significant lines) ≡ Ok entries → AreRead version states before lines entries
+pub entries_from-one : (version : Version) (states : ℕ) (before : List Entry) (number : ℕ) (lines : List (List ℕ))
+    (entries : List Entry) → entries_from version states before number (significant lines) ≡ Ok entries
+    → AreRead version states before lines entries
 entries_from-one version states before number [] entries said = by (eqb (length before) states) refl
   where
     by : (v : Bool) → eqb (length before) states ≡ v → AreRead version states before [] entries
@@ -86,19 +106,26 @@ entries_from-one version states before number [] entries said = by (eqb (length 
         let missing : entries_from version states before number [] ≡ Err (fault_at number MissingLine) = simp fewer in
         cc
 entries_from-one version states before number (line ∷ lines) entries said =
-    by (eqb (length before) states) refl (λ entry. entries_from-one version states (before ++ entry ∷ []) (number + 1) lines entries)
+    by (eqb (length before) states) refl
+    (λ entry. entries_from-one version states (before ++ entry ∷ []) (number + 1) lines entries)
   where
-    by : (v : Bool) → eqb (length before) states ≡ v → ((entry : Entry) → entries_from version states (before ++ entry ∷ []) (number + 1) (significant lines) ≡ Ok entries → AreRead version states (before ++ entry ∷ []) lines entries)
+    by : (v : Bool) → eqb (length before) states ≡ v
+        → ((entry : Entry) → entries_from version states (before ++ entry ∷ []) (number + 1) (significant lines)
+        ≡ Ok entries → AreRead version states (before ++ entry ∷ []) lines entries)
         → AreRead version states before (line ∷ lines) entries
-    by true full behind = read_end version states before number (line ∷ lines) entries (eqb-true (length before) states full) said
+    by true full behind =
+        read_end version states before number (line ∷ lines) entries (eqb-true (length before) states full) said
     by false fewer behind =
         let missing : entries_from version states before number [] ≡ Err (fault_at number MissingLine) = simp fewer in
-        let all = kept (List Entry) (λ ls. entries_from version states before number ls) entries (fault_at number MissingLine) line (significant lines) missing said in
+        let all = kept (List Entry) (λ ls. entries_from version states before number ls) entries
+        (fault_at number MissingLine) line (significant lines) missing said in
         read_line version states before number line lines (significant lines) entries fewer all behind
 
 -- the lines of these entries are read
-pub entries_from-told : (version : Version) (states : ℕ) (before : List Entry) (number : ℕ) (lines behind : List (List ℕ)) (entries : List Entry) → length before + length entries ≡ states → AreEntryLines version (length before) lines entries
-    → All IsBlank behind → entries_from version states before number (significant (lines ++ behind)) ≡ Ok (before ++ entries)
+pub entries_from-told : (version : Version) (states : ℕ) (before : List Entry) (number : ℕ)
+    (lines behind : List (List ℕ)) (entries : List Entry) → length before + length entries ≡ states
+    → AreEntryLines version (length before) lines entries → All IsBlank behind
+    → entries_from version states before number (significant (lines ++ behind)) ≡ Ok (before ++ entries)
 entries_from-told version states before number [] behind [] full tells blank =
     entries_from-end version states before (omega (arith, full)) number behind
     ∙ ap (λ r. all_read before r) (end_said-blank number behind blank)
@@ -107,9 +134,12 @@ entries_from-told version states before number (line ∷ lines) behind (entry �
     let one_more = length_push before entry in
     let fewer : eqb (length before) states ≡ false = grind (arith, nat_tests) in
     let told = line_said-told version (length before) line entry tells.0 in
-    let rest : AreEntryLines version (length (before ++ entry ∷ [])) lines entries = subst (λ s. AreEntryLines version s lines entries) (sym one_more) tells.1 in
-    let all = entries_from-told version states (before ++ entry ∷ []) (number + 1) lines behind entries (omega (arith, one_more, full)) rest blank in
-    ap (λ ls. entries_from version states before number ls) (keep_line-some line (significant (lines ++ behind)) (not_blank version (length before) line entry tells.0))
+    let rest : AreEntryLines version (length (before ++ entry ∷ [])) lines entries =
+    subst (λ s. AreEntryLines version s lines entries) (sym one_more) tells.1 in
+    let all = entries_from-told version states (before ++ entry ∷ []) (number + 1) lines behind entries
+    (omega (arith, one_more, full)) rest blank in
+    ap (λ ls. entries_from version states before number ls)
+    (keep_line-some line (significant (lines ++ behind)) (not_blank version (length before) line entry tells.0))
     ∙ (simp (fewer, told) all)
     ∙ ap (λ es. Ok es) (append_assoc before (entry ∷ []) entries)
 entries_from-told version states before number [] behind (entry ∷ entries) full tells blank = elim tells [ ]

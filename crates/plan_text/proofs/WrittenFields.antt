@@ -1,5 +1,6 @@
 -- A written line: its bytes, and its fields.
-use Rattle.std.proofs.Common.{◌≡◌, ◌∙◌, ◌≤◌, ◌<◌, ◌+◌, ◌/◌, ◌%◌, ◌^◌, ℕ, zero, suc, List, [], ◌∷◌, ◌++◌, length, Option, None, Some, false, refl, ap, arith}
+use Rattle.std.proofs.Common.{◌≡◌, ◌∙◌, ◌≤◌, ◌<◌, ◌+◌, ◌/◌, ◌%◌, ◌^◌, ℕ, zero, suc, List, [], ◌∷◌, ◌++◌, length, Option}
+use Rattle.std.proofs.Common.{None, Some, false, refl, ap, arith}
 use Rattle.std.specs.Prelude.{decimal}
 use Rattle.std.proofs.lemmas.Bool.Decides.{nat_tests}
 use Rattle.std.proofs.lemmas.Fmt.{decimal_by_steps, decimal_nonempty}
@@ -50,17 +51,22 @@ pub record IsField (field : List ℕ) : Type 0 where
 
 pub IsField-decimal : (n : ℕ) → n < 2 ^ 64 → IsField (decimal n)
 IsField-decimal n small = record {
-  printed = decimal_by_steps (λ m digits. AreFrom 33 digits) (λ m h. (omega arith, tt)) (λ m digits h before. AreFrom-append 33 digits ((48 + m % 10) ∷ []) before (omega arith, tt)) n small;
+  printed = decimal_by_steps (λ m digits. AreFrom 33 digits) (λ m h. (omega arith, tt))
+      (λ m digits h before. AreFrom-append 33 digits ((48 + m % 10) ∷ []) before (omega arith, tt)) n small;
   some = decimal_nonempty n small;
 }
 
 AreFrom-last_digits : (k n : ℕ) → AreFrom 33 (last_digits k n)
 unfolding last_digits
 AreFrom-last_digits zero n = tt
-AreFrom-last_digits (suc k) n = AreFrom-append 33 (last_digits k (n / 10)) ((48 + n % 10) ∷ []) (AreFrom-last_digits k (n / 10)) (omega arith, tt)
+AreFrom-last_digits (suc k) n =
+    AreFrom-append 33 (last_digits k (n / 10)) ((48 + n % 10) ∷ []) (AreFrom-last_digits k (n / 10)) (omega arith, tt)
 
 pub IsField-fixed : (u : ℕ) → IsField (fixed u)
-IsField-fixed u = record { printed = (omega arith, (omega arith, AreFrom-last_digits unit_digits (u % unit))); some = omega arith }
+IsField-fixed u = record {
+  printed = (omega arith, (omega arith, AreFrom-last_digits unit_digits (u % unit)));
+  some = omega arith;
+}
 
 pub IsField-choice : (choice : Option ℕ) → IsSmall choice → IsField (choice_text choice)
 IsField-choice None small = record { printed = (omega arith, tt); some = omega arith }
@@ -76,22 +82,27 @@ abbrev pub AreFields : List (List ℕ) → Type 0
 AreFields [] = Unit {0}
 AreFields (field ∷ fields) = IsField field × AreFields fields
 
-pub fields_of-spaced : (field : List ℕ) (fields : List (List ℕ)) → IsField field → AreFields fields → fields_of (spaced field fields) ≡ field ∷ fields
+pub fields_of-spaced : (field : List ℕ) (fields : List (List ℕ)) → IsField field → AreFields fields
+    → fields_of (spaced field fields) ≡ field ∷ fields
 unfolding spaced
 fields_of-spaced field [] is are = fields_of-field field (HasNoBlank-printed field is.printed) is.some
 fields_of-spaced field (next ∷ fields) is are =
     fields_of-parted field (spaced next fields) 32 refl
-    ∙ ap (λ fs. fs ++ fields_of (spaced next fields)) (fields_of-field field (HasNoBlank-printed field is.printed) is.some)
+    ∙ ap (λ fs. fs ++ fields_of (spaced next fields))
+    (fields_of-field field (HasNoBlank-printed field is.printed) is.some)
     ∙ ap (λ fs. field ∷ fs) (fields_of-spaced next fields are.0 are.1)
 
-AreFrom-spaced : (field : List ℕ) (fields : List (List ℕ)) → IsField field → AreFields fields → AreFrom 32 (spaced field fields)
+AreFrom-spaced : (field : List ℕ) (fields : List (List ℕ)) → IsField field → AreFields fields
+    → AreFrom 32 (spaced field fields)
 unfolding spaced
 AreFrom-spaced field [] is are = AreFrom-weaker field is.printed
 AreFrom-spaced field (next ∷ fields) is are =
-    AreFrom-append 32 field (behind_space (spaced next fields)) (AreFrom-weaker field is.printed) (omega arith, AreFrom-spaced next fields are.0 are.1)
+    AreFrom-append 32 field (behind_space (spaced next fields)) (AreFrom-weaker field is.printed)
+    (omega arith, AreFrom-spaced next fields are.0 are.1)
 
 pub lines_of-spaced : (field : List ℕ) (fields : List (List ℕ)) (rest : List ℕ) → IsField field → AreFields fields
     → lines_of (spaced field fields ++ 10 ∷ rest) ≡ spaced field fields ∷ lines_of rest
 lines_of-spaced field fields rest is are =
     let printed = AreFrom-spaced field fields is are in
-    lines_of-lf (spaced field fields) rest (HasNo-lf (spaced field fields) printed) (EndsInNoCr-printed (spaced field fields) printed)
+    lines_of-lf (spaced field fields) rest (HasNo-lf (spaced field fields) printed)
+    (EndsInNoCr-printed (spaced field fields) printed)

@@ -1,10 +1,12 @@
 -- What the text of a certificate says of so many states: an entry for each, or its first fault.
-use Rattle.std.specs.Prelude.{◌≡◌, ℕ, ◌+◌, ◌-◌, ◌*◌, ◌==◌, ◌&&◌, nat_le, bytes_eq, Bool, true, false, List, [], ◌∷◌, ◌++◌, length, Option, Some, None, option_map, codes, if◌then◌else◌, Result, Ok, Err}
+use Rattle.std.specs.Prelude.{◌≡◌, ℕ, ◌+◌, ◌-◌, ◌*◌, ◌==◌, ◌&&◌, nat_le, bytes_eq, Bool, true, false, List, [], ◌∷◌}
+use Rattle.std.specs.Prelude.{◌++◌, length, Option, Some, None, option_map, codes, if◌then◌else◌, Result, Ok, Err}
 use Rattle.game_model.specs.Limits.{unit}
 use Rattle.text_lines.specs.Text.{lines_of, fields_of, number_of, significant, is_digit, all_digits, is_nil, value_onto}
 use Rattle.plan_text.specs.declared.fault.PlanFault.{PlanFault}
 use Rattle.plan_text.specs.declared.fault.PlanCause.{PlanCause}
-use Rattle.plan_text.specs.declared.fault.PlanCause.TheVariants.{OutOfMemory, NoCertificate, StateCount, BadLine, NumberOutOfRange, MissingLine}
+use Rattle.plan_text.specs.declared.fault.PlanCause.TheVariants.{OutOfMemory, NoCertificate, StateCount, BadLine}
+use Rattle.plan_text.specs.declared.fault.PlanCause.TheVariants.{NumberOutOfRange, MissingLine}
 use Rattle.plan_text.specs.declared.fault.PlanCause.TheVariants as cause
 use Rattle.plan_text.specs.declared.version.Version.{Version}
 use Rattle.plan_text.specs.Versions.{decimals_of, units_of_last_digit, version_in}

@@ -15,7 +15,8 @@ use Rattle.command_words.specs.Words.{Check}
 use Rattle.run_answers.specs.declared.status.Status.{Status}
 use Rattle.run_answers.specs.Printed.{output_of}
 use Rattle.asked_files.specs.declared.problem.Paths.TheVariants.{Unbounded}
-use Rattle.asked_files.specs.Problems.{Problem, OfReach, OfWithin, OfNext, OfNested, PosesProblem, posing_in, takes, takes_formula}
+use Rattle.asked_files.specs.Problems.{Problem, OfReach, OfWithin, OfNext, OfNested, PosesProblem, posing_in, takes}
+use Rattle.asked_files.specs.Problems.{takes_formula}
 use Rattle.rpatl_syntax.specs.Dual.{answered}
 use Rattle.question_reports.specs.Reports.{IsBracketReport}
 use Rattle.question_reports.specs.Solved.{IsSolved}
@@ -28,11 +29,14 @@ use Rattle.run_answers.specs.Outputs.{output_text, IsInLimits}
 -- 1. Of a report with a plan.
 
 abbrev pub AreCertificates : Type 0
-AreCertificates = (text : List ℕ) (entries : List Entry) → entries_said text (length entries) ≡ Ok entries → IsCertificate text entries
+AreCertificates = (text : List ℕ) (entries : List Entry) → entries_said text (length entries) ≡ Ok entries
+    → IsCertificate text entries
 
 -- an output with a certificate of a plan that passes
-output-accepted : AreReadBack → AreCertificates → (q : Query) (initial : List ℕ) (f : Tree) (how : How) (asked : Bool) (plan : Plan) (text : List ℕ) → asked ≡ true → HasPlainParts (answered f)
-    → text ≡ output_text (output_of asked f how initial plan) → IsInLimits (output_of asked f how initial plan) → HasStates plan (states q) → Passes q plan → IsAccepted q text plan
+output-accepted : AreReadBack → AreCertificates → (q : Query) (initial : List ℕ) (f : Tree) (how : How)
+    (asked : Bool) (plan : Plan) (text : List ℕ) → asked ≡ true → HasPlainParts (answered f)
+    → text ≡ output_text (output_of asked f how initial plan) → IsInLimits (output_of asked f how initial plan)
+    → HasStates plan (states q) → Passes q plan → IsAccepted q text plan
 output-accepted read_back certificates q initial f how asked plan text planned parts written limits lists passes =
     let entries = entries_of plan in
     let lines = (output_of asked f how initial plan).lines in
@@ -47,25 +51,32 @@ output-accepted read_back certificates q initial f how asked plan text planned p
       passes = passes;
     }
 
-pub report-accepted : AreReadBack → AreCertificates → (q : Query) (initial : List ℕ) (f : Tree) (check : Check) (text : List ℕ) (status : Status) → check.plan ≡ true → HasPlainParts (answered f)
-    → (r : IsBracketReport q initial f check text status) → IsAccepted q text r.plan
+pub report-accepted : AreReadBack → AreCertificates
+    → (q : Query) (initial : List ℕ) (f : Tree) (check : Check) (text : List ℕ) (status : Status) → check.plan ≡ true
+    → HasPlainParts (answered f) → (r : IsBracketReport q initial f check text status) → IsAccepted q text r.plan
 report-accepted read_back certificates q initial f check text status planned parts r =
-    output-accepted read_back certificates q initial f (Rounds r.found.rounds) check.plan r.plan text planned parts r.written r.limits r.lists r.passes
+    output-accepted read_back certificates q initial f
+    (Rounds r.found.rounds) check.plan r.plan text planned parts r.written r.limits r.lists r.passes
 
-pub solved-accepted : AreReadBack → AreCertificates → (q : Query) (initial : List ℕ) (f : Tree) (asked : Bool) (text : List ℕ) (status : Status) → asked ≡ true → HasPlainParts (answered f)
-    → (r : IsSolved q initial f asked text status) → IsAccepted q text r.plan
+pub solved-accepted : AreReadBack → AreCertificates
+    → (q : Query) (initial : List ℕ) (f : Tree) (asked : Bool) (text : List ℕ) (status : Status) → asked ≡ true
+    → HasPlainParts (answered f) → (r : IsSolved q initial f asked text status) → IsAccepted q text r.plan
 solved-accepted read_back certificates q initial f asked text status planned parts r =
-    output-accepted read_back certificates q initial f Solved asked r.plan text planned parts r.written r.limits r.lists r.passes
+    output-accepted read_back certificates q initial f Solved asked r.plan text planned parts r.written
+    r.limits r.lists r.passes
 
 -- 2. Of the paths.
 
 -- such formulas have none inside, and no bound on the steps
-not_taken : (g : Tree) (flat : Bool) → (is_flat g.left && is_flat g.right) ≡ flat → cond flat (takes Unbounded g.kind) false ≡ true → (flat ≡ true) × (takes Unbounded g.kind ≡ true)
+not_taken : (g : Tree) (flat : Bool) → (is_flat g.left && is_flat g.right) ≡ flat
+    → cond flat (takes Unbounded g.kind) false ≡ true → (flat ≡ true) × (takes Unbounded g.kind ≡ true)
 not_taken g true of taken = (refl, taken)
 not_taken g false of taken = cc (taken)
 
 -- a problem that they pose is to reach a goal
-pub has-posing : (game : List (List Distribution)) (labels : Labelling) (owners : Ownership) (g : Tree) (problem : Problem) → PosesProblem game labels owners g problem → takes_formula Unbounded g ≡ true → IsSome (posing_in problem)
+pub has-posing : (game : List (List Distribution)) (labels : Labelling) (owners : Ownership) (g : Tree)
+    (problem : Problem) → PosesProblem game labels owners g problem → takes_formula Unbounded g ≡ true
+    → IsSome (posing_in problem)
 has-posing game labels owners g (OfReach p) poses taken = refl
 has-posing game labels owners g (OfWithin k p) (flat, of, poses) taken =
     let by = not_taken g (is_flat g.left && is_flat g.right) refl taken in

@@ -10,12 +10,20 @@ use Rattle.asked_files.specs.Sources.{SourceWith}
 use Rattle.run_answers.specs.declared.status.Status.{Status}
 use Rattle.question_reports.specs.Audits.{IsAudited, IsAudit}
 
-pub accepted_audited : (holding : Option Holding) (name : List ℕ) (q : Query) (initial : List ℕ) (f : Tree) (plan : Plan) (text : List ℕ) (status : Status) → SourceWith holding name (λ source. GivenTextWith source (λ bytes. IsAccepted q bytes plan))
-    → IsAudited q initial f plan text status → SourceWith holding name (λ source. GivenTextWith source (λ bytes. IsAudit q initial f bytes text status))
+pub accepted_audited : (holding : Option Holding) (name : List ℕ) (q : Query)
+    (initial : List ℕ) (f : Tree) (plan : Plan) (text : List ℕ) (status : Status)
+    → SourceWith holding name (λ source. GivenTextWith source (λ bytes. IsAccepted q bytes plan))
+    → IsAudited q initial f plan text status
+    → SourceWith holding name (λ source. GivenTextWith source (λ bytes. IsAudit q initial f bytes text status))
 accepted_audited holding name q initial f plan text status has audited =
     let of = has.is_so in
     record {
       source = has.source;
       told = has.told;
-      is_so = record { text = of.text; given = of.given; short = of.short; is_so = record { plan = plan; accepted = of.is_so; audited = audited } };
+      is_so = record {
+        text = of.text;
+        given = of.given;
+        short = of.short;
+        is_so = record { plan = plan; accepted = of.is_so; audited = audited };
+      };
     }

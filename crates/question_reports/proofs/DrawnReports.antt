@@ -1,5 +1,6 @@
 -- The answer of `make`, from its bracket; and that settled ones agree.
-use Rattle.std.proofs.Common.{◌≡◌, ◌<◌, ◌≤◌, ◌^◌, ◌∙◌, inl, inr, ℕ, Bool, true, false, List, [], ◌∷◌, length, Result, Ok, Err, refl, sym, ap, subst, arith}
+use Rattle.std.proofs.Common.{◌≡◌, ◌<◌, ◌≤◌, ◌^◌, ◌∙◌, inl, inr, ℕ, Bool, true, false, List, [], ◌∷◌, length, Result}
+use Rattle.std.proofs.Common.{Ok, Err, refl, sym, ap, subst, arith}
 use Rattle.std.specs.Prelude.{All, IfOk, Option, count_by, slice_index, slice_index_or}
 use Rattle.std.proofs.lemmas.Bool.{cases_lt}
 use Rattle.std.proofs.lemmas.List.{same_lists, get_or_default}
@@ -24,7 +25,9 @@ use Rattle.question_reports.specs.Made.{sum_of, summary_text, status_made, drawn
 never_settled : (lower upper : List ℕ) → AreSettledAt AskMax (0 ∷ []) (slice_index lower) (slice_index upper) → ⊥
 never_settled lower upper settled = let first = settled 0 0 (omega arith) in cc (first)
 
-pub all_made : (q : Query) (zero : List Bool) (asked : ℕ) (found : Bracket) → IsBracket q zero AskMax (0 ∷ []) asked found.base.items found.upper.items found.rounds found.stable → found.stable ≡ false → found.rounds ≡ asked
+pub all_made : (q : Query) (zero : List Bool) (asked : ℕ) (found : Bracket)
+    → IsBracket q zero AskMax (0 ∷ []) asked found.base.items found.upper.items found.rounds found.stable
+    → found.stable ≡ false → found.rounds ≡ asked
 all_made q zero asked found bounds unstable = elim (cases_lt found.rounds asked) [
   | inl early ↦ absurd (by_end early)
   | inr late ↦ omega (arith, late, bounds.near.few)
@@ -38,20 +41,22 @@ all_made q zero asked found bounds unstable = elim (cases_lt found.rounds asked)
 
 -- 2. The answer.
 
-pub made : {X E : Type 0} (text : X → List ℕ) (ends : X → Status) (seed states asked : ℕ) (q : Query) (zero : List Bool) (found : Bracket) → q ≡ drawn_question seed states
-    → IsZeroSet q zero
+pub made : {X E : Type 0} (text : X → List ℕ) (ends : X → Status) (seed states asked : ℕ) (q : Query)
+    (zero : List Bool) (found : Bracket) → q ≡ drawn_question seed states → IsZeroSet q zero
     → IsBracket q zero AskMax (0 ∷ []) asked found.base.items found.upper.items found.rounds found.stable
     → IsLowerTable q zero found.base.items found.lower.items found.choices.items found.ranks.items
-    → (result : Result X E)
-    → IfOk result (λ answer. text answer ≡ summary_text seed states (count_by (λ marked. marked) zero) found.stable found.lower.items found.upper.items)
+    → (result : Result X E) → IfOk result (λ answer. text answer
+    ≡ summary_text seed states (count_by (λ marked. marked) zero) found.stable found.lower.items found.upper.items)
     → IfOk result (λ answer. ends answer ≡ status_made found.stable)
     → IfOk result (λ answer. IsMade seed states asked (text answer) (ends answer))
 made text ends seed states asked q zero found same is_zero bounds lower (Ok answer) written ended = record {
   zero = zero;
   is_zero = subst (λ (p : Query). IsZeroSet p zero) same is_zero;
   found = found;
-  bounds = subst (λ (p : Query). IsBracket p zero AskMax (0 ∷ []) asked found.base.items found.upper.items found.rounds found.stable) same bounds;
-  lower = subst (λ (p : Query). IsLowerTable p zero found.base.items found.lower.items found.choices.items found.ranks.items) same lower;
+  bounds = subst (λ (p : Query).
+      IsBracket p zero AskMax (0 ∷ []) asked found.base.items found.upper.items found.rounds found.stable) same bounds;
+  lower = subst (λ (p : Query).
+      IsLowerTable p zero found.base.items found.lower.items found.choices.items found.ranks.items) same lower;
   written = written;
   ends = ended;
   completed = all_made q zero asked found bounds;
@@ -69,7 +74,8 @@ settled-stable true is = refl
 settled-stable false is = cc (is)
 
 -- a state is in both zero sets or in none
-same_mark : (q : Query) (zero other : List Bool) (s : ℕ) → IsZeroSet q zero → IsZeroSet q other → s < length q.game → (a b : Bool) → slice_index_or zero s false ≡ a → slice_index_or other s false ≡ b → a ≡ b
+same_mark : (q : Query) (zero other : List Bool) (s : ℕ) → IsZeroSet q zero → IsZeroSet q other → s < length q.game
+    → (a b : Bool) → slice_index_or zero s false ≡ a → slice_index_or other s false ≡ b → a ≡ b
 same_mark q zero other s of_zero of_other inside true true is so = refl
 same_mark q zero other s of_zero of_other inside false false is so = refl
 same_mark q zero other s of_zero of_other inside true false is so =
@@ -86,24 +92,32 @@ same_zero q zero other of_zero of_other =
     same_lists zero other (of_zero.as_many ∙ sym of_other.as_many) (λ s d inside.
     let within : s < length q.game = omega (arith, inside, of_zero.as_many) in
     get_or_default zero s d false inside
-    ∙ same_mark q zero other s of_zero of_other within (slice_index_or zero s false) (slice_index_or other s false) refl refl
+    ∙ same_mark q zero other s of_zero of_other within (slice_index_or zero s false)
+    (slice_index_or other s false) refl refl
     ∙ get_or_default other s false d (omega (arith, within, of_other.as_many)))
 
 -- the laws of settled brackets
 abbrev pub BasesAgree : Type 0
-BasesAgree = (q : Query) (zero other_zero : List Bool) (bound other_bound : Bound) (initial other_initial : List ℕ) (asked other_asked : ℕ) (base upper other other_upper : List ℕ) (rounds other_rounds : ℕ)
-    → IsBracket q zero bound initial asked base upper rounds true → IsBracket q other_zero other_bound other_initial other_asked other other_upper other_rounds true → base ≡ other
+BasesAgree = (q : Query) (zero other_zero : List Bool) (bound other_bound : Bound) (initial other_initial : List ℕ)
+    (asked other_asked : ℕ) (base upper other other_upper : List ℕ) (rounds other_rounds : ℕ)
+    → IsBracket q zero bound initial asked base upper rounds true
+    → IsBracket q other_zero other_bound other_initial other_asked other other_upper other_rounds true → base ≡ other
 
 abbrev pub LowersAgree : Type 0
-LowersAgree = (q : Query) (zero : List Bool) (base lower other : List ℕ) (choices other_choices : List (Option ℕ)) (ranks other_ranks : List ℕ)
-    → IsLowerTable q zero base lower choices ranks → IsLowerTable q zero base other other_choices other_ranks → lower ≡ other
+LowersAgree = (q : Query) (zero : List Bool) (base lower other : List ℕ) (choices other_choices : List (Option ℕ))
+    (ranks other_ranks : List ℕ)
+    → IsLowerTable q zero base lower choices ranks
+    → IsLowerTable q zero base other other_choices other_ranks → lower ≡ other
 
 abbrev pub UppersAgree : Type 0
-UppersAgree = (q : Query) (zero : List Bool) (bound other_bound : Bound) (initial other_initial : List ℕ) (asked other_asked : ℕ) (base upper other_base other : List ℕ) (rounds other_rounds : ℕ)
+UppersAgree = (q : Query) (zero : List Bool) (bound other_bound : Bound) (initial other_initial : List ℕ)
+    (asked other_asked : ℕ) (base upper other_base other : List ℕ) (rounds other_rounds : ℕ)
     → is_asking bound ≡ true → is_asking other_bound ≡ true
-    → IsBracket q zero bound initial asked base upper rounds true → IsBracket q zero other_bound other_initial other_asked other_base other other_rounds true → upper ≡ other
+    → IsBracket q zero bound initial asked base upper rounds true
+    → IsBracket q zero other_bound other_initial other_asked other_base other other_rounds true → upper ≡ other
 
-pub settled-agree : BasesAgree → LowersAgree → UppersAgree → (seed states asked other_asked : ℕ) (text other : List ℕ) → IsMade seed states asked text Fine → IsMade seed states other_asked other Fine → text ≡ other
+pub settled-agree : BasesAgree → LowersAgree → UppersAgree → (seed states asked other_asked : ℕ) (text other : List ℕ)
+    → IsMade seed states asked text Fine → IsMade seed states other_asked other Fine → text ≡ other
 settled-agree bases lowers uppers seed states asked other_asked text other a b =
     let q = drawn_question seed states in
     let x = a.found in
@@ -111,17 +125,30 @@ settled-agree bases lowers uppers seed states asked other_asked text other a b =
     let stable_x = settled-stable x.stable a.ends in
     let stable_y = settled-stable y.stable b.ends in
     let zeros = same_zero q a.zero b.zero a.is_zero b.is_zero in
-    let of_x : IsBracket q a.zero AskMax (0 ∷ []) asked x.base.items x.upper.items x.rounds true = subst (λ (s : Bool). IsBracket q a.zero AskMax (0 ∷ []) asked x.base.items x.upper.items x.rounds s) stable_x a.bounds in
-    let of_y : IsBracket q b.zero AskMax (0 ∷ []) other_asked y.base.items y.upper.items y.rounds true = subst (λ (s : Bool). IsBracket q b.zero AskMax (0 ∷ []) other_asked y.base.items y.upper.items y.rounds s) stable_y b.bounds in
-    let alike : IsBracket q a.zero AskMax (0 ∷ []) other_asked y.base.items y.upper.items y.rounds true = subst (λ (z : List Bool). IsBracket q z AskMax (0 ∷ []) other_asked y.base.items y.upper.items y.rounds true) (sym zeros) of_y in
-    let base : x.base.items ≡ y.base.items = bases q a.zero a.zero AskMax AskMax (0 ∷ []) (0 ∷ []) asked other_asked x.base.items x.upper.items y.base.items y.upper.items x.rounds y.rounds of_x alike in
-    let over : IsLowerTable q a.zero y.base.items x.lower.items x.choices.items x.ranks.items = subst (λ (l : List ℕ). IsLowerTable q a.zero l x.lower.items x.choices.items x.ranks.items) base a.lower in
-    let beside : IsLowerTable q a.zero y.base.items y.lower.items y.choices.items y.ranks.items = subst (λ (z : List Bool). IsLowerTable q z y.base.items y.lower.items y.choices.items y.ranks.items) (sym zeros) b.lower in
-    let lower : x.lower.items ≡ y.lower.items = lowers q a.zero y.base.items x.lower.items y.lower.items x.choices.items y.choices.items x.ranks.items y.ranks.items over beside in
-    let upper : x.upper.items ≡ y.upper.items = uppers q a.zero AskMax AskMax (0 ∷ []) (0 ∷ []) asked other_asked x.base.items x.upper.items y.base.items y.upper.items x.rounds y.rounds refl refl of_x alike in
+    let of_x : IsBracket q a.zero AskMax (0 ∷ []) asked x.base.items x.upper.items x.rounds true = subst
+    (λ (s : Bool). IsBracket q a.zero AskMax (0 ∷ []) asked x.base.items x.upper.items x.rounds s) stable_x a.bounds in
+    let of_y : IsBracket q b.zero AskMax (0 ∷ []) other_asked y.base.items y.upper.items y.rounds true =
+    subst (λ (s : Bool). IsBracket q b.zero AskMax (0 ∷ []) other_asked y.base.items y.upper.items y.rounds s)
+    stable_y b.bounds in
+    let alike : IsBracket q a.zero AskMax (0 ∷ []) other_asked y.base.items y.upper.items y.rounds true =
+    subst (λ (z : List Bool). IsBracket q z AskMax (0 ∷ []) other_asked y.base.items y.upper.items y.rounds true)
+    (sym zeros) of_y in
+    let base : x.base.items ≡ y.base.items = bases q a.zero a.zero AskMax AskMax (0 ∷ [])
+    (0 ∷ []) asked other_asked x.base.items x.upper.items y.base.items y.upper.items x.rounds y.rounds of_x alike in
+    let over : IsLowerTable q a.zero y.base.items x.lower.items x.choices.items x.ranks.items =
+    subst (λ (l : List ℕ). IsLowerTable q a.zero l x.lower.items x.choices.items x.ranks.items) base a.lower in
+    let beside : IsLowerTable q a.zero y.base.items y.lower.items y.choices.items y.ranks.items =
+    subst (λ (z : List Bool). IsLowerTable q z y.base.items y.lower.items y.choices.items y.ranks.items)
+    (sym zeros) b.lower in
+    let lower : x.lower.items ≡ y.lower.items = lowers q a.zero y.base.items x.lower.items y.lower.items x.choices.items
+    y.choices.items x.ranks.items y.ranks.items over beside in
+    let upper : x.upper.items ≡ y.upper.items = uppers q a.zero AskMax AskMax (0 ∷ []) (0 ∷ []) asked other_asked
+    x.base.items x.upper.items y.base.items y.upper.items x.rounds y.rounds refl refl of_x alike in
     a.written
-    ∙ ap (λ (z : List Bool). summary_text seed states (count_by (λ marked. marked) z) x.stable x.lower.items x.upper.items) zeros
-    ∙ ap (λ (s : Bool). summary_text seed states (count_by (λ marked. marked) b.zero) s x.lower.items x.upper.items) (stable_x ∙ sym stable_y)
+    ∙ ap (λ (z : List Bool).
+    summary_text seed states (count_by (λ marked. marked) z) x.stable x.lower.items x.upper.items) zeros
+    ∙ ap (λ (s : Bool). summary_text seed states (count_by (λ marked. marked) b.zero) s x.lower.items x.upper.items)
+    (stable_x ∙ sym stable_y)
     ∙ ap (λ (l : List ℕ). summary_text seed states (count_by (λ marked. marked) b.zero) y.stable l x.upper.items) lower
     ∙ ap (λ (u : List ℕ). summary_text seed states (count_by (λ marked. marked) b.zero) y.stable y.lower.items u) upper
     ∙ sym b.written

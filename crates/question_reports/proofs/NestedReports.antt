@@ -38,29 +38,39 @@ module _ (m : Model) (f : Tree) (asked : ℕ) (found : Nested) (h : IsPrinted m 
   line-in_range s within = record {
     state = omega (arith, within, h.game.few);
     count = h.count;
-    values = (at-most (λ v. v ≤ unit) found.lower.items s h.lower_units (omega (arith, within, h.lowers)), at-most (λ v. v ≤ unit) found.upper.items s h.upper_units (omega (arith, within, h.uppers)));
+    values = (
+      at-most (λ v. v ≤ unit) found.lower.items s h.lower_units (omega (arith, within, h.lowers)),
+      at-most (λ v. v ≤ unit) found.upper.items s h.upper_units (omega (arith, within, h.uppers)),
+    );
   }
 
-  reported : (initial : List ℕ) (text : List ℕ) (status : Status) → IsNested m f found.initial.items asked (band_of found) found.how found.inner found.undecided → found.initial.items ≡ initial
-      → text ≡ inside_text found.inner found.undecided ++ report (map line found.initial.items) → status ≡ status_of (map line found.initial.items)
-      → IsNestedReport m initial f asked text status
-  reported initial text status nested same written ended = subst (λ (xs : List ℕ). IsNestedReport m xs f asked text status) same (record {
-    inside = h.inside;
-    band = band_of found;
-    how = found.how;
-    inner = found.inner;
-    undecided = found.undecided;
-    nested = nested;
-    written = written;
-    lines = All-map IsLine line found.initial.items (All-weaker (λ s. s < length m.game) (λ s. IsLine (line s)) line-in_range found.initial.items h.inside);
-    counts = (h.inner, h.undecided);
-    ends = ended;
-  })
+  reported : (initial : List ℕ) (text : List ℕ) (status : Status)
+      → IsNested m f found.initial.items asked (band_of found) found.how found.inner found.undecided
+      → found.initial.items ≡ initial
+      → text ≡ inside_text found.inner found.undecided ++ report (map line found.initial.items)
+      → status ≡ status_of (map line found.initial.items) → IsNestedReport m initial f asked text status
+  reported initial text status nested same written ended =
+      subst (λ (xs : List ℕ). IsNestedReport m xs f asked text status) same (record {
+        inside = h.inside;
+        band = band_of found;
+        how = found.how;
+        inner = found.inner;
+        undecided = found.undecided;
+        nested = nested;
+        written = written;
+        lines = All-map IsLine line found.initial.items
+            (All-weaker (λ s. s < length m.game) (λ s. IsLine (line s)) line-in_range found.initial.items h.inside);
+        counts = (h.inner, h.undecided);
+        ends = ended;
+      })
 
   -- the same of an answer
-  pub answered-nested : (initial : List ℕ) (result : Result Answer OutOfMemory) → IsNested m f found.initial.items asked (band_of found) found.how found.inner found.undecided → found.initial.items ≡ initial
-      → IfOk result (λ answer. answer.text.items ≡ inside_text found.inner found.undecided ++ report (map line found.initial.items))
+  pub answered-nested : (initial : List ℕ) (result : Result Answer OutOfMemory)
+      → IsNested m f found.initial.items asked (band_of found) found.how found.inner found.undecided
+      → found.initial.items ≡ initial → IfOk result
+      (λ answer. answer.text.items ≡ inside_text found.inner found.undecided ++ report (map line found.initial.items))
       → IfOk result (λ answer. answer.status ≡ status_of (map line found.initial.items))
       → IfOk result (λ answer. IsNestedReport m initial f asked answer.text.items answer.status)
-  answered-nested initial (Ok answer) nested same written ended = reported initial answer.text.items answer.status nested same written ended
+  answered-nested initial (Ok answer) nested same written ended =
+      reported initial answer.text.items answer.status nested same written ended
   answered-nested initial (Err error) nested same written ended = tt

@@ -11,14 +11,27 @@ use Rattle.strategies.specs.Next.{AreBestNext}
 use Rattle.strategies.proofs.Next.{best-next}
 use Rattle.bounded_rounds.specs.Exact.{next_numerator}
 
-marked-sum : (holds : ℕ → Bool) (edges : List Edge) → weighted_sum (λ t. if holds t then 1 else 0) edges ≡ sum_by (λ (e : Edge). if holds e.to then e.weight else 0) edges
+marked-sum : (holds : ℕ → Bool) (edges : List Edge) → weighted_sum (λ t. if holds t then 1 else 0) edges
+    ≡ sum_by (λ (e : Edge). if holds e.to then e.weight else 0) edges
 marked-sum holds [] = omega arith
 marked-sum holds (e ∷ edges) =
-    rw (sum_by-cons (λ (d : Edge). d.weight * (if holds d.to then 1 else 0)) e edges, sum_by-cons (λ (d : Edge). if holds d.to then d.weight else 0) e edges, marked-sum holds edges)
-    (elim (holds e.to) as (λ h. e.weight * (if h then 1 else 0) + sum_by (λ (d : Edge). if holds d.to then d.weight else 0) edges ≡ (if h then e.weight else 0) + sum_by (λ (d : Edge). if holds d.to then d.weight else 0) edges) [ true ↦ omega arith | false ↦ omega arith ])
+    rw (
+      sum_by-cons (λ (d : Edge). d.weight * (if holds d.to then 1 else 0)) e edges,
+      sum_by-cons (λ (d : Edge). if holds d.to then d.weight else 0) e edges,
+      marked-sum holds edges,
+    )
+    (elim (holds e.to)
+    as (λ h. e.weight * (if h then 1 else 0) + sum_by (λ (d : Edge). if holds d.to then d.weight else 0) edges
+    ≡ (if h then e.weight else 0) + sum_by (λ (d : Edge). if holds d.to then d.weight else 0) edges) [
+      | true ↦ omega arith
+      | false ↦ omega arith
+    ])
 
 pub next-best : (q : Query) (holds : ℕ → Bool) → IsQuery q → AreBestNext q holds (next_numerator q holds)
 next-best q holds posed =
-    let same : (λ (choice : Distribution). denominator q.game / choice.total * weighted_sum (λ t. if holds t then 1 else 0) choice.edges) ≡ (λ choice. denominator q.game / choice.total * sum_by (λ (e : Edge). if holds e.to then e.weight else 0) choice.edges) =
+    let same : (λ (choice : Distribution).
+    denominator q.game / choice.total * weighted_sum (λ t. if holds t then 1 else 0) choice.edges) ≡ (λ choice.
+    denominator q.game / choice.total * sum_by (λ (e : Edge). if holds e.to then e.weight else 0) choice.edges) =
     fun_ext (λ choice. ap (λ x. denominator q.game / choice.total * x) (marked-sum holds choice.edges)) in
-    subst (λ worth. AreBestNext q holds (λ s. optimum (side_at q s) worth (choices_of q.game s))) same (best-next q posed holds)
+    subst (λ worth. AreBestNext q holds (λ s. optimum (side_at q s) worth (choices_of q.game s))) same
+    (best-next q posed holds)

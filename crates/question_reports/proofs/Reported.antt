@@ -1,5 +1,6 @@
 -- The answer to a question, from its bracket and the plan that is printed of it.
-use Rattle.std.proofs.Common.{◌≡◌, ◌≤◌, ◌<◌, ◌+◌, ◌-◌, ◌*◌, ◌^◌, inl, inr, ℕ, Bool, true, List, map, Result, Ok, Err, refl, ap, arith}
+use Rattle.std.proofs.Common.{◌≡◌, ◌≤◌, ◌<◌, ◌+◌, ◌-◌, ◌*◌, ◌^◌, inl, inr, ℕ, Bool, true, List, map, Result, Ok, Err}
+use Rattle.std.proofs.Common.{refl, ap, arith}
 use Rattle.std.specs.Prelude.{All, IfOk, slice_index, slice_index_or, if◌then◌else◌}
 use Rattle.std.proofs.lemmas.List.Elements.{All-map, All-weaker}
 use Rattle.game_model.specs.Limits.{unit}
@@ -38,13 +39,16 @@ use Rattle.run_answers.specs.Outputs.{output_text, IsInLimits}
 
 -- what the printed bounds say is what the bounds of the question that is answered say of its bound
 abbrev pub Mirrors : Type 0
-Mirrors = (bound : Bound) (lower upper : ℕ) → IsAtMostOne bound → lower ≤ unit → upper ≤ unit → verdict_of bound (unit - upper) (unit - lower) ≡ verdict_of (dual_bound bound) lower upper
+Mirrors = (bound : Bound) (lower upper : ℕ) → IsAtMostOne bound → lower ≤ unit → upper ≤ unit
+    → verdict_of bound (unit - upper) (unit - lower) ≡ verdict_of (dual_bound bound) lower upper
 
-pub verdict-answered : Mirrors → (f : Tree) → IsAtMostOne f.bound → (lower upper : ℕ) → lower ≤ unit → upper ≤ unit
-    → verdict_of f.bound (if is_mirrored f.kind then unit - upper else lower) (if is_mirrored f.kind then unit - lower else upper) ≡ verdict_of (answered f).bound lower upper
+pub verdict-answered : Mirrors → (f : Tree) → IsAtMostOne f.bound → (lower upper : ℕ) → lower ≤ unit
+    → upper ≤ unit → verdict_of f.bound (if is_mirrored f.kind then unit - upper else lower)
+    (if is_mirrored f.kind then unit - lower else upper) ≡ verdict_of (answered f).bound lower upper
 verdict-answered mirrors f share lower upper low high = by f.kind
   where
-    by : (kind : PathKind) → verdict_of f.bound (if is_mirrored kind then unit - upper else lower) (if is_mirrored kind then unit - lower else upper) ≡ verdict_of (answered_by kind f).bound lower upper
+    by : (kind : PathKind) → verdict_of f.bound (if is_mirrored kind then unit - upper else lower)
+        (if is_mirrored kind then unit - lower else upper) ≡ verdict_of (answered_by kind f).bound lower upper
     by Until = refl
     by (Within steps) = refl
     by Next = refl
@@ -58,10 +62,12 @@ plan_verdict bound plan s = verdict_of bound (slice_index plan.lower.items s) (s
 
 -- the laws of undecided thresholds
 abbrev pub OpensHere : Type 0
-OpensHere = (bound : Bound) (lower upper : ℕ) → verdict_of bound lower upper ≡ Undecided → LeavesOpen bound lower upper 1 0
+OpensHere = (bound : Bound) (lower upper : ℕ) → verdict_of bound lower upper ≡ Undecided
+    → LeavesOpen bound lower upper 1 0
 
 abbrev pub OpensWider : Type 0
-OpensWider = (bound : Bound) (lower upper n m d r : ℕ) → 1 ≤ d → n ≤ (lower + r) * d → upper * d ≤ m + r * d → LeavesOpen bound lower upper 1 0 → LeavesOpen bound n m d r
+OpensWider = (bound : Bound) (lower upper n m d r : ℕ) → 1 ≤ d → n ≤ (lower + r) * d → upper * d ≤ m + r * d
+    → LeavesOpen bound lower upper 1 0 → LeavesOpen bound n m d r
 
 near-over : (v w r p x : ℕ) → x ≤ (v + r) * p → v ≤ w → x ≤ (w + r) * p
 near-over v w r p x near above = omega (arith, near, mul-le-mul_right p above)
@@ -69,10 +75,14 @@ near-over v w r p x near above = omega (arith, near, mul-le-mul_right p above)
 near-under : (u v p x : ℕ) → v * p ≤ x → u ≤ v → u * p ≤ x
 near-under u v p x near below = omega (arith, near, mul-le-mul_right p below)
 
-module _ (here : OpensHere) (wider : OpensWider) (q : Query) (zero : List Bool) (bound : Bound) (initial : List ℕ) (asked : ℕ) (found : Bracket) (plan : Plan)
-    (above : IsBelow q (slice_index found.base.items) (slice_index plan.lower.items)) (below : IsBelow q (slice_index plan.upper.items) (slice_index found.upper.items)) where
-  narrow-open : 1 ≤ denominator q.game ^ asked → IsNarrow q zero asked (slice_index found.base.items) (slice_index found.upper.items)
-      → (s : ℕ) → s < states q → plan_verdict bound plan s ≡ Undecided → IsLeftOpen q zero bound asked (slice_index plan.lower.items) (slice_index plan.upper.items) s
+module _ (here : OpensHere) (wider : OpensWider) (q : Query) (zero : List Bool) (bound : Bound) (initial : List ℕ)
+    (asked : ℕ) (found : Bracket) (plan : Plan)
+    (above : IsBelow q (slice_index found.base.items) (slice_index plan.lower.items))
+    (below : IsBelow q (slice_index plan.upper.items) (slice_index found.upper.items)) where
+  narrow-open : 1 ≤ denominator q.game ^ asked
+      → IsNarrow q zero asked (slice_index found.base.items) (slice_index found.upper.items)
+      → (s : ℕ) → s < states q → plan_verdict bound plan s ≡ Undecided
+      → IsLeftOpen q zero bound asked (slice_index plan.lower.items) (slice_index plan.upper.items) s
   narrow-open some narrow s inside undecided =
       let base = slice_index found.base.items s in
       let lower = slice_index plan.lower.items s in
@@ -81,29 +91,43 @@ module _ (here : OpensHere) (wider : OpensWider) (q : Query) (zero : List Bool) 
       let printed = here bound lower upper undecided in
       record {
         printed = printed;
-        swept = wider bound lower upper (down_steps q asked s) (unit - down_steps (swapped q zero) asked s) 1 0 (omega arith) (omega (arith, narrow.swept s inside, above s inside)) (omega (arith, narrow.swept_above s inside, below s inside)) printed;
-        near = wider bound lower upper _ _ power asked some (near-over base lower asked power (unit * numerator q asked s) (narrow.near s inside) (above s inside)) (near-under upper (slice_index found.upper.items s) power _ (narrow.near_above s inside) (below s inside)) printed;
+        swept = wider bound lower upper (down_steps q asked s) (unit - down_steps (swapped q zero) asked s) 1 0
+            (omega arith) (omega (arith, narrow.swept s inside, above s inside))
+            (omega (arith, narrow.swept_above s inside, below s inside)) printed;
+        near = wider bound lower upper _ _ power asked some
+            (near-over base lower asked power (unit * numerator q asked s) (narrow.near s inside) (above s inside))
+            (near-under upper (slice_index found.upper.items s) power _ (narrow.near_above s inside) (below s inside))
+            printed;
       }
 
-  pub all-left_open : 1 ≤ denominator q.game ^ asked → IsBracket q zero bound initial asked found.base.items found.upper.items found.rounds found.stable → All (λ s. s < states q) initial
-      → All (λ s. plan_verdict bound plan s ≡ Undecided → IsLeftOpen q zero bound asked (slice_index plan.lower.items) (slice_index plan.upper.items) s) initial
+  pub all-left_open : 1 ≤ denominator q.game ^ asked
+      → IsBracket q zero bound initial asked found.base.items found.upper.items found.rounds found.stable
+      → All (λ s. s < states q) initial → All (λ s. plan_verdict bound plan s ≡ Undecided
+      → IsLeftOpen q zero bound asked (slice_index plan.lower.items) (slice_index plan.upper.items) s) initial
   all-left_open some bounds inside = elim bounds.near.narrow_asked [
-    | inl settled ↦ All-weaker (λ s. is_settling (plan_verdict bound plan s) ≡ true) Q (λ s is undecided. let same : is_settling (plan_verdict bound plan s) ≡ is_settling Undecided = ap is_settling undecided in absurd (cc (same, is))) initial (settled-over settled inside)
+    | inl settled ↦ All-weaker (λ s. is_settling (plan_verdict bound plan s) ≡ true) Q
+        (λ s is undecided. let same : is_settling (plan_verdict bound plan s) ≡ is_settling Undecided =
+        ap is_settling undecided in absurd (cc (same, is))) initial (settled-over settled inside)
     | inr narrow ↦ All-weaker (λ s. s < states q) Q (λ s within. narrow-open some narrow s within) initial inside
   ]
     where
-      settled-over : AreSettledAt bound initial (slice_index found.base.items) (slice_index found.upper.items) → All (λ s. s < states q) initial → All (λ s. is_settling (plan_verdict bound plan s) ≡ true) initial
+      settled-over : AreSettledAt bound initial (slice_index found.base.items) (slice_index found.upper.items)
+          → All (λ s. s < states q) initial → All (λ s. is_settling (plan_verdict bound plan s) ≡ true) initial
       settled-over settled within = λ i d there.
           let s = slice_index_or initial i d in
-          settled-on bound (slice_index found.base.items s) (slice_index plan.lower.items s) (slice_index found.upper.items s) (slice_index plan.upper.items s) (above s (within i d there)) (below s (within i d there)) (settled i d there)
+          settled-on bound (slice_index found.base.items s) (slice_index plan.lower.items s)
+          (slice_index found.upper.items s) (slice_index plan.upper.items s) (above s (within i d there))
+          (below s (within i d there)) (settled i d there)
 
       Q : ℕ → Type 0
-      Q s = plan_verdict bound plan s ≡ Undecided → IsLeftOpen q zero bound asked (slice_index plan.lower.items) (slice_index plan.upper.items) s
+      Q s = plan_verdict bound plan s ≡ Undecided
+          → IsLeftOpen q zero bound asked (slice_index plan.lower.items) (slice_index plan.upper.items) s
 
 -- 3. The whole answer.
 
 -- what is known of a question before its answer is written
-pub record IsReady (q : Query) (initial : List ℕ) (f : Tree) (check : Check) (zero : List Bool) (found : Bracket) (plan : Plan) : Type 0 where
+pub record IsReady (q : Query) (initial : List ℕ) (f : Tree) (check : Check) (zero : List Bool) (found : Bracket)
+    (plan : Plan) : Type 0 where
   pub posed : IsQuery q
   pub inside : All (λ s. s < states q) initial
   pub is_zero : IsZeroSet q zero
@@ -113,11 +137,12 @@ pub record IsReady (q : Query) (initial : List ℕ) (f : Tree) (check : Check) (
   pub sound : IsSoundPlan q plan
   pub passes : Passes q plan
   pub limits : IsInLimits (output_of check.plan f (Rounds found.rounds) initial plan)
-  pub left_open : All (λ s. (plan_line f (Rounds found.rounds) plan s).verdict ≡ Undecided → IsLeftOpen q zero (answered f).bound check.rounds (slice_index plan.lower.items) (slice_index plan.upper.items) s) initial
+  pub left_open : All (λ s. (plan_line f (Rounds found.rounds) plan s).verdict ≡ Undecided → IsLeftOpen q zero
+      (answered f).bound check.rounds (slice_index plan.lower.items) (slice_index plan.upper.items) s) initial
 
-pub reported : {X E : Type 0} (text : X → List ℕ) (ends : X → Status) (q : Query) (initial : List ℕ) (f : Tree) (check : Check) (zero : List Bool) (found : Bracket) (plan : Plan)
-    → IsReady q initial f check zero found plan
-    → (result : Result X E)
+pub reported : {X E : Type 0} (text : X → List ℕ) (ends : X → Status) (q : Query)
+    (initial : List ℕ) (f : Tree) (check : Check) (zero : List Bool) (found : Bracket) (plan : Plan)
+    → IsReady q initial f check zero found plan → (result : Result X E)
     → IfOk result (λ answer. text answer ≡ output_text (output_of check.plan f (Rounds found.rounds) initial plan))
     → IfOk result (λ answer. ends answer ≡ status_of (map (plan_line f (Rounds found.rounds) plan) initial))
     → IfOk result (λ answer. IsBracketReport q initial f check (text answer) (ends answer))
@@ -134,7 +159,8 @@ reported text ends q initial f check zero found plan ready (Ok answer) written e
   passes = ready.passes;
   written = written;
   limits = ready.limits;
-  left_open = All-map (λ line. line.verdict ≡ Undecided → IsLeftOpen q zero (answered f).bound check.rounds (slice_index plan.lower.items) (slice_index plan.upper.items) line.state)
+  left_open = All-map (λ line. line.verdict ≡ Undecided → IsLeftOpen q zero (answered f).bound check.rounds
+      (slice_index plan.lower.items) (slice_index plan.upper.items) line.state)
       (plan_line f (Rounds found.rounds) plan) initial ready.left_open;
 }
 reported text ends q initial f check zero found plan ready (Err error) written ended = tt

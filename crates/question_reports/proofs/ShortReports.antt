@@ -26,29 +26,37 @@ use Rattle.question_reports.specs.Solved.{IsSolved}
 use Rattle.question_reports.specs.Sweeps.{IsSweepReport}
 use Rattle.question_reports.specs.Nested.{IsNestedReport, inside_text}
 use Rattle.question_reports.proofs.Limits.{plan_line}
-use Rattle.run_answers.proofs.ShortLines.{entry_bytes, line_bytes, joined-short, decimal-short, report-short, certificate-short}
+use Rattle.run_answers.proofs.ShortLines.{entry_bytes, line_bytes, joined-short, decimal-short, report-short}
+use Rattle.run_answers.proofs.ShortLines.{certificate-short}
 use Rattle.run_answers.proofs.ShortSpellings.{most_spelled}
 
 -- the most bytes behind the report: the line of the formula, and the certificate
 abbrev most_behind : ℕ
 most_behind = (9 + most_spelled) + (25 + entry_bytes * most_states)
 
-part-short : (asked : Bool) (f : Tree) (plan : Plan) → length (spelling (answered f)) ≤ most_spelled → AreEntriesInLimits (certificate_of asked f plan) → length (certificate_part (certificate_of asked f plan)) ≤ most_behind
+part-short : (asked : Bool) (f : Tree) (plan : Plan) → length (spelling (answered f)) ≤ most_spelled
+    → AreEntriesInLimits (certificate_of asked f plan)
+    → length (certificate_part (certificate_of asked f plan)) ≤ most_behind
 part-short false f plan small are = omega arith
 part-short true f plan small are =
     let entries = entries_of plan in
     let spelled = spelling (answered f) in
-    joined-short (9 + most_spelled) (25 + entry_bytes * most_states) (codes "formula " ++ (spelled ++ codes "\n")) (certificate_text entries)
-    (joined-short 8 (most_spelled + 1) (codes "formula ") (spelled ++ codes "\n") (omega arith) (joined-short most_spelled 1 spelled (codes "\n") small (omega arith)))
+    joined-short (9 + most_spelled) (25 + entry_bytes * most_states) (codes "formula " ++ (spelled ++ codes "\n"))
+    (certificate_text entries)
+    (joined-short 8 (most_spelled + 1) (codes "formula ") (spelled ++ codes "\n") (omega arith)
+    (joined-short most_spelled 1 spelled (codes "\n") small (omega arith)))
     (certificate-short entries are.0 are.1)
 
 -- the lines of the initial states
-lines-short : (initial : List ℕ) (line : ℕ → ReportLine) → length initial ≤ most_states → All IsLine (map line initial) → length (report (map line initial)) ≤ line_bytes * most_states
+lines-short : (initial : List ℕ) (line : ℕ → ReportLine) → length initial ≤ most_states → All IsLine (map line initial)
+    → length (report (map line initial)) ≤ line_bytes * most_states
 lines-short initial line few are = omega (arith, few, length-map initial line, report-short (map line initial) are)
 
 -- an output of a plan
-output-short : (initial : List ℕ) (f : Tree) (how : How) (asked : Bool) (plan : Plan) (text : List ℕ) → length initial ≤ most_states → length (spelling (answered f)) ≤ most_spelled
-    → text ≡ output_text (output_of asked f how initial plan) → IsInLimits (output_of asked f how initial plan) → length text ≤ most_bytes
+output-short : (initial : List ℕ) (f : Tree) (how : How) (asked : Bool) (plan : Plan) (text : List ℕ)
+    → length initial ≤ most_states → length (spelling (answered f)) ≤ most_spelled
+    → text ≡ output_text (output_of asked f how initial plan) → IsInLimits (output_of asked f how initial plan)
+    → length text ≤ most_bytes
 output-short initial f how asked plan text few small written limits =
     let lines = (output_of asked f how initial plan).lines in
     let part = certificate_part (certificate_of asked f plan) in
@@ -60,26 +68,38 @@ output-short initial f how asked plan text few small written limits =
       part-short asked f plan small limits.entries,
     )
 
-pub report-text-short : (q : Query) (initial : List ℕ) (f : Tree) (check : Check) (text : List ℕ) (status : Status) → length initial ≤ most_states → length (spelling (answered f)) ≤ most_spelled
+pub report-text-short : (q : Query) (initial : List ℕ) (f : Tree) (check : Check) (text : List ℕ) (status : Status)
+    → length initial ≤ most_states → length (spelling (answered f)) ≤ most_spelled
     → IsBracketReport q initial f check text status → length text ≤ most_bytes
-report-text-short q initial f check text status few small r = output-short initial f (Rounds r.found.rounds) check.plan r.plan text few small r.written r.limits
+report-text-short q initial f check text status few small r =
+    output-short initial f (Rounds r.found.rounds) check.plan r.plan text few small r.written r.limits
 
-pub solved-text-short : (q : Query) (initial : List ℕ) (f : Tree) (asked : Bool) (text : List ℕ) (status : Status) → length initial ≤ most_states → length (spelling (answered f)) ≤ most_spelled
+pub solved-text-short : (q : Query) (initial : List ℕ) (f : Tree) (asked : Bool) (text : List ℕ) (status : Status)
+    → length initial ≤ most_states → length (spelling (answered f)) ≤ most_spelled
     → IsSolved q initial f asked text status → length text ≤ most_bytes
-solved-text-short q initial f asked text status few small r = output-short initial f Solved asked r.plan text few small r.written r.limits
+solved-text-short q initial f asked text status few small r =
+    output-short initial f Solved asked r.plan text few small r.written r.limits
 
-pub sweep-text-short : (q : Query) (opening : ℕ → ℕ) (steps : ℕ) (numerators : ℕ → ℕ) (initial : List ℕ) (f : Tree) (text : List ℕ) (status : Status) → length initial ≤ most_states
+pub sweep-text-short : (q : Query) (opening : ℕ → ℕ) (steps : ℕ) (numerators : ℕ → ℕ)
+    (initial : List ℕ) (f : Tree) (text : List ℕ) (status : Status) → length initial ≤ most_states
     → IsSweepReport q opening steps numerators initial f text status → length text ≤ most_bytes
 sweep-text-short q opening steps numerators initial f text status few r =
-    omega (arith, ap (λ (t : List ℕ). length t) r.written, lines-short initial (line_of false f.bound (Steps steps) r.lower r.upper) few r.lines)
+    omega (
+      arith,
+      ap (λ (t : List ℕ). length t) r.written,
+      lines-short initial (line_of false f.bound (Steps steps) r.lower r.upper) few r.lines,
+    )
 
 -- the line about the formulas inside
 inside-short : (inner undecided : ℕ) → inner < 2 ^ 32 → undecided < 2 ^ 32 → length (inside_text inner undecided) ≤ 38
 inside-short inner undecided one other =
-    joined-short 16 22 (codes "inner " ++ decimal inner) _ (joined-short 6 10 (codes "inner ") (decimal inner) (omega arith) (decimal-short inner (omega (arith, one))))
-    (joined-short 21 1 (codes " undecided " ++ decimal undecided) (codes "\n") (joined-short 11 10 (codes " undecided ") (decimal undecided) (omega arith) (decimal-short undecided (omega (arith, other)))) (omega arith))
+    joined-short 16 22 (codes "inner " ++ decimal inner) _
+    (joined-short 6 10 (codes "inner ") (decimal inner) (omega arith) (decimal-short inner (omega (arith, one))))
+    (joined-short 21 1 (codes " undecided " ++ decimal undecided) (codes "\n") (joined-short 11 10 (codes " undecided ")
+    (decimal undecided) (omega arith) (decimal-short undecided (omega (arith, other)))) (omega arith))
 
-pub nested-text-short : (m : Model) (initial : List ℕ) (f : Tree) (asked : ℕ) (text : List ℕ) (status : Status) → length initial ≤ most_states → IsNestedReport m initial f asked text status → length text ≤ most_bytes
+pub nested-text-short : (m : Model) (initial : List ℕ) (f : Tree) (asked : ℕ) (text : List ℕ) (status : Status)
+    → length initial ≤ most_states → IsNestedReport m initial f asked text status → length text ≤ most_bytes
 nested-text-short m initial f asked text status few r =
     let lines = map (line_of false f.bound r.how r.band.lower r.band.upper) initial in
     omega (

@@ -18,7 +18,8 @@ use Rattle.question_reports.proofs.Limits.{IsPrintable}
 -- 1. Upper tables.
 
 -- the one of a bracket
-pub held-found : (q : Query) (zero : List Bool) (bound : Bound) (initial : List ℕ) (asked : ℕ) (found : Bracket) → IsFound q zero bound initial asked found → IsUpperHeld q found.upper.items found.replies.items
+pub held-found : (q : Query) (zero : List Bool) (bound : Bound) (initial : List ℕ) (asked : ℕ) (found : Bracket)
+    → IsFound q zero bound initial asked found → IsUpperHeld q found.upper.items found.replies.items
 held-found q zero bound initial asked found h = record {
   as_many = h.bounds.made.least_upper.table.many;
   replied = h.replies.first.as_many;
@@ -31,8 +32,10 @@ held-found q zero bound initial asked found h = record {
 
 -- 2. Plans.
 
-module _ (q : Query) (zero : List Bool) (bound : Bound) (initial : List ℕ) (asked : ℕ) (traps : Bool) (found : Bracket) (plan : Plan)
-    (h : IsFound q zero bound initial asked found) (shown : IsShown q traps found plan) (held : IsUpperHeld q plan.upper.items plan.replies.items) where
+module _ (q : Query) (zero : List Bool) (bound : Bound) (initial : List ℕ) (asked : ℕ) (traps : Bool)
+    (found : Bracket) (plan : Plan)
+    (h : IsFound q zero bound initial asked found) (shown : IsShown q traps found plan)
+    (held : IsUpperHeld q plan.upper.items plan.replies.items) where
   pub shown-lists : HasStates plan (states q)
   shown-lists = record {
     lower = ap (λ (l : List ℕ). length l) shown.lower ∙ h.lower.as_many;
@@ -59,7 +62,8 @@ module _ (q : Query) (zero : List Bool) (bound : Bound) (initial : List ℕ) (as
     posed = posed;
     lists = shown-lists;
     passes = shown-passes;
-    choices = subst (λ (l : List ℕ). AreChoices q l plan.choices.items) (sym shown.lower) (subst (λ (l : List (Option ℕ)). AreChoices q found.lower.items l) (sym shown.choices) h.choices);
+    choices = subst (λ (l : List ℕ). AreChoices q l plan.choices.items) (sym shown.lower)
+        (subst (λ (l : List (Option ℕ)). AreChoices q found.lower.items l) (sym shown.choices) h.choices);
     table = slice_index found.upper.items;
     replies = rw (shown.replies) h.replies.first;
     ranks_fit = fit;

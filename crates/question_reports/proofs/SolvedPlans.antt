@@ -23,8 +23,10 @@ use Rattle.question_reports.specs.Solved.{IsSolved}
 use Rattle.question_reports.proofs.Limits.{IsPrintable, plan_line, printed-in_limits}
 use Rattle.question_reports.proofs.Valued.{told}
 
-module _ (q : Query) (posed : IsQuery q) (plan : Plan) (lists : HasStates plan (states q)) (passes : Passes q plan) (sound : IsSoundPlan q plan)
-    (layered : IsLayeredPlan q plan.lower.items plan.choices.items plan.ranks.items) (first : AreFirstReplies q (slice_index plan.upper.items) plan.replies.items) (fit : All (λ r. r ≤ greatest_rank) plan.ranks.items) where
+module _ (q : Query) (posed : IsQuery q) (plan : Plan) (lists : HasStates plan (states q)) (passes : Passes q plan)
+    (sound : IsSoundPlan q plan)
+    (layered : IsLayeredPlan q plan.lower.items plan.choices.items plan.ranks.items) (first : AreFirstReplies q
+    (slice_index plan.upper.items) plan.replies.items) (fit : All (λ r. r ≤ greatest_rank) plan.ranks.items) where
   chosen : AreChoices q plan.lower.items plan.choices.items
   chosen = record {
     as_many = lists.choices;
@@ -35,10 +37,20 @@ module _ (q : Query) (posed : IsQuery q) (plan : Plan) (lists : HasStates plan (
   }
 
   printable : IsPrintable q plan
-  printable = record { posed = posed; lists = lists; passes = passes; choices = chosen; table = slice_index plan.upper.items; replies = first; ranks_fit = fit }
+  printable = record {
+    posed = posed;
+    lists = lists;
+    passes = passes;
+    choices = chosen;
+    table = slice_index plan.upper.items;
+    replies = first;
+    ranks_fit = fit;
+  }
 
-  pub solved : {X E : Type 0} (text : X → List ℕ) (ends : X → Status) (initial : List ℕ) (f : Tree) (asked : Bool) → All (λ s. s < states q) initial → IsSureExactly q plan → IsZeroExactly q plan
-      → All (λ s. (plan_line f Solved plan s).verdict ≡ Undecided → LeavesOpen (answered f).bound (slice_index plan.lower.items s) (slice_index plan.upper.items s) 1 0) initial
+  pub solved : {X E : Type 0} (text : X → List ℕ) (ends : X → Status) (initial : List ℕ) (f : Tree) (asked : Bool)
+      → All (λ s. s < states q) initial → IsSureExactly q plan → IsZeroExactly q plan
+      → All (λ s. (plan_line f Solved plan s).verdict ≡ Undecided
+      → LeavesOpen (answered f).bound (slice_index plan.lower.items s) (slice_index plan.upper.items s) 1 0) initial
       → (result : Result X E)
       → IfOk result (λ answer. text answer ≡ output_text (output_of asked f Solved initial plan))
       → IfOk result (λ answer. ends answer ≡ status_of (map (plan_line f Solved plan) initial))
@@ -53,7 +65,8 @@ module _ (q : Query) (posed : IsQuery q) (plan : Plan) (lists : HasStates plan (
     zero = zero;
     written = written;
     limits = printed-in_limits q plan initial Solved printable tt inside asked f;
-    left_open = All-map (λ line. line.verdict ≡ Undecided → LeavesOpen (answered f).bound (slice_index plan.lower.items line.state) (slice_index plan.upper.items line.state) 1 0)
+    left_open = All-map (λ line. line.verdict ≡ Undecided → LeavesOpen (answered f).bound
+        (slice_index plan.lower.items line.state) (slice_index plan.upper.items line.state) 1 0)
         (plan_line f Solved plan) initial left_open;
   }
   solved text ends initial f asked inside sure zero left_open (Err error) written ended = tt

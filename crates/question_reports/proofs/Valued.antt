@@ -19,11 +19,13 @@ use Rattle.run_answers.specs.declared.status.Status.{Status}
 use Rattle.question_reports.specs.Valued.{asked_value, IsPrintedOf, KeepsAway, IsTold}
 use Rattle.question_reports.proofs.Limits.{plan_line}
 
-printed-below : (mirrored : Bool) (l u top v : ℕ) → l * top ≤ unit * v → unit * v ≤ u * top → (if mirrored then unit - u else l) * top ≤ unit * (if mirrored then top - v else v)
+printed-below : (mirrored : Bool) (l u top v : ℕ) → l * top ≤ unit * v → unit * v ≤ u * top
+    → (if mirrored then unit - u else l) * top ≤ unit * (if mirrored then top - v else v)
 printed-below true l u top v low high = avoids-factors unit u top v high
 printed-below false l u top v low high = low
 
-printed-above : (mirrored : Bool) (l u top v : ℕ) → l * top ≤ unit * v → unit * v ≤ u * top → unit * (if mirrored then top - v else v) ≤ (if mirrored then unit - l else u) * top
+printed-above : (mirrored : Bool) (l u top v : ℕ) → l * top ≤ unit * v → unit * v ≤ u * top
+    → unit * (if mirrored then top - v else v) ≤ (if mirrored then unit - l else u) * top
 printed-above true l u top v low high = rest-factors unit l top v low
 printed-above false l u top v low high = high
 
@@ -40,17 +42,27 @@ module _ (q : Query) (posed : IsQuery q) (f : Tree) (plan : Plan) (sound : IsSou
   at-state : (s : ℕ) → s < states q → IsPrintedOf values f (plan_line f how plan s)
   at-state s inside =
       let low : slice_index plan.lower.items s * values.top ≤ unit * values.value s =
-      below q posed (slice_index plan.lower.items) values (against-near q plan.choices.items (slice_index plan.lower.items) posed sound.reached) s inside in
-      let high : unit * values.value s ≤ slice_index plan.upper.items s * values.top = above q posed (slice_index plan.upper.items) values sound.high s inside in
-      let under = printed-below (is_mirrored f.kind) (slice_index plan.lower.items s) (slice_index plan.upper.items s) values.top (values.value s) low high in
-      let over = printed-above (is_mirrored f.kind) (slice_index plan.lower.items s) (slice_index plan.upper.items s) values.top (values.value s) low high in
-      record { below = under; above = over; right = right f.bound (asked_value f values s) values.top _ _ values.positive under over }
+      below q posed (slice_index plan.lower.items) values
+      (against-near q plan.choices.items (slice_index plan.lower.items) posed sound.reached) s inside in
+      let high : unit * values.value s ≤ slice_index plan.upper.items s * values.top =
+      above q posed (slice_index plan.upper.items) values sound.high s inside in
+      let under = printed-below (is_mirrored f.kind) (slice_index plan.lower.items s)
+      (slice_index plan.upper.items s) values.top (values.value s) low high in
+      let over = printed-above (is_mirrored f.kind) (slice_index plan.lower.items s)
+      (slice_index plan.upper.items s) values.top (values.value s) low high in
+      record {
+        below = under;
+        above = over;
+        right = right f.bound (asked_value f values s) values.top _ _ values.positive under over;
+      }
 
-  pub all-valued : (initial : List ℕ) → All (λ s. s < states q) initial → All (IsPrintedOf values f) (map (plan_line f how plan) initial)
+  pub all-valued : (initial : List ℕ) → All (λ s. s < states q) initial
+      → All (IsPrintedOf values f) (map (plan_line f how plan) initial)
   all-valued initial inside = All-map (IsPrintedOf values f) (plan_line f how plan) initial
       (All-weaker (λ s. s < states q) (λ s. IsPrintedOf values f (plan_line f how plan s)) at-state initial inside)
 
-  pub told : (initial : List ℕ) (status : Status) → All (λ s. s < states q) initial → status ≡ status_of (map (plan_line f how plan) initial)
+  pub told : (initial : List ℕ) (status : Status) → All (λ s. s < states q) initial
+      → status ≡ status_of (map (plan_line f how plan) initial)
       → IsTold q initial f plan (map (plan_line f how plan) initial) status
   told initial status inside ended = record {
     inside = inside;

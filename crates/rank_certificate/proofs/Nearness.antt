@@ -20,8 +20,13 @@ under-near m v d u n top less h =
 -- what a plan reaches is near
 ReachesUnder-near : (q : Query) (plan : List (Option ℕ)) (value : ℕ → ℕ) → ReachesUnder q plan value → IsNear q value
 ReachesUnder-near q plan value h = λ m some.
-    let at = h m some in
-    (at.0, λ s inside. under-near m (value s) (denominator q.game ^ at.0) (numerator_under q Max plan at.0 s) (numerator q at.0 s) unit (numerator_under-most q plan at.0 s) (at.1 s inside))
+    let at = h m some in (
+      at.0,
+      λ s inside. under-near m (value s) (denominator q.game ^ at.0) (numerator_under q Max plan at.0 s)
+          (numerator q at.0 s) unit (numerator_under-most q plan at.0 s) (at.1 s inside),
+    )
 
-pub Ranked-near : (q : Query) (values : List ℕ) (choices : List (Option ℕ)) (ranks : List ℕ) → IsQuery q → Ranked q values choices ranks → IsNear q (slice_index values)
-Ranked-near q values choices ranks posed h = ReachesUnder-near q choices (slice_index values) (Ranked-reached q values choices ranks posed h)
+pub Ranked-near : (q : Query) (values : List ℕ) (choices : List (Option ℕ)) (ranks : List ℕ) → IsQuery q
+    → Ranked q values choices ranks → IsNear q (slice_index values)
+Ranked-near q values choices ranks posed h =
+    ReachesUnder-near q choices (slice_index values) (Ranked-reached q values choices ranks posed h)

@@ -14,17 +14,21 @@ Some-one o c d h k = let same : Some c ≡ Some d = sym h ∙ k in cc
 
 module _ (q : Query) (value rank : ℕ → ℕ) (choices : List (Option ℕ)) (s : ℕ) where
   -- the choice that is given to a ranked state of the maximiser is ranked
-  pub ranked-given : NeedsRank q value s → side_at q s ≡ Max → IsRankedAt q value rank choices s → (c : ℕ) → slice_index_or choices s None ≡ Some c → IsRankedChoice value rank s (choice_of q.game s c)
+  pub ranked-given : NeedsRank q value s → side_at q s ≡ Max → IsRankedAt q value rank choices s → (c : ℕ)
+      → slice_index_or choices s None ≡ Some c → IsRankedChoice value rank s (choice_of q.game s c)
   ranked-given needs max at c given =
       let has : HasRankedChoice q value rank choices s = at.greatest needs max in
-      subst (λ d. IsRankedChoice value rank s (choice_of q.game s d)) (Some-one (slice_index_or choices s None) has.choice c has.given given) has.ranked
+      subst (λ d. IsRankedChoice value rank s (choice_of q.game s d))
+      (Some-one (slice_index_or choices s None) has.choice c has.given given) has.ranked
 
   -- a choice that is given, in range
-  pub given-choice : (c : ℕ) → slice_index_or choices s None ≡ Some c → c < length (choices_of q.game s) → HasChoice q choices s
+  pub given-choice : (c : ℕ) → slice_index_or choices s None ≡ Some c → c < length (choices_of q.game s)
+      → HasChoice q choices s
   given-choice c given inside = rw given inside
 
   -- a state with no choice in range is not ranked
-  pub no_choice-unranked : NeedsRank q value s → side_at q s ≡ Max → ¬ HasChoice q choices s → ¬ IsRankedAt q value rank choices s
+  pub no_choice-unranked : NeedsRank q value s → side_at q s ≡ Max → ¬ HasChoice q choices s
+      → ¬ IsRankedAt q value rank choices s
   no_choice-unranked needs max none at =
       let has : HasRankedChoice q value rank choices s = at.greatest needs max in
       none (given-choice has.choice has.given has.inside)
@@ -35,11 +39,14 @@ module _ (q : Query) (value rank : ℕ → ℕ) (choices : List (Option ℕ)) (s
 
 -- where no value is above the unit and each state is ranked, the tables are
 module _ (q : Query) (values : List ℕ) (choices : List (Option ℕ)) (ranks : List ℕ) where
-  pub Ranked-each : All (λ v. v ≤ unit) values → length values ≡ states q → ((s : ℕ) → s < states q → IsRankedAt q (slice_index values) (slice_index ranks) choices s) → Ranked q values choices ranks
+  pub Ranked-each : All (λ v. v ≤ unit) values → length values ≡ states q
+      → ((s : ℕ) → s < states q → IsRankedAt q (slice_index values) (slice_index ranks) choices s)
+      → Ranked q values choices ranks
   Ranked-each units as_many each = record {
     units = λ s inside. units s 0 (omega (arith, inside, as_many));
     goals = λ s inside. (each s inside).goal;
     deads = λ s inside. (each s inside).dead;
-    greatest = λ s inside no_goal alive some. (each s inside).greatest (record { free = (no_goal, alive); positive = some });
+    greatest = λ s inside no_goal alive some.
+        (each s inside).greatest (record { free = (no_goal, alive); positive = some });
     least = λ s inside no_goal alive some. (each s inside).least (record { free = (no_goal, alive); positive = some });
   }

@@ -1,6 +1,7 @@
 -- Ranks and choices that make values ranked: the least ranks, and at each state of the maximiser the first choice for
 -- its rank.
-use Rattle.std.specs.Prelude.{◌≡◌, ℕ, zero, suc, ◌<◌, ◌≤◌, ◌⊎◌, true, List, length, slice_index, slice_index_or, Option, Some, None, IsSomeAnd}
+use Rattle.std.specs.Prelude.{◌≡◌, ℕ, zero, suc, ◌<◌, ◌≤◌, ◌⊎◌, true, List, length, slice_index, slice_index_or, Option}
+use Rattle.std.specs.Prelude.{Some, None, IsSomeAnd}
 use Rattle.std.specs.Option.{ForSome}
 use Rattle.game_model.specs.declared.game.Side.{Side}
 use Rattle.game_model.specs.declared.game.Side.TheVariants.{Max, Min}

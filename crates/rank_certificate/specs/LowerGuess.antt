@@ -1,5 +1,6 @@
 -- The guesses of a lower table, by excess and then by steps down, and the first that can be ranked.
-use Rattle.std.specs.Prelude.{◌≡◌, ℕ, zero, suc, ◌+◌, ◌<◌, ◌≤◌, ◌⊎◌, Bool, false, List, slice_index, slice_index_or, Option, if◌then◌else◌, min}
+use Rattle.std.specs.Prelude.{◌≡◌, ℕ, zero, suc, ◌+◌, ◌<◌, ◌≤◌, ◌⊎◌, Bool, false, List, slice_index, slice_index_or}
+use Rattle.std.specs.Prelude.{Option, if◌then◌else◌, min}
 use Rattle.game_model.specs.Query.{Query, is_goal}
 use Rattle.game_model.specs.Limits.{unit}
 use Rattle.game_model.specs.Tables.{IsTable}

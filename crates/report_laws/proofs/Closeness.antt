@@ -19,13 +19,19 @@ higher x v w r p near above = omega (arith, near, mul-le-mul_right p above)
 lower : (u v p x : ℕ) → v * p ≤ x → u ≤ v → u * p ≤ x
 lower u v p x near below = omega (arith, near, mul-le-mul_right p below)
 
-module _ (q : Query) (initial : List ℕ) (f : Tree) (check : Check) (text : List ℕ) (status : Status) (report : IsBracketReport q initial f check text status) where
+module _ (q : Query) (initial : List ℕ) (f : Tree) (check : Check) (text : List ℕ) (status : Status)
+    (report : IsBracketReport q initial f check text status) where
   above : IsBelow q (slice_index report.found.base.items) (slice_index report.plan.lower.items)
   above = rw (report.shown.lower) report.is_found.lower.above
 
-  pub printed-close : AreClose q report.zero report.found.rounds (slice_index report.plan.lower.items) (slice_index report.plan.upper.items)
+  pub printed-close : AreClose q report.zero report.found.rounds (slice_index report.plan.lower.items)
+      (slice_index report.plan.upper.items)
   printed-close = record {
-    below = λ s inside. higher (unit * numerator q report.found.rounds s) (slice_index report.found.base.items s) (slice_index report.plan.lower.items s) report.found.rounds (denominator q.game ^ report.found.rounds) (report.is_found.bounds.near.narrow.near s inside) (above s inside);
-    above = λ s inside. lower (slice_index report.plan.upper.items s) (slice_index report.found.upper.items s) (denominator q.game ^ report.found.rounds) (unit * open_numerator q report.zero report.found.rounds s + report.found.rounds * denominator q.game ^ report.found.rounds)
+    below = λ s inside. higher (unit * numerator q report.found.rounds s) (slice_index report.found.base.items s)
+        (slice_index report.plan.lower.items s) report.found.rounds (denominator q.game ^ report.found.rounds)
+        (report.is_found.bounds.near.narrow.near s inside) (above s inside);
+    above = λ s inside. lower (slice_index report.plan.upper.items s) (slice_index report.found.upper.items s)
+        (denominator q.game ^ report.found.rounds) (unit * open_numerator q report.zero report.found.rounds s
+        + report.found.rounds * denominator q.game ^ report.found.rounds)
         (report.is_found.bounds.near.narrow.near_above s inside) (report.shown.below s inside);
   }

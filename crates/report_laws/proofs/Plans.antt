@@ -6,7 +6,8 @@ use Rattle.verdicts.specs.Truth.{IsTrueOf, IsFalseOf, VerdictIsRight}
 use Rattle.verdicts.specs.declared.verdict.Verdict.{Verdict}
 use Rattle.verdicts.specs.declared.verdict.Verdict.TheVariants.{Yes, No, Undecided, Bracket}
 
-pub is-told : (q : Query) (bound : Bound) (s : ℕ) (verdict : Verdict) → (verdict ≡ Yes → IsTrueOf q bound s) → (verdict ≡ No → IsFalseOf q bound s) → VerdictIsRight q bound s verdict
+pub is-told : (q : Query) (bound : Bound) (s : ℕ) (verdict : Verdict) → (verdict ≡ Yes → IsTrueOf q bound s)
+    → (verdict ≡ No → IsFalseOf q bound s) → VerdictIsRight q bound s verdict
 is-told q bound s Yes if_yes if_no = if_yes refl
 is-told q bound s No if_yes if_no = if_no refl
 is-told q bound s Undecided if_yes if_no = tt

@@ -1,5 +1,6 @@
 -- What `check` writes is no longer than a text may be that is read, so an audit of the same question accepts it.
-use Rattle.std.proofs.Common.{◌≡◌, ◌∙◌, ◌≤◌, ◌+◌, ℕ, Bool, true, false, List, [], ◌∷◌, length, bytes_eq, Option, Some, None, if◌then◌else◌, refl, sym, ap, subst, arith}
+use Rattle.std.proofs.Common.{◌≡◌, ◌∙◌, ◌≤◌, ◌+◌, ℕ, Bool, true, false, List, [], ◌∷◌, length, bytes_eq, Option, Some}
+use Rattle.std.proofs.Common.{None, if◌then◌else◌, refl, sym, ap, subst, arith}
 use Rattle.std.specs.Prelude.{◌||◌, IsSome}
 use Rattle.text_lines.specs.Limits.{most_bytes}
 use Rattle.game_outside.specs.Outside.{Holding}
@@ -17,16 +18,19 @@ use Rattle.rpatl_syntax.specs.Spellable.{IsSpellable}
 use Rattle.rpatl_syntax.specs.Spelling.{spelling}
 use Rattle.formula_sets.specs.Posing.{Posing, init}
 use Rattle.formula_sets.proofs.Asking.{initial-found}
-use Rattle.command_words.specs.Words.{Asked, Check, Audit, Command, OfCheck, OfAudit, OfSolve, OfMake, OfSure, AreCommand}
+use Rattle.command_words.specs.Words.{Asked, Check, Audit, Command, OfCheck, OfAudit, OfSolve, OfMake, OfSure}
+use Rattle.command_words.specs.Words.{AreCommand}
 use Rattle.run_answers.specs.declared.status.Status.{Status}
 use Rattle.asked_files.specs.Asks.{Asks}
 use Rattle.asked_files.specs.declared.problem.Paths.{Paths}
 use Rattle.asked_files.specs.declared.problem.Paths.TheVariants.{Any, Unbounded}
-use Rattle.asked_files.specs.Problems.{Problem, OfReach, OfWithin, OfNext, OfNested, PosesProblem, initial_of, posing_in}
+use Rattle.asked_files.specs.Problems.{Problem, OfReach, OfWithin, OfNext, OfNested, PosesProblem, initial_of}
+use Rattle.asked_files.specs.Problems.{posing_in}
 use Rattle.rpatl_syntax.specs.Dual.{answered}
 use Rattle.asked_files.specs.Sources.{Sources, sources_of}
 use Rattle.stogame_app.specs.Commands.{IsAcceptedOf, check_paths}
-use Rattle.stogame_app.specs.Reports.{Checks, IsReportOfWords, of_reach, of_within, of_next, of_nested, of_audit, of_solve, of_sure, of_make}
+use Rattle.stogame_app.specs.Reports.{Checks, IsReportOfWords, of_reach, of_within, of_next, of_nested, of_audit}
+use Rattle.stogame_app.specs.Reports.{of_solve, of_sure, of_make}
 use Rattle.stogame_app.proofs.Complete.{AreOneCommand}
 use Rattle.run_answers.proofs.Passing.{AreReadBack}
 use Rattle.run_answers.proofs.PlainParts.{spellable-plain, answered-plain}
@@ -42,29 +46,44 @@ marked-few k [] = omega arith
 marked-few k (true ∷ marks) = omega (arith, marked-few (k + 1) marks)
 marked-few k (false ∷ marks) = omega (arith, marked-few (k + 1) marks)
 
-marks-few : (n : ℕ) (lines : List StateLine) (items : List Item) (labels : List Label) (name : List ℕ) → AreLabels n lines items labels → length (marks_of labels name) ≤ n
+marks-few : (n : ℕ) (lines : List StateLine) (items : List Item) (labels : List Label) (name : List ℕ)
+    → AreLabels n lines items labels → length (marks_of labels name) ≤ n
 marks-few n lines [] [] name are = omega arith
 marks-few n lines [] (label ∷ labels) name are = absurd are
 marks-few n lines (item ∷ items) [] name are = absurd are
 marks-few n lines (item ∷ items) (label ∷ labels) name are =
-    elim (bytes_eq name label.name) as (λ b. length (if b then label.marks else marks_of labels name) ≤ n) [ true ↦ omega (arith, are.0.marks) | false ↦ marks-few n lines items labels name are.1 ]
+    elim (bytes_eq name label.name) as (λ b. length (if b then label.marks else marks_of labels name) ≤ n) [
+      | true ↦ omega (arith, are.0.marks)
+      | false ↦ marks-few n lines items labels name are.1
+    ]
 
-labelled-few : (text : List ℕ) (n : ℕ) (l : Labelling) (name : List ℕ) → DenotesLabels text n l → length (states_with l name) ≤ n
-labelled-few text n l name denotes = omega (arith, marked-few 0 (marks_of l.labels name), marks-few n denotes.lines denotes.items l.labels name denotes.labels)
+labelled-few : (text : List ℕ) (n : ℕ) (l : Labelling) (name : List ℕ) → DenotesLabels text n l
+    → length (states_with l name) ≤ n
+labelled-few text n l name denotes = omega
+    (arith, marked-few 0 (marks_of l.labels name), marks-few n denotes.lines denotes.items l.labels name denotes.labels)
 
 game-few : (text : List ℕ) (game : List (List Distribution)) → DenotesGame text game → length game ≤ most_states
 game-few text game denotes = omega (arith, denotes.states, denotes.is_header.few)
 
 -- the initial states of a problem are those with the label
-problem-starts : (game : List (List Distribution)) (labels : Labelling) (owners : Ownership) (f : Tree) (problem : Problem) → PosesProblem game labels owners f problem → initial_of problem ≡ states_with labels init
+problem-starts : (game : List (List Distribution)) (labels : Labelling) (owners : Ownership) (f : Tree)
+    (problem : Problem) → PosesProblem game labels owners f problem → initial_of problem ≡ states_with labels init
 problem-starts game labels owners f (OfReach p) (flat, of, poses) = poses.set_up.starts
 problem-starts game labels owners f (OfWithin k p) (flat, of, poses) = poses.set_up.starts
 problem-starts game labels owners f (OfNext p) (flat, of, poses) = poses.set_up.starts
-problem-starts game labels owners f (OfNested m initial) (nested, of, said) = (initial-found labels owners f initial said).starts
+problem-starts game labels owners f (OfNested m initial) (nested, of, said) =
+    (initial-found labels owners f initial said).starts
 
-pub initial-few : (paths : Paths) (sources : Sources) (asked : Asked) (problem : Problem) → Asks paths sources asked problem → length (initial_of problem) ≤ most_states
+pub initial-few : (paths : Paths) (sources : Sources) (asked : Asked) (problem : Problem)
+    → Asks paths sources asked problem → length (initial_of problem) ≤ most_states
 initial-few paths sources asked problem asks =
-    omega (arith, ap (λ (states : List ℕ). length states) (problem-starts asks.game asks.labels asks.owners asks.formula problem asks.poses), labelled-few asks.lab.text (length asks.game) asks.labels init asks.lab.is_so, game-few asks.tra.text asks.game asks.tra.is_so)
+    omega (
+      arith,
+      ap (λ (states : List ℕ). length states)
+          (problem-starts asks.game asks.labels asks.owners asks.formula problem asks.poses),
+      labelled-few asks.lab.text (length asks.game) asks.labels init asks.lab.is_so,
+      game-few asks.tra.text asks.game asks.tra.is_so,
+    )
 
 -- words that denote a `check` denote no other command
 abbrev IsCheck : Command → Type 0
@@ -74,8 +93,10 @@ IsCheck (OfSolve solve) = ⊥
 IsCheck (OfMake make) = ⊥
 IsCheck (OfSure asked) = ⊥
 
-same_check : AreOneCommand → (words : List (List ℕ)) (check : Check) (command : Command) → AreCommand words (OfCheck check) → AreCommand words command → IsCheck command
-same_check one words check command denoted also = subst (λ (k : Command). IsCheck k) (one words (OfCheck check) command denoted also) tt
+same_check : AreOneCommand → (words : List (List ℕ)) (check : Check) (command : Command)
+    → AreCommand words (OfCheck check) → AreCommand words command → IsCheck command
+same_check one words check command denoted also =
+    subst (λ (k : Command). IsCheck k) (one words (OfCheck check) command denoted also) tt
 
 -- 2. A report is short.
 
@@ -88,22 +109,41 @@ pub record AreFew (problem : Problem) (f : Tree) : Type 0 where
   pub states : length (initial_of problem) ≤ most_states
   pub spelled : length (spelling (answered f)) ≤ most_spelled
 
-check-few : AreSpellable → {words : List (List ℕ)} {holding : Option Holding} {taken : ℕ} (check : Check) (problem : Problem) (f : Tree) → Checks words holding taken check problem f → AreFew problem f
+check-few : AreSpellable → {words : List (List ℕ)} {holding : Option Holding} {taken : ℕ} (check : Check)
+    (problem : Problem) (f : Tree) → Checks words holding taken check problem f → AreFew problem f
 check-few spellable check problem f asks = record {
   states = initial-few (check_paths check) asks.posed.sources check.asked problem asks.posed.asks;
-  spelled = spelling-short check.asked.formula f asks.spelled (spellable-plain f (spellable check.asked.formula f asks.spelled));
+  spelled = spelling-short check.asked.formula f asks.spelled
+      (spellable-plain f (spellable check.asked.formula f asks.spelled));
 }
 
-pub printed-short : AreOneCommand → AreSpellable → (words : List (List ℕ)) (holding : Option Holding) (taken : ℕ) (check : Check) (text : List ℕ) (status : Status) → AreCommand words (OfCheck check)
-    → IsReportOfWords words holding taken text status → length text ≤ most_bytes
-printed-short one spellable words holding taken check text status denoted (of_reach other p f asks report) = let few = check-few spellable other (OfReach p) f asks in report-text-short p.question p.initial f other text status few.states few.spelled report
-printed-short one spellable words holding taken check text status denoted (of_within other steps p f asks report) = let few = check-few spellable other (OfWithin steps p) f asks in sweep-text-short _ _ _ _ p.initial f text status few.states report.report
-printed-short one spellable words holding taken check text status denoted (of_next other p f asks report) = let few = check-few spellable other (OfNext p) f asks in sweep-text-short _ _ _ _ p.initial f text status few.states report.report
-printed-short one spellable words holding taken check text status denoted (of_nested other model initial f asks report) = let few = check-few spellable other (OfNested model initial) f asks in nested-text-short model initial f other.rounds text status few.states report
-printed-short one spellable words holding taken check text status denoted (of_audit audit problem p f asks reached audited) = absurd (same_check one words check (OfAudit audit) denoted asks.denoted)
-printed-short one spellable words holding taken check text status denoted (of_solve solve problem p f asks reached given solved) = absurd (same_check one words check (OfSolve solve) denoted asks.denoted)
-printed-short one spellable words holding taken check text status denoted (of_sure asked problem p f all asks reached sure ends) = absurd (same_check one words check (OfSure asked) denoted asks.denoted)
-printed-short one spellable words holding taken check text status denoted (of_make make other made) = absurd (same_check one words check (OfMake make) denoted other)
+pub printed-short : AreOneCommand → AreSpellable
+    → (words : List (List ℕ)) (holding : Option Holding) (taken : ℕ) (check : Check) (text : List ℕ) (status : Status)
+    → AreCommand words (OfCheck check) → IsReportOfWords words holding taken text status → length text ≤ most_bytes
+printed-short one spellable words holding taken check text status denoted (of_reach other p f asks report) =
+    let few = check-few spellable other (OfReach p) f asks in
+    report-text-short p.question p.initial f other text status few.states few.spelled report
+printed-short one spellable words holding taken check text status denoted (of_within other steps p f asks report) =
+    let few = check-few spellable other (OfWithin steps p) f asks in
+    sweep-text-short _ _ _ _ p.initial f text status few.states report.report
+printed-short one spellable words holding taken check text status denoted (of_next other p f asks report) =
+    let few = check-few spellable other (OfNext p) f asks in
+    sweep-text-short _ _ _ _ p.initial f text status few.states report.report
+printed-short one spellable words holding taken check text status denoted
+    (of_nested other model initial f asks report) =
+    let few = check-few spellable other (OfNested model initial) f asks in
+    nested-text-short model initial f other.rounds text status few.states report
+printed-short one spellable words holding taken check text status denoted
+    (of_audit audit problem p f asks reached audited) =
+    absurd (same_check one words check (OfAudit audit) denoted asks.denoted)
+printed-short one spellable words holding taken check text status denoted
+    (of_solve solve problem p f asks reached given solved) =
+    absurd (same_check one words check (OfSolve solve) denoted asks.denoted)
+printed-short one spellable words holding taken check text status denoted
+    (of_sure asked problem p f all asks reached sure ends) =
+    absurd (same_check one words check (OfSure asked) denoted asks.denoted)
+printed-short one spellable words holding taken check text status denoted (of_make make other made) =
+    absurd (same_check one words check (OfMake make) denoted other)
 
 -- 3. What was written is accepted.
 
@@ -121,16 +161,23 @@ record IsSaved (held later : Holding) (check : Check) (audit : Audit) (text : Li
 pub not_some : (p : Option Posing) → p ≡ None → IsSome p → ⊥
 not_some p none some = let is : IsSome {T = Posing} None = subst (λ (o : Option Posing). IsSome o) none some in cc (is)
 
-module _ (read_back : AreReadBack) (certificates : AreCertificates) (one : AreOneCommand) (spellable : AreSpellable) (words : List (List ℕ)) (held later : Holding) (taken : ℕ) (audit : Audit) (text : List ℕ) (status : Status) where
+module _ (read_back : AreReadBack) (certificates : AreCertificates) (one : AreOneCommand) (spellable : AreSpellable)
+    (words : List (List ℕ)) (held later : Holding) (taken : ℕ) (audit : Audit) (text : List ℕ) (status : Status) where
   -- the paths are those of an audit
-  later_asks : (check : Check) (problem : Problem) (f : Tree) → IsSaved held later check audit text → Checks words (Some held) taken check problem f → Asks Unbounded (sources_of later check.asked) check.asked problem
+  later_asks : (check : Check) (problem : Problem) (f : Tree)
+      → IsSaved held later check audit text → Checks words (Some held) taken check problem f
+      → Asks Unbounded (sources_of later check.asked) check.asked problem
   later_asks check problem f saved asks =
-      subst (λ (paths : Paths). Asks paths (sources_of later check.asked) check.asked problem) (planned-paths check saved.planned)
-      (subst (λ (sources : Sources). Asks (check_paths check) sources check.asked problem) (asks.posed.told ∙ sym saved.alike) asks.posed.asks)
+      subst (λ (paths : Paths). Asks paths (sources_of later check.asked) check.asked problem)
+      (planned-paths check saved.planned)
+      (subst (λ (sources : Sources). Asks (check_paths check) sources check.asked problem)
+      (asks.posed.told ∙ sym saved.alike) asks.posed.asks)
 
   -- a certificate of a question whose goals are reached
-  reached-accepted : (check : Check) (problem : Problem) (p : Posing) (f : Tree) → posing_in problem ≡ Some p → initial_of problem ≡ p.initial → IsSaved held later check audit text → Checks words (Some held) taken check problem f
-      → IsBracketReport p.question p.initial f check text status → IsAcceptedOf later (OfAudit audit)
+  reached-accepted : (check : Check) (problem : Problem) (p : Posing) (f : Tree)
+      → posing_in problem ≡ Some p → initial_of problem ≡ p.initial → IsSaved held later check audit text
+      → Checks words (Some held) taken check problem f → IsBracketReport p.question p.initial f check text status
+      → IsAcceptedOf later (OfAudit audit)
   reached-accepted check problem p f reached same saved asks report =
       let few = check-few spellable check problem f asks in
       let states : length p.initial ≤ most_states = subst (λ (xs : List ℕ). length xs ≤ most_states) same few.states in
@@ -138,37 +185,57 @@ module _ (read_back : AreReadBack) (certificates : AreCertificates) (one : AreOn
         problem,
         p,
         report.plan,
-        subst (λ (asked : Asked). Asks Unbounded (sources_of later asked) asked problem) (sym saved.same) (later_asks check problem f saved asks),
+        subst (λ (asked : Asked). Asks Unbounded (sources_of later asked) asked problem) (sym saved.same)
+            (later_asks check problem f saved asks),
         reached,
         record {
           text = text;
           given = saved.given;
           short = report-text-short p.question p.initial f check text status states few.spelled report;
-          is_so = report-accepted read_back certificates p.question p.initial f check text status saved.planned parts report;
+          is_so = report-accepted read_back certificates p.question p.initial f check text status
+              saved.planned parts report;
         },
       )
 
   -- other problems have no certificate
-  no-certificate : (check : Check) (problem : Problem) (f : Tree) → posing_in problem ≡ None → IsSaved held later check audit text → Checks words (Some held) taken check problem f → ⊥
-  no-certificate check problem f none saved asks = let a = later_asks check problem f saved asks in not_some (posing_in problem) none (has-posing a.game a.labels a.owners a.formula problem a.poses a.taken)
+  no-certificate : (check : Check) (problem : Problem) (f : Tree) → posing_in problem ≡ None
+      → IsSaved held later check audit text → Checks words (Some held) taken check problem f → ⊥
+  no-certificate check problem f none saved asks =
+      let a = later_asks check problem f saved asks in
+      not_some (posing_in problem) none (has-posing a.game a.labels a.owners a.formula problem a.poses a.taken)
 
   -- words denote one `check`
-  of_other : (check other : Check) → AreCommand words (OfCheck check) → AreCommand words (OfCheck other) → IsSaved held later check audit text → IsSaved held later other audit text
+  of_other : (check other : Check) → AreCommand words (OfCheck check) → AreCommand words (OfCheck other)
+      → IsSaved held later check audit text → IsSaved held later other audit text
   of_other check other denoted also saved =
       let commands = one words (OfCheck check) (OfCheck other) denoted also in
       let same : check ≡ other = cc (commands) in subst (λ (k : Check). IsSaved held later k audit text) same saved
 
-  by_report : (check : Check) → AreCommand words (OfCheck check) → IsSaved held later check audit text → IsReportOfWords words (Some held) taken text status → IsAcceptedOf later (OfAudit audit)
-  by_report check denoted saved (of_reach other p f asks report) = reached-accepted other (OfReach p) p f refl refl (of_other check other denoted asks.denoted saved) asks report
-  by_report check denoted saved (of_within other steps p f asks report) = absurd (no-certificate other (OfWithin steps p) f refl (of_other check other denoted asks.denoted saved) asks)
-  by_report check denoted saved (of_next other p f asks report) = absurd (no-certificate other (OfNext p) f refl (of_other check other denoted asks.denoted saved) asks)
-  by_report check denoted saved (of_nested other model initial f asks report) = absurd (no-certificate other (OfNested model initial) f refl (of_other check other denoted asks.denoted saved) asks)
-  by_report check denoted saved (of_audit other problem p f asks reached audited) = absurd (same_check one words check (OfAudit other) denoted asks.denoted)
-  by_report check denoted saved (of_solve solve problem p f asks reached given solved) = absurd (same_check one words check (OfSolve solve) denoted asks.denoted)
-  by_report check denoted saved (of_sure asked problem p f all asks reached sure ends) = absurd (same_check one words check (OfSure asked) denoted asks.denoted)
-  by_report check denoted saved (of_make make other made) = absurd (same_check one words check (OfMake make) denoted other)
+  by_report : (check : Check) → AreCommand words (OfCheck check) → IsSaved held later check audit text
+      → IsReportOfWords words (Some held) taken text status → IsAcceptedOf later (OfAudit audit)
+  by_report check denoted saved (of_reach other p f asks report) =
+      reached-accepted other (OfReach p) p f refl refl (of_other check other denoted asks.denoted saved) asks report
+  by_report check denoted saved (of_within other steps p f asks report) =
+      absurd (no-certificate other (OfWithin steps p) f refl (of_other check other denoted asks.denoted saved) asks)
+  by_report check denoted saved (of_next other p f asks report) =
+      absurd (no-certificate other (OfNext p) f refl (of_other check other denoted asks.denoted saved) asks)
+  by_report check denoted saved (of_nested other model initial f asks report) = absurd
+      (no-certificate other (OfNested model initial) f refl (of_other check other denoted asks.denoted saved) asks)
+  by_report check denoted saved (of_audit other problem p f asks reached audited) =
+      absurd (same_check one words check (OfAudit other) denoted asks.denoted)
+  by_report check denoted saved (of_solve solve problem p f asks reached given solved) =
+      absurd (same_check one words check (OfSolve solve) denoted asks.denoted)
+  by_report check denoted saved (of_sure asked problem p f all asks reached sure ends) =
+      absurd (same_check one words check (OfSure asked) denoted asks.denoted)
+  by_report check denoted saved (of_make make other made) =
+      absurd (same_check one words check (OfMake make) denoted other)
 
-pub saved-accepted : AreReadBack → AreCertificates → AreOneCommand → AreSpellable → (words : List (List ℕ)) (held later : Holding) (taken : ℕ) (check : Check) (audit : Audit) (text : List ℕ) (status : Status) → AreCommand words (OfCheck check)
-    → IsReportOfWords words (Some held) taken text status → check.plan ≡ true → audit.asked ≡ check.asked → sources_of later check.asked ≡ sources_of held check.asked → later audit.certificate ≡ Some text → IsAcceptedOf later (OfAudit audit)
-saved-accepted read_back certificates one spellable words held later taken check audit text status denoted report planned same alike given =
-    by_report read_back certificates one spellable words held later taken audit text status check denoted (record { planned = planned; same = same; alike = alike; given = given }) report
+pub saved-accepted : AreReadBack → AreCertificates → AreOneCommand → AreSpellable → (words : List (List ℕ))
+    (held later : Holding) (taken : ℕ) (check : Check) (audit : Audit) (text : List ℕ) (status : Status)
+    → AreCommand words (OfCheck check) → IsReportOfWords words (Some held) taken text status
+    → check.plan ≡ true → audit.asked ≡ check.asked → sources_of later check.asked ≡ sources_of held check.asked
+    → later audit.certificate ≡ Some text → IsAcceptedOf later (OfAudit audit)
+saved-accepted read_back certificates one spellable words held later taken check audit text status denoted report
+    planned same alike given =
+    by_report read_back certificates one spellable words held later taken audit text status check denoted
+    (record { planned = planned; same = same; alike = alike; given = given }) report

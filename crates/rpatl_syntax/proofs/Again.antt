@@ -20,9 +20,12 @@ spans_all [] (Finish place) a = (place, refl)
 spans_all (u ∷ us) (Finish place) a = absurd a
 spans_all us (Broken fault) a = absurd a
 spans_all [] (Then place spelling rest) a = absurd a
-spans_all (u ∷ us) (Then place spelling rest) a = let more = spans_all us rest a.1 in (more.0, (place, rest, ap (λ s. Then place s rest) a.0, more.1))
+spans_all (u ∷ us) (Then place spelling rest) a =
+    let more = spans_all us rest a.1 in
+    (more.0, (place, rest, ap (λ s. Then place s rest) a.0, more.1))
 
-pub formula_again : (us : List (List ℕ)) (f : Tree) → IsFormula us f → (ts : Tokens) → AreTokens ts us → formula ts ≡ Ok f
+pub formula_again : (us : List (List ℕ)) (f : Tree) → IsFormula us f → (ts : Tokens)
+    → AreTokens ts us → formula ts ≡ Ok f
 formula_again us f d ts a =
     let all = spans_all us ts a in
     let P : List (List ℕ) → Type 0 = λ vs. Spans ts vs (Finish all.0) in
@@ -30,12 +33,17 @@ formula_again us f d ts a =
     let back = codes "[" ∷ (d.sides ++ codes "]" ∷ []) in
     let team = spans_split d.team (d.asks ++ back) ts (Finish all.0) s in
     let asks = spans_split d.asks back team.0 (Finish all.0) team.2 in
-    ap (λ r. r >>= λ team. bound team.1 >>= λ asks. behind_bound team.0 asks.0 asks.1) (coalition_again d.team f.coalition d.coalition ts team.0 team.1 (no_coalition d.asks back f.bound d.bound team.0 (Finish all.0) team.2))
-    ∙ ap (λ r. r >>= λ asks. behind_bound f.coalition asks.0 asks.1) (bound_again d.asks f.bound d.bound team.0 asks.0 asks.1)
-    ∙ ap (λ r. r >>= λ p. finished (tree_with f.coalition f.bound p.0) p.1) (sides_again most_nested d.sides f.kind f.left f.right d.path asks.0 (Finish all.0) asks.2)
+    ap (λ r. r >>= λ team. bound team.1 >>= λ asks. behind_bound team.0 asks.0 asks.1) (coalition_again d.team
+    f.coalition d.coalition ts team.0 team.1 (no_coalition d.asks back f.bound d.bound team.0 (Finish all.0) team.2))
+    ∙ ap (λ r. r >>= λ asks. behind_bound f.coalition asks.0 asks.1)
+    (bound_again d.asks f.bound d.bound team.0 asks.0 asks.1)
+    ∙ ap (λ r. r >>= λ p. finished (tree_with f.coalition f.bound p.0) p.1)
+    (sides_again most_nested d.sides f.kind f.left f.right d.path asks.0 (Finish all.0) asks.2)
 
 -- What is denoted is said.
 pub formula_said_again : (text : List ℕ) (f : Tree) → DenotesFormula text f → formula_said text ≡ Ok f
 unfolding formula_said
 formula_said_again text f d =
-    ap (λ b. cond b (Err (fault_at longest TooLong)) (formula (tokens_of text))) (not_above (length text) longest d.short) ∙ formula_again d.tokens f d.formula (tokens_of text) (cut_read text d.tokens d.cut 0)
+    ap (λ b. cond b (Err (fault_at longest TooLong)) (formula (tokens_of text)))
+    (not_above (length text) longest d.short)
+    ∙ formula_again d.tokens f d.formula (tokens_of text) (cut_read text d.tokens d.cut 0)

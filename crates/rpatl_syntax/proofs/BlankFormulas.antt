@@ -25,17 +25,31 @@ alike_tokens ts others us alike a =
     let P : List (List ℕ) → Type 0 = λ vs. AreTokens others vs in
     subst P (alike.spellings ∙ all.0) (all_tokens others (alike.cause ∙ all.1))
 
-alike_denotes : (text other : List ℕ) (f : Tree) → AreAlike (tokens_of other) (tokens_of text) → length other ≤ longest → DenotesFormula text f → DenotesFormula other f
-alike_denotes text other f alike short d = record { short = short; tokens = d.tokens; cut = tokens_cut other d.tokens (alike_tokens (tokens_of text) (tokens_of other) d.tokens alike (cut_read text d.tokens d.cut 0)); formula = d.formula }
+alike_denotes : (text other : List ℕ) (f : Tree) → AreAlike (tokens_of other) (tokens_of text) → length other ≤ longest
+    → DenotesFormula text f → DenotesFormula other f
+alike_denotes text other f alike short d = record {
+  short = short;
+  tokens = d.tokens;
+  cut = tokens_cut other d.tokens
+      (alike_tokens (tokens_of text) (tokens_of other) d.tokens alike (cut_read text d.tokens d.cut 0));
+  formula = d.formula;
+}
 
-pub denotes_before : (front blank back : List ℕ) (f : Tree) → IsBlank blank → StandsAt (tokens_of (front ++ back)) (length front) → length (front ++ (blank ++ back)) ≤ longest → DenotesFormula (front ++ back) f → DenotesFormula (front ++ (blank ++ back)) f
-denotes_before front blank back f is at short d = alike_denotes (front ++ back) (front ++ (blank ++ back)) f (before_token front blank back is at) short d
+pub denotes_before : (front blank back : List ℕ) (f : Tree) → IsBlank blank
+    → StandsAt (tokens_of (front ++ back)) (length front) → length (front ++ (blank ++ back)) ≤ longest
+    → DenotesFormula (front ++ back) f → DenotesFormula (front ++ (blank ++ back)) f
+denotes_before front blank back f is at short d =
+    alike_denotes (front ++ back) (front ++ (blank ++ back)) f (before_token front blank back is at) short d
 
-pub denotes_end : (text blank : List ℕ) (f : Tree) → IsBlank blank → length (text ++ blank) ≤ longest → DenotesFormula text f → DenotesFormula (text ++ blank) f
+pub denotes_end : (text blank : List ℕ) (f : Tree) → IsBlank blank → length (text ++ blank) ≤ longest
+    → DenotesFormula text f → DenotesFormula (text ++ blank) f
 denotes_end text blank f is short d =
     let all = tokens_all (tokens_of text) d.tokens (cut_read text d.tokens d.cut 0) in
     let same : text ++ (blank ++ []) ≡ text ++ blank = ap (λ xs. text ++ xs) (append-nil blank) in
     let P : List ℕ → Type 0 = λ t. AreAlike (tokens_of t) (tokens_of text) in
     alike_denotes text (text ++ blank) f
-    (subst P same (record { spellings = parted_spellings text blank [] is all.1 ∙ append-nil (spellings_of (tokens_of text)); cause = parted_cause text blank [] is all.1 ∙ sym all.1 }))
+    (subst P same (record {
+      spellings = parted_spellings text blank [] is all.1 ∙ append-nil (spellings_of (tokens_of text));
+      cause = parted_cause text blank [] is all.1 ∙ sym all.1;
+    }))
     short d

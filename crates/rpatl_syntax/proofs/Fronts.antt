@@ -1,5 +1,6 @@
 -- Where a spelling stands at the front of a text, the token there is at least as long.
-use Rattle.std.proofs.Common.{◌≡◌, ◌∙◌, ◌+◌, ◌<◌, ◌≤◌, ℕ, List, [], ◌∷◌, ◌++◌, length, Bool, true, false, cond, not, refl, ap, arith, nat_lt, append_assoc}
+use Rattle.std.proofs.Common.{◌≡◌, ◌∙◌, ◌+◌, ◌<◌, ◌≤◌, ℕ, List, [], ◌∷◌, ◌++◌, length, Bool, true, false, cond, not}
+use Rattle.std.proofs.Common.{refl, ap, arith, nat_lt, append_assoc}
 use Rattle.std.proofs.lemmas.Bool.{and_parts}
 use Rattle.std.specs.Prelude.{◌==◌, ◌&&◌}
 use Rattle.std.specs.List.{list_all}
@@ -7,9 +8,12 @@ use Rattle.std.proofs.lemmas.Bool.Decides.{nat_tests}
 use Rattle.std.proofs.lemmas.List.{length-append}
 use Rattle.text_lines.specs.Text.{is_digit}
 use Rattle.rpatl_syntax.specs.declared.front.Front.TheVariants.{Blank, Spelling, Strange}
-use Rattle.rpatl_syntax.specs.TokenRules.{go_on_number, is_name_byte, IsSpelling, word, number, quoted_name, long_sign, short_sign}
+use Rattle.rpatl_syntax.specs.TokenRules.{go_on_number, is_name_byte, IsSpelling, word, number, quoted_name, long_sign}
+use Rattle.rpatl_syntax.specs.TokenRules.{short_sign}
 use Rattle.rpatl_syntax.specs.Limits.{longest_name}
-use Rattle.rpatl_syntax.specs.Tokens.{front_from, begins_word, in_word, in_number, in_name, is_blank, is_long_sign, is_short_sign, word_length, number_length, name_from, sign_from, short_sign as sign_alone}
+use Rattle.rpatl_syntax.specs.Tokens.{front_from, begins_word, in_word, in_number, in_name, is_blank, is_long_sign}
+use Rattle.rpatl_syntax.specs.Tokens.{is_short_sign, word_length, number_length, name_from, sign_from}
+use Rattle.rpatl_syntax.specs.Tokens.{short_sign as sign_alone}
 
 -- 1. What the first byte decides.
 
@@ -53,20 +57,31 @@ short_is_other b bytes e = record {
 
 pub front_word : (b : ℕ) (bytes : List ℕ) → begins_word b ≡ true → front_from b bytes ≡ Spelling (word_length bytes + 1)
 front_word b bytes w =
-    ap (λ t. cond t Blank (cond (begins_word b) (Spelling (word_length bytes + 1)) (cond (is_digit b) (Spelling (number_length b bytes + 1)) (cond (b == 34) (name_from 0 bytes) (sign_from b bytes))))) (word_not_blank b bytes w)
-    ∙ ap (λ t. cond t (Spelling (word_length bytes + 1)) (cond (is_digit b) (Spelling (number_length b bytes + 1)) (cond (b == 34) (name_from 0 bytes) (sign_from b bytes)))) w
+    ap (λ t. cond t Blank (cond (begins_word b) (Spelling (word_length bytes + 1)) (cond (is_digit b)
+    (Spelling (number_length b bytes + 1)) (cond (b == 34) (name_from 0 bytes) (sign_from b bytes)))))
+    (word_not_blank b bytes w)
+    ∙ ap (λ t. cond t (Spelling (word_length bytes + 1)) (cond (is_digit b) (Spelling (number_length b bytes + 1))
+    (cond (b == 34) (name_from 0 bytes) (sign_from b bytes)))) w
 
-pub front_number : (b : ℕ) (bytes : List ℕ) → is_digit b ≡ true → front_from b bytes ≡ Spelling (number_length b bytes + 1)
+pub front_number : (b : ℕ) (bytes : List ℕ) → is_digit b ≡ true
+    → front_from b bytes ≡ Spelling (number_length b bytes + 1)
 front_number b bytes d =
-    ap (λ t. cond t Blank (cond (begins_word b) (Spelling (word_length bytes + 1)) (cond (is_digit b) (Spelling (number_length b bytes + 1)) (cond (b == 34) (name_from 0 bytes) (sign_from b bytes))))) (digit_not_blank b bytes d)
-    ∙ ap (λ t. cond t (Spelling (word_length bytes + 1)) (cond (is_digit b) (Spelling (number_length b bytes + 1)) (cond (b == 34) (name_from 0 bytes) (sign_from b bytes)))) (digit_begins_no_word b d)
+    ap (λ t. cond t Blank (cond (begins_word b) (Spelling (word_length bytes + 1)) (cond (is_digit b)
+    (Spelling (number_length b bytes + 1)) (cond (b == 34) (name_from 0 bytes) (sign_from b bytes)))))
+    (digit_not_blank b bytes d)
+    ∙ ap (λ t. cond t (Spelling (word_length bytes + 1))
+    (cond (is_digit b) (Spelling (number_length b bytes + 1)) (cond (b == 34) (name_from 0 bytes) (sign_from b bytes))))
+    (digit_begins_no_word b d)
     ∙ ap (λ t. cond t (Spelling (number_length b bytes + 1)) (cond (b == 34) (name_from 0 bytes) (sign_from b bytes))) d
 
 front_other : (b : ℕ) (bytes : List ℕ) → IsOther b bytes → front_from b bytes ≡ sign_from b bytes
 front_other b bytes other =
-    ap (λ t. cond t Blank (cond (begins_word b) (Spelling (word_length bytes + 1)) (cond (is_digit b) (Spelling (number_length b bytes + 1)) (cond (b == 34) (name_from 0 bytes) (sign_from b bytes))))) other.blank
-    ∙ ap (λ t. cond t (Spelling (word_length bytes + 1)) (cond (is_digit b) (Spelling (number_length b bytes + 1)) (cond (b == 34) (name_from 0 bytes) (sign_from b bytes)))) other.word
-    ∙ ap (λ t. cond t (Spelling (number_length b bytes + 1)) (cond (b == 34) (name_from 0 bytes) (sign_from b bytes))) other.digit
+    ap (λ t. cond t Blank (cond (begins_word b) (Spelling (word_length bytes + 1)) (cond (is_digit b)
+    (Spelling (number_length b bytes + 1)) (cond (b == 34) (name_from 0 bytes) (sign_from b bytes))))) other.blank
+    ∙ ap (λ t. cond t (Spelling (word_length bytes + 1)) (cond (is_digit b) (Spelling (number_length b bytes + 1))
+    (cond (b == 34) (name_from 0 bytes) (sign_from b bytes)))) other.word
+    ∙ ap (λ t. cond t (Spelling (number_length b bytes + 1)) (cond (b == 34) (name_from 0 bytes) (sign_from b bytes)))
+    other.digit
     ∙ ap (λ t. cond t (name_from 0 bytes) (sign_from b bytes)) other.quote
 
 -- 2. How far a token goes on.
@@ -79,7 +94,9 @@ name_byte_parts false q e = cc e
 few_before : (read size : ℕ) → read + size + 1 ≤ longest_name → nat_lt read longest_name ≡ true
 few_before read size h = let small : read < longest_name = omega (arith, h) in grind (arith, nat_tests)
 
-pub name_reads : (name : List ℕ) (read : ℕ) (rest : List ℕ) → list_all is_name_byte name ≡ true → read + length name ≤ longest_name → 0 < read + length name → name_from read (name ++ 34 ∷ rest) ≡ Spelling (read + length name + 2)
+pub name_reads : (name : List ℕ) (read : ℕ) (rest : List ℕ) → list_all is_name_byte name ≡ true
+    → read + length name ≤ longest_name → 0 < read + length name
+    → name_from read (name ++ 34 ∷ rest) ≡ Spelling (read + length name + 2)
 name_reads [] read rest e short some =
     let z : (read == 0) ≡ false = grind (arith, nat_tests) in
     let n : read + 2 ≡ read + length {A = ℕ} [] + 2 = omega arith in
@@ -89,7 +106,8 @@ name_reads (b ∷ name) read rest e short some =
     let byte = name_byte_parts (in_name b) (b == 34) parts.0 in
     let few : nat_lt read longest_name ≡ true = few_before read (length name) (omega (arith, short)) in
     let n : read + 1 + length name + 2 ≡ read + length (b ∷ name) + 2 = omega arith in
-    ap (λ t. cond t (cond (read == 0) Strange (Spelling (read + 2))) (cond (in_name b && nat_lt read longest_name) (name_from (read + 1) (name ++ 34 ∷ rest)) Strange)) byte.0
+    ap (λ t. cond t (cond (read == 0) Strange (Spelling (read + 2)))
+    (cond (in_name b && nat_lt read longest_name) (name_from (read + 1) (name ++ 34 ∷ rest)) Strange)) byte.0
     ∙ ap (λ t. cond (t && nat_lt read longest_name) (name_from (read + 1) (name ++ 34 ∷ rest)) Strange) byte.1
     ∙ ap (λ t. cond t (name_from (read + 1) (name ++ 34 ∷ rest)) Strange) few
     ∙ name_reads name (read + 1) rest parts.1 (omega (arith, short)) (omega arith)
@@ -100,15 +118,18 @@ word_as_long [] rest a = omega arith
 word_as_long (b ∷ bytes) rest a =
     let parts = and_parts (in_word b) (list_all in_word bytes) a in
     let more = word_as_long bytes rest parts.1 in
-    let e : word_length (b ∷ (bytes ++ rest)) ≡ word_length (bytes ++ rest) + 1 = ap (λ t. cond t (word_length (bytes ++ rest) + 1) 0) parts.0 in
+    let e : word_length (b ∷ (bytes ++ rest)) ≡ word_length (bytes ++ rest) + 1 =
+    ap (λ t. cond t (word_length (bytes ++ rest) + 1) 0) parts.0 in
     omega (arith, more, e)
 
-number_as_long : (before : ℕ) (bytes rest : List ℕ) → go_on_number before bytes ≡ true → length bytes ≤ number_length before (bytes ++ rest)
+number_as_long : (before : ℕ) (bytes rest : List ℕ) → go_on_number before bytes ≡ true
+    → length bytes ≤ number_length before (bytes ++ rest)
 number_as_long before [] rest a = omega arith
 number_as_long before (b ∷ bytes) rest a =
     let parts = and_parts (in_number before b) (go_on_number b bytes) a in
     let more = number_as_long b bytes rest parts.1 in
-    let e : number_length before (b ∷ (bytes ++ rest)) ≡ number_length b (bytes ++ rest) + 1 = ap (λ t. cond t (number_length b (bytes ++ rest) + 1) 0) parts.0 in
+    let e : number_length before (b ∷ (bytes ++ rest)) ≡ number_length b (bytes ++ rest) + 1 =
+    ap (λ t. cond t (number_length b (bytes ++ rest) + 1) 0) parts.0 in
     omega (arith, more, e)
 
 -- 3. A spelling at the front.
@@ -123,7 +144,8 @@ pub record IsMet (spelling rest : List ℕ) : Type 0 where
   pub enough : length spelling ≤ count
 
 -- a sign of one byte, or one of two that it begins
-sign_count : (b : ℕ) (rest : List ℕ) → is_short_sign b ≡ true → (count : ℕ) × (sign_from b rest ≡ Spelling count) × (1 ≤ count)
+sign_count : (b : ℕ) (rest : List ℕ) → is_short_sign b ≡ true
+    → (count : ℕ) × (sign_from b rest ≡ Spelling count) × (1 ≤ count)
 sign_count b [] e = (1, ap (λ t. cond t (Spelling 1) Strange) e, omega arith)
 sign_count b (c ∷ rest) e = by_test (is_long_sign b c)
   where
@@ -153,7 +175,8 @@ met _ (quoted_name name is) rest = record {
   others = name ++ 34 ∷ [];
   whole = refl;
   count = 0 + length name + 2;
-  front = ap (λ t. name_from 0 t) (append_assoc name (34 ∷ []) rest) ∙ name_reads name 0 rest is.bytes (omega (arith, is.short)) (omega (arith, is.some));
+  front = ap (λ t. name_from 0 t) (append_assoc name (34 ∷ []) rest)
+      ∙ name_reads name 0 rest is.bytes (omega (arith, is.short)) (omega (arith, is.some));
   enough = omega (arith, length-append name (34 ∷ []));
 }
 met _ (long_sign b c e) rest = record {
@@ -166,4 +189,11 @@ met _ (long_sign b c e) rest = record {
 }
 met _ (short_sign b e) rest =
     let sign = sign_count b rest e in
-    record { first = b; others = []; whole = refl; count = sign.0; front = front_other b rest (short_is_other b rest e) ∙ sign.1; enough = omega (arith, sign.2) }
+    record {
+      first = b;
+      others = [];
+      whole = refl;
+      count = sign.0;
+      front = front_other b rest (short_is_other b rest e) ∙ sign.1;
+      enough = omega (arith, sign.2);
+    }

@@ -1,5 +1,6 @@
 -- What is read as a name, a coalition or a bound can be spelled.
-use Rattle.std.proofs.Common.{◌≡◌, ◌∙◌, ◌-◌, ℕ, List, [], ◌∷◌, ◌++◌, length, take, true, Option, Some, None, refl, ap, sym, subst, arith}
+use Rattle.std.proofs.Common.{◌≡◌, ◌∙◌, ◌-◌, ℕ, List, [], ◌∷◌, ◌++◌, length, take, true, Option, Some, None, refl, ap}
+use Rattle.std.proofs.Common.{sym, subst, arith}
 use Rattle.std.proofs.lemmas.Bool.{and_from}
 use Rattle.std.specs.Prelude.{◌||◌, codes}
 use Rattle.std.specs.List.{list_all, AllByRecursion}
@@ -14,7 +15,8 @@ use Rattle.rpatl_syntax.specs.TokenRules.{IsName, IsSpelling, word, number, quot
 use Rattle.rpatl_syntax.specs.Grammar.{is_word, is_quoted, unquoted}
 use Rattle.rpatl_syntax.specs.Rules.{with_commas, IsWord, IsCoalition, IsComparison, IsBound, Compares}
 use Rattle.rpatl_syntax.specs.Spellable.{IsWholeWord, HasWords, IsShare, HasShare, HasThreshold}
-use Rattle.rpatl_syntax.proofs.Fronts.{word_no_quote, digit_no_quote, digit_begins_no_word, long_is_other, short_is_other}
+use Rattle.rpatl_syntax.proofs.Fronts.{word_no_quote, digit_no_quote, digit_begins_no_word, long_is_other}
+use Rattle.rpatl_syntax.proofs.Fronts.{short_is_other}
 
 pub all_left : (ts us : List (List ℕ)) → AllByRecursion IsSpelling (ts ++ us) → AllByRecursion IsSpelling ts
 all_left [] us a = tt
@@ -30,7 +32,8 @@ unquoted-quoted name =
     ap (λ n. take n (name ++ 34 ∷ [])) size ∙ take-append_seam name (34 ∷ [])
 
 -- a spelling that begins with `"` is that of a quoted name
-quoted_kept : (token : List ℕ) → IsSpelling token → is_quoted token ≡ true → (name : List ℕ) × (token ≡ 34 ∷ (name ++ 34 ∷ [])) × IsName name
+quoted_kept : (token : List ℕ) → IsSpelling token → is_quoted token ≡ true
+    → (name : List ℕ) × (token ≡ 34 ∷ (name ++ 34 ∷ [])) × IsName name
 quoted_kept _ (word b bytes w a) q = cc (q, word_no_quote b w)
 quoted_kept _ (number b bytes d a) q = cc (q, digit_no_quote b d)
 quoted_kept _ (quoted_name name is) q = (name, refl, is)
@@ -45,17 +48,21 @@ label_kept token q s =
 
 -- a spelling that begins with a letter or `_` is that of a word
 pub word_kept : (token : List ℕ) → IsSpelling token → is_word token ≡ true → IsWholeWord token
-word_kept _ (word b bytes w a) e = record { begins = e; bytes = and_from (in_word b) (list_all in_word bytes) (ap (λ t. t || is_digit b) w) a }
+word_kept _ (word b bytes w a) e =
+    record { begins = e; bytes = and_from (in_word b) (list_all in_word bytes) (ap (λ t. t || is_digit b) w) a }
 word_kept _ (number b bytes d a) e = cc (e, digit_begins_no_word b d)
 word_kept _ (quoted_name name is) e = cc e
 word_kept _ (long_sign b c f) e = cc (e, (long_is_other b c [] f).word)
 word_kept _ (short_sign b f) e = cc (e, (short_is_other b [] f).word)
 
-words_whole : (name : List ℕ) (others : List (List ℕ)) → AllByRecursion IsWord (name ∷ others) → AllByRecursion IsSpelling (with_commas (name ∷ others) ++ codes ">>" ∷ []) → AllByRecursion IsWholeWord (name ∷ others)
+words_whole : (name : List ℕ) (others : List (List ℕ)) → AllByRecursion IsWord (name ∷ others)
+    → AllByRecursion IsSpelling (with_commas (name ∷ others) ++ codes ">>" ∷ [])
+    → AllByRecursion IsWholeWord (name ∷ others)
 words_whole name [] w a = (word_kept name a.0 w.0, tt)
 words_whole name (other ∷ more) w a = (word_kept name a.0 w.0, let rest = a.1 in words_whole other more w.1 rest.1)
 
-pub coalition_kept : (us : List (List ℕ)) (team : Option (List (List ℕ))) → IsCoalition us team → AllByRecursion IsSpelling us → HasWords team
+pub coalition_kept : (us : List (List ℕ)) (team : Option (List (List ℕ))) → IsCoalition us team
+    → AllByRecursion IsSpelling us → HasWords team
 coalition_kept us None d a = tt
 coalition_kept us (Some []) d a = tt
 coalition_kept us (Some (name ∷ others)) d a =

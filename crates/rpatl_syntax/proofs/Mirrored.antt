@@ -35,14 +35,16 @@ above : (n left a rest : ℕ) → (rest * (n + left) < left * (a + rest)) ↔ (n
 above n left a rest = (λ h. omega arith, λ h. omega arith)
 
 -- what is known of a sum is known of its parts
-split : (P : ℕ → ℕ → Type 0) (n whole a den : ℕ) → n ≤ whole → a ≤ den → P (n + (whole - n)) (a + (den - a)) → P whole den
+split : (P : ℕ → ℕ → Type 0) (n whole a den : ℕ) → n ≤ whole → a ≤ den
+    → P (n + (whole - n)) (a + (den - a)) → P whole den
 split P n whole a den small share h =
     let whole_is : n + (whole - n) ≡ whole = omega arith in
     let den_is : a + (den - a) ≡ den = omega arith in
     let Q : ℕ → Type 0 = λ w. P w den in
     subst Q whole_is (subst (P (n + (whole - n))) den_is h)
 
-pub rest-meets : (bound : Bound) (n whole : ℕ) → IsAtMostOne bound → n ≤ whole → IsMetBy (dual_bound bound) (whole - n) whole ↔ IsMetBy bound n whole
+pub rest-meets : (bound : Bound) (n whole : ℕ) → IsAtMostOne bound → n ≤ whole
+    → IsMetBy (dual_bound bound) (whole - n) whole ↔ IsMetBy bound n whole
 rest-meets (AtLeast p) n whole share small =
     let P : ℕ → ℕ → Type 0 = λ w d. ((whole - n) * d ≤ (p.den - p.num) * w) ↔ (p.num * w ≤ n * d) in
     split P n whole p.num p.den small share (at_most n (whole - n) p.num (p.den - p.num))

@@ -9,7 +9,9 @@ use Rattle.rpatl_syntax.specs.Formula.{State, True}
 use Rattle.rpatl_syntax.specs.Limits.{most_nested}
 use Rattle.rpatl_syntax.specs.Spelling.{strength_of}
 use Rattle.rpatl_syntax.specs.TokenRules.{IsSpelling}
-use Rattle.rpatl_syntax.specs.Rules.{IsState, IsEither, IsBoth, IsUnary, IsPath, plain_state, implies, plain_either, or, plain_both, and, negation, brackets, everywhere, nowhere, label, inside, reach, reach_within, until, until_within, next, always}
+use Rattle.rpatl_syntax.specs.Rules.{IsState, IsEither, IsBoth, IsUnary, IsPath, plain_state, implies, plain_either, or}
+use Rattle.rpatl_syntax.specs.Rules.{plain_both, and, negation, brackets, everywhere, nowhere, label, inside, reach}
+use Rattle.rpatl_syntax.specs.Rules.{reach_within, until, until_within, next, always}
 use Rattle.rpatl_syntax.specs.Spellable.{HasParts, HasKind, HasHead, IsSide, need_in, need}
 use Rattle.rpatl_syntax.proofs.Kept.{all_left, all_right, label_kept, coalition_kept, threshold_kept}
 
@@ -42,10 +44,12 @@ lt_rises : (s less least : ℕ) → less ≤ least → nat_lt s less ≡ true �
 lt_rises s less least h e = grind (arith, nat_tests)
 
 need-rises : (less least : ℕ) (x : State) (n : ℕ) → less ≤ least → need_in less x n ≤ need_in least x n
-need-rises less least x n h = tests_rise (nat_lt (strength_of x) less) (nat_lt (strength_of x) least) n (lt_rises (strength_of x) less least h)
+need-rises less least x n h =
+    tests_rise (nat_lt (strength_of x) less) (nat_lt (strength_of x) least) n (lt_rises (strength_of x) less least h)
 
 looser : (less least room : ℕ) (x : State) → less ≤ least → Suits least room x → Suits less room x
-looser less least room x h s = record { nests = omega (arith, need-rises less least x (need x) h, s.nests); parts = s.parts }
+looser less least room x h s =
+    record { nests = omega (arith, need-rises less least x (need x) h, s.nests); parts = s.parts }
 
 all_states : (room : ℕ) → Suits 0 room True
 all_states room = record { nests = omega arith; parts = tt }
@@ -56,20 +60,25 @@ pub record PathSuits (room : ℕ) (kind : PathKind) (x y : State) : Type 0 where
   pub left : Suits 0 room x
   pub right : Suits 0 room y
 
-inner_needs : (room : ℕ) (x y : State) → need_in 0 x (need x) ≤ room → need_in 0 y (need y) ≤ room → max (need x) (need y) + 1 ≤ suc room
+inner_needs : (room : ℕ) (x y : State) → need_in 0 x (need x) ≤ room → need_in 0 y (need y) ≤ room
+    → max (need x) (need y) + 1 ≤ suc room
 inner_needs room x y a b =
     let left : need x ≤ room = omega (arith, need-below 0 x (need x), a) in
     let right : need y ≤ room = omega (arith, need-below 0 y (need y), b) in
     omega (arith, max-le left right)
 
 mutual
-  unary_suits : (room : ℕ) (us : List (List ℕ)) (x : State) → IsUnary room us x → AllByRecursion IsSpelling us → Suits 3 room x
+  unary_suits : (room : ℕ) (us : List (List ℕ)) (x : State) → IsUnary room us x
+      → AllByRecursion IsSpelling us → Suits 3 room x
   unary_suits _ _ _ (negation room us x d) a =
       let inner = unary_suits room us x d a.1 in
       record { nests = omega (arith, inner.nests); parts = inner.parts }
   unary_suits _ _ _ (brackets room us x d) a =
       let inner = state_suits room us x d (all_left us (codes ")" ∷ []) a.1) in
-      record { nests = omega (arith, need-below 0 x (need x), need-above 3 x (need x), inner.nests); parts = inner.parts }
+      record {
+        nests = omega (arith, need-below 0 x (need x), need-above 3 x (need x), inner.nests);
+        parts = inner.parts;
+      }
   unary_suits _ _ _ (everywhere room) a = record { nests = omega arith; parts = tt }
   unary_suits _ _ _ (nowhere room) a = record { nests = omega arith; parts = tt }
   unary_suits _ _ _ (label room token q) a = record { nests = omega arith; parts = label_kept token q a.0 }
@@ -78,46 +87,68 @@ mutual
       let behind_team = all_right team (asks ++ back) a in
       let behind_bound = all_right asks back behind_team in
       let sides = path_suits room us f.kind f.left f.right d (all_left us (codes "]" ∷ []) behind_bound.1) in
-      let head : HasHead f.coalition f.bound f.kind f.left = record { words = coalition_kept team f.coalition n (all_left team (asks ++ back) a); threshold = threshold_kept asks f.bound b c; kind_is = sides.kind_is } in
-      record { nests = inner_needs room f.left f.right sides.left.nests sides.right.nests; parts = (head, sides.left.parts, sides.right.parts) }
+      let head : HasHead f.coalition f.bound f.kind f.left = record {
+        words = coalition_kept team f.coalition n (all_left team (asks ++ back) a);
+        threshold = threshold_kept asks f.bound b c;
+        kind_is = sides.kind_is;
+      } in
+      record {
+        nests = inner_needs room f.left f.right sides.left.nests sides.right.nests;
+        parts = (head, sides.left.parts, sides.right.parts);
+      }
 
-  both_suits : (room : ℕ) (us : List (List ℕ)) (x : State) → IsBoth room us x → AllByRecursion IsSpelling us → Suits 2 room x
+  both_suits : (room : ℕ) (us : List (List ℕ)) (x : State) → IsBoth room us x
+      → AllByRecursion IsSpelling us → Suits 2 room x
   both_suits _ _ _ (plain_both room us x d) a = looser 2 3 room x (omega arith) (unary_suits room us x d a)
   both_suits _ _ _ (and room us vs x y d e) a =
       let left = both_suits room us x d (all_left us (codes "&" ∷ vs) a) in
       let right = unary_suits room vs y e (let b = all_right us (codes "&" ∷ vs) a in b.1) in
       record { nests = max-le left.nests right.nests; parts = (left.parts, right.parts) }
 
-  either_suits : (room : ℕ) (us : List (List ℕ)) (x : State) → IsEither room us x → AllByRecursion IsSpelling us → Suits 1 room x
+  either_suits : (room : ℕ) (us : List (List ℕ)) (x : State) → IsEither room us x
+      → AllByRecursion IsSpelling us → Suits 1 room x
   either_suits _ _ _ (plain_either room us x d) a = looser 1 2 room x (omega arith) (both_suits room us x d a)
   either_suits _ _ _ (or room us vs x y d e) a =
       let left = either_suits room us x d (all_left us (codes "|" ∷ vs) a) in
       let right = both_suits room vs y e (let b = all_right us (codes "|" ∷ vs) a in b.1) in
       record { nests = max-le left.nests right.nests; parts = (left.parts, right.parts) }
 
-  pub state_suits : (room : ℕ) (us : List (List ℕ)) (x : State) → IsState room us x → AllByRecursion IsSpelling us → Suits 0 room x
+  pub state_suits : (room : ℕ) (us : List (List ℕ)) (x : State) → IsState room us x
+      → AllByRecursion IsSpelling us → Suits 0 room x
   state_suits _ _ _ (plain_state room us x d) a = looser 0 1 room x (omega arith) (either_suits room us x d a)
   state_suits _ _ _ (implies room us vs x y d e) a =
       let left = state_suits room us x d (all_left us (codes "=>" ∷ vs) a) in
       let right = either_suits room vs y e (let b = all_right us (codes "=>" ∷ vs) a in b.1) in
       record { nests = max-le left.nests right.nests; parts = (left.parts, right.parts) }
 
-  pub path_suits : (room : ℕ) (us : List (List ℕ)) (kind : PathKind) (x y : State) → IsPath room us kind x y → AllByRecursion IsSpelling us → PathSuits room kind x y
-  path_suits _ _ _ _ _ (reach room us y d) a = record { kind_is = tt; left = all_states room; right = state_suits room us y d a.1 }
+  pub path_suits : (room : ℕ) (us : List (List ℕ)) (kind : PathKind) (x y : State) → IsPath room us kind x y
+      → AllByRecursion IsSpelling us → PathSuits room kind x y
+  path_suits _ _ _ _ _ (reach room us y d) a =
+      record { kind_is = tt; left = all_states room; right = state_suits room us y d a.1 }
   path_suits _ _ _ _ _ (reach_within room token us k y n d) a =
       let b = a.1 in
       let c = b.1 in
       record { kind_is = n.small; left = all_states room; right = state_suits room us y d c.1 }
   path_suits _ _ _ _ _ (until room us vs x y d e) a =
       let b = all_right us (codes "U" ∷ vs) a in
-      record { kind_is = tt; left = state_suits room us x d (all_left us (codes "U" ∷ vs) a); right = state_suits room vs y e b.1 }
+      record {
+        kind_is = tt;
+        left = state_suits room us x d (all_left us (codes "U" ∷ vs) a);
+        right = state_suits room vs y e b.1;
+      }
   path_suits _ _ _ _ _ (until_within room us token vs k x y d n e) a =
       let b = all_right us (codes "U" ∷ codes "<=" ∷ token ∷ vs) a in
       let c = b.1 in
       let g = c.1 in
-      record { kind_is = n.small; left = state_suits room us x d (all_left us (codes "U" ∷ codes "<=" ∷ token ∷ vs) a); right = state_suits room vs y e g.1 }
-  path_suits _ _ _ _ _ (next room us y d) a = record { kind_is = refl; left = all_states room; right = state_suits room us y d a.1 }
-  path_suits _ _ _ _ _ (always room us y d) a = record { kind_is = refl; left = all_states room; right = state_suits room us y d a.1 }
+      record {
+        kind_is = n.small;
+        left = state_suits room us x d (all_left us (codes "U" ∷ codes "<=" ∷ token ∷ vs) a);
+        right = state_suits room vs y e g.1;
+      }
+  path_suits _ _ _ _ _ (next room us y d) a =
+      record { kind_is = refl; left = all_states room; right = state_suits room us y d a.1 }
+  path_suits _ _ _ _ _ (always room us y d) a =
+      record { kind_is = refl; left = all_states room; right = state_suits room us y d a.1 }
 
 -- a side of a path
 pub side : (x : State) → Suits 0 most_nested x → IsSide x

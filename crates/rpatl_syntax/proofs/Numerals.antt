@@ -1,5 +1,6 @@
 -- A printed fraction is a number of its value, and so is a printed number of steps.
-use Rattle.std.proofs.Common.{◌≡◌, ◌∙◌, ◌+◌, ◌-◌, ◌*◌, ◌/◌, ◌%◌, ◌^◌, ◌<◌, ◌≤◌, inl, ℕ, List, [], ◌∷◌, ◌++◌, length, Bool, true, false, cond, Some, None, refl, ap, sym, arith, nat_lt}
+use Rattle.std.proofs.Common.{◌≡◌, ◌∙◌, ◌+◌, ◌-◌, ◌*◌, ◌/◌, ◌%◌, ◌^◌, ◌<◌, ◌≤◌, inl, ℕ, List, [], ◌∷◌, ◌++◌, length}
+use Rattle.std.proofs.Common.{Bool, true, false, cond, Some, None, refl, ap, sym, arith, nat_lt}
 use Rattle.std.proofs.lemmas.Bool.{and_from, and_parts}
 use Rattle.std.specs.Prelude.{◌==◌, ◌||◌, codes, decimal}
 use Rattle.std.proofs.lemmas.Fmt.{decimal_by_steps_wide, length-decimal-le_wide}
@@ -38,7 +39,8 @@ one_digit n h = record {
   value = let e : 10 * 0 + (48 + n - 48) ≡ n = omega arith in e;
 }
 
-digits_append : (front back : List ℕ) → all_digits front ≡ true → all_digits back ≡ true → all_digits (front ++ back) ≡ true
+digits_append : (front back : List ℕ) → all_digits front ≡ true → all_digits back ≡ true
+    → all_digits (front ++ back) ≡ true
 digits_append [] back a b = b
 digits_append (d ∷ front) back a b =
     let parts = and_parts (is_digit d) (all_digits front) a in
@@ -52,7 +54,8 @@ last_digit n front h m =
       first = m.first;
       others = m.others ++ ((48 + n % 10) ∷ []);
       whole = ap (λ ds. ds ++ ((48 + n % 10) ∷ [])) m.whole;
-      all = digits_append front ((48 + n % 10) ∷ []) m.all (and_from (is_digit (48 + n % 10)) true (digit_is (n % 10) small) refl);
+      all = digits_append front ((48 + n % 10) ∷ []) m.all
+          (and_from (is_digit (48 + n % 10)) true (digit_is (n % 10) small) refl);
       value = value_append 0 front ((48 + n % 10) ∷ []) ∙ ap (λ v. 10 * v + (48 + n % 10 - 48)) m.value ∙ e;
     }
 
@@ -63,9 +66,11 @@ digits_in_fraction : (digits : List ℕ) → all_digits digits ≡ true → all_
 digits_in_fraction [] a = refl
 digits_in_fraction (d ∷ digits) a =
     let parts = and_parts (is_digit d) (all_digits digits) a in
-    and_from (in_fraction d) (all_in_fraction digits) (ap (λ t. t || d == 47) parts.0) (digits_in_fraction digits parts.1)
+    and_from (in_fraction d) (all_in_fraction digits) (ap (λ t. t || d == 47) parts.0)
+    (digits_in_fraction digits parts.1)
 
-fraction_append : (front back : List ℕ) → all_in_fraction front ≡ true → all_in_fraction back ≡ true → all_in_fraction (front ++ back) ≡ true
+fraction_append : (front back : List ℕ) → all_in_fraction front ≡ true → all_in_fraction back ≡ true
+    → all_in_fraction (front ++ back) ≡ true
 fraction_append [] back a b = b
 fraction_append (d ∷ front) back a b =
     let parts = and_parts (in_fraction d) (all_in_fraction front) a in
@@ -83,7 +88,8 @@ pub record FractionText (p : Fraction) (text : List ℕ) : Type 0 where
 some_digits : (n : ℕ) (digits : List ℕ) → Numeral n digits → AreDigits digits
 some_digits n digits m = (λ none. let e : m.first ∷ m.others ≡ [] = sym m.whole ∙ none in cc e, m.all)
 
-first_digit : (n : ℕ) (digits : List ℕ) (m : Numeral n digits) → (is_digit m.first ≡ true) × (all_digits m.others ≡ true)
+first_digit : (n : ℕ) (digits : List ℕ) (m : Numeral n digits)
+    → (is_digit m.first ≡ true) × (all_digits m.others ≡ true)
 first_digit n digits m = and_parts (is_digit m.first) (all_digits m.others) (ap all_digits (sym m.whole) ∙ m.all)
 
 few_digits : (n : ℕ) → n ≤ finest → nat_lt most_digits (length (decimal n)) ≡ false
@@ -105,11 +111,17 @@ quotient_text p is =
       others = n.others ++ (codes "/" ++ decimal p.den);
       whole = ap (λ ds. ds ++ (codes "/" ++ decimal p.den)) n.whole;
       digit = head.0;
-      rest = fraction_append n.others (codes "/" ++ decimal p.den) (digits_in_fraction n.others head.1) (digits_in_fraction (decimal p.den) d.all);
+      rest = fraction_append n.others (codes "/" ++ decimal p.den) (digits_in_fraction n.others head.1)
+          (digits_in_fraction (decimal p.den) d.all);
       denotes = record {
         spelling = Quotient (decimal p.num) (decimal p.den);
-        spelled = record { parts = refl; numerator = some_digits p.num (decimal p.num) n; denominator = some_digits p.den (decimal p.den) d };
-        short = ap (λ t. t || nat_lt most_digits (length (decimal p.den))) (few_digits p.num (omega (arith, is.small, fine))) ∙ few_digits p.den fine;
+        spelled = record {
+          parts = refl;
+          numerator = some_digits p.num (decimal p.num) n;
+          denominator = some_digits p.den (decimal p.den) d;
+        };
+        short = ap (λ t. t || nat_lt most_digits (length (decimal p.den)))
+            (few_digits p.num (omega (arith, is.small, fine))) ∙ few_digits p.den fine;
         divided = let positive : 1 ≤ p.den = is.fraction.positive in omega (arith, d.value, positive);
         value = same_parts p (value_onto 0 (decimal p.num)) (value_onto 0 (decimal p.den)) n.value d.value;
         fraction = is.fraction;
@@ -121,8 +133,11 @@ whole_text p is one =
     let fine : p.den ≤ finest = is.fraction.fine in
     let n = numeral p.num (omega (arith, is.small, fine)) in
     let head = first_digit p.num (decimal p.num) n in
-    let short : nat_lt most_digits (length (decimal p.num) + 0) ≡ false = ap (λ k. nat_lt most_digits k) (let e : length (decimal p.num) + 0 ≡ length (decimal p.num) = omega arith in e) ∙ few_digits p.num (omega (arith, is.small, fine)) in
-    let value : value_onto 0 (decimal p.num ++ []) * 1 ≡ p.num = let v : value_onto 0 (decimal p.num ++ []) ≡ p.num = ap (value_onto 0) (append-nil (decimal p.num)) ∙ n.value in omega (arith, v) in
+    let short : nat_lt most_digits (length (decimal p.num) + 0) ≡ false =
+    ap (λ k. nat_lt most_digits k) (let e : length (decimal p.num) + 0 ≡ length (decimal p.num) = omega arith in e)
+    ∙ few_digits p.num (omega (arith, is.small, fine)) in
+    let value : value_onto 0 (decimal p.num ++ []) * 1 ≡ p.num = let v : value_onto 0 (decimal p.num ++ []) ≡ p.num =
+    ap (value_onto 0) (append-nil (decimal p.num)) ∙ n.value in omega (arith, v) in
     record {
       first = n.first;
       others = n.others;
@@ -131,7 +146,14 @@ whole_text p is one =
       rest = digits_in_fraction n.others head.1;
       denotes = record {
         spelling = Decimal (decimal p.num) [] no_exponent;
-        spelled = record { middle = []; end = []; parts = sym (append-nil (decimal p.num)); digits = some_digits p.num (decimal p.num) n; point = inl (refl, refl); power = inl (refl, refl) };
+        spelled = record {
+          middle = [];
+          end = [];
+          parts = sym (append-nil (decimal p.num));
+          digits = some_digits p.num (decimal p.num) n;
+          point = inl (refl, refl);
+          power = inl (refl, refl);
+        };
         short = ap (λ t. t || false) short;
         divided = omega arith;
         value = same_parts p (value_onto 0 (decimal p.num ++ []) * 1) 1 value (sym one);
@@ -145,7 +167,8 @@ den_one d e = grind (arith, nat_tests)
 pub fraction_text : (p : Fraction) → IsShare p → FractionText p (fraction_spelling p)
 fraction_text p is = by_test (p.den == 1) refl
   where
-    by_test : (t : Bool) → (p.den == 1) ≡ t → FractionText p (cond t (decimal p.num) (decimal p.num ++ (codes "/" ++ decimal p.den)))
+    by_test : (t : Bool) → (p.den == 1) ≡ t
+        → FractionText p (cond t (decimal p.num) (decimal p.num ++ (codes "/" ++ decimal p.den)))
     by_test true e = whole_text p is (den_one p.den e)
     by_test false e = quotient_text p is
 
@@ -170,4 +193,11 @@ pub steps_text : (k : ℕ) → k ≤ most_steps → StepsText k (decimal k)
 steps_text k h =
     let n = numeral k (omega (arith, h)) in
     let head = first_digit k (decimal k) n in
-    record { first = n.first; others = n.others; whole = n.whole; digit = head.0; rest = digits_in_fraction n.others head.1; steps = record { value = number_is k (decimal k) n; small = h } }
+    record {
+      first = n.first;
+      others = n.others;
+      whole = n.whole;
+      digit = head.0;
+      rest = digits_in_fraction n.others head.1;
+      steps = record { value = number_is k (decimal k) n; small = h };
+    }

@@ -33,8 +33,10 @@ kind_tokens Next left us = codes "X" ∷ []
 kind_tokens Always left us = codes "G" ∷ []
 
 -- a formula, where these are the tokens of its sides
-abbrev pub tokens_with : Option (List (List ℕ)) → Bound → PathKind → State → List (List ℕ) → List (List ℕ) → List (List ℕ)
-tokens_with team bound kind left us vs = formula_of (team_tokens team) (bound_tokens bound) (kind_tokens kind left us ++ vs)
+abbrev pub tokens_with : Option (List (List ℕ)) → Bound → PathKind → State → List (List ℕ)
+    → List (List ℕ) → List (List ℕ)
+tokens_with team bound kind left us vs =
+    formula_of (team_tokens team) (bound_tokens bound) (kind_tokens kind left us ++ vs)
 
 abbrev pub tokens_in : ℕ → State → List (List ℕ) → List (List ℕ)
 tokens_in least x tokens = if nat_lt (strength_of x) least then codes "(" ∷ (tokens ++ codes ")" ∷ []) else tokens
@@ -48,7 +50,8 @@ state_tokens (Not x) = codes "!" ∷ tokens_in 3 x (state_tokens x)
 state_tokens (And x y) = between (tokens_in 2 x (state_tokens x)) (codes "&") (tokens_in 3 y (state_tokens y))
 state_tokens (Or x y) = between (tokens_in 1 x (state_tokens x)) (codes "|") (tokens_in 2 y (state_tokens y))
 state_tokens (Implies x y) = between (tokens_in 0 x (state_tokens x)) (codes "=>") (tokens_in 1 y (state_tokens y))
-state_tokens (Inner team bound kind left right) = tokens_with team bound kind left (state_tokens left) (state_tokens right)
+state_tokens (Inner team bound kind left right) =
+    tokens_with team bound kind left (state_tokens left) (state_tokens right)
 
 abbrev pub formula_tokens : Tree → List (List ℕ)
 formula_tokens f = tokens_with f.coalition f.bound f.kind f.left (state_tokens f.left) (state_tokens f.right)

@@ -6,7 +6,8 @@ use Rattle.rpatl_syntax.specs.declared.formula.Bound.{Bound}
 use Rattle.rpatl_syntax.specs.declared.formula.Bound.TheVariants.{AtLeast, Above, AtMost, Below, AskMax, AskMin}
 use Rattle.rpatl_syntax.specs.declared.formula.PathKind.{PathKind}
 use Rattle.rpatl_syntax.specs.Formula.{State, True, False, Label, Not, And, Or, Implies, Inner}
-use Rattle.rpatl_syntax.specs.Rules.{IsState, IsEither, IsBoth, IsUnary, Compares, plain_state, implies, plain_either, or, plain_both, and, negation, brackets, everywhere, nowhere, label, inside}
+use Rattle.rpatl_syntax.specs.Rules.{IsState, IsEither, IsBoth, IsUnary, Compares, plain_state, implies, plain_either}
+use Rattle.rpatl_syntax.specs.Rules.{or, plain_both, and, negation, brackets, everywhere, nowhere, label, inside}
 use Rattle.rpatl_syntax.specs.Spellable.{HasThreshold, HasHead, HasParts, need, need_in}
 use Rattle.rpatl_syntax.proofs.Kept.{unquoted-quoted}
 use Rattle.rpatl_syntax.proofs.PrintedTokens.{team_tokens, bound_tokens, kind_tokens, tokens_in, state_tokens}
@@ -21,7 +22,8 @@ Bare room (Not x) = IsUnary room (state_tokens (Not x)) (Not x)
 Bare room (And x y) = IsBoth room (state_tokens (And x y)) (And x y)
 Bare room (Or x y) = IsEither room (state_tokens (Or x y)) (Or x y)
 Bare room (Implies x y) = IsState room (state_tokens (Implies x y)) (Implies x y)
-Bare room (Inner team bound kind x y) = IsUnary room (state_tokens (Inner team bound kind x y)) (Inner team bound kind x y)
+Bare room (Inner team bound kind x y) =
+    IsUnary room (state_tokens (Inner team bound kind x y)) (Inner team bound kind x y)
 
 from_unary : (room : ℕ) (us : List (List ℕ)) (x : State) → IsUnary room us x → IsState room us x
 from_unary room us x d = plain_state room us x (plain_either room us x (plain_both room us x d))
@@ -40,11 +42,13 @@ lifted room (Inner team bound kind x y) d = from_unary room _ (Inner team bound 
 abbrev Derives : State → Type 0
 Derives x = (room : ℕ) → need x ≤ room → Bare room x
 
-in_brackets : (room : ℕ) (x : State) → Derives x → need x + 1 ≤ room → IsUnary room (codes "(" ∷ (state_tokens x ++ codes ")" ∷ [])) x
+in_brackets : (room : ℕ) (x : State) → Derives x → need x + 1 ≤ room
+    → IsUnary room (codes "(" ∷ (state_tokens x ++ codes ")" ∷ [])) x
 in_brackets zero x d h = absurd (omega (arith, h))
 in_brackets (suc room) x d h = brackets room (state_tokens x) x (lifted room x (d room (omega (arith, h))))
 
-to_unary : (room : ℕ) (x : State) → Derives x → need_in 3 x (need x) ≤ room → IsUnary room (tokens_in 3 x (state_tokens x)) x
+to_unary : (room : ℕ) (x : State) → Derives x → need_in 3 x (need x) ≤ room
+    → IsUnary room (tokens_in 3 x (state_tokens x)) x
 to_unary room True d h = d room h
 to_unary room False d h = d room h
 to_unary room (Label name) d h = d room h
@@ -54,7 +58,8 @@ to_unary room (Or x y) d h = in_brackets room (Or x y) d h
 to_unary room (Implies x y) d h = in_brackets room (Implies x y) d h
 to_unary room (Inner team bound kind x y) d h = d room h
 
-to_both : (room : ℕ) (x : State) → Derives x → need_in 2 x (need x) ≤ room → IsBoth room (tokens_in 2 x (state_tokens x)) x
+to_both : (room : ℕ) (x : State) → Derives x → need_in 2 x (need x) ≤ room
+    → IsBoth room (tokens_in 2 x (state_tokens x)) x
 to_both room True d h = plain_both room _ True (d room h)
 to_both room False d h = plain_both room _ False (d room h)
 to_both room (Label name) d h = plain_both room _ (Label name) (d room h)
@@ -64,17 +69,21 @@ to_both room (Or x y) d h = plain_both room _ (Or x y) (in_brackets room (Or x y
 to_both room (Implies x y) d h = plain_both room _ (Implies x y) (in_brackets room (Implies x y) d h)
 to_both room (Inner team bound kind x y) d h = plain_both room _ (Inner team bound kind x y) (d room h)
 
-to_either : (room : ℕ) (x : State) → Derives x → need_in 1 x (need x) ≤ room → IsEither room (tokens_in 1 x (state_tokens x)) x
+to_either : (room : ℕ) (x : State) → Derives x → need_in 1 x (need x) ≤ room
+    → IsEither room (tokens_in 1 x (state_tokens x)) x
 to_either room True d h = plain_either room _ True (plain_both room _ True (d room h))
 to_either room False d h = plain_either room _ False (plain_both room _ False (d room h))
 to_either room (Label name) d h = plain_either room _ (Label name) (plain_both room _ (Label name) (d room h))
 to_either room (Not x) d h = plain_either room _ (Not x) (plain_both room _ (Not x) (d room h))
 to_either room (And x y) d h = plain_either room _ (And x y) (d room h)
 to_either room (Or x y) d h = d room h
-to_either room (Implies x y) d h = plain_either room _ (Implies x y) (plain_both room _ (Implies x y) (in_brackets room (Implies x y) d h))
-to_either room (Inner team bound kind x y) d h = plain_either room _ (Inner team bound kind x y) (plain_both room _ (Inner team bound kind x y) (d room h))
+to_either room (Implies x y) d h =
+    plain_either room _ (Implies x y) (plain_both room _ (Implies x y) (in_brackets room (Implies x y) d h))
+to_either room (Inner team bound kind x y) d h =
+    plain_either room _ (Inner team bound kind x y) (plain_both room _ (Inner team bound kind x y) (d room h))
 
-to_state : (room : ℕ) (x : State) → Derives x → need_in 0 x (need x) ≤ room → IsState room (tokens_in 0 x (state_tokens x)) x
+to_state : (room : ℕ) (x : State) → Derives x → need_in 0 x (need x) ≤ room
+    → IsState room (tokens_in 0 x (state_tokens x)) x
 to_state room True d h = lifted room True (d room h)
 to_state room False d h = lifted room False (d room h)
 to_state room (Label name) d h = lifted room (Label name) (d room h)
@@ -96,13 +105,18 @@ compares_from (Below p) h = tt
 compares_from AskMax h = absurd h
 compares_from AskMin h = absurd h
 
-derives_inner : (room : ℕ) (team : Option (List (List ℕ))) (bound : Bound) (kind : PathKind) (x y : State) → HasHead team bound kind x → Derives x → Derives y → need (Inner team bound kind x y) ≤ room → Bare room (Inner team bound kind x y)
+derives_inner : (room : ℕ) (team : Option (List (List ℕ))) (bound : Bound) (kind : PathKind) (x y : State)
+    → HasHead team bound kind x → Derives x → Derives y → need (Inner team bound kind x y) ≤ room
+    → Bare room (Inner team bound kind x y)
 derives_inner zero team bound kind x y head dx dy h = absurd (omega (arith, h))
 derives_inner (suc room) team bound kind x y head dx dy h =
     let left = lifted room x (dx room (omega (arith, h, le-max_left (need x) (need y)))) in
     let right = lifted room y (dy room (omega (arith, h, le-max_right (need x) (need y)))) in
-    inside room (team_tokens team) (bound_tokens bound) (kind_tokens kind x (state_tokens x) ++ state_tokens y) (record { coalition = team; bound = bound; kind = kind; left = x; right = y })
-    (team_derived team head.words) (bound_derived bound (threshold_share bound head.threshold)) (compares_from bound head.threshold) (path_derived room kind x y (state_tokens x) (state_tokens y) head.kind_is left right)
+    inside room (team_tokens team) (bound_tokens bound) (kind_tokens kind x (state_tokens x) ++ state_tokens y)
+    (record { coalition = team; bound = bound; kind = kind; left = x; right = y })
+    (team_derived team head.words) (bound_derived bound (threshold_share bound head.threshold))
+    (compares_from bound head.threshold)
+    (path_derived room kind x y (state_tokens x) (state_tokens y) head.kind_is left right)
 
 derives : (x : State) → HasParts x → Derives x
 derives True parts = λ room h. everywhere room
@@ -112,12 +126,20 @@ derives (Label name) parts = λ room h.
     subst P (unquoted-quoted name) (label room (34 ∷ (name ++ 34 ∷ [])) refl)
 derives (Not x) parts = λ room h. derives_not room x (derives x parts) h
 derives (And x y) parts = λ room h.
-    and room _ _ x y (to_both room x (derives x parts.0) (omega (arith, h, le-max_left (need_in 2 x (need x)) (need_in 3 y (need y))))) (to_unary room y (derives y parts.1) (omega (arith, h, le-max_right (need_in 2 x (need x)) (need_in 3 y (need y)))))
+    and room _ _ x y
+    (to_both room x (derives x parts.0) (omega (arith, h, le-max_left (need_in 2 x (need x)) (need_in 3 y (need y)))))
+    (to_unary room y (derives y parts.1) (omega (arith, h, le-max_right (need_in 2 x (need x)) (need_in 3 y (need y)))))
 derives (Or x y) parts = λ room h.
-    or room _ _ x y (to_either room x (derives x parts.0) (omega (arith, h, le-max_left (need_in 1 x (need x)) (need_in 2 y (need y))))) (to_both room y (derives y parts.1) (omega (arith, h, le-max_right (need_in 1 x (need x)) (need_in 2 y (need y)))))
+    or room _ _ x y
+    (to_either room x (derives x parts.0) (omega (arith, h, le-max_left (need_in 1 x (need x)) (need_in 2 y (need y)))))
+    (to_both room y (derives y parts.1) (omega (arith, h, le-max_right (need_in 1 x (need x)) (need_in 2 y (need y)))))
 derives (Implies x y) parts = λ room h.
-    implies room _ _ x y (to_state room x (derives x parts.0) (omega (arith, h, le-max_left (need_in 0 x (need x)) (need_in 1 y (need y))))) (to_either room y (derives y parts.1) (omega (arith, h, le-max_right (need_in 0 x (need x)) (need_in 1 y (need y)))))
-derives (Inner team bound kind x y) parts = λ room h. derives_inner room team bound kind x y parts.0 (derives x parts.1) (derives y parts.2) h
+    implies room _ _ x y
+    (to_state room x (derives x parts.0) (omega (arith, h, le-max_left (need_in 0 x (need x)) (need_in 1 y (need y)))))
+    (to_either room y (derives y parts.1)
+    (omega (arith, h, le-max_right (need_in 0 x (need x)) (need_in 1 y (need y)))))
+derives (Inner team bound kind x y) parts =
+    λ room h. derives_inner room team bound kind x y parts.0 (derives x parts.1) (derives y parts.2) h
 
 -- the tokens of the spelling, where it nests no deeper
 pub printed_state : (room : ℕ) (x : State) → HasParts x → need x ≤ room → IsState room (state_tokens x) x

@@ -1,7 +1,9 @@
 -- Formulas as plain trees, without where they lie in memory.
 use Rattle.std.specs.Prelude.{◌≡◌, ◌&&◌, ◌+◌, ℕ, suc, Bool, true, false, List, Option, option_map}
 use Rattle.rpatl_syntax.specs.declared.formula.StateFormula.{StateFormula}
-use Rattle.rpatl_syntax.specs.declared.formula.StateFormula.TheVariants.{True as True', False as False', Label as Label', Not', And', Or', Implies', Inner'}
+use Rattle.rpatl_syntax.specs.declared.formula.StateFormula.TheVariants.{True as True', False as False'}
+use Rattle.rpatl_syntax.specs.declared.formula.StateFormula.TheVariants.{Label as Label', Not', And', Or', Implies'}
+use Rattle.rpatl_syntax.specs.declared.formula.StateFormula.TheVariants.{Inner'}
 use Rattle.rpatl_syntax.specs.declared.formula.Bound.{Bound}
 use Rattle.rpatl_syntax.specs.declared.formula.Names.{Names}
 use Rattle.rpatl_syntax.specs.declared.formula.PathKind.{PathKind}

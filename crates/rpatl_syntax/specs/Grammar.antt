@@ -1,12 +1,15 @@
 -- The grammar of formulas, read from the left: the tree that tokens spell and the tokens behind it, or the first fault.
-use Rattle.std.specs.Prelude.{ℕ, zero, suc, ◌==◌, ◌||◌, nat_lt, Bool, false, List, [], ◌∷◌, length, drop, take, ◌-◌, Option, Some, None, Result, Ok, Err, if◌then◌else◌, bytes_eq, codes}
+use Rattle.std.specs.Prelude.{ℕ, zero, suc, ◌==◌, ◌||◌, nat_lt, Bool, false, List, [], ◌∷◌, length, drop, take, ◌-◌}
+use Rattle.std.specs.Prelude.{Option, Some, None, Result, Ok, Err, if◌then◌else◌, bytes_eq, codes}
 use Rattle.distributions.specs.Fraction.{Fraction}
 use Rattle.distributions.specs.declared.number.NumberFault.{NumberFault}
 use Rattle.distributions.specs.declared.number.NumberFault.TheVariants.{TooLarge}
 use Rattle.distributions.specs.Number.{number_said}
 use Rattle.rpatl_syntax.specs.declared.fault.FormulaFault.{FormulaFault}
 use Rattle.rpatl_syntax.specs.declared.fault.FormulaCause.{FormulaCause}
-use Rattle.rpatl_syntax.specs.declared.fault.FormulaCause.TheVariants.{End, Unexpected, TooDeep, BadNumber, ThresholdOutOfRange, TooLong, BadSteps, AskInside}
+use Rattle.rpatl_syntax.specs.declared.fault.FormulaCause.TheVariants.{End, Unexpected, TooDeep, BadNumber}
+use Rattle.rpatl_syntax.specs.declared.fault.FormulaCause.TheVariants.{ThresholdOutOfRange, TooLong, BadSteps}
+use Rattle.rpatl_syntax.specs.declared.fault.FormulaCause.TheVariants.{AskInside}
 use Rattle.rpatl_syntax.specs.declared.formula.Bound.{Bound}
 use Rattle.rpatl_syntax.specs.declared.formula.Bound.TheVariants.{AtLeast, Above, AtMost, Below, AskMax, AskMin}
 use Rattle.rpatl_syntax.specs.declared.formula.PathKind.{PathKind}

@@ -48,7 +48,13 @@ threshold-fine AskMax share = absurd share
 threshold-fine AskMin share = absurd share
 
 pub spellable-plain : (f : Tree) → IsSpellable f → HasPlainParts f
-spellable-plain f is = record { words = is.words; fine = share-fine f.bound is.share; kind = is.kind; left = is.left.parts; right = is.right.parts }
+spellable-plain f is = record {
+  words = is.words;
+  fine = share-fine f.bound is.share;
+  kind = is.kind;
+  left = is.left.parts;
+  right = is.right.parts;
+}
 
 dual-fine : (bound : Bound) → HasFine bound → HasFine (dual_bound bound)
 dual-fine (AtLeast p) fine = (omega arith, fine.1)
@@ -66,4 +72,5 @@ answered-plain f parts = by f.kind
     by Until = parts
     by (Within steps) = parts
     by Next = parts
-    by Always = record { words = parts.words; fine = dual-fine f.bound parts.fine; kind = tt; left = tt; right = parts.right }
+    by Always =
+        record { words = parts.words; fine = dual-fine f.bound parts.fine; kind = tt; left = tt; right = parts.right }

@@ -1,5 +1,6 @@
 -- How long the parts of a spelled formula are at most, in the bytes of the tokens that denote them.
-use Rattle.std.proofs.Common.{◌≡◌, ◌<◌, ◌≤◌, ◌+◌, ◌^◌, ℕ, Bool, true, false, List, [], ◌∷◌, ◌++◌, length, Option, Some, None, ap, arith}
+use Rattle.std.proofs.Common.{◌≡◌, ◌<◌, ◌≤◌, ◌+◌, ◌^◌, ℕ, Bool, true, false, List, [], ◌∷◌, ◌++◌, length, Option, Some}
+use Rattle.std.proofs.Common.{None, ap, arith}
 use Rattle.std.specs.Prelude.{◌==◌, codes, decimal, if◌then◌else◌}
 use Rattle.std.proofs.lemmas.List.{length-append}
 use Rattle.std.proofs.lemmas.Fmt.{length-decimal-le_wide}
@@ -11,7 +12,8 @@ use Rattle.rpatl_syntax.specs.Grammar.{is_number}
 use Rattle.rpatl_syntax.specs.declared.formula.PathKind.{PathKind}
 use Rattle.rpatl_syntax.specs.declared.formula.PathKind.TheVariants.{Within}
 use Rattle.rpatl_syntax.specs.Rules.{formula_of, with_commas, IsCoalition, IsComparison, IsBound, Compares}
-use Rattle.rpatl_syntax.specs.Spelling.{until_spelling, kind_spelling, spelling_with, names_spelling, coalition_spelling, fraction_spelling, bound_spelling, spelling}
+use Rattle.rpatl_syntax.specs.Spelling.{until_spelling, kind_spelling, spelling_with, names_spelling}
+use Rattle.rpatl_syntax.specs.Spelling.{coalition_spelling, fraction_spelling, bound_spelling, spelling}
 use Rattle.rpatl_syntax.specs.TokenRules.{AreCut, nothing, blank, token}
 use Rattle.run_answers.proofs.PlainParts.{IsFine, HasFine}
 use Rattle.run_answers.proofs.ShortLines.{joined-short}
@@ -29,7 +31,8 @@ bytes_in-append (t ∷ ts) us = omega (arith, bytes_in-append ts us)
 pub cut-short : (text : List ℕ) (tokens : List (List ℕ)) → AreCut text tokens → bytes_in tokens ≤ length text
 cut-short _ _ nothing = omega arith
 cut-short _ _ (blank b rest tokens is cut) = omega (arith, cut-short rest tokens cut)
-cut-short _ _ (token spelling rest tokens is cut) = omega (arith, cut-short rest tokens cut, length-append spelling rest)
+cut-short _ _ (token spelling rest tokens is cut) =
+    omega (arith, cut-short rest tokens cut, length-append spelling rest)
 
 -- 2. The parts of a formula.
 
@@ -47,19 +50,29 @@ until-short (Inner team bound kind y z) x = omega (arith, length-append x (codes
 steps-short : (k : ℕ) → k ≤ 1000000 → length (decimal k) ≤ 7
 steps-short k few = length-decimal-le_wide 7 k (omega arith) (omega (arith, few)) (omega (arith, few))
 
-pub within-short : (left : State) (x : List ℕ) (k : ℕ) → k ≤ 1000000 → length (kind_spelling (Within k) left x) ≤ length (until_spelling left x) + 9
-within-short left x k few = omega (arith, length-append (until_spelling left x) (codes "<=" ++ decimal k), steps-short k few)
+pub within-short : (left : State) (x : List ℕ) (k : ℕ) → k ≤ 1000000
+    → length (kind_spelling (Within k) left x) ≤ length (until_spelling left x) + 9
+within-short left x k few =
+    omega (arith, length-append (until_spelling left x) (codes "<=" ++ decimal k), steps-short k few)
 
 names-short : (names : List (List ℕ)) → length (names_spelling names) ≤ bytes_in (with_commas names)
 names-short [] = omega arith
 names-short (name ∷ []) = omega arith
-names-short (name ∷ other ∷ names) = omega (arith, names-short (other ∷ names), length-append name (codes "," ++ names_spelling (other ∷ names)))
+names-short (name ∷ other ∷ names) =
+    omega (arith, names-short (other ∷ names), length-append name (codes "," ++ names_spelling (other ∷ names)))
 
 -- a blank stands behind the coalition
-pub coalition-short : (ts : List (List ℕ)) (coalition : Option (List (List ℕ))) → IsCoalition ts coalition → length (coalition_spelling coalition) ≤ bytes_in ts + 1
+pub coalition-short : (ts : List (List ℕ)) (coalition : Option (List (List ℕ))) → IsCoalition ts coalition
+    → length (coalition_spelling coalition) ≤ bytes_in ts + 1
 coalition-short ts None is = omega arith
 coalition-short ts (Some names) is =
-    omega (arith, ap bytes_in is.0, names-short names, bytes_in-append (with_commas names) (codes ">>" ∷ []), length-append (names_spelling names) (codes ">> "))
+    omega (
+      arith,
+      ap bytes_in is.0,
+      names-short names,
+      bytes_in-append (with_commas names) (codes ">>" ∷ []),
+      length-append (names_spelling names) (codes ">> "),
+    )
 
 decimal-short : (n : ℕ) → n < 10 ^ 64 → length (decimal n) ≤ 64
 decimal-short n small = length-decimal-le_wide 64 n (omega arith) small small
@@ -75,9 +88,11 @@ fraction-short p fine = by (p.den == 1)
 
     by : (b : Bool) → length (if b then decimal p.num else decimal p.num ++ (codes "/" ++ decimal p.den)) ≤ 129
     by true = omega (arith, of_num)
-    by false = joined-short 64 65 (decimal p.num) (codes "/" ++ decimal p.den) of_num (joined-short 1 64 (codes "/") (decimal p.den) (omega arith) of_den)
+    by false = joined-short 64 65 (decimal p.num) (codes "/" ++ decimal p.den) of_num
+        (joined-short 1 64 (codes "/") (decimal p.den) (omega arith) of_den)
 
-compared-short : (word : List ℕ) (p : Fraction) → length word ≤ 3 → IsFine p → length (word ++ fraction_spelling p) ≤ 132
+compared-short : (word : List ℕ) (p : Fraction) → length word ≤ 3 → IsFine p
+    → length (word ++ fraction_spelling p) ≤ 132
 compared-short word p small fine = joined-short 3 129 word (fraction_spelling p) small (fraction-short p fine)
 
 bound-short : (bound : Bound) → HasFine bound → length (bound_spelling bound) ≤ 132
@@ -105,7 +120,8 @@ number-some [] is = cc (is)
 number-some (b ∷ bytes) is = omega arith
 
 -- a comparison has at least three bytes
-compared-some : (sign : List ℕ) (ts : List (List ℕ)) (p : Fraction) → 1 ≤ length sign → IsComparison sign ts p → 3 ≤ bytes_in ts
+compared-some : (sign : List ℕ) (ts : List (List ℕ)) (p : Fraction) → 1 ≤ length sign
+    → IsComparison sign ts p → 3 ≤ bytes_in ts
 compared-some sign ts p some is = let t = is.2 in omega (arith, some, ap bytes_in is.1, number-some is.0 t.number)
 
 pub bound-some : (ts : List (List ℕ)) (bound : Bound) → IsBound ts bound → Compares bound → 3 ≤ bytes_in ts
@@ -117,8 +133,9 @@ bound-some ts AskMax is compares = absurd compares
 bound-some ts AskMin is compares = absurd compares
 
 -- a coalition, a bound and a path
-pub with-short : (team : Option (List (List ℕ))) (bound : Bound) (kind : PathKind) (left : State) (x y : List ℕ) → HasFine bound
-    → length (spelling_with team bound kind left x y) ≤ length (coalition_spelling team) + (138 + (length (kind_spelling kind left x) + length y))
+pub with-short : (team : Option (List (List ℕ))) (bound : Bound) (kind : PathKind) (left : State) (x y : List ℕ)
+    → HasFine bound → length (spelling_with team bound kind left x y)
+    ≤ length (coalition_spelling team) + (138 + (length (kind_spelling kind left x) + length y))
 with-short team bound kind left x y fine =
     let front = kind_spelling kind left x in
     let behind = codes " " ++ (y ++ codes " ]") in
@@ -131,7 +148,8 @@ with-short team bound kind left x y fine =
       bound-short bound fine,
     )
 
-pub formula-bytes : (team asks sides : List (List ℕ)) → bytes_in (formula_of team asks sides) ≡ bytes_in team + (bytes_in asks + (2 + bytes_in sides))
+pub formula-bytes : (team asks sides : List (List ℕ))
+    → bytes_in (formula_of team asks sides) ≡ bytes_in team + (bytes_in asks + (2 + bytes_in sides))
 formula-bytes team asks sides =
     omega (
       arith,

@@ -13,7 +13,8 @@ use Rattle.rank_certificate.specs.declared.check.RankCause.TheVariants as ranks
 use Rattle.certificate_audit.specs.declared.fault.AuditFault.{AuditFault}
 use Rattle.certificate_audit.specs.declared.fault.AuditFault.TheVariants as audit
 use Rattle.run_refusals.specs.declared.refusal.Refusal.{Refusal}
-use Rattle.run_refusals.specs.declared.refusal.Refusal.TheVariants.{OfTra, OfLab, OfOwn, OfFormula, OfQuestion, WrongKind, OfCertificate, OfValues, TooLong}
+use Rattle.run_refusals.specs.declared.refusal.Refusal.TheVariants.{OfTra, OfLab, OfOwn, OfFormula, OfQuestion}
+use Rattle.run_refusals.specs.declared.refusal.Refusal.TheVariants.{WrongKind, OfCertificate, OfValues, TooLong}
 
 -- `decimal` writes no more than the last 64 digits of a number; those of 128 bits have at most 39
 abbrev pub IsInFull : ℕ → Type 0

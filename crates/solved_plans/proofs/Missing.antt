@@ -1,5 +1,6 @@
 -- States that a layer does not attract miss the goals for one more step.
-use Rattle.std.proofs.Common.{◌≡◌, ℕ, suc, ◌+◌, ◌*◌, ◌^◌, ◌<◌, ◌≤◌, Bool, true, false, List, length, get_or, arith, sym, ap, ◌∙◌, inl, inr}
+use Rattle.std.proofs.Common.{◌≡◌, ℕ, suc, ◌+◌, ◌*◌, ◌^◌, ◌<◌, ◌≤◌, Bool, true, false, List, length, get_or, arith, sym}
+use Rattle.std.proofs.Common.{ap, ◌∙◌, inl, inr}
 use Rattle.std.specs.Prelude.{slice_index_or}
 use Rattle.std.specs.List.{list_any}
 use Rattle.std.proofs.lemmas.Bool.{cases_Bool}
@@ -27,8 +28,10 @@ both-ways E n p some away near =
     let whole : p ≤ n = omega (arith, away, near) in
     omega (arith, some, away, mul-le-mul_left E whole)
 
-module _ (q : Query) (gone set : List Bool) (e k : ℕ) (posed : IsQuery q) (away : (t : ℕ) → t < states q → slice_index_or gone t false ≡ true → IsAway q e t)
-    (left : (t : ℕ) → t < states q → slice_index_or set t false ≡ false → slice_index_or gone t false ≡ false → IsAwayFor q (suc e) k t) where
+module _ (q : Query) (gone set : List Bool) (e k : ℕ) (posed : IsQuery q)
+    (away : (t : ℕ) → t < states q → slice_index_or gone t false ≡ true → IsAway q e t)
+    (left : (t : ℕ) → t < states q → slice_index_or set t false ≡ false → slice_index_or gone t false ≡ false
+    → IsAwayFor q (suc e) k t) where
   -- a choice that leads to a gone state, or to none of the set
   choice-left : (m : Distribution) → IsChoiceOf q.game m → serves (gone_barred gone) set m ≡ false → IsFar q e k m
   choice-left m fits fails = elim (serves-not (gone_barred gone) set m fails) [
@@ -40,19 +43,30 @@ module _ (q : Query) (gone set : List Bool) (e k : ℕ) (posed : IsQuery q) (awa
           | inl out ↦ IsAway-more q e (suc e) d.to posed (omega arith) (away d.to facts.0 out) k
           | inr within ↦ left d.to facts.0 facts.1 within
         ])
-        m.edges (AllByRecursion-both (λ (d : Edge). d.to < length q.game) (λ (d : Edge). slice_index_or set d.to false ≡ false) m.edges fits.inside (any-none (λ (d : Edge). slice_index_or set d.to false) m.edges unmet)))
+        m.edges
+        (AllByRecursion-both (λ (d : Edge). d.to < length q.game) (λ (d : Edge). slice_index_or set d.to false ≡ false)
+        m.edges fits.inside (any-none (λ (d : Edge). slice_index_or set d.to false) m.edges unmet)))
   ]
 
-  any-fails : (choices : List Distribution) (c : ℕ) → c < length choices → list_any (serves (gone_barred gone) set) choices ≡ false → serves (gone_barred gone) set (get_or choices c no_distribution) ≡ false
-  any-fails choices c l fails = AllByRecursion-at (λ m. serves (gone_barred gone) set m ≡ false) choices c no_distribution l (any-none (serves (gone_barred gone) set) choices fails)
+  any-fails : (choices : List Distribution) (c : ℕ) → c < length choices
+      → list_any (serves (gone_barred gone) set) choices ≡ false
+      → serves (gone_barred gone) set (get_or choices c no_distribution) ≡ false
+  any-fails choices c l fails = AllByRecursion-at (λ m. serves (gone_barred gone) set m ≡ false) choices c
+      no_distribution l (any-none (serves (gone_barred gone) set) choices fails)
 
   -- so a state that the set does not attract is kept away by its choices
   pub side-left : (s : ℕ) → s < states q → is_attracted q (gone_barred gone) set s ≡ false → SideIsFar q e k s
   side-left s inside fails = record {
     greatest = λ is_side c l. choice-left (choice_of q.game s c) (IsChoiceOf-choice_of q.game s c posed.game inside l)
-        (any-fails (choices_of q.game s) c l (sym (ap (λ side. attracts side (gone_barred gone) set (choices_of q.game s)) is_side) ∙ fails));
+        (any-fails (choices_of q.game s) c l
+        (sym (ap (λ side. attracts side (gone_barred gone) set (choices_of q.game s)) is_side) ∙ fails));
     least = λ is_side.
-        let one : (c : ℕ) × (c < length (choices_of q.game s)) × (serves (gone_barred gone) set (choice_of q.game s c) ≡ false) =
-        all-place (serves (gone_barred gone) set) (choices_of q.game s) no_distribution (sym (ap (λ side. attracts side (gone_barred gone) set (choices_of q.game s)) is_side) ∙ fails) in
-        (one.0, one.1, choice-left (choice_of q.game s one.0) (IsChoiceOf-choice_of q.game s one.0 posed.game inside one.1) one.2);
+        let one : (c : ℕ) × (c < length (choices_of q.game s))
+        × (serves (gone_barred gone) set (choice_of q.game s c) ≡ false) =
+        all-place (serves (gone_barred gone) set) (choices_of q.game s) no_distribution
+        (sym (ap (λ side. attracts side (gone_barred gone) set (choices_of q.game s)) is_side) ∙ fails) in (
+          one.0,
+          one.1,
+          choice-left (choice_of q.game s one.0) (IsChoiceOf-choice_of q.game s one.0 posed.game inside one.1) one.2,
+        );
   }

@@ -1,5 +1,6 @@
 -- The bounds that candidates give, where the almost-sure states and the states of value 0 are known.
-use Rattle.std.specs.Prelude.{ℕ, ◌-◌, ◌⊎◌, ◌==◌, Bool, false, List, [], length, slice_index, slice_index_or, min, max, if◌then◌else◌}
+use Rattle.std.specs.Prelude.{ℕ, ◌-◌, ◌⊎◌, ◌==◌, Bool, false, List, [], length, slice_index, slice_index_or, min, max}
+use Rattle.std.specs.Prelude.{if◌then◌else◌}
 use Rattle.game_model.specs.Query.{Query, states}
 use Rattle.game_model.specs.Limits.{unit}
 use Rattle.game_model.specs.Tables.{IsTable}

@@ -1,5 +1,7 @@
 -- Which events are lawful, what they do, and why others are refused.
-use Rattle.std.specs.Prelude.{◌≡◌, ◌≢◌, ℕ, ◌<◌, Bool, not, ◌||◌, ◌==◌, List, [], ◌∷◌, ◌++◌, length, slice_index, slice_set, Option, Some, None, IsSome, is_none, Result, Ok, Err, ◌⊎◌, if◌then◌else◌, nat_lt, nat_le}
+use Rattle.std.specs.Prelude.{◌≡◌, ◌≢◌, ℕ, ◌<◌, Bool, not, ◌||◌, ◌==◌, List, [], ◌∷◌, ◌++◌, length, slice_index}
+use Rattle.std.specs.Prelude.{slice_set, Option, Some, None, IsSome, is_none, Result, Ok, Err, ◌⊎◌, if◌then◌else◌}
+use Rattle.std.specs.Prelude.{nat_lt, nat_le}
 use Rattle.game_model.specs.declared.game.Side.{Side}
 use Rattle.game_model.specs.declared.game.Side.TheVariants.{Max, Min}
 use Rattle.game_model.specs.Game.{choices_of, choice_of}
@@ -8,7 +10,8 @@ use Rattle.game_model.specs.Rounded.{down_value, down_step}
 use Rattle.step_core.specs.declared.event.Event.{Event}
 use Rattle.step_core.specs.declared.event.Event.TheVariants.{Load, Won, Lost, Split, Join}
 use Rattle.step_core.specs.declared.event.Refused.{Refused}
-use Rattle.step_core.specs.declared.event.Refused.TheVariants.{OutOfMemory, NoView, SameView, NoState, FixedState, BadChoice, NotFrom, NotRaised, TooHigh, SameWord}
+use Rattle.step_core.specs.declared.event.Refused.TheVariants.{OutOfMemory, NoView, SameView, NoState, FixedState}
+use Rattle.step_core.specs.declared.event.Refused.TheVariants.{BadChoice, NotFrom, NotRaised, TooHigh, SameWord}
 use Rattle.step_core.specs.Word.{value_in, choice_in, value_at, greater_words}
 use Rattle.fixed_bellman.specs.Given.{IsFree, IsGivenBy}
 use Rattle.step_core.specs.Configuration.{Configuration, view_of, seen_by}

@@ -1,5 +1,6 @@
 -- How a run ends, from what was made for its words and what was written.
-use Rattle.std.proofs.Common.{◌≡◌, ◌<◌, ◌≤◌, ◌⊎◌, inl, inr, ℕ, Bool, List, Option, Result, Ok, Err, ap, refl, subst, sym, arith}
+use Rattle.std.proofs.Common.{◌≡◌, ◌<◌, ◌≤◌, ◌⊎◌, inl, inr, ℕ, Bool, List, Option, Result, Ok, Err, ap, refl, subst}
+use Rattle.std.proofs.Common.{sym, arith}
 use Rattle.text_lines.specs.Limits.{most_bytes}
 use Rattle.game_outside.specs.Outside.{Holding, GrowsBy, GrowsByPrefix}
 use Rattle.command_words.specs.Words.{Command, OfCheck, OfAudit, OfSolve, OfMake, OfSure, AreCommand}
@@ -13,13 +14,15 @@ use Rattle.asked_files.specs.declared.load.End.TheVariants as end
 use Rattle.asked_files.specs.Loading.{Takes}
 use Rattle.run_answers.specs.declared.answer.Answer.{Answer}
 use Rattle.run_answers.specs.declared.status.Status.{Status}
-use Rattle.run_answers.specs.declared.status.Status.TheVariants.{Fine, SomeFalse, SomeUndecided, Usage, ModelRefused, ReadFault, WriteFault, OutOfMemory, CertificateRefused}
+use Rattle.run_answers.specs.declared.status.Status.TheVariants.{Fine, SomeFalse, SomeUndecided, Usage, ModelRefused}
+use Rattle.run_answers.specs.declared.status.Status.TheVariants.{ReadFault, WriteFault, OutOfMemory, CertificateRefused}
 use Rattle.stogame_app.specs.Status.{IsRefusal, refused_status}
 use Rattle.run_answers.specs.Status.{IsAnswer}
 use Rattle.stogame_app.specs.Commands.{ReadsFiles, RefusesIt}
 use Rattle.stogame_app.specs.inside.Answers.{IsAnswered}
 use Rattle.stogame_app.specs.Reports.{IsReportOfWords}
-use Rattle.stogame_app.specs.Run.{AnswersWords, AsksShelf, IsEnding, IsLong, IsOutput, IsRefusalOfWords, RefusesWords, Writes}
+use Rattle.stogame_app.specs.Run.{AnswersWords, AsksShelf, IsEnding, IsLong, IsOutput, IsRefusalOfWords, RefusesWords}
+use Rattle.stogame_app.specs.Run.{Writes}
 
 -- 1. What was made for a command that the words denote.
 
@@ -28,14 +31,16 @@ unread_short : {X : Type 0} (taken : ℕ) → Takes {X = X} (Err end.ReadFault) 
 unread_short taken takes = grind arith
 
 -- where it was refused, it is too long where more was
-refused_long : {X : Type 0} (refusal : Refusal) (taken : ℕ) → Takes {X = X} (Err (end.Refused refusal)) taken → most_bytes < taken → IsLong refusal
+refused_long : {X : Type 0} (refusal : Refusal) (taken : ℕ) → Takes {X = X} (Err (end.Refused refusal)) taken
+    → most_bytes < taken → IsLong refusal
 refused_long refusal taken takes above = elim (takes.only_too_long above) [
   | inl long ↦ (long.0, cc (long.1))
   | inr memory ↦ absurd (cc (memory))
 ]
 
 -- a command that is refused reads files
-refused_reads : (holding : Option Holding) (command : Command) (refusal : Refusal) → RefusesIt holding command refusal → ReadsFiles command
+refused_reads : (holding : Option Holding) (command : Command) (refusal : Refusal) → RefusesIt holding command refusal
+    → ReadsFiles command
 refused_reads holding (OfCheck check) refusal refused = tt
 refused_reads holding (OfAudit audit) refusal refused = tt
 refused_reads holding (OfSolve solve) refusal refused = tt
@@ -49,8 +54,10 @@ reads_or_not (OfSolve solve) = inl tt
 reads_or_not (OfSure asked) = inl tt
 reads_or_not (OfMake make) = inr (λ reads. reads)
 
-module _ {S : Type 0} {held : S → Option Holding} {steady : S → Bool} {faults took : S → ℕ} {old new : S} (words : List (List ℕ)) (command : Command) (denoted : AreCommand words command) where
-  pub answers_words : (made : Result Answer End) → IsAnswered held steady faults took command old new made → AnswersWords words (held old) (took new) made
+module _ {S : Type 0} {held : S → Option Holding} {steady : S → Bool} {faults took : S → ℕ} {old new : S}
+    (words : List (List ℕ)) (command : Command) (denoted : AreCommand words command) where
+  pub answers_words : (made : Result Answer End) → IsAnswered held steady faults took command old new made
+      → AnswersWords words (held old) (took new) made
   answers_words (Ok answer) is = is.answered words denoted
   answers_words (Err end.OutOfMemory) is = tt
   answers_words (Err end.ReadFault) is =
@@ -68,7 +75,9 @@ module _ {S : Type 0} {held : S → Option Holding} {steady : S → Bool} {fault
         only_long = refused_long refusal (took new) takes;
       }
 
-  pub asks_shelf : (made : Result Answer End) (status : Status) → IsAnswered held steady faults took command old new made → (status ≡ ReadFault → made ≡ Err end.ReadFault) → AsksShelf held steady faults took words old new status
+  pub asks_shelf : (made : Result Answer End) (status : Status)
+      → IsAnswered held steady faults took command old new made → (status ≡ ReadFault → made ≡ Err end.ReadFault)
+      → AsksShelf held steady faults took words old new status
   asks_shelf made status is unread = record {
     untouched = λ none. is.untouched (none command denoted);
     kept = is.kept;
@@ -83,7 +92,9 @@ module _ {S : Type 0} {held : S → Option Holding} {steady : S → Bool} {fault
 -- 2. What is written.
 
 module _ {words : List (List ℕ)} {holding : Option Holding} {taken : ℕ} (old new : Option (List ℕ)) where
-  pub report_ends : (text : List ℕ) (status : Status) → IsAnswer status → IsReportOfWords words holding taken text status → GrowsBy old new text → IsEnding words holding taken old new status
+  pub report_ends : (text : List ℕ) (status : Status) → IsAnswer status
+      → IsReportOfWords words holding taken text status → GrowsBy old new text
+      → IsEnding words holding taken old new status
   report_ends text Fine answer report grows = record { text = text; is = report; grows = grows }
   report_ends text SomeFalse answer report grows = record { text = text; is = report; grows = grows }
   report_ends text SomeUndecided answer report grows = record { text = text; is = report; grows = grows }
@@ -94,10 +105,19 @@ module _ {words : List (List ℕ)} {holding : Option Holding} {taken : ℕ} (old
   report_ends text OutOfMemory answer report grows = absurd answer
   report_ends text CertificateRefused answer report grows = absurd answer
 
-  pub refusal_ends : (refusal : Refusal) → RefusesWords words holding taken refusal → RefusalInFull refusal → GrowsBy old new (refusal_text refusal) → IsEnding words holding taken old new (refused_status refusal)
+  pub refusal_ends : (refusal : Refusal) → RefusesWords words holding taken refusal → RefusalInFull refusal
+      → GrowsBy old new (refusal_text refusal) → IsEnding words holding taken old new (refused_status refusal)
   refusal_ends refusal refused in_full grows = elim (refused_is refusal) [
-    | inl is ↦ subst (λ (s : Status). IsEnding words holding taken old new s) (sym is) (record { text = refusal_text refusal; is = record { refusal = refusal; refused = refused; in_full = in_full; line = refl; ends = sym is }; grows = grows })
-    | inr is ↦ subst (λ (s : Status). IsEnding words holding taken old new s) (sym is) (record { text = refusal_text refusal; is = record { refusal = refusal; refused = refused; in_full = in_full; line = refl; ends = sym is }; grows = grows })
+    | inl is ↦ subst (λ (s : Status). IsEnding words holding taken old new s) (sym is) (record {
+      text = refusal_text refusal;
+      is = record { refusal = refusal; refused = refused; in_full = in_full; line = refl; ends = sym is };
+      grows = grows;
+    })
+    | inr is ↦ subst (λ (s : Status). IsEnding words holding taken old new s) (sym is) (record {
+      text = refusal_text refusal;
+      is = record { refusal = refusal; refused = refused; in_full = in_full; line = refl; ends = sym is };
+      grows = grows;
+    })
   ]
     where
       refused_is : (r : Refusal) → IsRefusal (refused_status r)
@@ -110,16 +130,20 @@ module _ {words : List (List ℕ)} {holding : Option Holding} {taken : ℕ} (old
       refused_is r = inl refl
 
   -- a text that was written to its end, or by a front
-  pub said_ends : (text : List ℕ) (result status : Status) → (result ≡ status) ⊎ (result ≡ WriteFault) → (result ≡ status → GrowsBy old new text) → (result ≡ WriteFault → GrowsByPrefix old new text)
-      → (GrowsBy old new text → IsEnding words holding taken old new status) → IsOutput words holding taken text → IsEnding words holding taken old new result
+  pub said_ends : (text : List ℕ) (result status : Status) → (result ≡ status) ⊎ (result ≡ WriteFault)
+      → (result ≡ status → GrowsBy old new text) → (result ≡ WriteFault → GrowsByPrefix old new text)
+      → (GrowsBy old new text → IsEnding words holding taken old new status) → IsOutput words holding taken text
+      → IsEnding words holding taken old new result
   said_ends text result status either all fault ends output = elim either [
     | inl is ↦ subst (λ (s : Status). IsEnding words holding taken old new s) (sym is) (ends (all is))
-    | inr is ↦ subst (λ (s : Status). IsEnding words holding taken old new s) (sym is) (record { text = text; is = output; grows = fault is })
+    | inr is ↦ subst (λ (s : Status). IsEnding words holding taken old new s) (sym is)
+        (record { text = text; is = output; grows = fault is })
   ]
 
 -- 3. What the status tells.
 
-pub reports_told : (words : List (List ℕ)) (holding : Option Holding) (taken : ℕ) (old new : Option (List ℕ)) (status : Status) → IsEnding words holding taken old new status → IsAnswer status
+pub reports_told : (words : List (List ℕ)) (holding : Option Holding) (taken : ℕ) (old new : Option (List ℕ))
+    (status : Status) → IsEnding words holding taken old new status → IsAnswer status
     → Writes old new (λ text. IsReportOfWords words holding taken text status)
 reports_told words holding taken old new Fine ends answer = ends
 reports_told words holding taken old new SomeFalse ends answer = ends
@@ -131,7 +155,8 @@ reports_told words holding taken old new WriteFault ends answer = absurd answer
 reports_told words holding taken old new OutOfMemory ends answer = absurd answer
 reports_told words holding taken old new CertificateRefused ends answer = absurd answer
 
-pub refusals_told : (words : List (List ℕ)) (holding : Option Holding) (taken : ℕ) (old new : Option (List ℕ)) (status : Status) → IsEnding words holding taken old new status → IsRefusal status
+pub refusals_told : (words : List (List ℕ)) (holding : Option Holding) (taken : ℕ) (old new : Option (List ℕ))
+    (status : Status) → IsEnding words holding taken old new status → IsRefusal status
     → Writes old new (λ text. IsRefusalOfWords words holding taken text status)
 refusals_told words holding taken old new status ends refusal = elim refusal [
   | inl is ↦ subst P (sym is) (subst (λ (s : Status). IsEnding words holding taken old new s) is ends)

@@ -6,7 +6,8 @@ use Rattle.game_model.specs.Query.{states}
 use Rattle.formula_sets.specs.Posing.{Posing}
 use Rattle.plan_text.specs.declared.plan.Plan.{Plan}
 use Rattle.certificate_audit.specs.Accepted.{IsAccepted}
-use Rattle.command_words.specs.Words.{Check, Audit, Solve, Command, OfCheck, OfAudit, OfSolve, OfMake, OfSure, AreInRange, IsMakeInRange}
+use Rattle.command_words.specs.Words.{Check, Audit, Solve, Command, OfCheck, OfAudit, OfSolve, OfMake, OfSure}
+use Rattle.command_words.specs.Words.{AreInRange, IsMakeInRange}
 use Rattle.run_refusals.specs.declared.refusal.Refusal.{Refusal}
 use Rattle.asked_files.specs.declared.problem.Paths.{Paths}
 use Rattle.asked_files.specs.declared.problem.Paths.TheVariants.{Any, Unbounded, Reaching}
@@ -15,7 +16,8 @@ use Rattle.asked_files.specs.Said.{NotHeld}
 use Rattle.asked_files.specs.Sources.{SourceWith, sources_of}
 use Rattle.asked_files.specs.Posed.{reading_said}
 use Rattle.asked_files.specs.Asks.{GivenTextWith, Asks}
-use Rattle.asked_files.specs.Questions.{PosesIt, RefusesQuestion, RefusesCertificate, GivesValues, RefusesValues, LacksValues}
+use Rattle.asked_files.specs.Questions.{PosesIt, RefusesQuestion, RefusesCertificate, GivesValues, RefusesValues}
+use Rattle.asked_files.specs.Questions.{LacksValues}
 
 -- the numbers of a command have their limits
 abbrev pub IsInRange : Command → Type 0

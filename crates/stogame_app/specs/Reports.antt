@@ -6,7 +6,8 @@ use Rattle.game_model.specs.Query.{states}
 use Rattle.rpatl_syntax.specs.Formula.{Tree}
 use Rattle.rpatl_syntax.specs.Rules.{DenotesFormula}
 use Rattle.formula_sets.specs.Posing.{Model, Posing, NextPosing}
-use Rattle.command_words.specs.Words.{Asked, Check, Audit, Solve, Make, Command, OfCheck, OfAudit, OfSolve, OfMake, OfSure, AreCommand}
+use Rattle.command_words.specs.Words.{Asked, Check, Audit, Solve, Make, Command, OfCheck, OfAudit, OfSolve, OfMake}
+use Rattle.command_words.specs.Words.{OfSure, AreCommand}
 use Rattle.asked_files.specs.declared.problem.Paths.{Paths}
 use Rattle.asked_files.specs.declared.problem.Paths.TheVariants.{Unbounded, Reaching}
 use Rattle.asked_files.specs.Problems.{Problem, OfReach, OfWithin, OfNext, OfNested, posing_in}

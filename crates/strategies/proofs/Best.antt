@@ -1,5 +1,6 @@
 -- The strategy that takes, with so many steps left, a choice that is worth the optimum.
-use Rattle.std.proofs.Common.{◌≡◌, ℕ, suc, ◌+◌, ◌-◌, ◌*◌, ◌^◌, ◌<◌, ◌≤◌, List, [], ◌∷◌, length, fold, get_or, arith, refl, sym, ◌∙◌, subst, inl, inr, ◌⊎◌}
+use Rattle.std.proofs.Common.{◌≡◌, ℕ, suc, ◌+◌, ◌-◌, ◌*◌, ◌^◌, ◌<◌, ◌≤◌, List, [], ◌∷◌, length, fold, get_or, arith}
+use Rattle.std.proofs.Common.{refl, sym, ◌∙◌, subst, inl, inr, ◌⊎◌}
 use Rattle.game_model.specs.declared.game.Side.{Side}
 use Rattle.game_model.specs.declared.game.Side.TheVariants.{Max, Min}
 use Rattle.game_model.specs.Game.{choices_of, choice_of, no_distribution}
@@ -15,7 +16,8 @@ better-cases Min x y = min-cases x y
 
 -- an element that has the optimum of a list and a start, or the start has it
 fold-some : {X : Type 0} (side : Side) (f : X → ℕ) (d : X) (x : ℕ) (xs : List X)
-    → (fold (λ best y. better side best (f y)) x xs ≡ x) ⊎ ((i : ℕ) × (i < length xs) × (f (get_or xs i d) ≡ fold (λ best y. better side best (f y)) x xs))
+    → (fold (λ best y. better side best (f y)) x xs ≡ x)
+    ⊎ ((i : ℕ) × (i < length xs) × (f (get_or xs i d) ≡ fold (λ best y. better side best (f y)) x xs))
 fold-some side f d x [] = inl refl
 fold-some side f d x (y ∷ ys) = elim (fold-some side f d (better side x (f y)) ys) [
   | inl start ↦ elim (better-cases side x (f y)) [
@@ -26,7 +28,8 @@ fold-some side f d x (y ∷ ys) = elim (fold-some side f d (better side x (f y))
 ]
 
 -- the place of an element that has the optimum
-pub optimum-some : {X : Type 0} (side : Side) (f : X → ℕ) (d : X) (xs : List X) → (i : ℕ) × (0 < length xs → (i < length xs) × (f (get_or xs i d) ≡ optimum side f xs))
+pub optimum-some : {X : Type 0} (side : Side) (f : X → ℕ) (d : X) (xs : List X)
+    → (i : ℕ) × (0 < length xs → (i < length xs) × (f (get_or xs i d) ≡ optimum side f xs))
 optimum-some side f d [] = (0, λ some. absurd (omega (arith, some)))
 optimum-some side f d (x ∷ xs) = elim (fold-some side f d (f x) xs) [
   | inl start ↦ (0, λ some. (omega arith, sym start))
@@ -35,7 +38,8 @@ optimum-some side f d (x ∷ xs) = elim (fold-some side f d (f x) xs) [
 
 -- the choice that is worth the optimum with k steps left behind this one
 pub best_choice : (q : Query) (side : Side) (k s : ℕ)
-    → (c : ℕ) × (0 < length (choices_of q.game s) → (c < length (choices_of q.game s)) × (worth q (numerator q k) (choice_of q.game s c) ≡ optimum side (worth q (numerator q k)) (choices_of q.game s)))
+    → (c : ℕ) × (0 < length (choices_of q.game s) → (c < length (choices_of q.game s))
+    × (worth q (numerator q k) (choice_of q.game s c) ≡ optimum side (worth q (numerator q k)) (choices_of q.game s)))
 best_choice q side k s = optimum-some side (worth q (numerator q k)) no_distribution (choices_of q.game s)
 
 -- the best strategy over so many steps
@@ -45,28 +49,37 @@ best_of q side horizon = λ past s throw. (best_choice q side (horizon - 1 - len
 module _ (q : Query) (posed : IsQuery q) (side : Side) (horizon : ℕ) where
   pub best_of-inside : IsStrategyOf q side (best_of q side horizon)
   unfolding best_of
-  best_of-inside past s throw inside is = ((best_choice q side (horizon - 1 - length past) s).1 (posed.game.chosen s inside)).0
+  best_of-inside past s throw inside is =
+      ((best_choice q side (horizon - 1 - length past) s).1 (posed.game.chosen s inside)).0
 
-  pub best_of-worth : (k : ℕ) (past : List Turn) (s throw : ℕ) → suc k + length past ≡ horizon → s < states q
-      → worth q (numerator q k) (choice_of q.game s (best_of q side horizon past s throw)) ≡ optimum side (worth q (numerator q k)) (choices_of q.game s)
+  pub best_of-worth : (k : ℕ) (past : List Turn) (s throw : ℕ) → suc k + length past ≡ horizon
+      → s < states q → worth q (numerator q k) (choice_of q.game s (best_of q side horizon past s throw))
+      ≡ optimum side (worth q (numerator q k)) (choices_of q.game s)
   unfolding best_of
   best_of-worth k past s throw left inside =
       let same : k ≡ horizon - 1 - length past = omega (arith, left) in
-      subst (λ j. worth q (numerator q k) (choice_of q.game s (best_choice q side j s).0) ≡ optimum side (worth q (numerator q k)) (choices_of q.game s)) same
+      subst (λ j. worth q (numerator q k) (choice_of q.game s (best_choice q side j s).0)
+      ≡ optimum side (worth q (numerator q k)) (choices_of q.game s)) same
       ((best_choice q side k s).1 (posed.game.chosen s inside)).1
 
 -- a choice that the maximiser takes at its best, or any of the minimiser
-least-each : (q : Query) (posed : IsQuery q) (horizon k : ℕ) (past : List Turn) (s throw : ℕ) (opponent : Strategy) → IsStrategyOf q Min opponent → suc k + length past ≡ horizon → s < states q
-    → (side : Side) → side_at q s ≡ side
-    → optimum side (worth q (numerator q k)) (choices_of q.game s) ≤ worth q (numerator q k) (choice_of q.game s (of_side side (best_of q Max horizon) opponent past s throw))
-least-each q posed horizon k past s throw opponent down left inside Max is = omega (arith, best_of-worth q posed Max horizon k past s throw left inside)
-least-each q posed horizon k past s throw opponent down left inside Min is = optimum-below (worth q (numerator q k)) (choices_of q.game s) (opponent past s throw) no_distribution (down past s throw inside is)
+least-each : (q : Query) (posed : IsQuery q) (horizon k : ℕ) (past : List Turn) (s throw : ℕ) (opponent : Strategy)
+    → IsStrategyOf q Min opponent → suc k + length past ≡ horizon → s < states q → (side : Side)
+    → side_at q s ≡ side → optimum side (worth q (numerator q k)) (choices_of q.game s)
+    ≤ worth q (numerator q k) (choice_of q.game s (of_side side (best_of q Max horizon) opponent past s throw))
+least-each q posed horizon k past s throw opponent down left inside Max is =
+    omega (arith, best_of-worth q posed Max horizon k past s throw left inside)
+least-each q posed horizon k past s throw opponent down left inside Min is = optimum-below (worth q (numerator q k))
+    (choices_of q.game s) (opponent past s throw) no_distribution (down past s throw inside is)
 
-most-each : (q : Query) (posed : IsQuery q) (horizon k : ℕ) (past : List Turn) (s throw : ℕ) (opponent : Strategy) → IsStrategyOf q Max opponent → suc k + length past ≡ horizon → s < states q
-    → (side : Side) → side_at q s ≡ side
-    → worth q (numerator q k) (choice_of q.game s (of_side side opponent (best_of q Min horizon) past s throw)) ≤ optimum side (worth q (numerator q k)) (choices_of q.game s)
-most-each q posed horizon k past s throw opponent up left inside Max is = optimum-each (worth q (numerator q k)) (choices_of q.game s) (opponent past s throw) no_distribution (up past s throw inside is)
-most-each q posed horizon k past s throw opponent up left inside Min is = omega (arith, best_of-worth q posed Min horizon k past s throw left inside)
+most-each : (q : Query) (posed : IsQuery q) (horizon k : ℕ) (past : List Turn) (s throw : ℕ) (opponent : Strategy)
+    → IsStrategyOf q Max opponent → suc k + length past ≡ horizon → s < states q → (side : Side) → side_at q s ≡ side
+    → worth q (numerator q k) (choice_of q.game s (of_side side opponent (best_of q Min horizon) past s throw))
+    ≤ optimum side (worth q (numerator q k)) (choices_of q.game s)
+most-each q posed horizon k past s throw opponent up left inside Max is = optimum-each (worth q (numerator q k))
+    (choices_of q.game s) (opponent past s throw) no_distribution (up past s throw inside is)
+most-each q posed horizon k past s throw opponent up left inside Min is =
+    omega (arith, best_of-worth q posed Min horizon k past s throw left inside)
 
 module _ (q : Query) (posed : IsQuery q) (horizon faces : ℕ) (opponent : Strategy) where
   abbrev Left : ℕ → List Turn → Type 0
@@ -76,19 +89,27 @@ module _ (q : Query) (posed : IsQuery q) (horizon faces : ℕ) (opponent : Strat
   onward k past turn left = omega (arith, left)
 
   -- with its best strategy the maximiser reaches the value against every strategy
-  pub best-least : IsStrategyOf q Min opponent → (s : ℕ) → s < states q → faces ^ horizon * numerator q horizon s ≤ reach q faces (best_of q Max horizon) opponent horizon [] s
+  pub best-least : IsStrategyOf q Min opponent → (s : ℕ) → s < states q
+      → faces ^ horizon * numerator q horizon s ≤ reach q faces (best_of q Max horizon) opponent horizon [] s
   best-least down s inside =
-      let all : faces ^ horizon * numerator q horizon s ≤ 1 * reach q faces (best_of q Max horizon) opponent horizon [] s =
-      reach-least q posed (choices_of q.game) faces (best_of q Max horizon) opponent (best_of-inside q posed Max horizon) down Left onward
-      (λ k past t throw left within. least-each q posed horizon k past t throw opponent down left within (side_at q t) refl) horizon [] s (omega arith) inside in
+      let all : faces ^ horizon * numerator q horizon s
+      ≤ 1 * reach q faces (best_of q Max horizon) opponent horizon [] s =
+      reach-least q posed (choices_of q.game) faces (best_of q Max horizon) opponent
+      (best_of-inside q posed Max horizon) down Left onward
+      (λ k past t throw left within. least-each q posed horizon k past t throw opponent down left within
+      (side_at q t) refl) horizon [] s (omega arith) inside in
       omega (arith, all)
 
   -- with its best strategy the minimiser holds every strategy to the value
-  pub best-most : IsStrategyOf q Max opponent → (s : ℕ) → s < states q → reach q faces opponent (best_of q Min horizon) horizon [] s ≤ faces ^ horizon * numerator q horizon s
+  pub best-most : IsStrategyOf q Max opponent → (s : ℕ) → s < states q
+      → reach q faces opponent (best_of q Min horizon) horizon [] s ≤ faces ^ horizon * numerator q horizon s
   best-most up s inside =
-      let all : 1 * reach q faces opponent (best_of q Min horizon) horizon [] s ≤ faces ^ horizon * numerator q horizon s =
-      reach-most q posed (choices_of q.game) faces opponent (best_of q Min horizon) up (best_of-inside q posed Min horizon) Left onward
-      (λ k past t throw left within. most-each q posed horizon k past t throw opponent up left within (side_at q t) refl) horizon [] s (omega arith) inside in
+      let all : 1 * reach q faces opponent (best_of q Min horizon) horizon [] s
+      ≤ faces ^ horizon * numerator q horizon s =
+      reach-most q posed (choices_of q.game) faces opponent (best_of q Min horizon) up
+      (best_of-inside q posed Min horizon) Left onward
+      (λ k past t throw left within. most-each q posed horizon k past t throw opponent up left within
+      (side_at q t) refl) horizon [] s (omega arith) inside in
       omega (arith, all)
 
 pub best : (q : Query) (k : ℕ) → IsQuery q → AreBest q k

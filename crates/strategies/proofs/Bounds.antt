@@ -25,51 +25,70 @@ turn-most f p x y w h k = omega (arith, mul-le-mul_left p h, k)
 
 module _ (q : Query) (posed : IsQuery q) (choices : ℕ → List Distribution) (faces : ℕ) (greatest least : Strategy)
     (up : IsStrategyOf q Max greatest) (down : IsStrategyOf q Min least)
-    (Fits : ℕ → List Turn → Type 0) (onward : (k : ℕ) (past : List Turn) (turn : Turn) → Fits (suc k) past → Fits k (turn ∷ past)) where
+    (Fits : ℕ → List Turn → Type 0)
+    (onward : (k : ℕ) (past : List Turn) (turn : Turn) → Fits (suc k) past → Fits k (turn ∷ past)) where
   taken : List Turn → ℕ → ℕ → ℕ
   taken past s throw = of_side (side_at q s) greatest least past s throw
 
   next : ℕ → List Turn → ℕ → ℕ → ℕ
-  next k past s throw = worth q (reach q faces greatest least k (record { state = s; throw = throw; choice = of_side (side_at q s) greatest least past s throw } ∷ past)) (choice_of q.game s (of_side (side_at q s) greatest least past s throw))
+  next k past s throw = worth q (reach q faces greatest least k
+      (record { state = s; throw = throw; choice = of_side (side_at q s) greatest least past s throw } ∷ past))
+      (choice_of q.game s (of_side (side_at q s) greatest least past s throw))
 
   -- where each choice that is taken is worth at least the optimum, the play reaches at least the value
   pub reach-least : ((k : ℕ) (past : List Turn) (s throw : ℕ) → Fits (suc k) past → s < states q
-      → optimum (side_at q s) (worth q (numerator_of q choices k)) (choices s) ≤ worth q (numerator_of q choices k) (choice_of q.game s (of_side (side_at q s) greatest least past s throw)))
-      → (k : ℕ) (past : List Turn) (s : ℕ) → Fits k past → s < states q → faces ^ k * numerator_of q choices k s ≤ 1 * reach q faces greatest least k past s
+      → optimum (side_at q s) (worth q (numerator_of q choices k)) (choices s)
+      ≤ worth q (numerator_of q choices k) (choice_of q.game s (of_side (side_at q s) greatest least past s throw)))
+      → (k : ℕ) (past : List Turn) (s : ℕ) → Fits k past → s < states q
+      → faces ^ k * numerator_of q choices k s ≤ 1 * reach q faces greatest least k past s
   unfolding numerator_of reach
   reach-least each zero past s fits inside = opens-least (is_goal q s) faces
   reach-least each (suc k) past s fits inside =
       let value : ℕ = optimum (side_at q s) (worth q (numerator_of q choices k)) (choices s) in
-      let one : (throw : ℕ) → faces ^ k * value ≤ worth q (reach q faces greatest least k (record { state = s; throw = throw; choice = of_side (side_at q s) greatest least past s throw } ∷ past)) (choice_of q.game s (of_side (side_at q s) greatest least past s throw)) =
+      let one : (throw : ℕ) → faces ^ k * value ≤ worth q (reach q faces greatest least k
+      (record { state = s; throw = throw; choice = of_side (side_at q s) greatest least past s throw } ∷ past))
+      (choice_of q.game s (of_side (side_at q s) greatest least past s throw)) =
       λ throw.
-      let turn : Turn = record { state = s; throw = throw; choice = of_side (side_at q s) greatest least past s throw } in
+      let turn : Turn =
+      record { state = s; throw = throw; choice = of_side (side_at q s) greatest least past s throw } in
       let m : Distribution = choice_of q.game s (of_side (side_at q s) greatest least past s throw) in
-      turn-least faces (faces ^ k) value (worth q (numerator_of q choices k) m) (worth q (reach q faces greatest least k (turn ∷ past)) m)
+      turn-least faces (faces ^ k) value (worth q (numerator_of q choices k) m)
+      (worth q (reach q faces greatest least k (turn ∷ past)) m)
       (each k past s throw fits inside)
       (worth-le q (numerator_of q choices k) (reach q faces greatest least k (turn ∷ past)) (faces ^ k) 1 m
-      (IsChoiceOf-choice_of q.game s _ posed.game inside (of_side-inside q greatest least up down past s throw inside (side_at q s) refl))
+      (IsChoiceOf-choice_of q.game s _ posed.game inside
+      (of_side-inside q greatest least up down past s throw inside (side_at q s) refl))
       (λ t within. reach-least each k (turn ∷ past) t (onward k past turn fits) within)) in
-      marked-le (is_goal q s) (is_dead q s) (faces ^ suc k) 1 (denominator q.game ^ suc k) ((faces * denominator q.game) ^ suc k) value _
+      marked-le (is_goal q s) (is_dead q s) (faces ^ suc k) 1 (denominator q.game ^ suc k)
+      ((faces * denominator q.game) ^ suc k) value _
       (rw (pow-product faces (denominator q.game) (suc k)) (omega arith))
       (rw (pow-suc faces k) (omega (arith, faces-least _ (faces ^ k * value) faces one)))
 
   -- where each is worth at most the optimum, it reaches at most the value
   pub reach-most : ((k : ℕ) (past : List Turn) (s throw : ℕ) → Fits (suc k) past → s < states q
-      → worth q (numerator_of q choices k) (choice_of q.game s (of_side (side_at q s) greatest least past s throw)) ≤ optimum (side_at q s) (worth q (numerator_of q choices k)) (choices s))
-      → (k : ℕ) (past : List Turn) (s : ℕ) → Fits k past → s < states q → 1 * reach q faces greatest least k past s ≤ faces ^ k * numerator_of q choices k s
+      → worth q (numerator_of q choices k) (choice_of q.game s (of_side (side_at q s) greatest least past s throw))
+      ≤ optimum (side_at q s) (worth q (numerator_of q choices k)) (choices s))
+      → (k : ℕ) (past : List Turn) (s : ℕ) → Fits k past → s < states q
+      → 1 * reach q faces greatest least k past s ≤ faces ^ k * numerator_of q choices k s
   unfolding numerator_of reach
   reach-most each zero past s fits inside = opens-most (is_goal q s) faces
   reach-most each (suc k) past s fits inside =
       let value : ℕ = optimum (side_at q s) (worth q (numerator_of q choices k)) (choices s) in
-      let one : (throw : ℕ) → worth q (reach q faces greatest least k (record { state = s; throw = throw; choice = of_side (side_at q s) greatest least past s throw } ∷ past)) (choice_of q.game s (of_side (side_at q s) greatest least past s throw)) ≤ faces ^ k * value =
+      let one : (throw : ℕ) → worth q (reach q faces greatest least k
+      (record { state = s; throw = throw; choice = of_side (side_at q s) greatest least past s throw } ∷ past))
+      (choice_of q.game s (of_side (side_at q s) greatest least past s throw)) ≤ faces ^ k * value =
       λ throw.
-      let turn : Turn = record { state = s; throw = throw; choice = of_side (side_at q s) greatest least past s throw } in
+      let turn : Turn =
+      record { state = s; throw = throw; choice = of_side (side_at q s) greatest least past s throw } in
       let m : Distribution = choice_of q.game s (of_side (side_at q s) greatest least past s throw) in
-      turn-most faces (faces ^ k) value (worth q (numerator_of q choices k) m) (worth q (reach q faces greatest least k (turn ∷ past)) m)
+      turn-most faces (faces ^ k) value (worth q (numerator_of q choices k) m)
+      (worth q (reach q faces greatest least k (turn ∷ past)) m)
       (each k past s throw fits inside)
       (worth-le q (reach q faces greatest least k (turn ∷ past)) (numerator_of q choices k) 1 (faces ^ k) m
-      (IsChoiceOf-choice_of q.game s _ posed.game inside (of_side-inside q greatest least up down past s throw inside (side_at q s) refl))
+      (IsChoiceOf-choice_of q.game s _ posed.game inside
+      (of_side-inside q greatest least up down past s throw inside (side_at q s) refl))
       (λ t within. reach-most each k (turn ∷ past) t (onward k past turn fits) within)) in
-      marked-le (is_goal q s) (is_dead q s) 1 (faces ^ suc k) ((faces * denominator q.game) ^ suc k) (denominator q.game ^ suc k) _ value
+      marked-le (is_goal q s) (is_dead q s) 1 (faces ^ suc k) ((faces * denominator q.game) ^ suc k)
+      (denominator q.game ^ suc k) _ value
       (rw (pow-product faces (denominator q.game) (suc k)) (omega arith))
       (rw (pow-suc faces k) (omega (arith, faces-most _ (faces ^ k * value) faces one)))

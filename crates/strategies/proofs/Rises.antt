@@ -1,5 +1,6 @@
 -- What is reached rises with the horizon, and is at most 1.
-use Rattle.std.proofs.Common.{◌≡◌, ℕ, zero, suc, ◌+◌, ◌*◌, ◌/◌, ◌^◌, ◌<◌, ◌≤◌, Bool, true, false, List, [], ◌∷◌, sum_by, arith}
+use Rattle.std.proofs.Common.{◌≡◌, ℕ, zero, suc, ◌+◌, ◌*◌, ◌/◌, ◌^◌, ◌<◌, ◌≤◌, Bool, true, false, List, [], ◌∷◌, sum_by}
+use Rattle.std.proofs.Common.{arith}
 use Rattle.std.specs.List.{range_with_len}
 use Rattle.std.specs.Bool.{if◌then◌else◌}
 use Rattle.std.proofs.Math.Nat.{pow-suc}
@@ -25,7 +26,8 @@ opens true d x = let at : d * 1 ≤ 1 * d ^ 1 = omega (arith, pow-one d) in at
 opens false d x = let at : d * 0 ≤ 1 * x = omega arith in at
 
 module _ (q : Query) (faces : ℕ) (greatest least : Strategy) where
-  rises : (k : ℕ) (past : List Turn) (s : ℕ) → faces * denominator q.game * reach q faces greatest least k past s ≤ 1 * reach q faces greatest least (suc k) past s
+  rises : (k : ℕ) (past : List Turn) (s : ℕ) → faces * denominator q.game * reach q faces greatest least k past s
+      ≤ 1 * reach q faces greatest least (suc k) past s
   unfolding reach
   rises zero past s = opens (is_goal q s) (faces * denominator q.game) _
   rises (suc k) past s =
@@ -34,13 +36,17 @@ module _ (q : Query) (faces : ℕ) (greatest least : Strategy) where
       (omega (arith, pow-suc d (suc k)))
       (sum-scaled d _ _ (range_with_len 0 faces) (λ throw.
       let c : ℕ = of_side (side_at q s) greatest least past s throw in
-      let turn : Turn = record { state = s; throw = throw; choice = of_side (side_at q s) greatest least past s throw } in
+      let turn : Turn =
+      record { state = s; throw = throw; choice = of_side (side_at q s) greatest least past s throw } in
       let m : Distribution = choice_of q.game s (of_side (side_at q s) greatest least past s throw) in
-      scaled-le d 1 (denominator q.game / m.total) (weighted_sum (reach q faces greatest least k (turn ∷ past)) m.edges) (weighted_sum (reach q faces greatest least (suc k) (turn ∷ past)) m.edges)
-      (weighted_sum-le (reach q faces greatest least k (turn ∷ past)) (reach q faces greatest least (suc k) (turn ∷ past)) d 1 m.edges
+      scaled-le d 1 (denominator q.game / m.total) (weighted_sum (reach q faces greatest least k (turn ∷ past)) m.edges)
+      (weighted_sum (reach q faces greatest least (suc k) (turn ∷ past)) m.edges)
+      (weighted_sum-le (reach q faces greatest least k (turn ∷ past))
+      (reach q faces greatest least (suc k) (turn ∷ past)) d 1 m.edges
       (AllByRecursion-always _ (λ e. rises k (turn ∷ past) e.to) m.edges))))
 
-  pub reach-rises : (k s : ℕ) → reach q faces greatest least k [] s * (faces * denominator q.game) ≤ reach q faces greatest least (k + 1) [] s
+  pub reach-rises : (k s : ℕ)
+      → reach q faces greatest least k [] s * (faces * denominator q.game) ≤ reach q faces greatest least (k + 1) [] s
   reach-rises k s = let next : k + 1 ≡ suc k = omega arith in
       rw next (omega (arith, rises k [] s))
 
@@ -48,7 +54,14 @@ module _ (q : Query) (faces : ℕ) (greatest least : Strategy) where
   won-most true ways = let at : ways ≤ ways = omega arith in at
   won-most false ways = let at : 0 ≤ ways = omega arith in at
 
-  pub reach-within : IsQuery q → IsStrategyOf q Max greatest → IsStrategyOf q Min least → (k s : ℕ) → s < states q → reach q faces greatest least k [] s ≤ (faces * denominator q.game) ^ k
+  pub reach-within : IsQuery q → IsStrategyOf q Max greatest → IsStrategyOf q Min least → (k s : ℕ) → s < states q
+      → reach q faces greatest least k [] s ≤ (faces * denominator q.game) ^ k
   reach-within posed up down k s inside =
       let are = ways-are q posed faces greatest least up down k s inside in
-      omega (arith, are.all, are.won, sum_by-le-sum_by (λ (play : Play). if is_won q play.through then play.ways else 0) (λ (play : Play). play.ways) (plays q faces greatest least k [] s) (λ play. won-most (is_won q play.through) play.ways))
+      omega (
+        arith,
+        are.all,
+        are.won,
+        sum_by-le-sum_by (λ (play : Play). if is_won q play.through then play.ways else 0) (λ (play : Play). play.ways)
+            (plays q faces greatest least k [] s) (λ play. won-most (is_won q play.through) play.ways),
+      )

@@ -1,5 +1,6 @@
 -- What one turn of a play adds.
-use Rattle.std.proofs.Common.{◌≡◌, ℕ, zero, suc, ◌*◌, ◌/◌, ◌^◌, ◌<◌, ◌≤◌, Bool, true, false, List, [], ◌∷◌, length, sum_by, arith, subst}
+use Rattle.std.proofs.Common.{◌≡◌, ℕ, zero, suc, ◌*◌, ◌/◌, ◌^◌, ◌<◌, ◌≤◌, Bool, true, false, List, [], ◌∷◌, length}
+use Rattle.std.proofs.Common.{sum_by, arith, subst}
 use Rattle.std.specs.List.{range_with_len}
 use Rattle.std.specs.Bool.{if◌then◌else◌}
 use Rattle.std.proofs.Math.Nat.{pow-suc, pow-zero}
@@ -23,7 +24,8 @@ pow-product a b zero = rw (pow-zero (a * b), pow-zero a, pow-zero b) (omega arit
 pow-product a b (suc n) = rw (pow-suc (a * b) n, pow-suc a n, pow-suc b n, pow-product a b n) (omega arith)
 
 -- by marks, multiples in order
-pub marked-le : (goal dead : Bool) (a b top top' x x' : ℕ) → a * top ≤ b * top' → a * x ≤ b * x' → a * (if goal then top else (if dead then 0 else x)) ≤ b * (if goal then top' else (if dead then 0 else x'))
+pub marked-le : (goal dead : Bool) (a b top top' x x' : ℕ) → a * top ≤ b * top' → a * x ≤ b * x'
+    → a * (if goal then top else (if dead then 0 else x)) ≤ b * (if goal then top' else (if dead then 0 else x'))
 marked-le true dead a b top top' x x' h k = h
 marked-le false true a b top top' x x' h k = omega arith
 marked-le false false a b top top' x x' h k = k
@@ -39,20 +41,27 @@ sum-most f most [] h = omega arith
 sum-most f most (x ∷ xs) h = rw (sum_by-cons f x xs) (omega (arith, sum-most f most xs h, h x))
 
 -- over the faces of a die
-pub faces-least : (f : ℕ → ℕ) (least faces : ℕ) → ((x : ℕ) → least ≤ f x) → faces * least ≤ sum_by f (range_with_len 0 faces)
-faces-least f least faces h = subst (λ n. n * least ≤ sum_by f (range_with_len 0 faces)) (length-range_with_len 0 faces) (sum-least f least (range_with_len 0 faces) h)
+pub faces-least : (f : ℕ → ℕ) (least faces : ℕ) → ((x : ℕ) → least ≤ f x)
+    → faces * least ≤ sum_by f (range_with_len 0 faces)
+faces-least f least faces h = subst (λ n. n * least ≤ sum_by f (range_with_len 0 faces)) (length-range_with_len 0 faces)
+    (sum-least f least (range_with_len 0 faces) h)
 
-pub faces-most : (f : ℕ → ℕ) (most faces : ℕ) → ((x : ℕ) → f x ≤ most) → sum_by f (range_with_len 0 faces) ≤ faces * most
-faces-most f most faces h = subst (λ n. sum_by f (range_with_len 0 faces) ≤ n * most) (length-range_with_len 0 faces) (sum-most f most (range_with_len 0 faces) h)
+pub faces-most : (f : ℕ → ℕ) (most faces : ℕ) → ((x : ℕ) → f x ≤ most)
+    → sum_by f (range_with_len 0 faces) ≤ faces * most
+faces-most f most faces h = subst (λ n. sum_by f (range_with_len 0 faces) ≤ n * most) (length-range_with_len 0 faces)
+    (sum-most f most (range_with_len 0 faces) h)
 
 -- a choice is worth more where its successors are
-pub worth-le : (q : Query) (v w : ℕ → ℕ) (a b : ℕ) (m : Distribution) → IsChoiceOf q.game m → ((t : ℕ) → t < states q → a * v t ≤ b * w t) → a * worth q v m ≤ b * worth q w m
+pub worth-le : (q : Query) (v w : ℕ → ℕ) (a b : ℕ) (m : Distribution) → IsChoiceOf q.game m
+    → ((t : ℕ) → t < states q → a * v t ≤ b * w t) → a * worth q v m ≤ b * worth q w m
 worth-le q v w a b m fits h =
     scaled-le a b (denominator q.game / m.total) (weighted_sum v m.edges) (weighted_sum w m.edges)
-    (weighted_sum-le v w a b m.edges (AllByRecursion-weaker (λ (e : Edge). e.to < states q) _ (λ e inside. h e.to inside) m.edges fits.inside))
+    (weighted_sum-le v w a b m.edges
+    (AllByRecursion-weaker (λ (e : Edge). e.to < states q) _ (λ e inside. h e.to inside) m.edges fits.inside))
 
 -- the strategy that is to move takes a choice that exists
-pub of_side-inside : (q : Query) (greatest least : Strategy) → IsStrategyOf q Max greatest → IsStrategyOf q Min least
-    → (past : List Turn) (s throw : ℕ) → s < states q → (side : Side) → side_at q s ≡ side → of_side side greatest least past s throw < length (choices_of q.game s)
+pub of_side-inside : (q : Query) (greatest least : Strategy) → IsStrategyOf q Max greatest
+    → IsStrategyOf q Min least → (past : List Turn) (s throw : ℕ) → s < states q → (side : Side) → side_at q s ≡ side
+    → of_side side greatest least past s throw < length (choices_of q.game s)
 of_side-inside q greatest least up down past s throw inside Max is = up past s throw inside is
 of_side-inside q greatest least up down past s throw inside Min is = down past s throw inside is

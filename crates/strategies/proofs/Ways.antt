@@ -1,5 +1,6 @@
 -- The ways of plays add up, and those of the plays that are won to what is reached.
-use Rattle.std.proofs.Common.{◌≡◌, ℕ, zero, suc, ◌+◌, ◌*◌, ◌/◌, ◌^◌, ◌<◌, ◌≤◌, Bool, true, false, List, [], ◌∷◌, length, map, sum_by, arith, refl, sym, ◌∙◌, ap}
+use Rattle.std.proofs.Common.{◌≡◌, ℕ, zero, suc, ◌+◌, ◌*◌, ◌/◌, ◌^◌, ◌<◌, ◌≤◌, Bool, true, false, List, [], ◌∷◌, length}
+use Rattle.std.proofs.Common.{map, sum_by, arith, refl, sym, ◌∙◌, ap}
 use Rattle.std.specs.Prelude.{flat_map, ◌&&◌, ◌||◌, not}
 use Rattle.std.specs.List.{range_with_len}
 use Rattle.std.specs.Bool.{if◌then◌else◌}
@@ -18,9 +19,11 @@ use Rattle.strategies.specs.Next.{comes_next, ways_next}
 use Rattle.strategies.proofs.Turns.{worth-le, of_side-inside}
 
 -- a sum over pieces
-sum-flat_map : {X Y : Type 0} (g : Y → ℕ) (f : X → List Y) (xs : List X) → sum_by g (flat_map f xs) ≡ sum_by (λ x. sum_by g (f x)) xs
+sum-flat_map : {X Y : Type 0} (g : Y → ℕ) (f : X → List Y) (xs : List X)
+    → sum_by g (flat_map f xs) ≡ sum_by (λ x. sum_by g (f x)) xs
 sum-flat_map g f [] = refl
-sum-flat_map g f (x ∷ xs) = sum_by-append g (f x) (flat_map f xs) ∙ ap (λ n. sum_by g (f x) + n) (sum-flat_map g f xs) ∙ sym (sum_by-cons (λ y. sum_by g (f y)) x xs)
+sum-flat_map g f (x ∷ xs) = sum_by-append g (f x) (flat_map f xs) ∙ ap (λ n. sum_by g (f x) + n) (sum-flat_map g f xs)
+    ∙ sym (sum_by-cons (λ y. sum_by g (f y)) x xs)
 
 -- a sum of equal terms
 sum-same : {X : Type 0} (f g : X → ℕ) (xs : List X) → ((x : X) → f x ≡ g x) → sum_by f xs ≡ sum_by g xs
@@ -40,15 +43,21 @@ sum-constant c (x ∷ xs) = rw (sum_by-cons (λ (y : ℕ). c) x xs, sum-constant
 abbrev brought : (List ℕ → ℕ) → List Play → ℕ
 brought pay all = sum_by (λ play. play.ways * pay play.through) all
 
-brought-begun : (pay : List ℕ → ℕ) (s ways : ℕ) (all : List Play) → brought pay (map (begun_at s ways) all) ≡ ways * brought (λ through. pay (s ∷ through)) all
+brought-begun : (pay : List ℕ → ℕ) (s ways : ℕ) (all : List Play)
+    → brought pay (map (begun_at s ways) all) ≡ ways * brought (λ through. pay (s ∷ through)) all
 brought-begun pay s ways [] = omega arith
 brought-begun pay s ways (play ∷ all) =
-    rw (sum_by-cons (λ (p : Play). p.ways * pay p.through) (begun_at s ways play) (map (begun_at s ways) all), sum_by-cons (λ (p : Play). p.ways * pay (s ∷ p.through)) play all, brought-begun pay s ways all)
+    rw (
+      sum_by-cons (λ (p : Play). p.ways * pay p.through) (begun_at s ways play) (map (begun_at s ways) all),
+      sum_by-cons (λ (p : Play). p.ways * pay (s ∷ p.through)) play all,
+      brought-begun pay s ways all,
+    )
     (omega arith)
 
 -- over the edges of a choice
 brought-edges : (pay : List ℕ → ℕ) (s r : ℕ) (from : ℕ → List Play) (edges : List Edge)
-    → sum_by (λ (e : Edge). brought pay (map (begun_at s (r * e.weight)) (from e.to))) edges ≡ r * weighted_sum (λ t. brought (λ through. pay (s ∷ through)) (from t)) edges
+    → sum_by (λ (e : Edge). brought pay (map (begun_at s (r * e.weight)) (from e.to))) edges
+    ≡ r * weighted_sum (λ t. brought (λ through. pay (s ∷ through)) (from t)) edges
 brought-edges pay s r from [] = omega arith
 brought-edges pay s r from (e ∷ edges) =
     rw (
@@ -61,13 +70,18 @@ brought-edges pay s r from (e ∷ edges) =
 
 weighted-constant : (c : ℕ) (edges : List Edge) → weighted_sum (λ t. c) edges ≡ sum_by (λ e. e.weight) edges * c
 weighted-constant c [] = omega arith
-weighted-constant c (e ∷ edges) = rw (sum_by-cons (λ (d : Edge). d.weight * c) e edges, sum_by-cons (λ (d : Edge). d.weight) e edges, weighted-constant c edges) (omega arith)
+weighted-constant c (e ∷ edges) = rw (
+  sum_by-cons (λ (d : Edge). d.weight * c) e edges,
+  sum_by-cons (λ (d : Edge). d.weight) e edges,
+  weighted-constant c edges,
+) (omega arith)
 
 share : (d r w c : ℕ) → r * w ≡ d → r * (w * c) ≡ d * c
 share d r w c same = rw (← same) (omega arith)
 
 -- a choice whose successors are worth the same
-pub worth-constant : (q : Query) (c : ℕ) (m : Distribution) → IsChoiceOf q.game m → worth q (λ t. c) m ≡ denominator q.game * c
+pub worth-constant : (q : Query) (c : ℕ) (m : Distribution) → IsChoiceOf q.game m
+    → worth q (λ t. c) m ≡ denominator q.game * c
 worth-constant q c m fits =
     ap (λ x. denominator q.game / m.total * x) (weighted-constant c m.edges ∙ ap (λ w. w * c) fits.sums)
     ∙ share (denominator q.game) (denominator q.game / m.total) m.total c fits.divides
@@ -76,7 +90,8 @@ both-ways : (x y : ℕ) → 1 * x ≤ 1 * y → 1 * y ≤ 1 * x → x ≡ y
 both-ways x y h k = omega (arith, h, k)
 
 -- a choice is worth the same where its successors are
-worth-same : (q : Query) (v w : ℕ → ℕ) (m : Distribution) → IsChoiceOf q.game m → ((t : ℕ) → t < states q → v t ≡ w t) → worth q v m ≡ worth q w m
+worth-same : (q : Query) (v w : ℕ → ℕ) (m : Distribution) → IsChoiceOf q.game m → ((t : ℕ) → t < states q → v t ≡ w t)
+    → worth q v m ≡ worth q w m
 worth-same q v w m fits h =
     both-ways (worth q v m) (worth q w m)
     (worth-le q v w 1 1 m fits (λ t inside. omega (arith, h t inside)))
@@ -105,9 +120,12 @@ won-or-lost q (play ∷ all) =
       sum_by-cons (λ (p : Play). p.ways) play all,
       ← won-or-lost q all,
     )
-    (elim (is_won q play.through) as (λ won. (if won then play.ways else 0) + ways_won q all + ((if won then 0 else play.ways) + ways_lost q all) ≡ play.ways + (ways_won q all + ways_lost q all)) [ true ↦ omega arith | false ↦ omega arith ])
+    (elim (is_won q play.through)
+    as (λ won. (if won then play.ways else 0) + ways_won q all + ((if won then 0 else play.ways) + ways_lost q all)
+    ≡ play.ways + (ways_won q all + ways_lost q all)) [ true ↦ omega arith | false ↦ omega arith ])
 
-module _ (q : Query) (posed : IsQuery q) (faces : ℕ) (greatest least : Strategy) (up : IsStrategyOf q Max greatest) (down : IsStrategyOf q Min least) where
+module _ (q : Query) (posed : IsQuery q) (faces : ℕ) (greatest least : Strategy) (up : IsStrategyOf q Max greatest)
+    (down : IsStrategyOf q Min least) where
   abbrev turn_at : List Turn → ℕ → ℕ → Turn
   turn_at past s throw = record { state = s; throw = throw; choice = of_side (side_at q s) greatest least past s throw }
 
@@ -118,80 +136,122 @@ module _ (q : Query) (posed : IsQuery q) (faces : ℕ) (greatest least : Strateg
   total pay k past s = brought pay (plays q faces greatest least k past s)
 
   fits : (past : List Turn) (s throw : ℕ) → s < states q → IsChoiceOf q.game (choice_at past s throw)
-  fits past s throw inside = IsChoiceOf-choice_of q.game s _ posed.game inside (of_side-inside q greatest least up down past s throw inside (side_at q s) refl)
+  fits past s throw inside = IsChoiceOf-choice_of q.game s _ posed.game inside
+      (of_side-inside q greatest least up down past s throw inside (side_at q s) refl)
 
   -- one turn more
-  total-turn : (pay : List ℕ → ℕ) (k : ℕ) (past : List Turn) (s : ℕ)
-      → total pay (suc k) past s ≡ sum_by (λ throw. worth q (λ t. total (λ through. pay (s ∷ through)) k (turn_at past s throw ∷ past) t) (choice_at past s throw)) (range_with_len 0 faces)
+  total-turn : (pay : List ℕ → ℕ) (k : ℕ) (past : List Turn) (s : ℕ) → total pay (suc k) past s
+      ≡ sum_by (λ throw. worth q (λ t. total (λ through. pay (s ∷ through)) k (turn_at past s throw ∷ past) t)
+      (choice_at past s throw)) (range_with_len 0 faces)
   unfolding plays
   total-turn pay k past s =
       sum-flat_map (λ (play : Play). play.ways * pay play.through) _ (range_with_len 0 faces)
       ∙ sum-same _ _ (range_with_len 0 faces) (λ throw.
       sum-flat_map (λ (play : Play). play.ways * pay play.through) _ (choice_at past s throw).edges
-      ∙ brought-edges pay s (denominator q.game / (choice_at past s throw).total) (λ t. plays q faces greatest least k (turn_at past s throw ∷ past) t) (choice_at past s throw).edges)
+      ∙ brought-edges pay s (denominator q.game / (choice_at past s throw).total)
+      (λ t. plays q faces greatest least k (turn_at past s throw ∷ past) t) (choice_at past s throw).edges)
 
   -- where each play brings the same
-  total-constant : (c k : ℕ) (past : List Turn) (s : ℕ) → s < states q → total (λ through. c) k past s ≡ c * (faces * denominator q.game) ^ k
+  total-constant : (c k : ℕ) (past : List Turn) (s : ℕ) → s < states q
+      → total (λ through. c) k past s ≡ c * (faces * denominator q.game) ^ k
   unfolding plays
-  total-constant c zero past s inside = rw (pow-zero (faces * denominator q.game)) (let at : 0 + 1 * c ≡ c * 1 = omega arith in at)
+  total-constant c zero past s inside =
+      rw (pow-zero (faces * denominator q.game)) (let at : 0 + 1 * c ≡ c * 1 = omega arith in at)
   total-constant c (suc k) past s inside =
       let P : ℕ = c * (faces * denominator q.game) ^ k in
-      let turn : total (λ through. c) (suc k) past s ≡ sum_by (λ throw. denominator q.game * P) (range_with_len 0 faces) =
+      let turn : total (λ through. c) (suc k) past s
+      ≡ sum_by (λ throw. denominator q.game * P) (range_with_len 0 faces) =
       total-turn (λ through. c) k past s
       ∙ sum-same _ _ (range_with_len 0 faces) (λ throw.
-      worth-same q (λ t. total (λ through. c) k (turn_at past s throw ∷ past) t) (λ t. P) (choice_at past s throw) (fits past s throw inside) (λ t within. total-constant c k (turn_at past s throw ∷ past) t within)
+      worth-same q (λ t. total (λ through. c) k (turn_at past s throw ∷ past) t) (λ t. P) (choice_at past s throw)
+      (fits past s throw inside) (λ t within. total-constant c k (turn_at past s throw ∷ past) t within)
       ∙ worth-constant q P (choice_at past s throw) (fits past s throw inside)) in
       let all : sum_by (λ throw. denominator q.game * P) (range_with_len 0 faces) ≡ faces * (denominator q.game * P) =
-      sum-constant (denominator q.game * P) (range_with_len 0 faces) ∙ ap (λ n. n * (denominator q.game * P)) (length-range_with_len 0 faces) in
-      let power : (faces * denominator q.game) ^ suc k ≡ (faces * denominator q.game) ^ k * (faces * denominator q.game) = pow-suc (faces * denominator q.game) k in
+      sum-constant (denominator q.game * P) (range_with_len 0 faces)
+      ∙ ap (λ n. n * (denominator q.game * P)) (length-range_with_len 0 faces) in
+      let power : (faces * denominator q.game) ^ suc k
+      ≡ (faces * denominator q.game) ^ k * (faces * denominator q.game) = pow-suc (faces * denominator q.game) k in
       rw (power) (omega (arith, turn, all))
 
   -- the plays that are won
-  total-won : (k : ℕ) (past : List Turn) (s : ℕ) → s < states q → total (λ through. if is_won q through then 1 else 0) k past s ≡ reach q faces greatest least k past s
+  total-won : (k : ℕ) (past : List Turn) (s : ℕ) → s < states q
+      → total (λ through. if is_won q through then 1 else 0) k past s ≡ reach q faces greatest least k past s
   unfolding plays reach
-  total-won zero past s inside = elim (is_goal q s) as (λ goal. 0 + 1 * (if (goal || (not (is_dead q s) && false)) then 1 else 0) ≡ (if goal then 1 else 0)) [
-    | true ↦ refl
-    | false ↦ elim (is_dead q s) as (λ dead. 0 + 1 * (if (false || (not dead && false)) then 1 else 0) ≡ 0) [ true ↦ refl | false ↦ refl ]
-  ]
+  total-won zero past s inside = elim (is_goal q s)
+      as (λ goal. 0 + 1 * (if (goal || (not (is_dead q s) && false)) then 1 else 0) ≡ (if goal then 1 else 0)) [
+        | true ↦ refl
+        | false ↦ elim (is_dead q s) as (λ dead. 0 + 1 * (if (false || (not dead && false)) then 1 else 0) ≡ 0) [
+          | true ↦ refl
+          | false ↦ refl
+        ]
+      ]
   total-won (suc k) past s inside =
       total-turn (λ through. if is_won q through then 1 else 0) k past s
-      ∙ elim (is_goal q s) as (λ goal. sum_by (λ throw. worth q (λ t. total (λ through. if (goal || (not (is_dead q s) && is_won q through)) then 1 else 0) k (turn_at past s throw ∷ past) t) (choice_at past s throw)) (range_with_len 0 faces)
-      ≡ (if goal then (faces * denominator q.game) ^ suc k else (if is_dead q s then 0 else sum_by (λ throw. worth q (reach q faces greatest least k (turn_at past s throw ∷ past)) (choice_at past s throw)) (range_with_len 0 faces)))) [
-        | true ↦ sym (total-turn (λ through. 1) k past s) ∙ total-constant 1 (suc k) past s inside ∙ one-times ((faces * denominator q.game) ^ suc k)
-        | false ↦ elim (is_dead q s) as (λ dead. sum_by (λ throw. worth q (λ t. total (λ through. if (false || (not dead && is_won q through)) then 1 else 0) k (turn_at past s throw ∷ past) t) (choice_at past s throw)) (range_with_len 0 faces)
-            ≡ (if dead then 0 else sum_by (λ throw. worth q (reach q faces greatest least k (turn_at past s throw ∷ past)) (choice_at past s throw)) (range_with_len 0 faces))) [
-              | true ↦ sym (total-turn (λ through. 0) k past s) ∙ total-constant 0 (suc k) past s inside ∙ zero-times ((faces * denominator q.game) ^ suc k)
+      ∙ elim (is_goal q s) as (λ goal. sum_by
+      (λ throw. worth q (λ t. total (λ through. if (goal || (not (is_dead q s) && is_won q through)) then 1 else 0) k
+      (turn_at past s throw ∷ past) t) (choice_at past s throw)) (range_with_len 0 faces)
+      ≡ (if goal then (faces * denominator q.game) ^ suc k else (if is_dead q s then 0 else sum_by
+      (λ throw. worth q (reach q faces greatest least k (turn_at past s throw ∷ past)) (choice_at past s throw))
+      (range_with_len 0 faces)))) [
+        | true ↦ sym (total-turn (λ through. 1) k past s) ∙ total-constant 1 (suc k) past s inside
+            ∙ one-times ((faces * denominator q.game) ^ suc k)
+        | false ↦ elim (is_dead q s) as (λ dead.
+            sum_by (λ throw. worth q (λ t. total (λ through. if (false || (not dead && is_won q through)) then 1 else 0)
+            k (turn_at past s throw ∷ past) t) (choice_at past s throw)) (range_with_len 0 faces)
+            ≡ (if dead then 0 else sum_by
+            (λ throw. worth q (reach q faces greatest least k (turn_at past s throw ∷ past)) (choice_at past s throw))
+            (range_with_len 0 faces))) [
+              | true ↦ sym (total-turn (λ through. 0) k past s) ∙ total-constant 0 (suc k) past s inside
+                  ∙ zero-times ((faces * denominator q.game) ^ suc k)
               | false ↦ sum-same _ _ (range_with_len 0 faces) (λ throw.
-                  worth-same q (λ t. total (λ through. if is_won q through then 1 else 0) k (turn_at past s throw ∷ past) t) (reach q faces greatest least k (turn_at past s throw ∷ past)) (choice_at past s throw) (fits past s throw inside)
+                  worth-same q
+                  (λ t. total (λ through. if is_won q through then 1 else 0) k (turn_at past s throw ∷ past) t)
+                  (reach q faces greatest least k (turn_at past s throw ∷ past)) (choice_at past s throw)
+                  (fits past s throw inside)
                   (λ t within. total-won k (turn_at past s throw ∷ past) t within))
             ]
       ]
 
   -- plays of one turn, by the state that comes next
-  pub next-ways : (holds : ℕ → Bool) (s : ℕ) → s < states q
-      → ways_next q holds faces greatest least s ≡ sum_by (λ throw. worth q (λ t. if holds t then 1 else 0) (choice_at [] s throw)) (range_with_len 0 faces)
+  pub next-ways : (holds : ℕ → Bool) (s : ℕ) → s < states q → ways_next q holds faces greatest least s
+      ≡ sum_by (λ throw. worth q (λ t. if holds t then 1 else 0) (choice_at [] s throw)) (range_with_len 0 faces)
   unfolding plays
   next-ways holds s inside =
-      sum-same (λ (play : Play). if comes_next holds play.through then play.ways else 0) (λ (play : Play). play.ways * (if comes_next holds play.through then 1 else 0)) (plays q faces greatest least 1 [] s) (λ play. if-ways (comes_next holds play.through) play.ways)
+      sum-same (λ (play : Play). if comes_next holds play.through then play.ways else 0)
+      (λ (play : Play). play.ways * (if comes_next holds play.through then 1 else 0))
+      (plays q faces greatest least 1 [] s) (λ play. if-ways (comes_next holds play.through) play.ways)
       ∙ total-turn (λ through. if comes_next holds through then 1 else 0) 0 [] s
       ∙ sum-same _ _ (range_with_len 0 faces) (λ throw.
-      worth-same q (λ t. total (λ through. if comes_next holds (s ∷ through) then 1 else 0) 0 (turn_at [] s throw ∷ []) t) (λ t. if holds t then 1 else 0) (choice_at [] s throw) (fits [] s throw inside)
+      worth-same q
+      (λ t. total (λ through. if comes_next holds (s ∷ through) then 1 else 0) 0 (turn_at [] s throw ∷ []) t)
+      (λ t. if holds t then 1 else 0) (choice_at [] s throw) (fits [] s throw inside)
       (λ t within. at_once (turn_at [] s throw ∷ []) t))
     where
-      at_once : (past : List Turn) (t : ℕ) → total (λ through. if comes_next holds (s ∷ through) then 1 else 0) 0 past t ≡ (if holds t then 1 else 0)
-      at_once past t = elim (holds t) as (λ h. 0 + 1 * (if h then 1 else 0) ≡ (if h then 1 else 0)) [ true ↦ refl | false ↦ refl ]
+      at_once : (past : List Turn) (t : ℕ)
+          → total (λ through. if comes_next holds (s ∷ through) then 1 else 0) 0 past t ≡ (if holds t then 1 else 0)
+      at_once past t = elim (holds t) as (λ h. 0 + 1 * (if h then 1 else 0) ≡ (if h then 1 else 0)) [
+        | true ↦ refl
+        | false ↦ refl
+      ]
 
   pub ways-are : (k s : ℕ) → s < states q → AreWays q faces greatest least k s
   ways-are k s inside = record {
-    all = sum-same (λ (play : Play). play.ways) (λ (play : Play). play.ways * 1) (plays q faces greatest least k [] s) (λ play. times-one play.ways)
+    all = sum-same (λ (play : Play). play.ways) (λ (play : Play). play.ways * 1) (plays q faces greatest least k [] s)
+        (λ play. times-one play.ways)
         ∙ total-constant 1 k [] s inside ∙ one-times ((faces * denominator q.game) ^ k);
-    won = sum-same (λ (play : Play). if is_won q play.through then play.ways else 0) (λ (play : Play). play.ways * (if is_won q play.through then 1 else 0)) (plays q faces greatest least k [] s) (λ play. if-ways (is_won q play.through) play.ways)
+    won = sum-same (λ (play : Play). if is_won q play.through then play.ways else 0)
+        (λ (play : Play). play.ways * (if is_won q play.through then 1 else 0)) (plays q faces greatest least k [] s)
+        (λ play. if-ways (is_won q play.through) play.ways)
         ∙ total-won k [] s inside;
     lost =
-        let all : sum_by (λ (play : Play). play.ways) (plays q faces greatest least k [] s) ≡ (faces * denominator q.game) ^ k =
-        sum-same (λ (play : Play). play.ways) (λ (play : Play). play.ways * 1) (plays q faces greatest least k [] s) (λ play. times-one play.ways) ∙ total-constant 1 k [] s inside ∙ one-times ((faces * denominator q.game) ^ k) in
+        let all : sum_by (λ (play : Play). play.ways) (plays q faces greatest least k [] s)
+        ≡ (faces * denominator q.game) ^ k =
+        sum-same (λ (play : Play). play.ways) (λ (play : Play). play.ways * 1) (plays q faces greatest least k [] s)
+        (λ play. times-one play.ways) ∙ total-constant 1 k [] s inside ∙ one-times ((faces * denominator q.game) ^ k) in
         let won : ways_won q (plays q faces greatest least k [] s) ≡ reach q faces greatest least k [] s =
-        sum-same (λ (play : Play). if is_won q play.through then play.ways else 0) (λ (play : Play). play.ways * (if is_won q play.through then 1 else 0)) (plays q faces greatest least k [] s) (λ play. if-ways (is_won q play.through) play.ways)
+        sum-same (λ (play : Play). if is_won q play.through then play.ways else 0)
+        (λ (play : Play). play.ways * (if is_won q play.through then 1 else 0)) (plays q faces greatest least k [] s)
+        (λ play. if-ways (is_won q play.through) play.ways)
         ∙ total-won k [] s inside in
         omega (arith, all, won, won-or-lost q (plays q faces greatest least k [] s));
   }

@@ -1,5 +1,6 @@
 -- The laws of lines: what stands before an ending is a line.
-use Rattle.std.proofs.Common.{◌≡◌, ◌≢◌, ◌<◌, ℕ, List, [], ◌∷◌, ◌++◌, length, ap, ◌∙◌, refl, false, arith, eqb, ◌&&◌, ◌||◌, Bool}
+use Rattle.std.proofs.Common.{◌≡◌, ◌≢◌, ◌<◌, ℕ, List, [], ◌∷◌, ◌++◌, length, ap, ◌∙◌, refl, false, arith, eqb, ◌&&◌}
+use Rattle.std.proofs.Common.{◌||◌, Bool}
 use Rattle.std.proofs.lemmas.Bool.{ne_eqb}
 use Rattle.std.proofs.lemmas.Bool.Decides.{nat_tests}
 use Rattle.text_lines.specs.Text.{lines_of, prepend, begins_lf}
@@ -12,7 +13,8 @@ before_no_lf b v h e = grind (arith, nat_tests)
 no_cr : (b : ℕ) (v : Bool) → b ≢ 10 → b ≢ 13 → (eqb b 10 || (eqb b 13 && v)) ≡ false
 no_cr b v h e = grind (arith, nat_tests)
 
-pub lines_of-lf : (line rest : List ℕ) → HasNo 10 line → EndsInNoCr line → lines_of (line ++ 10 ∷ rest) ≡ line ∷ lines_of rest
+pub lines_of-lf : (line rest : List ℕ) → HasNo 10 line → EndsInNoCr line
+    → lines_of (line ++ 10 ∷ rest) ≡ line ∷ lines_of rest
 lines_of-lf [] rest h e = refl
 lines_of-lf (b ∷ []) rest h e = in_line b (10 ∷ rest) (no_cr b (begins_lf (10 ∷ rest)) h.0 e)
 lines_of-lf (b ∷ c ∷ line) rest h e =

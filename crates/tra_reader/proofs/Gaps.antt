@@ -1,5 +1,6 @@
 -- Gaps between whole choices, and what all whole choices make.
-use Rattle.std.proofs.Common.{◌≡◌, ◌∙◌, ◌<◌, ◌≤◌, inl, inr, ℕ, suc, ◌+◌, ◌*◌, List, [], ◌∷◌, length, map, unwrap_or, Option, Some, None, Result, Err, refl, sym, ap, ap₂, subst, arith, add-zero}
+use Rattle.std.proofs.Common.{◌≡◌, ◌∙◌, ◌<◌, ◌≤◌, inl, inr, ℕ, suc, ◌+◌, ◌*◌, List, [], ◌∷◌, length, map, unwrap_or}
+use Rattle.std.proofs.Common.{Option, Some, None, Result, Err, refl, sym, ap, ap₂, subst, arith, add-zero}
 use Rattle.std.specs.List.{All}
 use Rattle.game_model.specs.Limits.{most_states}
 use Rattle.game_model.specs.Game.{Distribution}
@@ -13,32 +14,43 @@ use Rattle.tra_reader.specs.declared.progress.Progress.TheVariants.{Builds, Faul
 use Rattle.tra_reader.specs.declared.whole_choices.WholeChoices.{WholeChoices}
 use Rattle.tra_reader.specs.Faults.{fault_of_all}
 use Rattle.distributions.specs.declared.choice.Part.{Part}
-use Rattle.tra_reader.specs.Choices.{part_of, parts_of, transitions_of, choice_end, sum_of_first, first_crowded, states_said, unless_gap, unless_crowded, if_as_stated, transitions_game}
+use Rattle.tra_reader.specs.Choices.{part_of, parts_of, transitions_of, choice_end, sum_of_first, first_crowded}
+use Rattle.tra_reader.specs.Choices.{states_said, unless_gap, unless_crowded, if_as_stated, transitions_game}
 use Rattle.tra_reader.specs.inside.Order.{IsWithin, place_of}
 use Rattle.tra_reader.specs.inside.Answers.{LeadsInside}
-use Rattle.tra_reader.specs.inside.GrowingGames.{AreCounted, AreDrafted, HaveFault, HasGap, IsMade, IsWhole, place_behind, NoneBetween, AreWholeBefore, IsReady, IfBuilds, IsAsStated}
+use Rattle.tra_reader.specs.inside.GrowingGames.{AreCounted, AreDrafted, HaveFault, HasGap, IsMade, IsWhole}
+use Rattle.tra_reader.specs.inside.GrowingGames.{place_behind, NoneBetween, AreWholeBefore, IsReady, IfBuilds}
+use Rattle.tra_reader.specs.inside.GrowingGames.{IsAsStated}
 use Rattle.tra_reader.proofs.Decisions.{cases_lt}
 use Rattle.tra_reader.proofs.Ends.{AreSmall, none_of_high, above_of, one_missing, gap_here, gap_stays}
 
 -- the choices from here on are missing before one that is there
-pub noted : (crowded : Option ℕ) (ts : List Transition) (s k later count : ℕ) → k < later → transitions_of ts s k ≡ [] → 0 < length (transitions_of ts s later) → AreCounted crowded ts s k count → HasGap ts s k × (place_of s k < place_of s later)
-noted crowded ts s k later count h none found are = (record { full = are.full; there = are.there; missing = none; later = later; behind = h; found = found }, omega (arith, h))
+pub noted : (crowded : Option ℕ) (ts : List Transition) (s k later count : ℕ) → k < later
+    → transitions_of ts s k ≡ [] → 0 < length (transitions_of ts s later) → AreCounted crowded ts s k count
+    → HasGap ts s k × (place_of s k < place_of s later)
+noted crowded ts s k later count h none found are = (
+  record { full = are.full; there = are.there; missing = none; later = later; behind = h; found = found },
+  omega (arith, h),
+)
 
 -- a state that ends here has no choice from here on
-pub none_from : (ts : List Transition) (s k place : ℕ) → AreSmall ts → NoneBetween ts (place_of s k) place → place_of (s + 1) 0 ≤ place → (j : ℕ) → k ≤ j → transitions_of ts s j ≡ []
+pub none_from : (ts : List Transition) (s k place : ℕ) → AreSmall ts → NoneBetween ts (place_of s k) place
+    → place_of (s + 1) 0 ≤ place → (j : ℕ) → k ≤ j → transitions_of ts s j ≡ []
 none_from ts s k place small none le = λ j h. elim (cases_lt j most_stated_choices) [
   | inr high ↦ none_of_high ts s j small high
   | inl low ↦ none s j low (omega (arith, h)) (omega (arith, low, le))
 ]
 
-pub none_later : (ts : List Transition) (from later to : ℕ) → from ≤ later → NoneBetween ts from to → NoneBetween ts later to
+pub none_later : (ts : List Transition) (from later to : ℕ) → from ≤ later → NoneBetween ts from to
+    → NoneBetween ts later to
 none_later ts from later to h none = λ s k low le lt. none s k low (omega (arith, h, le)) lt
 
 same_place : (i j s k : ℕ) → 4000000 * i + j ≡ 4000000 * s + k → j < 4000000 → k < 4000000 → (i ≡ s) × (j ≡ k)
 same_place i j s k e h g = let same : i ≡ s = omega (arith, e, h, g) in (same, omega (arith, e, same))
 
 -- where nothing stands at the place itself
-pub none_here : (ts : List Transition) (s k to : ℕ) → k < most_stated_choices → transitions_of ts s k ≡ [] → NoneBetween ts (place_of s k + 1) to → NoneBetween ts (place_of s k) to
+pub none_here : (ts : List Transition) (s k to : ℕ) → k < most_stated_choices → transitions_of ts s k ≡ []
+    → NoneBetween ts (place_of s k + 1) to → NoneBetween ts (place_of s k) to
 none_here ts s k to low here none = λ i j small le lt. elim (cases_lt (place_of s k) (place_of i j)) [
   | inl above ↦ none i j small (omega (arith, above)) lt
   | inr at ↦
@@ -47,8 +59,9 @@ none_here ts s k to low here none = λ i j small le lt. elim (cases_lt (place_of
 ]
 
 -- behind the choice under way nothing stands up to a place
-pub before_next : (n place : ℕ) (ts : List Transition) (old new : WholeChoices) → new.state ≡ old.state → new.choice ≡ old.choice + 1 → old.choice < most_stated_choices → All (IsWithin n) ts → NoneBetween ts (place_behind old + 1) place → IsWhole n ts new
-    → AreWholeBefore n ts place new
+pub before_next : (n place : ℕ) (ts : List Transition) (old new : WholeChoices) → new.state ≡ old.state
+    → new.choice ≡ old.choice + 1 → old.choice < most_stated_choices → All (IsWithin n) ts
+    → NoneBetween ts (place_behind old + 1) place → IsWhole n ts new → AreWholeBefore n ts place new
 before_next n place ts old new state choice low within none made = record {
   made = made;
   low = omega (arith, low, choice);
@@ -57,12 +70,14 @@ before_next n place ts old new state choice low within none made = record {
 }
 
 -- where nothing has begun
-pub before_first : (n place : ℕ) (ts : List Transition) (whole : WholeChoices) (parts : List Part) → parts ≡ [] → parts ≡ parts_of ts whole.state whole.choice → whole.choice < most_stated_choices → All (IsWithin n) ts → NoneBetween ts (place_behind whole + 1) place → IsWhole n ts whole
-    → AreWholeBefore n ts place whole
+pub before_first : (n place : ℕ) (ts : List Transition) (whole : WholeChoices) (parts : List Part) → parts ≡ []
+    → parts ≡ parts_of ts whole.state whole.choice → whole.choice < most_stated_choices → All (IsWithin n) ts
+    → NoneBetween ts (place_behind whole + 1) place → IsWhole n ts whole → AreWholeBefore n ts place whole
 before_first n place ts whole parts empty are low within none made = record {
   made = made;
   low = omega (arith, low);
-  none = none_here ts whole.state whole.choice place low (no_part (transitions_of ts whole.state whole.choice) (sym are ∙ empty)) none;
+  none = none_here ts whole.state whole.choice place low
+      (no_part (transitions_of ts whole.state whole.choice) (sym are ∙ empty)) none;
   within = within;
 }
   where
@@ -72,45 +87,59 @@ before_first n place ts whole parts empty are low within none made = record {
 
 -- 2. All whole choices.
 
-pub made_of_all : (n : ℕ) (ts : List Transition) (whole : WholeChoices) (progress : Progress) → whole.state ≡ n → whole.choice ≡ 0 → whole.progress ≡ progress → IsWhole n ts whole → IsMade n ts n 0 whole.count progress
+pub made_of_all : (n : ℕ) (ts : List Transition) (whole : WholeChoices) (progress : Progress) → whole.state ≡ n
+    → whole.choice ≡ 0 → whole.progress ≡ progress → IsWhole n ts whole → IsMade n ts n 0 whole.count progress
 made_of_all n ts whole progress state choice is made =
     let P : ℕ → Type 0 = λ s. IsMade n ts s whole.choice whole.count whole.progress in
     let Q : ℕ → Type 0 = λ k. IsMade n ts n k whole.count whole.progress in
     let R : Progress → Type 0 = λ p. IsMade n ts n 0 whole.count p in
     subst R is (subst Q choice (subst P state made))
 
-pub gap_game : (ts : List Transition) (n i j : ℕ) (stated : Option ℕ) → i < n → HasGap ts i j → transitions_game ts n stated ≡ Err (fault_of_all (ChoiceGap i j))
+pub gap_game : (ts : List Transition) (n i j : ℕ) (stated : Option ℕ) → i < n → HasGap ts i j
+    → transitions_game ts n stated ≡ Err (fault_of_all (ChoiceGap i j))
 gap_game ts n i j stated h gap =
-    let missing = one_missing ts i j (choice_end ts i) gap.there gap.missing (omega (arith, gap.behind, above_of ts i gap.later gap.found)) in
-    ap (λ g. unless_gap g (unless_crowded (first_crowded ts n) (if_as_stated stated (sum_of_first (choice_end ts) n) (states_said ts n))))
+    let missing = one_missing ts i j (choice_end ts i) gap.there gap.missing
+    (omega (arith, gap.behind, above_of ts i gap.later gap.found)) in
+    ap (λ g. unless_gap g
+    (unless_crowded (first_crowded ts n) (if_as_stated stated (sum_of_first (choice_end ts) n) (states_said ts n))))
     (gap_stays ts (suc i) n (i, j) (gap_here ts i j gap.full missing) (omega (arith, h)))
 
 -- where no choice is missing
-pub full_game : (crowded : Option ℕ) (ts : List Transition) (n count : ℕ) (stated : Option ℕ) → AreCounted crowded ts n 0 count → transitions_game ts n stated ≡ unless_crowded crowded (if_as_stated stated count (states_said ts n))
+pub full_game : (crowded : Option ℕ) (ts : List Transition) (n count : ℕ) (stated : Option ℕ)
+    → AreCounted crowded ts n 0 count
+    → transitions_game ts n stated ≡ unless_crowded crowded (if_as_stated stated count (states_said ts n))
 full_game crowded ts n count stated are =
-    ap₂ (λ g c. unless_gap g (unless_crowded c (if_as_stated stated (sum_of_first (choice_end ts) n) (states_said ts n)))) are.full are.few
-    ∙ ap (λ m. unless_crowded crowded (if_as_stated stated m (states_said ts n))) (sym (are.total ∙ add-zero (sum_of_first (choice_end ts) n)))
+    ap₂ (λ g c. unless_gap g
+    (unless_crowded c (if_as_stated stated (sum_of_first (choice_end ts) n) (states_said ts n)))) are.full are.few
+    ∙ ap (λ m. unless_crowded crowded (if_as_stated stated m (states_said ts n)))
+    (sym (are.total ∙ add-zero (sum_of_first (choice_end ts) n)))
 
-pub fault_said : (ts : List Transition) (n : ℕ) (fault : TraFault) → HaveFault ts n 0 fault → states_said ts n ≡ Err fault
+pub fault_said : (ts : List Transition) (n : ℕ) (fault : TraFault) → HaveFault ts n 0 fault
+    → states_said ts n ≡ Err fault
 fault_said ts n fault (inl before) = before
 fault_said ts n fault (inr here) = cc here.said
 
 -- the answer where the choices are counted
-pub stated_answer : (stated : Option ℕ) (count : ℕ) (otherwise : Option TraFault) (fault : TraFault) (said : Result (List (List Distribution)) TraFault) → IsAsStated stated count otherwise → said ≡ Err fault
+pub stated_answer : (stated : Option ℕ) (count : ℕ) (otherwise : Option TraFault) (fault : TraFault)
+    (said : Result (List (List Distribution)) TraFault) → IsAsStated stated count otherwise → said ≡ Err fault
     → if_as_stated stated count said ≡ Err (unwrap_or otherwise fault)
 stated_answer stated count None fault said is e = is said ∙ e
 stated_answer stated count (Some other) fault said is e = is said
 
-ready : (n : ℕ) (ts : List Transition) (k : ℕ) (draft : Draft) → 0 < n → n ≤ most_states → AreDrafted n ts n k draft → IsReady draft
+ready : (n : ℕ) (ts : List Transition) (k : ℕ) (draft : Draft) → 0 < n → n ≤ most_states
+    → AreDrafted n ts n k draft → IsReady draft
 ready n ts k draft some few are = record {
   some = omega (arith, are.as_many, some);
   few = omega (arith, are.as_many, few);
   chosen = are.some;
   bounded = are.few;
-  inside = let P : ℕ → Type 0 = λ m. All (λ choices. All (LeadsInside m) choices) draft.done in subst P (sym are.as_many) are.inside;
+  inside =
+      let P : ℕ → Type 0 = λ m. All (λ choices. All (LeadsInside m) choices) draft.done in
+      subst P (sym are.as_many) are.inside;
 }
 
-pub all_ready : (n : ℕ) (ts : List Transition) (k count : ℕ) (progress : Progress) → 0 < n → n ≤ most_states → IsMade n ts n k count progress → IfBuilds progress IsReady
+pub all_ready : (n : ℕ) (ts : List Transition) (k count : ℕ) (progress : Progress) → 0 < n → n ≤ most_states
+    → IsMade n ts n k count progress → IfBuilds progress IsReady
 all_ready n ts k count (Builds draft) some few made = ready n ts k draft some few made.1
 all_ready n ts k count (Faulty fault) some few made = tt
 all_ready n ts k count (Crowded i) some few made = tt

@@ -1,5 +1,6 @@
 -- A game under way with one transition more.
-use Rattle.std.proofs.Common.{◌≡◌, ◌∙◌, ◌<◌, ◌≤◌, ℕ, true, false, List, [], ◌∷◌, ◌++◌, length, map, refl, sym, ap, ap₂, subst, arith}
+use Rattle.std.proofs.Common.{◌≡◌, ◌∙◌, ◌<◌, ◌≤◌, ℕ, true, false, List, [], ◌∷◌, ◌++◌, length, map, refl, sym, ap, ap₂}
+use Rattle.std.proofs.Common.{subst, arith}
 use Rattle.std.specs.List.{All}
 use Rattle.game_model.specs.Limits.{most_states}
 use Rattle.game_model.specs.Draft.{Draft, no_states}
@@ -12,29 +13,37 @@ use Rattle.tra_reader.specs.declared.whole_choices.WholeChoices.{WholeChoices}
 use Rattle.tra_reader.specs.Lines.{is_of}
 use Rattle.tra_reader.specs.Choices.{transitions_of, part_of, parts_of}
 use Rattle.tra_reader.specs.inside.Order.{IsWithin, place_of, transition_place}
-use Rattle.tra_reader.specs.inside.GrowingGames.{IsWhole, IsMade, place_behind, AreWholeBefore, EndsBefore, GoesTo, Growing, place_under_way, HoldsInOrder}
+use Rattle.tra_reader.specs.inside.GrowingGames.{IsWhole, IsMade, place_behind, AreWholeBefore, EndsBefore, GoesTo}
+use Rattle.tra_reader.specs.inside.GrowingGames.{Growing, place_under_way, HoldsInOrder}
 use Rattle.std.proofs.lemmas.List.Elements.{All-push, All-weaker}
 use Rattle.tra_reader.proofs.Ends.{AreSmall}
 use Rattle.tra_reader.proofs.Stays.{same_other, made_stays}
-use Rattle.tra_reader.proofs.Behind.{rises-push, this_choice, same_this, above_test, none_above, none_behind, none_behind_all, last_there, small_of}
+use Rattle.tra_reader.proofs.Behind.{rises-push, this_choice, same_this, above_test, none_above, none_behind}
+use Rattle.tra_reader.proofs.Behind.{none_behind_all, last_there, small_of}
 
 part_there : (parts : List Part) (part : Part) → parts ++ part ∷ [] ≡ [] → ⊥
 part_there [] part e = cc
 part_there (x ∷ parts) part e = cc
 
 -- what every game keeps that holds some transitions
-keeps_next : (game next : Growing) (n : ℕ) (ts : List Transition) (t : Transition) → HoldsInOrder game n ts → IsWithin n t → place_under_way game ≤ transition_place t → next.states ≡ game.states → next.whole.state ≡ t.source → next.whole.choice ≡ t.choice
-    → next.parts ≡ parts_of (ts ++ t ∷ []) t.source t.choice → (next.parts ≡ [] → ⊥) → IsWhole n (ts ++ t ∷ []) next.whole → HoldsInOrder next n (ts ++ t ∷ [])
+keeps_next : (game next : Growing) (n : ℕ) (ts : List Transition) (t : Transition) → HoldsInOrder game n ts
+    → IsWithin n t → place_under_way game ≤ transition_place t → next.states ≡ game.states → next.whole.state ≡ t.source
+    → next.whole.choice ≡ t.choice → next.parts ≡ parts_of (ts ++ t ∷ []) t.source t.choice → (next.parts ≡ [] → ⊥)
+    → IsWhole n (ts ++ t ∷ []) next.whole → HoldsInOrder next n (ts ++ t ∷ [])
 keeps_next game next n ts t is within le states state choice parts some whole =
     let place : place_under_way next ≡ transition_place t = ap₂ (λ s k. place_of s k) state choice in
-    let before : All (λ x. transition_place x ≤ transition_place t) ts = All-weaker (λ x. transition_place x ≤ place_under_way game) (λ x. transition_place x ≤ transition_place t) (λ x h. omega (arith, h, le)) ts is.upto in
+    let before : All (λ x. transition_place x ≤ transition_place t) ts =
+    All-weaker (λ x. transition_place x ≤ place_under_way game) (λ x. transition_place x ≤ transition_place t)
+    (λ x h. omega (arith, h, le)) ts is.upto in
     record {
       states = states ∙ is.states;
       some = is.some;
       few = is.few;
       within = All-push (IsWithin n) ts t is.within within;
       order = rises-push ts t is.order before;
-      upto = All-push (λ x. transition_place x ≤ place_under_way next) ts t (All-weaker (λ x. transition_place x ≤ transition_place t) (λ x. transition_place x ≤ place_under_way next) (λ x h. omega (arith, h, place)) ts before) (omega (arith, place));
+      upto = All-push (λ x. transition_place x ≤ place_under_way next) ts t
+          (All-weaker (λ x. transition_place x ≤ transition_place t) (λ x. transition_place x ≤ place_under_way next)
+          (λ x h. omega (arith, h, place)) ts before) (omega (arith, place));
       begun = λ h. record { before = ts; last = t; are = refl; there = sym place };
       none = λ e. absurd (some e);
       parts = parts ∙ sym (ap₂ (λ s k. parts_of (ts ++ t ∷ []) s k) state choice);
@@ -44,45 +53,63 @@ keeps_next game next n ts t is within le states state choice parts some whole =
     }
 
 -- one transition more of the choice under way
-pub holds_same : (game next : Growing) (n : ℕ) (ts : List Transition) (t : Transition) → HoldsInOrder game n ts → IsWithin n t → game.whole.state ≡ t.source → game.whole.choice ≡ t.choice → next.states ≡ game.states → next.whole ≡ game.whole
-    → next.parts ≡ game.parts ++ part_of t ∷ [] → HoldsInOrder next n (ts ++ t ∷ [])
+pub holds_same : (game next : Growing) (n : ℕ) (ts : List Transition) (t : Transition) → HoldsInOrder game n ts
+    → IsWithin n t → game.whole.state ≡ t.source → game.whole.choice ≡ t.choice → next.states ≡ game.states
+    → next.whole ≡ game.whole → next.parts ≡ game.parts ++ part_of t ∷ [] → HoldsInOrder next n (ts ++ t ∷ [])
 holds_same game next n ts t is within state choice states whole parts =
     let place : place_under_way game ≡ transition_place t = ap₂ (λ s k. place_of s k) state choice in
-    let this : is_of t.source t.choice t ≡ true = this_choice t.source t.choice t.source t.choice refl within.choice_in within.choice_in in
+    let this : is_of t.source t.choice t ≡ true =
+    this_choice t.source t.choice t.source t.choice refl within.choice_in within.choice_in in
     let before : game.parts ≡ parts_of ts t.source t.choice = is.parts ∙ ap₂ (λ s k. parts_of ts s k) state choice in
     let P : WholeChoices → Type 0 = λ w. IsWhole n (ts ++ t ∷ []) w in
-    keeps_next game next n ts t is within (omega (arith, place)) states (ap (λ (w : WholeChoices). w.state) whole ∙ state) (ap (λ (w : WholeChoices). w.choice) whole ∙ choice)
+    keeps_next game next n ts t is within (omega (arith, place)) states
+    (ap (λ (w : WholeChoices). w.state) whole ∙ state) (ap (λ (w : WholeChoices). w.choice) whole ∙ choice)
     (parts ∙ ap (λ ps. ps ++ part_of t ∷ []) before ∙ sym (same_this ts t t.source t.choice this))
     (λ e. part_there game.parts (part_of t) (sym parts ∙ e))
-    (subst P (sym whole) (made_stays n ts t game.whole.state game.whole.choice game.whole.count game.whole.progress within.choice_in (omega (arith, is.choice_in)) (omega (arith, place)) is.whole))
+    (subst P (sym whole) (made_stays n ts t game.whole.state game.whole.choice game.whole.count game.whole.progress
+    within.choice_in (omega (arith, is.choice_in)) (omega (arith, place)) is.whole))
 
 -- what a game sees is held
-pub within_held : (game value : Growing) (n : ℕ) (ts : List Transition) (t : Transition) → game ≡ value → IsWithin value.states t → HoldsInOrder game n ts → IsWithin n t
-within_held game value n ts t view within is = let P : ℕ → Type 0 = λ m. IsWithin m t in subst P (sym (ap (λ (g : Growing). g.states) view) ∙ is.states) within
+pub within_held : (game value : Growing) (n : ℕ) (ts : List Transition) (t : Transition) → game ≡ value
+    → IsWithin value.states t → HoldsInOrder game n ts → IsWithin n t
+within_held game value n ts t view within is =
+    let P : ℕ → Type 0 = λ m. IsWithin m t in
+    subst P (sym (ap (λ (g : Growing). g.states) view) ∙ is.states) within
 
 -- the first transition of a choice behind that under way
-pub holds_next : (game next : Growing) (n : ℕ) (ts : List Transition) (t : Transition) → HoldsInOrder game n ts → IsWithin n t → place_under_way game < transition_place t → next.states ≡ game.states → next.whole.state ≡ t.source → next.whole.choice ≡ t.choice
-    → next.parts ≡ part_of t ∷ [] → IsWhole n (ts ++ t ∷ []) next.whole → HoldsInOrder next n (ts ++ t ∷ [])
+pub holds_next : (game next : Growing) (n : ℕ) (ts : List Transition) (t : Transition) → HoldsInOrder game n ts
+    → IsWithin n t → place_under_way game < transition_place t → next.states ≡ game.states → next.whole.state ≡ t.source
+    → next.whole.choice ≡ t.choice → next.parts ≡ part_of t ∷ [] → IsWhole n (ts ++ t ∷ []) next.whole
+    → HoldsInOrder next n (ts ++ t ∷ [])
 holds_next game next n ts t is within lt states state choice parts whole =
-    let this : is_of t.source t.choice t ≡ true = this_choice t.source t.choice t.source t.choice refl within.choice_in within.choice_in in
-    let small : AreSmall ts = All-weaker (IsWithin n) (λ x. x.choice < most_stated_choices) (λ x w. w.choice_in) ts is.within in
-    let none : parts_of ts t.source t.choice ≡ [] = ap (λ us. map part_of us) (none_above ts (place_under_way game) t.source t.choice small is.upto lt) in
+    let this : is_of t.source t.choice t ≡ true =
+    this_choice t.source t.choice t.source t.choice refl within.choice_in within.choice_in in
+    let small : AreSmall ts =
+    All-weaker (IsWithin n) (λ x. x.choice < most_stated_choices) (λ x w. w.choice_in) ts is.within in
+    let none : parts_of ts t.source t.choice ≡ [] =
+    ap (λ us. map part_of us) (none_above ts (place_under_way game) t.source t.choice small is.upto lt) in
     keeps_next game next n ts t is within (omega (arith, lt)) states state choice
     (parts ∙ ap (λ (ps : List Part). ps ++ part_of t ∷ []) (sym none) ∙ sym (same_this ts t t.source t.choice this))
     (λ e. part_there [] (part_of t) (sym parts ∙ e))
     whole
 
 -- the choices before the next are whole
-pub whole_next : (game : Growing) (n : ℕ) (ts : List Transition) (t : Transition) (ended next : WholeChoices) → HoldsInOrder game n ts → IsWithin n t → place_under_way game < transition_place t → ended.state ≡ t.source
+pub whole_next : (game : Growing) (n : ℕ) (ts : List Transition) (t : Transition) (ended next : WholeChoices)
+    → HoldsInOrder game n ts → IsWithin n t → place_under_way game < transition_place t → ended.state ≡ t.source
     → EndsBefore game.parts t.source game.whole ended → GoesTo t.choice ended next → IsWhole n (ts ++ t ∷ []) next
 whole_next game n ts t ended next is within lt state ends goes =
     let us : List Transition = ts ++ t ∷ [] in
     let small : t.choice < most_stated_choices = within.choice_in in
-    let other : is_of game.whole.state game.whole.choice t ≡ false = above_test t.source t.choice game.whole.state game.whole.choice lt is.choice_in in
-    let parts : game.parts ≡ parts_of us game.whole.state game.whole.choice = is.parts ∙ ap (λ vs. map part_of vs) (sym (same_other ts t game.whole.state game.whole.choice other)) in
-    let whole : IsWhole n us game.whole = made_stays n ts t game.whole.state game.whole.choice game.whole.count game.whole.progress small (omega (arith, is.choice_in)) (omega (arith, lt)) is.whole in
+    let other : is_of game.whole.state game.whole.choice t ≡ false =
+    above_test t.source t.choice game.whole.state game.whole.choice lt is.choice_in in
+    let parts : game.parts ≡ parts_of us game.whole.state game.whole.choice =
+    is.parts ∙ ap (λ vs. map part_of vs) (sym (same_other ts t game.whole.state game.whole.choice other)) in
+    let whole : IsWhole n us game.whole = made_stays n ts t game.whole.state game.whole.choice game.whole.count
+    game.whole.progress small (omega (arith, is.choice_in)) (omega (arith, lt)) is.whole in
     let before : AreWholeBefore n us (transition_place t) ended =
-    ends n (transition_place t) us (omega (arith, within.source_in)) (omega arith) parts (All-push (IsWithin n) ts t is.within within) (none_behind ts t (place_under_way game) (small_of n ts is.within) is.upto small) whole in
+    ends n (transition_place t) us (omega (arith, within.source_in))
+    (omega arith) parts (All-push (IsWithin n) ts t is.within within)
+    (none_behind ts t (place_under_way game) (small_of n ts is.within) is.upto small) whole in
     let P : ℕ → Type 0 = λ s. 0 < length (transitions_of us s t.choice) in
     let Q : ℕ → Type 0 = λ s. AreWholeBefore n us (place_of s t.choice) ended in
     goes n us (subst P (sym state) (last_there ts t small)) small (subst Q (sym state) before)
@@ -93,17 +120,28 @@ pub record AreAll (n : ℕ) (ts : List Transition) (whole : WholeChoices) : Type
   pub choice : whole.choice ≡ 0
   pub made : IsWhole n ts whole
 
-pub all_whole : (game : Growing) (n : ℕ) (ts : List Transition) (ended : WholeChoices) → HoldsInOrder game n ts → ended.state ≡ game.states → ((place : ℕ) → place_under_way game < place → place_of game.states 0 ≤ place → place_behind ended ≤ place)
+pub all_whole : (game : Growing) (n : ℕ) (ts : List Transition) (ended : WholeChoices)
+    → HoldsInOrder game n ts → ended.state ≡ game.states
+    → ((place : ℕ) → place_under_way game < place → place_of game.states 0 ≤ place → place_behind ended ≤ place)
     → EndsBefore game.parts game.states game.whole ended → AreAll n ts ended
 all_whole game n ts ended is state place ends = record {
   state = state ∙ is.states;
-  choice = omega (arith, state, place (place_of game.states 0) (omega (arith, is.state_in, is.choice_in, is.states)) (omega arith));
-  made = (ends n (place_of n 0) ts (omega (arith, is.states)) (omega (arith, is.states)) is.parts is.within (none_behind_all ts (place_under_way game) (place_of n 0) (small_of n ts is.within) is.upto) is.whole).made;
+  choice = omega (
+    arith,
+    state,
+    place (place_of game.states 0) (omega (arith, is.state_in, is.choice_in, is.states)) (omega arith),
+  );
+  made = (ends n (place_of n 0) ts (omega (arith, is.states)) (omega (arith, is.states)) is.parts is.within
+      (none_behind_all ts (place_under_way game) (place_of n 0) (small_of n ts is.within) is.upto) is.whole).made;
 }
 
 -- the game without a transition
 pub holds_none : (n : ℕ) (draft : Draft) (parts : List Part) → 0 < n → n ≤ most_states → draft ≡ no_states → parts ≡ []
-    → HoldsInOrder (record { states = n; whole = record { state = 0; choice = 0; count = 0; progress = Builds draft }; parts = parts }) n []
+    → HoldsInOrder (record {
+      states = n;
+      whole = record { state = 0; choice = 0; count = 0; progress = Builds draft };
+      parts = parts;
+    }) n []
 holds_none n draft parts some few empty none =
     let P : Draft → Type 0 = λ d. IsMade n [] 0 0 0 (Builds d) in
     record {
@@ -134,7 +172,9 @@ holds_none n draft parts some few empty none =
     }
 
 -- a game whose memory ran out holds nothing
-pub holds_spent : (game next : Growing) (n : ℕ) (ts : List Transition) → HoldsInOrder game n ts → next.states ≡ game.states → next.whole.state < n → next.whole.choice < most_stated_choices → next.parts ≡ [] → next.whole.progress ≡ OutOfMemory → HoldsInOrder next n []
+pub holds_spent : (game next : Growing) (n : ℕ) (ts : List Transition) → HoldsInOrder game n ts
+    → next.states ≡ game.states → next.whole.state < n → next.whole.choice < most_stated_choices → next.parts ≡ []
+    → next.whole.progress ≡ OutOfMemory → HoldsInOrder next n []
 holds_spent game next n ts is states state choice none spent =
     let P : Progress → Type 0 = λ p. IsMade n [] next.whole.state next.whole.choice next.whole.count p in
     record {

@@ -3,7 +3,8 @@ use Rattle.std.proofs.Common.{◌≡◌, List, [], ◌∷◌, ◌++◌, length, 
 use Rattle.tra_reader.specs.Lines.{Row}
 use Rattle.tra_reader.specs.Text.{transitions}
 
-pub transitions_push : (before : List Row) (row : Row) → transitions (before ++ row ∷ []) ≡ transitions before ++ row.transition ∷ []
+pub transitions_push : (before : List Row) (row : Row)
+    → transitions (before ++ row ∷ []) ≡ transitions before ++ row.transition ∷ []
 transitions_push [] row = refl
 transitions_push (b ∷ before) row = ap (λ ts. b.transition ∷ ts) (transitions_push before row)
 

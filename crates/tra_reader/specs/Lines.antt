@@ -1,5 +1,6 @@
 -- What the lines of a transition text say, each by itself and behind those before it.
-use Rattle.std.specs.Prelude.{◌≡◌, ◌<◌, ◌≤◌, ℕ, ◌+◌, ◌==◌, ◌&&◌, ◌||◌, not, nat_lt, Bool, false, List, [], ◌∷◌, ◌++◌, length, map, slice_get, Option, Some, None, option_map, Result, Ok, Err, if◌then◌else◌}
+use Rattle.std.specs.Prelude.{◌≡◌, ◌<◌, ◌≤◌, ℕ, ◌+◌, ◌==◌, ◌&&◌, ◌||◌, not, nat_lt, Bool, false, List, [], ◌∷◌, ◌++◌}
+use Rattle.std.specs.Prelude.{length, map, slice_get, Option, Some, None, option_map, Result, Ok, Err, if◌then◌else◌}
 use Rattle.std.specs.List.{filter, AllByRecursion}
 use Rattle.std.specs.Option.{option_map_or, ForSome}
 use Rattle.std.specs.Str.{bytes_eq}
@@ -11,7 +12,8 @@ use Rattle.distributions.specs.Number.{DenotesNumber, number_said}
 use Rattle.tra_reader.specs.declared.header.Header.{Header}
 use Rattle.tra_reader.specs.declared.line.Transition.{Transition}
 use Rattle.tra_reader.specs.declared.fault.TraCause.{TraCause}
-use Rattle.tra_reader.specs.declared.fault.TraCause.TheVariants.{NoHeader, BadField, FieldCount, OverLimit, NoStates, StateOutOfRange, Number, ActionClash, LineCount}
+use Rattle.tra_reader.specs.declared.fault.TraCause.TheVariants.{NoHeader, BadField, FieldCount, OverLimit, NoStates}
+use Rattle.tra_reader.specs.declared.fault.TraCause.TheVariants.{StateOutOfRange, Number, ActionClash, LineCount}
 use Rattle.tra_reader.specs.declared.fault.TraFault.{TraFault}
 use Rattle.tra_reader.specs.Faults.{fault_at, fault_of_all}
 use Rattle.tra_reader.specs.Limits.{most_stated_choices, most_lines}

@@ -12,7 +12,8 @@ use Rattle.trap_sets.specs.inside.Parts.{Stays}
 -- a state of a numbered set is neither goal nor dead, and a reply of the minimiser stays in it
 pub record IsClosed (q : Query) (replies : List (Option ℕ)) (of : List ℕ) : Type 0 where
   pub free : (s : ℕ) → s < states q → slice_index of s ≢ 0 → IsFree q s
-  pub replied : (s : ℕ) → s < states q → slice_index of s ≢ 0 → side_at q s ≡ Min → IsSomeAnd (slice_index_or replies s None) (Stays q of s)
+  pub replied : (s : ℕ) → s < states q → slice_index of s ≢ 0 → side_at q s ≡ Min
+      → IsSomeAnd (slice_index_or replies s None) (Stays q of s)
 
 module _ (q : Query) (replies : List (Option ℕ)) (of : List ℕ) (count : ℕ) (h : AreTraps q replies of count) where
   trap-at : (s : ℕ) → slice_index of s ≢ 0 → IsTrap q replies (numbered of (slice_index of s))
@@ -26,8 +27,10 @@ module _ (q : Query) (replies : List (Option ℕ)) (of : List ℕ) (count : ℕ)
     free = λ s ls some. (trap-at s some).component.free s (in-trap s);
     replied = λ s ls some least.
         let trap : IsTrap q replies (numbered of (slice_index of s)) = trap-at s some in
-        let one : (c : ℕ) × (c < length (choices_of q.game s)) × (trap.listed s c ≡ true) = trap.component.chosen s (in-trap s) in
+        let one : (c : ℕ) × (c < length (choices_of q.game s)) × (trap.listed s c ≡ true) =
+        trap.component.chosen s (in-trap s) in
         let cut : IsCut q replies s one.0 = trap.component.cut s one.0 (in-trap s) one.1 one.2 in
-        let stays : Stays q of s one.0 = λ t leads. eqb-true (slice_index of t) (slice_index of s) (trap.component.closed s one.0 t (in-trap s) one.1 one.2 leads) in
+        let stays : Stays q of s one.0 = λ t leads. eqb-true (slice_index of t) (slice_index of s)
+        (trap.component.closed s one.0 t (in-trap s) one.1 one.2 leads) in
         subst (λ r. IsSomeAnd r (Stays q of s)) (sym (cut.replied least)) stays;
   }

@@ -9,25 +9,32 @@ use Rattle.trap_sets.specs.inside.Searching.{AreSpent, AreMarkedBack, AreMarkedO
 use Rattle.trap_sets.proofs.Walking.{reach-join, reach-step, comes-part}
 
 module _ (inner : Inner) (class new old seen : List ℕ) (pivot : ℕ)
-    (h : IsPlacingOf inner class) (some : slice_index inner.part.now pivot ≢ 0) (back : AreMarkedBack inner class pivot old seen) (on : AreMarkedOn inner seen pivot class new) where
+    (h : IsPlacingOf inner class) (some : slice_index inner.part.now pivot ≢ 0)
+    (back : AreMarkedBack inner class pivot old seen) (on : AreMarkedOn inner seen pivot class new) where
   -- along a walk and back, all is behind the pivot where its end is
-  seen-back : (n u w : ℕ) → Walk (IsStepOf inner) n u w → ComesOf inner w u → slice_index seen w ≡ pivot + 1 → slice_index seen u ≡ pivot + 1
+  seen-back : (n u w : ℕ) → Walk (IsStepOf inner) n u w → ComesOf inner w u → slice_index seen w ≡ pivot + 1
+      → slice_index seen u ≡ pivot + 1
   seen-back zero u w walk around is = subst (λ t. slice_index seen t ≡ pivot + 1) (sym walk) is
   seen-back (suc n) u w walk around is =
       let step : IsStepOf inner u walk.0 = walk.1 in
-      let next : slice_index seen walk.0 ≡ pivot + 1 = seen-back n walk.0 w walk.2 (reach-join (IsStepOf inner) w u walk.0 around (reach-step (IsStepOf inner) u walk.0 step)) is in
+      let next : slice_index seen walk.0 ≡ pivot + 1 = seen-back n walk.0 w walk.2
+      (reach-join (IsStepOf inner) w u walk.0 around (reach-step (IsStepOf inner) u walk.0 step)) is in
       let forth : ComesOf inner u w = (suc n, walk) in
       back.closed u walk.0 step next (h.joined u w forth around ∙ (back.behind w is).1)
 
   -- and has the class where its beginning has it
-  new-on : (n u w : ℕ) → Walk (IsStepOf inner) n u w → ComesOf inner w u → slice_index new u ≡ pivot + 1 → slice_index new w ≡ pivot + 1
+  new-on : (n u w : ℕ) → Walk (IsStepOf inner) n u w → ComesOf inner w u → slice_index new u ≡ pivot + 1
+      → slice_index new w ≡ pivot + 1
   new-on zero u w walk around is = subst (λ t. slice_index new t ≡ pivot + 1) walk is
   new-on (suc n) u w walk around is =
       let step : IsStepOf inner u walk.0 = walk.1 in
       let rest : ComesOf inner walk.0 w = (n, walk.2) in
       let home : ComesOf inner walk.0 u = reach-join (IsStepOf inner) walk.0 w u rest around in
-      let next : slice_index seen walk.0 ≡ pivot + 1 = seen-back home.0 walk.0 u home.1 (reach-step (IsStepOf inner) u walk.0 step) (on.before u is).1 in
-      new-on n walk.0 w walk.2 (reach-join (IsStepOf inner) w u walk.0 around (reach-step (IsStepOf inner) u walk.0 step)) (on.closed u walk.0 step is next)
+      let next : slice_index seen walk.0 ≡ pivot + 1 =
+      seen-back home.0 walk.0 u home.1 (reach-step (IsStepOf inner) u walk.0 step) (on.before u is).1 in
+      new-on n walk.0 w walk.2
+      (reach-join (IsStepOf inner) w u walk.0 around (reach-step (IsStepOf inner) u walk.0 step))
+      (on.closed u walk.0 step is next)
 
   together : (s t : ℕ) → ComesOf inner s t → ComesOf inner t s → slice_index new s ≡ slice_index new t
   together s t forth around = elim (cases_eq (slice_index new s) (pivot + 1)) [
@@ -44,7 +51,8 @@ module _ (inner : Inner) (class new old seen : List ℕ) (pivot : ℕ)
   pivot-of : (s : ℕ) → slice_index new s ≡ pivot + 1 → slice_index new s - 1 ≡ pivot
   pivot-of s same = omega (arith, same)
 
-  rooted-old : (s : ℕ) → slice_index new s ≢ 0 → slice_index new s ≢ pivot + 1 → slice_index new (slice_index new s - 1) ≡ slice_index new s
+  rooted-old : (s : ℕ) → slice_index new s ≢ 0 → slice_index new s ≢ pivot + 1
+      → slice_index new (slice_index new s - 1) ≡ slice_index new s
   rooted-old s placed other =
       let was : slice_index class s ≢ 0 = old-some s placed other in
       let r : ℕ = slice_index class s - 1 in
@@ -57,20 +65,24 @@ module _ (inner : Inner) (class new old seen : List ℕ) (pivot : ℕ)
   IsPlacing-more = record {
     many = on.many;
     live = λ s placed. elim (cases_eq (slice_index new s) (pivot + 1)) [
-      | inl same ↦ λ none. some (comes-part inner.cut.question.now inner.cut.replies.now inner.part.now s pivot (back.behind s (on.before s same).1).0 ∙ none)
+      | inl same ↦ λ none. some (comes-part inner.cut.question.now inner.cut.replies.now inner.part.now s pivot
+          (back.behind s (on.before s same).1).0 ∙ none)
       | inr other ↦ h.live s (old-some s placed other)
     ];
     rooted = λ s placed. elim (cases_eq (slice_index new s) (pivot + 1)) [
-      | inl same ↦ subst (λ (x : ℕ). slice_index new (x - 1) ≡ x) (sym same) (subst (λ r. slice_index new r ≡ pivot + 1) (let e : pivot ≡ pivot + 1 - 1 = omega arith in e) on.root)
+      | inl same ↦ subst (λ (x : ℕ). slice_index new (x - 1) ≡ x) (sym same)
+          (subst (λ r. slice_index new r ≡ pivot + 1) (let e : pivot ≡ pivot + 1 - 1 = omega arith in e) on.root)
       | inr other ↦ rooted-old s placed other
     ];
     back = λ s placed. elim (cases_eq (slice_index new s) (pivot + 1)) [
       | inl same ↦ subst (λ r. ComesOf inner s r) (sym (pivot-of s same)) (back.behind s (on.before s same).1).0
-      | inr other ↦ subst (λ (x : ℕ). ComesOf inner s (x - 1)) (sym (on.others s other)) (h.back s (old-some s placed other))
+      | inr other ↦ subst (λ (x : ℕ). ComesOf inner s (x - 1)) (sym (on.others s other))
+          (h.back s (old-some s placed other))
     ];
     on = λ s placed. elim (cases_eq (slice_index new s) (pivot + 1)) [
       | inl same ↦ subst (λ r. ComesOf inner r s) (sym (pivot-of s same)) (on.before s same).0
-      | inr other ↦ subst (λ (x : ℕ). ComesOf inner (x - 1) s) (sym (on.others s other)) (h.on s (old-some s placed other))
+      | inr other ↦ subst (λ (x : ℕ). ComesOf inner (x - 1) s) (sym (on.others s other))
+          (h.on s (old-some s placed other))
     ];
     joined = together;
   }
@@ -84,6 +96,11 @@ module _ (inner : Inner) (class new old seen : List ℕ) (pivot : ℕ)
 
   pub AreSpent-more : AreSpent class old → AreSpent new seen
   AreSpent-more spent s mark = elim (cases_eq (slice_index seen s) (pivot + 1)) [
-    | inl same ↦ λ none. absurd (omega (arith, on.root, sym (ap (slice_index new) (let e : slice_index seen s - 1 ≡ pivot = omega (arith, same) in e)) ∙ none))
-    | inr other ↦ placed-kept (slice_index seen s - 1) (subst (λ (x : ℕ). slice_index class (x - 1) ≢ 0) (sym (back.others s other)) (spent s (λ none. mark (back.others s other ∙ none))))
+    | inl same ↦ λ none. absurd (omega (
+      arith,
+      on.root,
+      sym (ap (slice_index new) (let e : slice_index seen s - 1 ≡ pivot = omega (arith, same) in e)) ∙ none,
+    ))
+    | inr other ↦ placed-kept (slice_index seen s - 1) (subst (λ (x : ℕ). slice_index class (x - 1) ≢ 0)
+        (sym (back.others s other)) (spent s (λ none. mark (back.others s other ∙ none))))
   ]

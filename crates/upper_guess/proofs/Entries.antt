@@ -1,5 +1,6 @@
 -- The entries of the guesses of one excess.
-use Rattle.std.proofs.Common.{◌≡◌, ℕ, zero, suc, ◌+◌, ◌-◌, ◌*◌, ◌^◌, ◌<◌, ◌≤◌, true, false, List, length, take, arith, refl, sym, subst, ap, ◌∙◌, le_refl}
+use Rattle.std.proofs.Common.{◌≡◌, ℕ, zero, suc, ◌+◌, ◌-◌, ◌*◌, ◌^◌, ◌<◌, ◌≤◌, true, false, List, length, take, arith}
+use Rattle.std.proofs.Common.{refl, sym, subst, ap, ◌∙◌, le_refl}
 use Rattle.std.specs.Prelude.{slice_index, slice_index_or}
 use Rattle.game_model.specs.declared.game.Edge.{Edge}
 use Rattle.game_model.specs.Game.{Distribution, IsDistribution, choices_of, choice_of, edge_of}
@@ -22,45 +23,58 @@ entry-first g j s h = subst (λ n. entry_of g n s ≡ first_entry_of g s) (sym h
 entry-later : (g : Guesses) (j s : ℕ) → 0 < j → entry_of g j s ≡ up_step g.question.now (entry_of g (j - 1)) s
 unfolding guess_table
 entry-later g zero s h = absurd (omega arith)
-entry-later g (suc j) s h = subst (λ n. up_step g.question.now (entry_of g j) s ≡ up_step g.question.now (entry_of g n) s) (let same : j ≡ suc j - 1 = omega arith in same) refl
+entry-later g (suc j) s h =
+    subst (λ n. up_step g.question.now (entry_of g j) s ≡ up_step g.question.now (entry_of g n) s)
+    (let same : j ≡ suc j - 1 = omega arith in same) refl
 
 pub entry-goal : (g : Guesses) (j s : ℕ) → 0 < j → is_goal g.question.now s ≡ true → entry_of g j s ≡ unit
 entry-goal g j s h goal = entry-later g j s h ∙ rw goal refl
 
-pub entry-dead : (g : Guesses) (j s : ℕ) → 0 < j → is_goal g.question.now s ≡ false → is_dead g.question.now s ≡ true → entry_of g j s ≡ 0
+pub entry-dead : (g : Guesses) (j s : ℕ) → 0 < j → is_goal g.question.now s ≡ false → is_dead g.question.now s ≡ true
+    → entry_of g j s ≡ 0
 entry-dead g j s h goal dead = entry-later g j s h ∙ rw (goal, dead) refl
 
-pub entry-free : (g : Guesses) (j s : ℕ) → 0 < j → is_goal g.question.now s ≡ false → is_dead g.question.now s ≡ false → entry_of g j s ≡ best_of g (j - 1) s
+pub entry-free : (g : Guesses) (j s : ℕ) → 0 < j → is_goal g.question.now s ≡ false → is_dead g.question.now s ≡ false
+    → entry_of g j s ≡ best_of g (j - 1) s
 entry-free g j s h goal dead = entry-later g j s h ∙ rw (goal, dead) refl
 
 -- each entry is at most the unit
 entry-units : (g : Guesses) (j s : ℕ) → entry_of g j s ≤ unit
 unfolding guess_table
-entry-units g zero s = guess-units (slice_index_or g.zero.now s false) (is_goal g.question.now s) (slice_index g.lower.now s + g.excess)
+entry-units g zero s =
+    guess-units (slice_index_or g.zero.now s false) (is_goal g.question.now s) (slice_index g.lower.now s + g.excess)
 entry-units g (suc j) s = up_step-units g.question.now (entry_of g j) g.posed (λ t inside. entry-units g j t) s
 
 -- one state whose next entry is above its entry refuses the table
-pub refused-at : (g : Guesses) (j s : ℕ) → s < states g.question.now → entry_of g j s < entry_of g (j + 1) s → IsRefusedOf g j
+pub refused-at : (g : Guesses) (j s : ℕ) → s < states g.question.now
+    → entry_of g j s < entry_of g (j + 1) s → IsRefusedOf g j
 refused-at g j s inside above =
-    let step : entry_of g (j + 1) s ≡ up_step g.question.now (entry_of g (j + 1 - 1)) s = entry-later g (j + 1) s (omega arith) in
+    let step : entry_of g (j + 1) s ≡ up_step g.question.now (entry_of g (j + 1 - 1)) s =
+    entry-later g (j + 1) s (omega arith) in
     let same : j + 1 - 1 ≡ j = omega arith in
     (s, inside, subst (λ n. entry_of g j s < up_step g.question.now (entry_of g n) s) same (omega (arith, above, step)))
 
 -- the sum over a choice as the loop has it, and one more edge
-module _ (g : Guesses) (steps s c p count sum value : ℕ) (edge : Edge) (game : List (List Distribution)) (same : game ≡ g.question.now.game) (is_count : count ≡ length (choice_of game s c).edges) (before : p < count)
-    (is_edge : edge ≡ edge_of game s c p) (so_far : IsSumBetween (take p (choice_at g s c).edges) (entry_of g steps) (entry_of g steps) sum) (is_value : value ≡ entry_of g steps edge.to) where
+module _ (g : Guesses) (steps s c p count sum value : ℕ) (edge : Edge) (game : List (List Distribution))
+    (same : game ≡ g.question.now.game) (is_count : count ≡ length (choice_of game s c).edges) (before : p < count)
+    (is_edge : edge ≡ edge_of game s c p) (so_far : IsSumBetween (take p (choice_at g s c).edges) (entry_of g steps)
+    (entry_of g steps) sum) (is_value : value ≡ entry_of g steps edge.to) where
   inside : p < length (choice_at g s c).edges
   inside = omega (arith, is_count, ap (λ (games : List (List Distribution)). length (choice_of games s c).edges) same)
 
   is : edge ≡ edge_of g.question.now.game s c p
   is = is_edge ∙ ap (λ (games : List (List Distribution)). edge_of games s c p) same
 
-  pub sum-more : IsSumBetween (take (p + 1) (choice_at g s c).edges) (entry_of g steps) (entry_of g steps) (sum + edge.weight * value)
+  pub sum-more : IsSumBetween (take (p + 1) (choice_at g s c).edges) (entry_of g steps) (entry_of g steps)
+      (sum + edge.weight * value)
   sum-more =
-      IsSumBetween-more (choice_at g s c).edges p sum value edge inside is (entry_of g steps) (entry_of g steps) (entry_of g steps) so_far (omega (arith, is_value)) (λ t. le_refl (entry_of g steps t))
+      IsSumBetween-more (choice_at g s c).edges p sum value edge inside is (entry_of g steps) (entry_of g steps)
+      (entry_of g steps) so_far (omega (arith, is_value)) (λ t. le_refl (entry_of g steps t))
       (omega (arith, is_value)) (omega (arith, is_value, entry-units g steps edge.to))
 
-  pub sum-more-fits : s < states g.question.now → c < length (choices_of g.question.now.game s) → sum + edge.weight * value < 2 ^ 128
+  pub sum-more-fits : s < states g.question.now → c < length (choices_of g.question.now.game s)
+      → sum + edge.weight * value < 2 ^ 128
   sum-more-fits state choice =
       let fine : IsDistribution (choice_at g s c) = g.posed.game.distribution s c state choice in
-      sum-fits (choice_at g s c).edges p sum value edge inside is so_far.whole (omega (arith, is_value, entry-units g steps edge.to)) (omega (arith, fine.sums, fine.small))
+      sum-fits (choice_at g s c).edges p sum value edge inside is so_far.whole
+      (omega (arith, is_value, entry-units g steps edge.to)) (omega (arith, fine.sums, fine.small))

@@ -1,5 +1,6 @@
 -- The guesses of an upper table, by excess and then by up steps, and the first that is accepted.
-use Rattle.std.specs.Prelude.{◌≡◌, ℕ, zero, suc, ◌+◌, ◌-◌, ◌/◌, ◌^◌, ◌<◌, ◌≤◌, Bool, false, List, length, slice_index_or, All, if◌then◌else◌, min}
+use Rattle.std.specs.Prelude.{◌≡◌, ℕ, zero, suc, ◌+◌, ◌-◌, ◌/◌, ◌^◌, ◌<◌, ◌≤◌, Bool, false, List, length}
+use Rattle.std.specs.Prelude.{slice_index_or, All, if◌then◌else◌, min}
 use Rattle.game_model.specs.Query.{Query, states, is_goal}
 use Rattle.game_model.specs.Limits.{unit}
 use Rattle.game_model.specs.Tables.{IsTable}

@@ -1,8 +1,10 @@
 -- The first fault of a file of values.
-use Rattle.std.specs.Prelude.{ℕ, ◌==◌, ◌||◌, ◌+◌, nat_lt, Bool, false, List, [], ◌∷◌, length, Option, Some, None, Result, Ok, Err, slice_index_or, if◌then◌else◌}
+use Rattle.std.specs.Prelude.{ℕ, ◌==◌, ◌||◌, ◌+◌, nat_lt, Bool, false, List, [], ◌∷◌, length, Option, Some, None}
+use Rattle.std.specs.Prelude.{Result, Ok, Err, slice_index_or, if◌then◌else◌}
 use Rattle.text_lines.specs.Text.{lines_of, fields_of, is_nil}
 use Rattle.values_reader.specs.declared.fault.ValuesCause.{ValuesCause}
-use Rattle.values_reader.specs.declared.fault.ValuesCause.TheVariants.{BadField, StateOutOfRange, DoubleState, LineCount}
+use Rattle.values_reader.specs.declared.fault.ValuesCause.TheVariants.{BadField, StateOutOfRange, DoubleState}
+use Rattle.values_reader.specs.declared.fault.ValuesCause.TheVariants.{LineCount}
 use Rattle.values_reader.specs.declared.fault.ValuesFault.{ValuesFault}
 use Rattle.values_reader.specs.Lines.{is_value, state_of, names_state}
 

@@ -34,7 +34,8 @@ not_reached u a b h n d some high bound =
     lt_of_mul-lt-mul_left u whole
 
 -- what two tests say of a fraction is right, where each of them is
-right_by : (bound : Bound) (n d : ℕ) (holds fails : Bool) → (holds ≡ true → IsMetBy bound n d) → (fails ≡ true → ¬ IsMetBy bound n d) → IsRight bound n d (verdict_by holds fails)
+right_by : (bound : Bound) (n d : ℕ) (holds fails : Bool) → (holds ≡ true → IsMetBy bound n d)
+    → (fails ≡ true → ¬ IsMetBy bound n d) → IsRight bound n d (verdict_by holds fails)
 right_by bound n d true fails if_holds if_fails = if_holds refl
 right_by bound n d false true if_holds if_fails = if_fails refl
 right_by bound n d false false if_holds if_fails = tt
@@ -42,18 +43,24 @@ right_by bound n d false false if_holds if_fails = tt
 unit-pos : 0 < unit
 unit-pos = lit< tt
 
-pub right : (bound : Bound) (n d lower upper : ℕ) → 1 ≤ d → lower * d ≤ unit * n → unit * n ≤ upper * d → IsRight bound n d (verdict_of bound lower upper)
+pub right : (bound : Bound) (n d lower upper : ℕ) → 1 ≤ d → lower * d ≤ unit * n → unit * n ≤ upper * d
+    → IsRight bound n d (verdict_of bound lower upper)
 right (AtLeast p) n d lower upper some low high =
     right_by (AtLeast p) n d _ _ (λ e. reached unit p.num p.den lower n d unit-pos low (leb-true _ _ e))
-    (λ e holds. let below = not_reached unit p.num p.den upper n d some high (leb-false _ _ (not-true _ e)) in absurd (omega (arith, below, holds)))
+    (λ e holds. let below = not_reached unit p.num p.den upper n d some high (leb-false _ _ (not-true _ e)) in
+    absurd (omega (arith, below, holds)))
 right (Above p) n d lower upper some low high =
     right_by (Above p) n d _ _ (λ e. exceeded unit p.num p.den lower n d some low (ltb-true _ _ e))
-    (λ e holds. let below = not_exceeded unit p.num p.den upper n d unit-pos high (ltb-false _ _ (not-true _ e)) in absurd (omega (arith, below, holds)))
+    (λ e holds. let below = not_exceeded unit p.num p.den upper n d unit-pos high (ltb-false _ _ (not-true _ e)) in
+    absurd (omega (arith, below, holds)))
 right (AtMost p) n d lower upper some low high =
-    right_by (AtMost p) n d _ _ (λ e. not_exceeded unit p.num p.den upper n d unit-pos high (ltb-false _ _ (not-true _ e)))
-    (λ e holds. let above = exceeded unit p.num p.den lower n d some low (ltb-true _ _ e) in absurd (omega (arith, above, holds)))
+    right_by (AtMost p) n d _ _
+    (λ e. not_exceeded unit p.num p.den upper n d unit-pos high (ltb-false _ _ (not-true _ e)))
+    (λ e holds. let above = exceeded unit p.num p.den lower n d some low (ltb-true _ _ e) in
+    absurd (omega (arith, above, holds)))
 right (Below p) n d lower upper some low high =
     right_by (Below p) n d _ _ (λ e. not_reached unit p.num p.den upper n d some high (leb-false _ _ (not-true _ e)))
-    (λ e holds. let above = reached unit p.num p.den lower n d unit-pos low (leb-true _ _ e) in absurd (omega (arith, above, holds)))
+    (λ e holds. let above = reached unit p.num p.den lower n d unit-pos low (leb-true _ _ e) in
+    absurd (omega (arith, above, holds)))
 right AskMax n d lower upper some low high = tt
 right AskMin n d lower upper some low high = tt

@@ -14,19 +14,28 @@ not_lt : (a b c d : ℕ) → (a ≤ b → d ≤ c) → (d ≤ c → a ≤ b) →
 not_lt a b c d there back = by (nat_le a b) (nat_lt c d) refl refl
   where
     by : (p q : Bool) → nat_le a b ≡ p → nat_lt c d ≡ q → p ≡ not q
-    by true true hp hq = let over = there (leb-true a b hp) in let under = ltb-true c d hq in absurd (omega (arith, over, under))
+    by true true hp hq =
+        let over = there (leb-true a b hp) in
+        let under = ltb-true c d hq in
+        absurd (omega (arith, over, under))
     by true false hp hq = refl
     by false true hp hq = refl
-    by false false hp hq = let over = back (ltb-false c d hq) in let under = leb-false a b hp in absurd (omega (arith, over, under))
+    by false false hp hq =
+        let over = back (ltb-false c d hq) in
+        let under = leb-false a b hp in
+        absurd (omega (arith, over, under))
 
 -- n of n + m, and x of x + u
-products : (n m x u : ℕ) → (n * (x + u) ≤ x * (n + m) → u * (n + m) ≤ m * (x + u)) × (u * (n + m) ≤ m * (x + u) → n * (x + u) ≤ x * (n + m))
+products : (n m x u : ℕ)
+    → (n * (x + u) ≤ x * (n + m) → u * (n + m) ≤ m * (x + u)) × (u * (n + m) ≤ m * (x + u) → n * (x + u) ≤ x * (n + m))
 products n m x u = (λ h. omega (arith, h), λ h. omega (arith, h))
 
-sums : (n m d x u top : ℕ) → n + m ≡ d → x + u ≡ top → (n * top ≤ x * d → u * d ≤ m * top) × (u * d ≤ m * top → n * top ≤ x * d)
+sums : (n m d x u top : ℕ) → n + m ≡ d → x + u ≡ top
+    → (n * top ≤ x * d → u * d ≤ m * top) × (u * d ≤ m * top → n * top ≤ x * d)
 sums n m d x u top of_d of_top = rw (← of_d, ← of_top) (products n m x u)
 
-flipped : (n d u top : ℕ) → n ≤ d → u ≤ top → (n * top ≤ (top - u) * d → u * d ≤ (d - n) * top) × (u * d ≤ (d - n) * top → n * top ≤ (top - u) * d)
+flipped : (n d u top : ℕ) → n ≤ d → u ≤ top
+    → (n * top ≤ (top - u) * d → u * d ≤ (d - n) * top) × (u * d ≤ (d - n) * top → n * top ≤ (top - u) * d)
 flipped n d u top small within = sums n (d - n) d (top - u) u top (omega arith) (omega arith)
 
 involutive : (b : Bool) → not (not b) ≡ b
@@ -43,20 +52,26 @@ reaches-rest p u small within =
 exceeds-rest : (p : Fraction) (u : ℕ) → p.num ≤ p.den → u ≤ unit → exceeds p (unit - u) ≡ not (reaches (rest_of p) u)
 exceeds-rest p u small within =
     let both = sums (p.den - p.num) p.num p.den u (unit - u) unit (omega arith) (omega arith) in
-    let back : reaches (rest_of p) u ≡ not (exceeds p (unit - u)) = not_lt ((p.den - p.num) * unit) (u * p.den) (p.num * unit) ((unit - u) * p.den) both.0 both.1 in
+    let back : reaches (rest_of p) u ≡ not (exceeds p (unit - u)) =
+    not_lt ((p.den - p.num) * unit) (u * p.den) (p.num * unit) ((unit - u) * p.den) both.0 both.1 in
     sym (ap not back ∙ involutive (exceeds p (unit - u)))
 
 same_by : (a b c d : Bool) → a ≡ c → b ≡ d → verdict_by a b ≡ verdict_by c d
 same_by a b c d of_a of_b = ap (λ x. verdict_by x b) of_a ∙ ap (λ x. verdict_by c x) of_b
 
-pub mirrored : (bound : Bound) (lower upper : ℕ) → IsAtMostOne bound → lower ≤ unit → upper ≤ unit → verdict_of bound (unit - upper) (unit - lower) ≡ verdict_of (dual_bound bound) lower upper
+pub mirrored : (bound : Bound) (lower upper : ℕ) → IsAtMostOne bound → lower ≤ unit → upper ≤ unit
+    → verdict_of bound (unit - upper) (unit - lower) ≡ verdict_of (dual_bound bound) lower upper
 mirrored (AtLeast p) lower upper small low high =
-    same_by _ _ _ _ (reaches-rest p upper small high) (ap not (reaches-rest p lower small low) ∙ involutive (exceeds (rest_of p) lower))
+    same_by _ _ _ _ (reaches-rest p upper small high)
+    (ap not (reaches-rest p lower small low) ∙ involutive (exceeds (rest_of p) lower))
 mirrored (Above p) lower upper small low high =
-    same_by _ _ _ _ (exceeds-rest p upper small high) (ap not (exceeds-rest p lower small low) ∙ involutive (reaches (rest_of p) lower))
+    same_by _ _ _ _ (exceeds-rest p upper small high)
+    (ap not (exceeds-rest p lower small low) ∙ involutive (reaches (rest_of p) lower))
 mirrored (AtMost p) lower upper small low high =
-    same_by _ _ _ _ (ap not (exceeds-rest p lower small low) ∙ involutive (reaches (rest_of p) lower)) (exceeds-rest p upper small high)
+    same_by _ _ _ _ (ap not (exceeds-rest p lower small low) ∙ involutive (reaches (rest_of p) lower))
+    (exceeds-rest p upper small high)
 mirrored (Below p) lower upper small low high =
-    same_by _ _ _ _ (ap not (reaches-rest p lower small low) ∙ involutive (exceeds (rest_of p) lower)) (reaches-rest p upper small high)
+    same_by _ _ _ _ (ap not (reaches-rest p lower small low) ∙ involutive (exceeds (rest_of p) lower))
+    (reaches-rest p upper small high)
 mirrored AskMax lower upper small low high = refl
 mirrored AskMin lower upper small low high = refl

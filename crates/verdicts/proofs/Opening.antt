@@ -32,11 +32,20 @@ at_most-here p l not_exceeded = omega (arith, ltb-false (p.num * unit) (l * p.de
 above-here : (p : Fraction) (u : ℕ) → exceeds p u ≡ true → IsAboveMore p u 1 0
 above-here p u exceeded = omega (arith, ltb-true (p.num * unit) (u * p.den) exceeded)
 
-pub open-here : (bound : Bound) (lower upper : ℕ) → verdict_of bound lower upper ≡ Undecided → LeavesOpen bound lower upper 1 0
-open-here (AtLeast p) l u is = let tests = undecided-by (reaches p l) (not (reaches p u)) is in (below-here p l tests.0, at_least-here p u (is-true (reaches p u) tests.1))
-open-here (Above p) l u is = let tests = undecided-by (exceeds p l) (not (exceeds p u)) is in (at_most-here p l tests.0, above-here p u (is-true (exceeds p u) tests.1))
-open-here (AtMost p) l u is = let tests = undecided-by (not (exceeds p u)) (exceeds p l) is in (at_most-here p l tests.1, above-here p u (is-true (exceeds p u) tests.0))
-open-here (Below p) l u is = let tests = undecided-by (not (reaches p u)) (reaches p l) is in (below-here p l tests.1, at_least-here p u (is-true (reaches p u) tests.0))
+pub open-here : (bound : Bound) (lower upper : ℕ) → verdict_of bound lower upper ≡ Undecided
+    → LeavesOpen bound lower upper 1 0
+open-here (AtLeast p) l u is =
+    let tests = undecided-by (reaches p l) (not (reaches p u)) is in
+    (below-here p l tests.0, at_least-here p u (is-true (reaches p u) tests.1))
+open-here (Above p) l u is =
+    let tests = undecided-by (exceeds p l) (not (exceeds p u)) is in
+    (at_most-here p l tests.0, above-here p u (is-true (exceeds p u) tests.1))
+open-here (AtMost p) l u is =
+    let tests = undecided-by (not (exceeds p u)) (exceeds p l) is in
+    (at_most-here p l tests.1, above-here p u (is-true (exceeds p u) tests.0))
+open-here (Below p) l u is =
+    let tests = undecided-by (not (reaches p u)) (reaches p l) is in
+    (below-here p l tests.1, at_least-here p u (is-true (reaches p u) tests.0))
 open-here AskMax l u is = absurd (cc)
 open-here AskMin l u is = absurd (cc)
 
@@ -64,10 +73,15 @@ module _ (p : Fraction) (u m d r : ℕ) (some : 1 ≤ d) (near : u * d ≤ m + r
       let strict : p.num * unit + 1 ≤ u * p.den = omega (arith, above) in
       omega (arith, some, mul-le-mul_right p.den near, mul-le-mul_right d strict)
 
-pub open-wider : (bound : Bound) (lower upper n m d r : ℕ) → 1 ≤ d → n ≤ (lower + r) * d → upper * d ≤ m + r * d → LeavesOpen bound lower upper 1 0 → LeavesOpen bound n m d r
-open-wider (AtLeast p) l u n m d r some under over left = (below-wider p l n d r some under left.0, at_least-wider p u m d r some over left.1)
-open-wider (Above p) l u n m d r some under over left = (at_most-wider p l n d r some under left.0, above-wider p u m d r some over left.1)
-open-wider (AtMost p) l u n m d r some under over left = (at_most-wider p l n d r some under left.0, above-wider p u m d r some over left.1)
-open-wider (Below p) l u n m d r some under over left = (below-wider p l n d r some under left.0, at_least-wider p u m d r some over left.1)
+pub open-wider : (bound : Bound) (lower upper n m d r : ℕ) → 1 ≤ d → n ≤ (lower + r) * d → upper * d ≤ m + r * d
+    → LeavesOpen bound lower upper 1 0 → LeavesOpen bound n m d r
+open-wider (AtLeast p) l u n m d r some under over left =
+    (below-wider p l n d r some under left.0, at_least-wider p u m d r some over left.1)
+open-wider (Above p) l u n m d r some under over left =
+    (at_most-wider p l n d r some under left.0, above-wider p u m d r some over left.1)
+open-wider (AtMost p) l u n m d r some under over left =
+    (at_most-wider p l n d r some under left.0, above-wider p u m d r some over left.1)
+open-wider (Below p) l u n m d r some under over left =
+    (below-wider p l n d r some under left.0, at_least-wider p u m d r some over left.1)
 open-wider AskMax l u n m d r some under over left = left
 open-wider AskMin l u n m d r some under over left = left

@@ -27,17 +27,23 @@ fails-from_no true fails e = absurd (cc)
 fails-from_no false true e = refl
 fails-from_no false false e = absurd (cc)
 
-pub yes-true : (q : Query) (bound : Bound) (lower upper s : ℕ) → AreSound q lower upper s → verdict_of bound lower upper ≡ Yes → IsTrueOf q bound s
+pub yes-true : (q : Query) (bound : Bound) (lower upper s : ℕ) → AreSound q lower upper s
+    → verdict_of bound lower upper ≡ Yes → IsTrueOf q bound s
 yes-true q (AtLeast p) lower upper s sound e = sound.reached p.num p.den (leb-true _ _ (holds-from_yes _ _ e))
 yes-true q (Above p) lower upper s sound e = sound.exceeded p.num p.den (ltb-true _ _ (holds-from_yes _ _ e))
-yes-true q (AtMost p) lower upper s sound e = sound.not_exceeded p.num p.den (ltb-false _ _ (not-true _ (holds-from_yes _ _ e)))
-yes-true q (Below p) lower upper s sound e = sound.not_reached p.num p.den (leb-false _ _ (not-true _ (holds-from_yes _ _ e)))
+yes-true q (AtMost p) lower upper s sound e =
+    sound.not_exceeded p.num p.den (ltb-false _ _ (not-true _ (holds-from_yes _ _ e)))
+yes-true q (Below p) lower upper s sound e =
+    sound.not_reached p.num p.den (leb-false _ _ (not-true _ (holds-from_yes _ _ e)))
 yes-true q AskMax lower upper s sound e = tt
 yes-true q AskMin lower upper s sound e = tt
 
-pub no-false : (q : Query) (bound : Bound) (lower upper s : ℕ) → AreSound q lower upper s → verdict_of bound lower upper ≡ No → IsFalseOf q bound s
-no-false q (AtLeast p) lower upper s sound e = sound.not_reached p.num p.den (leb-false _ _ (not-true _ (fails-from_no _ _ e)))
-no-false q (Above p) lower upper s sound e = sound.not_exceeded p.num p.den (ltb-false _ _ (not-true _ (fails-from_no _ _ e)))
+pub no-false : (q : Query) (bound : Bound) (lower upper s : ℕ) → AreSound q lower upper s
+    → verdict_of bound lower upper ≡ No → IsFalseOf q bound s
+no-false q (AtLeast p) lower upper s sound e =
+    sound.not_reached p.num p.den (leb-false _ _ (not-true _ (fails-from_no _ _ e)))
+no-false q (Above p) lower upper s sound e =
+    sound.not_exceeded p.num p.den (ltb-false _ _ (not-true _ (fails-from_no _ _ e)))
 no-false q (AtMost p) lower upper s sound e = sound.exceeded p.num p.den (ltb-true _ _ (fails-from_no _ _ e))
 no-false q (Below p) lower upper s sound e = sound.reached p.num p.den (leb-true _ _ (fails-from_no _ _ e))
 no-false q AskMax lower upper s sound e = absurd (cc)

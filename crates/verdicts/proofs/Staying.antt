@@ -10,10 +10,12 @@ use Rattle.verdicts.specs.Verdict.{reaches, exceeds, verdict_by, verdict_of, is_
 
 -- more units are as much
 reaches-more : (p : Fraction) (u v : ℕ) → u ≤ v → reaches p u ≡ true → reaches p v ≡ true
-reaches-more p u v more is = le-leb (p.num * unit) (v * p.den) (le_trans (leb-true (p.num * unit) (u * p.den) is) (mul-le-mul_right p.den more))
+reaches-more p u v more is =
+    le-leb (p.num * unit) (v * p.den) (le_trans (leb-true (p.num * unit) (u * p.den) is) (mul-le-mul_right p.den more))
 
 exceeds-more : (p : Fraction) (u v : ℕ) → u ≤ v → exceeds p u ≡ true → exceeds p v ≡ true
-exceeds-more p u v more is = lt-ltb (p.num * unit) (v * p.den) (le_trans (ltb-true (p.num * unit) (u * p.den) is) (mul-le-mul_right p.den more))
+exceeds-more p u v more is =
+    lt-ltb (p.num * unit) (v * p.den) (le_trans (ltb-true (p.num * unit) (u * p.den) is) (mul-le-mul_right p.den more))
 
 -- a test that follows from another one
 not-back : (a b : Bool) → (b ≡ true → a ≡ true) → not a ≡ true → not b ≡ true
@@ -21,7 +23,8 @@ not-back true b back is = absurd (cc)
 not-back false true back is = back refl
 not-back false false back is = refl
 
-by-more : (a b c d : Bool) → (a ≡ true → c ≡ true) → (b ≡ true → d ≡ true) → is_settling (verdict_by a b) ≡ true → is_settling (verdict_by c d) ≡ true
+by-more : (a b c d : Bool) → (a ≡ true → c ≡ true) → (b ≡ true → d ≡ true) → is_settling (verdict_by a b) ≡ true
+    → is_settling (verdict_by c d) ≡ true
 by-more a b true d first second is = refl
 by-more a b false true first second is = refl
 by-more true b false false first second is = first refl
@@ -30,9 +33,13 @@ by-more false false false false first second is = is
 
 pub settled-on : (bound : Bound) (lower lower' upper upper' : ℕ) → lower ≤ lower' → upper' ≤ upper
     → is_settling (verdict_of bound lower upper) ≡ true → is_settling (verdict_of bound lower' upper') ≡ true
-settled-on (AtLeast p) l l' u u' more less is = by-more _ _ _ _ (reaches-more p l l' more) (not-back (reaches p u) (reaches p u') (reaches-more p u' u less)) is
-settled-on (Above p) l l' u u' more less is = by-more _ _ _ _ (exceeds-more p l l' more) (not-back (exceeds p u) (exceeds p u') (exceeds-more p u' u less)) is
-settled-on (AtMost p) l l' u u' more less is = by-more _ _ _ _ (not-back (exceeds p u) (exceeds p u') (exceeds-more p u' u less)) (exceeds-more p l l' more) is
-settled-on (Below p) l l' u u' more less is = by-more _ _ _ _ (not-back (reaches p u) (reaches p u') (reaches-more p u' u less)) (reaches-more p l l' more) is
+settled-on (AtLeast p) l l' u u' more less is =
+    by-more _ _ _ _ (reaches-more p l l' more) (not-back (reaches p u) (reaches p u') (reaches-more p u' u less)) is
+settled-on (Above p) l l' u u' more less is =
+    by-more _ _ _ _ (exceeds-more p l l' more) (not-back (exceeds p u) (exceeds p u') (exceeds-more p u' u less)) is
+settled-on (AtMost p) l l' u u' more less is =
+    by-more _ _ _ _ (not-back (exceeds p u) (exceeds p u') (exceeds-more p u' u less)) (exceeds-more p l l' more) is
+settled-on (Below p) l l' u u' more less is =
+    by-more _ _ _ _ (not-back (reaches p u) (reaches p u') (reaches-more p u' u less)) (reaches-more p l l' more) is
 settled-on AskMax l l' u u' more less is = is
 settled-on AskMin l l' u u' more less is = is

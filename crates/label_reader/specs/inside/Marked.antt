@@ -1,5 +1,6 @@
 -- Sets of states as they are marked, one set for each item of the header.
-use Rattle.std.specs.Prelude.{◌≡◌, ◌<◌, ℕ, Bool, true, false, List, [], ◌∷◌, length, Option, Some, None, slice_index, slice_index_or, slice_set, All}
+use Rattle.std.specs.Prelude.{◌≡◌, ◌<◌, ℕ, Bool, true, false, List, [], ◌∷◌, length, Option, Some, None, slice_index}
+use Rattle.std.specs.Prelude.{slice_index_or, slice_set, All}
 use Rattle.label_reader.specs.Header.{Item, place_in}
 use Rattle.label_reader.specs.inside.Placed.{indices_of}
 

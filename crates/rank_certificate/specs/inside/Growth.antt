@@ -1,5 +1,6 @@
 -- Ranks and choices that are found layer by layer.
-use Rattle.std.specs.Prelude.{◌≡◌, ℕ, ◌+◌, ◌<◌, ◌≤◌, ◌⊎◌, List, [], ◌∷◌, ◌++◌, length, slice_index, slice_index_or, slice_set, count_by, Option, Some, None, IsSomeAnd, is_some, Contains}
+use Rattle.std.specs.Prelude.{◌≡◌, ℕ, ◌+◌, ◌<◌, ◌≤◌, ◌⊎◌, List, [], ◌∷◌, ◌++◌, length, slice_index, slice_index_or}
+use Rattle.std.specs.Prelude.{slice_set, count_by, Option, Some, None, IsSomeAnd, is_some, Contains}
 use Rattle.game_model.specs.Query.{Query, states, side_at}
 use Rattle.game_model.specs.Growing.{IsLonger}
 use Rattle.predecessors.specs.declared.lists.Move.{Move}

@@ -1,7 +1,8 @@
 -- The bound of a comparison with a threshold.
 use Rattle.distributions.specs.Fraction.{Fraction}
 use Rattle.rpatl_syntax.specs.declared.formula.Comparison.{Comparison}
-use Rattle.rpatl_syntax.specs.declared.formula.Comparison.TheVariants.{AtLeast as at_least, Above as above, AtMost as at_most, Below as below}
+use Rattle.rpatl_syntax.specs.declared.formula.Comparison.TheVariants.{AtLeast as at_least, Above as above}
+use Rattle.rpatl_syntax.specs.declared.formula.Comparison.TheVariants.{AtMost as at_most, Below as below}
 use Rattle.rpatl_syntax.specs.declared.formula.Bound.{Bound}
 use Rattle.rpatl_syntax.specs.declared.formula.Bound.TheVariants.{AtLeast, Above, AtMost, Below}
 

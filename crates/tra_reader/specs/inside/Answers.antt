@@ -1,5 +1,6 @@
 -- What the parts of the reader answer.
-use Rattle.std.specs.Prelude.{◌≡◌, ◌≤◌, ◌<◌, ℕ, List, [], ◌∷◌, slice_get, Option, Some, None, Result, Ok, Err, option_map, not, Bool, false}
+use Rattle.std.specs.Prelude.{◌≡◌, ◌≤◌, ◌<◌, ℕ, List, [], ◌∷◌, slice_get, Option, Some, None, Result, Ok, Err}
+use Rattle.std.specs.Prelude.{option_map, not, Bool, false}
 use Rattle.std.specs.Borrow.{Bor}
 use Rattle.std.specs.List.{filter, All}
 use Rattle.std.specs.Option.{option_map_or}

@@ -1,5 +1,6 @@
 -- Games under way, made of transitions that come in the order of their choices.
-use Rattle.std.specs.Prelude.{◌≡◌, ◌<◌, ◌≤◌, ◌⊎◌, ℕ, ◌+◌, ◌==◌, List, [], ◌∷◌, ◌++◌, length, Option, Some, None, Result, Ok, Err, if◌then◌else◌}
+use Rattle.std.specs.Prelude.{◌≡◌, ◌<◌, ◌≤◌, ◌⊎◌, ℕ, ◌+◌, ◌==◌, List, [], ◌∷◌, ◌++◌, length, Option, Some, None, Result}
+use Rattle.std.specs.Prelude.{Ok, Err, if◌then◌else◌}
 use Rattle.std.specs.List.{All}
 use Rattle.game_model.specs.Limits.{most_states, most_choices}
 use Rattle.game_model.specs.Game.{Distribution}
@@ -15,7 +16,8 @@ use Rattle.tra_reader.specs.declared.progress.Progress.TheVariants.{Builds, Faul
 use Rattle.tra_reader.specs.declared.whole_choices.WholeChoices.{WholeChoices}
 use Rattle.tra_reader.specs.Faults.{fault_of_choice}
 use Rattle.tra_reader.specs.Limits.{most_stated_choices}
-use Rattle.tra_reader.specs.Choices.{transitions_of, parts_of, self_loop, sum_of_first, choice_end, first_gap, first_crowded, choices_said, states_said, if_as_stated}
+use Rattle.tra_reader.specs.Choices.{transitions_of, parts_of, self_loop, sum_of_first, choice_end, first_gap}
+use Rattle.tra_reader.specs.Choices.{first_crowded, choices_said, states_said, if_as_stated}
 use Rattle.tra_reader.specs.inside.Order.{Rises, IsWithin, place_of, transition_place}
 use Rattle.tra_reader.specs.inside.Answers.{LeadsInside}
 

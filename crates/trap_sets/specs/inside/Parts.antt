@@ -1,5 +1,6 @@
 -- Parts of the states on the way to the traps: each end component lies in one.
-use Rattle.std.specs.Prelude.{◌≡◌, ◌≢◌, ℕ, ◌-◌, ◌<◌, ◌==◌, ◌⊎◌, Bool, true, List, length, slice_index, if◌then◌else◌, Option}
+use Rattle.std.specs.Prelude.{◌≡◌, ◌≢◌, ℕ, ◌-◌, ◌<◌, ◌==◌, ◌⊎◌, Bool, true, List, length, slice_index, if◌then◌else◌}
+use Rattle.std.specs.Prelude.{Option}
 use Rattle.game_model.specs.Query.{Query, states}
 use Rattle.fixed_bellman.specs.Given.{IsFree}
 use Rattle.trap_sets.specs.Ends.{IsCut, Leads, Reach, IsEndComponent}

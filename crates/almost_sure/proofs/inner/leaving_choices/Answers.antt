@@ -4,4 +4,6 @@ use Rattle.predecessors.proofs.Flagged.{AreAnswers-say}
 use Rattle.almost_sure.proofs.inner.leaving_choices.Goals as goal
 
 pub returns : goal.returns
-returns c = IfOk-weaker c.of_game.result _ _ (λ flags answered. AreAnswers-say c.args.question.now.game c.game.result.now _ _ flags c.game.ensures answered (λ s choice b inside within answer. search rules)) c.of_game.ensures
+returns c = IfOk-weaker c.of_game.result _ _
+    (λ flags answered. AreAnswers-say c.args.question.now.game c.game.result.now _ _ flags c.game.ensures answered
+    (λ s choice b inside within answer. search rules)) c.of_game.ensures

@@ -5,7 +5,8 @@ use Rattle.command_words.specs.Words.{asked_of_words}
 use Rattle.asked_files.specs.Texts.{labels_said, owners_said}
 use Rattle.asked_files.proofs.Leaving.{answer_leaves, both_leave, end_leaves, other_end}
 use Rattle.asked_files.proofs.Loading.{text_kept, text_missed, text_read, text_refused}
-use Rattle.asked_files.proofs.ModelTexts.{game_ends, labels_end, owners_end, formula_ends, formula_refused, all_read, lacks, reads}
+use Rattle.asked_files.proofs.ModelTexts.{game_ends, labels_end, owners_end, formula_ends, formula_refused, all_read}
+use Rattle.asked_files.proofs.ModelTexts.{lacks, reads}
 use Rattle.asked_files.proofs.model.load_model.Goals as goal
 
 pub returns-in_err-game-clause-refused : goal.returns-in_err-game-clause-refused
@@ -13,7 +14,8 @@ returns-in_err-game-clause-refused g c =
     let holding = g.H.Shelf.held c.args.shelf.now in
     let asked = asked_of_words c.args.asked.now in
     let p = err_from_is_err_and c.from_residual.result c.from_residual.ensures.1 in
-    rw (p.1, p.2) (λ refusal is. game_ends holding asked (Some refusal) (text_refused c.in_err-game.ensures.says (cc (is))))
+    rw (p.1, p.2)
+    (λ refusal is. game_ends holding asked (Some refusal) (text_refused c.in_err-game.ensures.says (cc (is))))
 
 pub returns-in_err-labels-clause-refused : goal.returns-in_err-labels-clause-refused
 returns-in_err-labels-clause-refused g c =
@@ -22,7 +24,9 @@ returns-in_err-labels-clause-refused g c =
     let p = err_from_is_err_and c.from_residual-in_err-labels.result c.from_residual-in_err-labels.ensures.1 in
     let game = c.in_ok-game.game in
     let tra = text_read c.in_ok-game.ensures.says in
-    rw (p.1, p.2) (λ refusal is. labels_end holding asked game tra (Some refusal) (text_kept (λ n source. labels_said source n) c.in_ok-game.ensures.shelf.kept.held c.states.ensures (text_refused c.in_err-labels.ensures.says (cc (is)))))
+    rw (p.1, p.2)
+    (λ refusal is. labels_end holding asked game tra (Some refusal) (text_kept (λ n source. labels_said source n)
+    c.in_ok-game.ensures.shelf.kept.held c.states.ensures (text_refused c.in_err-labels.ensures.says (cc (is)))))
 
 pub returns-in_err-labels-clause-shelf : goal.returns-in_err-labels-clause-shelf
 returns-in_err-labels-clause-shelf g c =
@@ -37,8 +41,11 @@ returns-in_err-owners-clause-refused g c =
     let game = c.in_ok-game.game in
     let tra = text_read c.in_ok-game.ensures.says in
     let labels = c.in_ok-labels.labels in
-    let lab = text_kept (λ n source. labels_said source n) c.in_ok-game.ensures.shelf.kept.held c.states.ensures (text_read c.in_ok-labels.ensures.says) in
-    rw (p.1, p.2) (λ refusal is. owners_end holding asked game tra labels lab (Some refusal) (text_kept (λ n source. owners_said asked.own source n) (c.in_ok-labels.ensures.shelf.kept.held ∙ c.in_ok-game.ensures.shelf.kept.held) c.states-2.ensures (text_refused c.in_err-owners.ensures.says (cc (is)))))
+    let lab = text_kept (λ n source. labels_said source n) c.in_ok-game.ensures.shelf.kept.held c.states.ensures
+    (text_read c.in_ok-labels.ensures.says) in
+    rw (p.1, p.2) (λ refusal is. owners_end holding asked game tra labels lab (Some refusal)
+    (text_kept (λ n source. owners_said asked.own source n) (c.in_ok-labels.ensures.shelf.kept.held
+    ∙ c.in_ok-game.ensures.shelf.kept.held) c.states-2.ensures (text_refused c.in_err-owners.ensures.says (cc (is)))))
 
 pub returns-in_err-owners-clause-steadily : goal.returns-in_err-owners-clause-steadily
 returns-in_err-owners-clause-steadily g c =
@@ -48,14 +55,19 @@ returns-in_err-owners-clause-steadily g c =
     let game = c.in_ok-game.game in
     let tra = text_read c.in_ok-game.ensures.says in
     let labels = c.in_ok-labels.labels in
-    let lab = text_kept (λ n source. labels_said source n) c.in_ok-game.ensures.shelf.kept.held c.states.ensures (text_read c.in_ok-labels.ensures.says) in
+    let lab = text_kept (λ n source. labels_said source n) c.in_ok-game.ensures.shelf.kept.held c.states.ensures
+    (text_read c.in_ok-labels.ensures.says) in
     let steady = c.in_ok-labels.ensures.shelf.kept.steady ∙ c.in_ok-game.ensures.shelf.kept.steady in
-    rw (p.1, p.2) (λ is calm. lacks holding asked (owners_end holding asked game tra labels lab None (text_kept (λ n source. owners_said asked.own source n) (c.in_ok-labels.ensures.shelf.kept.held ∙ c.in_ok-game.ensures.shelf.kept.held) c.states-2.ensures (text_missed c.in_err-owners.ensures.says (cc (is)) (steady ∙ calm)))))
+    rw (p.1, p.2) (λ is calm. lacks holding asked
+    (owners_end holding asked game tra labels lab None (text_kept (λ n source. owners_said asked.own source n)
+    (c.in_ok-labels.ensures.shelf.kept.held ∙ c.in_ok-game.ensures.shelf.kept.held) c.states-2.ensures
+    (text_missed c.in_err-owners.ensures.says (cc (is)) (steady ∙ calm)))))
 
 pub returns-in_err-owners-clause-shelf : goal.returns-in_err-owners-clause-shelf
 returns-in_err-owners-clause-shelf g c =
     let p = err_from_is_err_and c.from_residual-in_err-owners.result c.from_residual-in_err-owners.ensures.1 in
-    rw (p.1, p.2) (both_leave c.in_ok-game.ensures.shelf (both_leave c.in_ok-labels.ensures.shelf (end_leaves _ c.in_err-owners.ensures.shelf)))
+    rw (p.1, p.2) (both_leave c.in_ok-game.ensures.shelf
+    (both_leave c.in_ok-labels.ensures.shelf (end_leaves _ c.in_err-owners.ensures.shelf)))
 
 pub returns-in_err-formula-clause-refused : goal.returns-in_err-formula-clause-refused
 returns-in_err-formula-clause-refused g c =
@@ -65,16 +77,20 @@ returns-in_err-formula-clause-refused g c =
     let game = c.in_ok-game.game in
     let tra = text_read c.in_ok-game.ensures.says in
     let labels = c.in_ok-labels.labels in
-    let lab = text_kept (λ n source. labels_said source n) c.in_ok-game.ensures.shelf.kept.held c.states.ensures (text_read c.in_ok-labels.ensures.says) in
+    let lab = text_kept (λ n source. labels_said source n) c.in_ok-game.ensures.shelf.kept.held c.states.ensures
+    (text_read c.in_ok-labels.ensures.says) in
     let owners = c.in_ok-owners.owners in
-    let own = text_kept (λ n source. owners_said asked.own source n) (c.in_ok-labels.ensures.shelf.kept.held ∙ c.in_ok-game.ensures.shelf.kept.held) c.states-2.ensures (text_read c.in_ok-owners.ensures.says) in
-    rw (p.1, p.2) (λ refusal is. formula_ends holding asked game tra labels lab owners own (Some refusal) (formula_refused asked.formula c.in_err-formula.ensures.says (cc (is))))
+    let own = text_kept (λ n source. owners_said asked.own source n) (c.in_ok-labels.ensures.shelf.kept.held
+    ∙ c.in_ok-game.ensures.shelf.kept.held) c.states-2.ensures (text_read c.in_ok-owners.ensures.says) in
+    rw (p.1, p.2) (λ refusal is. formula_ends holding asked game tra labels lab owners own (Some refusal)
+    (formula_refused asked.formula c.in_err-formula.ensures.says (cc (is))))
 
 pub returns-in_err-formula-clause-shelf : goal.returns-in_err-formula-clause-shelf
 returns-in_err-formula-clause-shelf g c =
     let p = err_from_is_err_and c.from_residual-in_err-formula.result c.from_residual-in_err-formula.ensures.1 in
     rw (p.1, p.2) (both_leave c.in_ok-game.ensures.shelf (both_leave c.in_ok-labels.ensures.shelf
-    (answer_leaves _ c.in_ok-owners.owners (λ fails. c.in_err-formula.ensures.read (other_end _ _ fails)) (λ long. c.in_err-formula.ensures.short (long.0, other_end _ _ long.1)) c.in_ok-owners.ensures.shelf)))
+    (answer_leaves _ c.in_ok-owners.owners (λ fails. c.in_err-formula.ensures.read (other_end _ _ fails))
+    (λ long. c.in_err-formula.ensures.short (long.0, other_end _ _ long.1)) c.in_ok-owners.ensures.shelf)))
 
 pub returns-clause-reads : goal.returns-clause-reads
 returns-clause-reads g c =
@@ -83,12 +99,16 @@ returns-clause-reads g c =
     let game = c.in_ok-game.game in
     let tra = text_read c.in_ok-game.ensures.says in
     let labels = c.in_ok-labels.labels in
-    let lab = text_kept (λ n source. labels_said source n) c.in_ok-game.ensures.shelf.kept.held c.states.ensures (text_read c.in_ok-labels.ensures.says) in
+    let lab = text_kept (λ n source. labels_said source n) c.in_ok-game.ensures.shelf.kept.held c.states.ensures
+    (text_read c.in_ok-labels.ensures.says) in
     let owners = c.in_ok-owners.owners in
-    let own = text_kept (λ n source. owners_said asked.own source n) (c.in_ok-labels.ensures.shelf.kept.held ∙ c.in_ok-game.ensures.shelf.kept.held) c.states-2.ensures (text_read c.in_ok-owners.ensures.says) in
-    let read = all_read holding asked game tra labels lab owners own (tree_of c.in_ok-formula.formula) c.in_ok-formula.ensures.says in
+    let own = text_kept (λ n source. owners_said asked.own source n) (c.in_ok-labels.ensures.shelf.kept.held
+    ∙ c.in_ok-game.ensures.shelf.kept.held) c.states-2.ensures (text_read c.in_ok-owners.ensures.says) in
+    let read = all_read holding asked game tra labels lab owners own
+    (tree_of c.in_ok-formula.formula) c.in_ok-formula.ensures.says in
     reads holding asked _ read c.in_ok-formula.ensures.spelled
 
 pub returns-clause-shelf : goal.returns-clause-shelf
 returns-clause-shelf g c =
-    both_leave c.in_ok-game.ensures.shelf (both_leave c.in_ok-labels.ensures.shelf (answer_leaves _ c.in_ok-owners.owners (λ fails. cc (fails)) (λ long. cc (long.1)) c.in_ok-owners.ensures.shelf))
+    both_leave c.in_ok-game.ensures.shelf (both_leave c.in_ok-labels.ensures.shelf
+    (answer_leaves _ c.in_ok-owners.owners (λ fails. cc (fails)) (λ long. cc (long.1)) c.in_ok-owners.ensures.shelf))

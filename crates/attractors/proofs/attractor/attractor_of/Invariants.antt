@@ -7,7 +7,9 @@ use Rattle.attractors.proofs.attractor.attractor_of.Given as goal
 abbrev pub invariant-loop-place : goal.invariant-loop-place
 invariant-loop-place g l = record {
   within : l.place ≤ length l.growth.order.items;
-  grown : IsGrowth l.question (g.S.Bars.barred l.bars l.question) (moves_into l.predecessors (take l.place l.growth.order.items)) l.growth.members.items l.growth.awaited.items l.growth.order.items;
+  grown : IsGrowth l.question (g.S.Bars.barred l.bars l.question)
+      (moves_into l.predecessors (take l.place l.growth.order.items)) l.growth.members.items l.growth.awaited.items
+      l.growth.order.items;
 }
 
 abbrev pub decreases-loop-place : goal.decreases-loop-place

@@ -14,5 +14,7 @@ step_chunks-returns g t c =
     let cut : m ≡ chunks * size = search rules in
     let whole : m + n ≡ length c.args.next.now = search rules in
     let fronts : length new.front ≡ m = search rules in
-    IsStepped-both c.args.tables.question.now c.args.tables.table.now (worker * size) ((worker + chunks) * size) m n (length c.args.next.now)
-    new.front new.back c.step_halves-first.result.0 c.step_halves-first.result.1 fronts (omega arith) whole halves.front halves.back
+    IsStepped-both c.args.tables.question.now c.args.tables.table.now (worker * size) ((worker + chunks) * size) m n
+    (length c.args.next.now)
+    new.front new.back c.step_halves-first.result.0 c.step_halves-first.result.1 fronts
+    (omega arith) whole halves.front halves.back

@@ -26,7 +26,8 @@ pub returns-then-not-step-clause-sweep : goal.returns-then-not-step-clause-sweep
 returns-then-not-step-clause-sweep g c =
     let more = c.loop-done-test.true in
     let q = c.args.question.now in
-    let stepped = subst (λ (t : List Bounds). IsStepped q t 0 (states q) c.step.new.next c.step.result) c.deref.ensures.value c.step.ensures in
+    let stepped = subst (λ (t : List Bounds). IsStepped q t 0 (states q) c.step.new.next c.step.result)
+    c.deref.ensures.value c.step.ensures in
     IsSweep-rests q (slice_index (lowers c.args.table.items)) c.loop-done._done c.args.steps c.loop-done.table.items
     c.step.new.next c.step.result c.known.ensures (omega arith) c.loop-done.invariant.sweep stepped c.if-not-step.true
 
@@ -36,10 +37,13 @@ loop-done-preserved g c =
     let h = c.loop-done.invariant in
     let next : List Bounds = c.step.new.next in
     let many : length next ≡ states q = omega (arith, c.step.auto.next, c.deref_mut.ensures.value, h.next) in
-    let stepped = subst (λ (t : List Bounds). IsStepped q t 0 (states q) next c.step.result) c.deref.ensures.value c.step.ensures in
-    let back = take_at next (drop (length next) c.loop-done.next.items) c.loop-done.next.len (omega (arith, many, h.next, c.loop-done.next.ok)) in
+    let stepped =
+    subst (λ (t : List Bounds). IsStepped q t 0 (states q) next c.step.result) c.deref.ensures.value c.step.ensures in
+    let back = take_at next (drop (length next) c.loop-done.next.items) c.loop-done.next.len
+    (omega (arith, many, h.next, c.loop-done.next.ok)) in
     rw (c.swap.ensures.x_after, c.swap.ensures.y_after, back) record {
-      sweep = IsSweep-next q (slice_index (lowers c.args.table.items)) c.loop-done._done c.loop-done.table.items next c.step.result c.known.ensures h.sweep many stepped;
+      sweep = IsSweep-next q (slice_index (lowers c.args.table.items)) c.loop-done._done c.loop-done.table.items next
+          c.step.result c.known.ensures h.sweep many stepped;
       table = IsBoundsTable-step q c.loop-done.table.items next c.step.result many stepped;
       next = h.table.many;
       used = c.busy_workers-used.ensures.some;

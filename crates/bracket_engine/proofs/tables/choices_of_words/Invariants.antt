@@ -6,5 +6,6 @@ use Rattle.bracket_engine.proofs.tables.choices_of_words.Given as goal
 abbrev pub invariant-loop-state : goal.invariant-loop-state
 invariant-loop-state l = record {
   as_many : length l.choices.items ≡ l.state;
-  each : (s : ℕ) → s < l.state → slice_index_or l.choices.items s None ≡ choice_of_word l.question s (slice_index l.words s);
+  each : (s : ℕ) → s < l.state
+      → slice_index_or l.choices.items s None ≡ choice_of_word l.question s (slice_index l.words s);
 }

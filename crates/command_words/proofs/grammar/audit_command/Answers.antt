@@ -8,4 +8,5 @@ pub returns : goal.returns
 returns c =
     let asked : app_of c.in_ok-asked_command.field-0 ≡ asked_app (codes "audit") = search rules in
     let certificate : rule_of c.positional.result ≡ positional (codes "certificate") = search rules in
-    IfOk-weaker c.arg.result _ _ (λ r h. h.shape c.positional.ensures.local ∙ ap₂ with_rule asked certificate) c.arg.ensures
+    IfOk-weaker c.arg.result _ _
+    (λ r h. h.shape c.positional.ensures.local ∙ ap₂ with_rule asked certificate) c.arg.ensures

@@ -6,4 +6,5 @@ use Rattle.command_words.proofs.words.read_audit.Goals as goal
 pub returns-in-Some : goal.returns-in-Some
 returns-in-Some c =
     let found = rw c.in-Some.is at c.in_ok-matches.ensures in
-    audit_denoted c.in_ok-audit_command.field-0 c.in-Some.matches (map string_bytes c.args.words.now) c.audit_words.result c.in_ok-audit_command.ensures found c.audit_words.ensures
+    audit_denoted c.in_ok-audit_command.field-0 c.in-Some.matches
+    (map string_bytes c.args.words.now) c.audit_words.result c.in_ok-audit_command.ensures found c.audit_words.ensures

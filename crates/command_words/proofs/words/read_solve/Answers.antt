@@ -6,4 +6,5 @@ use Rattle.command_words.proofs.words.read_solve.Goals as goal
 pub returns-in-Some : goal.returns-in-Some
 returns-in-Some c =
     let found = rw c.in-Some.is at c.in_ok-matches.ensures in
-    solve_denoted c.in_ok-solve_command.field-0 c.in-Some.matches (map string_bytes c.args.words.now) c.solve_words.result c.in_ok-solve_command.ensures found c.solve_words.ensures
+    solve_denoted c.in_ok-solve_command.field-0 c.in-Some.matches
+    (map string_bytes c.args.words.now) c.solve_words.result c.in_ok-solve_command.ensures found c.solve_words.ensures

@@ -6,4 +6,5 @@ use Rattle.command_words.proofs.words.read_sure.Goals as goal
 pub returns-in-Some : goal.returns-in-Some
 returns-in-Some c =
     let found = rw c.in-Some.is at c.in_ok-matches.ensures in
-    sure_denoted c.in_ok-sure_command.field-0 c.in-Some.matches (map string_bytes c.args.words.now) c.asked_words.result c.in_ok-sure_command.ensures found c.asked_words.ensures
+    sure_denoted c.in_ok-sure_command.field-0 c.in-Some.matches
+    (map string_bytes c.args.words.now) c.asked_words.result c.in_ok-sure_command.ensures found c.asked_words.ensures

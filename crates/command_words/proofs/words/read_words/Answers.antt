@@ -8,5 +8,8 @@ use Rattle.command_words.proofs.words.read_words.Goals as goal
 
 pub returns-in-len1-up : goal.returns-in-len1-up
 returns-in-len1-up c =
-    let whole = first_and_rest string_bytes c.args.words.now c.name-item.result c.as_str.result.now c.in-len1-up.len_at_least c.name-item.is c.as_str.ensures.value in
-    subst (λ (words : List Text). IfOk c.read_command.result (λ read. MatchOption read (AreNoCommand words) (λ command. AreCommand words (command_of command)))) whole c.read_command.ensures
+    let whole = first_and_rest string_bytes c.args.words.now c.name-item.result c.as_str.result.now
+    c.in-len1-up.len_at_least c.name-item.is c.as_str.ensures.value in
+    subst (λ (words : List Text). IfOk c.read_command.result
+    (λ read. MatchOption read (AreNoCommand words) (λ command. AreCommand words (command_of command)))) whole
+    c.read_command.ensures

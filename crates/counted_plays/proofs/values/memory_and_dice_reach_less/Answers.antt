@@ -13,8 +13,8 @@ abbrev turn : ℕ → ℕ → ℕ → Turn
 turn s throw choice = record { state = s; throw = throw; choice = choice }
 
 -- after the first turn at most the values
-later : (k : ℕ) (last : Turn) (past : List Turn)
-    → (3 * reached k (last ∷ past) 0 ≤ 2 * 8 ^ k) × (3 * reached k (last ∷ past) 1 ≤ 8 ^ k) × (reached k (last ∷ past) 2 ≡ 8 ^ k) × (reached k (last ∷ past) 3 ≡ 0)
+later : (k : ℕ) (last : Turn) (past : List Turn) → (3 * reached k (last ∷ past) 0 ≤ 2 * 8 ^ k)
+    × (3 * reached k (last ∷ past) 1 ≤ 8 ^ k) × (reached k (last ∷ past) 2 ≡ 8 ^ k) × (reached k (last ∷ past) 3 ≡ 0)
 unfolding reach
 later zero last past = (omega arith, omega arith, refl, refl)
 later (suc k) last past = (

@@ -44,8 +44,10 @@ returns c = record {
   near = λ m some. (m, near unit m);
   reached = reached;
   value = λ v.
-      let least : 1 * v.top ≤ 1 * v.value 0 = (c.values_decide_thresholds.ensures.reached lingering v 1 1 0 posed_lingering (omega arith)).0 reached in
+      let least : 1 * v.top ≤ 1 * v.value 0 =
+      (c.values_decide_thresholds.ensures.reached lingering v 1 1 0 posed_lingering (omega arith)).0 reached in
       let none : Exceeds lingering 1 1 0 → ⊥ = λ at. omega (arith, at.1, less at.0) in
-      let most : 1 * v.top < 1 * v.value 0 → ⊥ = λ more. none ((c.values_decide_thresholds.ensures.exceeded lingering v 1 1 0 posed_lingering (omega arith)).1 more) in
+      let most : 1 * v.top < 1 * v.value 0 → ⊥ = λ more.
+      none ((c.values_decide_thresholds.ensures.exceeded lingering v 1 1 0 posed_lingering (omega arith)).1 more) in
       omega (arith, least, most);
 }

@@ -17,8 +17,17 @@ won-next greatest least first = rw first refl
 
 pub returns-clause-sure : goal.returns-clause-sure
 returns-clause-sure c = λ parts best.
-    let first : (side : Side) → IsStrategyOf coin_loop side first_choice = λ side past s throw inside is. posed_coin.game.chosen s inside in
+    let first : (side : Side) → IsStrategyOf coin_loop side first_choice =
+    λ side past s throw inside is. posed_coin.game.chosen s inside in
     let taken : best.greatest [] 0 0 < 1 = best.is_greatest [] 0 0 (omega arith) refl in
-    let most : 1 * parts 0 ≤ ways_next coin_loop (only 1) 1 best.greatest first_choice 0 = best.assured 1 0 first_choice (first Min) (omega arith) in
-    let least : ways_next coin_loop (only 1) 1 first_choice best.least 0 ≤ 1 * parts 0 = best.held 1 0 first_choice (first Max) (omega arith) in
-    omega (arith, most, least, won-next best.greatest first_choice (omega (arith, taken)), won-next first_choice best.least refl)
+    let most : 1 * parts 0 ≤ ways_next coin_loop (only 1) 1 best.greatest first_choice 0 =
+    best.assured 1 0 first_choice (first Min) (omega arith) in
+    let least : ways_next coin_loop (only 1) 1 first_choice best.least 0 ≤ 1 * parts 0 =
+    best.held 1 0 first_choice (first Max) (omega arith) in
+    omega (
+      arith,
+      most,
+      least,
+      won-next best.greatest first_choice (omega (arith, taken)),
+      won-next first_choice best.least refl,
+    )

@@ -40,22 +40,30 @@ returns-then-is_gathered-2-clause-weighty c =
 
 pub returns-clause-value : goal.returns-clause-value
 returns-clause-value c =
-    let merged : c.in_ok-merged.merged.items ≡ merged_from no_edge c.put_in_order.new.edges.items = c.in_ok-merged.ensures ∙ ap (λ es. merged_from no_edge es) c.deref-3.ensures.value in
-    merged ∙ sym (merged-gathered c.args.edges.now.items c.put_in_order.new.edges.items c.in_ok-put_in_order.ensures.standing c.in_ok-put_in_order.ensures.weights)
+    let merged : c.in_ok-merged.merged.items ≡ merged_from no_edge c.put_in_order.new.edges.items =
+    c.in_ok-merged.ensures ∙ ap (λ es. merged_from no_edge es) c.deref-3.ensures.value in
+    merged ∙ sym (merged-gathered c.args.edges.now.items c.put_in_order.new.edges.items
+    c.in_ok-put_in_order.ensures.standing c.in_ok-put_in_order.ensures.weights)
 
 pub returns-clause-total : goal.returns-clause-total
 returns-clause-total c =
-    let merged : c.in_ok-merged.merged.items ≡ merged_from no_edge c.put_in_order.new.edges.items = c.in_ok-merged.ensures ∙ ap (λ es. merged_from no_edge es) c.deref-3.ensures.value in
-    ap (λ es. total_of es) merged ∙ merged-total no_edge c.put_in_order.new.edges.items ∙ zero-add (total_of c.put_in_order.new.edges.items) ∙ c.in_ok-put_in_order.ensures.total
+    let merged : c.in_ok-merged.merged.items ≡ merged_from no_edge c.put_in_order.new.edges.items =
+    c.in_ok-merged.ensures ∙ ap (λ es. merged_from no_edge es) c.deref-3.ensures.value in
+    ap (λ es. total_of es) merged ∙ merged-total no_edge c.put_in_order.new.edges.items
+    ∙ zero-add (total_of c.put_in_order.new.edges.items) ∙ c.in_ok-put_in_order.ensures.total
 
 pub returns-clause-rising : goal.returns-clause-rising
 returns-clause-rising c =
-    let merged : c.in_ok-merged.merged.items ≡ merged_from no_edge c.put_in_order.new.edges.items = c.in_ok-merged.ensures ∙ ap (λ es. merged_from no_edge es) c.deref-3.ensures.value in
+    let merged : c.in_ok-merged.merged.items ≡ merged_from no_edge c.put_in_order.new.edges.items =
+    c.in_ok-merged.ensures ∙ ap (λ es. merged_from no_edge es) c.deref-3.ensures.value in
     let P : List Edge → Type 0 = λ es. IsRising es in
-    subst P (sym merged) (IsRising-from 0 (merged_from no_edge c.put_in_order.new.edges.items) (merged-rises 0 no_edge c.put_in_order.new.edges.items (omega arith) c.in_ok-put_in_order.ensures.standing))
+    subst P (sym merged) (IsRising-from 0 (merged_from no_edge c.put_in_order.new.edges.items)
+    (merged-rises 0 no_edge c.put_in_order.new.edges.items (omega arith) c.in_ok-put_in_order.ensures.standing))
 
 pub returns-clause-weighty : goal.returns-clause-weighty
 returns-clause-weighty c =
-    let merged : c.in_ok-merged.merged.items ≡ merged_from no_edge c.put_in_order.new.edges.items = c.in_ok-merged.ensures ∙ ap (λ es. merged_from no_edge es) c.deref-3.ensures.value in
+    let merged : c.in_ok-merged.merged.items ≡ merged_from no_edge c.put_in_order.new.edges.items =
+    c.in_ok-merged.ensures ∙ ap (λ es. merged_from no_edge es) c.deref-3.ensures.value in
     let P : List Edge → Type 0 = λ es. All (λ e. 1 ≤ e.weight) es in
-    subst P (sym merged) (weighty-from 0 (merged_from no_edge c.put_in_order.new.edges.items) (merged-rises 0 no_edge c.put_in_order.new.edges.items (omega arith) c.in_ok-put_in_order.ensures.standing))
+    subst P (sym merged) (weighty-from 0 (merged_from no_edge c.put_in_order.new.edges.items)
+    (merged-rises 0 no_edge c.put_in_order.new.edges.items (omega arith) c.in_ok-put_in_order.ensures.standing))

@@ -8,7 +8,9 @@ use Rattle.distributions.proofs.Factors.{pow_divides}
 use Rattle.distributions.proofs.lowest.over_tens.Goals as goal
 
 pub new-requires : goal.new-requires
-new-requires c = let P : ℕ → Type 0 = λ n. n ∣ 10 ^ 19 in subst P (sym c.pow.ensures) (pow_divides 10 c.args.tens 19 (omega arith))
+new-requires c =
+    let P : ℕ → Type 0 = λ n. n ∣ 10 ^ 19 in
+    subst P (sym c.pow.ensures) (pow_divides 10 c.args.tens 19 (omega arith))
 
 pub returns-then-tens-le-NARROW_PLACES : goal.returns-then-tens-le-NARROW_PLACES
 returns-then-tens-le-NARROW_PLACES c =

@@ -6,5 +6,6 @@ use Rattle.drawn_game.proofs.choices.add_part.Given as goal
 abbrev pub invariant-loop-place : goal.invariant-loop-place
 invariant-loop-place l = record {
   same : l.edges.items ≡ l.fn.edges.items;
-  behind : with_part l.fn.edges.items l.part ≡ take l.place l.fn.edges.items ++ with_part (drop l.place l.fn.edges.items) l.part;
+  behind : with_part l.fn.edges.items l.part
+      ≡ take l.place l.fn.edges.items ++ with_part (drop l.place l.fn.edges.items) l.part;
 }

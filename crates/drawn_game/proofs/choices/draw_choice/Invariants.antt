@@ -8,5 +8,6 @@ use Rattle.drawn_game.proofs.choices.draw_choice.Given as goal
 abbrev pub invariant-loop-part : goal.invariant-loop-part
 invariant-loop-part l = record {
   last : l.draws ≡ (times l._part (other_part l.states) l.initial.draws).last;
-  parts : AreOfParts l.states (l.initial.edges.items ++ (times l._part (other_part l.states) l.initial.draws).value) (l._part + 1) l.edges.items;
+  parts : AreOfParts l.states (l.initial.edges.items ++ (times l._part (other_part l.states) l.initial.draws).value)
+      (l._part + 1) l.edges.items;
 }

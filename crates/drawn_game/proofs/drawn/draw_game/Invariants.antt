@@ -7,6 +7,7 @@ use Rattle.drawn_game.proofs.drawn.draw_game.Given as goal
 abbrev pub invariant-loop-state : goal.invariant-loop-state
 invariant-loop-state l = record {
   last : l.draws ≡ (times l._state (drawn_state l.states) l.seed).last;
-  built : l.builder ≡ record { done = map (λ s. s.choices) (times l._state (drawn_state l.states) l.seed).value; under_way = [] };
+  built : l.builder
+      ≡ record { done = map (λ s. s.choices) (times l._state (drawn_state l.states) l.seed).value; under_way = [] };
   sides : l.sides.items ≡ map (λ s. s.side) (times l._state (drawn_state l.states) l.seed).value;
 }

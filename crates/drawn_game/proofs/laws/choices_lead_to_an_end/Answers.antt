@@ -7,4 +7,5 @@ use Rattle.drawn_game.proofs.laws.choices_lead_to_an_end.Goals as goal
 
 pub returns : goal.returns
 unfolding drawn_game
-returns c = λ seed n s k enough inside some. game-ends n seed enough s [] (omega (arith, (drawn-choices n seed enough).many)) k no_distribution some
+returns c = λ seed n s k enough inside some.
+    game-ends n seed enough s [] (omega (arith, (drawn-choices n seed enough).many)) k no_distribution some

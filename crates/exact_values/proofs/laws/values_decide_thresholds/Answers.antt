@@ -2,7 +2,9 @@ use Rattle.exact_values.proofs.Bracketing.{reached-from, reached-to, exceeded-fr
 use Rattle.exact_values.proofs.laws.values_decide_thresholds.Goals as goal
 
 pub returns-clause-reached : goal.returns-clause-reached
-returns-clause-reached c = λ q v a b s posed inside. (reached-to q posed v a b s inside, reached-from q posed v a b s inside)
+returns-clause-reached c =
+    λ q v a b s posed inside. (reached-to q posed v a b s inside, reached-from q posed v a b s inside)
 
 pub returns-clause-exceeded : goal.returns-clause-exceeded
-returns-clause-exceeded c = λ q v a b s posed inside. (exceeded-to q posed v a b s inside, exceeded-from q posed v a b s inside)
+returns-clause-exceeded c =
+    λ q v a b s posed inside. (exceeded-to q posed v a b s inside, exceeded-from q posed v a b s inside)

@@ -11,7 +11,9 @@ quotient-given-requires-clause-fits g c =
     let laws = g.met.V.Values in
     let values = c.args.values.now in
     let middle = c.loop-choice.pass in
-    row-fits c.args.question.now c.args.state c.loop-choice.choice c.row-row.result (g.V.Values.fits values middle) c.known.ensures c.requires.state c.row-row.ensures (omega (arith, c.choices-choice-end.ensures, c.loop-choice-test.true))
+    row-fits c.args.question.now c.args.state c.loop-choice.choice c.row-row.result
+    (g.V.Values.fits values middle) c.known.ensures c.requires.state c.row-row.ensures
+    (omega (arith, c.choices-choice-end.ensures, c.loop-choice-test.true))
     (λ t inside. laws.carried values c.args.pass.now middle t c.loop-choice.invariant.onward (c.requires.fits t inside))
 
 pub loop-choice-preserved : goal.loop-choice-preserved
@@ -29,8 +31,11 @@ loop-choice-preserved g c =
     let r = c.quotient-given.result in
     let h = c.loop-choice.invariant in
     let e = c.quotient-given.ensures in
-    let between : IsBetween r (seen middle) (seen end) (choice_of q.game s i) = subst (λ (ms : List Distribution). IsBetween r (seen middle) (seen end) (choice_among ms i)) c.row-row.ensures e.between in
-    let chosen : i < length (choices_of q.game s) = at-choice _ _ _ i c.row-row.ensures c.choices-choice-end.ensures c.loop-choice-test.true in
+    let between : IsBetween r (seen middle) (seen end) (choice_of q.game s i) =
+    subst (λ (ms : List Distribution). IsBetween r (seen middle) (seen end) (choice_among ms i))
+    c.row-row.ensures e.between in
+    let chosen : i < length (choices_of q.game s) =
+    at-choice _ _ _ i c.row-row.ensures c.choices-choice-end.ensures c.loop-choice-test.true in
     let earlier = laws.rises values start middle h.onward in
     let later = laws.rises values middle end e.onward in
     elim c.if-down_above.branch [
@@ -43,8 +48,10 @@ loop-choice-preserved g c =
             floored = omega (arith, h.floored);
             none = λ same. absurd (omega (arith, h.floored, same));
             inside = chosen;
-            low = low-gains q s i r (seen start) (seen middle) (seen end) c.known.ensures c.requires.state chosen between earlier later best w.down-best.result h.low (omega arith) (omega arith);
-            given = λ _. rw is (value-new q s i r (seen start) (seen middle) (seen end) c.known.ensures c.requires.state chosen between earlier later);
+            low = low-gains q s i r (seen start) (seen middle) (seen end) c.known.ensures c.requires.state chosen
+                between earlier later best w.down-best.result h.low (omega arith) (omega arith);
+            given = λ _. rw is (value-new q s i r (seen start) (seen middle)
+                (seen end) c.known.ensures c.requires.state chosen between earlier later);
             first = λ d below. omega (arith, h.low d below);
           })
       | else-down_above w ↦
@@ -55,8 +62,10 @@ loop-choice-preserved g c =
             floored = h.floored;
             none = h.none;
             inside = h.inside;
-            low = low-gains q s i r (seen start) (seen middle) (seen end) c.known.ensures c.requires.state chosen between earlier later best best h.low (omega arith) stays;
-            given = λ above. given-later q s i r (seen start) (seen middle) (seen end) c.known.ensures c.requires.state chosen between earlier later c.loop-choice.first best h.inside (h.given above);
+            low = low-gains q s i r (seen start) (seen middle) (seen end) c.known.ensures c.requires.state chosen
+                between earlier later best best h.low (omega arith) stays;
+            given = λ above. given-later q s i r (seen start) (seen middle) (seen end) c.known.ensures c.requires.state
+                chosen between earlier later c.loop-choice.first best h.inside (h.given above);
             first = h.first;
           })
     ]

@@ -18,7 +18,13 @@ loop-choice-init g c =
       onward = laws.still values start;
       floor = c.requires.floor;
       units = omega arith;
-      low = (0, some, down_value-units q.game (seen start) (choice_of q.game s 0) (choice_fits q s 0 c.known.ensures c.requires.state some) (λ t inside. laws.units values start t (c.requires.fits t inside)));
+      low = (
+        0,
+        some,
+        down_value-units q.game (seen start) (choice_of q.game s 0)
+            (choice_fits q s 0 c.known.ensures c.requires.state some)
+            (λ t inside. laws.units values start t (c.requires.fits t inside)),
+      );
       given = λ d none. absurd (omega arith);
     }
 
@@ -36,17 +42,31 @@ returns-then-not-down_above-clause-low g c =
     let r = c.quotient-given.result in
     let h = c.loop-choice.invariant in
     let e = c.quotient-given.ensures in
-    let between : IsBetween r (seen middle) (seen end) (choice_of q.game s i) = subst (λ (ms : List Distribution). IsBetween r (seen middle) (seen end) (choice_among ms i)) c.row-row.ensures e.between in
-    let chosen : i < length (choices_of q.game s) = at-choice _ _ _ i c.row-row.ensures c.choices-choice-end.ensures c.loop-choice-test.true in
-    let stays : rounded_down r ≤ c.args.floor = not-less c.args.floor (rounded_down r) c.if-not-down_above.ensures.1 in
-    (i, chosen, omega (arith, stays, value-old q s i r (seen start) (seen middle) (seen end) c.known.ensures c.requires.state chosen between (laws.rises values start middle h.onward) (laws.rises values middle end e.onward)))
+    let between : IsBetween r (seen middle) (seen end) (choice_of q.game s i) =
+    subst (λ (ms : List Distribution). IsBetween r (seen middle) (seen end) (choice_among ms i))
+    c.row-row.ensures e.between in
+    let chosen : i < length (choices_of q.game s) =
+    at-choice _ _ _ i c.row-row.ensures c.choices-choice-end.ensures c.loop-choice-test.true in
+    let stays : rounded_down r ≤ c.args.floor =
+    not-less c.args.floor (rounded_down r) c.if-not-down_above.ensures.1 in (
+      i,
+      chosen,
+      omega (
+        arith,
+        stays,
+        value-old q s i r (seen start) (seen middle) (seen end) c.known.ensures c.requires.state chosen between
+            (laws.rises values start middle h.onward) (laws.rises values middle end e.onward),
+      ),
+    )
 
 pub quotient-given-requires-clause-fits : goal.quotient-given-requires-clause-fits
 quotient-given-requires-clause-fits g c =
     let laws = g.met.V.Values in
     let values = c.args.values.now in
     let middle = c.loop-choice.pass in
-    row-fits c.args.question.now c.args.state c.loop-choice.choice c.row-row.result (g.V.Values.fits values middle) c.known.ensures c.requires.state c.row-row.ensures (omega (arith, c.choices-choice-end.ensures, c.loop-choice-test.true))
+    row-fits c.args.question.now c.args.state c.loop-choice.choice c.row-row.result
+    (g.V.Values.fits values middle) c.known.ensures c.requires.state c.row-row.ensures
+    (omega (arith, c.choices-choice-end.ensures, c.loop-choice-test.true))
     (λ t inside. laws.carried values c.args.pass.now middle t c.loop-choice.invariant.onward (c.requires.fits t inside))
 
 pub loop-choice-preserved : goal.loop-choice-preserved
@@ -64,8 +84,11 @@ loop-choice-preserved g c =
     let r = c.quotient-given.result in
     let h = c.loop-choice.invariant in
     let e = c.quotient-given.ensures in
-    let between : IsBetween r (seen middle) (seen end) (choice_of q.game s i) = subst (λ (ms : List Distribution). IsBetween r (seen middle) (seen end) (choice_among ms i)) c.row-row.ensures e.between in
-    let chosen : i < length (choices_of q.game s) = at-choice _ _ _ i c.row-row.ensures c.choices-choice-end.ensures c.loop-choice-test.true in
+    let between : IsBetween r (seen middle) (seen end) (choice_of q.game s i) =
+    subst (λ (ms : List Distribution). IsBetween r (seen middle) (seen end) (choice_among ms i))
+    c.row-row.ensures e.between in
+    let chosen : i < length (choices_of q.game s) =
+    at-choice _ _ _ i c.row-row.ensures c.choices-choice-end.ensures c.loop-choice-test.true in
     let earlier = laws.rises values start middle h.onward in
     let later = laws.rises values middle end e.onward in
     let above : c.args.floor < rounded_down r = c.if-not-down_above.ensures.0 refl in
@@ -77,8 +100,18 @@ loop-choice-preserved g c =
             onward = laws.further values start middle end h.onward e.onward;
             floor = omega arith;
             units = w.down-best.ensures.units;
-            low = (i, chosen, omega (arith, is, value-old q s i r (seen start) (seen middle) (seen end) c.known.ensures c.requires.state chosen between earlier later));
-            given = high-gains q s i r (seen start) (seen middle) (seen end) c.known.ensures c.requires.state chosen between earlier later best w.down-best.result h.given (omega arith) (omega arith);
+            low = (
+              i,
+              chosen,
+              omega (
+                arith,
+                is,
+                value-old q s i r (seen start) (seen middle)
+                    (seen end) c.known.ensures c.requires.state chosen between earlier later,
+              ),
+            );
+            given = high-gains q s i r (seen start) (seen middle) (seen end) c.known.ensures c.requires.state chosen
+                between earlier later best w.down-best.result h.given (omega arith) (omega arith);
           })
       | else-down_below w ↦
           let keep : best ≤ rounded_down r = not-less (rounded_down r) best w.if-down_below.ensures.1 in
@@ -87,6 +120,7 @@ loop-choice-preserved g c =
             floor = h.floor;
             units = h.units;
             low = h.low;
-            given = high-gains q s i r (seen start) (seen middle) (seen end) c.known.ensures c.requires.state chosen between earlier later best best h.given (omega arith) keep;
+            given = high-gains q s i r (seen start) (seen middle) (seen end) c.known.ensures c.requires.state chosen
+                between earlier later best best h.given (omega arith) keep;
           })
     ]

@@ -11,6 +11,7 @@ invariant-loop-choice g l =
       onward : g.V.Values.onward l.values l.fn.pass l.pass;
       floor : l.floor ≤ l.best;
       units : l.best ≤ unit;
-      low : (c : ℕ) × (c < length (choices_of game l.state)) × (down_value (seen l.fn.pass) (choice_of game l.state c) ≤ l.best);
+      low : (c : ℕ) × (c < length (choices_of game l.state))
+          × (down_value (seen l.fn.pass) (choice_of game l.state c) ≤ l.best);
       given : (c : ℕ) → c < l.choice → l.best ≤ down_value (seen l.pass) (choice_of game l.state c);
     }

@@ -10,7 +10,8 @@ returns-in-Max-clause-step g c =
       units = e.units;
       floored = e.floored;
       none = e.none;
-      low = greatest-step c.args.question.now seen c.args.state c.greatest_above.result.0 c.requires.free c.in-Max.ensures e.low;
+      low = greatest-step c.args.question.now seen c.args.state c.greatest_above.result.0 c.requires.free
+          c.in-Max.ensures e.low;
       given = λ above. record {
         greatest = λ _. (e.inside, e.given above);
         least = λ is. absurd (let never : Max ≢ Min = (cc) in never (c.in-Max.ensures ∙ is));
@@ -27,7 +28,8 @@ returns-in-Min-clause-step g c =
       units = e.units;
       floored = e.floored;
       none = λ _. refl;
-      low = least-step c.args.question.now seen c.args.state e.low.0 c.least_above.result c.requires.free c.in-Min.ensures e.low.1 e.low.2;
+      low = least-step c.args.question.now seen c.args.state e.low.0 c.least_above.result c.requires.free
+          c.in-Min.ensures e.low.1 e.low.2;
       given = λ above. record {
         greatest = λ is. absurd (let never : Min ≢ Max = (cc) in never (c.in-Min.ensures ∙ is));
         least = λ _. (refl, e.given above);

@@ -12,8 +12,12 @@ loop-place-preserved c =
     let ws : List ℕ = c.args.weights.now in
     let edges : List Edge = edges_of ts ws in
     let there : i < length edges = omega (arith, length-edges_of ts ws c.requires.many, c.loop-place-test.true) in
-    let most = AreSums-more edges c.args.table.now i c.loop-place.lower c.loop-place.upper (get_or ws i 0) (get_or ts i 0) there (get_or-edges_of ts ws i 0 0 c.requires.many c.loop-place-test.true) (c.requires.inside i 0 c.loop-place-test.true) c.requires.units c.loop-place.invariant in
-    rw (c.from.ensures, c.from-in-loop-place.ensures, c.from-in-loop-place-2.ensures, c.from-in-loop-place-3.ensures) most
+    let most = AreSums-more edges c.args.table.now i c.loop-place.lower c.loop-place.upper (get_or ws i 0)
+    (get_or ts i 0) there (get_or-edges_of ts ws i 0 0 c.requires.many c.loop-place-test.true)
+    (c.requires.inside i 0 c.loop-place-test.true) c.requires.units c.loop-place.invariant in
+    rw (c.from.ensures, c.from-in-loop-place.ensures, c.from-in-loop-place-2.ensures, c.from-in-loop-place-3.ensures)
+    most
 
 pub returns : goal.returns
-returns c = AreSums-all c.args.successors.now c.args.weights.now c.args.table.now c.loop-place.place c.loop-place.lower c.loop-place.upper c.requires.many c.loop-place-test.false c.loop-place.invariant
+returns c = AreSums-all c.args.successors.now c.args.weights.now c.args.table.now c.loop-place.place c.loop-place.lower
+    c.loop-place.upper c.requires.many c.loop-place-test.false c.loop-place.invariant

@@ -12,7 +12,9 @@ overflow_mul-lower c =
     let ws : List ℕ = c.args.weights.now in
     let edges : List Edge = edges_of ts ws in
     let there : i < length edges = omega (arith, length-edges_of ts ws c.requires.many, c.loop-place-test.true) in
-    let most = low-narrow edges c.args.table.now i c.loop-place.lower c.loop-place.upper (get_or ws i 0) (get_or ts i 0) there (get_or-edges_of ts ws i 0 0 c.requires.many c.loop-place-test.true) (c.requires.inside i 0 c.loop-place-test.true) c.requires.units c.loop-place.invariant c.requires.narrow in
+    let most = low-narrow edges c.args.table.now i c.loop-place.lower c.loop-place.upper (get_or ws i 0)
+    (get_or ts i 0) there (get_or-edges_of ts ws i 0 0 c.requires.many c.loop-place-test.true)
+    (c.requires.inside i 0 c.loop-place-test.true) c.requires.units c.loop-place.invariant c.requires.narrow in
     omega (arith, most)
 
 pub overflow_add-lower : goal.overflow_add-lower
@@ -22,7 +24,9 @@ overflow_add-lower c =
     let ws : List ℕ = c.args.weights.now in
     let edges : List Edge = edges_of ts ws in
     let there : i < length edges = omega (arith, length-edges_of ts ws c.requires.many, c.loop-place-test.true) in
-    let most = low-narrow edges c.args.table.now i c.loop-place.lower c.loop-place.upper (get_or ws i 0) (get_or ts i 0) there (get_or-edges_of ts ws i 0 0 c.requires.many c.loop-place-test.true) (c.requires.inside i 0 c.loop-place-test.true) c.requires.units c.loop-place.invariant c.requires.narrow in
+    let most = low-narrow edges c.args.table.now i c.loop-place.lower c.loop-place.upper (get_or ws i 0)
+    (get_or ts i 0) there (get_or-edges_of ts ws i 0 0 c.requires.many c.loop-place-test.true)
+    (c.requires.inside i 0 c.loop-place-test.true) c.requires.units c.loop-place.invariant c.requires.narrow in
     omega (arith, most)
 
 pub overflow_mul-upper : goal.overflow_mul-upper
@@ -32,7 +36,9 @@ overflow_mul-upper c =
     let ws : List ℕ = c.args.weights.now in
     let edges : List Edge = edges_of ts ws in
     let there : i < length edges = omega (arith, length-edges_of ts ws c.requires.many, c.loop-place-test.true) in
-    let most = high-narrow edges c.args.table.now i c.loop-place.lower c.loop-place.upper (get_or ws i 0) (get_or ts i 0) there (get_or-edges_of ts ws i 0 0 c.requires.many c.loop-place-test.true) (c.requires.inside i 0 c.loop-place-test.true) c.requires.units c.loop-place.invariant c.requires.narrow in
+    let most = high-narrow edges c.args.table.now i c.loop-place.lower c.loop-place.upper (get_or ws i 0)
+    (get_or ts i 0) there (get_or-edges_of ts ws i 0 0 c.requires.many c.loop-place-test.true)
+    (c.requires.inside i 0 c.loop-place-test.true) c.requires.units c.loop-place.invariant c.requires.narrow in
     omega (arith, most)
 
 pub overflow_add-upper : goal.overflow_add-upper
@@ -42,7 +48,9 @@ overflow_add-upper c =
     let ws : List ℕ = c.args.weights.now in
     let edges : List Edge = edges_of ts ws in
     let there : i < length edges = omega (arith, length-edges_of ts ws c.requires.many, c.loop-place-test.true) in
-    let most = high-narrow edges c.args.table.now i c.loop-place.lower c.loop-place.upper (get_or ws i 0) (get_or ts i 0) there (get_or-edges_of ts ws i 0 0 c.requires.many c.loop-place-test.true) (c.requires.inside i 0 c.loop-place-test.true) c.requires.units c.loop-place.invariant c.requires.narrow in
+    let most = high-narrow edges c.args.table.now i c.loop-place.lower c.loop-place.upper (get_or ws i 0)
+    (get_or ts i 0) there (get_or-edges_of ts ws i 0 0 c.requires.many c.loop-place-test.true)
+    (c.requires.inside i 0 c.loop-place-test.true) c.requires.units c.loop-place.invariant c.requires.narrow in
     omega (arith, most)
 
 pub loop-place-preserved : goal.loop-place-preserved
@@ -52,8 +60,11 @@ loop-place-preserved c =
     let ws : List ℕ = c.args.weights.now in
     let edges : List Edge = edges_of ts ws in
     let there : i < length edges = omega (arith, length-edges_of ts ws c.requires.many, c.loop-place-test.true) in
-    let most = AreSums-more edges c.args.table.now i c.loop-place.lower c.loop-place.upper (get_or ws i 0) (get_or ts i 0) there (get_or-edges_of ts ws i 0 0 c.requires.many c.loop-place-test.true) (c.requires.inside i 0 c.loop-place-test.true) c.requires.units c.loop-place.invariant in
+    let most = AreSums-more edges c.args.table.now i c.loop-place.lower c.loop-place.upper (get_or ws i 0)
+    (get_or ts i 0) there (get_or-edges_of ts ws i 0 0 c.requires.many c.loop-place-test.true)
+    (c.requires.inside i 0 c.loop-place-test.true) c.requires.units c.loop-place.invariant in
     most
 
 pub returns : goal.returns
-returns c = AreSums-all c.args.successors.now c.args.weights.now c.args.table.now c.loop-place.place c.loop-place.lower c.loop-place.upper c.requires.many c.loop-place-test.false c.loop-place.invariant
+returns c = AreSums-all c.args.successors.now c.args.weights.now c.args.table.now c.loop-place.place c.loop-place.lower
+    c.loop-place.upper c.requires.many c.loop-place-test.false c.loop-place.invariant

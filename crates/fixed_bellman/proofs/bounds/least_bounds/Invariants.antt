@@ -10,7 +10,9 @@ use Rattle.fixed_bellman.proofs.bounds.least_bounds.Given as goal
 
 abbrev pub invariant-loop-choice : goal.invariant-loop-choice
 invariant-loop-choice l = record {
-  lower : l.lower ≡ fold (λ best choice. better Min best (down_value (slice_index (lowers l.table)) choice)) unit (take l.choice (choices_of l.question.game l.state));
-  upper : l.upper ≡ fold (λ best choice. better Min best (up_value (slice_index (uppers l.table)) choice)) unit (take l.choice (choices_of l.question.game l.state));
+  lower : l.lower ≡ fold (λ best choice. better Min best (down_value (slice_index (lowers l.table)) choice)) unit
+      (take l.choice (choices_of l.question.game l.state));
+  upper : l.upper ≡ fold (λ best choice. better Min best (up_value (slice_index (uppers l.table)) choice)) unit
+      (take l.choice (choices_of l.question.game l.state));
   units : AreUnits (record { lower = l.lower; upper = l.upper });
 }

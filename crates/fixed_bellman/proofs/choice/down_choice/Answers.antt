@@ -10,11 +10,15 @@ use Rattle.fixed_bellman.proofs.choice.down_choice.Goals as goal
 pub returns-clause-below : goal.returns-clause-below
 returns-clause-below c =
     let m = choice_of c.args.question.now.game c.args.state c.args.choice in
-    down-below (weighted_sum (slice_index c.args.table.now) m.edges) m.total c.down.result (total-pos m (c.known.ensures.game.distribution c.args.state c.args.choice c.requires.state c.requires.choice))
-    (c.down.ensures.value ∙ c.table_quotient.ensures.down ∙ ap (λ (ms : List Distribution). down_value (slice_index c.args.table.now) (choice_among ms c.args.choice)) c.row.ensures)
+    down-below (weighted_sum (slice_index c.args.table.now) m.edges) m.total c.down.result
+    (total-pos m (c.known.ensures.game.distribution c.args.state c.args.choice c.requires.state c.requires.choice))
+    (c.down.ensures.value ∙ c.table_quotient.ensures.down ∙ ap (λ (ms : List Distribution).
+    down_value (slice_index c.args.table.now) (choice_among ms c.args.choice)) c.row.ensures)
 
 pub returns-clause-greatest : goal.returns-clause-greatest
 returns-clause-greatest c =
     let m = choice_of c.args.question.now.game c.args.state c.args.choice in
-    down-greatest (weighted_sum (slice_index c.args.table.now) m.edges) m.total c.down.result (total-pos m (c.known.ensures.game.distribution c.args.state c.args.choice c.requires.state c.requires.choice))
-    (c.down.ensures.value ∙ c.table_quotient.ensures.down ∙ ap (λ (ms : List Distribution). down_value (slice_index c.args.table.now) (choice_among ms c.args.choice)) c.row.ensures)
+    down-greatest (weighted_sum (slice_index c.args.table.now) m.edges) m.total c.down.result
+    (total-pos m (c.known.ensures.game.distribution c.args.state c.args.choice c.requires.state c.requires.choice))
+    (c.down.ensures.value ∙ c.table_quotient.ensures.down ∙ ap (λ (ms : List Distribution).
+    down_value (slice_index c.args.table.now) (choice_among ms c.args.choice)) c.row.ensures)

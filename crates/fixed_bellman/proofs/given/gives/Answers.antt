@@ -14,12 +14,16 @@ returns c =
     let positive : 0 < m.total = total-pos m (c.known.ensures.distributions c.args.choice c.requires.choice) in
     elim (cases_lt down c.args.value) [
       | inl less ↦
-          let below : IsTrue c.down_below.result = c.down_below.ensures.1 (omega (arith, less, c.table_quotient.ensures.down)) in (
+          let below : IsTrue c.down_below.result =
+          c.down_below.ensures.1 (omega (arith, less, c.table_quotient.ensures.down)) in (
             λ above. let no : ⊥ = grind (arith, below, above) in absurd no,
             λ enough. absurd (omega (arith, less, (le-div_iff_mul-le positive).1 enough)),
           )
       | inr most ↦ (
         λ _. (le-div_iff_mul-le positive).0 most,
-        λ _. let above : IsTrue c.down_below.result → ⊥ = λ below. omega (arith, most, c.down_below.ensures.0 below, c.table_quotient.ensures.down) in grind (arith, above),
+        λ _.
+            let above : IsTrue c.down_below.result → ⊥ =
+            λ below. omega (arith, most, c.down_below.ensures.0 below, c.table_quotient.ensures.down) in
+            grind (arith, above),
       )
     ]

@@ -17,12 +17,18 @@ returns c =
     let positive : 0 < m.total = total-pos m (c.known.ensures.distributions c.args.choice c.requires.choice) in
     elim (cases_lt c.args.value up) [
       | inl less ↦
-          let above : IsTrue c.up_above.result = c.up_above.ensures.1 (omega (arith, less, c.table_quotient.ensures.up)) in (
+          let above : IsTrue c.up_above.result =
+          c.up_above.ensures.1 (omega (arith, less, c.table_quotient.ensures.up)) in (
             λ held. let no : ⊥ = grind (arith, above, held) in absurd no,
-            λ held. let below : up < c.args.value + 1 = (div-lt_iff_lt-mul positive).1 (omega (arith, held)) in absurd (omega (arith, less, below)),
+            λ held.
+                let below : up < c.args.value + 1 = (div-lt_iff_lt-mul positive).1 (omega (arith, held)) in
+                absurd (omega (arith, less, below)),
           )
       | inr most ↦ (
         λ _. omega (arith, up-above sum m.total up positive refl, mul-le-mul_right m.total most),
-        λ _. let no : IsTrue c.up_above.result → ⊥ = λ above. omega (arith, most, c.up_above.ensures.0 above, c.table_quotient.ensures.up) in grind (arith, no),
+        λ _.
+            let no : IsTrue c.up_above.result → ⊥ =
+            λ above. omega (arith, most, c.up_above.ensures.0 above, c.table_quotient.ensures.up) in
+            grind (arith, no),
       )
     ]

@@ -17,8 +17,12 @@ returns-then-not-down_above c =
     let f : Distribution → ℕ = down_value (slice_index c.args.table.now) in
     let i : ℕ = c.loop-choice.choice in
     let inside : i < length c.args.row.now = omega (arith, c.choices-choice-end.ensures, c.loop-choice-test.true) in
-    let here : rounded_down c.table_quotient.result ≤ c.args.floor = not-less c.args.floor (rounded_down c.table_quotient.result) c.if-not-down_above.ensures.1 in
-    (λ wrong. absurd (true≢false (sym wrong)), λ above. absurd (omega (arith, here, above, c.table_quotient.ensures.down, optimum-below f c.args.row.now i no_distribution inside)))
+    let here : rounded_down c.table_quotient.result ≤ c.args.floor =
+    not-less c.args.floor (rounded_down c.table_quotient.result) c.if-not-down_above.ensures.1 in (
+      λ wrong. absurd (true≢false (sym wrong)),
+      λ above. absurd (omega
+          (arith, here, above, c.table_quotient.ensures.down, optimum-below f c.args.row.now i no_distribution inside)),
+    )
 
 pub returns : goal.returns
 returns c =
@@ -26,5 +30,7 @@ returns c =
     let next : ℕ = c.args.floor + 1 in
     let row : List Distribution = c.args.row.now in
     let least : next ≤ optimum Min f row = optimum-least Min f next row c.known.ensures.some
-    (recursion_from_All (λ m. next ≤ f m) row (All-from_get_or (λ m. next ≤ f m) row no_distribution (λ d l. let above = c.loop-choice.invariant d (omega (arith, c.choices-choice-end.ensures, c.loop-choice-test.false)) in omega (arith, above)))) in
+    (recursion_from_All (λ m. next ≤ f m) row
+    (All-from_get_or (λ m. next ≤ f m) row no_distribution (λ d l. let above = c.loop-choice.invariant d
+    (omega (arith, c.choices-choice-end.ensures, c.loop-choice-test.false)) in omega (arith, above)))) in
     (λ _. omega (arith, least), λ _. refl)

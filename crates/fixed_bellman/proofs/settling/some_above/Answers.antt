@@ -14,7 +14,8 @@ returns-then-down_above c =
     let f : Distribution → ℕ = down_value (slice_index c.args.table.now) in
     let i : ℕ = c.loop-choice.choice in
     let inside : i < length c.args.row.now = omega (arith, c.choices-choice-end.ensures, c.loop-choice-test.true) in
-    let here : c.args.floor < f (choice_among c.args.row.now i) = omega (arith, c.if-down_above.ensures.0 refl, c.table_quotient.ensures.down) in
+    let here : c.args.floor < f (choice_among c.args.row.now i) =
+    omega (arith, c.if-down_above.ensures.0 refl, c.table_quotient.ensures.down) in
     (λ _. omega (arith, here, optimum-each f c.args.row.now i no_distribution inside), λ _. refl)
 
 pub returns : goal.returns
@@ -23,5 +24,6 @@ returns c =
     let floor : ℕ = c.args.floor in
     let row : List Distribution = c.args.row.now in
     let most : optimum Max f row ≤ floor = optimum-most Max f floor row
-    (recursion_from_All (λ m. f m ≤ floor) row (All-from_get_or (λ m. f m ≤ floor) row no_distribution (λ d l. c.loop-choice.invariant d (omega (arith, c.choices-choice-end.ensures, c.loop-choice-test.false))))) in
+    (recursion_from_All (λ m. f m ≤ floor) row (All-from_get_or (λ m. f m ≤ floor) row no_distribution
+    (λ d l. c.loop-choice.invariant d (omega (arith, c.choices-choice-end.ensures, c.loop-choice-test.false))))) in
     (λ wrong. absurd (true≢false (sym wrong)), λ above. absurd (omega (arith, most, above)))

@@ -14,12 +14,17 @@ loop-place-preserved g c =
     let new = c.value.new.pass in
     let w = c.value.ensures in
     let h = c.loop-place.invariant in
-    let low : seen start (get_or ts i 0) ≤ c.value.result = omega (arith, laws.rises values start mid h.onward (get_or ts i 0), w.low) in record {
+    let low : seen start (get_or ts i 0) ≤ c.value.result =
+    omega (arith, laws.rises values start mid h.onward (get_or ts i 0), w.low) in
+    record {
       onward = laws.further values start mid new h.onward w.onward;
-      sum = rw (c.from.ensures, c.from-in-loop-place.ensures) (listed-more ts c.args.weights.now c.requires.many i c.loop-place.sum c.value.result c.loop-place-test.true (seen start) (seen mid) (seen new) h.sum low (laws.rises values mid new w.onward) w.high w.units);
+      sum = rw (c.from.ensures, c.from-in-loop-place.ensures)
+          (listed-more ts c.args.weights.now c.requires.many i c.loop-place.sum c.value.result c.loop-place-test.true
+          (seen start) (seen mid) (seen new) h.sum low (laws.rises values mid new w.onward) w.high w.units);
     }
 
 pub returns-clause-sum : goal.returns-clause-sum
 returns-clause-sum g c =
     listed-all c.args.successors.now c.args.weights.now c.requires.many c.loop-place.place c.loop-place.sum
-    (g.V.Values.seen c.args.values.now c.args.pass.now) (g.V.Values.seen c.args.values.now c.loop-place.pass) c.loop-place-test.false c.loop-place.invariant.sum
+    (g.V.Values.seen c.args.values.now c.args.pass.now) (g.V.Values.seen c.args.values.now c.loop-place.pass)
+    c.loop-place-test.false c.loop-place.invariant.sum

@@ -18,7 +18,10 @@ loop-place-preserved g c =
     let new = c.value.new.pass in
     let w = c.value.ensures in
     let h = c.loop-place.invariant in
-    let low : seen start edge.to ≤ c.value.result = omega (arith, laws.rises values start mid h.onward edge.to, w.low) in record {
+    let low : seen start edge.to ≤ c.value.result =
+    omega (arith, laws.rises values start mid h.onward edge.to, w.low) in
+    record {
       onward = laws.further values start mid new h.onward w.onward;
-      sum = rw c.from.ensures (IsSumBetween-more edges i c.loop-place.sum c.value.result edge inside c.edge-edge.ensures (seen start) (seen mid) (seen new) h.sum low (laws.rises values mid new w.onward) w.high w.units);
+      sum = rw c.from.ensures (IsSumBetween-more edges i c.loop-place.sum c.value.result edge inside c.edge-edge.ensures
+          (seen start) (seen mid) (seen new) h.sum low (laws.rises values mid new w.onward) w.high w.units);
     }

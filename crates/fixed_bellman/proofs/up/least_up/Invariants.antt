@@ -9,6 +9,7 @@ use Rattle.fixed_bellman.proofs.up.least_up.Given as goal
 
 abbrev pub invariant-loop-choice : goal.invariant-loop-choice
 invariant-loop-choice l = record {
-  value : l.best ≡ fold (λ best choice. better Min best (up_value (slice_index l.table) choice)) unit (take l.choice (choices_of l.question.game l.state));
+  value : l.best ≡ fold (λ best choice. better Min best (up_value (slice_index l.table) choice)) unit
+      (take l.choice (choices_of l.question.game l.state));
   units : l.best ≤ unit;
 }

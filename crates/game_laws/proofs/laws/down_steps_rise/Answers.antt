@@ -5,4 +5,5 @@ use Rattle.game_laws.proofs.Steps.{down_steps-rises}
 use Rattle.game_laws.proofs.laws.down_steps_rise.Goals as goal
 
 pub returns : goal.returns
-returns c = λ q r h s inside. subst (λ (j : ℕ). down_steps q r s ≤ down_steps q j s) (sym (add-one r)) (down_steps-rises q (AreChoicesOf-choices_of q.game h.game) r s)
+returns c = λ q r h s inside. subst (λ (j : ℕ). down_steps q r s ≤ down_steps q j s) (sym (add-one r))
+    (down_steps-rises q (AreChoicesOf-choices_of q.game h.game) r s)

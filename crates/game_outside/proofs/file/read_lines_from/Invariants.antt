@@ -7,15 +7,19 @@ use Rattle.game_outside.proofs.file.read_lines_from.Given as goal
 
 abbrev pub invariant-loop-feed : goal.invariant-loop-feed
 invariant-loop-feed g l = record {
-  part : IsPartRead (g.H.Shelf.held l.fn.shelf) l.name (λ lines answer. g.R.LineReader.answers l.fn.reader 1 (significant lines) answer) (g.H.Shelf.rest l.shelf) l.text
-      (λ lines answer. BehindBlanks l.feed.blanks lines (λ more. g.R.LineReader.answers l.feed.reader l.feed.next more answer));
+  part : IsPartRead (g.H.Shelf.held l.fn.shelf) l.name
+      (λ lines answer. g.R.LineReader.answers l.fn.reader 1 (significant lines) answer) (g.H.Shelf.rest l.shelf) l.text
+      (λ lines answer.
+      BehindBlanks l.feed.blanks lines (λ more. g.R.LineReader.answers l.feed.reader l.feed.next more answer));
   going : l.text.closed ≡ false;
   limit : l.text.limit ≡ l.limit;
   taken : l.text.taken ≡ g.H.Shelf.taken l.shelf;
   within : l.text.taken ≤ l.limit;
   lines : l.feed.next + l.feed.blanks + length l.text.held ≤ l.text.taken + 1;
-  kept : KeepsShelf (g.H.Shelf.held l.fn.shelf) (g.H.Shelf.held l.shelf) (g.H.Shelf.steady l.fn.shelf) (g.H.Shelf.steady l.shelf) (g.H.Shelf.faults l.fn.shelf) (g.H.Shelf.faults l.shelf);
-  quiet : g.H.Shelf.steady l.fn.shelf ≡ true → Holds (g.H.Shelf.held l.fn.shelf) l.name → g.H.Shelf.faults l.shelf ≡ g.H.Shelf.faults l.fn.shelf;
+  kept : KeepsShelf (g.H.Shelf.held l.fn.shelf) (g.H.Shelf.held l.shelf) (g.H.Shelf.steady l.fn.shelf)
+      (g.H.Shelf.steady l.shelf) (g.H.Shelf.faults l.fn.shelf) (g.H.Shelf.faults l.shelf);
+  quiet : g.H.Shelf.steady l.fn.shelf ≡ true → Holds (g.H.Shelf.held l.fn.shelf) l.name
+      → g.H.Shelf.faults l.shelf ≡ g.H.Shelf.faults l.fn.shelf;
 }
 
 abbrev pub decreases-loop-feed : goal.decreases-loop-feed

@@ -6,5 +6,6 @@ use Rattle.inductive_check.proofs.reply.replies.Given as goal
 abbrev pub invariant-loop-state : goal.invariant-loop-state
 invariant-loop-state l = record {
   as_many : length l.replies.items ≡ l.state;
-  each : (s : ℕ) → s < l.state → IsFirstReply l.question (slice_index l.upper) s (slice_index_or l.replies.items s None);
+  each : (s : ℕ) → s < l.state
+      → IsFirstReply l.question (slice_index l.upper) s (slice_index_or l.replies.items s None);
 }

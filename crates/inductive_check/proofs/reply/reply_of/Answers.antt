@@ -16,9 +16,14 @@ returns c =
     let q = c.args.question.now in
     let v = slice_index c.args.upper.now in
     let needs : NeedsReply q c.args.state = c.if-not-needs_reply.ensures.0 refl in
-    let some : ¬ NoneHeld q v c.args.state = λ none. omega (arith, none-held q v c.args.state c.known.ensures c.requires.state needs.free none, c.requires.inductive c.args.state c.requires.state) in
+    let some : ¬ NoneHeld q v c.args.state = λ none. omega (
+      arith,
+      none-held q v c.args.state c.known.ensures c.requires.state needs.free none,
+      c.requires.inductive c.args.state c.requires.state,
+    ) in
     record {
-      first = λ _. some-found c.first_held.result (NoneHeld q v c.args.state) (IsFirstHeld q v c.args.state) some c.first_held.ensures;
+      first = λ _. some-found c.first_held.result (NoneHeld q v c.args.state)
+          (IsFirstHeld q v c.args.state) some c.first_held.ensures;
       none_at_goals = λ goal. absurd (both_ways _ needs.free.0 goal);
       none_at_deads = λ dead. absurd (both_ways _ needs.free.1 dead);
       none_at_greatest = λ greatest. let sides : Max ≡ Min = sym greatest ∙ needs.least in (cc sides);

@@ -11,7 +11,8 @@ loop-field-preserved c =
     let items = c.args.header.now in
     record {
       known =
-          sym (ap (λ fields. known_fields items fields) c.in-Some.ensures ∙ known_fields-place items c.in-Some.field.now (fields_of c.in-Some.after.now) c.in-Some-place.place (sym c.in-Some-place.ensures.value))
+          sym (ap (λ fields. known_fields items fields) c.in-Some.ensures ∙ known_fields-place items c.in-Some.field.now
+          (fields_of c.in-Some.after.now) c.in-Some-place.place (sym c.in-Some-place.ensures.value))
           ∙ c.loop-field.invariant.known;
       marks = search rules;
       states = c.mark.ensures.states;
@@ -21,7 +22,9 @@ loop-field-preserved c =
 pub returns-in_default-place-clause-known : goal.returns-in_default-place-clause-known
 returns-in_default-place-clause-known c =
     let items = c.args.header.now in
-    ap (λ cause. Err cause) (c.fault_of_numbers.ensures ∙ ap (λ fields. cond (list_all is_number fields) UnknownIndex BadField) c.in-Some.ensures)
-    ∙ sym (known_fields-no_place items c.in-Some.field.now (fields_of c.in-Some.after.now) (sym c.in_default-place.ensures.value))
+    ap (λ cause. Err cause) (c.fault_of_numbers.ensures
+    ∙ ap (λ fields. cond (list_all is_number fields) UnknownIndex BadField) c.in-Some.ensures)
+    ∙ sym (known_fields-no_place items c.in-Some.field.now (fields_of c.in-Some.after.now)
+    (sym c.in_default-place.ensures.value))
     ∙ sym (ap (λ fields. known_fields items fields) c.in-Some.ensures)
     ∙ c.loop-field.invariant.known

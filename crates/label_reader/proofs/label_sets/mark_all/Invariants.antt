@@ -7,7 +7,8 @@ use Rattle.label_reader.proofs.label_sets.mark_all.Given as goal
 abbrev pub invariant-loop-field : goal.invariant-loop-field
 invariant-loop-field l = record {
   known : known_fields l.header (fields_of l.rest) ≡ known_fields l.header (fields_of l.numbers);
-  marks : with_marks l.header l.state l.sets (fields_of l.rest) ≡ with_marks l.header l.state l.initial.sets (fields_of l.numbers);
+  marks : with_marks l.header l.state l.sets (fields_of l.rest)
+      ≡ with_marks l.header l.state l.initial.sets (fields_of l.numbers);
   states : All (λ marks. l.state < length marks) l.sets;
   lengths : (n : ℕ) → All (λ marks. length marks ≡ n) l.initial.sets → All (λ marks. length marks ≡ n) l.sets;
 }

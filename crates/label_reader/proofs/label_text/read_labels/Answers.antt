@@ -9,6 +9,9 @@ use Rattle.label_reader.proofs.label_text.read_labels.Goals as goal
 
 pub returns-clause-sizes : goal.returns-clause-sizes
 returns-clause-sizes c = labels_of_text_sized c.args.states c.args.bytes.now c.read_lines.result
-    (says_exactly LabelFile labelling c.args.states c.new.result.states c.new.result.behind (significant (lines_of c.args.bytes.now)) c.read_lines.result
-    (λ s. AnswersBehind LabelFile s.states (labelling s.states) s.header (λ read. AreMarked s.states s.header (is_said read) s.sets.items) 1 (significant (lines_of c.args.bytes.now)) c.read_lines.result)
+    (says_exactly LabelFile labelling c.args.states c.new.result.states c.new.result.behind
+    (significant (lines_of c.args.bytes.now)) c.read_lines.result
+    (λ s. AnswersBehind LabelFile s.states (labelling s.states) s.header
+    (λ read. AreMarked s.states s.header (is_said read) s.sets.items) 1
+    (significant (lines_of c.args.bytes.now)) c.read_lines.result)
     c.new.ensures.behind c.new.ensures.states c.read_lines.ensures)

@@ -7,5 +7,7 @@ use Rattle.label_reader.proofs.laws.states_with_a_label_are_those_where_it_holds
 pub returns : goal.returns
 returns c = record {
   rising = λ l name. marked_from-rises 0 (marks_of l.labels name);
-  each = λ l name state. ap (λ x. list_any (λ s. eqb s x) (marked_from 0 (marks_of l.labels name))) (sym (zero-add state)) ∙ list_any-marked_from 0 (marks_of l.labels name) state;
+  each = λ l name state.
+      ap (λ x. list_any (λ s. eqb s x) (marked_from 0 (marks_of l.labels name))) (sym (zero-add state))
+      ∙ list_any-marked_from 0 (marks_of l.labels name) state;
 }

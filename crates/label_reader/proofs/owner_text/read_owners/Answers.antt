@@ -9,6 +9,8 @@ use Rattle.label_reader.proofs.owner_text.read_owners.Goals as goal
 
 pub returns-clause-sizes : goal.returns-clause-sizes
 returns-clause-sizes c = owners_of_text_sized c.args.states c.args.bytes.now c.read_lines.result
-    (says_exactly OwnerFile ownership c.args.states c.new.result.states c.new.result.behind (significant (lines_of c.args.bytes.now)) c.read_lines.result
-    (λ t. AnswersBehind OwnerFile t.states (ownership t.states) t.header (λ read. AreRead t.states t.header read t.owners.items) 1 (significant (lines_of c.args.bytes.now)) c.read_lines.result)
+    (says_exactly OwnerFile ownership c.args.states c.new.result.states c.new.result.behind
+    (significant (lines_of c.args.bytes.now)) c.read_lines.result
+    (λ t. AnswersBehind OwnerFile t.states (ownership t.states) t.header (λ read.
+    AreRead t.states t.header read t.owners.items) 1 (significant (lines_of c.args.bytes.now)) c.read_lines.result)
     c.new.ensures.behind c.new.ensures.states c.read_lines.ensures)

@@ -4,4 +4,5 @@ use Rattle.label_reader.proofs.NamedMarks.{places_of-replicate}
 use Rattle.label_reader.proofs.owners.first_owns_all.Goals as goal
 
 pub returns-clause-owners : goal.returns-clause-owners
-returns-clause-owners c = ap (λ (owners : List (Option ℕ)). places_of owners) c.in_ok-owners.ensures ∙ places_of-replicate c.args.states
+returns-clause-owners c =
+    ap (λ (owners : List (Option ℕ)). places_of owners) c.in_ok-owners.ensures ∙ places_of-replicate c.args.states

@@ -9,6 +9,8 @@ returns-else-changed-states-clause-marked c =
     let old : List Bool = c.args.agenda.now.marks.items in
     let new : List Bool = c.mark_changed.new.marks in
     let many : length new ≡ length old = c.mark_changed.ensures.marks ∙ sym c.requires.marks in
-    let back = take_at new (drop (length new) old) c.args.agenda.now.marks.len (omega (arith, many, c.args.agenda.now.marks.ok)) in
+    let back =
+    take_at new (drop (length new) old) c.args.agenda.now.marks.len (omega (arith, many, c.args.agenda.now.marks.ok)) in
     subst (λ (l : List Bool). AreMarkedFor c.args.game.now c.args.agenda.now.more.items l) (sym back)
-    (subst (λ (l : List Bool). AreMarkedFor c.args.game.now l new) c.deref_mut.ensures.value c.mark_changed.ensures.marked)
+    (subst (λ (l : List Bool). AreMarkedFor c.args.game.now l new) c.deref_mut.ensures.value
+    c.mark_changed.ensures.marked)

@@ -16,13 +16,16 @@ loop-state-preserved c =
     let marks : List Bool = c.mark_predecessors.new.marks in
     let next = c.mark_from-state-in-loop-state.ensures in
     let more : length after ≡ length game = length-set now i false ∙ h.changed in
-    let one : AreMarkedBelow game (i + 1) changed after marks = marked-more game i changed now c.loop-state.marks marks h.marked m.kept m.marked in
+    let one : AreMarkedBelow game (i + 1) changed after marks =
+    marked-more game i changed now c.loop-state.marks marks h.marked m.kept m.marked in
     record {
       within = omega (arith, next.within, more);
       changed = more;
       marks = m.marks;
-      marked = marked-over game (i + 1) c.mark_from-state-in-loop-state.result changed after marks one next.none next.order;
+      marked = marked-over game (i + 1) c.mark_from-state-in-loop-state.result changed after marks one
+          next.none next.order;
     }
 
 pub returns-clause-marked : goal.returns-clause-marked
-returns-clause-marked c s choice t inside changed leads = c.loop-state.invariant.marked.marked s choice t (omega (arith, inside, c.loop-state-test.false, c.states.ensures)) changed leads
+returns-clause-marked c s choice t inside changed leads = c.loop-state.invariant.marked.marked s choice t
+    (omega (arith, inside, c.loop-state-test.false, c.states.ensures)) changed leads

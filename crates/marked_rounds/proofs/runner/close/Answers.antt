@@ -16,10 +16,13 @@ returns g c r racing =
     let read = read_of c.args.runner.agenda in
     let seen : List ℕ = c.args.runner.pass.seat.me.0.seen in
     let closed = c.in_ok-words.ensures in
-    let below : IsBelow q read (value_at words) = λ s inside. le_trans (c.args.runner.ready.below s inside) (Sees-below q words seen closed.seen s) in record {
+    let below : IsBelow q read (value_at words) =
+    λ s inside. le_trans (c.args.runner.ready.below s inside) (Sees-below q words seen closed.seen s) in
+    record {
       raced = record {
         sound = closed.words;
-        within = within-more q (value_at words) (won_by c.args.runner.pass) (r * states q) h racing.won (closed.within racing.whole);
+        within = within-more q (value_at words) (won_by c.args.runner.pass) (r * states q) h racing.won
+            (closed.within racing.whole);
         swept = λ s inside. le_trans (racing.swept s inside) (below s inside);
       };
       below = below;

@@ -12,5 +12,7 @@ returns g c =
     record {
       whole = start.3;
       won = omega (arith, start.2);
-      swept = opens-read q (read_of c.in_ok-agenda.agenda) (subst (λ (p : Query). (s : ℕ) → s < states p → read_of c.in_ok-agenda.agenda s ≡ opening p s) c.requires c.in_ok-agenda.ensures.opens);
+      swept = opens-read q (read_of c.in_ok-agenda.agenda)
+          (subst (λ (p : Query). (s : ℕ) → s < states p → read_of c.in_ok-agenda.agenda s ≡ opening p s) c.requires
+          c.in_ok-agenda.ensures.opens);
     }

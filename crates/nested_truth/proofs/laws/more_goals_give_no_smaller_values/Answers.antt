@@ -4,4 +4,5 @@ use Rattle.nested_truth.proofs.laws.more_goals_give_no_smaller_values.Goals as g
 
 pub returns : goal.returns
 returns c = λ q more fewer posed rises falls k s.
-    numerator-wider q.game q.sides q.goals q.deads more fewer rises falls (AreChoicesOf-choices_of q.game posed.game) k s
+    numerator-wider q.game q.sides q.goals q.deads more fewer rises falls
+    (AreChoicesOf-choices_of q.game posed.game) k s

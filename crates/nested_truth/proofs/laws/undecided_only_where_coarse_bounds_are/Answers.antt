@@ -9,7 +9,8 @@ pub returns-clause-inside : goal.returns-clause-inside
 returns-clause-inside c = λ m asked x found coarse game parts h k. open-within m game asked x found coarse parts h k
 
 pub returns-clause-fewer : goal.returns-clause-fewer
-returns-clause-fewer c = λ m asked x found coarse game parts h k. fewer-open (states m) x found coarse (open-within m game asked x found coarse parts h k)
+returns-clause-fewer c = λ m asked x found coarse game parts h k.
+    fewer-open (states m) x found coarse (open-within m game asked x found coarse parts h k)
 
 pub returns-clause-outermost : goal.returns-clause-outermost
 returns-clause-outermost c = λ m f asked starts bl cl br cr band coarse how game share left right inside lh rh h k.

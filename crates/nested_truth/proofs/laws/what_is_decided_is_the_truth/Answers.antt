@@ -2,7 +2,9 @@ use Rattle.nested_truth.proofs.Decided.{decided-truth}
 use Rattle.nested_truth.proofs.laws.what_is_decided_is_the_truth.Goals as goal
 
 pub returns-clause-sure : goal.returns-clause-sure
-returns-clause-sure c = λ m truth asked x found game is parts h none. (decided-truth m game truth is asked x found parts h none).sure
+returns-clause-sure c =
+    λ m truth asked x found game is parts h none. (decided-truth m game truth is asked x found parts h none).sure
 
 pub returns-clause-possible : goal.returns-clause-possible
-returns-clause-possible c = λ m truth asked x found game is parts h none. (decided-truth m game truth is asked x found parts h none).possible
+returns-clause-possible c =
+    λ m truth asked x found game is parts h none. (decided-truth m game truth is asked x found parts h none).possible

@@ -3,4 +3,5 @@ use Rattle.plan_text.proofs.read.read_plan.Goals as goal
 
 pub returns-clause-in_range : goal.returns-clause-in_range
 returns-clause-in_range c =
-    answered_in_range c.read_states.result c.args.bytes.now c.args.states (rw c.in_ok-version.ensures.said c.read_states.ensures.said)
+    answered_in_range c.read_states.result c.args.bytes.now c.args.states
+    (rw c.in_ok-version.ensures.said c.read_states.ensures.said)

@@ -7,6 +7,7 @@ use Rattle.plan_text.proofs.read.read_states.Given as goal
 abbrev pub invariant-loop-state : goal.invariant-loop-state
 invariant-loop-state l = record {
   lists : HasStates l.plan l.state;
-  said : entries_from l.version l.states (entries_of l.plan) l.number (significant (lines_of l.rest)) ≡ entries_from l.version l.states [] l.first (significant (lines_of l.text));
+  said : entries_from l.version l.states (entries_of l.plan) l.number (significant (lines_of l.rest))
+      ≡ entries_from l.version l.states [] l.first (significant (lines_of l.text));
   number : l.number + length l.rest ≤ l.first + length l.text;
 }

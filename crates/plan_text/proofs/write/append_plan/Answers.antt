@@ -8,7 +8,8 @@ use Rattle.plan_text.proofs.write.append_plan.Goals as goal
 pub loop-state-init : goal.loop-state-init
 loop-state-init c =
     let plan = c.args.plan.now in
-    let states : length (entries_of plan) ≡ length plan.lower.items = length-map-range_with_len (entry_at plan) 0 (length plan.lower.items) in
+    let states : length (entries_of plan) ≡ length plan.lower.items =
+    length-map-range_with_len (entry_at plan) 0 (length plan.lower.items) in
     let whole : length plan.lower.items - 0 ≡ length plan.lower.items = omega arith in
     search (rules, append_assoc)
 

@@ -4,12 +4,15 @@ use Rattle.std.proofs.lemmas.Bool.{cases_eq}
 use Rattle.std.proofs.lemmas.List.{length-set}
 use Rattle.predecessors.specs.Moves.{move, LeadsTo}
 use Rattle.predecessors.specs.Marks.{IsMarked}
-use Rattle.predecessors.proofs.Marking.{predecessor-inside, predecessor-leads, all-marked, mark-kept, mark-set, mark-only}
+use Rattle.predecessors.proofs.Marking.{predecessor-inside, predecessor-leads, all-marked, mark-kept, mark-set}
+use Rattle.predecessors.proofs.Marking.{mark-only}
 use Rattle.predecessors.proofs.marks.mark_predecessors.Goals as goal
 
 pub bounds-marks-step : goal.bounds-marks-step
 bounds-marks-step c =
-    let within = predecessor-inside c.args.game.now c.args.predecessors.now c.of_state-step-items.result.now c.args.state c.loop-step.step-index c.requires.predecessors c.requires.state c.of_state-step-items.ensures c.loop-step-test.true in
+    let within = predecessor-inside c.args.game.now c.args.predecessors.now c.of_state-step-items.result.now
+    c.args.state c.loop-step.step-index c.requires.predecessors c.requires.state c.of_state-step-items.ensures
+    c.loop-step-test.true in
     let many = c.loop-step.invariant.many in
     omega arith
 
@@ -20,9 +23,11 @@ loop-step-preserved c =
     let items = c.of_state-step-items.result.now in
     let marks : List Bool = c.loop-step.marks in
     let place : ℕ = (slice_index_or items i (move 0 0)).state in
-    let within = predecessor-inside c.args.game.now c.args.predecessors.now items c.args.state i c.requires.predecessors c.requires.state c.of_state-step-items.ensures c.loop-step-test.true in
+    let within = predecessor-inside c.args.game.now c.args.predecessors.now items c.args.state i c.requires.predecessors
+    c.requires.state c.of_state-step-items.ensures c.loop-step-test.true in
     let hand : ℕ = (slice_index_or items i (move 0 0)).choice in
-    let leads = predecessor-leads c.args.game.now c.args.predecessors.now items c.args.state i c.requires.predecessors c.requires.state c.of_state-step-items.ensures c.loop-step-test.true in
+    let leads = predecessor-leads c.args.game.now c.args.predecessors.now items c.args.state i c.requires.predecessors
+    c.requires.state c.of_state-step-items.ensures c.loop-step-test.true in
     let inside : place < length marks = omega (arith, within, h.many) in
     record {
       many = length-set marks place true ∙ h.many;
@@ -32,12 +37,14 @@ loop-step-preserved c =
         | inr old ↦ h.only s old
       ];
       marked = λ k below. elim (cases_eq k i) [
-        | inl same ↦ subst (λ (j : ℕ). IsMarked (slice_set marks place true) (slice_index_or items j (move 0 0)).state) (sym same) (mark-set marks place inside)
+        | inl same ↦ subst (λ (j : ℕ). IsMarked (slice_set marks place true) (slice_index_or items j (move 0 0)).state)
+            (sym same) (mark-set marks place inside)
         | inr other ↦ mark-kept marks place (slice_index_or items k (move 0 0)).state inside (h.marked k (omega arith))
       ];
     }
 
 pub returns-clause-marked : goal.returns-clause-marked
 returns-clause-marked c s choice leads =
-    all-marked c.args.game.now c.args.predecessors.now c.of_state-step-items.result.now c.loop-step.marks c.args.state s choice c.requires.predecessors c.requires.state c.of_state-step-items.ensures
+    all-marked c.args.game.now c.args.predecessors.now c.of_state-step-items.result.now c.loop-step.marks c.args.state s
+    choice c.requires.predecessors c.requires.state c.of_state-step-items.ensures
     (λ k below. c.loop-step.invariant.marked k (omega (arith, below, c.loop-step-test.false))) leads

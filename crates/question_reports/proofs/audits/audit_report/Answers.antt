@@ -23,9 +23,16 @@ returns-clause-audited c =
     let initial = c.args.initial.now in
     let sound = c.requires.sound in
     let agree : (s : ℕ) → s < states q → (plan_line f Audited plan s).verdict ≡ plan_verdict bound plan s = λ s within.
-    let units = plan-units q plan c.requires.lists c.requires.passes s within in verdict-answered c.mirrored_verdicts_are_those_of_the_dual.ensures f c.requires.share (slice_index lower s) (slice_index upper s) units.0 units.1 in
-    audited (λ answer. answer.text.items) (λ answer. answer.status) q c.known.ensures initial f plan c.requires.inside sound
+    let units = plan-units q plan c.requires.lists c.requires.passes s within in
+    verdict-answered c.mirrored_verdicts_are_those_of_the_dual.ensures f c.requires.share (slice_index lower s)
+    (slice_index upper s) units.0 units.1 in
+    audited (λ answer. answer.text.items)
+    (λ answer. answer.status) q c.known.ensures initial f plan c.requires.inside sound
     (lines-in_range q c.known.ensures f plan c.requires.lists c.requires.passes initial c.requires.inside)
-    (All-weaker (λ s. s < states q) (λ s. (plan_line f Audited plan s).verdict ≡ Undecided → LeavesOpen bound (slice_index lower s) (slice_index upper s) 1 0)
-    (λ s within is. c.undecided_thresholds_are_left_open.ensures.here bound (slice_index lower s) (slice_index upper s) (sym (agree s within) ∙ is)) initial c.requires.inside)
-    c.report_of.result (rw (c.is_mirrored.ensures, c.deref.ensures.value, c.deref-2.ensures.value) at c.report_of.ensures.text) (rw (c.is_mirrored.ensures, c.deref.ensures.value, c.deref-2.ensures.value) at c.report_of.ensures.status)
+    (All-weaker (λ s. s < states q) (λ s.
+    (plan_line f Audited plan s).verdict ≡ Undecided → LeavesOpen bound (slice_index lower s) (slice_index upper s) 1 0)
+    (λ s within is. c.undecided_thresholds_are_left_open.ensures.here bound (slice_index lower s) (slice_index upper s)
+    (sym (agree s within) ∙ is)) initial c.requires.inside)
+    c.report_of.result
+    (rw (c.is_mirrored.ensures, c.deref.ensures.value, c.deref-2.ensures.value) at c.report_of.ensures.text)
+    (rw (c.is_mirrored.ensures, c.deref.ensures.value, c.deref-2.ensures.value) at c.report_of.ensures.status)

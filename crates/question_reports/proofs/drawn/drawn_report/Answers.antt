@@ -7,8 +7,11 @@ use Rattle.question_reports.proofs.drawn.drawn_report.Goals as goal
 pub returns-clause-made : goal.returns-clause-made
 returns-clause-made g c =
     let make = c.args.make.now in
-    let same : c.in_ok-question.question ≡ drawn_question make.seed make.states = c.in_ok-question.ensures ∙ ap question_of c.in_ok-drawn.ensures.exact in
-    made (λ answer. answer.text.items) (λ answer. answer.status) make.seed make.states make.rounds c.in_ok-question.question c.in_ok-found.found.zero c.in_ok-found.found.bracket same c.in_ok-found.ensures.zero c.in_ok-found.ensures.found.bounds c.in_ok-found.ensures.found.lower
+    let same : c.in_ok-question.question ≡ drawn_question make.seed make.states =
+    c.in_ok-question.ensures ∙ ap question_of c.in_ok-drawn.ensures.exact in
+    made (λ answer. answer.text.items) (λ answer. answer.status) make.seed make.states make.rounds
+    c.in_ok-question.question c.in_ok-found.found.zero c.in_ok-found.found.bracket same c.in_ok-found.ensures.zero
+    c.in_ok-found.ensures.found.bounds c.in_ok-found.ensures.found.lower
     c.write_summary.result c.write_summary.ensures.text c.write_summary.ensures.status
 
 pub write_summary-requires : goal.write_summary-requires
@@ -18,5 +21,9 @@ write_summary-requires g c =
     let few = c.known-2.ensures.game.few in
     let found = c.in_ok-found.found.bracket in
     record {
-      fits = (sum-fits found.lower.items (omega (arith, lower.as_many, few)) lower.units, sum-fits found.upper.items (omega (arith, bounds.made.least_upper.table.many, few)) bounds.made.least_upper.table.units);
+      fits = (
+        sum-fits found.lower.items (omega (arith, lower.as_many, few)) lower.units,
+        sum-fits found.upper.items
+            (omega (arith, bounds.made.least_upper.table.many, few)) bounds.made.least_upper.table.units,
+      );
     }

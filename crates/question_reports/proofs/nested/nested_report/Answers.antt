@@ -11,7 +11,8 @@ returns-clause-report g c =
     let k = c.known_numbers.ensures in
     let posed = sym e.posed ∙ c.requires.answerable.named in
     let same : found.initial.items ≡ c.args.initial.now = cc (posed) in
-    answered-nested (record { game = loaded.game; labels = loaded.labels; owners = loaded.owners }) (tree_of loaded.formula) c.args.check.now.rounds found
+    answered-nested (record { game = loaded.game; labels = loaded.labels; owners = loaded.owners })
+    (tree_of loaded.formula) c.args.check.now.rounds found
     (record {
       game = c.known.ensures;
       count = k.how;

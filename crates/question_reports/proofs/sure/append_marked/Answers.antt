@@ -10,4 +10,5 @@ loop-state-preserved c =
     let s : ℕ = c.loop-state.state in
     let line : List ℕ = (if is_marked marks s then state_line s else []) in
     let text : List ℕ = c.args.text.now.items in
-    c.in_ok-append_if_marked.ensures ∙ ap (λ t. t ++ line) c.loop-state.invariant ∙ append_assoc text (lines_before marks s) line ∙ ap (λ ls. text ++ ls) (sym (lines-more marks s))
+    c.in_ok-append_if_marked.ensures ∙ ap (λ t. t ++ line) c.loop-state.invariant
+    ∙ append_assoc text (lines_before marks s) line ∙ ap (λ ls. text ++ ls) (sym (lines-more marks s))

@@ -11,7 +11,9 @@ returns-clause-report g c =
     let table = c.args.posed.now.opening.items in
     IfOk-weaker c.sweep_report.result _ _
     (λ answer report. record {
-      report = report (slice_index table) (next_numerator q (opens table)) (rw (c.deref.ensures.value) at c.in_ok-sweep.ensures.sweep)
-          (c.one_step_is_the_next_value.ensures q (slice_index table) (opens table) c.known.ensures c.requires.opening.next);
+      report = report (slice_index table) (next_numerator q (opens table))
+          (rw (c.deref.ensures.value) at c.in_ok-sweep.ensures.sweep)
+          (c.one_step_is_the_next_value.ensures q (slice_index table)
+          (opens table) c.known.ensures c.requires.opening.next);
       best = next-best q (opens table) c.known.ensures;
     }) (rw (c.deref-2.ensures.value) at c.sweep_report.ensures.report)

@@ -9,6 +9,7 @@ returns-clause-report g c =
     let q = c.args.posed.now.question in
     IfOk-weaker c.sweep_report.result _ _
     (λ answer report. record {
-      report = report (opening q) (numerator q c.args.steps) c.in_ok-sweep.ensures.sweep (λ s inside. c.exact_values_are_k_step_values.ensures q c.args.steps s);
+      report = report (opening q) (numerator q c.args.steps) c.in_ok-sweep.ensures.sweep
+          (λ s inside. c.exact_values_are_k_step_values.ensures q c.args.steps s);
       best = best q c.args.steps c.known.ensures;
     }) (rw (c.deref.ensures.value) at c.sweep_report.ensures.report)

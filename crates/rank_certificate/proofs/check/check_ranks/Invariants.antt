@@ -4,4 +4,5 @@ use Rattle.rank_certificate.specs.Ranking.{IsRankedAt}
 use Rattle.rank_certificate.proofs.check.check_ranks.Given as goal
 
 abbrev pub invariant-loop-state : goal.invariant-loop-state
-invariant-loop-state l = (s : ℕ) → s < l.state → IsRankedAt l.question (slice_index l.values) (slice_index l.ranks) l.choices s
+invariant-loop-state l =
+    (s : ℕ) → s < l.state → IsRankedAt l.question (slice_index l.values) (slice_index l.ranks) l.choices s

@@ -13,21 +13,29 @@ loop-state-preserved c =
     elim c.if-next-state.branch [
       | then-next-state w ↦ record {
         many = ap length w.marks-is ∙ w.mark_predecessors.ensures.marks;
-        marked = λ s c' t upto fell leads. subst (λ (m : List Bool). IsMarked m s) (sym w.marks-is) (elim (cases_lt t i) [
-          | inl early ↦ w.mark_predecessors.ensures.kept s (h.marked s c' t early fell leads)
-          | inr last ↦ w.mark_predecessors.ensures.marked s c' (subst (λ (u : ℕ). LeadsTo c.args.game.now s c' u) (omega (arith, upto, last)) leads)
-        ]);
+        marked = λ s c' t upto fell leads.
+            subst (λ (m : List Bool). IsMarked m s) (sym w.marks-is) (elim (cases_lt t i) [
+              | inl early ↦ w.mark_predecessors.ensures.kept s (h.marked s c' t early fell leads)
+              | inr last ↦ w.mark_predecessors.ensures.marked s c'
+                  (subst (λ (u : ℕ). LeadsTo c.args.game.now s c' u) (omega (arith, upto, last)) leads)
+            ]);
       }
       | else-next-state w ↦ record {
         many = ap length w.marks-is ∙ h.many;
-        marked = λ s c' t upto fell leads. subst (λ (m : List Bool). IsMarked m s) (sym w.marks-is) (elim (cases_lt t i) [
-          | inl early ↦ h.marked s c' t early fell leads
-          | inr last ↦
-              let same : t ≡ i = omega (arith, upto, last) in
-              absurd (omega (arith, w.if-next-state.false, subst (λ (u : ℕ). slice_index c.args.next.now u < slice_index c.args.table.now u) same fell))
-        ]);
+        marked = λ s c' t upto fell leads.
+            subst (λ (m : List Bool). IsMarked m s) (sym w.marks-is) (elim (cases_lt t i) [
+              | inl early ↦ h.marked s c' t early fell leads
+              | inr last ↦
+                  let same : t ≡ i = omega (arith, upto, last) in
+                  absurd (omega (
+                    arith,
+                    w.if-next-state.false,
+                    subst (λ (u : ℕ). slice_index c.args.next.now u < slice_index c.args.table.now u) same fell,
+                  ))
+            ]);
       }
     ]
 
 pub returns-clause-marked : goal.returns-clause-marked
-returns-clause-marked c s c' t inside fell leads = c.loop-state.invariant.marked s c' t (omega (arith, inside, c.loop-state-test.false, c.states-state-end.ensures)) fell leads
+returns-clause-marked c s c' t inside fell leads = c.loop-state.invariant.marked s c' t
+    (omega (arith, inside, c.loop-state-test.false, c.states-state-end.ensures)) fell leads

@@ -7,5 +7,6 @@ use Rattle.rank_certificate.proofs.lesser.mark_again.Given as goal
 abbrev pub invariant-loop-state : goal.invariant-loop-state
 invariant-loop-state l = record {
   many : length l.marks ≡ length l.game;
-  marked : (s c t : ℕ) → t < l.state → slice_index l.next t < slice_index l.table t → LeadsTo l.game s c t → IsMarked l.marks s;
+  marked : (s c t : ℕ) → t < l.state → slice_index l.next t < slice_index l.table t → LeadsTo l.game s c t
+      → IsMarked l.marks s;
 }

@@ -10,13 +10,19 @@ loop-begin-init c =
     let q = c.args.asked.now.question.now in
     let value = value_in c.args.asked.now in
     let order = c.in_ok-growth.growth.order.items in
-    let opened : IsGrowth q value (only_in c.args.asked.now) 0 0 order c.in_ok-growth.growth.ranks.items c.in_ok-growth.growth.choices.items order =
-    Opened-growth q value (only_in c.args.asked.now) _ _ _ c.in_ok-growth.ensures.opened c.in_ok-growth.ensures.choices c.in_ok-growth.ensures.none in
+    let opened : IsGrowth q value (only_in c.args.asked.now) 0 0 order c.in_ok-growth.growth.ranks.items
+    c.in_ok-growth.growth.choices.items order =
+    Opened-growth q value (only_in c.args.asked.now) _ _ _ c.in_ok-growth.ensures.opened c.in_ok-growth.ensures.choices
+    c.in_ok-growth.ensures.none in
     let h = c.in_ok-look_at_all.ensures.growth 0 order opened in
-    let begin : c.len-begin.result ≡ length order = omega (arith, c.len-begin.ensures, c.in_ok-growth.growth.order.ok.0) in
+    let begin : c.len-begin.result ≡ length order =
+    omega (arith, c.len-begin.ensures, c.in_ok-growth.growth.order.ok.0) in
     record {
-      growth = subst (λ n. IsGrowth q value (only_in c.args.asked.now) 1 n c.look_at_all.new.self.order.items c.look_at_all.new.self.ranks.items c.look_at_all.new.self.choices.items c.look_at_all.new.self.order.items) (sym begin)
-          (Growth-step q value (only_in c.args.asked.now) 0 0 order _ _ _ h (c.in_ok-look_at_all.ensures.apart 0 order opened));
+      growth = subst (λ n. IsGrowth q value (only_in c.args.asked.now) 1 n c.look_at_all.new.self.order.items
+          c.look_at_all.new.self.ranks.items c.look_at_all.new.self.choices.items c.look_at_all.new.self.order.items)
+          (sym begin)
+          (Growth-step q value (only_in c.args.asked.now) 0 0 order _ _ _ h
+          (c.in_ok-look_at_all.ensures.apart 0 order opened));
       positive = omega arith;
       begin = omega (arith, begin, longer-length order c.look_at_all.new.self.order.items h.longer);
       level = omega arith;
@@ -32,7 +38,8 @@ loop-begin-preserved c =
     let end : c.len-end.result ≡ length old = omega (arith, c.len-end.ensures, c.loop-begin.growth.order.ok.0) in
     let long : c.len.result ≡ length old = omega (arith, c.len.ensures, c.loop-begin.growth.order.ok.0) in
     record {
-      growth = subst (λ n. IsGrowth q value (only_in c.args.asked.now) (level + 1) n c.advance.new.self.order.items c.advance.new.self.ranks.items c.advance.new.self.choices.items c.advance.new.self.order.items) (sym end)
+      growth = subst (λ n. IsGrowth q value (only_in c.args.asked.now) (level + 1) n c.advance.new.self.order.items
+          c.advance.new.self.ranks.items c.advance.new.self.choices.items c.advance.new.self.order.items) (sym end)
           (Growth-step q value (only_in c.args.asked.now) level c.loop-begin.begin old _ _ _ h
           c.in_ok-advance.ensures.apart);
       positive = omega (arith, c.loop-begin.invariant.positive);

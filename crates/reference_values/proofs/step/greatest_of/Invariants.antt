@@ -8,6 +8,7 @@ use Rattle.reference_values.proofs.step.greatest_of.Given as goal
 
 abbrev pub invariant-loop-choice : goal.invariant-loop-choice
 invariant-loop-choice l = record {
-  value : l.best ≡ optimum Max (exact_value l.question (slice_index l.table)) (take l.choice (choices_of l.question.game l.state));
+  value : l.best
+      ≡ optimum Max (exact_value l.question (slice_index l.table)) (take l.choice (choices_of l.question.game l.state));
   below : l.best ≤ l.power * l.common;
 }

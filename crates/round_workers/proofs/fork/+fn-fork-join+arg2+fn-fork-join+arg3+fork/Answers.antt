@@ -17,8 +17,12 @@ returns g t c =
     let some = crew.some in
     let p = c.split-other.ensures in
     let m = c.meet.ensures in
-    parts-meet q marks (front.last - front.first) (back.last - back.first) (crew.last - crew.first) crew.low front.high crew.high c.args.pass.seat c.split-other.new.pass.seat c.split-other.result.seat _ _ c.meet.result.pass.seat _ _ c.meet.result.raises
+    parts-meet q marks (front.last - front.first) (back.last - back.first)
+    (crew.last - crew.first) crew.low front.high crew.high c.args.pass.seat c.split-other.new.pass.seat
+    c.split-other.result.seat _ _ c.meet.result.pass.seat _ _ c.meet.result.raises
     p.grew p.seen p.won p.new.1 p.new.2 p.parts
-    (swept-same q marks (front.last - front.first) front.low front.high crew.low front.high _ _ _ h.lows.0 refl c.join-left.ensures.first)
-    (swept-same q marks (back.last - back.first) back.low back.high front.high crew.high _ _ _ h.lows.1 h.lows.2 c.join-left.ensures.second)
+    (swept-same q marks (front.last - front.first) front.low front.high crew.low front.high _ _ _ h.lows.0 refl
+    c.join-left.ensures.first)
+    (swept-same q marks (back.last - back.first) back.low back.high front.high crew.high _ _ _ h.lows.1 h.lows.2
+    c.join-left.ensures.second)
     m.left m.right m.won m.parts m.raises (omega arith) (omega arith) (omega arith)

@@ -6,8 +6,10 @@ use Rattle.round_workers.proofs.fork.halves.Goals as goal
 
 pub halves-requires-clause-crew : goal.halves-requires-clause-crew
 halves-requires-clause-crew g c =
-    subst (λ (game : List (List Distribution)). IsCrew game c.args.crew) (sym (c.game.ensures ∙ ap (λ (q : Query). q.game) c.question.ensures)) c.requires.crew
+    subst (λ (game : List (List Distribution)). IsCrew game c.args.crew)
+    (sym (c.game.ensures ∙ ap (λ (q : Query). q.game) c.question.ensures)) c.requires.crew
 
 pub returns : goal.returns
 returns g c =
-    subst (λ (game : List (List Distribution)). AreHalves game c.args.crew c.halves.result.0 c.halves.result.1) (c.game.ensures ∙ ap (λ (q : Query). q.game) c.question.ensures) c.halves.ensures
+    subst (λ (game : List (List Distribution)). AreHalves game c.args.crew c.halves.result.0 c.halves.result.1)
+    (c.game.ensures ∙ ap (λ (q : Query). q.game) c.question.ensures) c.halves.ensures

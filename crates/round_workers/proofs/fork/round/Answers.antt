@@ -6,17 +6,20 @@ use Rattle.round_workers.proofs.fork.round.Goals as goal
 
 pub fork-requires-clause-crew : goal.fork-requires-clause-crew
 fork-requires-clause-crew g c κs within =
-    subst (λ (game : List (List Distribution)). IsCrew game c.all-crew.result) (c.game.ensures ∙ ap (λ (q : Query). q.game) c.question.ensures) c.all-crew.ensures.crew
+    subst (λ (game : List (List Distribution)). IsCrew game c.all-crew.result)
+    (c.game.ensures ∙ ap (λ (q : Query). q.game) c.question.ensures) c.all-crew.ensures.crew
 
 pub returns-clause-step : goal.returns-clause-step
 returns-clause-step g c s inside marked =
-    let high : c.all-crew.result.high ≡ states g.P.Posing.posed = c.all-crew.ensures.high ∙ ap length c.game.ensures ∙ ap (λ (q : Query). length q.game) c.question.ensures in
+    let high : c.all-crew.result.high ≡ states g.P.Posing.posed =
+    c.all-crew.ensures.high ∙ ap length c.game.ensures ∙ ap (λ (q : Query). length q.game) c.question.ensures in
     let low = c.all-crew.ensures.low in
     c.fork.ensures.step s (omega arith) (omega arith) marked
 
 pub returns-clause-few : goal.returns-clause-few
 returns-clause-few g c =
-    let high : c.all-crew.result.high ≡ states g.P.Posing.posed = c.all-crew.ensures.high ∙ ap length c.game.ensures ∙ ap (λ (q : Query). length q.game) c.question.ensures in
+    let high : c.all-crew.result.high ≡ states g.P.Posing.posed =
+    c.all-crew.ensures.high ∙ ap length c.game.ensures ∙ ap (λ (q : Query). length q.game) c.question.ensures in
     let few = c.fork.ensures.few in
     omega arith
 

@@ -9,7 +9,9 @@ loop-low-preserved-then-worker_of-worker c =
     let middle : ℕ = c.loop-low.low + (c.loop-low.high - c.loop-low.low) / 2 in record {
       order = omega arith;
       within = h.within;
-      before = λ s l. let less = worker_of-rises c.args.game.now c.args.workers s middle c.known.ensures (omega arith) in omega (arith, less);
+      before = λ s l.
+          let less = worker_of-rises c.args.game.now c.args.workers s middle c.known.ensures (omega arith) in
+          omega (arith, less);
       behind = h.behind;
     }
 
@@ -22,5 +24,7 @@ loop-low-preserved c =
       order = omega arith;
       within = omega arith;
       before = h.before;
-      behind = λ s l _. let more = worker_of-rises c.args.game.now c.args.workers middle s c.known.ensures (omega arith) in omega (arith, more);
+      behind = λ s l _.
+          let more = worker_of-rises c.args.game.now c.args.workers middle s c.known.ensures (omega arith) in
+          omega (arith, more);
     }

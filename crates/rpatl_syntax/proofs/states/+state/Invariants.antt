@@ -36,7 +36,8 @@ decreases-read_right l = 16 * l.room + 9
 
 abbrev pub invariant-level_state-loop-after : goal.invariant-level_state-loop-after
 invariant-level_state-loop-after l =
-    Stands (sign_of l.level) (join_of l.level) (operand_of l.level (unary (nested l.room))) (state_of l.left) (tokens_at l.rest) (level_of l.level (unary (nested l.room)) (tokens_at l.cursor))
+    Stands (sign_of l.level) (join_of l.level) (operand_of l.level (unary (nested l.room))) (state_of l.left)
+    (tokens_at l.rest) (level_of l.level (unary (nested l.room)) (tokens_at l.cursor))
 
 abbrev pub decreases-level_state-loop-after : goal.decreases-level_state-loop-after
 decreases-level_state-loop-after l = count_of (tokens_at l.rest)

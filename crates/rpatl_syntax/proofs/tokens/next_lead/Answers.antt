@@ -9,4 +9,5 @@ returns-in-Spelling c =
     let whole : c.loop-first.rest.now ≡ c.in-Some.first.now ∷ c.in-Some.others.now = search rules in
     let P : Tokens → Type 0 = λ ts. Leads ts c.cut.result in
     subst P c.loop-first.invariant.tokens
-    (led_by _ _ _ _ _ _ whole (sym c.in-Spelling.ensures.value) c.in-Spelling.ensures.within.0 c.in-Spelling.ensures.within.1 c.cut.ensures)
+    (led_by _ _ _ _ _ _ whole (sym c.in-Spelling.ensures.value) c.in-Spelling.ensures.within.0
+    c.in-Spelling.ensures.within.1 c.cut.ensures)

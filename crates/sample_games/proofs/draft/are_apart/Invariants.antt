@@ -3,4 +3,5 @@ use Rattle.std.specs.Prelude.{slice_index_or}
 use Rattle.sample_games.proofs.draft.are_apart.Given as goal
 
 abbrev pub invariant-loop-state : goal.invariant-loop-state
-invariant-loop-state l = (s : ℕ) → s < l.state → slice_index_or l.goal s false ≡ true → slice_index_or l.dead s false ≡ false
+invariant-loop-state l =
+    (s : ℕ) → s < l.state → slice_index_or l.goal s false ≡ true → slice_index_or l.dead s false ≡ false

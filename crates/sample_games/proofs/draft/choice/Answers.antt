@@ -10,5 +10,7 @@ loop-to-preserved c =
     let h = c.loop-to.invariant in
     let few = h.few in
     subst (AreEdges c.args.states (pair.0 + 1)) (sym c.in-Ok.ensures.items)
-    (AreEdges-more c.args.states c.loop-to.least c.loop-to.made.items edge h (omega (arith, few, c.len.ensures, c.if-len-eq-MOST_EDGES.false)) c.if-to-least.false c.if-to-states.false
-    (omega (arith, c.from.ensures, c.if-weight-eq0.false)) (omega (arith, c.from.ensures, c.if-weight-gt-MOST_WEIGHT.false)))
+    (AreEdges-more c.args.states c.loop-to.least c.loop-to.made.items edge h
+    (omega (arith, few, c.len.ensures, c.if-len-eq-MOST_EDGES.false)) c.if-to-least.false c.if-to-states.false
+    (omega (arith, c.from.ensures, c.if-weight-eq0.false))
+    (omega (arith, c.from.ensures, c.if-weight-gt-MOST_WEIGHT.false)))

@@ -15,14 +15,18 @@ returns-clause-sound c = sound c.args.question.now _ c.known.ensures (record {
 
 pub returns-clause-sure : goal.returns-clause-sure
 returns-clause-sure c = record {
-  lower = lower-exactly c.args.question.now c.known.ensures c.args.sure.now c.args.zero.now c.requires.sure c.requires.zero _ _ c.in_ok-reached.ensures.values;
-  upper = upper-unit c.args.question.now c.known.ensures c.args.sure.now c.args.zero.now c.requires.sure c.requires.zero _ _ c.in_ok-held.ensures.values;
+  lower = lower-exactly c.args.question.now c.known.ensures c.args.sure.now c.args.zero.now c.requires.sure
+      c.requires.zero _ _ c.in_ok-reached.ensures.values;
+  upper = upper-unit c.args.question.now c.known.ensures c.args.sure.now c.args.zero.now c.requires.sure c.requires.zero
+      _ _ c.in_ok-held.ensures.values;
 }
 
 pub returns-clause-zero : goal.returns-clause-zero
 returns-clause-zero c = record {
-  upper = upper-exactly c.args.question.now c.args.sure.now c.args.zero.now c.requires.zero _ _ c.in_ok-held.ensures.values;
-  lower = lower-never c.args.question.now c.known.ensures c.args.sure.now c.args.zero.now c.requires.sure c.requires.zero _ _ c.in_ok-reached.ensures.values;
+  upper = upper-exactly c.args.question.now c.args.sure.now c.args.zero.now c.requires.zero _ _
+      c.in_ok-held.ensures.values;
+  lower = lower-never c.args.question.now c.known.ensures c.args.sure.now c.args.zero.now c.requires.sure
+      c.requires.zero _ _ c.in_ok-reached.ensures.values;
 }
 
 pub returns-clause-bounds : goal.returns-clause-bounds
@@ -35,6 +39,9 @@ returns-clause-bounds c =
       zero = c.args.zero.now;
       almost_sure = c.requires.sure;
       zero_set = c.requires.zero;
-      lower_of = subst (λ (l : List ℕ). IsLowerOf q sure zero (counted (states q) l) c.in_ok-reached.reached.values.items) c.deref.ensures.value c.in_ok-reached.ensures.values;
-      upper_of = subst (λ (l : List ℕ). IsUpperOf q sure zero (counted (states q) l) c.in_ok-held.held.values.items) c.deref-2.ensures.value c.in_ok-held.ensures.values;
+      lower_of =
+          subst (λ (l : List ℕ). IsLowerOf q sure zero (counted (states q) l) c.in_ok-reached.reached.values.items)
+          c.deref.ensures.value c.in_ok-reached.ensures.values;
+      upper_of = subst (λ (l : List ℕ). IsUpperOf q sure zero (counted (states q) l) c.in_ok-held.held.values.items)
+          c.deref-2.ensures.value c.in_ok-held.ensures.values;
     }

@@ -11,4 +11,5 @@ returns-clause-one c = after-within
 
 pub returns-clause-all : goal.returns-clause-all
 returns-clause-all c = λ q events w h leads.
-    subst (λ n. IsBelow q (value_at w.words) (down_steps q n)) (zero-add (sum_by wins events)) (Leads-within q (opening_configuration q) w events 0 refl (opening-keeps q h) leads (opening-within q))
+    subst (λ n. IsBelow q (value_at w.words) (down_steps q n)) (zero-add (sum_by wins events))
+    (Leads-within q (opening_configuration q) w events 0 refl (opening-keeps q h) leads (opening-within q))

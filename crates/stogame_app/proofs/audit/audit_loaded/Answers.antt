@@ -10,7 +10,8 @@ use Rattle.formula_sets.specs.Seen.{posing_of}
 use Rattle.asked_files.specs.SeenProblems.{problem_of}
 use Rattle.asked_files.specs.Sources.{SourceWith}
 use Rattle.stogame_app.specs.Reports.{of_audit}
-use Rattle.stogame_app.proofs.Answered.{answered_by, audit_asks, more_loaded, reached-inside, reported, uncertified, unposed, wanting}
+use Rattle.stogame_app.proofs.Answered.{answered_by, audit_asks, more_loaded, reached-inside, reported, uncertified}
+use Rattle.stogame_app.proofs.Answered.{unposed, wanting}
 use Rattle.question_reports.proofs.AuditedTexts.{accepted_audited}
 use Rattle.stogame_app.proofs.audit.audit_loaded.Goals as goal
 
@@ -18,17 +19,22 @@ pub returns-in_err-problem : goal.returns-in_err-problem
 returns-in_err-problem g c before reads leaves =
     let p = err_from_is_err_and c.from_residual.result c.from_residual.ensures.1 in
     let e = c.in_err-problem.ensures in
-    rw (p.1, p.2) (answered_by (audit_asks (audit_of c.args.audit.now)) leaves reads (unposed (audit_asks (audit_of c.args.audit.now)) problem_of e.says e.nothing))
+    rw (p.1, p.2) (answered_by (audit_asks (audit_of c.args.audit.now)) leaves reads
+    (unposed (audit_asks (audit_of c.args.audit.now)) problem_of e.says e.nothing))
 
 pub returns-in_err-plan : goal.returns-in_err-plan
 returns-in_err-plan g c before reads leaves =
     let p = err_from_is_err_and c.from_residual-in_err-plan.result c.from_residual-in_err-plan.ensures.1 in
     let problem = problem_of c.in_ok-problem.problem in
     let e = c.in_err-plan.ensures in
-    rw (p.1, p.2) (uncertified leaves (audit_of c.args.audit.now) problem (posing_of c.reached-posed.result.now) (reads.asks Unbounded problem c.in_ok-problem.ensures.says) c.reached-posed.ensures e.refused e.steadily e.shelf e.caused)
+    rw (p.1, p.2) (uncertified leaves (audit_of c.args.audit.now) problem (posing_of c.reached-posed.result.now)
+    (reads.asks Unbounded problem c.in_ok-problem.ensures.says) c.reached-posed.ensures e.refused
+    e.steadily e.shelf e.caused)
 
 pub audit_report-requires-clause-inside : goal.audit_report-requires-clause-inside
-audit_report-requires-clause-inside g c = rw (c.deref.ensures.value) (reached-inside (problem_of c.in_ok-problem.problem) (posing_of c.reached-posed.result.now) c.reached-posed.ensures c.in_ok-problem.ensures.inside)
+audit_report-requires-clause-inside g c =
+    rw (c.deref.ensures.value) (reached-inside (problem_of c.in_ok-problem.problem)
+    (posing_of c.reached-posed.result.now) c.reached-posed.ensures c.in_ok-problem.ensures.inside)
 
 pub returns : goal.returns
 returns g c before reads leaves =
@@ -40,11 +46,19 @@ returns g c before reads leaves =
     let question = posing.question in
     let formula = tree_of c.args.loaded.now.formula in
     let plan = c.in_ok-plan.plan in
-    let Q : Option Holding → Type 0 = λ h. SourceWith h name (λ source. GivenTextWith source (λ bytes. IsAccepted question bytes plan)) in
-    reported (audit_asks (audit_of c.args.audit.now)) (more_loaded leaves c.in_ok-plan.ensures.shelf) answer (λ words denoted short. of_audit (audit_of c.args.audit.now) problem posing formula
-    (record { denoted = denoted; posed = reads.asks Unbounded problem c.in_ok-problem.ensures.says; spelled = reads.spelled; short = short }) c.reached-posed.ensures
+    let Q : Option Holding → Type 0 =
+    λ h. SourceWith h name (λ source. GivenTextWith source (λ bytes. IsAccepted question bytes plan)) in
+    reported (audit_asks (audit_of c.args.audit.now)) (more_loaded leaves c.in_ok-plan.ensures.shelf) answer
+    (λ words denoted short. of_audit (audit_of c.args.audit.now) problem posing formula
+    (record {
+      denoted = denoted;
+      posed = reads.asks Unbounded problem c.in_ok-problem.ensures.says;
+      spelled = reads.spelled;
+      short = short;
+    }) c.reached-posed.ensures
     (accepted_audited holding name question posing.initial formula plan answer.text.items answer.status
-    (subst Q leaves.kept.held c.in_ok-plan.ensures.accepted) (rw c.deref.ensures.value at c.in_ok-answer.ensures.audited))) c.in_ok-answer.ensures.answer
+    (subst Q leaves.kept.held c.in_ok-plan.ensures.accepted)
+    (rw c.deref.ensures.value at c.in_ok-answer.ensures.audited))) c.in_ok-answer.ensures.answer
 
 pub returns-in_err-answer : goal.returns-in_err-answer
 returns-in_err-answer g c before reads leaves =

@@ -13,4 +13,5 @@ pub check_loaded-requires-clause-read : goal.check_loaded-requires-clause-read
 check_loaded-requires-clause-read g c = λ κs live. (g.H.Shelf.held c.args.shelf.now, c.in_ok-loaded.ensures.reads)
 
 pub returns : goal.returns
-returns g c = answered_by (check_asks (check_of c.args.check.now)) c.in_ok-loaded.ensures.shelf c.in_ok-loaded.ensures.reads c.check_loaded.ensures
+returns g c = answered_by (check_asks (check_of c.args.check.now)) c.in_ok-loaded.ensures.shelf
+    c.in_ok-loaded.ensures.reads c.check_loaded.ensures

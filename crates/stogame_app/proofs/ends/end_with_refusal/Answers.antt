@@ -16,5 +16,9 @@ returns-in-Ok-clause-ends g c = λ words holding taken refused.
     said_ends old new (refusal_text refusal) c.say.result c.refused_status.result c.say.ensures.either
     (λ so. subst (λ (t : List ℕ). GrowsBy old new t) is (c.say.ensures.all so))
     (λ so. subst (λ (t : List ℕ). GrowsByPrefix old new t) is (c.say.ensures.fault so).1)
-    (λ grows. subst (λ (s : Status). IsEnding words holding taken old new s) (sym c.refused_status.ensures) (refusal_ends old new refusal refused c.known.ensures grows))
-    (inr (inl (refused_status refusal, record { refusal = refusal; refused = refused; in_full = c.known.ensures; line = refl; ends = refl })))
+    (λ grows. subst (λ (s : Status). IsEnding words holding taken old new s) (sym c.refused_status.ensures)
+    (refusal_ends old new refusal refused c.known.ensures grows))
+    (inr (inl (
+      refused_status refusal,
+      record { refusal = refusal; refused = refused; in_full = c.known.ensures; line = refl; ends = refl },
+    )))

@@ -10,4 +10,5 @@ returns-in_err-loaded g c =
     rw (p.1, p.2) (unloaded (sure_asks (asked_of_words c.args.asked.now)) e.refused e.steadily e.shelf e.caused)
 
 pub returns : goal.returns
-returns g c = answered_by (sure_asks (asked_of_words c.args.asked.now)) c.in_ok-loaded.ensures.shelf c.in_ok-loaded.ensures.reads c.sure_of_loaded.ensures
+returns g c = answered_by (sure_asks (asked_of_words c.args.asked.now)) c.in_ok-loaded.ensures.shelf
+    c.in_ok-loaded.ensures.reads c.sure_of_loaded.ensures

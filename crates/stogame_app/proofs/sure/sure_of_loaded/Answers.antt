@@ -15,14 +15,21 @@ returns-in_err-problem c =
     rw (p.1, p.2) (unposed (sure_asks (asked_of_words c.args.asked.now)) problem_of e.says e.nothing)
 
 pub sure_report-requires : goal.sure_report-requires
-sure_report-requires c = rw (c.deref.ensures.value) (reached-inside (problem_of c.in_ok-problem.problem) (posing_of c.reached-posed.result.now) c.reached-posed.ensures c.in_ok-problem.ensures.inside)
+sure_report-requires c = rw (c.deref.ensures.value) (reached-inside (problem_of c.in_ok-problem.problem)
+    (posing_of c.reached-posed.result.now) c.reached-posed.ensures c.in_ok-problem.ensures.inside)
 
 pub returns : goal.returns
 returns c =
     let report = c.in_ok-report.report in
     let problem = problem_of c.in_ok-problem.problem in
-    report_made _ (λ holding words taken reads denoted short. of_sure (asked_of_words c.args.asked.now) problem (posing_of c.reached-posed.result.now) (tree_of c.args.loaded.now.formula) report.all
-    (record { denoted = denoted; posed = reads.asks Reaching problem c.in_ok-problem.ensures.says; spelled = reads.spelled; short = short }) c.reached-posed.ensures
+    report_made _ (λ holding words taken reads denoted short. of_sure (asked_of_words c.args.asked.now) problem
+    (posing_of c.reached-posed.result.now) (tree_of c.args.loaded.now.formula) report.all
+    (record {
+      denoted = denoted;
+      posed = reads.asks Reaching problem c.in_ok-problem.ensures.says;
+      spelled = reads.spelled;
+      short = short;
+    }) c.reached-posed.ensures
     (rw c.deref.ensures.value at c.in_ok-report.ensures) c.sure_status.ensures.status) c.sure_status.ensures.answer
 
 pub returns-in_err-report : goal.returns-in_err-report

@@ -6,4 +6,5 @@ pub returns-clause-posed : goal.returns-clause-posed
 returns-clause-posed c = ending-posed
 
 pub returns-clause-over : goal.returns-clause-over
-returns-clause-over c = λ q lost faces k s greatest least posed up down inside. ended q posed lost faces greatest least up down k [] s inside
+returns-clause-over c = λ q lost faces k s greatest least posed up down inside.
+    ended q posed lost faces greatest least up down k [] s inside

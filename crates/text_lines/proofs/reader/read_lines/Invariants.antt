@@ -5,7 +5,9 @@ use Rattle.text_lines.proofs.reader.read_lines.Given as goal
 
 abbrev pub invariant-loop-line : goal.invariant-loop-line
 invariant-loop-line g l = record {
-  goes_on : (answer : _) → BehindBlanks l.feed.blanks (lines_of l.rest) (λ more. g.R.LineReader.answers l.feed.reader l.feed.next more answer) → g.R.LineReader.answers l.fn.reader 1 (significant (lines_of l.text)) answer;
+  goes_on : (answer : _) → BehindBlanks l.feed.blanks (lines_of l.rest)
+      (λ more. g.R.LineReader.answers l.feed.reader l.feed.next more answer)
+      → g.R.LineReader.answers l.fn.reader 1 (significant (lines_of l.text)) answer;
   count : l.feed.next + l.feed.blanks + length l.rest ≤ length l.text + 1;
 }
 

@@ -18,10 +18,15 @@ pub returns : goal.returns
 returns c =
     let n = c.args.header.now.states in
     let ordered = c.put_in_order.new.transitions.items in
-    let small : (ts : List Transition) → All (IsWithin n) ts → AreSmall ts = λ ts within. All-weaker (IsWithin n) (λ t. t.choice < most_stated_choices) (λ t w. w.choice_in) ts within in
-    let same = same_transitions ordered c.args.transitions.items (small ordered (c.in_ok-put_in_order.ensures.within n c.requires.within)) (small c.args.transitions.items c.requires.within) c.in_ok-put_in_order.ensures.same in
-    let P : Result (List (List Distribution)) TraFault → Type 0 = λ said. AnswersOrWants IsOutOfMemory (λ (g : List (List Distribution)). g) c.build_in_order.result said in
-    subst P (ap (λ (ts : List Transition). transitions_game ts n c.args.header.now.choices) c.deref.ensures.value ∙ game_alike ordered c.args.transitions.items n c.args.header.now.choices same) c.build_in_order.ensures
+    let small : (ts : List Transition) → All (IsWithin n) ts → AreSmall ts =
+    λ ts within. All-weaker (IsWithin n) (λ t. t.choice < most_stated_choices) (λ t w. w.choice_in) ts within in
+    let same = same_transitions ordered c.args.transitions.items
+    (small ordered (c.in_ok-put_in_order.ensures.within n c.requires.within))
+    (small c.args.transitions.items c.requires.within) c.in_ok-put_in_order.ensures.same in
+    let P : Result (List (List Distribution)) TraFault → Type 0 =
+    λ said. AnswersOrWants IsOutOfMemory (λ (g : List (List Distribution)). g) c.build_in_order.result said in
+    subst P (ap (λ (ts : List Transition). transitions_game ts n c.args.header.now.choices) c.deref.ensures.value
+    ∙ game_alike ordered c.args.transitions.items n c.args.header.now.choices same) c.build_in_order.ensures
 
 pub build_in_order-requires-clause-within : goal.build_in_order-requires-clause-within
 build_in_order-requires-clause-within c =

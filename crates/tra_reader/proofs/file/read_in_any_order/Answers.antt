@@ -13,6 +13,8 @@ pub returns-clause-reads : goal.returns-clause-reads
 unfolding game_of
 returns-clause-reads g c =
     reads_so (g.H.Shelf.held c.args.shelf.now) c.args.name.now c.args.limit
-    (λ text answer. AnyRight c.new-reader.result.held 1 (significant (lines_of text)) answer) (λ text answer. AnswersOrWants IsOutOfMemory (λ g. g) answer (game_of text))
-    (λ text answer right. given answer (game_of text) (right_whole any_header HoldsAny (λ (f : TraFault). Some f) c.new-reader.result.held (significant (lines_of text)) answer c.new-reader.ensures right))
+    (λ text answer. AnyRight c.new-reader.result.held 1 (significant (lines_of text)) answer)
+    (λ text answer. AnswersOrWants IsOutOfMemory (λ g. g) answer (game_of text))
+    (λ text answer right. given answer (game_of text) (right_whole any_header HoldsAny (λ (f : TraFault). Some f)
+    c.new-reader.result.held (significant (lines_of text)) answer c.new-reader.ensures right))
     c.read_lines_from.result c.read_lines_from.ensures.reads

@@ -10,12 +10,14 @@ use Rattle.tra_reader.proofs.reader.read_tra.Goals as goal
 
 pub returns-in-Ok : goal.returns-in-Ok
 unfolding game_of
-returns-in-Ok c = right_whole ordered_header HoldsOrdered text_fault c.new.result.held (significant (lines_of c.args.bytes.now)) (Ok c.in-Ok.game) c.new.ensures c.in-Ok.ensures
+returns-in-Ok c = right_whole ordered_header HoldsOrdered text_fault c.new.result.held
+    (significant (lines_of c.args.bytes.now)) (Ok c.in-Ok.game) c.new.ensures c.in-Ok.ensures
 
 pub returns-in-Err-Refused : goal.returns-in-Err-Refused
 unfolding game_of
 returns-in-Err-Refused c =
-    let right = right_whole ordered_header HoldsOrdered text_fault c.new.result.held (significant (lines_of c.args.bytes.now)) (Err c.in-Err-Refused.field-0) c.new.ensures c.in-Err-Refused.ensures in
+    let right = right_whole ordered_header HoldsOrdered text_fault c.new.result.held
+    (significant (lines_of c.args.bytes.now)) (Err c.in-Err-Refused.field-0) c.new.ensures c.in-Err-Refused.ensures in
     right c.in-Err-Refused.fault (ap (λ (halt : Halt). text_fault halt) c.in-Err-Refused.field-0-is)
 
 pub returns-in-Err-OutOfOrder : goal.returns-in-Err-OutOfOrder
@@ -23,4 +25,5 @@ unfolding game_of
 returns-in-Err-OutOfOrder c =
     let lines = significant (lines_of c.args.bytes.now) in
     let again = c.read_lines-in-Err-OutOfOrder in
-    given again.result (lines_game lines) (right_whole any_header HoldsAny (λ (f : TraFault). Some f) c.new-in-Err-OutOfOrder.result.held lines again.result c.new-in-Err-OutOfOrder.ensures again.ensures)
+    given again.result (lines_game lines) (right_whole any_header HoldsAny (λ (f : TraFault). Some f)
+    c.new-in-Err-OutOfOrder.result.held lines again.result c.new-in-Err-OutOfOrder.ensures again.ensures)

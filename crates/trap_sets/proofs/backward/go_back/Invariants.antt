@@ -10,7 +10,8 @@ invariant-loop-place l = record {
   marking : IsMarking (states_of l.inner) (IsBehind l.inner l.class l.pivot) l.seen l.list.items l.pivot;
   root : slice_index l.seen l.pivot ≡ l.pivot + 1;
   others : (s : ℕ) → (slice_index l.seen s ≡ l.pivot + 1 → ⊥) → slice_index l.seen s ≡ slice_index l.fn.seen s;
-  closed : (i s : ℕ) → i < l.place → IsStepOf l.inner s (slice_index l.list.items i) → slice_index l.class s ≡ 0 → slice_index l.seen s ≡ l.pivot + 1;
+  closed : (i s : ℕ) → i < l.place → IsStepOf l.inner s (slice_index l.list.items i) → slice_index l.class s ≡ 0
+      → slice_index l.seen s ≡ l.pivot + 1;
 }
 
 abbrev pub decreases-loop-place : goal.decreases-loop-place

@@ -7,5 +7,11 @@ pub bounds-of-to : goal.bounds-of-to
 bounds-of-to c =
     let q = c.args.question.now in
     let to : c.successors-to-items.result.now ≡ destinations (choice_of q.game c.args.state c.args.choice).edges =
-    c.successors-to-items.ensures ∙ ap (λ g. destinations (choice_of g c.args.state c.args.choice).edges) c.game.ensures in
-    omega (arith, c.requires.many, leads-inside q c.args.state c.args.choice _ c.known.ensures c.requires.state c.requires.choice (listed-leads q c.args.state c.args.choice c.loop-to.to-index c.successors-to-items.result.now to c.loop-to-test.true))
+    c.successors-to-items.ensures
+    ∙ ap (λ g. destinations (choice_of g c.args.state c.args.choice).edges) c.game.ensures in
+    omega (
+      arith,
+      c.requires.many,
+      leads-inside q c.args.state c.args.choice _ c.known.ensures c.requires.state c.requires.choice (listed-leads q
+          c.args.state c.args.choice c.loop-to.to-index c.successors-to-items.result.now to c.loop-to-test.true),
+    )

@@ -8,5 +8,6 @@ abbrev pub invariant-loop-choice : goal.invariant-loop-choice
 invariant-loop-choice l = record {
   marking : IsMarking (states_of l.inner) (IsBefore l.inner l.seen l.pivot) l.class l.list.items l.pivot;
   further : IsFurther l.fn.class l.class l.fn.list.items l.list.items l.pivot;
-  met : (c t : ℕ) → c < l.choice → IsInnerOf l.inner l.state c → LeadsOf l.inner l.state c t → slice_index l.seen t ≡ l.pivot + 1 → slice_index l.class t ≡ l.pivot + 1;
+  met : (c t : ℕ) → c < l.choice → IsInnerOf l.inner l.state c → LeadsOf l.inner l.state c t
+      → slice_index l.seen t ≡ l.pivot + 1 → slice_index l.class t ≡ l.pivot + 1;
 }

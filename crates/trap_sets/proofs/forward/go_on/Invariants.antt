@@ -10,7 +10,8 @@ invariant-loop-place l = record {
   marking : IsMarking (states_of l.inner) (IsBefore l.inner l.seen l.pivot) l.class l.list.items l.pivot;
   root : slice_index l.class l.pivot ≡ l.pivot + 1;
   others : (s : ℕ) → (slice_index l.class s ≡ l.pivot + 1 → ⊥) → slice_index l.class s ≡ slice_index l.fn.class s;
-  closed : (i t : ℕ) → i < l.place → IsStepOf l.inner (slice_index l.list.items i) t → slice_index l.seen t ≡ l.pivot + 1 → slice_index l.class t ≡ l.pivot + 1;
+  closed : (i t : ℕ) → i < l.place → IsStepOf l.inner (slice_index l.list.items i) t
+      → slice_index l.seen t ≡ l.pivot + 1 → slice_index l.class t ≡ l.pivot + 1;
 }
 
 abbrev pub decreases-loop-place : goal.decreases-loop-place

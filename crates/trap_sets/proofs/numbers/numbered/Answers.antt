@@ -16,4 +16,6 @@ number_all-requires-clause-none c =
     (IsNumbering-none part (replicate (length part) 0) (length-replicate (length part) 0) (zero-at (length part))))
 
 pub returns : goal.returns
-returns c = AreTraps-numbering c.args.cut.now.question.now c.args.cut.now.replies.now c.args.part.now c.number_all.new.names c.number_all.new.of.items (length c.args.part.now) c.in_ok-count.count c.args.cut.now.posed c.requires.keeps.many c.requires c.in_ok-count.ensures
+returns c = AreTraps-numbering c.args.cut.now.question.now c.args.cut.now.replies.now c.args.part.now
+    c.number_all.new.names c.number_all.new.of.items (length c.args.part.now) c.in_ok-count.count c.args.cut.now.posed
+    c.requires.keeps.many c.requires c.in_ok-count.ensures

@@ -14,7 +14,12 @@ bounds-entered-to c =
     let m = c.args.step in
     let to : c.successors-to-items.result.now ≡ destinations (choice_of q.game m.state m.choice).edges =
     c.successors-to-items.ensures ∙ ap (λ g. destinations (choice_of g m.state m.choice).edges) c.game-game.ensures in
-    omega (arith, c.requires.entered, leads-inside q m.state m.choice _ c.args.inner.now.cut.posed c.requires.state c.requires.choice (listed-leads q m.state m.choice c.loop-to.to-index c.successors-to-items.result.now to c.loop-to-test.true))
+    omega (
+      arith,
+      c.requires.entered,
+      leads-inside q m.state m.choice _ c.args.inner.now.cut.posed c.requires.state c.requires.choice
+          (listed-leads q m.state m.choice c.loop-to.to-index c.successors-to-items.result.now to c.loop-to-test.true),
+    )
 
 pub loop-to-preserved : goal.loop-to-preserved
 loop-to-preserved c =
@@ -24,8 +29,12 @@ loop-to-preserved c =
     let to : c.successors-to-items.result.now ≡ destinations (choice_of q.game m.state m.choice).edges =
     c.successors-to-items.ensures ∙ ap (λ g. destinations (choice_of g m.state m.choice).edges) c.game-game.ensures in
     let inside : get_or c.successors-to-items.result.now c.loop-to.to-index 0 < states_of inner =
-    leads-inside q m.state m.choice _ inner.cut.posed c.requires.state c.requires.choice (listed-leads q m.state m.choice c.loop-to.to-index c.successors-to-items.result.now to c.loop-to-test.true) in
+    leads-inside q m.state m.choice _ inner.cut.posed c.requires.state c.requires.choice
+    (listed-leads q m.state m.choice c.loop-to.to-index c.successors-to-items.result.now to c.loop-to-test.true) in
     elim c.if-not-entered-to.branch [
-      | then-not-entered-to+in_ok-push w ↦ subst (λ (xs : List Visit). All (λ v. v.state < states_of inner) xs) (sym (ap (λ v. v.items) w.stack-is ∙ w.in_ok-push.ensures.items)) (All-push (λ v. v.state < states_of inner) _ _ c.loop-to.invariant inside)
-      | else-not-entered-to w ↦ subst (λ (xs : List Visit). All (λ v. v.state < states_of inner) xs) (sym (ap (λ v. v.items) w.stack-is)) c.loop-to.invariant
+      | then-not-entered-to+in_ok-push w ↦ subst (λ (xs : List Visit). All (λ v. v.state < states_of inner) xs)
+          (sym (ap (λ v. v.items) w.stack-is ∙ w.in_ok-push.ensures.items))
+          (All-push (λ v. v.state < states_of inner) _ _ c.loop-to.invariant inside)
+      | else-not-entered-to w ↦ subst (λ (xs : List Visit). All (λ v. v.state < states_of inner) xs)
+          (sym (ap (λ v. v.items) w.stack-is)) c.loop-to.invariant
     ]

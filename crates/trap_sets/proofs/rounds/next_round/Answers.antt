@@ -10,7 +10,8 @@ returns-clause-keeps c =
     let r = c.args.cut.now.replies.now in
     let class = c.in_ok-round.round.class.items in
     let copied : c.copy_from_slice.new.self ≡ class = c.copy_from_slice.ensures.after ∙ c.deref.ensures.value in
-    subst (λ (xs : List ℕ). KeepsEnds q r xs) (sym copied) (KeepsEnds-classes q r c.trim.new.part c.in_ok-trim.ensures.keeps class c.in_ok-round.ensures.classes)
+    subst (λ (xs : List ℕ). KeepsEnds q r xs) (sym copied)
+    (KeepsEnds-classes q r c.trim.new.part c.in_ok-trim.ensures.keeps class c.in_ok-round.ensures.classes)
 
 pub returns-clause-joined : goal.returns-clause-joined
 returns-clause-joined c =
@@ -18,7 +19,8 @@ returns-clause-joined c =
     let r = c.args.cut.now.replies.now in
     let class = c.in_ok-round.round.class.items in
     let copied : c.copy_from_slice.new.self ≡ class = c.copy_from_slice.ensures.after ∙ c.deref.ensures.value in
-    λ none. subst (λ (xs : List ℕ). AreJoined q r xs) (sym copied) (AreJoined-uncut q r c.trim.new.part class c.in_ok-round.ensures.classes (c.in_ok-round.ensures.uncut none))
+    λ none. subst (λ (xs : List ℕ). AreJoined q r xs) (sym copied)
+    (AreJoined-uncut q r c.trim.new.part class c.in_ok-round.ensures.classes (c.in_ok-round.ensures.uncut none))
 
 pub returns-clause-fewer : goal.returns-clause-fewer
 returns-clause-fewer c =
@@ -28,4 +30,5 @@ returns-clause-fewer c =
     let class = c.in_ok-round.round.class.items in
     let copied : c.copy_from_slice.new.self ≡ class = c.copy_from_slice.ensures.after ∙ c.deref.ensures.value in
     λ some. subst (λ (xs : List ℕ). pairs xs < pairs old) (sym copied)
-    (fewer-cut q r old c.trim.new.part class c.requires.keeps c.in_ok-round.ensures.classes c.in_ok-trim.ensures.refines (c.in_ok-round.ensures.cut some))
+    (fewer-cut q r old c.trim.new.part class c.requires.keeps c.in_ok-round.ensures.classes c.in_ok-trim.ensures.refines
+    (c.in_ok-round.ensures.cut some))

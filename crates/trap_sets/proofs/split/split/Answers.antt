@@ -9,4 +9,5 @@ returns-clause-uncut c =
     let class = c.in_ok-class.class.items in
     λ none. subst (λ (x : Cut). AreUncutIn x c.args.part.now class) c.in_ok-inner.ensures.cut
     (subst (λ (xs : List ℕ). AreUncutIn c.in_ok-inner.inner.cut xs class) c.in_ok-inner.ensures.part
-    (subst (λ (ys : List ℕ). AreUncutOf c.in_ok-inner.inner ys) c.deref.ensures.value (c.any_cut-cuts.ensures.uncut none)))
+    (subst (λ (ys : List ℕ). AreUncutOf c.in_ok-inner.inner ys) c.deref.ensures.value
+    (c.any_cut-cuts.ensures.uncut none)))

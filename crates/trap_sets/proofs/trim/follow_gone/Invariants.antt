@@ -12,5 +12,6 @@ invariant-loop-step l = record {
   refines : (s : ℕ) → slice_index l.part s ≢ 0 → slice_index l.part s ≡ slice_index l.fn.part s;
   longer : IsLonger l.fn.gone.items l.gone.items;
   held : AreWaiting l.cut.question.now l.cut.replies.now l.part l.awaited l.gone.items l.place (states_in l.cut);
-  passed : (i : ℕ) → i < l.step-index → slice_index l.part (get_or l.step-items i (move 0 0)).state ≢ 0 → slice_index l.awaited (get_or l.step-items i (move 0 0)).state ≢ (get_or l.step-items i (move 0 0)).choice;
+  passed : (i : ℕ) → i < l.step-index → slice_index l.part (get_or l.step-items i (move 0 0)).state ≢ 0
+      → slice_index l.awaited (get_or l.step-items i (move 0 0)).state ≢ (get_or l.step-items i (move 0 0)).choice;
 }

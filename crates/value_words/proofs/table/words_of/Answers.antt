@@ -12,4 +12,6 @@ take-found (x ∷ xs) (suc i) a e = ap (λ l. x ∷ l) (take-found xs i a e)
 pub loop-state-preserved : goal.loop-state-preserved
 loop-state-preserved c =
     let all = slots_items c.args.closed.now.words in
-    c.in-Ok.ensures.items ∙ ap (λ l. l ++ c.word.result ∷ []) c.loop-state.invariant ∙ take-found all c.loop-state.state c.word.result c.word.ensures ∙ ap (λ n. take n all) (sym (add-one c.loop-state.state))
+    c.in-Ok.ensures.items ∙ ap (λ l. l ++ c.word.result ∷ []) c.loop-state.invariant
+    ∙ take-found all c.loop-state.state c.word.result c.word.ensures
+    ∙ ap (λ n. take n all) (sym (add-one c.loop-state.state))

@@ -7,4 +7,5 @@ use Rattle.bracket_engine.proofs.stopping.Ending.settles.Given as goal
 
 abbrev pub invariant-loop-state : goal.invariant-loop-state
 invariant-loop-state g l = (k : ℕ) → k < l.state-index
-    → is_settling (verdict_of (bound_of l.self.rule.now) (slice_index l.lower (slice_index l.self.initial.now k)) (upper_from (slice_index l.swapped_values) (slice_index l.guess) (slice_index l.self.initial.now k))) ≡ true
+    → is_settling (verdict_of (bound_of l.self.rule.now) (slice_index l.lower (slice_index l.self.initial.now k))
+    (upper_from (slice_index l.swapped_values) (slice_index l.guess) (slice_index l.self.initial.now k))) ≡ true

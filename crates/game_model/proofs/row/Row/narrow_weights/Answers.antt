@@ -14,11 +14,13 @@ pub part-requires-clause-order : goal.part-requires-clause-order
 part-requires-clause-order c = c.self.invariant.ends _ (bound-inside _ _ _ _ _ _ c.self.view_is _ c.requires.choice)
 
 pub part-requires-clause-within : goal.part-requires-clause-within
-part-requires-clause-within c = c.self.invariant.low_within _ (bound-inside _ _ _ _ _ _ c.self.view_is _ c.requires.choice)
+part-requires-clause-within c =
+    c.self.invariant.low_within _ (bound-inside _ _ _ _ _ _ c.self.view_is _ c.requires.choice)
 
 pub returns : goal.returns
 returns c =
-    let inside : c.args.choice + 1 < length c.self.inside.bounds.now = bound-inside _ _ _ _ _ _ c.self.view_is _ c.requires.choice in
+    let inside : c.args.choice + 1 < length c.self.inside.bounds.now =
+    bound-inside _ _ _ _ _ _ c.self.view_is _ c.requires.choice in
     c.part.ensures
     ∙ take-drop-span c.self.inside.low.now (slice_index c.self.inside.bounds.now c.args.choice)
     (slice_index c.self.inside.bounds.now (c.args.choice + 1) - slice_index c.self.inside.bounds.now c.args.choice)

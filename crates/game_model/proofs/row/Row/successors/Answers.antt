@@ -18,7 +18,8 @@ part-requires-clause-within c = c.self.invariant.to_within _ (bound-inside _ _ _
 
 pub returns : goal.returns
 returns c =
-    let inside : c.args.choice + 1 < length c.self.inside.bounds.now = bound-inside _ _ _ _ _ _ c.self.view_is _ c.requires in
+    let inside : c.args.choice + 1 < length c.self.inside.bounds.now =
+    bound-inside _ _ _ _ _ _ c.self.view_is _ c.requires in
     c.part.ensures
     ∙ take-drop-span c.self.inside.to.now (slice_index c.self.inside.bounds.now c.args.choice)
     (slice_index c.self.inside.bounds.now (c.args.choice + 1) - slice_index c.self.inside.bounds.now c.args.choice)

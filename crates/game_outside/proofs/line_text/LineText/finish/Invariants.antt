@@ -8,7 +8,8 @@ invariant-loop g l = record {
   so_far : (more : List ℕ) × Takes l.fn.self l.self (g.H.Shelf.rest l.fn.shelf) (g.H.Shelf.rest l.shelf) more;
   on : CountsOn l.fn.self l.self (g.H.Shelf.taken l.shelf);
   ended : l.fn.self.ended ≡ true → (l.self.ended ≡ true) × (l.shelf ≡ l.fn.shelf);
-  kept : KeepsShelf (g.H.Shelf.held l.fn.shelf) (g.H.Shelf.held l.shelf) (g.H.Shelf.steady l.fn.shelf) (g.H.Shelf.steady l.shelf) (g.H.Shelf.faults l.fn.shelf) (g.H.Shelf.faults l.shelf);
+  kept : KeepsShelf (g.H.Shelf.held l.fn.shelf) (g.H.Shelf.held l.shelf) (g.H.Shelf.steady l.fn.shelf)
+      (g.H.Shelf.steady l.shelf) (g.H.Shelf.faults l.fn.shelf) (g.H.Shelf.faults l.shelf);
   quiet : g.H.Shelf.steady l.fn.shelf ≡ true → g.H.Shelf.faults l.shelf ≡ g.H.Shelf.faults l.fn.shelf;
 }
 

@@ -5,13 +5,16 @@ use Rattle.game_outside.proofs.line_text.LineText.next_line.Goals as goal
 
 pub end_line-requires : goal.end_line-requires
 end_line-requires g c =
-    none_before c.args.self.now c.loop-self.self (g.H.Shelf.rest c.args.shelf.now) (g.H.Shelf.rest c.loop-self.shelf) c.loop-self.line.items c.give.new.line.items c.give.new.self.held
+    none_before c.args.self.now c.loop-self.self (g.H.Shelf.rest c.args.shelf.now)
+    (g.H.Shelf.rest c.loop-self.shelf) c.loop-self.line.items c.give.new.line.items c.give.new.self.held
     c.loop-self.invariant.on_the_way (c.give.ensures.lf (search rules))
 
 pub returns-in-Ok-true-clause-line : goal.returns-in-Ok-true-clause-line
 returns-in-Ok-true-clause-line g c is =
-    line_ends c.args.self.now c.loop-self.self c.give.new.self (g.H.Shelf.rest c.args.shelf.now) (g.H.Shelf.rest c.loop-self.shelf) c.loop-self.line.items c.give.new.line.items c.end_line.new.line.items
-    c.loop-self.invariant.on_the_way (c.give.ensures.lf (search rules)) c.give.ensures.same c.end_line.ensures c.loop-self.invariant.going.0
+    line_ends c.args.self.now c.loop-self.self c.give.new.self (g.H.Shelf.rest c.args.shelf.now)
+    (g.H.Shelf.rest c.loop-self.shelf) c.loop-self.line.items c.give.new.line.items c.end_line.new.line.items
+    c.loop-self.invariant.on_the_way (c.give.ensures.lf (search rules)) c.give.ensures.same c.end_line.ensures
+    c.loop-self.invariant.going.0
 
 pub returns-in_err-fill-clause-text : goal.returns-in_err-fill-clause-text
 returns-in_err-fill-clause-text g c = record {
@@ -19,22 +22,29 @@ returns-in_err-fill-clause-text g c = record {
   limit = search rules;
   closed = search rules;
   ended = search rules;
-  too_long = λ is. passes_more c.args.self.now c.give.new.self (g.H.Shelf.rest c.args.shelf.now) (g.H.Shelf.rest c.loop-self.shelf) (g.H.Shelf.rest c.fill.new.shelf) _
-      (held_given c.args.self.now c.loop-self.self c.give.new.self (g.H.Shelf.rest c.args.shelf.now) (g.H.Shelf.rest c.loop-self.shelf) c.loop-self.line.items c.give.new.line.items
-      c.loop-self.invariant.on_the_way (c.give.ensures.none (search rules)) c.give.ensures.same).takes (search rules) (search rules);
+  too_long = λ is. passes_more c.args.self.now c.give.new.self (g.H.Shelf.rest c.args.shelf.now)
+      (g.H.Shelf.rest c.loop-self.shelf) (g.H.Shelf.rest c.fill.new.shelf) _
+      (held_given c.args.self.now c.loop-self.self c.give.new.self (g.H.Shelf.rest c.args.shelf.now)
+      (g.H.Shelf.rest c.loop-self.shelf) c.loop-self.line.items c.give.new.line.items
+      c.loop-self.invariant.on_the_way (c.give.ensures.none (search rules)) c.give.ensures.same).takes (search rules)
+      (search rules);
 }
 
 pub is_last-requires : goal.is_last-requires
 is_last-requires g c =
     subst (λ line. HasNo 10 line) (sym c.deref.ensures.value)
-    (held_given c.args.self.now c.loop-self.self c.give.new.self (g.H.Shelf.rest c.args.shelf.now) (g.H.Shelf.rest c.loop-self.shelf) c.loop-self.line.items c.give.new.line.items
+    (held_given c.args.self.now c.loop-self.self c.give.new.self (g.H.Shelf.rest c.args.shelf.now)
+    (g.H.Shelf.rest c.loop-self.shelf) c.loop-self.line.items c.give.new.line.items
     c.loop-self.invariant.on_the_way (c.give.ensures.none (search rules)) c.give.ensures.same).no_lf
 
 pub returns-then-not-branch-clause-line : goal.returns-then-not-branch-clause-line
 returns-then-not-branch-clause-line g c is =
-    text_ends c.args.self.now c.fill.new.self (g.H.Shelf.rest c.args.shelf.now) (g.H.Shelf.rest c.fill.new.shelf) c.give.new.line.items
-    (piece_comes c.args.self.now c.give.new.self c.fill.new.self (g.H.Shelf.rest c.args.shelf.now) (g.H.Shelf.rest c.loop-self.shelf) (g.H.Shelf.rest c.fill.new.shelf) c.give.new.line.items
-    (held_given c.args.self.now c.loop-self.self c.give.new.self (g.H.Shelf.rest c.args.shelf.now) (g.H.Shelf.rest c.loop-self.shelf) c.loop-self.line.items c.give.new.line.items
+    text_ends c.args.self.now c.fill.new.self (g.H.Shelf.rest c.args.shelf.now)
+    (g.H.Shelf.rest c.fill.new.shelf) c.give.new.line.items
+    (piece_comes c.args.self.now c.give.new.self c.fill.new.self (g.H.Shelf.rest c.args.shelf.now)
+    (g.H.Shelf.rest c.loop-self.shelf) (g.H.Shelf.rest c.fill.new.shelf) c.give.new.line.items
+    (held_given c.args.self.now c.loop-self.self c.give.new.self (g.H.Shelf.rest c.args.shelf.now)
+    (g.H.Shelf.rest c.loop-self.shelf) c.loop-self.line.items c.give.new.line.items
     c.loop-self.invariant.on_the_way (c.give.ensures.none (search rules)) c.give.ensures.same)
     (search rules) (λ ended. ap g.H.Shelf.rest (c.fill.ensures.text.ended ended)) c.in_ok-fill.ensures.piece)
     (search rules) (search rules) (search rules) (search rules) c.loop-self.invariant.going.0
@@ -42,8 +52,10 @@ returns-then-not-branch-clause-line g c is =
 pub loop-self-preserved : goal.loop-self-preserved
 loop-self-preserved g c = record {
   on_the_way =
-      piece_comes c.args.self.now c.give.new.self c.fill.new.self (g.H.Shelf.rest c.args.shelf.now) (g.H.Shelf.rest c.loop-self.shelf) (g.H.Shelf.rest c.fill.new.shelf) c.give.new.line.items
-      (held_given c.args.self.now c.loop-self.self c.give.new.self (g.H.Shelf.rest c.args.shelf.now) (g.H.Shelf.rest c.loop-self.shelf) c.loop-self.line.items c.give.new.line.items
+      piece_comes c.args.self.now c.give.new.self c.fill.new.self (g.H.Shelf.rest c.args.shelf.now)
+      (g.H.Shelf.rest c.loop-self.shelf) (g.H.Shelf.rest c.fill.new.shelf) c.give.new.line.items
+      (held_given c.args.self.now c.loop-self.self c.give.new.self (g.H.Shelf.rest c.args.shelf.now)
+      (g.H.Shelf.rest c.loop-self.shelf) c.loop-self.line.items c.give.new.line.items
       c.loop-self.invariant.on_the_way (c.give.ensures.none (search rules)) c.give.ensures.same)
       (search rules) (λ ended. ap g.H.Shelf.rest (c.fill.ensures.text.ended ended)) c.in_ok-fill.ensures.piece;
   on = search rules;

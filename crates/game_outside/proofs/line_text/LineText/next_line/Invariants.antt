@@ -8,7 +8,8 @@ invariant-loop-self g l = record {
   on_the_way : IsOnTheWay l.fn.self l.self (g.H.Shelf.rest l.fn.shelf) (g.H.Shelf.rest l.shelf) l.line.items;
   on : CountsOn l.fn.self l.self (g.H.Shelf.taken l.shelf);
   going : (l.fn.self.ended ≡ false) × (l.self.ended ≡ false);
-  kept : KeepsShelf (g.H.Shelf.held l.fn.shelf) (g.H.Shelf.held l.shelf) (g.H.Shelf.steady l.fn.shelf) (g.H.Shelf.steady l.shelf) (g.H.Shelf.faults l.fn.shelf) (g.H.Shelf.faults l.shelf);
+  kept : KeepsShelf (g.H.Shelf.held l.fn.shelf) (g.H.Shelf.held l.shelf) (g.H.Shelf.steady l.fn.shelf)
+      (g.H.Shelf.steady l.shelf) (g.H.Shelf.faults l.fn.shelf) (g.H.Shelf.faults l.shelf);
   quiet : g.H.Shelf.steady l.fn.shelf ≡ true → g.H.Shelf.faults l.shelf ≡ g.H.Shelf.faults l.fn.shelf;
 }
 

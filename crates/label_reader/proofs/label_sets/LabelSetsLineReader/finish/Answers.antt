@@ -9,5 +9,6 @@ labelled n labels = record { states = n; labels = labels }
 pub returns : goal.returns
 returns c = λ number read marked.
     ap (λ (l : Labelling). Ok l)
-    (ap (λ (labels : List Label). labelled c.args.self.states labels) (sym (labels_named-marked c.args.self.states read c.into_names.result.entries c.args.self.header c.args.self.sets.items c.into_names.ensures marked))
+    (ap (λ (labels : List Label). labelled c.args.self.states labels) (sym (labels_named-marked c.args.self.states read
+    c.into_names.result.entries c.args.self.header c.args.self.sets.items c.into_names.ensures marked))
     ∙ sym c.new.ensures)

@@ -17,6 +17,7 @@ returns c = λ number read holds.
     let owners = c.args.self.owners.items in
     let players = names_of-items c.into_names.result.entries ∙ ap (λ (is : List Item). names is) c.into_names.ensures in
     ap (λ (o : Ownership). Ok o)
-    (ap (λ (places : List ℕ). owned (names items) places) (sym (places_of-read c.args.self.states items read owners holds))
+    (ap (λ (places : List ℕ). owned (names items) places)
+    (sym (places_of-read c.args.self.states items read owners holds))
     ∙ ap (λ (ns : List (List ℕ)). owned ns (places_of owners)) (sym players)
     ∙ sym c.new.ensures)

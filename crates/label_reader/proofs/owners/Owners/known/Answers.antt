@@ -10,5 +10,7 @@ pub returns : goal.returns
 returns c =
     let P : Ownership → Type 0 = λ o. IsOwnership o in
     let Q : ℕ → Type 0 = λ n. All (λ place. place < n) (places_of c.self.inside.owners.items) in
-    let named = All-map (λ place. place < length c.self.inside.names.entries) (λ owner. unwrap_or owner 0) c.self.inside.owners.items c.self.invariant.known in
-    subst P c.self.view_is (record { known = subst Q (sym (length-map c.self.inside.names.entries (λ entry. entry.0.items))) named })
+    let named = All-map (λ place. place < length c.self.inside.names.entries)
+    (λ owner. unwrap_or owner 0) c.self.inside.owners.items c.self.invariant.known in
+    subst P c.self.view_is
+    (record { known = subst Q (sym (length-map c.self.inside.names.entries (λ entry. entry.0.items))) named })

@@ -9,13 +9,16 @@ use Rattle.plan_text.proofs.entry.StateLine.read.Goals as goal
 
 pub returns-in_default-clause-said : goal.returns-in_default-clause-said
 returns-in_default-clause-said c =
-    let none : None ≡ option_map saturated_entry (entry_in c.args.version c.args.state (fields_of c.args.line.now)) = search rules in
+    let none : None ≡ option_map saturated_entry (entry_in c.args.version c.args.state (fields_of c.args.line.now)) =
+    search rules in
     judged-read None _ none
 
 pub returns-then-is_in_range-clause-said : goal.returns-then-is_in_range-clause-said
 returns-then-is_in_range-clause-said c =
-    sym (ap (λ v. cond v (Ok c.in-Some.entry) (Err NumberOutOfRange)) (sym c.is_in_range.ensures ∙ c.if-is_in_range.true)) ∙ judged-read (Some c.in-Some.entry) _ c.in-Some.ensures
+    sym (ap (λ v. cond v (Ok c.in-Some.entry) (Err NumberOutOfRange))
+    (sym c.is_in_range.ensures ∙ c.if-is_in_range.true)) ∙ judged-read (Some c.in-Some.entry) _ c.in-Some.ensures
 
 pub returns-else-is_in_range-clause-said : goal.returns-else-is_in_range-clause-said
 returns-else-is_in_range-clause-said c =
-    sym (ap (λ v. cond v (Ok c.in-Some.entry) (Err NumberOutOfRange)) (sym c.is_in_range.ensures ∙ c.if-is_in_range.false)) ∙ judged-read (Some c.in-Some.entry) _ c.in-Some.ensures
+    sym (ap (λ v. cond v (Ok c.in-Some.entry) (Err NumberOutOfRange))
+    (sym c.is_in_range.ensures ∙ c.if-is_in_range.false)) ∙ judged-read (Some c.in-Some.entry) _ c.in-Some.ensures

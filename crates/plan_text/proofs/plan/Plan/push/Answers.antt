@@ -6,7 +6,13 @@ use Rattle.plan_text.proofs.plan.Plan.push.Goals as goal
 pub returns-clause-entries : goal.returns-clause-entries
 returns-clause-entries c =
     let old = c.args.self.now in
-    let new : Plan = record { lower = c.push.new.self; choices = c.push-2.new.self; ranks = c.push-3.new.self; upper = c.push-4.new.self; replies = c.push-5.new.self } in
+    let new : Plan = record {
+      lower = c.push.new.self;
+      choices = c.push-2.new.self;
+      ranks = c.push-3.new.self;
+      upper = c.push-4.new.self;
+      replies = c.push-5.new.self;
+    } in
     let pushed : IsPushed old new c.args.entry = record {
       lower = search rules;
       choices = search rules;

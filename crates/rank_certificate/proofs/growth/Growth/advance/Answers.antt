@@ -3,12 +3,15 @@ use Rattle.rank_certificate.proofs.Grown.{followed-apart}
 use Rattle.rank_certificate.proofs.growth.Growth.advance.Goals as goal
 
 pub returns-then-layer-saturating_sub-clause-growth : goal.returns-then-layer-saturating_sub-clause-growth
-returns-then-layer-saturating_sub-clause-growth c = c.in_ok-look_at_all.ensures.growth c.args.begin c.args.self.now.order.items c.requires.growth
+returns-then-layer-saturating_sub-clause-growth c =
+    c.in_ok-look_at_all.ensures.growth c.args.begin c.args.self.now.order.items c.requires.growth
 
 pub returns-then-layer-saturating_sub-clause-apart : goal.returns-then-layer-saturating_sub-clause-apart
-returns-then-layer-saturating_sub-clause-apart c = c.in_ok-look_at_all.ensures.apart c.args.begin c.args.self.now.order.items c.requires.growth
+returns-then-layer-saturating_sub-clause-apart c =
+    c.in_ok-look_at_all.ensures.apart c.args.begin c.args.self.now.order.items c.requires.growth
 
 pub returns-clause-apart : goal.returns-clause-apart
 returns-clause-apart c s inside =
-    followed-apart c.args.asked.now.question.now (value_in c.args.asked.now) (only_in c.args.asked.now) c.args.level c.args.begin c.args.self.now.order.items _ _ _ c.args.asked.now.posed c.requires.positive
+    followed-apart c.args.asked.now.question.now (value_in c.args.asked.now) (only_in c.args.asked.now) c.args.level
+    c.args.begin c.args.self.now.order.items _ _ _ c.args.asked.now.posed c.requires.positive
     c.in_ok-spread.ensures.growth c.in_ok-spread.ensures.followed s inside

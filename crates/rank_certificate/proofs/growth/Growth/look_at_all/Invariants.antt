@@ -6,6 +6,8 @@ abbrev pub invariant-loop-state : goal.invariant-loop-state
 invariant-loop-state l = record {
   ranks : length l.self.ranks.items ≡ states_in l.asked;
   choices : length l.self.choices.items ≡ states_in l.asked;
-  growth : (begin : ℕ) (old : List ℕ) → IsGrowthIn l.asked l.level begin old l.fn.self → IsGrowthIn l.asked l.level begin old l.self;
-  apart : (begin : ℕ) (old : List ℕ) → IsGrowthIn l.asked l.level begin old l.fn.self → (s : ℕ) → s < l.state → IsApartIn l.asked l.level l.self s;
+  growth : (begin : ℕ) (old : List ℕ) → IsGrowthIn l.asked l.level begin old l.fn.self
+      → IsGrowthIn l.asked l.level begin old l.self;
+  apart : (begin : ℕ) (old : List ℕ) → IsGrowthIn l.asked l.level begin old l.fn.self → (s : ℕ) → s < l.state
+      → IsApartIn l.asked l.level l.self s;
 }

@@ -18,8 +18,10 @@ loop-place-preserved c =
     let place : ℕ = c.loop-place.place in
     let lp : place < length old = omega (arith, c.loop-place-test.true, c.requires.end) in
     let there : place < length order = omega (arith, lp, longer-length old order h.longer) in
-    let is : slice_index old place ≡ c.index-hand.result.now = sym (get_or_read order _ _ there c.index-hand.ensures 0 ∙ longer-at old order h.longer place lp) in
-    let inside : c.index-hand.result.now < states q = omega (arith, is, longer-at old order h.longer place lp, h.inside place there) in
+    let is : slice_index old place ≡ c.index-hand.result.now =
+    sym (get_or_read order _ _ there c.index-hand.ensures 0 ∙ longer-at old order h.longer place lp) in
+    let inside : c.index-hand.result.now < states q =
+    omega (arith, is, longer-at old order h.longer place lp, h.inside place there) in
     let go = c.in_ok-go_back.ensures in
     record {
       growth = go.grown c.args.begin old h;
@@ -28,9 +30,13 @@ loop-place-preserved c =
         | inr last ↦
             let same : k ≡ place = omega (arith, upto, last) in
             let at : slice_index old k ≡ c.index-hand.result.now = ap (slice_index old) same ∙ is in
-            go.apart c.args.begin old h s c' ((listed-exactly c.args.asked.now.lists s c' c.index-hand.result.now inside).1 (subst (λ t. LeadsTo q.game s c' t) at leads)) (ap (value_in c.args.asked.now) (sym at) ∙ equal) left carried
+            go.apart c.args.begin old h s c'
+            ((listed-exactly c.args.asked.now.lists s c' c.index-hand.result.now inside).1
+            (subst (λ t. LeadsTo q.game s c' t) at leads))
+            (ap (value_in c.args.asked.now) (sym at) ∙ equal) left carried
       ];
     }
 
 pub returns-clause-followed : goal.returns-clause-followed
-returns-clause-followed c k s c' from upto = c.loop-place.invariant.followed k s c' from (omega (arith, upto, c.loop-place-test.false, c.requires.end))
+returns-clause-followed c k s c' from upto =
+    c.loop-place.invariant.followed k s c' from (omega (arith, upto, c.loop-place-test.false, c.requires.end))

@@ -19,10 +19,12 @@ abbrev pub decreases-sum : goal.decreases-sum
 decreases-sum l = 5 * l.steps + 1
 
 abbrev pub invariant-best-loop-choice : goal.invariant-best-loop-choice
-invariant-best-loop-choice l = l.best ≡ optimum l.side (down_value (entry_of l.self l.steps)) (take l.choice (choices_of l.self.question.now.game l.state))
+invariant-best-loop-choice l = l.best ≡ optimum l.side (down_value (entry_of l.self l.steps))
+    (take l.choice (choices_of l.self.question.now.game l.state))
 
 abbrev pub invariant-sum-loop-place : goal.invariant-sum-loop-place
-invariant-sum-loop-place l = IsSumBetween (take l.place (choice_at l.self l.state l.choice).edges) (entry_of l.self l.steps) (entry_of l.self l.steps) l.sum
+invariant-sum-loop-place l = IsSumBetween (take l.place (choice_at l.self l.state l.choice).edges)
+    (entry_of l.self l.steps) (entry_of l.self l.steps) l.sum
 
 abbrev pub decreases-step : goal.decreases-step
 decreases-step l = 5 * l.steps + 4

@@ -6,4 +6,5 @@ use Rattle.rank_certificate.proofs.guesses.Guesses.falls_at.Goals as goal
 pub returns : goal.returns
 returns c = λ h.
     let below : c.in-Some-step.step < c.in-Some.entry = grind (arith, nat_tests) in
-    falls-refused c.args.self.now c.args.state c.requires (omega (arith, below, c.in-Some.ensures, c.in-Some-step.ensures))
+    falls-refused c.args.self.now c.args.state c.requires
+    (omega (arith, below, c.in-Some.ensures, c.in-Some-step.ensures))

@@ -8,10 +8,12 @@ use Rattle.rank_certificate.proofs.guesses.Guesses.rank.Goals as goal
 pub returns-in_default-clause-found : goal.returns-in_default-clause-found
 returns-in_default-clause-found c =
     let g = c.args.self.now in
-    let none : ¬ CanBeRanked g.question.now c.args.table.items = rw c.deref.ensures.value at (rw c.in_default.is at c.in_ok-plan.ensures.found) in
+    let none : ¬ CanBeRanked g.question.now c.args.table.items =
+    rw c.deref.ensures.value at (rw c.in_default.is at c.in_ok-plan.ensures.found) in
     λ j few. elim (cases_lt j c.args.steps) [
       | inl early ↦ c.requires.refused j early
-      | inr late ↦ still-refused g.question.now g.zero.now (slice_index g.base.now) g.excess g.posed c.args.steps c.args.table.items c.requires.table c.requires.stand none j late
+      | inr late ↦ still-refused g.question.now g.zero.now (slice_index g.base.now) g.excess g.posed c.args.steps
+          c.args.table.items c.requires.table c.requires.stand none j late
     ]
 
 pub returns-clause-found : goal.returns-clause-found

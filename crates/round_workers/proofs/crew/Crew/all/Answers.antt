@@ -6,5 +6,6 @@ use Rattle.round_workers.proofs.crew.Crew.all.Goals as goal
 pub returns-clause-crew : goal.returns-clause-crew
 returns-clause-crew c = record {
   begins = first-begins c.args.game.now c.args.workers;
-  ends = subst (λ (n : ℕ). BeginsBlock c.args.game.now c.args.workers c.args.workers n) (sym c.states.ensures) (last-ends c.args.game.now c.args.workers c.known.ensures c.requires.0);
+  ends = subst (λ (n : ℕ). BeginsBlock c.args.game.now c.args.workers c.args.workers n) (sym c.states.ensures)
+      (last-ends c.args.game.now c.args.workers c.known.ensures c.requires.0);
 }

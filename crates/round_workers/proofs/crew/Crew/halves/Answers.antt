@@ -13,7 +13,10 @@ returns c =
     record {
       front_crew = record { begins = c.requires.crew.begins; ends = here };
       back_crew = record { begins = here; ends = c.requires.crew.ends };
-      order = (blocks-rise game crew.workers crew.first middle crew.low cut (omega arith) c.requires.crew.begins here, blocks-rise game crew.workers middle crew.last cut crew.high (omega arith) here c.requires.crew.ends);
+      order = (
+        blocks-rise game crew.workers crew.first middle crew.low cut (omega arith) c.requires.crew.begins here,
+        blocks-rise game crew.workers middle crew.last cut crew.high (omega arith) here c.requires.crew.ends,
+      );
       lows = (refl, refl, refl);
       firsts = (refl, refl, refl, refl);
     }

@@ -11,5 +11,6 @@ loop-line-preserved c = λ none.
     let t = c.line-item.result in
     let within : i < length ts = search rules in
     let P : List Row → Type 0 = λ rows. Notes c.note.new.self rows in
-    let noted = c.in_ok-note.ensures (silent_rows (take i ts)) (with_action t []) (search rules) (search rules) (c.loop-line.invariant none) in
+    let noted = c.in_ok-note.ensures (silent_rows (take i ts)) (with_action t []) (search rules) (search rules)
+    (c.loop-line.invariant none) in
     subst P (sym (silent_more ts i t within c.line-item.is)) noted.1

@@ -13,8 +13,10 @@ returns-in-Ok-clause-fault c =
     let row : Row = record { transition = c.in-Ok.transition; action = c.in-Ok.action.now } in
     let size : length c.args.self.now.transitions.items ≡ c.len.result = search rules in
     fault_further c.add.result
-    (λ fault. refuses_row any_header HoldsAny (λ (f : TraFault). Some f) c.len.result c.args.number c.args.self.now c.args.line.now row fault
-    (λ rows holds. sym (transitions_length rows) ∙ ap (λ (ts : List Transition). length ts) holds.transitions ∙ size) c.requires c.in-Ok.ensures.said.0 c.in-Ok.ensures.said.1)
+    (λ fault. refuses_row any_header HoldsAny
+    (λ (f : TraFault). Some f) c.len.result c.args.number c.args.self.now c.args.line.now row fault
+    (λ rows holds. sym (transitions_length rows) ∙ ap (λ (ts : List Transition). length ts) holds.transitions ∙ size)
+    c.requires c.in-Ok.ensures.said.0 c.in-Ok.ensures.said.1)
     c.add.ensures.fault
 
 pub returns-in-Ok-clause-ok : goal.returns-in-Ok-clause-ok
@@ -23,5 +25,6 @@ returns-in-Ok-clause-ok c =
     let size : length c.args.self.now.transitions.items ≡ c.len.result = search rules in
     ok_further c.add.result
     (takes_row any_header HoldsAny c.len.result c.args.self.now c.add.new.self c.args.line.now row
-    (λ rows holds. sym (transitions_length rows) ∙ ap (λ (ts : List Transition). length ts) holds.transitions ∙ size) c.requires c.in-Ok.ensures.said.0 c.in-Ok.ensures.said.1)
+    (λ rows holds. sym (transitions_length rows) ∙ ap (λ (ts : List Transition). length ts) holds.transitions ∙ size)
+    c.requires c.in-Ok.ensures.said.0 c.in-Ok.ensures.said.1)
     c.add.ensures.ok

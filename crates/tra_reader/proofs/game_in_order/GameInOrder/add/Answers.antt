@@ -16,8 +16,10 @@ invariant_of-self-2 c =
     record {
       n = is.n;
       transitions = is.transitions ++ t ∷ [];
-      holds = holds_same (growing_of c.self-2.inside) _ is.n is.transitions t is.holds (within_held _ _ is.n is.transitions t c.self-2.view_is c.requires.within is.holds)
-          (ap (λ (g : Growing). g.whole.state) same ∙ state) (ap (λ (g : Growing). g.whole.choice) same ∙ choice) refl refl parts;
+      holds = holds_same (growing_of c.self-2.inside) _ is.n is.transitions t is.holds
+          (within_held _ _ is.n is.transitions t c.self-2.view_is c.requires.within is.holds)
+          (ap (λ (g : Growing). g.whole.state) same ∙ state)
+          (ap (λ (g : Growing). g.whole.choice) same ∙ choice) refl refl parts;
     }
 
 pub returns-clause-holds : goal.returns-clause-holds
@@ -30,4 +32,5 @@ returns-clause-holds c = λ n ts held.
     let choice : c.self.inside.whole.choice ≡ t.choice = search rules in
     let parts : c.push.new.self.items ≡ c.self-2.inside.parts.items ++ part_of t ∷ [] = search rules in
     holds_same (growing_of c.self-2.inside) _ n ts t is (within_held _ _ n ts t c.self-2.view_is c.requires.within is)
-    (ap (λ (g : Growing). g.whole.state) same ∙ state) (ap (λ (g : Growing). g.whole.choice) same ∙ choice) refl refl parts
+    (ap (λ (g : Growing). g.whole.state) same ∙ state)
+    (ap (λ (g : Growing). g.whole.choice) same ∙ choice) refl refl parts

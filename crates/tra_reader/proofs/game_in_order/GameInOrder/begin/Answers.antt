@@ -19,7 +19,8 @@ invariant_of-self c =
     record {
       n = held.n;
       transitions = [];
-      holds = holds_spent game _ held.n held.transitions held.holds refl (omega (arith, state, within.source_in)) (omega (arith, choice, within.choice_in)) none refl;
+      holds = holds_spent game _ held.n held.transitions held.holds refl (omega (arith, state, within.source_in))
+          (omega (arith, choice, within.choice_in)) none refl;
     }
 
 pub invariant_of-self-else-is_err : goal.invariant_of-self-else-is_err
@@ -29,15 +30,18 @@ invariant_of-self-else-is_err c =
     let held = c.self.invariant in
     let is = held.holds in
     let within = within_held game _ held.n held.transitions t c.self.view_is c.requires.within is in
-    let lt : place_under_way game < transition_place t = omega (arith, ap (λ (g : Growing). place_under_way g) c.self.view_is, c.requires.order) in
+    let lt : place_under_way game < transition_place t =
+    omega (arith, ap (λ (g : Growing). place_under_way g) c.self.view_is, c.requires.order) in
     let P : List Part → Type 0 = λ ps. EndsBefore ps t.source c.self.inside.whole c.end_before.new.self in
     let ends = subst P c.deref.ensures.value c.end_before.ensures.made in
     let parts : c.push.new.self.items ≡ part_of t ∷ [] = search rules in
     record {
       n = held.n;
       transitions = held.transitions ++ t ∷ [];
-      holds = holds_next game _ held.n held.transitions t is within lt refl (c.go_to.ensures.state ∙ c.end_before.ensures.state) c.go_to.ensures.choice parts
-          (whole_next game held.n held.transitions t c.end_before.new.self c.go_to.new.self is within lt c.end_before.ensures.state ends c.go_to.ensures.made);
+      holds = holds_next game _ held.n held.transitions t is within lt refl
+          (c.go_to.ensures.state ∙ c.end_before.ensures.state) c.go_to.ensures.choice parts
+          (whole_next game held.n held.transitions t c.end_before.new.self c.go_to.new.self is within lt
+          c.end_before.ensures.state ends c.go_to.ensures.made);
     }
 
 pub returns-clause-holds : goal.returns-clause-holds
@@ -47,9 +51,12 @@ returns-clause-holds c = λ n ts value.
     let H : Growing → Type 0 = λ g. HoldsInOrder g n ts in
     let is : HoldsInOrder game n ts = subst H (sym c.self.view_is) value in
     let within = within_held game _ n ts t c.self.view_is c.requires.within is in
-    let lt : place_under_way game < transition_place t = omega (arith, ap (λ (g : Growing). place_under_way g) c.self.view_is, c.requires.order) in
+    let lt : place_under_way game < transition_place t =
+    omega (arith, ap (λ (g : Growing). place_under_way g) c.self.view_is, c.requires.order) in
     let P : List Part → Type 0 = λ ps. EndsBefore ps t.source c.self.inside.whole c.end_before.new.self in
     let ends = subst P c.deref.ensures.value c.end_before.ensures.made in
     let parts : c.push.new.self.items ≡ part_of t ∷ [] = search rules in
-    holds_next game _ n ts t is within lt refl (c.go_to.ensures.state ∙ c.end_before.ensures.state) c.go_to.ensures.choice parts
-    (whole_next game n ts t c.end_before.new.self c.go_to.new.self is within lt c.end_before.ensures.state ends c.go_to.ensures.made)
+    holds_next game _ n ts t is within lt refl
+    (c.go_to.ensures.state ∙ c.end_before.ensures.state) c.go_to.ensures.choice parts
+    (whole_next game n ts t c.end_before.new.self c.go_to.new.self is within lt c.end_before.ensures.state ends
+    c.go_to.ensures.made)

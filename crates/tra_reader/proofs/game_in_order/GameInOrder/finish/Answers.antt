@@ -12,9 +12,11 @@ finish-requires c =
     let is = held.holds in
     let ended = c.end_before.new.self in
     let P : List Part → Type 0 = λ ps. EndsBefore ps c.self.inside.states c.self.inside.whole ended in
-    let all = all_whole (growing_of c.self.inside) held.n held.transitions ended is c.end_before.ensures.state c.end_before.ensures.place (subst P c.deref.ensures.value c.end_before.ensures.made) in
+    let all = all_whole (growing_of c.self.inside) held.n held.transitions ended is c.end_before.ensures.state
+    c.end_before.ensures.place (subst P c.deref.ensures.value c.end_before.ensures.made) in
     let Q : ℕ → Type 0 = λ s. IsMade held.n held.transitions s ended.choice ended.count ended.progress in
-    all_ready held.n held.transitions ended.choice ended.count ended.progress is.some is.few (subst Q all.state all.made)
+    all_ready held.n held.transitions ended.choice ended.count ended.progress is.some is.few
+    (subst Q all.state all.made)
 
 pub returns : goal.returns
 returns c = λ n ts value.
@@ -22,5 +24,6 @@ returns c = λ n ts value.
     let is : HoldsInOrder (growing_of c.self.inside) n ts = subst H (sym c.self.view_is) value in
     let ended = c.end_before.new.self in
     let P : List Part → Type 0 = λ ps. EndsBefore ps c.self.inside.states c.self.inside.whole ended in
-    let all = all_whole (growing_of c.self.inside) n ts ended is c.end_before.ensures.state c.end_before.ensures.place (subst P c.deref.ensures.value c.end_before.ensures.made) in
+    let all = all_whole (growing_of c.self.inside) n ts ended is c.end_before.ensures.state c.end_before.ensures.place
+    (subst P c.deref.ensures.value c.end_before.ensures.made) in
     c.finish.ensures n ts all.state all.choice all.made

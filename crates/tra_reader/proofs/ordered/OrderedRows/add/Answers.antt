@@ -19,7 +19,10 @@ returns-then-branch-clause-fault c = λ rows holds told is.
     let at : row_place row ≡ c.place-place.result = search rules in
     let compares = c.in_ok-compare.ensures n rows row at refl holds.holds holds.first in
     let same : told ≡ c.of_clash.result = cc in
-    inr (clashes_is n rows row holds.within c.requires.within.choice_in ∙ sym compares.is ∙ c.if-branch.true, same ∙ c.of_clash.ensures)
+    inr (
+      clashes_is n rows row holds.within c.requires.within.choice_in ∙ sym compares.is ∙ c.if-branch.true,
+      same ∙ c.of_clash.ensures,
+    )
 
 pub returns-clause-ok : goal.returns-clause-ok
 returns-clause-ok c =
@@ -36,7 +39,8 @@ returns-clause-ok c =
               holds = subst P (sym (transitions_push rows row)) further;
               within = All-push (λ (r : Row). IsWithin n r.transition) rows row holds.within c.requires.within;
               count = length_push rows row ∙ ap (λ k. k + 1) holds.count;
-              first = under_way_further c.add.new.self n rows row c.compare.new.kept.items c.in_ok-compare.field-0 further compares;
+              first = under_way_further c.add.new.self n rows row c.compare.new.kept.items
+                  c.in_ok-compare.field-0 further compares;
             },
           ),
     )

@@ -9,7 +9,8 @@ returns-in-Ok-clause-fault c =
     let row : Row = record { transition = c.in-Ok.transition; action = c.in-Ok.action.now } in
     let old = c.args.self.now in
     fault_further c.add.result
-    (λ halt. refuses_row ordered_header HoldsOrdered text_fault old.read c.args.number old c.args.line.now row halt (λ rows holds. holds.count) c.requires c.in-Ok.ensures.said.0 c.in-Ok.ensures.said.1)
+    (λ halt. refuses_row ordered_header HoldsOrdered text_fault old.read c.args.number old c.args.line.now row halt
+    (λ rows holds. holds.count) c.requires c.in-Ok.ensures.said.0 c.in-Ok.ensures.said.1)
     c.add.ensures.fault
 
 pub returns-in-Ok-clause-ok : goal.returns-in-Ok-clause-ok
@@ -17,5 +18,6 @@ returns-in-Ok-clause-ok c =
     let row : Row = record { transition = c.in-Ok.transition; action = c.in-Ok.action.now } in
     let old = c.args.self.now in
     ok_further c.add.result
-    (takes_row ordered_header HoldsOrdered old.read old c.add.new.self c.args.line.now row (λ rows holds. holds.count) c.requires c.in-Ok.ensures.said.0 c.in-Ok.ensures.said.1)
+    (takes_row ordered_header HoldsOrdered old.read old c.add.new.self c.args.line.now row
+    (λ rows holds. holds.count) c.requires c.in-Ok.ensures.said.0 c.in-Ok.ensures.said.1)
     c.add.ensures.ok

@@ -16,4 +16,5 @@ returns-else-is_err c = λ n count ts h few none within made.
     subst Q (sym built) (built_state n ts s k count c.in-Builds.builder h c.requires none (subst P c.in-Builds.is made))
 
 pub returns-in_default : goal.returns-in_default
-returns-in_default c = λ n count ts h few none within made. other_state n ts c.args.state c.args.choices count c.args.self.now c.in_default.not-Builds c.requires none made
+returns-in_default c = λ n count ts h few none within made.
+    other_state n ts c.args.state c.args.choices count c.args.self.now c.in_default.not-Builds c.requires none made

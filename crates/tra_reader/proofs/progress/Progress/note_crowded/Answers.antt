@@ -15,7 +15,10 @@ returns-in-Builds c = λ k many n count ts h few none within made.
 pub returns-in-Gap-2 : goal.returns-in-Gap-2
 returns-in-Gap-2 c = λ k many n count ts h few none within made.
     elim c.in-Gap.is [
-      | inl gap ↦ later_state n ts c.args.state k count c.args.self.now (λ draft e. cc gap.2) (λ fault e. cc gap.2) few none made
-      | inr (inl crowded) ↦ later_state n ts c.args.state k count c.args.self.now (λ draft e. cc crowded.1) (λ fault e. cc crowded.1) few none made
-      | inr (inr wanting) ↦ later_state n ts c.args.state k count c.args.self.now (λ draft e. cc wanting) (λ fault e. cc wanting) few none made
+      | inl gap ↦ later_state n ts c.args.state k count c.args.self.now (λ draft e. cc gap.2)
+          (λ fault e. cc gap.2) few none made
+      | inr (inl crowded) ↦ later_state n ts c.args.state k count c.args.self.now (λ draft e. cc crowded.1)
+          (λ fault e. cc crowded.1) few none made
+      | inr (inr wanting) ↦ later_state n ts c.args.state k count c.args.self.now (λ draft e. cc wanting)
+          (λ fault e. cc wanting) few none made
     ]

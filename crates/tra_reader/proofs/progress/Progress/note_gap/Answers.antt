@@ -10,5 +10,6 @@ returns-in-Builds c = λ n count later ts h none found made.
     elim c.in-Builds.is [
       | inl builds ↦ noted None ts c.args.state c.args.choice later count h none found ((subst P builds.1 made).0)
       | inr (inl faulty) ↦ noted None ts c.args.state c.args.choice later count h none found ((subst P faulty.1 made).0)
-      | inr (inr crowded) ↦ noted (Some crowded.0) ts c.args.state c.args.choice later count h none found (subst P crowded.1 made)
+      | inr (inr crowded) ↦
+          noted (Some crowded.0) ts c.args.state c.args.choice later count h none found (subst P crowded.1 made)
     ]

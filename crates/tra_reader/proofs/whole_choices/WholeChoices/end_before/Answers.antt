@@ -15,9 +15,11 @@ returns-clause-made c = λ n place ts h le are within none made.
       | then-not-is_empty w ↦
           let some : 0 < length c.args.parts.now = search rules in
           let is = w.end_choice.ensures in
-          subst P (sym w.self-is) (before_next n place ts old w.end_choice.new.self is.state is.choice c.requires.low within none (is.made n ts are some within made))
+          subst P (sym w.self-is) (before_next n place ts old w.end_choice.new.self is.state is.choice c.requires.low
+          within none (is.made n ts are some within made))
       | else-not-is_empty w ↦
           let empty : c.args.parts.now ≡ [] = nil_from_length c.args.parts.now (grind (arith, nat_tests, w)) in
-          subst P (sym w.self-is) (before_first n place ts old c.args.parts.now empty are c.requires.low within none made)
+          subst P (sym w.self-is)
+          (before_first n place ts old c.args.parts.now empty are c.requires.low within none made)
     ] in
     c.end_states.ensures.made n place ts h le before

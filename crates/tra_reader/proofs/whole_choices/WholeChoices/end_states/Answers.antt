@@ -17,7 +17,8 @@ loop-self-preserved c =
           let at = c.loop-self.invariant.made n place ts h to is in
           let next : place_of (s + 1) 0 ≤ place = omega (arith, to, before) in
           record {
-            made = c.end_state.ensures n whole.count ts (omega (arith, before, h)) at.low (none_from ts s k place (small_of n ts at.within) at.none next) at.within at.made;
+            made = c.end_state.ensures n whole.count ts (omega (arith, before, h)) at.low
+                (none_from ts s k place (small_of n ts at.within) at.none next) at.within at.made;
             low = omega arith;
             none = none_later ts (place_of s k) (place_of (s + 1) 0) place (omega (arith, at.low)) at.none;
             within = at.within;

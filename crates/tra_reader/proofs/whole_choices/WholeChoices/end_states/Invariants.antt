@@ -8,7 +8,8 @@ abbrev pub invariant-loop-self : goal.invariant-loop-self
 invariant-loop-self l = record {
   low : l.self.state ≤ l.to;
   place : (place : ℕ) → place_behind l.fn.self ≤ place → place_of l.to 0 ≤ place → place_behind l.self ≤ place;
-  made : (n place : ℕ) (transitions : List Transition) → l.to ≤ n → place_of l.to 0 ≤ place → AreWholeBefore n transitions place l.fn.self → AreWholeBefore n transitions place l.self;
+  made : (n place : ℕ) (transitions : List Transition) → l.to ≤ n → place_of l.to 0 ≤ place
+      → AreWholeBefore n transitions place l.fn.self → AreWholeBefore n transitions place l.self;
 }
 
 abbrev pub decreases-loop-self : goal.decreases-loop-self

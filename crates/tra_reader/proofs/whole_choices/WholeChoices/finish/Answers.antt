@@ -12,27 +12,32 @@ returns-in-Gap c = λ n ts state choice made.
     let i = c.in-Gap.state in
     let j = c.in-Gap.choice in
     let is = made_of_all n ts c.args.self (Gap i j) state choice c.in-Gap.is made in
-    inr (gap_game ts n i j c.args.stated (omega (arith, is.1)) is.0 ∙ ap (λ (f : TraFault). Err f) (sym c.of_all-in-Gap.ensures))
+    inr (gap_game ts n i j c.args.stated (omega (arith, is.1)) is.0
+    ∙ ap (λ (f : TraFault). Err f) (sym c.of_all-in-Gap.ensures))
 
 pub returns-in-Crowded : goal.returns-in-Crowded
 returns-in-Crowded c = λ n ts state choice made.
     let i = c.in-Crowded.state in
     let is = made_of_all n ts c.args.self (Crowded i) state choice c.in-Crowded.is made in
-    inr (full_game (Some i) ts n c.args.self.count c.args.stated is ∙ ap (λ (f : TraFault). Err f) (sym c.of_all-in-Crowded.ensures))
+    inr (full_game (Some i) ts n c.args.self.count c.args.stated is
+    ∙ ap (λ (f : TraFault). Err f) (sym c.of_all-in-Crowded.ensures))
 
 pub returns-in-Faulty : goal.returns-in-Faulty
 returns-in-Faulty c = λ n ts state choice made.
     let fault = c.in-Faulty.fault in
     let count = c.args.self.count in
     let is = made_of_all n ts c.args.self (Faulty fault) state choice c.in-Faulty.is made in
-    inr (full_game None ts n count c.args.stated is.0 ∙ stated_answer c.args.stated count _ fault (states_said ts n) c.stated_otherwise-otherwise.ensures (fault_said ts n fault is.1) ∙ ap (λ (f : TraFault). Err f) (sym c.unwrap_or.ensures))
+    inr (full_game None ts n count c.args.stated is.0 ∙ stated_answer c.args.stated count _ fault
+    (states_said ts n) c.stated_otherwise-otherwise.ensures (fault_said ts n fault is.1)
+    ∙ ap (λ (f : TraFault). Err f) (sym c.unwrap_or.ensures))
 
 pub returns-in-Some : goal.returns-in-Some
 returns-in-Some c = λ n ts state choice made.
     let count = c.args.self.count in
     let is = made_of_all n ts c.args.self (Builds c.in-Builds.builder) state choice c.in-Builds.is made in
     let P : Option TraFault → Type 0 = λ o. IsAsStated c.args.stated count o in
-    inr (full_game None ts n count c.args.stated is.0 ∙ (subst P c.in-Some.is c.stated_otherwise-otherwise.ensures) (states_said ts n))
+    inr (full_game None ts n count c.args.stated is.0
+    ∙ (subst P c.in-Some.is c.stated_otherwise-otherwise.ensures) (states_said ts n))
 
 pub returns-in-None : goal.returns-in-None
 returns-in-None c = λ n ts state choice made.
@@ -40,4 +45,6 @@ returns-in-None c = λ n ts state choice made.
     let is = made_of_all n ts c.args.self (Builds c.in-Builds.builder) state choice c.in-Builds.is made in
     let P : Option TraFault → Type 0 = λ o. IsAsStated c.args.stated count o in
     let game : c.finish.result ≡ c.in-Builds.builder.done = search rules in
-    full_game None ts n count c.args.stated is.0 ∙ (subst P c.in-None.is c.stated_otherwise-otherwise.ensures) (states_said ts n) ∙ is.1.done ∙ ap (λ (g : List (List Distribution)). Ok g) (sym game)
+    full_game None ts n count c.args.stated is.0
+    ∙ (subst P c.in-None.is c.stated_otherwise-otherwise.ensures) (states_said ts n) ∙ is.1.done
+    ∙ ap (λ (g : List (List Distribution)). Ok g) (sym game)

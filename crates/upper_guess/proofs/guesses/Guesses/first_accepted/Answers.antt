@@ -14,13 +14,19 @@ use Rattle.upper_guess.proofs.Lists.{IsTable-next, not-raised, is-raised}
 use Rattle.upper_guess.proofs.guesses.Guesses.first_accepted.Goals as goal
 
 -- a table that was made before one step was made before the next
-made-later : (g : Guesses) (steps : ℕ) (made : Option (Vec ℕ × ℕ)) → IfSome made (λ m. IsTableOf g m.1 m.0.items × (m.1 ≤ steps)) → IfSome made (λ m. IsTableOf g m.1 m.0.items × (m.1 ≤ steps + 1))
+made-later : (g : Guesses) (steps : ℕ) (made : Option (Vec ℕ × ℕ))
+    → IfSome made (λ m. IsTableOf g m.1 m.0.items × (m.1 ≤ steps))
+    → IfSome made (λ m. IsTableOf g m.1 m.0.items × (m.1 ≤ steps + 1))
 made-later g steps None h = h
 made-later g steps (Some m) h = (h.0, omega (arith, h.1))
 
 -- a witness is replaced
-witnesses-set : (q : Query) (witnesses : List ℕ) (i s : ℕ) → AreWitnesses q witnesses → s < states q → AreWitnesses q (slice_set witnesses i s)
-witnesses-set q witnesses i s h inside = record { many = length-set witnesses i s ∙ h.many; inside = All-set (λ s. s < states q) witnesses i s inside h.inside }
+witnesses-set : (q : Query) (witnesses : List ℕ) (i s : ℕ) → AreWitnesses q witnesses → s < states q
+    → AreWitnesses q (slice_set witnesses i s)
+witnesses-set q witnesses i s h inside = record {
+  many = length-set witnesses i s ∙ h.many;
+  inside = All-set (λ s. s < states q) witnesses i s inside h.inside;
+}
 
 pub loop-steps-preserved-then-refuses_at : goal.loop-steps-preserved-then-refuses_at
 loop-steps-preserved-then-refuses_at t c =
@@ -38,7 +44,8 @@ returns-in_default-clause-found t c =
     let table = c.in_ok-table.table.items in
     let next = c.in_ok-next.next.items in
     let step : IsTable q (up_step q (slice_index table)) next = rw c.deref.ensures.value at c.in_ok-next.ensures in
-    let below : IsBelow q (slice_index next) (slice_index table) = rw (c.deref-in-loop-steps.ensures.value, c.deref-in-loop-steps-2.ensures.value) at c.in_default.ensures in
+    let below : IsBelow q (slice_index next) (slice_index table) =
+    rw (c.deref-in-loop-steps.ensures.value, c.deref-in-loop-steps-2.ensures.value) at c.in_default.ensures in
     record {
       steps = c.loop-steps.steps;
       few = omega (arith, c.loop-steps-test.true);
@@ -56,11 +63,13 @@ loop-steps-preserved t c =
     let table = c.in_ok-table.table.items in
     let next = c.in_ok-next.next.items in
     let step : IsTable q (up_step q (slice_index table)) next = rw c.deref.ensures.value at c.in_ok-next.ensures in
-    let raised : RisesMost q (slice_index table) (slice_index next) s = rw (c.deref-in-loop-steps.ensures.value, c.deref-in-loop-steps-2.ensures.value) at c.in-Some.ensures in
+    let raised : RisesMost q (slice_index table) (slice_index next) s =
+    rw (c.deref-in-loop-steps.ensures.value, c.deref-in-loop-steps-2.ensures.value) at c.in-Some.ensures in
     record {
       made = (IsTable-next q _ _ _ steps table next g.posed c.in_ok-table.ensures step, le_refl _);
       witnesses = witnesses-set q c.loop-steps.witnesses.states steps s c.loop-steps.invariant.witnesses raised.inside;
-      refused = below_more (IsRefusedOf g) steps c.loop-steps.invariant.refused (is-raised q (entry_of g steps) table next g.posed c.in_ok-table.ensures step s raised.inside raised.rises);
+      refused = below_more (IsRefusedOf g) steps c.loop-steps.invariant.refused
+          (is-raised q (entry_of g steps) table next g.posed c.in_ok-table.ensures step s raised.inside raised.rises);
     }
 
 pub returns-clause-found : goal.returns-clause-found

@@ -6,4 +6,5 @@ use Rattle.upper_guess.proofs.guesses.Guesses.refuses_at.Goals as goal
 pub returns : goal.returns
 returns c = λ h.
     let above : c.in-Some.entry < c.in-Some-entry.raised = grind (arith, nat_tests) in
-    refused-at c.args.self.now c.args.steps c.args.state c.requires.state (omega (arith, above, c.in-Some.ensures, c.in-Some-entry.ensures))
+    refused-at c.args.self.now c.args.steps c.args.state c.requires.state
+    (omega (arith, above, c.in-Some.ensures, c.in-Some-entry.ensures))

@@ -9,7 +9,9 @@ loop-pass-init g c =
     let l = c.load-current.ensures in record {
       looked = l.looked;
       current = l.current;
-      given = IsGivenBy-rises g.P.Posing.posed (seen_by c.args.pass.now) (seen_by c.load-current.new.pass) c.args.state (value_in c.args.to) (choice_in c.args.to) c.args.self.now.posed c.requires.state (λ t _. l.looked.grew.up t) c.requires.given;
+      given = IsGivenBy-rises g.P.Posing.posed (seen_by c.args.pass.now) (seen_by c.load-current.new.pass) c.args.state
+          (value_in c.args.to) (choice_in c.args.to) c.args.self.now.posed c.requires.state
+          (λ t _. l.looked.grew.up t) c.requires.given;
     }
 
 pub loop-pass-preserved : goal.loop-pass-preserved
@@ -19,5 +21,7 @@ loop-pass-preserved g c =
     let lost = e.lost c.if-found-current.false in record {
       looked = looked-twice _ _ _ h.looked (record { grew = e.grew; won = lost.0; parts = e.parts });
       current = lost.1;
-      given = IsGivenBy-rises g.P.Posing.posed (seen_by c.loop-pass.pass) (seen_by c.exchange-found.new.pass) c.args.state (value_in c.args.to) (choice_in c.args.to) c.args.self.now.posed c.requires.state (λ t _. e.grew.up t) h.given;
+      given = IsGivenBy-rises g.P.Posing.posed (seen_by c.loop-pass.pass)
+          (seen_by c.exchange-found.new.pass) c.args.state (value_in c.args.to)
+          (choice_in c.args.to) c.args.self.now.posed c.requires.state (λ t _. e.grew.up t) h.given;
     }

@@ -6,7 +6,13 @@ use Rattle.value_words.proofs.Moves.{join-allowed, joined-units}
 use Rattle.value_words.proofs.table.ValueTable+P.meet.Goals as goal
 
 pub join_seat-requires : goal.join_seat-requires
-join_seat-requires g c = (c.requires.pass, c.requires.other, c.args.other.empty, subst (λ n. 0 < n) (sym c.args.self.now.as_many) c.args.self.now.posed.game.some, join-allowed g.P.Posing.posed _ _ _ _ c.args.pass.now.live c.args.other.live)
+join_seat-requires g c = (
+  c.requires.pass,
+  c.requires.other,
+  c.args.other.empty,
+  subst (λ n. 0 < n) (sym c.args.self.now.as_many) c.args.self.now.posed.game.some,
+  join-allowed g.P.Posing.posed _ _ _ _ c.args.pass.now.live c.args.other.live,
+)
 
 pub invariant_of-pass : goal.invariant_of-pass
 invariant_of-pass g c =
@@ -18,8 +24,10 @@ invariant_of-pass g c =
       empty = ap (λ m. m.1) me ∙ p.empty;
       live = ap (λ m. m.0.live) me ∙ p.live;
       as_many = ap (λ m. length m.0.seen) me ∙ length-greater_words xs ys even ∙ p.as_many;
-      units = λ s in_range. subst (λ m. value_at m.0.seen s ≤ unit) (sym me) (joined-units xs ys s even (p.units s in_range) (c.args.other.units s in_range));
-      goals = λ s in_range top. subst (λ m. unit ≤ value_at m.0.seen s) (sym me) (le_trans (p.goals s in_range top) (greater_words-at xs ys s even).first);
+      units = λ s in_range. subst (λ m. value_at m.0.seen s ≤ unit) (sym me)
+          (joined-units xs ys s even (p.units s in_range) (c.args.other.units s in_range));
+      goals = λ s in_range top. subst (λ m. unit ≤ value_at m.0.seen s) (sym me)
+          (le_trans (p.goals s in_range top) (greater_words-at xs ys s even).first);
     }
 
 pub returns-clause-grew : goal.returns-clause-grew
