@@ -1,6 +1,6 @@
 -- A text that is read in part: what is still to be said of its lines decides what is said of the whole.
 use Rattle.std.proofs.Common.{◌≡◌, ◌≤◌, inl, inr, ℕ, true, false, List, [], ◌∷◌, ◌++◌, length, Option, Result, Ok, Err}
-use Rattle.std.proofs.Common.{IsErr, IsErrAnd, sym, ap, refl, subst, arith, append_assoc}
+use Rattle.std.proofs.Common.{IsErr, IsErrAnd, sym, ap, ◌∙◌, refl, subst, arith, append_assoc}
 use Rattle.std.proofs.lemmas.Bool.{cases_Bool}
 use Rattle.std.proofs.lemmas.List.{append-nil, length-append}
 use Rattle.std.specs.Io.KnownBytes.{IsAtEnd}
@@ -41,20 +41,23 @@ module _ {A : Type 0} (holding : Option Holding) (name : List ℕ) (Whole : List
         same (lines_of behind) answer (subst (λ t. Still (lines_of (t ++ behind)) answer) none still);
   }
 
-  pub line_read : (rest rest' : Option (List ℕ)) (old new : TextUnderWay) (Still Still' : List (List ℕ) → A → Type 0)
-      (line : List ℕ) → IsPartRead rest old Still → GivesLine old new rest rest' line
-      → ((lines : List (List ℕ)) (answer : A) → Still' lines answer → Still (line ∷ lines) answer)
-      → IsPartRead rest' new Still'
-  line_read rest rest' old new Still Still' line part gives step = record {
+  -- a line was given, and more lines were passed on of what is held
+  pub lines_read : (rest rest' : Option (List ℕ)) (old mid new : TextUnderWay)
+      (Still Still' : List (List ℕ) → A → Type 0) (line : List ℕ)
+      → IsPartRead rest old Still → GivesLine old mid rest rest' line → new ≡ record mid { held = new.held }
+      → ((behind : List ℕ) (answer : A) → Still' (lines_of (new.held ++ behind)) answer
+      → Still (line ∷ lines_of (mid.held ++ behind)) answer) → IsPartRead rest' new Still'
+  lines_read rest rest' old mid new Still Still' line part gives same step = record {
     bytes = part.bytes ++ gives.more;
     so_far = read_more holding name rest rest' part.bytes gives.more part.so_far gives.takes.consumed;
-    count = omega (arith, part.count, gives.takes.count, length-append part.bytes gives.more);
-    at_end = λ over. gives.takes.end gives.going over;
+    count = omega (arith, part.count, gives.takes.count, ap (λ t. t.taken) same, length-append part.bytes gives.more);
+    at_end = λ over. gives.takes.end gives.going (sym (ap (λ t. t.ended) same) ∙ over);
     goes_on = λ behind follows answer still.
         subst (λ t. Whole (lines_of t) answer) (sym (append_assoc part.bytes gives.more behind))
         (part.goes_on (gives.more ++ behind) (λ over. cc) answer
         (subst (λ t. Still (lines_of t) answer) (append_assoc old.held gives.more behind)
-        (subst (λ ls. Still ls answer) (sym (gives.first behind follows)) (step _ answer still))));
+        (subst (λ ls. Still ls answer) (sym (gives.first behind (λ over. follows (ap (λ t. t.ended) same ∙ over))))
+        (step behind answer still))));
   }
 
   pub all_read : (rest rest' : Option (List ℕ)) (old new : TextUnderWay) (Still : List (List ℕ) → A → Type 0)

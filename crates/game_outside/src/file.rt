@@ -63,7 +63,7 @@ where
     let mut line = Vec::new(alloc);
     let mut feed = Feed::new(reader);
     while text.next_line(shelf, &mut line)? {
-        if let Err(fault) = feed.line(&line) {
+        if let Err(fault) = text.pass_on(&line, &mut feed) {
             text.finish(shelf)?;
             return Err(FileEnd::Refused(fault));
         }

@@ -27,6 +27,7 @@ mod search;
 mod shelf;
 mod sink;
 mod whole;
+mod whole_lines;
 
 pub use file::{FileEnd, read_lines_from};
 pub use gate::{Gate, OpenGate};

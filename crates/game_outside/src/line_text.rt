@@ -1,6 +1,6 @@
 //! Texts that are read by lines, a piece at a time.
 
-ghost use Rattle.std.specs.Prelude.{◌≡◌, ◌≢◌, ◌<◌, ◌≤◌, ◌+◌, ◌-◌, ◌^◌, ◌++◌, ◌∷◌, ◌⊎◌, ◌↔◌, [], ℕ, List, Bool, true, false, length, take, drop, IsOk, IsErrOf, IfOk, OnOk, OnErr, MatchResult, not};
+ghost use Rattle.std.specs.Prelude.{◌≡◌, ◌≢◌, ◌<◌, ◌≤◌, ◌+◌, ◌-◌, ◌^◌, ◌++◌, ◌∷◌, ◌⊎◌, ◌↔◌, [], ℕ, List, Bool, true, false, length, take, drop, IsOk, IsErrOf, IfOk, OnOk, OnErr, MatchResult, not, Result, Err, IfErr};
 ghost use Rattle.std.specs.Io.KnownBytes.{Consumes, IsAtEnd};
 ghost use Rattle.text_lines.specs.Text.{lines_of};
 ghost use Rattle.text_lines.specs.Laws.{HasNo, EndsInNoCr};
@@ -8,13 +8,15 @@ ghost use Rattle.game_outside.specs.Limits.{piece_size};
 ghost use Rattle.game_outside.specs.Outside.{Begins};
 ghost use Rattle.game_outside.specs.Reading.{LeavesNamed, LeavesBegun};
 ghost use Rattle.game_outside.specs.LineTexts.{Takes, GivesLine, MeetsEnd, Drops, LeavesText, HoldsPiece, IsOnTheWay, IsCut, IsUncut};
+ghost use Rattle.game_outside.specs.inside.Feeding.{IsRightFor};
 
 use crate::shelf::{PIECE, ReadEnd, Shelf};
+use crate::whole_lines::feed_lines;
 use memchr::memchr;
 use std::alloc::{AllocError, Global};
 use std::marker::Model;
 use text_lines::laws::lines_end_in_lf_or_crlf;
-use text_lines::without_cr;
+use text_lines::{Feed, LineReader, without_cr};
 
 /// A text that is being read by lines. It holds at most one piece of the text, and keeps no reference to the shelf,
 /// which each call takes. After a refusal it is closed.
@@ -138,6 +140,34 @@ impl LineText {
 }
 
 impl LineText {
+    // Passes on a line, and behind it each line that lies whole in what is held, with no copy.
+    pub(crate) fn pass_on<R: LineReader>(
+        &mut self,
+        line: &[u8],
+        feed: &mut Feed<R>,
+    ) -> Result<(), R::Fault>
+        requires { feed.old.next + feed.old.blanks + length self.old.held + 1 < 2 ^ 32 }
+        ensures same { self.new ≡ record self.old { held = self.new.held } }
+        ensures fewer { length self.new.held ≤ length self.old.held }
+        ensures none { OnOk result (HasNo 10 self.new.held) }
+
+        // Whatever stands behind what is held: an answer that is right for the lines still to come was right before.
+        ensures ok { OnOk result ((behind : List ℕ) (answer : Result R.Made R.Fault) →
+            IsRightFor R.answers feed.new.reader feed.new.next feed.new.blanks
+            (lines_of (self.new.held ++ behind)) answer →
+            IsRightFor R.answers feed.old.reader feed.old.next feed.old.blanks
+            (line.now ∷ lines_of (self.old.held ++ behind)) answer) }
+        ensures fault { IfErr result (λ fault. (behind : List ℕ) →
+            IsRightFor R.answers feed.old.reader feed.old.next feed.old.blanks
+            (line.now ∷ lines_of (self.old.held ++ behind)) (Err fault)) }
+        ensures lines { OnOk result (feed.new.next + feed.new.blanks + length self.new.held
+            ≤ feed.old.next + feed.old.blanks + 1 + length self.old.held) }
+    {
+        let passed = feed_lines(line, &self.piece[self.begin..self.end], feed)?;
+        self.begin += passed;
+        Ok(())
+    }
+
     // An open text has not passed its limit, and behind the end nothing is held.
     fn known(&self)
         ensures within { self.now.closed ≡ false → self.now.taken ≤ self.now.limit }

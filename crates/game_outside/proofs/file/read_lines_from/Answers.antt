@@ -1,7 +1,7 @@
-use Rattle.std.proofs.Common.{rules, ◌∷◌, [], Ok, Err, sym, ap, subst, ◌∙◌}
+use Rattle.std.proofs.Common.{rules, ◌≡◌, ◌∷◌, ◌++◌, [], Ok, Err, sym, ap, subst, refl, ◌∙◌}
 use Rattle.text_lines.specs.Text.{lines_of, significant}
-use Rattle.text_lines.specs.Blank.{BehindBlanks}
-use Rattle.game_outside.proofs.PartRead.{begins, line_read, all_read, rest_dropped, limit_passed, ends_so, err_is}
+use Rattle.game_outside.specs.inside.Feeding.{IsRightFor}
+use Rattle.game_outside.proofs.PartRead.{begins, lines_read, all_read, rest_dropped, limit_passed, ends_so, err_is}
 use Rattle.game_outside.proofs.file.read_lines_from.Goals as goal
 
 pub loop-feed-init : goal.loop-feed-init
@@ -9,8 +9,7 @@ loop-feed-init g c = record {
   part = begins (g.H.Shelf.held c.args.shelf.now) c.args.name.now
       (λ lines answer. g.R.LineReader.answers c.args.reader 1 (significant lines) answer)
       (g.H.Shelf.rest c.begin.new.shelf) c.in_ok-text.text
-      (λ lines answer. BehindBlanks c.new-feed.result.blanks lines
-      (λ more. g.R.LineReader.answers c.new-feed.result.reader c.new-feed.result.next more answer))
+      (IsRightFor g.R.LineReader.answers c.new-feed.result.reader c.new-feed.result.next c.new-feed.result.blanks)
       c.in_ok-text.ensures.rest (ap (λ t. t.held) c.in_ok-text.ensures.begun)
       (ap (λ t. t.taken) c.in_ok-text.ensures.begun) (ap (λ t. t.ended) c.in_ok-text.ensures.begun)
       (λ lines answer still.
@@ -34,59 +33,62 @@ returns-in_err-finish-clause-reads g c =
     c.in_err-finish.field-0.0 c.from_residual-in_err-finish.result (err_is _ _ c.from_residual-in_err-finish.ensures)
     (λ too_long. limit_passed (g.H.Shelf.held c.args.shelf.now) c.args.name.now
     (λ lines answer. g.R.LineReader.answers c.args.reader 1 (significant lines) answer)
-    (g.H.Shelf.rest c.next_line.new.shelf) (g.H.Shelf.rest c.finish.new.shelf) c.next_line.new.self
-    (λ lines answer. BehindBlanks c.loop-feed.feed.blanks (c.next_line.new.line.items ∷ lines)
-    (λ more. g.R.LineReader.answers c.loop-feed.feed.reader c.loop-feed.feed.next more answer))
-    c.args.limit
-    (line_read (g.H.Shelf.held c.args.shelf.now) c.args.name.now
+    (g.H.Shelf.rest c.next_line.new.shelf) (g.H.Shelf.rest c.finish.new.shelf) c.pass_on.new.self
+    (λ _ answer. answer ≡ Err c.in-Err.fault) c.args.limit
+    (lines_read (g.H.Shelf.held c.args.shelf.now) c.args.name.now
     (λ lines answer. g.R.LineReader.answers c.args.reader 1 (significant lines) answer)
-    (g.H.Shelf.rest c.loop-feed.shelf) (g.H.Shelf.rest c.next_line.new.shelf) c.loop-feed.text c.next_line.new.self
-    (λ lines answer. BehindBlanks c.loop-feed.feed.blanks lines
-    (λ more. g.R.LineReader.answers c.loop-feed.feed.reader c.loop-feed.feed.next more answer))
-    (λ lines answer. BehindBlanks c.loop-feed.feed.blanks (c.next_line.new.line.items ∷ lines)
-    (λ more. g.R.LineReader.answers c.loop-feed.feed.reader c.loop-feed.feed.next more answer))
-    c.next_line.new.line.items c.loop-feed.invariant.part (c.next_line.ensures.line (search rules))
-    (λ lines answer still. still))
+    (g.H.Shelf.rest c.loop-feed.shelf) (g.H.Shelf.rest c.next_line.new.shelf) c.loop-feed.text
+    c.next_line.new.self c.pass_on.new.self
+    (IsRightFor g.R.LineReader.answers c.loop-feed.feed.reader c.loop-feed.feed.next c.loop-feed.feed.blanks)
+    (λ _ answer. answer ≡ Err c.in-Err.fault)
+    c.next_line.new.line.items c.loop-feed.invariant.part
+    (c.next_line.ensures.line (search rules)) c.pass_on.ensures.same
+    (λ behind answer is. subst (λ line. IsRightFor g.R.LineReader.answers c.loop-feed.feed.reader c.loop-feed.feed.next
+    c.loop-feed.feed.blanks (line ∷ lines_of (c.next_line.new.self.held ++ behind)) answer) c.deref.ensures.value
+    (subst (λ answer. IsRightFor g.R.LineReader.answers c.loop-feed.feed.reader c.loop-feed.feed.next
+    c.loop-feed.feed.blanks (c.deref.result.now ∷ lines_of (c.next_line.new.self.held ++ behind)) answer) (sym is)
+    (c.in-Err.ensures.fault behind))))
     (search rules) (search rules))
 
 pub returns-in-Err-clause-reads : goal.returns-in-Err-clause-reads
 returns-in-Err-clause-reads g c =
     rest_dropped (g.H.Shelf.held c.args.shelf.now) c.args.name.now
     (λ lines answer. g.R.LineReader.answers c.args.reader 1 (significant lines) answer)
-    (g.H.Shelf.rest c.next_line.new.shelf) (g.H.Shelf.rest c.finish.new.shelf) c.next_line.new.self c.finish.new.self
-    (λ lines answer. BehindBlanks c.loop-feed.feed.blanks (c.next_line.new.line.items ∷ lines)
-    (λ more. g.R.LineReader.answers c.loop-feed.feed.reader c.loop-feed.feed.next more answer))
+    (g.H.Shelf.rest c.next_line.new.shelf) (g.H.Shelf.rest c.finish.new.shelf) c.pass_on.new.self c.finish.new.self
+    (λ _ answer. answer ≡ Err c.in-Err.fault)
     c.args.limit (Err c.in-Err.fault)
-    (line_read (g.H.Shelf.held c.args.shelf.now) c.args.name.now
+    (lines_read (g.H.Shelf.held c.args.shelf.now) c.args.name.now
     (λ lines answer. g.R.LineReader.answers c.args.reader 1 (significant lines) answer)
-    (g.H.Shelf.rest c.loop-feed.shelf) (g.H.Shelf.rest c.next_line.new.shelf) c.loop-feed.text c.next_line.new.self
-    (λ lines answer. BehindBlanks c.loop-feed.feed.blanks lines
-    (λ more. g.R.LineReader.answers c.loop-feed.feed.reader c.loop-feed.feed.next more answer))
-    (λ lines answer. BehindBlanks c.loop-feed.feed.blanks (c.next_line.new.line.items ∷ lines)
-    (λ more. g.R.LineReader.answers c.loop-feed.feed.reader c.loop-feed.feed.next more answer))
-    c.next_line.new.line.items c.loop-feed.invariant.part (c.next_line.ensures.line (search rules))
-    (λ lines answer still. still))
+    (g.H.Shelf.rest c.loop-feed.shelf) (g.H.Shelf.rest c.next_line.new.shelf) c.loop-feed.text
+    c.next_line.new.self c.pass_on.new.self
+    (IsRightFor g.R.LineReader.answers c.loop-feed.feed.reader c.loop-feed.feed.next c.loop-feed.feed.blanks)
+    (λ _ answer. answer ≡ Err c.in-Err.fault)
+    c.next_line.new.line.items c.loop-feed.invariant.part
+    (c.next_line.ensures.line (search rules)) c.pass_on.ensures.same
+    (λ behind answer is. subst (λ line. IsRightFor g.R.LineReader.answers c.loop-feed.feed.reader c.loop-feed.feed.next
+    c.loop-feed.feed.blanks (line ∷ lines_of (c.next_line.new.self.held ++ behind)) answer) c.deref.ensures.value
+    (subst (λ answer. IsRightFor g.R.LineReader.answers c.loop-feed.feed.reader c.loop-feed.feed.next
+    c.loop-feed.feed.blanks (c.deref.result.now ∷ lines_of (c.next_line.new.self.held ++ behind)) answer) (sym is)
+    (c.in-Err.ensures.fault behind))))
     c.in_ok-finish.ensures.dropped (λ over. ap g.H.Shelf.rest (c.finish.ensures.text.ended over))
     (λ over. c.finish.ensures.text.taken_is ∙ ap g.H.Shelf.taken (c.finish.ensures.text.ended over)
-    ∙ sym c.next_line.ensures.text.taken_is) (search rules)
-    (λ lines. subst (λ line. BehindBlanks c.loop-feed.feed.blanks (line ∷ lines)
-    (λ more. g.R.LineReader.answers c.loop-feed.feed.reader c.loop-feed.feed.next more (Err c.in-Err.fault)))
-    c.deref.ensures.value (c.in-Err.ensures.fault lines))
+    ∙ sym c.next_line.ensures.text.taken_is ∙ sym (ap (λ t. t.taken) c.pass_on.ensures.same)) (search rules)
+    (λ lines. refl)
 
 pub loop-feed-preserved : goal.loop-feed-preserved
 loop-feed-preserved g c = record {
-  part = line_read (g.H.Shelf.held c.args.shelf.now) c.args.name.now
+  part = lines_read (g.H.Shelf.held c.args.shelf.now) c.args.name.now
       (λ lines answer. g.R.LineReader.answers c.args.reader 1 (significant lines) answer)
-      (g.H.Shelf.rest c.loop-feed.shelf) (g.H.Shelf.rest c.next_line.new.shelf) c.loop-feed.text c.next_line.new.self
-      (λ lines answer. BehindBlanks c.loop-feed.feed.blanks lines
-      (λ more. g.R.LineReader.answers c.loop-feed.feed.reader c.loop-feed.feed.next more answer))
-      (λ lines answer. BehindBlanks c.line.new.self.blanks lines
-      (λ more. g.R.LineReader.answers c.line.new.self.reader c.line.new.self.next more answer))
-      c.next_line.new.line.items c.loop-feed.invariant.part (c.next_line.ensures.line (search rules))
-      (λ lines answer still.
-      subst (λ line. BehindBlanks c.loop-feed.feed.blanks (line ∷ lines)
-      (λ more. g.R.LineReader.answers c.loop-feed.feed.reader c.loop-feed.feed.next more answer)) c.deref.ensures.value
-      (c.in_default.ensures.ok lines answer still));
+      (g.H.Shelf.rest c.loop-feed.shelf) (g.H.Shelf.rest c.next_line.new.shelf) c.loop-feed.text
+      c.next_line.new.self c.pass_on.new.self
+      (IsRightFor g.R.LineReader.answers c.loop-feed.feed.reader c.loop-feed.feed.next c.loop-feed.feed.blanks)
+      (IsRightFor g.R.LineReader.answers c.pass_on.new.feed.reader c.pass_on.new.feed.next c.pass_on.new.feed.blanks)
+      c.next_line.new.line.items c.loop-feed.invariant.part
+      (c.next_line.ensures.line (search rules)) c.pass_on.ensures.same
+      (λ behind answer still.
+      subst (λ line. IsRightFor g.R.LineReader.answers c.loop-feed.feed.reader c.loop-feed.feed.next
+      c.loop-feed.feed.blanks (line ∷ lines_of (c.next_line.new.self.held ++ behind)) answer) c.deref.ensures.value
+      (c.in_default.ensures.ok behind answer still));
   going = search rules;
   limit = search rules;
   taken = search rules;
@@ -101,8 +103,7 @@ returns-in-Ok-clause-reads g c =
     all_read (g.H.Shelf.held c.args.shelf.now) c.args.name.now
     (λ lines answer. g.R.LineReader.answers c.args.reader 1 (significant lines) answer)
     (g.H.Shelf.rest c.loop-feed.shelf) (g.H.Shelf.rest c.next_line.new.shelf) c.loop-feed.text c.next_line.new.self
-    (λ lines answer. BehindBlanks c.loop-feed.feed.blanks lines
-    (λ more. g.R.LineReader.answers c.loop-feed.feed.reader c.loop-feed.feed.next more answer))
+    (IsRightFor g.R.LineReader.answers c.loop-feed.feed.reader c.loop-feed.feed.next c.loop-feed.feed.blanks)
     c.next_line.new.line.items c.args.limit (Ok c.in-Ok.made) c.loop-feed.invariant.part
     (c.next_line.ensures.end (search rules))
     (λ over. ap g.H.Shelf.rest (c.next_line.ensures.text.ended over)) c.loop-feed.invariant.within c.in-Ok.ensures
@@ -112,8 +113,7 @@ returns-clause-reads g c =
     all_read (g.H.Shelf.held c.args.shelf.now) c.args.name.now
     (λ lines answer. g.R.LineReader.answers c.args.reader 1 (significant lines) answer)
     (g.H.Shelf.rest c.loop-feed.shelf) (g.H.Shelf.rest c.next_line.new.shelf) c.loop-feed.text c.next_line.new.self
-    (λ lines answer. BehindBlanks c.loop-feed.feed.blanks lines
-    (λ more. g.R.LineReader.answers c.loop-feed.feed.reader c.loop-feed.feed.next more answer))
+    (IsRightFor g.R.LineReader.answers c.loop-feed.feed.reader c.loop-feed.feed.next c.loop-feed.feed.blanks)
     c.next_line.new.line.items c.args.limit (Err c.in-Err-end.fault) c.loop-feed.invariant.part
     (c.next_line.ensures.end (search rules))
     (λ over. ap g.H.Shelf.rest (c.next_line.ensures.text.ended over)) c.loop-feed.invariant.within c.in-Err-end.ensures

@@ -1,7 +1,7 @@
 use Rattle.std.proofs.Common.{◌≡◌, ◌≤◌, ◌+◌, ◌-◌, true, false, length}
 use Rattle.text_lines.specs.Text.{significant}
-use Rattle.text_lines.specs.Blank.{BehindBlanks}
 use Rattle.game_outside.specs.Outside.{KeepsShelf, Holds}
+use Rattle.game_outside.specs.inside.Feeding.{IsRightFor}
 use Rattle.game_outside.proofs.PartRead.{IsPartRead}
 use Rattle.game_outside.proofs.file.read_lines_from.Given as goal
 
@@ -9,8 +9,7 @@ abbrev pub invariant-loop-feed : goal.invariant-loop-feed
 invariant-loop-feed g l = record {
   part : IsPartRead (g.H.Shelf.held l.fn.shelf) l.name
       (λ lines answer. g.R.LineReader.answers l.fn.reader 1 (significant lines) answer) (g.H.Shelf.rest l.shelf) l.text
-      (λ lines answer.
-      BehindBlanks l.feed.blanks lines (λ more. g.R.LineReader.answers l.feed.reader l.feed.next more answer));
+      (IsRightFor g.R.LineReader.answers l.feed.reader l.feed.next l.feed.blanks);
   going : l.text.closed ≡ false;
   limit : l.text.limit ≡ l.limit;
   taken : l.text.taken ≡ g.H.Shelf.taken l.shelf;

@@ -1,0 +1,16 @@
+use Rattle.std.proofs.Common.{◌≤◌, ◌+◌, ◌++◌, ◌∷◌, ℕ, List, length}
+use Rattle.text_lines.specs.Text.{lines_of}
+use Rattle.game_outside.specs.inside.Feeding.{IsRightFor, IsEndOf}
+use Rattle.game_outside.proofs.whole_lines.feed_lines.Given as goal
+
+abbrev pub invariant-loop-next : goal.invariant-loop-next
+invariant-loop-next g l = record {
+  end : IsEndOf l.rest l.bytes;
+  goes_on : (behind : List ℕ) (answer : _) → IsRightFor g.R.LineReader.answers l.feed.reader l.feed.next l.feed.blanks
+      (l.line ∷ lines_of (l.rest ++ behind)) answer → IsRightFor g.R.LineReader.answers l.fn.feed.reader l.fn.feed.next
+      l.fn.feed.blanks (l.fn.line ∷ lines_of (l.bytes ++ behind)) answer;
+  count : l.feed.next + l.feed.blanks + length l.rest ≤ l.fn.feed.next + l.fn.feed.blanks + length l.bytes;
+}
+
+abbrev pub decreases-loop-next : goal.decreases-loop-next
+decreases-loop-next g l = length l.rest
