@@ -55,11 +55,13 @@ struct Divided {
 }
 
 impl Divided {
-    /// A quotient; 0 where the divisor is 0, and the unit where it is beyond 64 bits.
+    /// A quotient; 0 where the divisor is 0, and the unit where it is beyond 64 bits. By 1, as in a choice of one edge,
+    /// nothing is divided.
     fn of(sum: u128, total: u128) -> Divided {
-        if total == 0 {
+        if total <= 1 {
+            let whole = if total == 0 { 0 } else { sum };
             return Divided {
-                whole: 0,
+                whole: u64::try_from(whole).unwrap_or(UNIT),
                 has_rest: false,
             };
         }
