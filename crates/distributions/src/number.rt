@@ -215,6 +215,7 @@ fn line_fraction(above: &[u8], below: &[u8]) -> Result<Frac, NumberFault>
     quotient(digits_onto(0, above), digits_onto(0, below))
 }
 
+// The fraction that a text of any spelling denotes. It stands apart, so that short decimals are read in a small loop.
 #[inline(never)]
 fn number_in(text: &[u8]) -> Result<Frac, NumberFault>
     ensures { result ≡ number_said text.now }

@@ -1,8 +1,9 @@
 -- Bytes that are cut at the first LF.
 use Rattle.std.proofs.Common.{◌≡◌, ◌≤◌, ◌+◌, ◌-◌, ℕ, List, [], ◌∷◌, ◌++◌, take, drop, Some, None, sym, ap, ◌∙◌, arith}
-use Rattle.std.proofs.Common.{add-one}
-use Rattle.std.proofs.lemmas.List.{drop-drop, drop-take}
+use Rattle.std.proofs.Common.{add-one, length}
+use Rattle.std.proofs.lemmas.List.{drop-drop, drop-take, length-take, length-drop}
 use Rattle.memchr.specs.Find.{IsFirstByte, is_byte}
+use Rattle.text_lines.specs.Laws.{IsEndOf}
 use Rattle.text_lines.proofs.Endings as ending
 use Rattle.game_outside.specs.LineTexts.{IsCut, IsUncut}
 
@@ -29,3 +30,19 @@ drop_held bytes begin end count within =
     ap (λ t. take (end - (begin + count)) t) (sym (drop-drop count begin bytes))
     ∙ sym (drop-take count (end - (begin + count)) (drop begin bytes))
     ∙ ap (λ k. drop count (take k (drop begin bytes))) (omega (arith, within))
+
+-- what is held of a piece once the bytes before this end of it were passed on
+pub end_held : (bytes : List ℕ) (begin end : ℕ) (rest : List ℕ) → begin ≤ end → end ≤ length bytes
+    → IsEndOf rest (take (end - begin) (drop begin bytes))
+    → take (end - (end - length rest)) (drop (end - length rest) bytes) ≡ rest
+end_held bytes begin end rest order within ends =
+    let held : List ℕ = take (end - begin) (drop begin bytes) in
+    let many : length held ≡ end - begin = omega (
+      arith,
+      length-take (end - begin) (drop begin bytes),
+      length-drop begin bytes,
+      order,
+      within,
+    ) in
+    ap (λ k. take (end - k) (drop k bytes)) (omega (arith, many, order, ends.within))
+    ∙ drop_held bytes begin end (length held - length rest) (omega (arith, many, order)) ∙ sym ends.bytes

@@ -60,6 +60,17 @@ module _ {A : Type 0} (holding : Option Holding) (name : List ℕ) (Whole : List
         (step behind answer still))));
   }
 
+  -- a line was given, and it or a line behind it is refused, whatever follows
+  pub refused_part : (rest rest' : Option (List ℕ)) (old mid new : TextUnderWay) (Still : List (List ℕ) → A → Type 0)
+      (line given : List ℕ) (refusal : A) → IsPartRead rest old Still → GivesLine old mid rest rest' line
+      → new ≡ record mid { held = new.held } → given ≡ line
+      → ((behind : List ℕ) → Still (given ∷ lines_of (mid.held ++ behind)) refusal)
+      → IsPartRead rest' new (λ _ answer. answer ≡ refusal)
+  refused_part rest rest' old mid new Still line given refusal part gives same is refused =
+      lines_read rest rest' old mid new Still (λ _ answer. answer ≡ refusal) line part gives same
+      (λ behind answer told. subst (λ l. Still (l ∷ lines_of (mid.held ++ behind)) answer) is
+      (subst (λ a. Still (given ∷ lines_of (mid.held ++ behind)) a) (sym told) (refused behind)))
+
   pub all_read : (rest rest' : Option (List ℕ)) (old new : TextUnderWay) (Still : List (List ℕ) → A → Type 0)
       (line : List ℕ) (limit : ℕ) (answer : A) → IsPartRead rest old Still → MeetsEnd old new rest rest' line
       → (old.ended ≡ true → rest' ≡ rest) → old.taken ≤ limit → Still [] answer

@@ -3,12 +3,12 @@
 ghost use Rattle.std.specs.Prelude.{◌≡◌, ◌≢◌, ◌<◌, ◌≤◌, ◌+◌, ◌-◌, ◌^◌, ◌++◌, ◌∷◌, ◌⊎◌, ◌↔◌, [], ℕ, List, Bool, true, false, length, take, drop, IsOk, IsErrOf, IfOk, OnOk, OnErr, MatchResult, not, Result, Err, IfErr};
 ghost use Rattle.std.specs.Io.KnownBytes.{Consumes, IsAtEnd};
 ghost use Rattle.text_lines.specs.Text.{lines_of};
+ghost use Rattle.text_lines.specs.Blank.{IsRightFor};
 ghost use Rattle.text_lines.specs.Laws.{HasNo, EndsInNoCr};
 ghost use Rattle.game_outside.specs.Limits.{piece_size};
 ghost use Rattle.game_outside.specs.Outside.{Begins};
 ghost use Rattle.game_outside.specs.Reading.{LeavesNamed, LeavesBegun};
 ghost use Rattle.game_outside.specs.LineTexts.{Takes, GivesLine, MeetsEnd, Drops, LeavesText, HoldsPiece, IsOnTheWay, IsCut, IsUncut};
-ghost use Rattle.game_outside.specs.inside.Feeding.{IsRightFor};
 
 use crate::shelf::{PIECE, ReadEnd, Shelf};
 use crate::whole_lines::feed_lines;
@@ -163,8 +163,8 @@ impl LineText {
         ensures lines { OnOk result (feed.new.next + feed.new.blanks + length self.new.held
             ≤ feed.old.next + feed.old.blanks + 1 + length self.old.held) }
     {
-        let passed = feed_lines(line, &self.piece[self.begin..self.end], feed)?;
-        self.begin += passed;
+        let rest = feed_lines(line, &self.piece[self.begin..self.end], feed)?;
+        self.begin = self.end - rest.len();
         Ok(())
     }
 

@@ -37,10 +37,10 @@ either-alike n one other third fourth h i = record {
 
 -- 2. Formulas without parts.
 
-pub judged-constant : (m : Model) (asked : ℕ) (holds : Bool) (n : ℕ) (sets : KnownSets) → n ≡ states m
+pub judged-same : (m : Model) (asked : ℕ) (holds : Bool) (n : ℕ) (sets : KnownSets) → n ≡ states m
     → length sets.sure.items ≡ n → AreAlike n (exactly (λ s. holds)) (seen sets)
     → IsJudged m asked (if holds then True else False) (record { sets = sets; inner = 0; undecided = 0 })
-judged-constant m asked true n sets is many alike = record {
+judged-same m asked true n sets is many alike = record {
   bands = tt;
   found = tt;
   many = many ∙ is;
@@ -48,7 +48,7 @@ judged-constant m asked true n sets is many alike = record {
   inner_are = refl;
   undecided_are = refl;
 }
-judged-constant m asked false n sets is many alike = record {
+judged-same m asked false n sets is many alike = record {
   bands = tt;
   found = tt;
   many = many ∙ is;

@@ -23,7 +23,7 @@ impl KnownSets {
     ghost use Rattle.nested_truth.specs.Seen.{AreAlike, seen};
 
     /// It is known to hold at all of so many states, or at none.
-    pub fn constant(alloc: Global, holds: bool, states: u32) -> Result<KnownSets, AllocError>
+    pub fn same_at_all(alloc: Global, holds: bool, states: u32) -> Result<KnownSets, AllocError>
         ensures states { IfOk result (λ sets. length sets.sure.items ≡ states) }
         ensures known { IfOk result (λ sets. AreAlike states (exactly (λ s. holds)) (seen sets)) }
     {

@@ -91,7 +91,7 @@ fn always<R: Threads + Sync, G: Gate + Sync>(
     ensures band { IfOk result (λ bounds. IsBand (length setting.entry.game.now) (band_in bounds)) }
 {
     let dual = dual(alloc, formula)?;
-    let left = KnownSets::constant(alloc, true, setting.game.states())?;
+    let left = KnownSets::same_at_all(alloc, true, setting.game.states())?;
     let right = right.negated();
     let found = reached(rt, alloc, setting, &dual, &left, &right, starts, gate)?;
     found.mirrored(alloc)

@@ -29,8 +29,8 @@ pub fn judge<R: Threads + Sync, G: Gate + Sync>(
     ensures { IfOk result (IsJudged (model_of setting.entry) setting.entry.rounds (state_of formula.now)) }
 {
     match formula {
-        StateFormula::True => constant(alloc, setting, true),
-        StateFormula::False => constant(alloc, setting, false),
+        StateFormula::True => same_at_all(alloc, setting, true),
+        StateFormula::False => same_at_all(alloc, setting, false),
         StateFormula::Label(name) => labelled(alloc, setting, name),
         StateFormula::Not(x) => Ok(judge(rt, alloc, setting, x, gate)?.negated()),
         StateFormula::And(x, y) => {
@@ -82,11 +82,11 @@ fn judge_inside<R: Threads + Sync, G: Gate + Sync>(
 }
 
 // `true` and `false`: known at every state.
-fn constant(alloc: Global, setting: Setting<'_>, holds: bool) -> Result<Judged, OutOfMemory>
+fn same_at_all(alloc: Global, setting: Setting<'_>, holds: bool) -> Result<Judged, OutOfMemory>
     ensures { IfOk result (IsJudged (model_of setting.entry) setting.entry.rounds (if holds then True else False)) }
 {
     Ok(Judged {
-        sets: KnownSets::constant(alloc, holds, setting.game.states())?,
+        sets: KnownSets::same_at_all(alloc, holds, setting.game.states())?,
         inner: 0,
         undecided: 0,
     })

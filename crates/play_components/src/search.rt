@@ -9,7 +9,7 @@ use game_model::Question;
 use game_outside::OutOfMemory;
 use std::alloc::Global;
 
-/// The component of a state that has none yet, and the place of one that has none.
+/// Fills the component and the place of a state that has none yet, and the places of a list that hold no member yet.
 pub const NONE: u32 = 4_294_967_295;
 
 /// The number of a state that has a component: above those of the states that wait for theirs.

@@ -55,8 +55,8 @@ struct Divided {
 }
 
 impl Divided {
-    /// A quotient; 0 where the divisor is 0, and the unit where it is beyond 64 bits. By 1, as in a choice of one edge,
-    /// nothing is divided.
+    /// A quotient; 0 where the divisor is 0, and the unit where it is beyond 64 bits. By 1, as in a choice of one edge
+    /// of weight 1, nothing is divided.
     fn of(sum: u128, total: u128) -> Divided {
         if total <= 1 {
             let whole = if total == 0 { 0 } else { sum };
@@ -66,12 +66,10 @@ impl Divided {
             };
         }
         if let (Ok(sum), Ok(total)) = (u64::try_from(sum), u64::try_from(total)) {
-            if total != 0 {
-                return Divided {
-                    whole: sum / total,
-                    has_rest: sum % total != 0,
-                };
-            }
+            return Divided {
+                whole: sum / total,
+                has_rest: sum % total != 0,
+            };
         }
         Divided {
             whole: u64::try_from(sum / total).unwrap_or(UNIT),

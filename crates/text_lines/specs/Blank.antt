@@ -11,3 +11,8 @@ AreBlank (line ∷ lines) = (fields_of line ≡ []) × AreBlank lines
 abbrev pub BehindBlanks : ℕ → List (List ℕ) → (List (List ℕ) → Type 0) → Type 0
 BehindBlanks count lines Holds = (blanks : List (List ℕ)) → AreBlank blanks → length blanks ≡ count
     → Holds (significant (blanks ++ lines))
+
+-- This answer is right where these lines still come: so many blank lines wait in front of them, and `answers` tells
+-- what is right for a reader whose next line has this number.
+abbrev pub IsRightFor : {S A : Type 0} → (S → ℕ → List (List ℕ) → A → Type 0) → S → ℕ → ℕ → List (List ℕ) → A → Type 0
+IsRightFor answers reader next blanks lines answer = BehindBlanks blanks lines (λ more. answers reader next more answer)

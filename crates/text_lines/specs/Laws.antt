@@ -1,11 +1,16 @@
 -- Words of the laws of lines and fields.
-use Rattle.std.specs.Prelude.{◌≡◌, ◌≢◌, ℕ, List, [], ◌∷◌, false}
+use Rattle.std.specs.Prelude.{◌≡◌, ◌≢◌, ◌≤◌, ◌-◌, ℕ, List, [], ◌∷◌, false, length, drop}
 use Rattle.text_lines.specs.Text.{is_blank}
 
 -- this byte stands nowhere in the bytes
 abbrev pub HasNo : ℕ → List ℕ → Type 0
 HasNo x [] = Unit {0}
 HasNo x (b ∷ bytes) = (b ≢ x) × HasNo x bytes
+
+-- a text ends in these bytes
+pub record IsEndOf (rest text : List ℕ) : Type 0 where
+  pub within : length rest ≤ length text
+  pub bytes : rest ≡ drop (length text - length rest) text
 
 -- the last byte is no CR
 abbrev pub EndsInNoCr : List ℕ → Type 0

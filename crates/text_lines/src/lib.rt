@@ -22,8 +22,7 @@
 //! greater, so a comparison with a smaller limit is one of the exact number.
 //!
 //! `specs/Text.antt` defines `lines_of`, `fields_of` and `number_of`; the functions of `laws` say what they are in
-//! words
-//! that need no reading of the recursions.
+//! words that need no reading of the recursions.
 #![tactic(auto)]
 
 mod fields;
@@ -35,7 +34,7 @@ mod reader;
 
 pub use fields::first_field;
 pub use front::first_number;
-pub use lines::{first_line, only_blank, without_cr};
+pub use lines::{ended_line, first_line, only_blank, without_cr};
 pub use numbers::whole;
 pub use reader::{Feed, LineReader, read_lines};
 

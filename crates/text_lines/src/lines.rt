@@ -1,8 +1,8 @@
 //! The first line of a text.
 
-ghost use Rattle.std.specs.Prelude.{◌≡◌, ◌<◌, ◌∷◌, [], ◌++◌, ℕ, List, length, take, MatchOption};
+ghost use Rattle.std.specs.Prelude.{◌≡◌, ◌<◌, ◌∷◌, [], ◌++◌, ℕ, List, None, length, take, IfSome, MatchOption};
 ghost use Rattle.text_lines.specs.Text.{lines_of, is_nil, significant};
-ghost use Rattle.text_lines.specs.Laws.{HasNo};
+ghost use Rattle.text_lines.specs.Laws.{HasNo, IsEndOf};
 
 use crate::fields::is_blank_line;
 use memchr::memchr;
@@ -12,14 +12,28 @@ pub fn first_line(text: &[u8]) -> Option<(&[u8], &[u8])>
     ensures lines { MatchOption result (text.now ≡ []) (λ r. lines_of text.now ≡ r.0.now ∷ lines_of r.1.now) }
     ensures shorter { MatchOption result (text.now ≡ []) (λ r. length r.1.now < length text.now) }
 {
-    match memchr(b'\n', text) {
-        Some(place) => {
-            let (_, behind) = text.split_at(place + 1);
-            Some((without_cr(&text[..place]), behind))
-        }
-        None if text.is_empty() => None,
-        None => Some((text, &[])),
+    if let Some(found) = ended_line(text) {
+        return Some(found);
     }
+    if text.is_empty() {
+        return None;
+    }
+    Some((text, &[]))
+}
+
+/// The first line that an LF ends, without its ending, and what stands behind the ending. None where no LF stands, and
+/// then these bytes are the front of a line that may go on.
+#[inline]
+pub fn ended_line(bytes: &[u8]) -> Option<(&[u8], &[u8])>
+    ensures line { IfSome result (λ r. (behind : List ℕ) →
+        lines_of (bytes.now ++ behind) ≡ r.0.now ∷ lines_of (r.1.now ++ behind)) }
+    ensures rest { IfSome result (λ r. IsEndOf r.1.now bytes.now) }
+    ensures shorter { IfSome result (λ r. length r.1.now < length bytes.now) }
+    ensures none { result ≡ None → HasNo 10 bytes.now }
+{
+    let place = memchr(b'\n', bytes)?;
+    let (_, behind) = bytes.split_at(place + 1);
+    Some((without_cr(&bytes[..place]), behind))
 }
 
 /// What stands before an LF, less the CR that may end it: the line that the LF ends.

@@ -1,8 +1,8 @@
 //! Readers that take the lines of a text one after another.
 
-ghost use Rattle.std.specs.Prelude.{◌≡◌, ◌≢◌, ◌+◌, ◌<◌, ◌≤◌, ◌∷◌, ◌^◌, [], ℕ, List, Result, Err, OnOk, MatchResult, length};
+ghost use Rattle.std.specs.Prelude.{◌≡◌, ◌≢◌, ◌+◌, ◌<◌, ◌≤◌, ◌∷◌, ◌^◌, [], ℕ, List, Result, Err, OnOk, IfErr, MatchResult, length};
 ghost use Rattle.text_lines.specs.Text.{lines_of, fields_of, significant};
-ghost use Rattle.text_lines.specs.Blank.{BehindBlanks};
+ghost use Rattle.text_lines.specs.Blank.{IsRightFor};
 
 use crate::fields::is_blank_line;
 use crate::lines::first_line;
@@ -67,12 +67,10 @@ impl<R: LineReader> Feed<R> {
     pub fn line(&mut self, line: &[u8]) -> Result<(), R::Fault>
         requires { self.old.next + self.old.blanks + 1 < 2 ^ 32 }
         ensures ok { OnOk result ((lines : List (List ℕ)) (answer : Result R.Made R.Fault) →
-            BehindBlanks self.new.blanks lines (λ more. R.answers self.new.reader self.new.next more answer) →
-            BehindBlanks self.old.blanks (line.now ∷ lines)
-            (λ more. R.answers self.old.reader self.old.next more answer)) }
-        ensures fault { MatchResult result (λ _. Unit {0}) (λ fault. (lines : List (List ℕ)) →
-            BehindBlanks self.old.blanks (line.now ∷ lines)
-            (λ more. R.answers self.old.reader self.old.next more (Err fault))) }
+            IsRightFor R.answers self.new.reader self.new.next self.new.blanks lines answer →
+            IsRightFor R.answers self.old.reader self.old.next self.old.blanks (line.now ∷ lines) answer) }
+        ensures fault { IfErr result (λ fault. (lines : List (List ℕ)) →
+            IsRightFor R.answers self.old.reader self.old.next self.old.blanks (line.now ∷ lines) (Err fault)) }
         ensures count { OnOk result (self.new.next + self.new.blanks ≡ self.old.next + self.old.blanks + 1) }
     {
         if is_blank_line(line) {
@@ -89,7 +87,7 @@ impl<R: LineReader> Feed<R> {
 
     /// What the reader makes of the text, which is at its end.
     pub fn end(self) -> Result<R::Made, R::Fault>
-        ensures { BehindBlanks self.blanks [] (λ more. R.answers self.reader self.next more result) }
+        ensures { IsRightFor R.answers self.reader self.next self.blanks [] result }
     {
         self.reader.finish()
     }

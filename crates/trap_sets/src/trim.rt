@@ -83,7 +83,8 @@ fn follow_gone(
     ensures refines { OnOk result ((s : ℕ) → slice_index part.new s ≢ 0
         → slice_index part.new s ≡ slice_index part.old s) }
     ensures longer { OnOk result (IsLonger gone.old.items gone.new.items) }
-    ensures held { OnOk result (AreWaitingOf cut.now part.new awaited.new gone.new.items (place + 1) (states_in cut.now)) }
+    ensures held { OnOk result (AreWaitingOf cut.now part.new awaited.new gone.new.items (place + 1)
+        (states_in cut.now)) }
 {
     let member = gone[place];
     for step in cut.predecessors.of_state(member) {

@@ -1,7 +1,7 @@
 use Rattle.std.proofs.Common.{rules, ◌≡◌, ◌∷◌, ◌++◌, [], Ok, Err, sym, ap, subst, refl, ◌∙◌}
 use Rattle.text_lines.specs.Text.{lines_of, significant}
-use Rattle.game_outside.specs.inside.Feeding.{IsRightFor}
-use Rattle.game_outside.proofs.PartRead.{begins, lines_read, all_read, rest_dropped, limit_passed, ends_so, err_is}
+use Rattle.text_lines.specs.Blank.{IsRightFor}
+use Rattle.game_outside.proofs.PartRead.{begins, lines_read, refused_part, all_read, rest_dropped, limit_passed, ends_so, err_is}
 use Rattle.game_outside.proofs.file.read_lines_from.Goals as goal
 
 pub loop-feed-init : goal.loop-feed-init
@@ -35,19 +35,13 @@ returns-in_err-finish-clause-reads g c =
     (λ lines answer. g.R.LineReader.answers c.args.reader 1 (significant lines) answer)
     (g.H.Shelf.rest c.next_line.new.shelf) (g.H.Shelf.rest c.finish.new.shelf) c.pass_on.new.self
     (λ _ answer. answer ≡ Err c.in-Err.fault) c.args.limit
-    (lines_read (g.H.Shelf.held c.args.shelf.now) c.args.name.now
+    (refused_part (g.H.Shelf.held c.args.shelf.now) c.args.name.now
     (λ lines answer. g.R.LineReader.answers c.args.reader 1 (significant lines) answer)
     (g.H.Shelf.rest c.loop-feed.shelf) (g.H.Shelf.rest c.next_line.new.shelf) c.loop-feed.text
     c.next_line.new.self c.pass_on.new.self
     (IsRightFor g.R.LineReader.answers c.loop-feed.feed.reader c.loop-feed.feed.next c.loop-feed.feed.blanks)
-    (λ _ answer. answer ≡ Err c.in-Err.fault)
-    c.next_line.new.line.items c.loop-feed.invariant.part
-    (c.next_line.ensures.line (search rules)) c.pass_on.ensures.same
-    (λ behind answer is. subst (λ line. IsRightFor g.R.LineReader.answers c.loop-feed.feed.reader c.loop-feed.feed.next
-    c.loop-feed.feed.blanks (line ∷ lines_of (c.next_line.new.self.held ++ behind)) answer) c.deref.ensures.value
-    (subst (λ answer. IsRightFor g.R.LineReader.answers c.loop-feed.feed.reader c.loop-feed.feed.next
-    c.loop-feed.feed.blanks (c.deref.result.now ∷ lines_of (c.next_line.new.self.held ++ behind)) answer) (sym is)
-    (c.in-Err.ensures.fault behind))))
+    c.next_line.new.line.items c.deref.result.now (Err c.in-Err.fault) c.loop-feed.invariant.part
+    (c.next_line.ensures.line (search rules)) c.pass_on.ensures.same c.deref.ensures.value c.in-Err.ensures.fault)
     (search rules) (search rules))
 
 pub returns-in-Err-clause-reads : goal.returns-in-Err-clause-reads
@@ -57,19 +51,13 @@ returns-in-Err-clause-reads g c =
     (g.H.Shelf.rest c.next_line.new.shelf) (g.H.Shelf.rest c.finish.new.shelf) c.pass_on.new.self c.finish.new.self
     (λ _ answer. answer ≡ Err c.in-Err.fault)
     c.args.limit (Err c.in-Err.fault)
-    (lines_read (g.H.Shelf.held c.args.shelf.now) c.args.name.now
+    (refused_part (g.H.Shelf.held c.args.shelf.now) c.args.name.now
     (λ lines answer. g.R.LineReader.answers c.args.reader 1 (significant lines) answer)
     (g.H.Shelf.rest c.loop-feed.shelf) (g.H.Shelf.rest c.next_line.new.shelf) c.loop-feed.text
     c.next_line.new.self c.pass_on.new.self
     (IsRightFor g.R.LineReader.answers c.loop-feed.feed.reader c.loop-feed.feed.next c.loop-feed.feed.blanks)
-    (λ _ answer. answer ≡ Err c.in-Err.fault)
-    c.next_line.new.line.items c.loop-feed.invariant.part
-    (c.next_line.ensures.line (search rules)) c.pass_on.ensures.same
-    (λ behind answer is. subst (λ line. IsRightFor g.R.LineReader.answers c.loop-feed.feed.reader c.loop-feed.feed.next
-    c.loop-feed.feed.blanks (line ∷ lines_of (c.next_line.new.self.held ++ behind)) answer) c.deref.ensures.value
-    (subst (λ answer. IsRightFor g.R.LineReader.answers c.loop-feed.feed.reader c.loop-feed.feed.next
-    c.loop-feed.feed.blanks (c.deref.result.now ∷ lines_of (c.next_line.new.self.held ++ behind)) answer) (sym is)
-    (c.in-Err.ensures.fault behind))))
+    c.next_line.new.line.items c.deref.result.now (Err c.in-Err.fault) c.loop-feed.invariant.part
+    (c.next_line.ensures.line (search rules)) c.pass_on.ensures.same c.deref.ensures.value c.in-Err.ensures.fault)
     c.in_ok-finish.ensures.dropped (λ over. ap g.H.Shelf.rest (c.finish.ensures.text.ended over))
     (λ over. c.finish.ensures.text.taken_is ∙ ap g.H.Shelf.taken (c.finish.ensures.text.ended over)
     ∙ sym c.next_line.ensures.text.taken_is ∙ sym (ap (λ t. t.taken) c.pass_on.ensures.same)) (search rules)

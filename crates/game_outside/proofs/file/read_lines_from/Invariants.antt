@@ -1,7 +1,7 @@
 use Rattle.std.proofs.Common.{◌≡◌, ◌≤◌, ◌+◌, ◌-◌, true, false, length}
 use Rattle.text_lines.specs.Text.{significant}
 use Rattle.game_outside.specs.Outside.{KeepsShelf, Holds}
-use Rattle.game_outside.specs.inside.Feeding.{IsRightFor}
+use Rattle.text_lines.specs.Blank.{IsRightFor}
 use Rattle.game_outside.proofs.PartRead.{IsPartRead}
 use Rattle.game_outside.proofs.file.read_lines_from.Given as goal
 

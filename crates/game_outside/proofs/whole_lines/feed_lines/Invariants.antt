@@ -1,6 +1,7 @@
 use Rattle.std.proofs.Common.{◌≤◌, ◌+◌, ◌++◌, ◌∷◌, ℕ, List, length}
 use Rattle.text_lines.specs.Text.{lines_of}
-use Rattle.game_outside.specs.inside.Feeding.{IsRightFor, IsEndOf}
+use Rattle.text_lines.specs.Blank.{IsRightFor}
+use Rattle.text_lines.specs.Laws.{IsEndOf}
 use Rattle.game_outside.proofs.whole_lines.feed_lines.Given as goal
 
 abbrev pub invariant-loop-next : goal.invariant-loop-next

@@ -1,6 +1,6 @@
 use Rattle.std.proofs.Common.{rules}
 use Rattle.text_lines.proofs.Endings.{cut_at_lf, without_lf}
-use Rattle.game_outside.proofs.whole_lines.whole_line.Goals as goal
+use Rattle.text_lines.proofs.lines.ended_line.Goals as goal
 
 pub without_cr-requires : goal.without_cr-requires
 without_cr-requires c = (cut_at_lf c.args.bytes.now c.in_ok-place.place (search rules)).no_lf
