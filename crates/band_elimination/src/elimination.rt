@@ -17,7 +17,7 @@ pub struct Shape {
 
 impl Shape {
     /// The shape of so many rows, and of columns so far back and forth.
-    pub fn of_band(rows: usize, back: u32, forth: u32) -> Shape
+    pub(crate) fn of_band(rows: usize, back: u32, forth: u32) -> Shape
         requires rows { rows < 2 ^ 31 }
         requires narrow { back + forth + 1 < 2 ^ 32 }
         ensures { result.rows ≡ rows }
@@ -31,21 +31,21 @@ impl Shape {
     }
 
     /// How many cells there are.
-    pub fn cells(self) -> usize
+    pub(crate) fn cells(self) -> usize
         ensures { result ≡ self.rows * self.width }
     {
         self.rows * self.width
     }
 
     /// How far columns lie behind the diagonal.
-    pub fn forth(self) -> usize
+    pub(crate) fn forth(self) -> usize
         ensures { self.back + result + 1 ≡ self.width }
     {
         self.width - 1 - self.back
     }
 
     /// Where a row begins.
-    pub fn begin(self, row: usize) -> usize
+    pub(crate) fn begin(self, row: usize) -> usize
         requires { row < self.rows }
         ensures value { result ≡ row * self.width }
         ensures end { result + self.width ≤ self.rows * self.width }
@@ -55,7 +55,7 @@ impl Shape {
 }
 
 /// A row of the first `rows` rows.
-pub fn row_of(cells: &mut [f64], width: usize, row: usize, rows: usize) -> &mut [f64]
+pub(crate) fn row_of(cells: &mut [f64], width: usize, row: usize, rows: usize) -> &mut [f64]
     requires row { row < rows }
     requires room { rows * width ≡ length cells.old }
     requires small { length cells.old < 2 ^ 63 }
@@ -76,7 +76,7 @@ fn add_scaled(target: &mut [f64], source: &[f64], factor: f64)
 
 /// Takes all rows out, from the last to the first. What leaves each row, for rows before it or for good, is put in a
 /// list; behind the diagonal stands then by what factor a row was added to another.
-pub fn eliminate(shape: Shape, cells: &mut [f64], leaks: &mut [f64], outs: &mut [f64])
+pub(crate) fn eliminate(shape: Shape, cells: &mut [f64], leaks: &mut [f64], outs: &mut [f64])
     requires cells { length cells.old ≡ shape.rows * shape.width }
     requires leaks { length leaks.old ≡ shape.rows }
     requires outs { length outs.old ≡ shape.rows }

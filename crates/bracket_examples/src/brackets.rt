@@ -25,7 +25,7 @@ use zero_sets::zero_set;
 
 /// The bracket of a question with a bound, by workers whom no gate stops, which may end where the bound is settled at
 /// the initial states.
-pub fn bracket_for<R: Threads + Sync>(
+pub(crate) fn bracket_for<R: Threads + Sync>(
     rt: &R,
     alloc: Global,
     question: &Question<'_>,
@@ -59,7 +59,7 @@ pub fn bracket_for<R: Threads + Sync>(
 }
 
 /// The bracket of a question that asks for its value at state 0.
-pub fn value_bracket<R: Threads + Sync>(
+pub(crate) fn value_bracket<R: Threads + Sync>(
     rt: &R,
     alloc: Global,
     question: &Question<'_>,

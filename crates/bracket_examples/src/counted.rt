@@ -16,7 +16,7 @@ impl<'m, M: UpTables> Counted<'m, M> {
     ghost use Rattle.std.specs.Prelude.{◌≡◌};
 
     /// This maker, which has made no step.
-    pub fn of(maker: &'m M) -> Counted<'m, M>
+    pub(crate) fn of(maker: &'m M) -> Counted<'m, M>
         ensures { result.maker.now ≡ maker.now }
     {
         Counted {
@@ -26,7 +26,7 @@ impl<'m, M: UpTables> Counted<'m, M> {
     }
 
     /// How many up steps were made.
-    pub fn up_steps(&self) -> u64 {
+    pub(crate) fn up_steps(&self) -> u64 {
         self.count.load(Ordering::SeqCst)
     }
 }

@@ -36,7 +36,7 @@ fn are_the_lesser(uppers: &[u64], swapped_values: &[u64], guess: &[u64]) -> Resu
 
 /// Compares the guess over a table with the first of all full tables, and an upper table with the lesser of it and of
 /// the unit less the swapped values.
-pub fn agrees_with_the_plain_guess(
+pub(crate) fn agrees_with_the_plain_guess(
     alloc: Global,
     question: &Question<'_>,
     zero: &Marks,

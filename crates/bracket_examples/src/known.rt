@@ -97,7 +97,7 @@ fn upper_of<R: Threads + Sync>(
 }
 
 /// What is known of a question.
-pub fn known_of<R: Threads + Sync>(
+pub(crate) fn known_of<R: Threads + Sync>(
     rt: &R,
     alloc: Global,
     question: &Question<'_>,
@@ -156,7 +156,7 @@ fn is_reached<R: Threads + Sync>(
 }
 
 /// Whether nothing that a plan says is refuted.
-pub fn is_right<R: Threads + Sync>(
+pub(crate) fn is_right<R: Threads + Sync>(
     rt: &R,
     alloc: Global,
     question: &Question<'_>,

@@ -46,7 +46,7 @@ fn line_at(plan: &Plan, place: usize) -> Option<Line> {
 }
 
 /// The lines of a certificate.
-pub fn lines_of(alloc: Global, plan: &Plan) -> Option<Vec<Line>> {
+pub(crate) fn lines_of(alloc: Global, plan: &Plan) -> Option<Vec<Line>> {
     let mut lines = Vec::new(alloc);
     for place in 0..plan.lower.len() {
         lines.push(line_at(plan, place)?).ok()?;
@@ -188,7 +188,7 @@ fn add_swaps(
 
 /// The certificates that are made of one: with one line changed, or two neighbouring lines, or what is said of two
 /// neighbouring states, in the other order.
-pub fn mutants(alloc: Global, lines: &[Line]) -> Option<Vec<Vec<Line>>> {
+pub(crate) fn mutants(alloc: Global, lines: &[Line]) -> Option<Vec<Vec<Line>>> {
     let mut made = Vec::new(alloc);
     for (place, line) in lines.iter().enumerate() {
         add_changes(alloc, &mut made, lines, place, *line)?;
@@ -224,7 +224,7 @@ fn line_text(alloc: Global, line: Line) -> Option<String> {
 }
 
 /// The text of a certificate of these lines.
-pub fn text_of(alloc: Global, lines: &[Line]) -> Option<String> {
+pub(crate) fn text_of(alloc: Global, lines: &[Line]) -> Option<String> {
     let count = lines.len();
     let mut text = format!(in alloc; "certificate 2 {count}\n").ok()?;
     for line in lines {

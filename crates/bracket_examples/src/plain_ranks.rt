@@ -9,7 +9,7 @@ use rank_certificate::RankPlan;
 use std::alloc::Global;
 
 /// The entry of a state.
-pub fn entry(table: &[u64], state: u32) -> u64 {
+pub(crate) fn entry(table: &[u64], state: u32) -> u64 {
     table.get(state as usize).copied().unwrap_or(0)
 }
 
@@ -140,7 +140,7 @@ fn all_of(alloc: Global, ranks: &[Option<u32>]) -> Option<Option<Vec<u32>>> {
 }
 
 /// The plan of values, layer by layer, if each state comes into one.
-pub fn plain_plan(
+pub(crate) fn plain_plan(
     alloc: Global,
     question: &Question<'_>,
     values: &[u64],

@@ -35,7 +35,7 @@ fn refused(text: String) -> Answer {
 }
 
 /// The answer of a whole text, of a model with so many states.
-pub fn answer_of_whole(
+pub(crate) fn answer_of_whole(
     alloc: Global,
     text: &[u8],
     file: ModelFile,
@@ -61,7 +61,7 @@ pub fn answer_of_whole(
 }
 
 /// The answer of the text under a name.
-pub fn answer_in_pieces(
+pub(crate) fn answer_in_pieces(
     alloc: Global,
     shelf: &mut MemShelf,
     name: &str,

@@ -32,7 +32,7 @@ pub struct DrawnModel {
 }
 
 /// A model of two to six states.
-pub fn draw_model(alloc: Global, draws: &mut Draws) -> Result<DrawnModel, Fail> {
+pub(crate) fn draw_model(alloc: Global, draws: &mut Draws) -> Result<DrawnModel, Fail> {
     let states = 2 + draws.below(MOST_STATES as usize - 1) as u32;
     let tra = draw_transitions(alloc, draws, states)?;
     let of_second = draw_marks(alloc, draws, states, 2)?;

@@ -86,7 +86,7 @@ const BLANKS: [&str; 3] = ["", " ", "\t \t"];
 const DAMAGE: [u8; 23] = *b"0123456789 \t\r\n.:\"=/eap\0";
 
 /// A text of a file of a model with so many states, which denotes what the file is for.
-pub fn draw_text(
+pub(crate) fn draw_text(
     alloc: Global,
     draws: &mut Draws,
     file: ModelFile,
@@ -277,7 +277,7 @@ fn header_of(alloc: Global, items: &[Item]) -> Result<String, Fail> {
 }
 
 /// Changes one to three bytes.
-pub fn damage(draws: &mut Draws, text: &mut Vec<u8>) -> Result<(), Fail> {
+pub(crate) fn damage(draws: &mut Draws, text: &mut Vec<u8>) -> Result<(), Fail> {
     for _ in 0..1 + draws.below(3) {
         change_byte(draws, text)?;
     }

@@ -10,12 +10,12 @@ pub struct Draws {
 
 impl Draws {
     /// The numbers behind a seed.
-    pub fn from_seed(seed: usize) -> Draws {
+    pub(crate) fn from_seed(seed: usize) -> Draws {
         Draws { state: seed }
     }
 
     /// The next number, below a limit.
-    pub fn below(&mut self, limit: usize) -> usize
+    pub(crate) fn below(&mut self, limit: usize) -> usize
         requires { 0 < limit }
         ensures { result < limit }
     {

@@ -61,7 +61,10 @@ struct Reading<'a> {
 }
 
 /// What the words say, where they denote a command.
-pub fn plain_words<'a>(alloc: Global, words: &[&'a str]) -> Result<Option<PlainWords<'a>>, Fail> {
+pub(crate) fn plain_words<'a>(
+    alloc: Global,
+    words: &[&'a str],
+) -> Result<Option<PlainWords<'a>>, Fail> {
     match words.split_first() {
         Some((name, rest)) if *name == "check" => words_behind(alloc, CHECK, name, rest),
         Some((name, rest)) if *name == "audit" => words_behind(alloc, AUDIT, name, rest),

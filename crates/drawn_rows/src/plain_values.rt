@@ -29,7 +29,7 @@ pub struct Staying {
 
 impl<'g> LeavingGame<'g> {
     /// The game with these sides, where these states are outside.
-    pub fn new(
+    pub(crate) fn new(
         alloc: Global,
         game: &'g Game,
         sides: Vec<Side>,
@@ -48,7 +48,7 @@ impl<'g> LeavingGame<'g> {
 
     /// What so many steps say: the most is 1 less the value of leaving within them, and the least is that of coming to
     /// a safe state within them, and not outside before.
-    pub fn staying(&self, alloc: Global, steps: u32) -> Option<Staying> {
+    pub(crate) fn staying(&self, alloc: Global, steps: u32) -> Option<Staying> {
         let left = left_within(alloc, self.game, &self.sides, &self.outside, steps)?;
         let least = numerators_of(
             alloc,

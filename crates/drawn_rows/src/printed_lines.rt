@@ -20,7 +20,7 @@ pub struct PrintedLine<'a> {
 
 impl<'a> PrintedLine<'a> {
     /// The line with 1 less these bounds, exchanged.
-    pub fn mirrored(self) -> Option<PrintedLine<'a>> {
+    pub(crate) fn mirrored(self) -> Option<PrintedLine<'a>> {
         Some(PrintedLine {
             lower: UNIT.checked_sub(self.upper)?,
             upper: UNIT.checked_sub(self.lower)?,
@@ -30,7 +30,7 @@ impl<'a> PrintedLine<'a> {
 }
 
 /// The lines of a text.
-pub fn read_lines<'a>(alloc: Global, text: &'a [u8]) -> Result<Vec<PrintedLine<'a>>, Fail> {
+pub(crate) fn read_lines<'a>(alloc: Global, text: &'a [u8]) -> Result<Vec<PrintedLine<'a>>, Fail> {
     let Ok(text) = from_utf8(text) else {
         return Err(Fail::new("the text is no UTF-8"));
     };

@@ -3,12 +3,12 @@
 ghost use Rattle.std.specs.Prelude.{◌≡◌, length};
 
 /// The sum of the products.
-pub fn product(a: &[f64], b: &[f64]) -> f64 {
+pub(crate) fn product(a: &[f64], b: &[f64]) -> f64 {
     a.iter().zip(b).map(|(x, y)| *x * *y).sum()
 }
 
 /// The sums of the squares of a vector, and of its products with another.
-pub fn square_and_product(a: &[f64], b: &[f64]) -> (f64, f64) {
+pub(crate) fn square_and_product(a: &[f64], b: &[f64]) -> (f64, f64) {
     a.iter()
         .zip(b)
         .fold((0.0, 0.0), |(square, product), (x, y)| {
@@ -17,7 +17,7 @@ pub fn square_and_product(a: &[f64], b: &[f64]) -> (f64, f64) {
 }
 
 /// The greatest size of an entry; infinite where one is no number.
-pub fn greatest(list: &[f64]) -> f64 {
+pub(crate) fn greatest(list: &[f64]) -> f64 {
     list.iter().fold(0.0, |most, x| greater(most, *x))
 }
 
@@ -33,14 +33,14 @@ fn greater(most: f64, x: f64) -> f64 {
 }
 
 /// Adds a multiple of another vector.
-pub fn add_scaled(target: &mut [f64], factor: f64, other: &[f64]) {
+pub(crate) fn add_scaled(target: &mut [f64], factor: f64, other: &[f64]) {
     for (x, y) in target.iter_mut().zip(other) {
         *x += factor * *y;
     }
 }
 
 /// Becomes another vector.
-pub fn copy(target: &mut [f64], other: &[f64]) {
+pub(crate) fn copy(target: &mut [f64], other: &[f64]) {
     for (x, y) in target.iter_mut().zip(other) {
         *x = *y;
     }
@@ -55,7 +55,7 @@ pub struct Left {
 
 /// The values found move along the direction by alpha and along the residual by omega, and the residual loses as much of
 /// what it turned into. Gives what is left of it.
-pub fn advance(
+pub(crate) fn advance(
     found: &mut [f64],
     residual: &mut [f64],
     direction: &[f64],
@@ -85,7 +85,13 @@ pub fn advance(
 }
 
 /// The direction loses omega times what it moved, becomes beta times itself, and gains the residual.
-pub fn redirect(direction: &mut [f64], moved: &[f64], residual: &[f64], omega: f64, beta: f64)
+pub(crate) fn redirect(
+    direction: &mut [f64],
+    moved: &[f64],
+    residual: &[f64],
+    omega: f64,
+    beta: f64,
+)
     requires moved { length moved.now ≡ length direction.old }
     requires residual { length residual.now ≡ length direction.old }
 {

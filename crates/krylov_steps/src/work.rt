@@ -32,7 +32,7 @@ pub struct Work {
 
 impl Work {
     /// The vectors before the first step, over sums and the values to begin with.
-    pub fn begin(
+    pub(crate) fn begin(
         alloc: Global,
         chain: &Chain,
         sums: &[f64],
@@ -64,7 +64,7 @@ impl Work {
     }
 
     /// One step. False where it finds nothing more, or goes astray.
-    pub fn step(&mut self, chain: &Chain, most: f64) -> bool
+    pub(crate) fn step(&mut self, chain: &Chain, most: f64) -> bool
         requires { self.old.nodes ≡ nodes_in chain.now }
         ensures { self.new.nodes ≡ self.old.nodes }
     {

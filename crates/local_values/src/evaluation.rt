@@ -23,7 +23,7 @@ const REFINED: f64 = 30_000_000.0;
 const MOVES: f64 = 0.1;
 
 /// Brings values to those of a policy, where each move costs so much. Gives about how much a sweep still changes.
-pub fn evaluate(
+pub(crate) fn evaluate(
     alloc: Global,
     game: &FloatGame,
     cost: f64,

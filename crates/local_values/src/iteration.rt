@@ -53,7 +53,7 @@ impl Patience {
 }
 
 /// Evaluates policies and exchanges choices, until none gains. True where it came to that.
-pub fn iterate(
+pub(crate) fn iterate(
     alloc: Global,
     game: &FloatGame,
     cost: f64,

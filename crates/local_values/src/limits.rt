@@ -16,12 +16,12 @@ const MOST_PRODUCTS: f64 = 300_000_000.0;
 const MOST_CELLS: f64 = 30_000_000.0;
 
 /// How many products the elimination of a chain of so many nodes takes in a band.
-pub fn products_of(nodes: usize, band: Band) -> f64 {
+pub(crate) fn products_of(nodes: usize, band: Band) -> f64 {
     nearest_usize_to_f64(nodes) * (f64::from(band.back) + 1.0) * (f64::from(band.forth) + 1.0)
 }
 
 /// Whether a band is narrow enough for an elimination.
-pub fn is_narrow(nodes: usize, band: Band) -> bool {
+pub(crate) fn is_narrow(nodes: usize, band: Band) -> bool {
     let width = f64::from(band.back) + f64::from(band.forth) + 1.0;
     products_of(nodes, band) <= MOST_PRODUCTS && nearest_usize_to_f64(nodes) * width <= MOST_CELLS
 }

@@ -11,13 +11,13 @@ pub struct Pace {
 
 impl Pace {
     /// Whether the last sweep changed little enough.
-    pub fn is_done(self) -> bool {
+    pub(crate) fn is_done(self) -> bool {
         self.last <= ENOUGH
     }
 
     /// Whether at this rate more than forty sweeps are left: the rate is the seventh root of the last change over the
     /// first, and its fortieth power is more than what the change must shrink by.
-    pub fn is_slow(self) -> bool {
+    pub(crate) fn is_slow(self) -> bool {
         if !(self.last < self.first) {
             return true;
         }

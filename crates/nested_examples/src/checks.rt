@@ -5,7 +5,7 @@ use crate::values::{Exact, is_kept, share_of};
 use game_model::UNIT;
 
 /// Whether bounds lie around the value at a state.
-pub fn lie_around(lower: u64, upper: u64, exact: &Exact, state: usize) -> Option<bool> {
+pub(crate) fn lie_around(lower: u64, upper: u64, exact: &Exact, state: usize) -> Option<bool> {
     let value = exact.numerators.get(state)?;
     let least = value
         .saturating_sub(exact.slack)
@@ -19,7 +19,13 @@ pub fn lie_around(lower: u64, upper: u64, exact: &Exact, state: usize) -> Option
 }
 
 /// Whether bounds lie so near the value at a state as so many steps promise.
-pub fn lie_near(lower: u64, upper: u64, exact: &Exact, state: usize, steps: u32) -> Option<bool> {
+pub(crate) fn lie_near(
+    lower: u64,
+    upper: u64,
+    exact: &Exact,
+    state: usize,
+    steps: u32,
+) -> Option<bool> {
     let value = exact.numerators.get(state)?.checked_mul(u128::from(UNIT))?;
     let margin = u128::from(steps).checked_mul(exact.one)?;
     let lower = u128::from(lower).checked_mul(exact.one)?;
@@ -28,7 +34,7 @@ pub fn lie_near(lower: u64, upper: u64, exact: &Exact, state: usize, steps: u32)
 }
 
 /// The steps of a path with a bound on them.
-pub fn steps_of(way: Way) -> Option<u32> {
+pub(crate) fn steps_of(way: Way) -> Option<u32> {
     match way {
         Way::EventuallyWithin(steps) | Way::UntilWithin(steps) => Some(steps),
         Way::Next => Some(1),
@@ -37,7 +43,7 @@ pub fn steps_of(way: Way) -> Option<u32> {
 }
 
 /// What bounds say of what is asked: nothing where one of them keeps it and the other does not.
-pub fn said(asked: Asked, lower: u64, upper: u64) -> Option<bool> {
+pub(crate) fn said(asked: Asked, lower: u64, upper: u64) -> Option<bool> {
     let share = share_of(asked)?;
     let threshold = share.numerator.checked_mul(u128::from(UNIT))?;
     let lower = u128::from(lower).checked_mul(share.denominator)?;

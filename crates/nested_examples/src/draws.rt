@@ -175,7 +175,7 @@ fn add_tree(alloc: Global, draw: &mut Draw, trees: &mut Vec<Tree>) -> Option<()>
 }
 
 /// A random formula that bounds a probability or asks for one.
-pub fn random_formula(alloc: Global, draw: &mut Draw) -> Option<Tree> {
+pub(crate) fn random_formula(alloc: Global, draw: &mut Draw) -> Option<Tree> {
     let mut trees = Vec::new(alloc);
     for _turn in 0..draw.between(2, 8) {
         add_tree(alloc, draw, &mut trees)?;

@@ -122,7 +122,7 @@ impl Head {
     }
 
     /// Whether the path has a left side.
-    pub fn has_left(self) -> bool {
+    pub(crate) fn has_left(self) -> bool {
         matches!(self.way, Way::Until | Way::UntilWithin(_))
     }
 }
@@ -139,7 +139,7 @@ impl Tree {
     }
 
     /// The text, in brackets where it binds less tightly than it has to.
-    pub fn text(&self, alloc: Global, least: u32) -> Result<String, AllocError> {
+    pub(crate) fn text(&self, alloc: Global, least: u32) -> Result<String, AllocError> {
         let text = match self {
             Tree::Everywhere => String::from_str(alloc, "true"),
             Tree::Nowhere => String::from_str(alloc, "false"),
@@ -158,7 +158,7 @@ impl Tree {
     }
 
     /// How many formulas stand in one another at most.
-    pub fn depth(&self) -> u32 {
+    pub(crate) fn depth(&self) -> u32 {
         match self {
             Tree::Everywhere | Tree::Nowhere | Tree::HasA | Tree::HasB => 0,
             Tree::Not(x) => x.depth(),
@@ -168,7 +168,7 @@ impl Tree {
     }
 
     /// A list, and behind it the formulas that bound a probability, itself and those inside.
-    pub fn collected<'t>(&'t self, mut found: Vec<&'t Tree>) -> Option<Vec<&'t Tree>> {
+    pub(crate) fn collected<'t>(&'t self, mut found: Vec<&'t Tree>) -> Option<Vec<&'t Tree>> {
         match self {
             Tree::Everywhere | Tree::Nowhere | Tree::HasA | Tree::HasB => Some(found),
             Tree::Not(x) => x.collected(found),

@@ -32,7 +32,7 @@ pub struct Model<'g> {
 }
 
 /// A random game in which some states are never left.
-pub fn random_trapping_game(alloc: Global, draw: &mut Draw) -> Option<Game> {
+pub(crate) fn random_trapping_game(alloc: Global, draw: &mut Draw) -> Option<Game> {
     let states = draw.between(FEW_STATES.least_states, FEW_STATES.most_states);
     let mut draft = Draft::new(alloc, states);
     for state in 0..states {
@@ -151,7 +151,11 @@ fn owners_of_marks(alloc: Global, seen: &Seen<'_>) -> Result<Owners, Fail>
 }
 
 /// A game with owners and labels that are drawn.
-pub fn random_model<'g>(alloc: Global, draw: &mut Draw, game: &'g Game) -> Result<Model<'g>, Fail> {
+pub(crate) fn random_model<'g>(
+    alloc: Global,
+    draw: &mut Draw,
+    game: &'g Game,
+) -> Result<Model<'g>, Fail> {
     let seen = random_seen(alloc, draw, game).ok_or("no marks")?;
     let labels = labels_of_marks(alloc, &seen)?;
     let owners = owners_of_marks(alloc, &seen)?;

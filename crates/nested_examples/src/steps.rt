@@ -82,7 +82,7 @@ impl Reaching<'_> {
     }
 
     /// The values after so many steps from a table of zeros and ones.
-    pub fn within(&self, alloc: Global, opening: &[bool], steps: u32) -> Option<Exact> {
+    pub(crate) fn within(&self, alloc: Global, opening: &[bool], steps: u32) -> Option<Exact> {
         let mut one: u128 = 1;
         let mut table = table_of(alloc, opening, one)?;
         for _step in 0..steps {
@@ -97,7 +97,7 @@ impl Reaching<'_> {
     }
 
     /// The values without a bound on the steps, where steps that are rounded down come to rest.
-    pub fn at_last(&self, alloc: Global) -> Option<Exact> {
+    pub(crate) fn at_last(&self, alloc: Global) -> Option<Exact> {
         let mut table = table_of(alloc, &self.goals, FINE)?;
         for _step in 0..MANY_STEPS {
             let next = self.stepped(alloc, &table, FINE, 1)?;

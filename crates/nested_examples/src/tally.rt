@@ -21,7 +21,7 @@ pub struct Tally {
 
 impl Tally {
     /// Nothing yet.
-    pub fn new() -> Tally {
+    pub(crate) fn new() -> Tally {
         Tally {
             settled: 0,
             open: 0,
@@ -33,7 +33,7 @@ impl Tally {
     }
 
     /// One more value: that at a state, which counts where it is neither 0 nor 1. None where there is no such state.
-    pub fn note_value(&mut self, exact: &Exact, state: usize) -> Option<()> {
+    pub(crate) fn note_value(&mut self, exact: &Exact, state: usize) -> Option<()> {
         let value = *exact.numerators.get(state)?;
         if value != 0 && value != exact.one {
             self.between = self.between.saturating_add(1);
@@ -42,7 +42,7 @@ impl Tally {
     }
 
     /// One more verdict; none is an undecided one.
-    pub fn note_verdict(&mut self, verdict: Option<bool>) {
+    pub(crate) fn note_verdict(&mut self, verdict: Option<bool>) {
         match verdict {
             Some(true) => self.yes = self.yes.saturating_add(1),
             Some(false) => self.no = self.no.saturating_add(1),
@@ -51,7 +51,7 @@ impl Tally {
     }
 
     /// One more formula, with so many inside it, and so many verdicts of these undecided.
-    pub fn note_inside(&mut self, inner: u32, undecided: u32) {
+    pub(crate) fn note_inside(&mut self, inner: u32, undecided: u32) {
         if inner > 0 && undecided == 0 {
             self.settled = self.settled.saturating_add(1);
         }
@@ -62,7 +62,7 @@ impl Tally {
 
     /// More formulas than this have all inside settled, and more than that something open; and there are many verdicts
     /// of each kind, and many values between 0 and 1.
-    pub fn is_telling(&self, settled: u32, open: u32) -> Result<(), Fail> {
+    pub(crate) fn is_telling(&self, settled: u32, open: u32) -> Result<(), Fail> {
         are_more("settled inside", self.settled, settled)?;
         are_more("open inside", self.open, open)?;
         are_more("undecided", self.undecided, open)?;

@@ -39,7 +39,7 @@ impl Exact {
     }
 
     /// Whether the value at a state keeps what is asked of it; none where it is asked for.
-    pub fn keeps(&self, state: usize, asked: Asked) -> Option<bool> {
+    pub(crate) fn keeps(&self, state: usize, asked: Asked) -> Option<bool> {
         let share = share_of(asked)?;
         Some(is_kept(asked, self.compared(state, share)?))
     }
@@ -59,7 +59,7 @@ impl Exact {
 }
 
 /// The threshold of a bound.
-pub fn share_of(asked: Asked) -> Option<Share> {
+pub(crate) fn share_of(asked: Asked) -> Option<Share> {
     match asked {
         Asked::AtLeast(share) | Asked::Above(share) => Some(share),
         Asked::AtMost(share) | Asked::Below(share) => Some(share),
@@ -68,7 +68,7 @@ pub fn share_of(asked: Asked) -> Option<Share> {
 }
 
 /// Whether a value that compares so with its threshold meets a bound.
-pub fn is_kept(asked: Asked, compared: Ordering) -> bool {
+pub(crate) fn is_kept(asked: Asked, compared: Ordering) -> bool {
     match asked {
         Asked::AtLeast(_) => compared != Ordering::Less,
         Asked::Above(_) => compared == Ordering::Greater,
@@ -160,7 +160,13 @@ impl<'g> Seen<'g> {
     }
 
     /// The values of a formula that bounds a probability.
-    pub fn values(&self, alloc: Global, head: Head, left: &Tree, right: &Tree) -> Option<Exact> {
+    pub(crate) fn values(
+        &self,
+        alloc: Global,
+        head: Head,
+        left: &Tree,
+        right: &Tree,
+    ) -> Option<Exact> {
         let left = self.truth(alloc, left)?;
         let right = self.truth(alloc, right)?;
         self.path_values(alloc, head, left, right)

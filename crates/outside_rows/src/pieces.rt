@@ -30,7 +30,7 @@ const UNKNOWN_INDEX: Case<'static> = Case {
 };
 
 /// A case gives the same in pieces of each size.
-pub fn gives_in_pieces<R: Threads + Sync>(
+pub(crate) fn gives_in_pieces<R: Threads + Sync>(
     rt: &R,
     alloc: Global,
     case: Case<'_>,

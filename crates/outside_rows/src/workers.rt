@@ -20,7 +20,7 @@ fn agreement<'a>(numbers: &'a [&'a str]) -> Row<'a> {
 }
 
 /// The agreement's bounds are those of one worker, whatever the number of rounds; there is one line.
-pub fn agrees<R: Threads + Sync, G: Gate + Sync>(
+pub(crate) fn agrees<R: Threads + Sync, G: Gate + Sync>(
     rt: &R,
     alloc: Global,
     workers: &str,

@@ -31,7 +31,7 @@ pub struct Approach {
 impl Approach {
     /// The states of positive value in the order in which they join: one of the maximiser by its first choice that
     /// leads on, one of the minimiser when all its choices do. The only error is want of memory.
-    pub fn of_question(
+    pub(crate) fn of_question(
         alloc: Global,
         question: &Question,
         predecessors: &Predecessors,

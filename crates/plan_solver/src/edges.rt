@@ -11,7 +11,11 @@ use std::alloc::Global;
 use std::num::nearest_u64_to_f64;
 
 /// An empty local game, with room for the choices and edges of so many states.
-pub fn draft_of(alloc: Global, question: &Question, members: &[u32]) -> Result<Draft, OutOfMemory> {
+pub(crate) fn draft_of(
+    alloc: Global,
+    question: &Question,
+    members: &[u32],
+) -> Result<Draft, OutOfMemory> {
     let game = question.game();
     let mut choices: u64 = 0;
     let mut edges: u64 = 0;
@@ -26,7 +30,7 @@ pub fn draft_of(alloc: Global, question: &Question, members: &[u32]) -> Result<D
 }
 
 /// Adds the edges of a choice: to the node of a state, or out of the local game with the entry of a state that has none.
-pub fn add_edges(
+pub(crate) fn add_edges(
     row: &Row<'_>,
     choice: u32,
     nodes: &[u32],

@@ -31,7 +31,7 @@ pub struct Frame<'a, 'q> {
 }
 
 /// Whether the value of a state is neither 1 nor 0.
-pub fn is_open(sure: &Marks, zero: &Marks, state: u32) -> bool
+pub(crate) fn is_open(sure: &Marks, zero: &Marks, state: u32) -> bool
     requires sure { state < length sure.now }
     requires zero { state < length zero.now }
 {

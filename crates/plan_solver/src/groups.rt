@@ -45,22 +45,22 @@ impl Groups {
     }
 
     /// Whether every state is known to be alone.
-    pub fn are_alone(&self) -> bool {
+    pub(crate) fn are_alone(&self) -> bool {
         self.leads.is_empty()
     }
 
     /// The first state of a state's end component.
-    pub fn lead_of(&self, state: u32) -> u32 {
+    pub(crate) fn lead_of(&self, state: u32) -> u32 {
         self.leads.get(state as usize).copied().unwrap_or(state)
     }
 
     /// The next state of a state's end component, or `NONE`.
-    pub fn next_of(&self, state: u32) -> u32 {
+    pub(crate) fn next_of(&self, state: u32) -> u32 {
         self.nexts.get(state as usize).copied().unwrap_or(NONE)
     }
 
     /// Whether a choice stays in the end component of its state.
-    pub fn hold(&self, question: &Question, state: u32, choice: u32) -> bool
+    pub(crate) fn hold(&self, question: &Question, state: u32, choice: u32) -> bool
         requires state { state < states question.now }
         requires choice { choice < length (choices_of question.now.game state) }
     {
@@ -103,7 +103,7 @@ fn nexts_of(alloc: Global, parts: &Components, states: u32) -> Result<Vec<u32>, 
 
 /// Divides components until no choice that stays in one of them leaves its part: a part of more than one state is an
 /// end component. Mostly no choice can stay for ever, and nothing is searched. The only error is want of memory.
-pub fn end_components(
+pub(crate) fn end_components(
     alloc: Global,
     frame: &Frame<'_, '_>,
     replies: &[u32],
@@ -160,7 +160,7 @@ fn divided(
 }
 
 /// The components of the states whose value is neither 1 nor 0; each other state is one of its own.
-pub fn open_components(
+pub(crate) fn open_components(
     alloc: Global,
     question: &Question,
     sure: &Marks,

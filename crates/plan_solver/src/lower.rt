@@ -24,7 +24,7 @@ struct Local {
 /// Finds lower entries for the states of a component, the choices of the maximiser that they go by, the best replies of
 /// the minimiser, and the values that the entries were rounded from. Values begin at 0, and the maximiser's choices
 /// with those that lead toward a goal, so that no value is kept up by play that stays for ever.
-pub fn lower_component(
+pub(crate) fn lower_component(
     alloc: Global,
     frame: &Frame<'_, '_>,
     component: u32,
@@ -83,7 +83,7 @@ pub fn lower_component(
 }
 
 /// Notes a choice of a state.
-pub fn note(choices: &mut [u32], state: u32, choice: u32)
+pub(crate) fn note(choices: &mut [u32], state: u32, choice: u32)
     ensures { length choices.new ≡ length choices.old }
 {
     if let Some(entry) = choices.get_mut(state as usize) {
@@ -99,7 +99,7 @@ fn note_value(values: &mut [f64], state: u32, value: f64) {
 }
 
 /// The numbers below this one.
-pub fn numbers(alloc: Global, end: usize) -> Result<Vec<u32>, OutOfMemory> {
+pub(crate) fn numbers(alloc: Global, end: usize) -> Result<Vec<u32>, OutOfMemory> {
     let mut list = Vec::with_capacity(alloc, end)?;
     for number in 0..end {
         list.push(u32::try_from(number).unwrap_or(u32::MAX))?;
@@ -108,14 +108,14 @@ pub fn numbers(alloc: Global, end: usize) -> Result<Vec<u32>, OutOfMemory> {
 }
 
 /// Notes the nodes of the members of a component.
-pub fn place_nodes(members: &[u32], nodes: &[u32], node_of: &mut [u32]) {
+pub(crate) fn place_nodes(members: &[u32], nodes: &[u32], node_of: &mut [u32]) {
     for (state, node) in members.iter().zip(nodes) {
         note(node_of, *state, *node);
     }
 }
 
 /// Takes the nodes of the members of a component back.
-pub fn clear_nodes(members: &[u32], node_of: &mut [u32]) {
+pub(crate) fn clear_nodes(members: &[u32], node_of: &mut [u32]) {
     for state in members {
         note(node_of, *state, NONE);
     }

@@ -14,7 +14,11 @@ use table_rounding::UnitTable;
 const GAIN: f64 = 4.0;
 
 /// Exchanges replies for better ones. Gives the first component with an exchange, or nothing where there is none.
-pub fn improve_replies(frame: &Frame<'_, '_>, upper: &UnitTable, replies: &mut [u32]) -> Option<u32>
+pub(crate) fn improve_replies(
+    frame: &Frame<'_, '_>,
+    upper: &UnitTable,
+    replies: &mut [u32],
+) -> Option<u32>
     requires { length upper.now ≡ states frame.now.question.now }
     ensures { length replies.new ≡ length replies.old }
 {

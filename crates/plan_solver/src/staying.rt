@@ -26,7 +26,7 @@ pub struct Staying {
 
 impl Staying {
     /// The choices that are left where the minimiser plays its replies. The only error is want of memory.
-    pub fn of_frame(
+    pub(crate) fn of_frame(
         alloc: Global,
         frame: &Frame<'_, '_>,
         replies: &[u32],
@@ -112,12 +112,12 @@ impl Staying {
     }
 
     /// Whether any choice is left.
-    pub fn has_any(&self) -> bool {
+    pub(crate) fn has_any(&self) -> bool {
         self.left.iter().any(|left| *left > 0)
     }
 
     /// Whether a choice is left.
-    pub fn has(&self, question: &Question, state: u32, choice: u32) -> bool
+    pub(crate) fn has(&self, question: &Question, state: u32, choice: u32) -> bool
         requires { state < states question.now }
     {
         let number = question.game().choices_below(state) as usize + choice as usize;
@@ -126,14 +126,14 @@ impl Staying {
 }
 
 /// Whether the side of a state may take a choice: the minimiser plays its reply.
-pub fn is_played(question: &Question, replies: &[u32], state: u32, choice: u32) -> bool
+pub(crate) fn is_played(question: &Question, replies: &[u32], state: u32, choice: u32) -> bool
     requires { state < states question.now }
 {
     question.side(state) == Side::Max || replies.get(state as usize).copied() == Some(choice)
 }
 
 /// Whether a choice stays in the part of its state.
-pub fn stays(question: &Question, parts: &Components, state: u32, choice: u32) -> bool
+pub(crate) fn stays(question: &Question, parts: &Components, state: u32, choice: u32) -> bool
     requires parts { states_of parts.now ≡ states question.now }
     requires state { state < states question.now }
     requires choice { choice < length (choices_of question.now.game state) }

@@ -45,7 +45,7 @@ struct Local {
 
 /// Finds upper entries for the states of a component, where the minimiser plays these replies. The states of an end
 /// component have one node, with the choices that leave it. Where no values are found, the entries are the unit.
-pub fn upper_component(
+pub(crate) fn upper_component(
     alloc: Global,
     frame: &Frame<'_, '_>,
     component: u32,

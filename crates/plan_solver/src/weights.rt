@@ -8,14 +8,14 @@ use std::num::nearest_u64_to_f64;
 const HIGH: u128 = 18_446_744_073_709_551_616;
 
 /// Whether weights with this total fit 64 bits.
-pub fn is_narrow(total: u128) -> bool
+pub(crate) fn is_narrow(total: u128) -> bool
     ensures { IsTrue result ↔ (total < 2 ^ 64) }
 {
     total < HIGH
 }
 
 /// A weight, as near as floats are.
-pub fn float_of(weight: u128) -> f64 {
+pub(crate) fn float_of(weight: u128) -> f64 {
     let low = u64::try_from(weight % HIGH).unwrap_or(u64::MAX);
     let high = u64::try_from(weight / HIGH).unwrap_or(u64::MAX);
     if high == 0 {

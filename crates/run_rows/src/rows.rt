@@ -96,7 +96,11 @@ pub fn add_words(alloc: Global, owned: &mut Vec<String>, words: &[&str]) -> Resu
 }
 
 /// The words that ask a command the question of a row.
-pub fn question_words(alloc: Global, command: &str, row: Row<'_>) -> Result<Vec<String>, Fail> {
+pub(crate) fn question_words(
+    alloc: Global,
+    command: &str,
+    row: Row<'_>,
+) -> Result<Vec<String>, Fail> {
     let mut owned = words(alloc, &[command, "m.tra", "m.lab", row.formula])?;
     if row.own.is_some() {
         add_words(alloc, &mut owned, &["--own", "m.own"])?;

@@ -12,7 +12,11 @@ use stogame_app::Status;
 const VALUES: &str = "v";
 
 /// The words that solve a row, from a file of values where there is one.
-pub fn solve_words(alloc: Global, row: Row<'_>, values: Option<&str>) -> Result<Vec<String>, Fail> {
+pub(crate) fn solve_words(
+    alloc: Global,
+    row: Row<'_>,
+    values: Option<&str>,
+) -> Result<Vec<String>, Fail> {
     let mut owned = question_words(alloc, "solve", row)?;
     if values.is_some() {
         add_words(alloc, &mut owned, &["--values", VALUES])?;
@@ -22,7 +26,7 @@ pub fn solve_words(alloc: Global, row: Row<'_>, values: Option<&str>) -> Result<
 }
 
 /// The files of a row, and that of values where there is one.
-pub fn solve_files(
+pub(crate) fn solve_files(
     alloc: Global,
     row: Row<'_>,
     values: Option<&str>,

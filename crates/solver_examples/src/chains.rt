@@ -12,7 +12,7 @@ use std::num::nearest_usize_to_f64;
 use std::test::Fail;
 
 /// Gambler's ruin over so many states between ruin and the goal: each goes up and down with 1/2 each.
-pub fn ruin(alloc: Global, states: u32) -> Result<FloatGame, Fail> {
+pub(crate) fn ruin(alloc: Global, states: u32) -> Result<FloatGame, Fail> {
     let mut draft = Draft::new(alloc, states as usize, states as usize, states as usize)?;
     for state in 0..states {
         if state == 0 {
@@ -32,7 +32,7 @@ pub fn ruin(alloc: Global, states: u32) -> Result<FloatGame, Fail> {
 }
 
 /// Each value is this near to its share of the unit.
-pub fn near_shares(values: &[f64], most: f64) -> Result<(), Fail> {
+pub(crate) fn near_shares(values: &[f64], most: f64) -> Result<(), Fail> {
     let count = nearest_usize_to_f64(values.len()) + 1.0;
     let mut place = 0.0;
     for value in values {

@@ -172,7 +172,7 @@ fn planner(bound: Bound) -> Side {
 
 /// The entry up to which, or from which on, that of a state holds, where the side of the bound plays this choice: the
 /// same where it holds, else the next one that does by the entries of the other states.
-pub fn held_entry(
+pub(crate) fn held_entry(
     question: &Question,
     table: &UnitTable,
     bound: Bound,

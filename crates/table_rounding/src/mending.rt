@@ -48,7 +48,7 @@ impl Agenda {
 
 /// Takes exact steps at the states of a component until each entry holds. False where that takes more of them than
 /// this, beyond one a state.
-pub fn mend(
+pub(crate) fn mend(
     alloc: Global,
     setting: &Setting<'_, '_>,
     planned: &[u32],

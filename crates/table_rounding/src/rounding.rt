@@ -31,7 +31,7 @@ const FEW: usize = 2_000;
 const OFF: f64 = 0.25;
 
 /// Tries to round values to entries of the component that hold. False where that takes long; entries are then anything.
-pub fn try_values(
+pub(crate) fn try_values(
     alloc: Global,
     setting: &Setting<'_, '_>,
     values: &[f64],

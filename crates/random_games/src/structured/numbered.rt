@@ -16,7 +16,7 @@ pub trait Situation: Copy + PartialEq {
 }
 
 /// The model of the states that are reached from the first one, numbered breadth first.
-pub fn model_from<S: Situation>(alloc: Global, first: S) -> Option<Model> {
+pub(crate) fn model_from<S: Situation>(alloc: Global, first: S) -> Option<Model> {
     let states = reached(alloc, first)?;
     let mut draft = Draft::new(alloc, u32::try_from(states.len()).ok()?);
     let mut goal = Vec::new(alloc);
