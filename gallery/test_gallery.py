@@ -1,4 +1,5 @@
-"""Tests of the gallery's own parts, and short trials of the program where it is: python3 -m unittest discover gallery"""
+"""Tests of the gallery's own parts, and short trials of the program where it is:
+python3 -m unittest discover gallery"""
 
 import contextlib
 import io
@@ -149,7 +150,8 @@ class KnownModels(unittest.TestCase):
                 self.assertEqual(module.known_as(*sizes).faults(states, moves), [])
 
     def test_models_of_the_benchmark_set(self):
-        """The numbers of states and moves, and values, that are published of some models that are not among the small ones."""
+        """The numbers of states and moves, and values, that are published of some models that are not among the small
+        ones."""
         for module, sizes, counts in (
             (egl, (5, 2), (33790, 34813)),
             (wlan, (2, 10), (6063, 10619)),
@@ -179,7 +181,8 @@ class Games(unittest.TestCase):
         self.assertEqual(self.value(microgrid.model(2, 3, 1), "peak", "h1", "h2"), Fraction(1, 4))
 
     def test_a_hallway_of_two_fields(self):
-        """The robot needs one move, which succeeds with 0.8 while it is whole; the human comes to it with 1/2, against its will."""
+        """The robot needs one move, which succeeds with 0.8 while it is whole;
+        the human comes to it with 1/2, against its will."""
         whole = Fraction(8, 10) / (1 - Fraction(19, 100) / 2) + Fraction(19, 200) / (1 - Fraction(19, 200))
         self.assertEqual(self.value(hallway.model(1, 2), "found_whole", "robot"), whole)
 
@@ -197,7 +200,8 @@ class Games(unittest.TestCase):
             self.assertEqual(self.value(model, label, "a1", "a2"), Fraction(1, 4) * Fraction(2, 3))
 
     def test_a_sale_in_the_first_month(self):
-        """Each later month is worse. The share has to rise, with 1/2; where HIGH is TOP the cap has to stay, with 1/2."""
+        """Each later month is worse. The share has to rise, with 1/2;
+        where HIGH is TOP the cap has to stay, with 1/2."""
         self.assertEqual(self.value(investor.model(2, 2, 1), "i1_high", "i1"), Fraction(1, 4))
         self.assertEqual(self.value(investor.model(4, 3, 1), "i1_high", "i1"), HALF)
         self.assertEqual(self.value(investor.model(2, 2, 2), "one_high", "i1"), Fraction(1, 4))
@@ -233,7 +237,15 @@ class Pictures(unittest.TestCase):
             )
         )
         words, tags = self.drawn(pictures.draw_times, "times", times=rows)
-        for word in ("Time by number of states", "states", "processor time, seconds", "check, DTMC", "solve, DTMC", "a", "b"):
+        for word in (
+            "Time by number of states",
+            "states",
+            "processor time, seconds",
+            "check, DTMC",
+            "solve, DTMC",
+            "a",
+            "b",
+        ):
             self.assertIn(word, words)
         for word in ("solve, game", "faster"):
             self.assertNotIn(word, words)
@@ -242,7 +254,11 @@ class Pictures(unittest.TestCase):
     def test_widths(self):
         rows = "model,states,command,rounds,seconds,width\n" + "".join(
             f"m,1234,{command},7,{seconds},{width}\n"
-            for command, seconds, width in (("check", 0.1, "1.0e+00"), ("check", 2, "5.0e-03"), ("solve", 0.0, "0.0e+00"))
+            for command, seconds, width in (
+                ("check", 0.1, "1.0e+00"),
+                ("check", 2, "5.0e-03"),
+                ("solve", 0.0, "0.0e+00"),
+            )
         )
         words, tags = self.drawn(pictures.draw_widths, "widths", widths=rows)
         for word in ("Width of the bracket by time: m, 1,234 states", "check", "solve", "5.0 · 10⁻³", "0"):
@@ -338,7 +354,12 @@ class Solving(unittest.TestCase):
         none = SOLVED.format(zeros, zeros, "solved", "Bracket")
         nearly = SOLVED.format(zeros, zeros[1:] + "1", "solved", "Bracket")
         one = none.replace("0.0", "1.0")
-        for line, value, faults in ((none, 0, []), (one, 1, []), (nearly, 0, [ends]), (none, Fraction(1, 10**20), [ends])):
+        for line, value, faults in (
+            (none, 0, []),
+            (one, 1, []),
+            (nearly, 0, [ends]),
+            (none, Fraction(1, 10**20), [ends]),
+        ):
             with self.subTest(line=line, value=value):
                 found = faults_of_line(line, Question("Pmin=?", "goal"), value)
                 self.assertEqual([fault for fault in found if fault == ends], faults)
