@@ -28,23 +28,23 @@ def printed(answer):
 
 
 def key_of(name, question):
-    return f"{name} | {question.title()}"
+    return f"{name}\t{question.title()}"
 
 
 def solved_key_of(name, question):
-    return f"{name} | {title(question)}"
+    return f"{name}\t{title(question)}"
 
 
 def read_lines(path):
-    """The stored line of each question; a file that is not there has none."""
+    """The stored line of each question, behind the model and the question; a file that is not there has none."""
     if not path.exists():
         return {}
-    return dict(line.rsplit(" | ", 1) for line in path.read_text(encoding="ascii").splitlines())
+    return dict(line.rsplit("\t", 1) for line in path.read_text(encoding="ascii").splitlines())
 
 
 def write_lines(path, keys, lines):
     known = (key for key in dict.fromkeys(keys) if key in lines)
-    path.write_text("".join(f"{key} | {lines[key]}\n" for key in known), encoding="ascii")
+    path.write_text("".join(f"{key}\t{lines[key]}\n" for key in known), encoding="ascii")
 
 
 def write_markdown(path, size, answers):

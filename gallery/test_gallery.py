@@ -39,7 +39,7 @@ from model import Model, spelt
 from picture import Picture, linear, logarithmic
 from question import Inside, Question, sure
 from solved import Solved, faults_of_line, is_taken, solved
-from table import write_lines
+from table import read_lines, write_lines
 
 MOST_STATES, MOST_STEPS = 130, 300
 HALF = Fraction(1, 2)
@@ -386,9 +386,10 @@ class Solving(unittest.TestCase):
 
     def test_one_line_for_a_formula(self):
         with tempfile.TemporaryDirectory() as room:
-            path = Path(room) / "lines"
+            path = Path(room) / "lines.tsv"
             write_lines(path, ["b", "a", "b", "c"], {"a": "1", "b": "2"})
-            self.assertEqual(path.read_text(encoding="ascii"), "b | 2\na | 1\n")
+            self.assertEqual(path.read_text(encoding="ascii"), "b\t2\na\t1\n")
+            self.assertEqual(read_lines(path), {"a": "1", "b": "2"})
 
 
 class Drawn(unittest.TestCase):
