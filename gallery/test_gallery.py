@@ -30,16 +30,17 @@ import solver_trials
 import teams
 import wlan
 from answer import Answer, judge_bracket, judge_inside, parted
-from asking import BUILT
+from asking import BUILT, bracket_of
 from drawn import drawn_game, drawn_question, drawn_values, fault_of, stays_open
 from exact import exact_values, plain_value_iteration
-from families import instances
+from families import SIZES, instances
 from known import OTHER, Known, agrees, same_or_size
 from model import Model, spelt
 from picture import Picture, linear, logarithmic
-from question import Inside, Question, sure
+from question import CLOSED, Inside, Question, sure
 from solved import Solved, faults_of_line, is_taken, solved
-from table import read_lines, write_lines
+from solved import spelt as spelt_width
+from table import joined, read_lines, write_lines, write_markdown
 
 MOST_STATES, MOST_STEPS = 130, 300
 HALF = Fraction(1, 2)
@@ -136,12 +137,13 @@ class KnownModels(unittest.TestCase):
         self.assertTrue(Known("name", 13, 20).faults(14, 20))
         self.assertTrue(Known("name").faults(13, 20))
 
-    def test_cells(self):
-        self.assertEqual(Known().cells(), ("", ""))
-        self.assertEqual(Known("`brp`", kind=OTHER).cells(), ("`brp`", "another model"))
+    def test_words(self):
+        self.assertEqual(Known().words(), "")
+        self.assertEqual(Known("`brp`", kind=OTHER).words(), "`brp`; another model")
         counts = {(1, 2): (13, 20)}
         self.assertEqual(same_or_size("`x`", (1, 2), counts, "`p`"), Known("`x` 1-2: `p`", 13, 20))
-        self.assertEqual(same_or_size("`x`", (1, 3), counts, "`p`").cells()[0], "`x` 1-3: `p`")
+        other = same_or_size("`x`", (1, 3), counts, "`p`")
+        self.assertEqual(other.words(), "`x` 1-3: `p`; the same rules, size not compared")
 
     def test_small_models_are_as_published(self):
         for name, module, sizes in instances("small"):
@@ -390,6 +392,76 @@ class Solving(unittest.TestCase):
             write_lines(path, ["b", "a", "b", "c"], {"a": "1", "b": "2"})
             self.assertEqual(path.read_text(encoding="ascii"), "b\t2\na\t1\n")
             self.assertEqual(read_lines(path), {"a": "1", "b": "2"})
+
+
+class Page(unittest.TestCase):
+    def test_a_section(self):
+        """One row for a question; two where it is long; and the verdict of `solve` only where it is another one."""
+        value, line = Fraction(1, 3), "state 0 lower 0.25 upper 0.5 {} {}"
+        options = ("--rounds", "1000000", "--traps")
+        waits = Question("P>=0.2500000001", "goal", options=options, coalition=("anna", "bert", "carl"))
+        asked = (
+            (Question("Pmax=?", "goal", source=CLOSED, published="0.33"), "Bracket", "Bracket"),
+            (Question("P>=0.3", "goal", source=CLOSED), "Undecided", "True"),
+            (waits, "Undecided", "Undecided"),
+            (Question("Pmin=?", Inside(Question("P>=1", "goal")), source=CLOSED), "Bracket", None),
+        )
+        answers = [
+            Answer(
+                name="a-1",
+                states=3,
+                question=question,
+                value=value,
+                inside="inner 1 undecided 2" if question.inside() else "",
+                line=line.format("rounds 1", verdict),
+                seconds=0.0,
+                solved=Solved(line.format("solved", solved_verdict), 0.0) if solved_verdict else None,
+            )
+            for question, verdict, solved_verdict in asked
+        ]
+        answers.append(Answer("b", 4, sure("Pmax=?", "goal"), Fraction(1), "", "sure 4 of 4", 0.0))
+        models = [("a-1", Known("`a` 1: `p`", kind=OTHER), (3, 5, 8)), ("b", Known(), (4, 4, 6))]
+        head = "| Question | Value | Bracket | Verdict | Width by `solve` |\n|---|---|---|---|---|\n"
+        wanted = (
+            "before\n<!-- small -->\n\n### a-1\n\n3 states, 5 choices, 8 moves. `a` 1: `p`; another model. "
+            "Values: (a) closed form, published as 0.33; (b) closed form;\n(c) computed in fractions.\n\n" + head
+            + '| `Pmax=? [ F "goal" ]` | 1/3 (a) | 0.[25,5] | Bracket | 2.5e-01 |\n'
+            '| `P>=0.3 [ F "goal" ]` | 1/3 (b) | 0.[25,5] | Undecided | 2.5e-01, True |\n'
+            '| `<<anna,bert,carl>> P>=0.2500000001 [ F "goal" ]` `--rounds 1000000 --traps` |  |  |  |  |\n'
+            "|  | 1/3 (c) | 0.[25,5] | Undecided | 2.5e-01 |\n"
+            '| `Pmin=? [ F P>=1 [ F "goal" ] ]` | 1/3 (b) | 0.[25,5] | Bracket, undecided 2 |  |\n'
+            "\n### b\n\n4 states, 4 choices, 6 moves. Values: computed in fractions.\n\n" + head
+            + '| `Pmax=? [ F "goal" ]` | 1 |  | sure 4 of 4 |  |\n<!-- end of small -->\nbehind\n'
+        )
+        with tempfile.TemporaryDirectory() as room:
+            path = Path(room) / "page"
+            path.write_text("before\n<!-- small -->\nold\n<!-- end of small -->\nbehind\n", encoding="utf-8")
+            write_markdown(path, "small", answers, models)
+            self.assertEqual(path.read_text(encoding="utf-8"), wanted)
+
+    def test_both_bounds(self):
+        for bracket, text in (
+            (("0.161", "0.163"), "0.16[1,3]"),
+            (("0.999", "1.000"), "[0.999,1.000]"),
+            (("0.5", "0.5"), "0.5"),
+            ((), ""),
+        ):
+            self.assertEqual(joined(bracket), text)
+
+    def test_the_page_has_what_is_stored(self):
+        """Each model has its section, in their order, and each stored line its formula there,
+        and its bounds or width."""
+        here = Path(__file__).resolve().parent
+        lines, page = read_lines(here / "lines.tsv"), (here / "ANSWERS.md").read_text(encoding="utf-8")
+        sections = dict(part.split("\n", 1) for part in page.split("\n### ")[1:])
+        self.assertLessEqual(max(map(len, page.splitlines())), 120)
+        self.assertEqual(list(sections), [name for size in SIZES for name, _, _ in instances(size)])
+        for key, line in lines.items():
+            (name, asked), bounds = key.split("\t"), bracket_of(line.split(", ")[-1])
+            width = spelt_width(Fraction(bounds[1]) - Fraction(bounds[0])) if bounds else ""
+            with self.subTest(model=name, question=asked):
+                self.assertIn("| `{}`".format(asked.split("'")[1]), sections[name])
+                self.assertIn(width if asked.startswith("solve") else joined(bounds), sections[name])
 
 
 class Drawn(unittest.TestCase):
