@@ -103,7 +103,8 @@ def drawn_values(draw, states):
 
 
 def drawn_states(draw, states, faulty):
-    """The states of the lines: all in some order, or with faults only some, others twice, and some that do not exist."""
+    """The states of the lines: all in some order, or with faults only some, others twice,
+    and some that do not exist."""
     if not faulty:
         return draw.sample(range(states), states)
     some = draw.sample(range(states), draw.randint(0, states))

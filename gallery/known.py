@@ -14,7 +14,7 @@ REBUILT = "rebuilt from its description"
 
 @dataclass(frozen=True)
 class Known:
-    """The name and the instance there, as words of a table, and how the model here stands to it.
+    """The name and the instance there, in words, and how the model here stands to it.
 
     It is the same model where it has as many states, and as many moves, as are published; `states` and `moves` are
     these numbers. An empty name is that of a model that is in no such set.
@@ -25,9 +25,9 @@ class Known:
     moves: Optional[int] = None
     kind: str = SAME
 
-    def cells(self):
-        """The words of the table's last two cells."""
-        return (self.name, self.kind) if self.name else ("", "")
+    def words(self):
+        """What the page of answers says of it: nothing of a model that is in no such set."""
+        return f"{self.name}; {self.kind}" if self.name else ""
 
     def faults(self, states, moves):
         """What is wrong with these words for a model of so many states and moves."""

@@ -3,9 +3,9 @@
 
     gallery/pictures.py [bounds | times]
 
-writes `gallery/pictures/NAME.svg`. With `bounds`, or with no word, the first three: bounds are those of the program that
-`gallery/run` runs too, with `--rounds R` for rising R; plain value iteration is `exact.plain_value_iteration`, which
-stops where no value changes by 10^-6. With `times` the other two, out of the rows that `tools/measure` left in
+writes `gallery/pictures/NAME.svg`. With `bounds`, or with no word, the first three: bounds are those of the program
+that `gallery/run` runs too, with `--rounds R` for rising R; plain value iteration is `exact.plain_value_iteration`,
+which stops where no value changes by 10^-6. With `times` the other two, out of the rows that `tools/measure` left in
 `gallery/pictures/times.csv` and `widths.csv`.
 
 Work is counted in updates of states, as many as there can be: a round of the program updates two tables in place, so
@@ -71,7 +71,9 @@ def draw_sides(picture, brackets):
 
 def draw_chain():
     model, question = chain.model(17), Question("Pmax=?", "goal")
-    picture = Picture("The chain of Haddad and Monmege, LENGTH 17; the value is 0.5", logarithmic(WORK, 4, 8), quarters())
+    picture = Picture(
+        "The chain of Haddad and Monmege, LENGTH 17; the value is 0.5", logarithmic(WORK, 4, 8), quarters()
+    )
     draw_sides(picture, bounds(model, question, 6))
     pairs, rounds = plain(model, question)
     picture.curve("plain value iteration, until 10⁻⁶", pairs, "ink", "2 3")

@@ -85,7 +85,8 @@ def games(count):
     faults = sum(len(faults) for faults, _, _ in ended)
     return faults, (
         f"{count} games, {QUESTIONS * count} questions, {opened} with play that can stay open, {len(widths)} bounds, "
-        f"{exact} with no unit between, {wide} with more than {MANY}, the widest with {max(widths) / UNIT}; {faults} faults"
+        f"{exact} with no unit between, {wide} with more than {MANY}, the widest with {max(widths) / UNIT}; "
+        f"{faults} faults"
     )
 
 

@@ -1,14 +1,15 @@
-"""The gallery's answers as a printed table, as stored lines, and as the table of the README."""
+"""The gallery's answers as a printed table, as stored lines, and as the page of answers."""
+
+import os
+import string
+import textwrap
 
 from solved import title
 
 MOST_OF_A_DENOMINATOR = 10**9
 PLACES = 18
-MODEL_HEAD = "| Model | States | Choices | Moves | Known as | What it is there |\n|---|---|---|---|---|---|\n"
-HEAD = (
-    "| Model | States | Question | Value | Its source | Bracket | Verdict | Width by `solve` |\n"
-    "|---|---|---|---|---|---|---|---|\n"
-)
+COLUMNS = 120
+HEAD = "| Question | Value | Bracket | Verdict | Width by `solve` |\n|---|---|---|---|---|\n"
 
 
 def shown(value):
@@ -28,32 +29,28 @@ def printed(answer):
 
 
 def key_of(name, question):
-    return f"{name} | {question.title()}"
+    return f"{name}\t{question.title()}"
 
 
 def solved_key_of(name, question):
-    return f"{name} | {title(question)}"
+    return f"{name}\t{title(question)}"
 
 
 def read_lines(path):
-    """The stored line of each question; a file that is not there has none."""
+    """The stored line of each question, behind the model and the question; a file that is not there has none."""
     if not path.exists():
         return {}
-    return dict(line.rsplit(" | ", 1) for line in path.read_text(encoding="ascii").splitlines())
+    return dict(line.rsplit("\t", 1) for line in path.read_text(encoding="ascii").splitlines())
 
 
 def write_lines(path, keys, lines):
     known = (key for key in dict.fromkeys(keys) if key in lines)
-    path.write_text("".join(f"{key} | {lines[key]}\n" for key in known), encoding="ascii")
+    path.write_text("".join(f"{key}\t{lines[key]}\n" for key in known), encoding="ascii")
 
 
-def write_markdown(path, size, answers):
-    write_between(path, size, HEAD + "".join(map(markdown, answers)))
-
-
-def write_models(path, size, models):
-    """The table of the models of a size, of their names, what they are known as, and the models."""
-    write_between(path, f"models of {size}", MODEL_HEAD + "".join(row(*model_cells(*each)) for each in models))
+def write_markdown(path, size, answers, models):
+    """Writes a section for each model of a size; a model has its name, what it is known as and how large it is."""
+    write_between(path, size, "".join(section(*model, answers) for model in models))
 
 
 def write_between(path, mark, text):
@@ -63,18 +60,57 @@ def write_between(path, mark, text):
     path.write_text(before + begin + text + end + rest.split(end)[1], encoding="utf-8")
 
 
+def section(name, known, counts, answers):
+    """The heading of a model, what it is and where its values come from, and a table of its answers."""
+    given = [answer for answer in answers if answer.name == name]
+    marks = marks_of(dict.fromkeys(source(answer.question) for answer in given))
+    values = "; ".join(f"{mark} {words}".strip() for words, mark in marks.items())
+    about = " ".join([*about_model(known, counts), f"Values: {values}."])
+    wrapped = textwrap.fill(about, COLUMNS, break_long_words=False, break_on_hyphens=False)
+    rows = "".join(markdown(answer, marks[source(answer.question)]) for answer in given)
+    return f"\n### {name}\n\n{wrapped}\n\n{HEAD}{rows}"
+
+
+def about_model(known, counts):
+    """A sentence on how large a model is, and one on what it is known as, where it is."""
+    states, choices, moves = counts
+    sizes = f"{states} states, {choices} choices, {moves} moves"
+    return [f"{words}." for words in (sizes, known.words()) if words]
+
+
+def source(question):
+    """Where the value of a question comes from, and the published one."""
+    return question.source + (f", published as {question.published}" if question.published else "")
+
+
+def marks_of(sources):
+    """A letter in brackets for each source where there are several, and for one alone nothing."""
+    letters = [f"({letter})" for letter in string.ascii_lowercase] if len(sources) > 1 else [""]
+    return dict(zip(sources, letters))
+
+
+def markdown(answer, mark):
+    """The row of an answer; where it would be too long a row of the question stands above it."""
+    asked = " ".join(f"`{words}`" for words in (answer.question.formula(), " ".join(answer.question.options)) if words)
+    cells = f"{shown(answer.value)} {mark}".strip(), joined(answer.bracket()), answer.summary(), solved_cell(answer)
+    whole = row(asked, *cells)
+    return whole if len(whole) <= COLUMNS + 1 else row(asked, "", "", "", "") + row("", *cells)
+
+
 def row(*cells):
     return f"| {' | '.join(map(str, cells))} |\n"
 
 
-def model_cells(name, known, counts):
-    return (name, *counts, *known.cells())
+def joined(bracket):
+    """Both bounds, with the first digits that they share written once: 0.16[1,3] is 0.161 and 0.163."""
+    shared = os.path.commonprefix(list(bracket))
+    rests = [bound[len(shared) :] for bound in bracket]
+    return shared + (f"[{','.join(rests)}]" if any(rests) else "")
 
 
-def markdown(answer):
-    asked, bracket = f"`{answer.question.title()}`", "<br>".join(answer.bracket())
-    source = answer.question.source
-    if answer.question.published:
-        source += f"; published as {answer.question.published}"
-    solved = answer.solved.summary() if answer.solved else ""
-    return row(answer.name, answer.states, asked, shown(answer.value), source, bracket, answer.summary(), solved)
+def solved_cell(answer):
+    """The width by `solve`, and its verdict where it is another one than that of `check`."""
+    if not answer.solved:
+        return ""
+    width, _, verdict = answer.solved.summary().partition(", ")
+    return width if verdict in ("", answer.verdict()) else f"{width}, {verdict}"

@@ -1,4 +1,5 @@
-"""Tests of the gallery's own parts, and short trials of the program where it is: python3 -m unittest discover gallery"""
+"""Tests of the gallery's own parts, and short trials of the program where it is:
+python3 -m unittest discover gallery"""
 
 import contextlib
 import io
@@ -29,16 +30,17 @@ import solver_trials
 import teams
 import wlan
 from answer import Answer, judge_bracket, judge_inside, parted
-from asking import BUILT
+from asking import BUILT, bracket_of
 from drawn import drawn_game, drawn_question, drawn_values, fault_of, stays_open
 from exact import exact_values, plain_value_iteration
-from families import instances
+from families import SIZES, instances
 from known import OTHER, Known, agrees, same_or_size
 from model import Model, spelt
 from picture import Picture, linear, logarithmic
-from question import Inside, Question, sure
+from question import CLOSED, Inside, Question, sure
 from solved import Solved, faults_of_line, is_taken, solved
-from table import write_lines
+from solved import spelt as spelt_width
+from table import joined, read_lines, write_lines, write_markdown
 
 MOST_STATES, MOST_STEPS = 130, 300
 HALF = Fraction(1, 2)
@@ -135,12 +137,13 @@ class KnownModels(unittest.TestCase):
         self.assertTrue(Known("name", 13, 20).faults(14, 20))
         self.assertTrue(Known("name").faults(13, 20))
 
-    def test_cells(self):
-        self.assertEqual(Known().cells(), ("", ""))
-        self.assertEqual(Known("`brp`", kind=OTHER).cells(), ("`brp`", "another model"))
+    def test_words(self):
+        self.assertEqual(Known().words(), "")
+        self.assertEqual(Known("`brp`", kind=OTHER).words(), "`brp`; another model")
         counts = {(1, 2): (13, 20)}
         self.assertEqual(same_or_size("`x`", (1, 2), counts, "`p`"), Known("`x` 1-2: `p`", 13, 20))
-        self.assertEqual(same_or_size("`x`", (1, 3), counts, "`p`").cells()[0], "`x` 1-3: `p`")
+        other = same_or_size("`x`", (1, 3), counts, "`p`")
+        self.assertEqual(other.words(), "`x` 1-3: `p`; the same rules, size not compared")
 
     def test_small_models_are_as_published(self):
         for name, module, sizes in instances("small"):
@@ -149,7 +152,8 @@ class KnownModels(unittest.TestCase):
                 self.assertEqual(module.known_as(*sizes).faults(states, moves), [])
 
     def test_models_of_the_benchmark_set(self):
-        """The numbers of states and moves, and values, that are published of some models that are not among the small ones."""
+        """The numbers of states and moves, and values, that are published of some models that are not among the small
+        ones."""
         for module, sizes, counts in (
             (egl, (5, 2), (33790, 34813)),
             (wlan, (2, 10), (6063, 10619)),
@@ -179,7 +183,8 @@ class Games(unittest.TestCase):
         self.assertEqual(self.value(microgrid.model(2, 3, 1), "peak", "h1", "h2"), Fraction(1, 4))
 
     def test_a_hallway_of_two_fields(self):
-        """The robot needs one move, which succeeds with 0.8 while it is whole; the human comes to it with 1/2, against its will."""
+        """The robot needs one move, which succeeds with 0.8 while it is whole;
+        the human comes to it with 1/2, against its will."""
         whole = Fraction(8, 10) / (1 - Fraction(19, 100) / 2) + Fraction(19, 200) / (1 - Fraction(19, 200))
         self.assertEqual(self.value(hallway.model(1, 2), "found_whole", "robot"), whole)
 
@@ -197,7 +202,8 @@ class Games(unittest.TestCase):
             self.assertEqual(self.value(model, label, "a1", "a2"), Fraction(1, 4) * Fraction(2, 3))
 
     def test_a_sale_in_the_first_month(self):
-        """Each later month is worse. The share has to rise, with 1/2; where HIGH is TOP the cap has to stay, with 1/2."""
+        """Each later month is worse. The share has to rise, with 1/2;
+        where HIGH is TOP the cap has to stay, with 1/2."""
         self.assertEqual(self.value(investor.model(2, 2, 1), "i1_high", "i1"), Fraction(1, 4))
         self.assertEqual(self.value(investor.model(4, 3, 1), "i1_high", "i1"), HALF)
         self.assertEqual(self.value(investor.model(2, 2, 2), "one_high", "i1"), Fraction(1, 4))
@@ -233,7 +239,15 @@ class Pictures(unittest.TestCase):
             )
         )
         words, tags = self.drawn(pictures.draw_times, "times", times=rows)
-        for word in ("Time by number of states", "states", "processor time, seconds", "check, DTMC", "solve, DTMC", "a", "b"):
+        for word in (
+            "Time by number of states",
+            "states",
+            "processor time, seconds",
+            "check, DTMC",
+            "solve, DTMC",
+            "a",
+            "b",
+        ):
             self.assertIn(word, words)
         for word in ("solve, game", "faster"):
             self.assertNotIn(word, words)
@@ -242,7 +256,11 @@ class Pictures(unittest.TestCase):
     def test_widths(self):
         rows = "model,states,command,rounds,seconds,width\n" + "".join(
             f"m,1234,{command},7,{seconds},{width}\n"
-            for command, seconds, width in (("check", 0.1, "1.0e+00"), ("check", 2, "5.0e-03"), ("solve", 0.0, "0.0e+00"))
+            for command, seconds, width in (
+                ("check", 0.1, "1.0e+00"),
+                ("check", 2, "5.0e-03"),
+                ("solve", 0.0, "0.0e+00"),
+            )
         )
         words, tags = self.drawn(pictures.draw_widths, "widths", widths=rows)
         for word in ("Width of the bracket by time: m, 1,234 states", "check", "solve", "5.0 · 10⁻³", "0"):
@@ -338,7 +356,12 @@ class Solving(unittest.TestCase):
         none = SOLVED.format(zeros, zeros, "solved", "Bracket")
         nearly = SOLVED.format(zeros, zeros[1:] + "1", "solved", "Bracket")
         one = none.replace("0.0", "1.0")
-        for line, value, faults in ((none, 0, []), (one, 1, []), (nearly, 0, [ends]), (none, Fraction(1, 10**20), [ends])):
+        for line, value, faults in (
+            (none, 0, []),
+            (one, 1, []),
+            (nearly, 0, [ends]),
+            (none, Fraction(1, 10**20), [ends]),
+        ):
             with self.subTest(line=line, value=value):
                 found = faults_of_line(line, Question("Pmin=?", "goal"), value)
                 self.assertEqual([fault for fault in found if fault == ends], faults)
@@ -365,9 +388,80 @@ class Solving(unittest.TestCase):
 
     def test_one_line_for_a_formula(self):
         with tempfile.TemporaryDirectory() as room:
-            path = Path(room) / "lines"
+            path = Path(room) / "lines.tsv"
             write_lines(path, ["b", "a", "b", "c"], {"a": "1", "b": "2"})
-            self.assertEqual(path.read_text(encoding="ascii"), "b | 2\na | 1\n")
+            self.assertEqual(path.read_text(encoding="ascii"), "b\t2\na\t1\n")
+            self.assertEqual(read_lines(path), {"a": "1", "b": "2"})
+
+
+class Page(unittest.TestCase):
+    def test_a_section(self):
+        """One row for a question; two where it is long; and the verdict of `solve` only where it is another one."""
+        value, line = Fraction(1, 3), "state 0 lower 0.25 upper 0.5 {} {}"
+        options = ("--rounds", "1000000", "--traps")
+        waits = Question("P>=0.2500000001", "goal", options=options, coalition=("anna", "bert", "carl"))
+        asked = (
+            (Question("Pmax=?", "goal", source=CLOSED, published="0.33"), "Bracket", "Bracket"),
+            (Question("P>=0.3", "goal", source=CLOSED), "Undecided", "True"),
+            (waits, "Undecided", "Undecided"),
+            (Question("Pmin=?", Inside(Question("P>=1", "goal")), source=CLOSED), "Bracket", None),
+        )
+        answers = [
+            Answer(
+                name="a-1",
+                states=3,
+                question=question,
+                value=value,
+                inside="inner 1 undecided 2" if question.inside() else "",
+                line=line.format("rounds 1", verdict),
+                seconds=0.0,
+                solved=Solved(line.format("solved", solved_verdict), 0.0) if solved_verdict else None,
+            )
+            for question, verdict, solved_verdict in asked
+        ]
+        answers.append(Answer("b", 4, sure("Pmax=?", "goal"), Fraction(1), "", "sure 4 of 4", 0.0))
+        models = [("a-1", Known("`a` 1: `p`", kind=OTHER), (3, 5, 8)), ("b", Known(), (4, 4, 6))]
+        head = "| Question | Value | Bracket | Verdict | Width by `solve` |\n|---|---|---|---|---|\n"
+        wanted = (
+            "before\n<!-- small -->\n\n### a-1\n\n3 states, 5 choices, 8 moves. `a` 1: `p`; another model. "
+            "Values: (a) closed form, published as 0.33; (b) closed form;\n(c) computed in fractions.\n\n" + head
+            + '| `Pmax=? [ F "goal" ]` | 1/3 (a) | 0.[25,5] | Bracket | 2.5e-01 |\n'
+            '| `P>=0.3 [ F "goal" ]` | 1/3 (b) | 0.[25,5] | Undecided | 2.5e-01, True |\n'
+            '| `<<anna,bert,carl>> P>=0.2500000001 [ F "goal" ]` `--rounds 1000000 --traps` |  |  |  |  |\n'
+            "|  | 1/3 (c) | 0.[25,5] | Undecided | 2.5e-01 |\n"
+            '| `Pmin=? [ F P>=1 [ F "goal" ] ]` | 1/3 (b) | 0.[25,5] | Bracket, undecided 2 |  |\n'
+            "\n### b\n\n4 states, 4 choices, 6 moves. Values: computed in fractions.\n\n" + head
+            + '| `Pmax=? [ F "goal" ]` | 1 |  | sure 4 of 4 |  |\n<!-- end of small -->\nbehind\n'
+        )
+        with tempfile.TemporaryDirectory() as room:
+            path = Path(room) / "page"
+            path.write_text("before\n<!-- small -->\nold\n<!-- end of small -->\nbehind\n", encoding="utf-8")
+            write_markdown(path, "small", answers, models)
+            self.assertEqual(path.read_text(encoding="utf-8"), wanted)
+
+    def test_both_bounds(self):
+        for bracket, text in (
+            (("0.161", "0.163"), "0.16[1,3]"),
+            (("0.999", "1.000"), "[0.999,1.000]"),
+            (("0.5", "0.5"), "0.5"),
+            ((), ""),
+        ):
+            self.assertEqual(joined(bracket), text)
+
+    def test_the_page_has_what_is_stored(self):
+        """Each model has its section, in their order, and each stored line its formula there,
+        and its bounds or width."""
+        here = Path(__file__).resolve().parent
+        lines, page = read_lines(here / "lines.tsv"), (here / "ANSWERS.md").read_text(encoding="utf-8")
+        sections = dict(part.split("\n", 1) for part in page.split("\n### ")[1:])
+        self.assertLessEqual(max(map(len, page.splitlines())), 120)
+        self.assertEqual(list(sections), [name for size in SIZES for name, _, _ in instances(size)])
+        for key, line in lines.items():
+            (name, asked), bounds = key.split("\t"), bracket_of(line.split(", ")[-1])
+            width = spelt_width(Fraction(bounds[1]) - Fraction(bounds[0])) if bounds else ""
+            with self.subTest(model=name, question=asked):
+                self.assertIn("| `{}`".format(asked.split("'")[1]), sections[name])
+                self.assertIn(width if asked.startswith("solve") else joined(bounds), sections[name])
 
 
 class Drawn(unittest.TestCase):

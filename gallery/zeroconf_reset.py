@@ -68,7 +68,9 @@ def model(hosts, probes):
             choices.append([(1, state)])
         if (host.doing, host.clock, host.probes) == ("probes", PAUSE, probes):
             choices.append([(1, (network, host._replace(doing="tells", probes=0, draws=0, clock=0)))])
-        heard = [(Network(network.messages, network.others, network.answers), after) for after in hearing(network, host)]
+        heard = [
+            (Network(network.messages, network.others, network.answers), after) for after in hearing(network, host)
+        ]
         later, sent = (passed(network), aged(host)), sending(host, probes)
         posted = (network._replace(messages=(network.messages + (host.address,))[:MOST_MESSAGES]), sent)
         return choices + [[(1, after)] for after in [*heard, later, posted] if None not in after]

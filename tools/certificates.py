@@ -1,6 +1,7 @@
 """Certificates, read from their text in the form that `stogame` writes and audits.
 
-Form alone is looked at here; whether a certificate is right `stogame audit` says. Bounds are whole numbers of units of 10^-15.
+Form alone is looked at here; whether a certificate is right `stogame audit` says. Bounds are whole numbers of units of
+10^-15.
 """
 
 import re
@@ -17,7 +18,8 @@ GREATEST_RANK = 2**32 - 1
 MAXIMISER, MINIMISER = "maximiser", "minimiser"
 
 Certificate = namedtuple("Certificate", "name formula line version lower choices ranks upper replies")
-Certificate.__doc__ = """The tables of a certificate, each in the order of the states; a choice or reply that is not named is None.
+Certificate.__doc__ = """The tables of a certificate, each in the order of the states; a choice or reply that is not
+named is None.
 
 `formula` is the text behind the last `formula` before it, or None; `line` is the number of its first line.
 """
@@ -41,7 +43,9 @@ def entries_of(name, formula, first, lines):
     """The certificate that begins at this line."""
     head = lines[first - 1].split()
     if len(head) != 3 or head[1] not in DECIMALS or not head[2].isdigit():
-        raise Refusal(name, first, f"{shown(lines[first - 1].strip())} is no 'certificate 2 N' and no 'certificate 1 N'")
+        raise Refusal(
+            name, first, f"{shown(lines[first - 1].strip())} is no 'certificate 2 N' and no 'certificate 1 N'"
+        )
     states = whole(head[2])
     found = Certificate(name, formula, first, int(head[1]), array("q"), [], array("q"), array("q"), [])
     form = entry_form(DECIMALS[head[1]])
@@ -64,7 +68,9 @@ def entry_form(decimals):
 def add_entry(found, number, line, decimals):
     state = len(found.ranks)
     if not line or whole(line[1]) != state:
-        raise Refusal(found.name, number, f"no line of state {state}: number, lower bound, choice, rank, upper bound, reply")
+        raise Refusal(
+            found.name, number, f"no line of state {state}: number, lower bound, choice, rank, upper bound, reply"
+        )
     lower, upper = (int(line[place].replace(b".", b"")) * 10 ** (15 - decimals) for place in (2, 5))
     choice, reply = (None if line[place] == b"-" else whole(line[place]) for place in (3, 6))
     rank = whole(line[4])
@@ -91,18 +97,25 @@ def decimal(units):
 
 
 def movers_of(certificate, maximises):
-    """Who moves at each state: by the sides of the formula where they are known, else by whose choice is named, or None."""
+    """Who moves at each state: by the sides of the formula where they are known,
+    else by whose choice is named, or None."""
     if maximises is not None:
         return [MAXIMISER if side else MINIMISER for side in maximises]
     movers = []
     for state, (choice, reply) in enumerate(zip(certificate.choices, certificate.replies)):
         if choice is not None and reply is not None:
-            cause = f"state {state} has a choice and a reply, so it takes --formula, and --own of a game, to say who moves"
+            cause = (
+                f"state {state} has a choice and a reply, so it takes --formula, and --own of a game, to say who moves"
+            )
             raise Refusal(certificate.name, line_of(certificate, state), cause)
         movers.append(MAXIMISER if choice is not None else MINIMISER if reply is not None else None)
     return movers
 
 
 def moves_of(certificate, movers):
-    """The choice that is named at each state for whoever moves there; what is named for the other side plays no part."""
-    return [reply if mover == MINIMISER else choice for mover, choice, reply in zip(movers, certificate.choices, certificate.replies)]
+    """The choice that is named at each state for whoever moves there;
+    what is named for the other side plays no part."""
+    return [
+        reply if mover == MINIMISER else choice
+        for mover, choice, reply in zip(movers, certificate.choices, certificate.replies)
+    ]

@@ -11,7 +11,8 @@ ROUNDS = "300"
 
 
 class Certified:
-    """A question about a model; with the text of its certificate, made where it is asked for, and its entries as fields."""
+    """A question about a model; with the text of its certificate, made where it is asked for,
+    and its entries as fields."""
 
     def __init__(self, name, words, model, question):
         self.name, self.words, self.model, self.question = name, words, model, question
@@ -52,7 +53,12 @@ def certified_questions():
     for name, module, sizes in instances("small"):
         model, own = module.model(*sizes), GALLERY / f"{name}.own"
         for question in module.questions(*sizes):
-            if question.command == "check" and question.path != "X" and question.steps is None and not question.inside():
+            if (
+                question.command == "check"
+                and question.path != "X"
+                and question.steps is None
+                and not question.inside()
+            ):
                 words = [*(str(GALLERY / f"{name}.{ending}") for ending in ("tra", "lab")), question.formula()]
                 found.append(Certified(name, words + (["--own", str(own)] if own.exists() else []), model, question))
     return found

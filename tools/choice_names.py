@@ -17,7 +17,8 @@ class ChoiceNames:
         return len(self.model.choices_of(state))
 
     def number_of(self, state, word):
-        """The choice that a word names: by the action that one choice alone has, else by number; ValueError says the fault."""
+        """The choice that a word names: by the action that one choice alone has, else by number;
+        ValueError says the fault."""
         numbers = [number for number in range(self.count(state)) if self.name(state, number) == word]
         if len(numbers) > 1:
             raise ValueError(f"state {state} has {len(numbers)} choices of the name {word}; give the number")
@@ -26,7 +27,9 @@ class ChoiceNames:
         if not (word.isascii() and word.isdigit()):
             raise ValueError(f"state {state} has no choice of the name {word}")
         if int(word) >= self.count(state):
-            raise ValueError(f"state {state} has {self.count(state)} choices, counted from 0, and no choice {int(word)}")
+            raise ValueError(
+                f"state {state} has {self.count(state)} choices, counted from 0, and no choice {int(word)}"
+            )
         return int(word)
 
     def word_of(self, state, number):
@@ -37,7 +40,8 @@ class ChoiceNames:
 
 
 def read_choice_names(name, model):
-    """The names in a transition file that was read as this model. Of a Markov chain no name is kept, since it has no choices."""
+    """The names in a transition file that was read as this model.
+    Of a Markov chain no name is kept, since it has no choices."""
     names = [None] * len(model.total)
     width = None
     for first, rows in field_blocks(name):
@@ -55,5 +59,7 @@ def add_name(name, number, row, names, model):
     place = model.choice_start[int(row[0])] + int(row[1])
     action = row[4].decode("ascii", "backslashreplace") if len(row) == 5 else ""
     if names[place] not in (None, action):
-        raise Refusal(name, number, f"state {int(row[0])} choice {int(row[1])} has a second action, {shown(action.encode())}")
+        raise Refusal(
+            name, number, f"state {int(row[0])} choice {int(row[1])} has a second action, {shown(action.encode())}"
+        )
     names[place] = action

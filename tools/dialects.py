@@ -1,8 +1,9 @@
-"""Properties as PRISM, PRISM-games and Storm write them, rewritten as formulas of `stogame` where they have a spelling here.
+"""Properties as PRISM, PRISM-games and Storm write them, rewritten as formulas of `stogame` where they have a spelling
+here.
 
-docs/INTEROP.md has the table of dialects; a function here has a row of it, or says what there is not. A property that is
-rewritten by its dual has its bounds 1 less and exchanged (`mirrored`); one that is rewritten by its opposite has True for False
-(`negated`).
+docs/INTEROP.md has the table of dialects; a function here has a row of it, or says what there is not. A property that
+is rewritten by its dual has its bounds 1 less and exchanged (`mirrored`); one that is rewritten by its opposite has
+True for False (`negated`).
 """
 
 import re
@@ -53,7 +54,8 @@ NOT_HERE = {
 }
 
 Rewritten = namedtuple("Rewritten", "formula negated mirrored")
-Rewritten.__doc__ = "A formula of `stogame`; whether its True is the property's False, and its bounds 1 less the property's."
+Rewritten.__doc__ = """A formula of `stogame`; whether its True is the property's False,
+and its bounds 1 less the property's."""
 
 Atom = namedtuple("Atom", "variable sign value")
 Atom.__doc__ = "A comparison of a variable with a value, as both are written."
@@ -64,12 +66,13 @@ class NoSpelling(Exception):
 
 
 Surroundings = namedtuple("Surroundings", "constants players labels is_chain")
-Surroundings.__doc__ = """What a property is read with: the texts of constants by name, the names of all players and labels, and whether
-the model is a Markov chain."""
+Surroundings.__doc__ = """What a property is read with: the texts of constants by name, the names of all players and
+labels, and whether the model is a Markov chain."""
 
 
 class Rewriter:
-    """Rewrites a property by recursive descent. The comparisons of variables that it names are in `atoms`, by their label."""
+    """Rewrites a property by recursive descent. The comparisons of variables that it names are in `atoms`,
+    by their label."""
 
     def __init__(self, text, around):
         self.around, self.atoms = around, {}
@@ -116,7 +119,9 @@ class Rewriter:
         made = self.outermost()
         states = [self.take(), self.take(), self.take()]
         if kind not in FILTERS or states != [",", '"init"', ")"]:
-            raise NoSpelling(f"a filter '{kind}', or of other states than \"init\": mark them by the label init, or look at --plan")
+            raise NoSpelling(
+                f"a filter '{kind}', or of other states than \"init\": mark them by the label init, or look at --plan"
+            )
         return made
 
     def outermost(self):

@@ -7,7 +7,8 @@ from explicit import Refusal
 
 
 def ended(name, work):
-    """Does the work of a tool of this name, and ends with its status, 0 where it gives none; with 1 where something is refused."""
+    """Does the work of a tool of this name, and ends with its status, 0 where it gives none;
+    with 1 where something is refused."""
     if hasattr(signal, "SIGPIPE"):
         signal.signal(signal.SIGPIPE, signal.SIG_DFL)
     try:

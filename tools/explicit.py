@@ -1,11 +1,11 @@
 """PRISM's explicit files, owner files and formulas, read strictly.
 
-What can't be read is refused with the name of the file, the line and the cause. The rules are those of the program's own
-readers, or stricter; `stogame` stays the judge of what a file means.
+What can't be read is refused with the name of the file, the line and the cause. The rules are those of the program's
+own readers, or stricter; `stogame` stays the judge of what a file means.
 
-Probabilities are exact: the weights of a choice are whole numbers, and the probability of a successor is its weight over
-the total. Lists are flat: the choices of state s are those from choice_start[s] to choice_start[s + 1], and the edges of
-choice c those from edge_start[c] to edge_start[c + 1].
+Probabilities are exact: the weights of a choice are whole numbers, and the probability of a successor is its weight
+over the total. Lists are flat: the choices of state s are those from choice_start[s] to choice_start[s + 1], and the
+edges of choice c those from edge_start[c] to edge_start[c + 1].
 """
 
 import operator
@@ -147,7 +147,8 @@ def end_with_the_reader():
 
 
 def fraction_of(spelling):
-    """The exact value of a decimal or a fraction as numerator and denominator in lowest terms; ValueError says the fault."""
+    """The exact value of a decimal or a fraction as numerator and denominator in lowest terms;
+    ValueError says the fault."""
     found = FRACTION.match(spelling)
     if found:
         numerator, denominator = checked_digits(found[1]), checked_digits(found[2])
@@ -243,7 +244,8 @@ class Model:
 
 
 class Rows:
-    """The lines of a transition file in columns; a probability is a place in the list of the fractions that were met."""
+    """The lines of a transition file in columns; a probability is a place in the list of the fractions that were
+    met."""
 
     def __init__(self, name, header):
         self.name = name
@@ -316,7 +318,8 @@ class Rows:
         return None
 
     def sort(self):
-        """Sorts the lines by source and choice; lines of one choice stay in their order. Tells whether they were not so sorted."""
+        """Sorts the lines by source and choice; lines of one choice stay in their order.
+        Tells whether they were not so sorted."""
         places = [MOST_CHOICES * source + choice for source, choice in zip(self.sources, self.choices)]
         order = sorted(range(len(places)), key=places.__getitem__)
         if order == list(range(len(places))):
@@ -521,14 +524,16 @@ TOKEN = re.compile(
 )
 
 Formula = namedtuple("Formula", "coalition bound left right")
-Formula.__doc__ = """A formula: the names of a coalition or None; a bound such as '>=' or 'Pmax'; the state formulas before and behind U.
+Formula.__doc__ = """A formula: the names of a coalition or None; a bound such as '>=' or 'Pmax'; the state formulas
+before and behind U.
 
 A state formula is a tuple: ('true',), ('false',), ('label', name), ('!', x), ('&', x, y), ('|', x, y), ('=>', x, y).
 """
 
 
 class Parser:
-    """Reads a formula of PCTL or rPATL reachability by recursive descent. A fault is told with the byte where it lies."""
+    """Reads a formula of PCTL or rPATL reachability by recursive descent.
+    A fault is told with the byte where it lies."""
 
     def __init__(self, text):
         self.text = text
@@ -559,7 +564,9 @@ class Parser:
         """The token at hand, which has to be one of these, or any of its kind where none is named."""
         if self.kind != kind or (tokens and self.token not in tokens):
             wanted = " or ".join(tokens) if tokens else f"a {kind}"
-            self.fail(f"the formula ends before {wanted}" if self.kind == "end" else f"'{self.token}' in place of {wanted}")
+            self.fail(
+                f"the formula ends before {wanted}" if self.kind == "end" else f"'{self.token}' in place of {wanted}"
+            )
         token = self.token
         self.move()
         return token
@@ -678,10 +685,11 @@ def labels_named(labels, label):
 
 
 def sides_of(formula, owners):
-    """A byte for each state: 1 where the maximiser chooses (Chen, Forejt, Kwiatkowska, Parker and Simaitis, TACAS 2012).
+    """A byte for each state: 1 where the maximiser chooses (Chen, Forejt, Kwiatkowska, Parker and Simaitis, TACAS
+    2012).
 
-    A coalition maximises under >=, > and Pmax, and minimises else, against all others. Without one, a threshold speaks of
-    all strategies.
+    A coalition maximises under >=, > and Pmax, and minimises else, against all others. Without one, a threshold speaks
+    of all strategies.
     """
     states = len(owners.owner)
     if formula.coalition is None:

@@ -11,7 +11,8 @@ JOINTS = {"&": "and", "|": "or", "=>": "implies"}
 
 
 class Asked(explicit.Parser):
-    """What a formula asks: coalition, bound, threshold or None, whether the path is `G`, and the formulas before and behind `U`."""
+    """What a formula asks: coalition, bound, threshold or None, whether the path is `G`,
+    and the formulas before and behind `U`."""
 
     def __init__(self, text):
         super().__init__(text)
@@ -33,7 +34,8 @@ class Asked(explicit.Parser):
         return ("true",), self.implied()
 
     def sides(self, owners):
-        """A byte for each state, 1 where the maximiser moves: of `G` in the question of its dual, as a certificate has it."""
+        """A byte for each state, 1 where the maximiser moves:
+        of `G` in the question of its dual, as a certificate has it."""
         bound = DUAL[self.bound_sign] if self.always else self.bound_sign
         return explicit.sides_of(explicit.Formula(self.coalition_names, bound, self.left, self.right), owners)
 

@@ -12,11 +12,14 @@ def check_choices(names, moves, where):
     """Refuses a choice that its state does not have; `where` gives the file and the line of a state."""
     for state, move in enumerate(moves):
         if move is not None and move >= names.count(state):
-            raise Refusal(*where(state), f"state {state} has {names.count(state)} choices, counted from 0, and no choice {move}")
+            raise Refusal(
+                *where(state), f"state {state} has {names.count(state)} choices, counted from 0, and no choice {move}"
+            )
 
 
 def write_induced(out, words, chosen):
-    """Writes the induced model as OUT.tra, the labels as OUT.lab and the owners, where there are, as OUT.own; gives their names."""
+    """Writes the induced model as OUT.tra, the labels as OUT.lab and the owners, where there are, as OUT.own;
+    gives their names."""
     files = [f"{out}.tra", f"{out}.lab"] + ([f"{out}.own"] if words.own else [])
     if set(files) & {words.tra, words.lab, words.own}:
         raise Refusal(out, None, "this would write over a file of the model")
@@ -31,7 +34,8 @@ def copied(name):
 
 
 def transition_text(name, chosen):
-    """The lines of the choices that are left, spelt as they were; the one choice of a state of the side has the number 0."""
+    """The lines of the choices that are left, spelt as they were;
+    the one choice of a state of the side has the number 0."""
     lines, choices, last = 0, set(), None
     for row in kept_rows(name, chosen):
         lines += 1

@@ -1,7 +1,8 @@
-"""Plain names in place of names that a file has no room for, as those of expressions: `s_eq_7_and_d_eq_1` for `((s = 7) & (d = 1))`.
+"""Plain names in place of names that a file has no room for, as those of expressions: `s_eq_7_and_d_eq_1` for
+`((s = 7) & (d = 1))`.
 
-The rule: each operator is a word; whatever is neither a letter nor a digit parts words, and words are joined by `_`. Where the
-name is taken, `_2`, `_3` and so on follow it.
+The rule: each operator is a word; whatever is neither a letter nor a digit parts words, and words are joined by `_`.
+Where the name is taken, `_2`, `_3` and so on follow it.
 """
 
 import re
@@ -37,7 +38,8 @@ def plain(name):
 
 
 def renamed(names, may_stand):
-    """A map from each name, in their order, to itself where it may stand, and else to a plain name that no other one has."""
+    """A map from each name, in their order, to itself where it may stand,
+    and else to a plain name that no other one has."""
     new = {name: name for name in names if may_stand(name)}
     taken = set(new)
     for name in names:

@@ -14,14 +14,16 @@ def names_of(text):
 
 
 def player_name(value, names, variable=b""):
-    """The name of a player: the one that was asked for; else the value behind its variable, and a mere number behind `p`."""
+    """The name of a player: the one that was asked for;
+    else the value behind its variable, and a mere number behind `p`."""
     if value in names:
         return names[value]
     return (variable or (b"p" if value[:1].isdigit() else b"")) + value
 
 
 def owner_lines(owners):
-    """The lines of an owner file of a map from states to names of players. States left out belong to the first player."""
+    """The lines of an owner file of a map from states to names of players.
+    States left out belong to the first player."""
     players = sorted(set(owners.values()), key=lambda player: (len(player), player)) or [b"p0"]
     numbers = {player: number for number, player in enumerate(players)}
     yield header_line(players)

@@ -32,7 +32,8 @@ ASKERS = {"check": ["check"], "traps": ["check", "--traps"], "solve": ["solve"]}
 
 
 def certificate_by(asker, question):
-    """The text of a certificate for a question, the words `TRA LAB FORMULA [--own FILE]`; refused with the line of who made none."""
+    """The text of a certificate for a question, the words `TRA LAB FORMULA [--own FILE]`;
+    refused with the line of who made none."""
     command, *options = ASKERS[asker]
     workers = ["--workers", "1"] if command == "check" else []
     ended = run(program(), command, *question, "--plan", *options, *workers)

@@ -29,7 +29,9 @@ def read_valuations(name, states):
         if line:
             state, found = valued_state(name, number, line, variables)
             if state >= states or values[state] is not None:
-                raise Refusal(name, number, f"state {state} stands a second time" if state < states else f"{state} is no state")
+                raise Refusal(
+                    name, number, f"state {state} stands a second time" if state < states else f"{state} is no state"
+                )
             values[state] = found
     if None in values:
         raise Refusal(name, None, f"no values of state {values.index(None)}")

@@ -15,9 +15,10 @@ robot           A robot on a square grid with wind: it steers in one of four dir
 retransmission  Bounded retransmission: each frame is sent until it is acknowledged, at most so many times more; a frame
                 is lost with probability 0.02, an acknowledgement with 0.01. Numbered breadth first. The goal is
                 that the sender gives up.
-contract        Contract signing by two parties, who release secrets in turn: at each stage a party releases the next one, which
-                succeeds with probability 0.9999, or stops, and then the other one has the advantage with probability 0.5.
-                States are numbered from the beginning of the protocol, so values travel one state a round. The goal is the advantage.
+contract        Contract signing by two parties, who release secrets in turn: at each stage a party releases the next
+                one, which succeeds with probability 0.9999, or stops, and then the other one has the advantage with
+                probability 0.5. States are numbered from the beginning of the protocol, so values travel one state a
+                round. The goal is the advantage.
 coin            A shared coin: each process in turn tosses, and moves a counter up or down, until it passes the
                 range; the adversary chooses which process goes on. The goal is that the counter passes it upward.
 """
@@ -105,7 +106,9 @@ def robot(side):
         choices = []
         for number, step in enumerate(steps):
             left, right = steps[number - 1], steps[(number + 1) % 4]
-            choices.append([(80, place(moved(field, step))), (10, place(moved(field, left))), (10, place(moved(field, right)))])
+            choices.append(
+                [(80, place(moved(field, step))), (10, place(moved(field, left))), (10, place(moved(field, right)))]
+            )
         model.add(choices)
     return model
 

@@ -16,13 +16,19 @@ FORMULA = '<<p1>> P>=0.6 [ F "goal" ]'
 # a formula and its sentence
 SENTENCES = [
     ('Pmax=? [ F "goal" ]', 'What is the greatest probability, over all strategies, that at some time "goal" holds?'),
-    ('Pmin=? [ G !"bad" ]', 'What is the least probability, over all strategies, that at every time "bad" does not hold?'),
+    ('Pmin=? [ G !"bad" ]',
+     'What is the least probability, over all strategies, that at every time "bad" does not hold?'),
     ('P>=0.5 [ "safe" U "goal" ]',
-     'Is the probability at least 1/2, under every strategy, that at some time "goal" holds, and at each time before "safe" holds?'),
+     'Is the probability at least 1/2, under every strategy, that at some time "goal" holds, and at each time before '
+     '"safe" holds?'),
     ('P<1/3 [ F ("a" | "b") & !("c" => "d") ]',
-     'Is the probability less than 1/3, under every strategy, that at some time ("a" holds or "b" holds) and it is not so that ("c" holds implies "d" holds)?'),
-    (FORMULA, 'Can p1, whatever the others do, make sure that the probability is at least 3/5 that at some time "goal" holds?'),
-    ('<<p1,p2>> Pmin=? [ F true ]', "What is the least probability that p1, p2 can bring about, whatever the others do, that at some time anything holds?"),
+     'Is the probability less than 1/3, under every strategy, that at some time ("a" holds or "b" holds) and it is not '
+     'so that ("c" holds implies "d" holds)?'),
+    (FORMULA,
+     'Can p1, whatever the others do, make sure that the probability is at least 3/5 that at some time "goal" holds?'),
+    ('<<p1,p2>> Pmin=? [ F true ]',
+     "What is the least probability that p1, p2 can bring about, whatever the others do, that at some time "
+     "anything holds?"),
     ('<<>> Pmax=? [ F "goal" ]', 'What is the least probability, over all strategies, that at some time "goal" holds?'),
     ('<<>> P>0 [ F "goal" ]', 'Is the probability more than 0, under every strategy, that at some time "goal" holds?'),
 ]
@@ -52,7 +58,9 @@ class Dossiers(InFolder):
         self.assertEqual(lines[0], "dossier 1")
         for kind, name in zip(("tra", "lab", "own"), self.files):
             content = Path(name).read_bytes()
-            self.assertIn(f"{kind} sha256 {hashlib.sha256(content).hexdigest()} bytes {len(content)} name {name}", lines)
+            self.assertIn(
+                f"{kind} sha256 {hashlib.sha256(content).hexdigest()} bytes {len(content)} name {name}", lines
+            )
         content = Path(program()).read_bytes()
         self.assertIn(f"program sha256 {hashlib.sha256(content).hexdigest()} bytes {len(content)}", lines)
         self.assertIn(f"question {SENTENCES[4][1]}", lines)
@@ -106,7 +114,10 @@ class Dossiers(InFolder):
         self.assertEqual(call_tool("dossier", *self.words, "--cert", cert)[1], self.text)
         self.assertEqual(call_tool("dossier", *self.words, "--by", "solve")[0], 0)
         cert = self.write("cert", "certificate 2 4\n")
-        self.assertEqual(call_tool("dossier", *self.words, "--cert", cert), (1, "", f"dossier: {cert}: refused cert line 2 MissingLine\n"))
+        self.assertEqual(
+            call_tool("dossier", *self.words, "--cert", cert),
+            (1, "", f"dossier: {cert}: refused cert line 2 MissingLine\n"),
+        )
 
     def test_no_certificate_no_dossier(self):
         status, output, errors = call_tool("dossier", *self.files[:2], 'Pmax=? [ X "goal" ]')

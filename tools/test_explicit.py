@@ -64,7 +64,8 @@ REFUSED_LABELS = [
 FORMULAS = [
     ('Pmax=? [ F "goal" ]', (None, "Pmax", ("true",), ("label", "goal"))),
     ('P>=0.5[F"a"]', (None, ">=", ("true",), ("label", "a"))),
-    ('<<p1, p2>> P<1/3 [ !"a" U "b" & "c" ]', (["p1", "p2"], "<", ("!", ("label", "a")), ("&", ("label", "b"), ("label", "c")))),
+    ('<<p1, p2>> P<1/3 [ !"a" U "b" & "c" ]',
+     (["p1", "p2"], "<", ("!", ("label", "a")), ("&", ("label", "b"), ("label", "c")))),
     ('<<>> Pmin=? [ F true ]', ([], "Pmin", ("true",), ("true",))),
     (
         'P>0 [ F "a" | "b" & !("c" => "d" => false) ]',
@@ -92,7 +93,8 @@ REFUSED_FORMULAS = [
     ('P>= [ F "a" ]', "place 4: '[' in place of a number"),
     ('Pmax=? [ F "" ]', "place 11: no token of a formula"),
     ('Pmax=? [ F goal ]', "place 11: 'goal' in place of a name"),
-    ("Pmax=? [ F " + "(" * 65 + "true" + ")" * 65 + " ]", "place 75: more than 64 brackets and negations, one in another"),
+    ("Pmax=? [ F " + "(" * 65 + "true" + ")" * 65 + " ]",
+     "place 75: more than 64 brackets and negations, one in another"),
     ('P = 1 [ F "a" ]', "place 2: no token of a formula"),
 ]
 

@@ -14,7 +14,8 @@ DIE = {
     "out.sta": "(s,d)\n0:(0,0)\n1:(1,0)\n2:(2,0)\n3:(3,1)\n4:(3,2)\n5:(3,3)\n6:(3,4)\n",
 }
 CHOICES = {
-    "out.tra": "4 5 7\n0 0 0 0.9 wait\n0 0 1 0.1 wait\n0 1 2 0.30000000000000004 go\n0 1 3 0.7 go\n1 0 0 1\n2 0 2 1 stay\n3 0 3 1 stay\n",
+    "out.tra": "4 5 7\n0 0 0 0.9 wait\n0 0 1 0.1 wait\n0 1 2 0.30000000000000004 go\n0 1 3 0.7 go\n1 0 0 1\n"
+    "2 0 2 1 stay\n3 0 3 1 stay\n",
     "out.lab": '0="init" 1="goal" 2="lost"\n0: 0\n1: 0\n2: 1\n3: 2\n',
 }
 PLACEHOLDERS = {
@@ -22,18 +23,21 @@ PLACEHOLDERS = {
     "out.lab": '0="init" 1="goal"\n0: 0\n1: 1\n',
 }
 GAME = {
-    "out.tra": "4 6 8\n0 0 1 1 left\n0 1 2 0.5 right\n0 1 3 0.5 right\n1 0 0 1 back\n1 1 2 0.6 on\n1 1 3 0.4 on\n2 0 2 1\n3 0 3 1\n",
+    "out.tra": "4 6 8\n0 0 1 1 left\n0 1 2 0.5 right\n0 1 3 0.5 right\n1 0 0 1 back\n1 1 2 0.6 on\n1 1 3 0.4 on\n"
+    "2 0 2 1\n3 0 3 1\n",
     "out.lab": '0="init" 1="goal"\n0: 0\n2: 1\n',
     "out.own": '0="p0" 1="p1"\n0: 0\n1: 1\n2: 0\n3: 1\n',
 }
 LINK = {
-    "out.tra": "4 5 7\n0 0 1 0.90000000000000002 fast\n0 0 2 0.10000000000000001 fast\n0 1 3 1 safe\n1 0 1 1 stay\n2 0 2 1 stay\n"
+    "out.tra": "4 5 7\n0 0 1 0.90000000000000002 fast\n0 0 2 0.10000000000000001 fast\n0 1 3 1 safe\n1 0 1 1 stay\n"
+    "2 0 2 1 stay\n"
     "3 0 1 0.94999999999999996 send\n3 0 2 0.050000000000000003 send\n",
     "out.lab": '0="init" 1="s_eq_7_and_d_eq_1"\n0: 0\n1: 1\n',
     "out.sta": "(s,d)\n0:(0,0)\n1:(7,1)\n2:(7,0)\n3:(3,0)\n",
 }
 EXACT = {
-    "out.tra": "4 5 7\n0 0 1 9/10 fast\n0 0 2 1/10 fast\n0 1 3 1 safe\n1 0 1 1\n2 0 2 1\n3 0 1 19/20 send\n3 0 2 1/20 send\n",
+    "out.tra": "4 5 7\n0 0 1 9/10 fast\n0 0 2 1/10 fast\n0 1 3 1 safe\n1 0 1 1\n2 0 2 1\n3 0 1 19/20 send\n"
+    "3 0 2 1/20 send\n",
     "out.lab": '0="init" 1="(s=0)" 2="s_eq_7_and_done" 3="s_eq_7" 4="deadlock" 5="s_eq_7_2"\n0: 0 1\n1: 2 3\n2: 4 5\n',
     "out.sta": "(s,done)\n0:(0,false)\n1:(7,true)\n2:(7,false)\n3:(3,false)\n",
 }
@@ -55,14 +59,20 @@ SAMPLE_TEXTS = {
 # a sample, an edit of its text, and what is told on standard error
 TOLD = [
     ("link", "", "", "the label ((s = 7) & (d = 1)) is named s_eq_7_and_d_eq_1"),
-    ("link", '"((s = 7) & (d = 1))"', "((s = 7) & (d = 1)) goal", "the label ((s = 7) & (d = 1)) is named s_eq_7_and_d_eq_1"),
-    ("link", '"((s = 7) & (d = 1))"', '!(s = 7) "(d = 1)"', "the label !(s = 7) is named not_s_eq_7\nthe label (d = 1) is named d_eq_1"),
-    ("exact", "", "", "the label (s = 7) & done is named s_eq_7_and_done\nthe label (s = 7) is named s_eq_7\nthe label s = 7 is named s_eq_7_2"),
+    ("link", '"((s = 7) & (d = 1))"', "((s = 7) & (d = 1)) goal",
+     "the label ((s = 7) & (d = 1)) is named s_eq_7_and_d_eq_1"),
+    ("link", '"((s = 7) & (d = 1))"', '!(s = 7) "(d = 1)"',
+     "the label !(s = 7) is named not_s_eq_7\nthe label (d = 1) is named d_eq_1"),
+    ("exact", "", "",
+     "the label (s = 7) & done is named s_eq_7_and_done\nthe label (s = 7) is named s_eq_7\n"
+     "the label s = 7 is named s_eq_7_2"),
     ("nobody", "", "", "state 3 has no action and stays where it is"),
-    ("nobody", "\taction stay\n\t\t2 : 1\n\taction leave\n\t\t3 : 1\n", "", "state 2 has no action and stays where it is, and so 1 more"),
+    ("nobody", "\taction stay\n\t\t2 : 1\n\taction leave\n\t\t3 : 1\n", "",
+     "state 2 has no action and stays where it is, and so 1 more"),
     ("die", "//[s=1\t& d=0]\n", "", "no OUT.sta: state 1 has no values, or more than once"),
     ("die", "//[s=3\t& d=4]\n", "", "no OUT.sta: state 6 has no values"),
-    ("die", "//[s=1\t& d=0]\n", "//[s=1\t& d=0]\n//[s=1\t& d=0]\n", "no OUT.sta: state 1 has no values, or more than once"),
+    ("die", "//[s=1\t& d=0]\n", "//[s=1\t& d=0]\n//[s=1\t& d=0]\n",
+     "no OUT.sta: state 1 has no values, or more than once"),
     ("die", "//[s=1\t& d=0]\n", "//[s=1]\n", "no OUT.sta: state 1 has other variables"),
     ("die", "//[s=1\t& d=0]\n", "//[s=1\t& d=0]\n// any other comment\n", ""),
     ("choices", "action wait", 'action "wait & see"', "the action wait & see is named wait_and_see"),
@@ -72,11 +82,14 @@ TOLD = [
 REFUSED = [
     ("die", "@type: DTMC", "@type: CTMC", "@type", "a model of type 'CTMC'; DTMC, MDP and SMG are read"),
     ("die", "@type: DTMC", "@type: POMDP", "@type", "a model of type 'POMDP'; DTMC, MDP and SMG are read"),
-    ("die", "DTMC\n@par", "Markov Automaton\n@par", "@type", "a model of type 'Markov Automaton'; DTMC, MDP and SMG are read"),
+    ("die", "DTMC\n@par", "Markov Automaton\n@par", "@type",
+     "a model of type 'Markov Automaton'; DTMC, MDP and SMG are read"),
     ("die", "@parameters\n", "@parameters\np q", "p q", "parameters 'p q' are not read"),
     ("die", "@nr_states\n7", "@nr_states\nseven", "seven", "'seven' is no whole number"),
-    ("link", "@value_type: double", "@value_type: parametric", "@value_type", "values of type 'parametric'; double and rational are read"),
-    ("link", "@value_type: double", "@value_type: double-interval", "@value_type", "values of type 'double-interval'; double"),
+    ("link", "@value_type: double", "@value_type: parametric", "@value_type",
+     "values of type 'parametric'; double and rational are read"),
+    ("link", "@value_type: double", "@value_type: double-interval", "@value_type",
+     "values of type 'double-interval'; double"),
     ("rare", "", "", "1.0000000000000001e-09", "probability '1.0000000000000001e-09': finer than 10^-23"),
     ("die", "@nr_states\n7\n", "", "@model", "@model before @type and @nr_states"),
     ("die", "@nr_states\n7", "@nr_states\n8", None, "7 states; the header states 8"),
@@ -88,7 +101,8 @@ REFUSED = [
     ("die", "state 1 [1]", "state 1 <0> [1]", "state 1", "a player in a model that is no game"),
     ("die", "state 1 [1]", 'state 1 [1] "two words', "state 1", "no state that can be read"),
     ("die", "state 1 [1]", "state 1 [1] s = 1", "state 1", "'=' is no label; a label with blanks stands in quotes"),
-    ("die", "state 1 [1]", "state 1 [1] ((s = 1)", "state 1", "the brackets of the label '((s = 1)' don't match; a label with blanks"),
+    ("die", "state 1 [1]", "state 1 [1] ((s = 1)", "state 1",
+     "the brackets of the label '((s = 1)' don't match; a label with blanks"),
     ("die", "state 1 [1]", "state 1 [1] (s = 1))", "state 1", "the brackets of the label '(s = 1))' don't match"),
     ("die", "state 1 [1]", 'state 1 [1] (s = "one" )', "state 1", "the brackets of the label '(s = one' don't match"),
     ("die", "state 1 [1]", "state one", "state one", "no state that can be read"),
@@ -106,7 +120,8 @@ REFUSED = [
     ("placeholders", "1 : $0", "1 : $7", "1 : $7", "'$7' is no placeholder of the header"),
     ("placeholders", "$0 : 0.25", "$0", "$0", "no placeholder and value"),
     ("game", "state 1 <1>", "state 1", "state 1", "state 1 of a game has choices and no player"),
-    ("nobody", "state 0 <1>", "state 0 <18446744073709551615>", "state 0", "state 0 of a game has choices and no player"),
+    ("nobody", "state 0 <1>", "state 0 <18446744073709551615>", "state 0",
+     "state 0 of a game has choices and no player"),
     ("game", "state 1 <1>", "state 1 <-1>", "state 1", "'-1' can't be a player: neither a number nor a name"),
 ]
 
@@ -159,7 +174,9 @@ class Documented(InFolder):
                 path = self.write("in.drn", sample(name).replace(old, new, 1).replace("@nr_choices\n5\n", ""))
                 told, written = self.convert(path, {})
                 out = str(self.folder / "out")
-                self.assertEqual(told.replace(out, "OUT"), "".join(f"from_drn: {line}\n" for line in lines.splitlines()))
+                self.assertEqual(
+                    told.replace(out, "OUT"), "".join(f"from_drn: {line}\n" for line in lines.splitlines())
+                )
                 self.assertEqual("out.sta" in written, "OUT.sta" not in lines and name in ("die", "link", "exact"))
 
     @needs_program

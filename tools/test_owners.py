@@ -13,7 +13,8 @@ PLAYERS = SAMPLES / "documented_players.pla"
 GAME = SAMPLES / "documented_game.tra"
 
 PLAIN_GAME = (
-    "4 6 8\n0 0 1 1 left\n0 1 2 0.5 right\n0 1 3 0.5 right\n1 0 0 1 back\n1 1 2 0.6 on\n1 1 3 0.4 on\n2 0 2 1\n3 0 3 1\n"
+    "4 6 8\n0 0 1 1 left\n0 1 2 0.5 right\n0 1 3 0.5 right\n1 0 0 1 back\n1 1 2 0.6 on\n1 1 3 0.4 on\n2 0 2 1\n"
+    "3 0 3 1\n"
 )
 
 OWNERS_BY_TURN = '0="turn1" 1="turn2"\n0: 0\n1: 1\n2: 0\n3: 1\n'
@@ -34,7 +35,8 @@ MADE = [
 
 # a sample of rows, and its transitions
 ROWS = {
-    "documented_link_rows.tra": "4 5 7\n0 0 2 0.1 fast\n0 0 3 0.9 fast\n0 1 1 1 safe\n1 0 2 0.05 send\n1 0 3 0.95 send\n"
+    "documented_link_rows.tra": "4 5 7\n0 0 2 0.1 fast\n0 0 3 0.9 fast\n0 1 1 1 safe\n1 0 2 0.05 send\n"
+    "1 0 3 0.95 send\n"
     "2 0 2 1 stay\n3 0 3 1 stay\n",
     "documented_coin_rows.tra": "3 5\n0 0 0.5\n0 1 0.25\n0 2 0.25\n1 1 1\n2 2 1\n",
 }
@@ -104,7 +106,9 @@ class OwnerFiles(InFolder):
             with self.subTest(name):
                 self.setUp()
                 told, written = self.convert(SAMPLES / name)
-                self.assertEqual(told, f"owners: no file says who owns the states; {self.folder}/out.tra alone is written\n")
+                self.assertEqual(
+                    told, f"owners: no file says who owns the states; {self.folder}/out.tra alone is written\n"
+                )
                 self.assertEqual(written, {"out.tra": transitions})
 
     def test_rows_with_owners(self):
@@ -173,7 +177,9 @@ class OwnerFiles(InFolder):
         self.convert(GAME)
         labels = self.write("out.lab", '0="init" 1="goal"\n0: 0\n2: 1\n')
         files = self.folder / "out.tra", labels
-        status, output, _ = run(program(), "check", *files, '<<p1>> Pmax=? [ F "goal" ]', "--own", self.folder / "out.own")
+        status, output, _ = run(
+            program(), "check", *files, '<<p1>> Pmax=? [ F "goal" ]', "--own", self.folder / "out.own"
+        )
         self.assertEqual(status, 0)
         self.assertTrue(output.startswith("state 0 lower 0.500000000000000 upper 0.500000000000000"), output)
 

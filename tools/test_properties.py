@@ -93,7 +93,9 @@ class Dialects(unittest.TestCase):
         for text, formula, mark in REWRITTEN:
             with self.subTest(text=text):
                 made, _ = rewritten(text, CHAIN)
-                self.assertEqual((made.formula, made.negated, made.mirrored), (formula, mark == "negated", mark == "mirrored"))
+                self.assertEqual(
+                    (made.formula, made.negated, made.mirrored), (formula, mark == "negated", mark == "mirrored")
+                )
 
     def test_refused(self):
         for text, cause in REFUSED:
@@ -109,7 +111,10 @@ class Dialects(unittest.TestCase):
 
     def test_comparisons(self):
         _, atoms = rewritten("P=? [ x<=N U done ]", CHAIN)
-        self.assertEqual({label: tuple(atom) for label, atom in atoms.items()}, {"x<=5": ("x", "<=", "5"), "done=true": ("done", "=", "true")})
+        self.assertEqual(
+            {label: tuple(atom) for label, atom in atoms.items()},
+            {"x<=5": ("x", "<=", "5"), "done=true": ("done", "=", "true")},
+        )
 
     def test_worst(self):
         worst = loaded("properties").worst
@@ -119,7 +124,8 @@ class Dialects(unittest.TestCase):
 
 @needs_program
 class Files(InFolder):
-    """The game of two players, whose value is 0.65 for player 1, and the coin, with one half and 7/16 within 3 steps."""
+    """The game of two players, whose value is 0.65 for player 1, and the coin,
+    with one half and 7/16 within 3 steps."""
 
     def setUp(self):
         super().setUp()
@@ -158,7 +164,17 @@ class Files(InFolder):
         """Names, comments, constants and variables; the rewards are refused by line, and the rest is answered."""
         words = [*(SAMPLES / f"named_game.{ending}" for ending in ("tra", "props", "sta"))]
         status, output, errors = call_tool(
-            "properties", words[0], EXAMPLES / "two_players.lab", words[1], "--own", EXAMPLES / "two_players.own", "--sta", words[2], "--const", "K=1", "--json"
+            "properties",
+            words[0],
+            EXAMPLES / "two_players.lab",
+            words[1],
+            "--own",
+            EXAMPLES / "two_players.own",
+            "--sta",
+            words[2],
+            "--const",
+            "K=1",
+            "--json",
         )
         made = json.loads(output)
         self.assertEqual((status, errors), (4, f"properties: {words[1]}: line 7: rewards (R): there is none here\n"))
@@ -172,14 +188,19 @@ class Files(InFolder):
         """One third is no multiple of a unit, so its bracket is a unit wide."""
         model = [self.write("m.tra", "3 2\n0 1 1/3\n0 2 2/3\n"), self.write("m.lab", '0="init" 1="goal"\n0: 0\n1: 1\n')]
         asked = self.write("file.props", 'P=? [ F "goal" ]\nP<1/2 [ F "goal" ]\n')
-        for options, verdict, status in (([], "Bracket", 0), (["--within", "1e-15"], "Bracket", 0), (["--within", "1e-16"], "Undecided", 2)):
+        for options, verdict, status in (
+            ([], "Bracket", 0),
+            (["--within", "1e-15"], "Bracket", 0),
+            (["--within", "1e-16"], "Undecided", 2),
+        ):
             with self.subTest(options=options):
                 ended, output, _ = call_tool("properties", *model, asked, "--csv", *options)
                 rows = [line.split(",") for line in output.splitlines()[1:]]
                 self.assertEqual((rows[0][5], rows[1][5], ended), (verdict, "True", status))
 
     def test_by_others(self):
-        """With a bound on the steps `check` answers. Within one step player 1 keeps off the goal by passing, and reaches it by throwing."""
+        """With a bound on the steps `check` answers. Within one step player 1 keeps off the goal by passing,
+        and reaches it by throwing."""
         throws, passes = (["0", bound, bound, "True"] for bound in ("0.650000000000000", "0.000000000000000"))
         text = '<<1>> P>=0.65 [ F "goal" ]\n<<1>> P>=0.65 [ F<=1 "goal" ]\n<<1>> P<1 [ F<=1 "goal" ]\n'
         for asker in ("traps", "solve"):
@@ -193,7 +214,10 @@ class Files(InFolder):
                 self.assertEqual(self.ask(text, "--const", "K=2"), (1, "", f"properties: {name}: {cause}\n"))
         status, output, errors = self.ask('Pmax=? [ F "gaol" ]\nPmax=? [ F x=1 ]\n')
         self.assertEqual((status, output.count("refused")), (4, 2))
-        said = ["line 1: refused question line 0 UnknownLabel gaol", "line 2: x=1 compares a variable: use a label, or name the list of states by --sta"]
+        said = [
+            "line 1: refused question line 0 UnknownLabel gaol",
+            "line 2: x=1 compares a variable: use a label, or name the list of states by --sta",
+        ]
         self.assertEqual(errors, "".join(f"properties: {self.folder / 'file.props'}: {line}\n" for line in said))
 
 

@@ -1,4 +1,5 @@
-"""The second audit: it says what `stogame audit` says of the gallery's certificates and of a thousand that were changed."""
+"""The second audit: it says what `stogame audit` says of the gallery's certificates and of a thousand that were
+changed."""
 
 import contextlib
 import io
@@ -33,10 +34,14 @@ ENTRIES = [
 # a formula, a line of the certificate and what stands there instead, and what is written
 WORKED = [
     (FORMULA, 0, ENTRIES[0], "state 0 lower 0.650000000000000 upper 0.650000000000000 reaudited True"),
-    ('<<p1>> P>0.65 [ F "goal" ]', 0, ENTRIES[0], "state 0 lower 0.650000000000000 upper 0.650000000000000 reaudited False"),
-    ('<<p1>> Pmax=? [ true U "goal" & !"init" ]', 0, ENTRIES[0], "state 0 lower 0.650000000000000 upper 0.650000000000000 reaudited Bracket"),
-    ('<<p1>> P<1 [ G !"goal" ]', 0, ENTRIES[0], "state 0 lower 0.350000000000000 upper 0.350000000000000 reaudited True"),
-    (FORMULA, 0, "0 0.500000000000000 1 1 0.700000000000000 -", "state 0 lower 0.500000000000000 upper 0.700000000000000 reaudited Undecided"),
+    ('<<p1>> P>0.65 [ F "goal" ]', 0, ENTRIES[0],
+     "state 0 lower 0.650000000000000 upper 0.650000000000000 reaudited False"),
+    ('<<p1>> Pmax=? [ true U "goal" & !"init" ]', 0, ENTRIES[0],
+     "state 0 lower 0.650000000000000 upper 0.650000000000000 reaudited Bracket"),
+    ('<<p1>> P<1 [ G !"goal" ]', 0, ENTRIES[0],
+     "state 0 lower 0.350000000000000 upper 0.350000000000000 reaudited True"),
+    (FORMULA, 0, "0 0.500000000000000 1 1 0.700000000000000 -",
+     "state 0 lower 0.500000000000000 upper 0.700000000000000 reaudited Undecided"),
     (FORMULA, 0, "0 0.650000000000000 0 1 0.650000000000000 -", "refused cert line 0 Short state 0 choice 0"),
     (FORMULA, 0, "0 0.650000000000000 - 1 0.650000000000000 -", "refused cert line 0 Choice state 0"),
     (FORMULA, 0, "0 0.650000000000000 1 1 0.640000000000000 -", "refused cert line 0 Above state 0 choice 1"),
@@ -76,10 +81,18 @@ class Worked(InFolder):
                 self.assertEqual((output, errors), (line + "\n", ""))
 
     def test_a_rank_that_does_not_fall(self):
-        """The maximiser may stay at state 0, or go to the goal, state 1: only one of the choices of value 1 gets there."""
-        words = [str(self.write("m.tra", "2 2 3\n0 0 0 1\n0 1 1 1\n1 0 1 1\n")), str(self.write("m.lab", '0="init" 1="goal"\n0: 0\n1: 1\n'))]
+        """The maximiser may stay at state 0, or go to the goal, state 1:
+        only one of the choices of value 1 gets there."""
+        words = [
+            str(self.write("m.tra", "2 2 3\n0 0 0 1\n0 1 1 1\n1 0 1 1\n")),
+            str(self.write("m.lab", '0="init" 1="goal"\n0: 0\n1: 1\n')),
+        ]
         for first, second, line in (
-            ("1.000000000000 1 1", "1.000000000000", "state 0 lower 1.000000000000000 upper 1.000000000000000 reaudited Bracket"),
+            (
+                "1.000000000000 1 1",
+                "1.000000000000",
+                "state 0 lower 1.000000000000000 upper 1.000000000000000 reaudited Bracket",
+            ),
             ("1.000000000000 0 1", "1.000000000000", "refused cert line 0 NoStep state 0 choice 0"),
             ("0.000000000000 - 0", "0.900000000000", "refused cert line 0 Value state 1"),
         ):
@@ -91,16 +104,29 @@ class Worked(InFolder):
     def test_faults_name_file_and_line(self):
         self.write("certificate", "certificate 2 4\n" + "\n".join(ENTRIES) + "\n")
         words = self.words(FORMULA)
-        for place, name, text, line in ((0, "m.tra", "4 6 9\n0 0 x 1\n", 2), (1, "m.lab", '0="init"\n0: 7\n', 2), (1, "m.lab", "x\n", 1)):
+        for place, name, text, line in (
+            (0, "m.tra", "4 6 9\n0 0 x 1\n", 2),
+            (1, "m.lab", '0="init"\n0: 7\n', 2),
+            (1, "m.lab", "x\n", 1),
+        ):
             with self.subTest(name=name, text=text):
                 changed = [*words[:place], str(self.write("changed", text)), *words[place + 1 :]]
                 status, output, errors = call(*changed)
                 self.assertEqual((status, output), (4, ""))
                 self.assertEqual(errors, f"reaudit: {changed[place]}: line {line}: not in the form of such a text\n")
-        for formula in ('P>=0.5 [ F "gaol" ]', 'P>=0.5 [ X "goal" ]', 'P>=0.5 [ F<=3 "goal" ]', '<<p3>> Pmax=? [ F "goal" ]', 'Pmax=? [ F ("goal" ]', ""):
+        for formula in (
+            'P>=0.5 [ F "gaol" ]',
+            'P>=0.5 [ X "goal" ]',
+            'P>=0.5 [ F<=3 "goal" ]',
+            '<<p3>> Pmax=? [ F "goal" ]',
+            'Pmax=? [ F ("goal" ]',
+            "",
+        ):
             with self.subTest(formula=formula):
                 status, output, errors = call(*self.words(formula))
-                self.assertEqual((status, output, errors), (4, "", "reaudit: formula: line 1: not in the form of such a text\n"))
+                self.assertEqual(
+                    (status, output, errors), (4, "", "reaudit: formula: line 1: not in the form of such a text\n")
+                )
 
     def test_short_and_alone(self):
         lines = (TOOLS / "reaudit").read_text().splitlines()
@@ -134,7 +160,11 @@ def judged(question, text, path):
 def changed_value(draw, field):
     """A bound that is off by a unit, a few or many, or another text."""
     units = int(field.replace(".", "")) + draw.choice((1, -1, 2, -3, 1000, -(10**9), 10**14))
-    return f"{abs(units) // 10**15}.{abs(units) % 10**15:015}" if draw.random() < 0.9 else draw.choice(("1", "1.1", "-", "0.5", "1.000000000000001"))
+    return (
+        f"{abs(units) // 10**15}.{abs(units) % 10**15:015}"
+        if draw.random() < 0.9
+        else draw.choice(("1", "1.1", "-", "0.5", "1.000000000000001"))
+    )
 
 
 def changed_line(draw, line):
@@ -149,7 +179,8 @@ def changed_line(draw, line):
 
 
 def changed(draw, lines, first):
-    """A certificate with a change: a field of a line, mostly; else a line left out, twice there, or moved, or another head."""
+    """A certificate with a change: a field of a line, mostly;
+    else a line left out, twice there, or moved, or another head."""
     lines, place = list(lines), draw.randrange(first + 1, len(lines))
     kind = draw.random()
     if kind < 0.85:
@@ -159,7 +190,16 @@ def changed(draw, lines, first):
     elif kind < 0.95:
         lines.insert(place, draw.choice((lines[place], "", "x", "\r")))
     else:
-        lines[first] = draw.choice(("certificate 1 7", "certificate 3 4", "certificate 02 4", "certificate 2", "certificate 2 x", lines[first] + " 1"))
+        lines[first] = draw.choice(
+            (
+                "certificate 1 7",
+                "certificate 3 4",
+                "certificate 02 4",
+                "certificate 2",
+                "certificate 2 x",
+                lines[first] + " 1",
+            )
+        )
     return "\n".join(lines) + draw.choice(("\n", "", "\n\n", "\r\n", "\r"))
 
 

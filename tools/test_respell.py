@@ -95,7 +95,9 @@ class Spellings(InFolder):
 
 class Commands(InFolder):
     def test_what_is_told(self):
-        name = self.write("m.tra", "3 4\n0 1 0.90000000000000002\n0 2 0.10000000000000001\n1 1 1\n2 2 1.2345678901234567e-09\n")
+        name = self.write(
+            "m.tra", "3 4\n0 1 0.90000000000000002\n0 2 0.10000000000000001\n1 1 1\n2 2 1.2345678901234567e-09\n"
+        )
         status, output, errors = run_tool("respell", name, "--round", "20")
         self.assertEqual((status, output), (0, "3 4\n0 1 0.9\n0 2 0.1\n1 1 1\n2 2 1.23456789012e-9\n"))
         told = ["2 numbers shortened, by 2.0e-17 at most", "1 number rounded to 20 places, by 3.5e-21 at most"]
@@ -115,12 +117,16 @@ class Commands(InFolder):
         name = self.write("m.tra", "2 2\n0 1 0.90000000000000002\n1 1 x\n")
         self.assertEqual(run_tool("respell", name), (1, "", f"respell: {name}: line 3: 'x': no probability\n"))
         none = self.folder / "none"
-        self.assertEqual(run_tool("respell", none), (1, "", f"respell: {none}: can't be read: No such file or directory\n"))
+        self.assertEqual(
+            run_tool("respell", none), (1, "", f"respell: {none}: can't be read: No such file or directory\n")
+        )
 
     def test_no_room(self):
         name = self.write("m.tra", "1 1\n0 0 1\n")
         command = f"'{sys.executable}' '{TOOLS / 'respell'}' '{name}' > /dev/full"
-        self.assertEqual(run("bash", "-c", command), (1, "", "respell: standard output: can't be written: No space left on device\n"))
+        self.assertEqual(
+            run("bash", "-c", command), (1, "", "respell: standard output: can't be written: No space left on device\n")
+        )
 
     def test_nobody_reads_on(self):
         lines = "0 0 0 1\n" * 50_000
@@ -135,7 +141,12 @@ class Commands(InFolder):
             _, text, _ = run_tool("respell", SAMPLES / f"documented_{out.name}.drn")
             self.assertEqual(run_tool("from_drn", self.write(f"{out.name}.drn", text), out)[0], 0)
         for out, formula, bounds, verdict in (
-            (link, 'P>=0.9 [ F "s_eq_7_and_d_eq_1" ]', "state 0 lower 0.900000000000000 upper 0.900000000000000 ", " True\n"),
+            (
+                link,
+                'P>=0.9 [ F "s_eq_7_and_d_eq_1" ]',
+                "state 0 lower 0.900000000000000 upper 0.900000000000000 ",
+                " True\n",
+            ),
             (rare, 'Pmax=? [ F "lost" ]', "state 0 lower 0.000000001000000 upper 0.000000001000000 ", " Bracket\n"),
         ):
             status, output, errors = run(program(), "check", f"{out}.tra", f"{out}.lab", formula)

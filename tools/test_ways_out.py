@@ -1,4 +1,5 @@
-"""Tables and strategies of certificates, and strategies of one's own: read back, compared with the certificate, and valued."""
+"""Tables and strategies of certificates, and strategies of one's own: read back, compared with the certificate, and
+valued."""
 
 import csv
 import io
@@ -44,42 +45,59 @@ WRITTEN = [
     (["--side", "maximiser", "--prism-actions"], "0:throw\n2:0\n3:0\n"),
     (["--side", "minimiser", "--prism-actions"], "1:right\n"),
     (["--side", "maximiser", "--prism-actions", "--sta", NAMED[1]], "(1,false):throw\n(1,true):0\n(2,true):0\n"),
-    (["--side", "minimiser", "--storm-json"], '[\n    {"c": [{"index": 3, "prob": 1, "labels": ["right"]}], "s": 1}\n]\n'),
+    (["--side", "minimiser", "--storm-json"],
+     '[\n    {"c": [{"index": 3, "prob": 1, "labels": ["right"]}], "s": 1}\n]\n'),
     (["--side", "minimiser", "--storm-json", "--sta", NAMED[1]],
      '[\n    {"c": [{"index": 3, "prob": 1, "labels": ["right"]}], "s": {"turn": 2, "over": false}}\n]\n'),
 ]
 
 # an owner file, the side, and the transitions that are left of the game
 INDUCED = [
-    ("maximiser", "4 5 8\n0 0 2 0.65 throw\n0 0 3 0.35 throw\n1 0 2 0.5 left\n1 0 3 0.5 left\n1 1 2 0.2 right\n1 1 3 0.8 right\n2 0 2 1\n3 0 3 1\n"),
-    ("minimiser", "4 5 7\n0 0 1 1 pass\n0 1 2 0.65 throw\n0 1 3 0.35 throw\n1 0 2 0.2 right\n1 0 3 0.8 right\n2 0 2 1\n3 0 3 1\n"),
+    ("maximiser",
+     "4 5 8\n0 0 2 0.65 throw\n0 0 3 0.35 throw\n1 0 2 0.5 left\n1 0 3 0.5 left\n1 1 2 0.2 right\n1 1 3 0.8 right\n"
+     "2 0 2 1\n3 0 3 1\n"),
+    ("minimiser",
+     "4 5 7\n0 0 1 1 pass\n0 1 2 0.65 throw\n0 1 3 0.35 throw\n1 0 2 0.2 right\n1 0 3 0.8 right\n2 0 2 1\n3 0 3 1\n"),
 ]
 
 # a certificate's text, the words of a tool, and its one line
 REFUSED = [
     ("table", "nothing\n", [], "no line begins with 'certificate'"),
     ("table", "certificate 3 4\n", [], "line 1: 'certificate 3 4' is no 'certificate 2 N' and no 'certificate 1 N'"),
-    ("table", CERTIFICATE.replace("\n3 0", "\n4 0"), [], "line 6: no line of state 3: number, lower bound, choice, rank, upper bound, reply"),
-    ("table", CERTIFICATE.replace("0.650000000000000 1 1", "0.65 1 1"), [], "line 3: no line of state 0: number, lower bound, choice, rank, upper bound, reply"),
-    ("table", CERTIFICATE.replace("650000000000000 1 1", "650000000000000 16384 1"), [], "line 3: a number of state 0 is above its limit"),
-    ("table", CERTIFICATE.replace(" 1 1 0.65", " 1 " + "9" * 5000 + " 0.65"), [], "line 3: a number of state 0 is above its limit"),
+    ("table", CERTIFICATE.replace("\n3 0", "\n4 0"), [],
+     "line 6: no line of state 3: number, lower bound, choice, rank, upper bound, reply"),
+    ("table", CERTIFICATE.replace("0.650000000000000 1 1", "0.65 1 1"), [],
+     "line 3: no line of state 0: number, lower bound, choice, rank, upper bound, reply"),
+    ("table", CERTIFICATE.replace("650000000000000 1 1", "650000000000000 16384 1"), [],
+     "line 3: a number of state 0 is above its limit"),
+    ("table", CERTIFICATE.replace(" 1 1 0.65", " 1 " + "9" * 5000 + " 0.65"), [],
+     "line 3: a number of state 0 is above its limit"),
     ("table", CERTIFICATE + "4\n", [], "line 7: more behind the line of the last state, 3"),
     ("table", "\n".join(CERTIFICATE.split("\n")[:4]), [], "lines of 2 states; the first line states 4"),
-    ("table", CERTIFICATE.replace(" 1 1 0.65", " 2 1 0.65"), ["--tra", NAMED[0]], "line 3: state 0 has 2 choices, counted from 0, and no choice 2"),
-    ("table", CERTIFICATE.replace("000 1\n", "000 2\n"), ["--tra", NAMED[0]], "line 4: state 1 has 2 choices, counted from 0, and no choice 2"),
+    ("table", CERTIFICATE.replace(" 1 1 0.65", " 2 1 0.65"), ["--tra", NAMED[0]],
+     "line 3: state 0 has 2 choices, counted from 0, and no choice 2"),
+    ("table", CERTIFICATE.replace("000 1\n", "000 2\n"), ["--tra", NAMED[0]],
+     "line 4: state 1 has 2 choices, counted from 0, and no choice 2"),
     ("strategy", CERTIFICATE, ["--tra", NAMED[0], "--own", GAME[1], "--prism-actions"],
      "both sides move; --side maximiser or --side minimiser says whose choices are meant"),
-    ("strategy", CERTIFICATE.replace("certificate 2 4", "certificate 2 3"), ["--tra", NAMED[0], "--prism-actions"], "line 6: more behind the line of the last state, 2"),
+    ("strategy", CERTIFICATE.replace("certificate 2 4", "certificate 2 3"), ["--tra", NAMED[0], "--prism-actions"],
+     "line 6: more behind the line of the last state, 2"),
 ]
 
 # a strategy, and what is said of it
 GUARANTEED = [
-    ("0:throw\n", 0, "state 0 maximiser guarantees at least 0.650000000000000 and no more than 0.650000000000000 audited True\n"),
-    ("0=1\n", 0, "state 0 maximiser guarantees at least 0.650000000000000 and no more than 0.650000000000000 audited True\n"),
-    ("0 pass\n", 1, "state 0 maximiser guarantees at least 0.200000000000000 and no more than 0.200000000000000 audited False\n"),
-    ("(1,false):pass\n", 1, "state 0 maximiser guarantees at least 0.200000000000000 and no more than 0.200000000000000 audited False\n"),
-    ("1:left\n", 0, "state 0 minimiser guarantees at most 0.650000000000000 and no less than 0.650000000000000 audited True\n"),
-    ('[{"s": 0, "c": [{"index": 0, "prob": 1}]}]', 1, "state 0 maximiser guarantees at least 0.200000000000000 and no more than 0.200000000000000 audited False\n"),
+    ("0:throw\n", 0,
+     "state 0 maximiser guarantees at least 0.650000000000000 and no more than 0.650000000000000 audited True\n"),
+    ("0=1\n", 0,
+     "state 0 maximiser guarantees at least 0.650000000000000 and no more than 0.650000000000000 audited True\n"),
+    ("0 pass\n", 1,
+     "state 0 maximiser guarantees at least 0.200000000000000 and no more than 0.200000000000000 audited False\n"),
+    ("(1,false):pass\n", 1,
+     "state 0 maximiser guarantees at least 0.200000000000000 and no more than 0.200000000000000 audited False\n"),
+    ("1:left\n", 0,
+     "state 0 minimiser guarantees at most 0.650000000000000 and no less than 0.650000000000000 audited True\n"),
+    ('[{"s": 0, "c": [{"index": 0, "prob": 1}]}]', 1,
+     "state 0 maximiser guarantees at least 0.200000000000000 and no more than 0.200000000000000 audited False\n"),
 ]
 
 # a strategy that is refused, and why
@@ -108,7 +126,9 @@ def fits(schema, value):
         known, other = schema.get("properties", {}), schema.get("additionalProperties", False)
         if not set(schema.get("required", ())) <= set(value):
             return False
-        return all(fits(known.get(name) or other, one) if name in known or other else False for name, one in value.items())
+        return all(
+            fits(known.get(name) or other, one) if name in known or other else False for name, one in value.items()
+        )
     if isinstance(value, list):
         return all(fits(schema["items"], one) for one in value)
     return "pattern" not in schema or re.search(schema["pattern"], value) is not None
@@ -125,25 +145,37 @@ class Small(InFolder):
         words = ["--tra", NAMED[0], "--sta", NAMED[1], "--lab", GAME[0], "--own", GAME[1]]
         self.assertEqual(call_tool("table", self.cert, *words, "--csv"), (0, TABLE, ""))
         plain = call_tool("table", self.cert, *words)[1].splitlines()
-        self.assertEqual([line.split() for line in plain], [[field or "-" for field in line.split(",")] for line in TABLE.splitlines()])
+        self.assertEqual(
+            [line.split() for line in plain],
+            [[field or "-" for field in line.split(",")] for line in TABLE.splitlines()],
+        )
 
     def test_table_of_a_certificate_alone(self):
         text = call_tool("table", self.cert, "--csv")[1]
-        self.assertEqual(text.splitlines()[:2], ["state,lower,upper,mover,choice,rank", "0,0.650000000000000,0.650000000000000,maximiser,1,1"])
+        self.assertEqual(
+            text.splitlines()[:2],
+            ["state,lower,upper,mover,choice,rank", "0,0.650000000000000,0.650000000000000,maximiser,1,1"],
+        )
 
     def test_who_moves_has_to_be_known(self):
         text = "certificate 2 1\n0 0.000000000000000 0 0 1.000000000000000 0\n"
         cert, tra, lab = str(self.write("both", text)), self.write("m.tra", "1 1 1\n0 0 0 1\n"), None
         status, output, errors = call_tool("table", cert)
         self.assertEqual((status, output), (1, ""))
-        self.assertEqual(errors, f"table: {cert}: line 2: state 0 has a choice and a reply, so it takes --formula, and --own of a game, to say who moves\n")
+        self.assertEqual(
+            errors,
+            f"table: {cert}: line 2: state 0 has a choice and a reply, so it takes --formula, and --own of a game, to "
+            "say who moves\n",
+        )
         self.assertIn("maximiser", call_tool("table", cert, "--formula", 'Pmax=? [ F "a" ]')[1])
         self.assertIn("minimiser", call_tool("table", cert, "--formula", 'Pmax=? [ G "a" ]')[1])
 
     def test_written_strategies(self):
         for options, text in WRITTEN:
             with self.subTest(options=options):
-                self.assertEqual(call_tool("strategy", self.cert, "--tra", NAMED[0], "--own", GAME[1], *options), (0, text, ""))
+                self.assertEqual(
+                    call_tool("strategy", self.cert, "--tra", NAMED[0], "--own", GAME[1], *options), (0, text, "")
+                )
 
     def test_induced_models(self):
         for side, text in INDUCED:
@@ -153,13 +185,18 @@ class Small(InFolder):
                 self.assertEqual(call_tool("strategy", self.cert, *words)[1], f"{out}.tra\n{out}.lab\n{out}.own\n")
                 written = self.written()
                 self.assertEqual(written[f"{side}.tra"], text)
-                self.assertEqual([written[f"{side}.{ending}"] for ending in ("lab", "own")], [Path(name).read_text() for name in GAME])
+                self.assertEqual(
+                    [written[f"{side}.{ending}"] for ending in ("lab", "own")],
+                    [Path(name).read_text() for name in GAME],
+                )
 
     def test_the_model_is_not_written_over(self):
         tra, lab = self.write("m.tra", "1 1 1\n0 0 0 1\n"), self.write("m.lab", '0="init"\n0: 0\n')
         cert = self.write("one", "certificate 2 1\n0 0.000000000000000 - 0 0.000000000000000 -\n")
         status, _, errors = call_tool("strategy", cert, "--tra", tra, "--lab", lab, "--induced", self.folder / "m")
-        self.assertEqual((status, errors), (1, f"strategy: {self.folder / 'm'}: this would write over a file of the model\n"))
+        self.assertEqual(
+            (status, errors), (1, f"strategy: {self.folder / 'm'}: this would write over a file of the model\n")
+        )
 
     def test_refusals(self):
         for tool, text, words, cause in REFUSED:
@@ -189,7 +226,12 @@ class Small(InFolder):
         for tool in ("table", "strategy", "guarantee", "properties", "dossier", "reaudit"):
             with self.subTest(tool=tool):
                 self.assertEqual(run_tool(tool, "--help")[0], 0)
-        self.write("long", "certificate 2 20000\n" + "".join(f"{state} 0.000000000000000 - 0 0.000000000000000 -\n" for state in range(20000)))
+        self.write(
+            "long",
+            "certificate 2 20000\n" + "".join(
+                f"{state} 0.000000000000000 - 0 0.000000000000000 -\n" for state in range(20000)
+            ),
+        )
         ended = run("bash", "-c", f"{sys.executable} {TOOLS / 'table'} {self.folder / 'long'} --csv | head -n 1")
         self.assertEqual(ended[1:], ("state,lower,upper,mover,choice,rank\n", ""))
         ended = run("bash", "-c", f"{sys.executable} {TOOLS / 'table'} {self.cert} >/dev/full")
@@ -205,8 +247,8 @@ class Guarantees(InFolder):
         os.environ["STOGAME"] = str(program())
 
     def ask(self, text, *more):
-        words = [NAMED[0], GAME[0], FORMULA, "--own", GAME[1], "--sta", NAMED[1], "--strategy", self.write("mine", text)]
-        return call_tool("guarantee", *words, *more)
+        words = [NAMED[0], GAME[0], FORMULA, "--own", GAME[1], "--sta", NAMED[1]]
+        return call_tool("guarantee", *words, "--strategy", self.write("mine", text), *more)
 
     def test_rows(self):
         for text, status, line in GUARANTEED:
@@ -225,17 +267,29 @@ class Guarantees(InFolder):
         tra = self.write("m.tra", "4 5 6\n0 0 2 1\n0 1 1 1\n1 0 2 0.5\n1 0 3 0.5\n1 1 3 1\n2 0 2 1\n")
         lab = self.write("m.lab", '0="init" 1="goal"\n0: 0\n2: 1\n')
         for text, said in (
-            ("0:0\n", "state 0 maximiser guarantees at least 1.000000000000000 and no more than 1.000000000000000 audited Bracket\n"),
-            ("0:1\n1:0\n", "state 0 maximiser guarantees at least 0.500000000000000 and no more than 0.500000000000000 audited Bracket\n"),
+            (
+                "0:0\n",
+                "state 0 maximiser guarantees at least 1.000000000000000 and no more than 1.000000000000000 audited "
+                "Bracket\n",
+            ),
+            (
+                "0:1\n1:0\n",
+                "state 0 maximiser guarantees at least 0.500000000000000 and no more than 0.500000000000000 audited "
+                "Bracket\n",
+            ),
         ):
-            self.assertEqual(call_tool("guarantee", tra, lab, 'Pmax=? [ F "goal" ]', "--strategy", self.write("mine", text)), (0, said, ""))
+            self.assertEqual(
+                call_tool("guarantee", tra, lab, 'Pmax=? [ F "goal" ]', "--strategy", self.write("mine", text)),
+                (0, said, ""),
+            )
         name = self.write("mine", "0:1\n")
         errors = call_tool("guarantee", tra, lab, 'Pmax=? [ F "goal" ]', "--strategy", name)[2]
         self.assertEqual(errors, f"guarantee: {name}: state 1 is reached, has 2 choices, and is not named\n")
 
     def test_always(self):
         """Of G the side that wants it is the maximiser; the goals of the dual are where it fails."""
-        tra, lab = self.write("m.tra", "2 3 4\n0 0 0 1\n0 1 0 0.5\n0 1 1 0.5\n1 0 1 1\n"), self.write("m.lab", '0="init" 1="bad"\n0: 0\n1: 1\n')
+        tra = self.write("m.tra", "2 3 4\n0 0 0 1\n0 1 0 0.5\n0 1 1 0.5\n1 0 1 1\n")
+        lab = self.write("m.lab", '0="init" 1="bad"\n0: 0\n1: 1\n')
         said = "state 0 maximiser guarantees at least {0} and no more than {0} audited Bracket\n"
         for text, value in (("0:0\n", "1.000000000000000"), ("0:1\n", "0.000000000000000")):
             words = [tra, lab, 'Pmax=? [ G !"bad" ]', "--strategy", self.write("mine", text)]
@@ -262,7 +316,9 @@ class OfTheGallery(InFolder):
                 self.assertEqual([as_csv(row) for row in made["states"]], rows)
                 self.assertEqual([entry_of(row) for row in rows], one.entries)
                 for label, states in one.model.labels.items():
-                    self.assertEqual([state for state, row in enumerate(rows) if label in row["labels"].split()], sorted(states))
+                    self.assertEqual(
+                        [state for state, row in enumerate(rows) if label in row["labels"].split()], sorted(states)
+                    )
                 owners = [one.model.players[owner] for owner in one.model.owners]
                 self.assertEqual([row["owner"] for row in rows if "owner" in row], owners)
 
@@ -289,7 +345,9 @@ class OfTheGallery(InFolder):
                 with self.subTest(model=one.name, side=side):
                     out = str(self.folder / "induced")
                     call_tool("strategy", self.write("cert", one.text), *one.files(), "--side", side, "--induced", out)
-                    words = [f"{out}.tra", f"{out}.lab", one.words[2]] + (["--own", f"{out}.own"] if len(one.words) > 3 else [])
+                    words = [f"{out}.tra", f"{out}.lab", one.words[2]] + (
+                        ["--own", f"{out}.own"] if len(one.words) > 3 else []
+                    )
                     _, output, _ = run(program(), "check", *words, "--workers", "1", "--rounds", "300")
                     self.within(one, output)
                     if one.states() <= 60:
@@ -313,7 +371,10 @@ class OfTheGallery(InFolder):
 
 def as_csv(row):
     """A row of the JSON as CSV has it."""
-    return {name: " ".join(value) if isinstance(value, list) else "-" if value is None else str(value) for name, value in row.items()}
+    return {
+        name: " ".join(value) if isinstance(value, list) else "-" if value is None else str(value)
+        for name, value in row.items()
+    }
 
 
 def entry_of(row):
@@ -324,7 +385,8 @@ def entry_of(row):
 
 
 def strategies_of(one):
-    """The states of each side with the choices of a certificate, the first where none is named; of the sides that move."""
+    """The states of each side with the choices of a certificate, the first where none is named;
+    of the sides that move."""
     sides = {"maximiser": [], "minimiser": []}
     players = [one.model.players[owner] for owner in one.model.owners] or ["p0"] * one.states()
     for state, (player, entry) in enumerate(zip(players, one.entries)):
@@ -340,7 +402,12 @@ def plain_model(out, model):
     choices = []
     for state in range(made.states):
         rows = [(made.weighted(choice), made.edges_of(choice)) for choice in made.choices_of(state)]
-        choices.append([{made.successor[edge]: Fraction(weight, total) for weight, edge in zip(weights, edges)} for (weights, total), edges in rows])
+        choices.append(
+            [
+                {made.successor[edge]: Fraction(weight, total) for weight, edge in zip(weights, edges)}
+                for (weights, total), edges in rows
+            ]
+        )
 
     class Plain(SimpleNamespace):
         def __len__(self):
