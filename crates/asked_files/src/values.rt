@@ -39,10 +39,7 @@ pub fn load_values<H: Shelf>(
 {
     match name {
         None => Ok(None),
-        Some(name) => match load_values_file(alloc, shelf, name, states) {
-            Ok(values) => Ok(Some(values)),
-            Err(end) => Err(end),
-        },
+        Some(name) => Ok(Some(load_values_file(alloc, shelf, name, states)?)),
     }
 }
 

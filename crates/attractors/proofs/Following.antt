@@ -154,8 +154,8 @@ module _ (q : Query) (barred : Barred) (followed : List Move) (members : List Bo
     };
   }
 
-  -- a move that changes nothing: its state is a member or gone, its choice barred,
-  -- or its state one of the minimiser that waits for another choice
+  -- a move that changes nothing: its state is a member or gone, its choice barred, or its state one of the minimiser
+  -- that waits for another choice
   pub IsGrowth-noted : (slice_index_or members m.state false ≡ false
       → barred.states m.state ≡ false → barred.choices (choice_of q.game m.state m.choice) ≡ false
       → (side_at q m.state ≡ Min) × (slice_index awaited m.state ≢ m.choice))

@@ -14,7 +14,7 @@ choice_of_word q s word =
     if is_goal q s || is_dead q s then None else on_side (side_at q s)
     (if value_in word == 0 then None else Some (choice_in word)) None
 
--- a choice for each state, and none at a goal, a dead state, a state of the minimiser and one of value 0
+-- a choice for each state, and none at a goal, a dead state, a state of the minimiser and one whose lower entry is 0
 pub record AreChoices (q : Query) (lower : List ℕ) (choices : List (Option ℕ)) : Type 0 where
   pub as_many : length choices ≡ states q
   pub none_at_goals : (s : ℕ) → s < states q → is_goal q s ≡ true → slice_index_or choices s None ≡ None

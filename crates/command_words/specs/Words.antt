@@ -144,10 +144,8 @@ pub record SayMake (value : Text → Option Text) (make : Make) : Type 0 where
 -- What words denote.
 
 -- the words behind `check` denote this: `clap` has no fault to find in them, and the values that it gives them say it.
--- So
--- options may stand anywhere, each once at most, with the value in the next word or behind `=`; behind `--` no word is
--- an
--- option; three words are left; and each number is one of 32 bits, in its range
+-- So options may stand anywhere, each once at most, with the value in the next word or behind `=`; behind `--` no word
+-- is an option; three words are left; and each number is one of 32 bits, in its range
 pub record AreCheckWords (words : List Text) (check : Check) : Type 0 where
   pub taken : fault_of check_app words ≡ []
   pub said : SayCheck (value_of check_app words) check

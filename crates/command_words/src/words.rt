@@ -113,10 +113,7 @@ fn read_command<'a>(
         "check" => Ok(read_check(alloc, words)?.map(CommandWords::Check)),
         "audit" => Ok(read_audit(alloc, words)?.map(CommandWords::Audit)),
         "solve" => Ok(read_solve(alloc, words)?.map(CommandWords::Solve)),
-        "make" => match read_make(alloc, words)? {
-            Some(make) => Ok(Some(CommandWords::Make(make))),
-            None => Ok(None),
-        },
+        "make" => Ok(read_make(alloc, words)?.map(CommandWords::Make)),
         "sure" => Ok(read_sure(alloc, words)?.map(CommandWords::Sure)),
         _ => Ok(None),
     }

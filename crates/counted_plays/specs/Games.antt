@@ -26,9 +26,9 @@ coin_loop = record {
 }
 
 -- Each player has a state. At state 0 the maximiser is bold (choice 0): half the time it is won at state 2, else the
--- minimiser is to move at state 1; or careful (choice 1): the minimiser is to move.
--- At state 1 the minimiser is mild (choice 0): the maximiser is to move; or harsh (choice 1): half the time so, else it
--- is lost at state 3, which is dead though it leads to state 2.
+-- minimiser is to move at state 1; or careful (choice 1): the minimiser is to move. At state 1 the minimiser is mild
+-- (choice 0): the maximiser is to move; or harsh (choice 1): half the time so, else it is lost at state 3, which is
+-- dead though it leads to state 2.
 abbrev pub give_and_take : Query
 give_and_take = record {
   game = (distribution_of (parts_to 1 1 ∷ parts_to 1 2 ∷ []) ∷ surely 1 ∷ [])

@@ -30,9 +30,8 @@ pub fn down_state(question: &Question, state: u32, table: &[u64]) -> (u64, u32)
     table_step_above(question, state, table, 0)
 }
 
-/// The down step of a table at a state, as [`down_state`] has it, where its value is above the entry of the
-/// table. A state that does not rise costs a sum and a comparison for
-/// a choice, and no division.
+/// The down step of a table at a state, as [`down_state`] has it, where its value is above the entry of the table. A
+/// state that does not rise costs a sum and a comparison for a choice, and no division.
 pub fn raised_state(question: &Question, state: u32, table: &[u64]) -> Option<(u64, u32)>
     requires state { state < states question.now }
     requires length { length table.now ≡ states question.now }

@@ -100,11 +100,11 @@ impl Choice {
 /// A game: for each state a list of at least one choice. The states are numbered from 0, and so are the
 /// choices of a state and the edges of a choice.
 ///
-/// It lies in flat lists: where the choices of each state begin, where the edges of each choice begin and
-/// its total, and for each edge its successor and its weight. For a total of 2^64 or more 0 is kept, and it is
-/// added up when it is asked for. A weight has a low word, and a high word only where some total is 2^64 or more; behind
-/// the end of the high words each is 0. So a choice takes 12 bytes and an edge 12, and an edge 8 more up to the last
-/// choice whose weights are that wide.
+/// It lies in flat lists: where the choices of each state begin, where the edges of each choice begin and its total,
+/// and for each edge its successor and its weight. For a total of 2^64 or more 0 is kept, and it is added up when it is
+/// asked for. A weight has a low word, and a high word only where some total is 2^64 or more; behind the end of the
+/// high words each is 0. So a choice takes 12 bytes and an edge 12, and an edge 8 more up to the last choice whose
+/// weights are that wide.
 #[derive(Debug, Drop)]
 pub struct Game {
     pub(crate) first_choice: Vec<u32>,

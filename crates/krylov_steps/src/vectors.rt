@@ -53,8 +53,8 @@ pub struct Left {
     pub product: f64,
 }
 
-/// The values found move along the direction by alpha and along the residual by omega, and the residual loses as much of
-/// what it turned into. Gives what is left of it.
+/// The values found move along the direction by alpha and along the residual by omega, and the residual loses as much
+/// of what it turned into. Gives what is left of it.
 pub(crate) fn advance(
     found: &mut [f64],
     residual: &mut [f64],

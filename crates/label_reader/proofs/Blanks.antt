@@ -7,7 +7,8 @@ use Rattle.std.proofs.lemmas.Bool.Decides.{nat_tests}
 use Rattle.text_lines.specs.Text.{fields_of, is_blank, ends_field, prepend}
 use Rattle.label_reader.specs.declared.kind.FileKind.{FileKind}
 use Rattle.label_reader.specs.declared.faults.LabCause.TheVariants.{BadField}
-use Rattle.label_reader.specs.Header.{Item, split_first, parted_at}
+use Rattle.label_reader.specs.Header.{Item}
+use Rattle.text_lines.specs.Parts.{split_first, parted_at}
 use Rattle.label_reader.specs.Lines.{StateLine, line_parts, known_line, add_line}
 use Rattle.label_reader.proofs.Splits.{place_behind}
 use Rattle.label_reader.proofs.Bodies.{add_line-unknown}

@@ -12,7 +12,8 @@ use Rattle.text_lines.specs.Laws.{HasNo}
 use Rattle.label_reader.specs.declared.kind.FileKind.{FileKind}
 use Rattle.label_reader.specs.declared.faults.LabCause.{LabCause}
 use Rattle.label_reader.specs.Limits.{greatest_index}
-use Rattle.label_reader.specs.Header.{Item, split_first, quoted, is_name, item_named, item_parts, item_of, most_items}
+use Rattle.label_reader.specs.Header.{Item, quoted, is_name, item_named, item_parts, item_of, most_items}
+use Rattle.text_lines.specs.Parts.{split_first}
 use Rattle.label_reader.specs.Header.{place_of, has_index, has_name, with_item, and_then, items_from, header_of}
 use Rattle.label_reader.specs.Denotes.{IsItem, AreItems, IsNew, AreApart, IsHeader}
 use Rattle.label_reader.proofs.Indexed.{none_behind}

@@ -8,7 +8,8 @@ use Rattle.std.specs.List.{position_or_len}
 use Rattle.std.proofs.lemmas.Bool.Decides.{nat_tests}
 use Rattle.std.proofs.lemmas.List.{length-append}
 use Rattle.text_lines.specs.Laws.{HasNo}
-use Rattle.label_reader.specs.Header.{split_first, parted_at, quoted}
+use Rattle.label_reader.specs.Header.{quoted}
+use Rattle.text_lines.specs.Parts.{split_first, parted_at}
 
 different : (a b : ℕ) → (a ≢ b) → eqb a b ≡ false
 different a b h = grind (arith, nat_tests)

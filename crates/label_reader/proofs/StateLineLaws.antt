@@ -8,7 +8,8 @@ use Rattle.std.proofs.lemmas.Bool.Decides.{nat_tests}
 use Rattle.text_lines.specs.Text.{fields_of, number_of}
 use Rattle.label_reader.specs.declared.faults.LabCause.{LabCause}
 use Rattle.label_reader.specs.declared.faults.LabCause.TheVariants.{UnknownIndex, StateOutOfRange}
-use Rattle.label_reader.specs.Header.{Item, split_first, place_of, has_index}
+use Rattle.label_reader.specs.Header.{Item, place_of, has_index}
+use Rattle.text_lines.specs.Parts.{split_first}
 use Rattle.label_reader.specs.Lines.{StateLine, is_number, number_in, only_number, numbered, line_parts, state_line}
 use Rattle.label_reader.specs.Lines.{known_line}
 use Rattle.label_reader.specs.Denotes.{Spells, AreNumbers, IsIndex, AreIndices, IsStateLine}

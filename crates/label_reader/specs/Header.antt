@@ -4,6 +4,7 @@ use Rattle.std.specs.Prelude.{take, drop, slice_index, position, Option, Some, N
 use Rattle.std.specs.Prelude.{is_some, if◌then◌else◌, bytes_eq, Result, Ok, Err}
 use Rattle.std.specs.List.{list_any, list_all}
 use Rattle.text_lines.specs.Text.{number_of, is_digit, saturated}
+use Rattle.text_lines.specs.Parts.{split_first}
 use Rattle.label_reader.specs.declared.kind.FileKind.{FileKind}
 use Rattle.label_reader.specs.declared.kind.FileKind.TheVariants.{LabelFile, OwnerFile}
 use Rattle.label_reader.specs.declared.faults.LabCause.{LabCause}
@@ -19,14 +20,6 @@ pub record Item : Type 0 where
 -- an item as far as 64 bits go
 abbrev pub saturated_item : Item → Item
 saturated_item item = record { index = saturated item.index; name = item.name }
-
--- what stands before the byte at a place, and behind it
-abbrev pub parted_at : List ℕ → ℕ → List ℕ × List ℕ
-parted_at bytes k = (take k bytes, drop (k + 1) bytes)
-
--- the bytes before the first of this byte, and those behind it
-abbrev pub split_first : ℕ → List ℕ → Option (List ℕ × List ℕ)
-split_first x bytes = option_map (parted_at bytes) (position (λ b. b == x) bytes)
 
 -- what stands between two quotes
 abbrev pub quoted : List ℕ → Option (List ℕ)

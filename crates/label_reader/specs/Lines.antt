@@ -7,7 +7,8 @@ use Rattle.label_reader.specs.declared.kind.FileKind.{FileKind}
 use Rattle.label_reader.specs.declared.kind.FileKind.TheVariants.{LabelFile, OwnerFile}
 use Rattle.label_reader.specs.declared.faults.LabCause.{LabCause}
 use Rattle.label_reader.specs.declared.faults.LabCause.TheVariants.{BadField, StateOutOfRange, UnknownIndex, TwoOwners}
-use Rattle.label_reader.specs.Header.{Item, split_first, has_index, has_place, and_then}
+use Rattle.label_reader.specs.Header.{Item, has_index, has_place, and_then}
+use Rattle.text_lines.specs.Parts.{split_first}
 
 -- a line: a state, and the numbers that are said of it
 pub record StateLine : Type 0 where

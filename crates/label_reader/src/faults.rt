@@ -41,14 +41,18 @@ impl LabFault {
     ghost use Rattle.std.specs.Prelude.{◌≡◌};
     ghost use Rattle.label_reader.specs.Texts.{fault_at, GivesFault};
 
+    /// The fault of a line with this cause.
+    pub(crate) fn at(line: u32, cause: LabCause) -> LabFault
+        ensures { result ≡ fault_at line cause }
+    {
+        LabFault { line, cause }
+    }
+
     /// The fault that memory was wanting.
     pub(crate) fn out_of_memory() -> LabFault
         ensures { result ≡ fault_at 0 LabCause.OutOfMemory }
     {
-        LabFault {
-            line: 0,
-            cause: LabCause::OutOfMemory,
-        }
+        LabFault::at(0, LabCause::OutOfMemory)
     }
 
     /// The fault of a header with this cause.
@@ -57,7 +61,7 @@ impl LabFault {
     {
         match cause {
             LabCause::OutOfMemory => LabFault::out_of_memory(),
-            _ => LabFault { line: 1, cause },
+            _ => LabFault::at(1, cause),
         }
     }
 }

@@ -98,20 +98,14 @@ impl<B: BehindHeader> LineReader for HeadedLines<B> {
     fn blank(&self, number: u32) -> LabFault {
         match &self.behind {
             Some(reader) => reader.blank(number),
-            None => LabFault {
-                line: 1,
-                cause: LabCause::NoHeader,
-            },
+            None => LabFault::at(1, LabCause::NoHeader),
         }
     }
 
     fn finish(self) -> Result<B::Made, LabFault> {
         match self.behind {
             Some(reader) => reader.finish(),
-            None => Err(LabFault {
-                line: 1,
-                cause: LabCause::NoHeader,
-            }),
+            None => Err(LabFault::at(1, LabCause::NoHeader)),
         }
     }
 }

@@ -1,34 +1,12 @@
 //! The items of a header: `index="name"`.
 
-ghost use Rattle.std.specs.Prelude.{◌≡◌, ◌==◌, ◌<◌, ◌≤◌, ◌+◌, ◌-◌, Some, None, MatchOption, IfSome, option_map, position, length, take, drop};
+ghost use Rattle.std.specs.Prelude.{◌≡◌, ◌<◌, ◌≤◌, ◌-◌, Some, None, MatchOption, option_map, length, take, drop};
 ghost use Rattle.std.specs.List.{list_all};
 ghost use Rattle.text_lines.specs.Text.{is_digit};
-ghost use Rattle.label_reader.specs.Header.{Item, split_first, quoted, is_name, has_name_bytes, is_label_byte, is_word_byte, item_of, saturated_item};
+ghost use Rattle.label_reader.specs.Header.{Item, quoted, is_name, has_name_bytes, is_label_byte, is_word_byte, item_of, saturated_item};
 
 use crate::kind::{FileKind, LONGEST_NAME};
-use text_lines::whole;
-
-fn place_of_byte(x: u8, bytes: &[u8]) -> Option<usize>
-    ensures place { result ≡ position (λ b. b == x) bytes.now }
-    ensures within { IfSome result (λ place. place < length bytes.now) }
-{
-    bytes.iter().position(|b| *b == x)
-}
-
-/// What stands before the first of a byte, and behind it.
-pub fn split_at_first(x: u8, bytes: &[u8]) -> Option<(&[u8], &[u8])>
-    ensures { MatchOption result (split_first x bytes.now ≡ None)
-        (λ r. split_first x bytes.now ≡ Some (r.0.now, r.1.now)) }
-{
-    match place_of_byte(x, bytes) {
-        Some(place) => {
-            let (front, _) = bytes.split_at(place);
-            let (_, back) = bytes.split_at(place + 1);
-            Some((front, back))
-        }
-        None => None,
-    }
-}
+use text_lines::{split_at_first, whole};
 
 // What stands between two quotes.
 fn unquoted(bytes: &[u8]) -> Option<&[u8]>

@@ -59,16 +59,10 @@ impl LineReader for LabelSets {
 
     fn take(&mut self, number: u32, line: &[u8]) -> Result<(), LabFault> {
         match read_state(self.states, line) {
-            Err(cause) => Err(LabFault {
-                line: number,
-                cause,
-            }),
+            Err(cause) => Err(LabFault::at(number, cause)),
             Ok((state, numbers)) => {
                 match mark_all(self.sets.as_mut_slice(), &self.header, state, numbers) {
-                    Err(cause) => Err(LabFault {
-                        line: number,
-                        cause,
-                    }),
+                    Err(cause) => Err(LabFault::at(number, cause)),
                     Ok(()) => Ok(()),
                 }
             }
@@ -76,10 +70,7 @@ impl LineReader for LabelSets {
     }
 
     fn blank(&self, number: u32) -> LabFault {
-        LabFault {
-            line: number,
-            cause: LabCause::BadField,
-        }
+        LabFault::at(number, LabCause::BadField)
     }
 
     fn finish(self) -> Result<Labels, LabFault> {

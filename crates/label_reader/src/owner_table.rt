@@ -55,16 +55,10 @@ impl LineReader for OwnerTable {
 
     fn take(&mut self, number: u32, line: &[u8]) -> Result<(), LabFault> {
         match read_state(self.states, line) {
-            Err(cause) => Err(LabFault {
-                line: number,
-                cause,
-            }),
+            Err(cause) => Err(LabFault::at(number, cause)),
             Ok((state, numbers)) => {
                 match owner_behind(self.owners[state as usize], &self.header, state, numbers) {
-                    Err(cause) => Err(LabFault {
-                        line: number,
-                        cause,
-                    }),
+                    Err(cause) => Err(LabFault::at(number, cause)),
                     Ok(owner) => {
                         self.owners[state as usize] = owner;
                         Ok(())
@@ -75,10 +69,7 @@ impl LineReader for OwnerTable {
     }
 
     fn blank(&self, number: u32) -> LabFault {
-        LabFault {
-            line: number,
-            cause: LabCause::BadField,
-        }
+        LabFault::at(number, LabCause::BadField)
     }
 
     fn finish(self) -> Result<Owners, LabFault> {

@@ -7,8 +7,7 @@ ghost use Rattle.label_reader.specs.Header.{Item};
 ghost use Rattle.label_reader.specs.Lines.{is_number, only_number, numbered, state_line, known_line};
 
 use crate::faults::LabCause;
-use crate::item::split_at_first;
-use text_lines::{first_field, whole};
+use text_lines::{first_field, split_at_first, whole};
 
 // The number that a line is, where it has no other field.
 fn only_whole(line: &[u8]) -> Option<u64>

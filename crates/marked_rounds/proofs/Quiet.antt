@@ -15,8 +15,8 @@ by-mark : (mark : Bool) (X : Type 0) → (mark ≡ true → X) → (mark ≡ fal
 by-mark true X on off = on refl
 by-mark false X on off = off refl
 
--- after a round and the reading behind it: each state, marked or not,
--- is read with at least its step over what was read before
+-- after a round and the reading behind it: each state, marked or not, is read with at least its step over what was read
+-- before
 pub step-everywhere : (q : Query) (old mid new : Agenda) (before round after : ℕ → ℕ) → IsQuery q
     → IsAgenda q old before → mid.read.items ≡ old.read.items → mid.marks.items ≡ old.marks.items
     → ((s : ℕ) → s < states q → IsMarked old.marks.items s → down_step q before s ≤ round s)

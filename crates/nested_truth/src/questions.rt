@@ -42,8 +42,8 @@ impl<'g> Questions<'g> {
         ensures high { IfOk result (λ questions. high_or questions.low questions.high
             ≡ optimistic (model_of setting.entry) (tree_of formula.now) (seen left.now) (seen right.now)) }
     {
-        let low_deads = lost(alloc, &left.sure, &right.sure)?;
-        let high_deads = lost(alloc, &left.possible, &right.possible)?;
+        let low_deads = deads_of(alloc, &left.sure, &right.sure)?;
+        let high_deads = deads_of(alloc, &left.possible, &right.possible)?;
         let same = are_same(&right.sure, &right.possible, &low_deads, &high_deads);
         let low = question_in(alloc, setting, formula, &right.sure, low_deads)?;
         if same {
@@ -64,8 +64,8 @@ fn are_same(goals: &[bool], others: &[bool], deads: &[bool], other_deads: &[bool
     are_equal(goals, others) && are_equal(deads, other_deads)
 }
 
-// Where neither side holds.
-fn lost(alloc: Global, left: &[bool], right: &[bool]) -> Result<Vec<bool>, AllocError>
+// Where neither side holds: the dead states.
+fn deads_of(alloc: Global, left: &[bool], right: &[bool]) -> Result<Vec<bool>, AllocError>
     requires { length left.now ≡ length right.now }
     ensures { IfOk result (λ v. v.items ≡ at_states (λ s. not (slice_index_or right.now s false)
         && not (slice_index_or left.now s false)) (length right.now)) }

@@ -29,7 +29,8 @@ pub(crate) fn draft_of(
     Draft::new(alloc, members.len(), choices as usize, edges as usize)
 }
 
-/// Adds the edges of a choice: to the node of a state, or out of the local game with the entry of a state that has none.
+/// Adds the edges of a choice: to the node of a state, or out of the local game with the entry of a state that has
+/// none.
 pub(crate) fn add_edges(
     row: &Row<'_>,
     choice: u32,

@@ -21,11 +21,11 @@ abbrev pub ending : Bool → List ℕ → List ℕ → List ℕ
 ending stable lower upper = if stable then numbered (codes " lower ") (sum_of lower)
     ++ (numbered (codes " upper ") (sum_of upper) ++ codes " settled\n") else codes " unsettled\n"
 
--- the line `model seed A states N zero Z`, where Z states are lost: of value 0; with its ending
+-- the line `model seed A states N zero Z`, where Z states have value 0; with its ending
 abbrev pub summary_text : ℕ → ℕ → ℕ → Bool → List ℕ → List ℕ → List ℕ
-summary_text seed states lost stable lower upper =
+summary_text seed states zeros stable lower upper =
     numbered (codes "model seed ") seed ++ (numbered (codes " states ") states
-    ++ (numbered (codes " zero ") lost ++ ending stable lower upper))
+    ++ (numbered (codes " zero ") zeros ++ ending stable lower upper))
 
 -- all is well where both tables are settled
 abbrev pub status_made : Bool → Status

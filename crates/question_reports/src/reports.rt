@@ -29,7 +29,7 @@ use trap_sets::lower_traps_over;
 use verdicts::How;
 use verdicts::laws::{mirrored_verdicts_are_those_of_the_dual, undecided_thresholds_are_left_open};
 
-// A formula as the words spell it, and the one whose question is answered: of `G` the dual, else the same.
+/// A formula as the words spell it, and the one whose question is answered: of `G` the dual, else the same.
 #[derive(Clone, Copy)]
 pub struct Formulas<'a> {
     pub spelled: &'a Formula,

@@ -64,8 +64,8 @@ spelling_with team bound kind left x y =
     coalition_spelling team ++ (bound_spelling bound ++ (codes " [ "
     ++ (kind_spelling kind left x ++ (codes " " ++ (y ++ codes " ]")))))
 
--- a state formula with no brackets but those that it needs:
--- a right operand with the same sign is in brackets, since operators group to the left
+-- a state formula with no brackets but those that it needs: a right operand with the same sign is in brackets, since
+-- operators group to the left
 abbrev pub state_spelling : State → List ℕ
 state_spelling True = codes "true"
 state_spelling False = codes "false"

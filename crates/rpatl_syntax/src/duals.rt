@@ -9,8 +9,8 @@ use game_outside::{Name, OutOfMemory};
 use std::alloc::Global;
 
 /// The formula by which one with `G y` is judged. It has the same coalition and the path `F !y`, whose probability is 1
-/// less that of
-/// `G y`, so it has the threshold `1 - p`, with `>=` exchanged with `<=`, `>` with `<`, and `Pmax=?` with `Pmin=?`.
+/// less that of `G y`, so it has the threshold `1 - p`, with `>=` exchanged with `<=`, `>` with `<`, and `Pmax=?` with
+/// `Pmin=?`.
 pub fn dual(alloc: Global, formula: &Formula) -> Result<Formula, OutOfMemory>
     requires always { formula.now.kind ≡ PathKind.Always }
     requires share { IsAtMostOne formula.now.bound }

@@ -22,8 +22,7 @@ fn values_of_a_gambler(rt: HostRuntime) -> Result<(), Fail> {
 }
 
 /// Gambler's ruin over 701 states, mixed so that the band of the chain is too wide for an elimination: node `i` is
-/// state
-/// `211 i` of them.
+/// state `211 i` of them.
 fn mixed_ruin(alloc: Global) -> Result<FloatGame, Fail> {
     let mut draft = Draft::new(alloc, 701, 701, 1402)?;
     for node in 0..701u32 {

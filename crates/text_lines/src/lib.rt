@@ -30,12 +30,14 @@ mod front;
 pub mod laws;
 mod lines;
 mod numbers;
+mod parts;
 mod reader;
 
 pub use fields::first_field;
 pub use front::first_number;
 pub use lines::{ended_line, first_line, only_blank, without_cr};
 pub use numbers::whole;
+pub use parts::split_at_first;
 pub use reader::{Feed, LineReader, read_lines};
 
 /// The most bytes of a text that is read.

@@ -10,8 +10,7 @@
 //! ```
 //!
 //! `read_tra` gives the game that a text denotes, or the text's first fault with its line: the faults of the header,
-//! then
-//! those of the lines in their order, then those of the whole text. A text whose lines stand in the order of their
+//! then those of the lines in their order, then those of the whole text. A text whose lines stand in the order of their
 //! choices is read in one pass, and of its lines only those of one choice are kept beside the game. Any other text is
 //! read once more, and that takes memory for 48 bytes a line and the sort's own room, and where a line has an action,
 //! for one entry a choice and the first action of each choice. `read_tra_from` reads a file on a shelf, a piece at a

@@ -25,8 +25,8 @@ pub fn stays(question: &Question, of: &[u32], state: u32, choice: u32) -> bool
     true
 }
 
-/// Whether a choice leads both to another state with the number of its state and to one with another number. Promised is
-/// that one that does not stay is cut where it meets another; a yes says no more than that it leaves.
+/// Whether a choice leads both to another state with the number of its state and to one with another number. Promised
+/// is that one that does not stay is cut where it meets another; a yes says no more than that it leaves.
 pub fn cuts(question: &Question, of: &[u32], state: u32, choice: u32) -> bool
     requires state { state < states question.now }
     requires choice { choice < length (choices_of question.now.game state) }

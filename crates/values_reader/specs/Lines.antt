@@ -3,16 +3,9 @@ use Rattle.std.specs.Prelude.{ℕ, ◌==◌, ◌&&◌, ◌||◌, ◌-◌, ◌+�
 use Rattle.std.specs.Prelude.{position, slice_index, Option, Some, None, is_some, option_map, if◌then◌else◌}
 use Rattle.std.specs.Float.Parse.{is_float_text}
 use Rattle.text_lines.specs.Text.{fields_of, number_of}
+use Rattle.text_lines.specs.Parts.{split_first}
 
 -- 1. A number.
-
--- what stands before the byte at a place, and behind it
-abbrev pub parted_at : List ℕ → ℕ → List ℕ × List ℕ
-parted_at bytes k = (take k bytes, drop (k + 1) bytes)
-
--- the bytes before the first of this byte, and those behind it
-abbrev pub split_first : ℕ → List ℕ → Option (List ℕ × List ℕ)
-split_first x bytes = option_map (parted_at bytes) (position (λ b. b == x) bytes)
 
 -- there are two parts, and both are whole numbers
 abbrev pub are_whole : Option (List ℕ × List ℕ) → Bool
@@ -24,8 +17,7 @@ abbrev pub is_fraction : List ℕ → Bool
 is_fraction field = are_whole (split_first 47 field)
 
 -- A number is a float as Rust reads one: a sign or none, digits with a point or none, an exponent or none; or `inf`,
--- `infinity` or `nan`
--- in any case. Or it is a fraction.
+-- `infinity` or `nan` in any case. Or it is a fraction.
 abbrev pub is_number : List ℕ → Bool
 is_number field = is_float_text field || is_fraction field
 

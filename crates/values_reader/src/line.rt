@@ -4,8 +4,8 @@ ghost use Rattle.std.specs.Prelude.{◌≡◌, ◌∷◌, Some, None, MatchOptio
 ghost use Rattle.text_lines.specs.Text.{fields_of, saturated};
 ghost use Rattle.values_reader.specs.Lines.{is_mark, is_closed, is_valuation, one_state, split_last, state_before, state_of, without_brackets};
 
-use crate::number::{split_at_first, value_in};
-use text_lines::{first_field, whole};
+use crate::number::value_in;
+use text_lines::{first_field, split_at_first, whole};
 
 fn mark(b: u8) -> bool
     ensures { result ≡ is_mark b }

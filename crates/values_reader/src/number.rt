@@ -2,31 +2,9 @@
 
 ghost use Rattle.std.specs.Prelude.{◌≡◌, ◌==◌, ◌<◌, Some, None, MatchOption, IfSome, is_some, position, length};
 ghost use Rattle.text_lines.specs.Text.{fields_of};
-ghost use Rattle.values_reader.specs.Lines.{is_fraction, is_number, is_value, split_first};
+ghost use Rattle.values_reader.specs.Lines.{is_fraction, is_number, is_value};
 
-use text_lines::{first_field, whole};
-
-fn place_of_byte(x: u8, bytes: &[u8]) -> Option<usize>
-    ensures place { result ≡ position (λ b. b == x) bytes.now }
-    ensures within { IfSome result (λ place. place < length bytes.now) }
-{
-    bytes.iter().position(|b| *b == x)
-}
-
-/// What stands before the first of a byte, and behind it.
-pub fn split_at_first(x: u8, bytes: &[u8]) -> Option<(&[u8], &[u8])>
-    ensures { MatchOption result (split_first x bytes.now ≡ None)
-        (λ r. split_first x bytes.now ≡ Some (r.0.now, r.1.now)) }
-{
-    match place_of_byte(x, bytes) {
-        Some(place) => {
-            let (front, _) = bytes.split_at(place);
-            let (_, back) = bytes.split_at(place + 1);
-            Some((front, back))
-        }
-        None => None,
-    }
-}
+use text_lines::{first_field, split_at_first, whole};
 
 // The float that digits write.
 fn float_of(digits: &[u8]) -> f64 {

@@ -1,6 +1,6 @@
 use Rattle.std.proofs.Common.{false, get_or, not, ◌&&◌}
 use Rattle.formula_sets.proofs.Asking.{pushed-more}
-use Rattle.nested_truth.proofs.questions.lost.Goals as goal
+use Rattle.nested_truth.proofs.questions.deads_of.Goals as goal
 
 pub loop-place-preserved : goal.loop-place-preserved
 loop-place-preserved c =
