@@ -129,17 +129,18 @@ module _ (game : List (List Distribution)) (labels : Labelling) (owners : Owners
       → PosesProblem game labels owners formula problem
   poses_by Until formula problem flat of is =
       let r = posed_ok OfQuestion (pose_said game labels owners formula) OfReach problem is in
-      let at = reaches formula r.0 (sym of) (tt, pose-found game labels owners formula r.0 r.1) in
+      let at = reaches formula r.0 (sym of) (tt, pose-found game labels owners formula r.0 flat r.1) in
       subst (PosesProblem game labels owners formula) r.2 (flat, at.0, at.1)
   poses_by (Within k) formula problem flat of is =
       let r = posed_ok OfQuestion (pose_said game labels owners formula) (OfWithin k) problem is in
-      subst (PosesProblem game labels owners formula) r.2 (flat, of, pose-found game labels owners formula r.0 r.1)
+      subst (PosesProblem game labels owners formula) r.2 (flat, of, pose-found game labels owners formula r.0 flat r.1)
   poses_by Next formula problem flat of is =
       let r = posed_ok OfQuestion (pose_next_said game labels owners formula) OfNext problem is in
-      subst (PosesProblem game labels owners formula) r.2 (flat, of, pose_next-found game labels owners formula r.0 r.1)
+      subst (PosesProblem game labels owners formula) r.2
+      (flat, of, pose_next-found game labels owners formula r.0 flat r.1)
   poses_by Always formula problem flat of is =
       let r = posed_ok OfQuestion (pose_said game labels owners (dual_of formula)) OfReach problem is in
-      let at = reaches formula r.0 (sym of) (tt, pose-found game labels owners (dual_of formula) r.0 r.1) in
+      let at = reaches formula r.0 (sym of) (tt, pose-found game labels owners (dual_of formula) r.0 flat r.1) in
       subst (PosesProblem game labels owners formula) r.2 (flat, at.0, at.1)
 
   -- with formulas inside, or with none

@@ -13,7 +13,7 @@ use Rattle.game_model.specs.Game.{Distribution}
 use Rattle.game_model.specs.Query.{Query}
 use Rattle.label_reader.specs.Labels.{Labelling, is_known, states_with}
 use Rattle.label_reader.specs.Owners.{Ownership, is_player}
-use Rattle.rpatl_syntax.specs.Formula.{Tree}
+use Rattle.rpatl_syntax.specs.Formula.{Tree, IsFlat}
 use Rattle.formula_sets.specs.declared.fault.PoseFault.{PoseFault}
 use Rattle.formula_sets.specs.Truth.{holds, unknown_label}
 use Rattle.formula_sets.specs.Sides.{side_of, unknown_player}
@@ -160,13 +160,14 @@ module _ (game : List (List Distribution)) (l : Labelling) (o : Ownership) (f : 
   posing : List ℕ → Posing
   posing initial = record { question = question_of game l o f; initial = initial }
 
-  pub pose-found : (p : Posing) → pose_said game l o f ≡ Ok p → Poses game l o f p
+  pub pose-found : (p : Posing) → IsFlat f → pose_said game l o f ≡ Ok p → Poses game l o f p
   unfolding posing
-  pose-found p is =
+  pose-found p flat is =
       let n = length game in
       let made = made-found l o f posing (initial_said l o f) p refl is in
       let P : Posing → Type 0 = λ x. Poses game l o f x in
       subst P made.1 (record {
+        flat = flat;
         set_up = set_up (at_states (holds l f.right) n) (at_states (neither_holds l f) n) made.0
             (length-at_states (holds l f.right) n) (length-at_states (neither_holds l f) n) made.2;
         goals = λ s h. at_states-at (holds l f.right) n s false h;

@@ -10,7 +10,7 @@ use Rattle.game_model.specs.Limits.{unit}
 use Rattle.game_model.specs.Query.{Query}
 use Rattle.label_reader.specs.Labels.{Labelling}
 use Rattle.label_reader.specs.Owners.{Ownership}
-use Rattle.rpatl_syntax.specs.Formula.{Tree}
+use Rattle.rpatl_syntax.specs.Formula.{Tree, IsFlat}
 use Rattle.formula_sets.specs.declared.fault.PoseFault.{PoseFault}
 use Rattle.formula_sets.specs.Truth.{holds}
 use Rattle.formula_sets.specs.Posing.{NextPosing, PosesNext, at_states, opening_at, unmarked, next_question_of}
@@ -51,13 +51,14 @@ module _ (game : List (List Distribution)) (l : Labelling) (o : Ownership) (f : 
     initial = initial;
   }
 
-  pub pose_next-found : (p : NextPosing) → pose_next_said game l o f ≡ Ok p → PosesNext game l o f p
+  pub pose_next-found : (p : NextPosing) → IsFlat f → pose_next_said game l o f ≡ Ok p → PosesNext game l o f p
   unfolding posing
-  pose_next-found p is =
+  pose_next-found p flat is =
       let n = length game in
       let made = made-found l o f posing (initial_said l o f) p refl is in
       let P : NextPosing → Type 0 = λ x. PosesNext game l o f x in
       subst P made.1 (record {
+        flat = flat;
         set_up = set_up game l o f (unmarked n) (unmarked n) made.0 (length-at_states (λ s. false) n)
             (length-at_states (λ s. false) n) made.2;
         goals = λ s h. at_states-at (λ s. false) n s false h;

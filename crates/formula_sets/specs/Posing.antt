@@ -9,7 +9,7 @@ use Rattle.label_reader.specs.Labels.{Labelling, is_known, states_with}
 use Rattle.label_reader.specs.Owners.{Ownership, is_player}
 use Rattle.rpatl_syntax.specs.declared.formula.PathKind.{PathKind}
 use Rattle.rpatl_syntax.specs.declared.formula.PathKind.TheVariants.{Until, Within, Next, Always}
-use Rattle.rpatl_syntax.specs.Formula.{Tree}
+use Rattle.rpatl_syntax.specs.Formula.{Tree, IsFlat}
 use Rattle.formula_sets.specs.declared.fault.PoseFault.{PoseFault}
 use Rattle.formula_sets.specs.declared.fault.PoseFault.TheVariants.{OutOfMemory, UnknownLabel, UnknownPlayer, NoInit}
 use Rattle.formula_sets.specs.Truth.{holds, labels_in, unknown_label}
@@ -76,16 +76,19 @@ pub record IsSetUp (game : List (List Distribution)) (l : Labelling) (o : Owners
   pub starts : initial ≡ states_with l init
   pub some : initial ≢ []
 
--- with `U`: goals are the states where the right side holds, and dead those where neither side does
+-- with `U`: goals are the states where the right side holds, and dead those where neither side does; no formula stands
+-- inside
 pub record Poses (game : List (List Distribution)) (l : Labelling) (o : Ownership) (f : Tree)
     (p : Posing) : Type 0 where
+  pub flat : IsFlat f
   pub set_up : IsSetUp game l o f p.question p.initial
   pub goals : (s : ℕ) → s < length game → is_goal p.question s ≡ holds l f.right s
   pub deads : (s : ℕ) → s < length game → is_dead p.question s ≡ neither_holds l f s
 
--- with `X`: no marks, and an opening table
+-- with `X`: no marks, and an opening table; no formula stands inside
 pub record PosesNext (game : List (List Distribution)) (l : Labelling) (o : Ownership) (f : Tree)
     (p : NextPosing) : Type 0 where
+  pub flat : IsFlat f
   pub set_up : IsSetUp game l o f p.question p.initial
   pub goals : (s : ℕ) → s < length game → is_goal p.question s ≡ false
   pub deads : (s : ℕ) → s < length game → is_dead p.question s ≡ false

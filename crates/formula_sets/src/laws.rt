@@ -4,13 +4,13 @@ ghost use Rattle.std.specs.Prelude.{◌≡◌, ◌↔◌, List, Ok};
 ghost use Rattle.game_model.specs.Game.{Distribution};
 ghost use Rattle.label_reader.specs.Labels.{Labelling};
 ghost use Rattle.label_reader.specs.Owners.{Ownership};
-ghost use Rattle.rpatl_syntax.specs.Formula.{Tree};
+ghost use Rattle.rpatl_syntax.specs.Formula.{Tree, IsFlat};
 ghost use Rattle.formula_sets.specs.Posing.{Posing, NextPosing, Poses, PosesNext, pose_said, pose_next_said};
 
-/// The question that is posed is the one that the formula poses.
+/// The question that is posed of a formula with none inside is the one that it poses.
 pub fn questions_are_those_that_a_formula_poses()
-    ensures until { (game : List (List Distribution)) (l : Labelling) (o : Ownership) (f : Tree) (p : Posing) →
-        (pose_said game l o f ≡ Ok p) ↔ Poses game l o f p }
-    ensures next { (game : List (List Distribution)) (l : Labelling) (o : Ownership) (f : Tree) (p : NextPosing) →
-        (pose_next_said game l o f ≡ Ok p) ↔ PosesNext game l o f p }
+    ensures until { (game : List (List Distribution)) (l : Labelling) (o : Ownership) (f : Tree) (p : Posing)
+        → IsFlat f → (pose_said game l o f ≡ Ok p) ↔ Poses game l o f p }
+    ensures next { (game : List (List Distribution)) (l : Labelling) (o : Ownership) (f : Tree) (p : NextPosing)
+        → IsFlat f → (pose_next_said game l o f ≡ Ok p) ↔ PosesNext game l o f p }
 {}

@@ -1,6 +1,6 @@
 -- The header of a label file or an owner file: its items, or its first fault.
 use Rattle.std.specs.Prelude.{◌==◌, ◌&&◌, ◌||◌, ◌+◌, ◌-◌, ℕ, nat_le, nat_lt, not, Bool, List, [], ◌∷◌, ◌++◌, length}
-use Rattle.std.specs.Prelude.{take, drop, slice_index, position, Option, Some, None, option_map, option_and_then}
+use Rattle.std.specs.Prelude.{take, drop, slice_index, Option, Some, None, option_map, option_and_then}
 use Rattle.std.specs.Prelude.{is_some, if◌then◌else◌, bytes_eq, Result, Ok, Err}
 use Rattle.std.specs.List.{list_any, list_all}
 use Rattle.text_lines.specs.Text.{number_of, is_digit, saturated}

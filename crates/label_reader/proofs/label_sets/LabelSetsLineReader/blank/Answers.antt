@@ -10,6 +10,6 @@ pub returns : goal.returns
 returns c =
     let n = c.args.self.now.states in
     let items = c.args.self.now.header in
-    λ line lines blank. AnswersBehind-fault LabelFile n (labelling n) items c.args.number line lines
+    rw c.at.ensures (λ line lines blank. AnswersBehind-fault LabelFile n (labelling n) items c.args.number line lines
     (λ read. AreMarked n items (is_said read) c.args.self.now.sets.items) BadField
-    (λ read before. add_line-blank LabelFile n items read line blank)
+    (λ read before. add_line-blank LabelFile n items read line blank))

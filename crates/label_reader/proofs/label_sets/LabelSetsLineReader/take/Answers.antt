@@ -30,9 +30,10 @@ returns-in-Err-mark_all-clause-fault c =
     let items = self.header in
     let unknown = known_line-fault n items c.args.line.now c.in-Ok.state (fields_of c.in-Ok.numbers.now)
     c.in-Err-mark_all.cause c.in-Ok.ensures.line c.in-Ok.ensures.range (sym c.in-Err-mark_all.ensures.known) in
-    λ lines. AnswersBehind-fault LabelFile n (labelling n) items c.args.number c.args.line.now lines
+    rw c.at-in-Err-mark_all.ensures
+    (λ lines. AnswersBehind-fault LabelFile n (labelling n) items c.args.number c.args.line.now lines
     (λ read. AreMarked n items (is_said read) self.sets.items) c.in-Err-mark_all.cause
-    (λ read before. add_line-unknown LabelFile n items read c.args.line.now c.in-Err-mark_all.cause unknown)
+    (λ read before. add_line-unknown LabelFile n items read c.args.line.now c.in-Err-mark_all.cause unknown))
 
 pub returns-in-Ok-mark_all-clause-ok : goal.returns-in-Ok-mark_all-clause-ok
 returns-in-Ok-mark_all-clause-ok c =

@@ -10,6 +10,6 @@ pub returns : goal.returns
 returns c =
     let n = c.args.self.now.states in
     let items = c.args.self.now.header in
-    λ line lines blank. AnswersBehind-fault OwnerFile n (ownership n) items c.args.number line lines
+    rw c.at.ensures (λ line lines blank. AnswersBehind-fault OwnerFile n (ownership n) items c.args.number line lines
     (λ read. AreRead n items read c.args.self.now.owners.items) BadField
-    (λ read before. add_line-blank OwnerFile n items read line blank)
+    (λ read before. add_line-blank OwnerFile n items read line blank))

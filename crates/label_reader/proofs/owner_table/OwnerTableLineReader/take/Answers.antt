@@ -36,10 +36,11 @@ returns-in-Err-owner_behind-clause-fault c =
     let named =
     named_is self.owners.items n c.in-Ok.state c.index.result.now self.count c.in-Ok.ensures.range c.index.ensures in
     let fault = c.in-Err-owner_behind.ensures ∙ ap (λ o. owner_behind items c.in-Ok.state o fields) named in
-    λ lines. AnswersBehind-fault OwnerFile n (ownership n) items c.args.number c.args.line.now lines
+    rw c.at-in-Err-owner_behind.ensures
+    (λ lines. AnswersBehind-fault OwnerFile n (ownership n) items c.args.number c.args.line.now lines
     (λ read. AreRead n items read self.owners.items) cause
     (λ read before. owner_behind-line n items c.args.line.now c.in-Ok.state fields c.in-Ok.ensures.line
-    c.in-Ok.ensures.range read self.owners.items before (Err cause) fault)
+    c.in-Ok.ensures.range read self.owners.items before (Err cause) fault))
 
 pub returns-in-Ok-owner_behind-clause-ok : goal.returns-in-Ok-owner_behind-clause-ok
 returns-in-Ok-owner_behind-clause-ok c =
