@@ -7,12 +7,12 @@ use Rattle.rpatl_syntax.specs.Formula.{Tree, tree_of}
 use Rattle.formula_sets.specs.Posing.{initial_said}
 use Rattle.formula_sets.specs.Seen.{posing_of, next_posing_of}
 use Rattle.asked_files.specs.declared.model.Loaded.{Loaded}
-use Rattle.asked_files.specs.declared.problem.Problem.{Problem as Posed}
+use Rattle.asked_files.specs.declared.problem.Problem.{Problem as Seen}
 use Rattle.asked_files.specs.declared.problem.Problem.TheVariants.{Reach, Within, Next, Nested}
 use Rattle.asked_files.specs.Problems.{Problem, OfReach, OfWithin, OfNext, OfNested, IsReaching}
 
 -- what contracts see of a problem that was posed
-abbrev pub problem_of : Posed → Problem
+abbrev pub problem_of : Seen → Problem
 problem_of (Reach posed dual) = OfReach (posing_of posed)
 problem_of (Within posed steps) = OfWithin steps (posing_of posed)
 problem_of (Next posed) = OfNext (next_posing_of posed)
@@ -23,7 +23,7 @@ problem_of (Nested loaded initial) = OfNested (record {
 }) initial.items
 
 -- beside the question of `G` stands its dual, and beside that of `F` and `U` none
-abbrev pub HasDual : Tree → Posed → Type 0
+abbrev pub HasDual : Tree → Seen → Type 0
 HasDual f (Reach posed None) = f.kind ≡ kind_of.Until
 HasDual f (Reach posed (Some dual)) = (f.kind ≡ kind_of.Always) × (tree_of dual ≡ dual_of f)
 HasDual f (Within posed steps) = Unit {0}
@@ -31,28 +31,28 @@ HasDual f (Next posed) = Unit {0}
 HasDual f (Nested loaded initial) = Unit {0}
 
 -- it is the problem of such paths
-abbrev pub IsOfKind : PathKind → Posed → Type 0
+abbrev pub IsOfKind : PathKind → Seen → Type 0
 IsOfKind kind (Reach posed dual) = IsReaching kind
 IsOfKind kind (Within posed steps) = kind ≡ kind_of.Within steps
 IsOfKind kind (Next posed) = kind ≡ kind_of.Next
 IsOfKind kind (Nested loaded initial) = Unit {0}
 
 -- goals are to be reached without a bound on the steps: of `G` those of its dual
-abbrev pub IsUnbounded : Posed → Type 0
+abbrev pub IsUnbounded : Seen → Type 0
 IsUnbounded (Reach posed dual) = Unit {0}
 IsUnbounded (Within posed steps) = ⊥
 IsUnbounded (Next posed) = ⊥
 IsUnbounded (Nested loaded initial) = ⊥
 
 -- a formula stands inside
-abbrev pub IsNested : Posed → Type 0
-IsNested (Reach posed dual) = ⊥
-IsNested (Within posed steps) = ⊥
-IsNested (Next posed) = ⊥
-IsNested (Nested loaded initial) = Unit {0}
+abbrev pub HasInside : Seen → Type 0
+HasInside (Reach posed dual) = ⊥
+HasInside (Within posed steps) = ⊥
+HasInside (Next posed) = ⊥
+HasInside (Nested loaded initial) = Unit {0}
 
 -- what was loaded stands in the problem of a formula with others inside, and these are its initial states
-abbrev pub IsOfLoaded : Loaded → Posed → Type 0
+abbrev pub IsOfLoaded : Loaded → Seen → Type 0
 IsOfLoaded other (Reach posed dual) = Unit {0}
 IsOfLoaded other (Within posed steps) = Unit {0}
 IsOfLoaded other (Next posed) = Unit {0}

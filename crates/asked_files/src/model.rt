@@ -13,7 +13,7 @@ ghost use Rattle.asked_files.specs.Said.{Refuses, read_said};
 ghost use Rattle.asked_files.specs.Loading.{LoadingLeaves, Loads, IsTooLong, ReadsNothing, EndsCaused};
 ghost use Rattle.asked_files.specs.Posed.{HasSizes, any_posed, formula_read, nested_posed, posed, posed_by, reading_of};
 ghost use Rattle.asked_files.specs.Problems.{initial_of, states_of};
-ghost use Rattle.asked_files.specs.SeenProblems.{HasDual, IsNested, IsOfKind, IsOfLoaded, IsUnbounded, problem_of};
+ghost use Rattle.asked_files.specs.SeenProblems.{HasDual, HasInside, IsOfKind, IsOfLoaded, IsUnbounded, problem_of};
 ghost use Rattle.asked_files.specs.Questions.{LacksText, Reads, ReadsAs};
 
 use crate::load::{End, load_game, load_labels, load_owners};
@@ -117,7 +117,7 @@ fn pose_any(alloc: Global, loaded: &Loaded, flat: bool) -> Result<Problem<'_>, E
     ensures dual { IfOk result (HasDual (tree_of loaded.now.formula)) }
     ensures same { IfOk result (IsOfLoaded loaded.now) }
     ensures inside { IfOk result (λ it. All (λ s. s < states_of (problem_of it)) (initial_of (problem_of it))) }
-    ensures form { IfOk result (λ it. IsNested it ↔ (flat ≡ false)) }
+    ensures form { IfOk result (λ it. HasInside it ↔ (flat ≡ false)) }
     ensures nothing { ReadsNothing result }
 {
     if flat {
@@ -131,7 +131,7 @@ fn pose_any(alloc: Global, loaded: &Loaded, flat: bool) -> Result<Problem<'_>, E
 fn pose_nested(alloc: Global, loaded: &Loaded) -> Result<Problem<'_>, End>
     requires sizes { HasSizes loaded.now.game loaded.now.labels loaded.now.owners }
     ensures says { Loads problem_of result (nested_posed (reading_of loaded.now)) }
-    ensures form { IfOk result IsNested }
+    ensures form { IfOk result HasInside }
     ensures same { IfOk result (IsOfLoaded loaded.now) }
     ensures inside { IfOk result (λ it. All (λ s. s < states_of (problem_of it)) (initial_of (problem_of it))) }
     ensures nothing { ReadsNothing result }
@@ -150,7 +150,7 @@ fn pose_kind(alloc: Global, loaded: &Loaded) -> Result<Problem<'_>, End>
     ensures kind { IfOk result (IsOfKind loaded.now.formula.kind) }
     ensures dual { IfOk result (HasDual (tree_of loaded.now.formula)) }
     ensures inside { IfOk result (λ it. All (λ s. s < states_of (problem_of it)) (initial_of (problem_of it))) }
-    ensures form { IfOk result (λ it. IsNested it → ⊥) }
+    ensures form { IfOk result (λ it. HasInside it → ⊥) }
     ensures nothing { ReadsNothing result }
 {
     match loaded.formula.kind {

@@ -58,7 +58,9 @@ fn solve_loaded<H: Shelf>(
 }
 
 // Values to begin with, where there are any.
-fn as_hints(read: &Option<Vec<f64>>) -> Option<&[f64]> {
+fn as_hints(read: &Option<Vec<f64>>) -> Option<&[f64]>
+    ensures { option_map (λ hints. hints.now) result ≡ option_map (λ values. values.items) read.now }
+{
     match read {
         Some(values) => Some(values),
         None => None,
