@@ -21,7 +21,7 @@ use Rattle.rpatl_syntax.specs.declared.formula.PathKind.{PathKind}
 use Rattle.rpatl_syntax.specs.declared.formula.PathKind.TheVariants.{Until, Within, Next, Always}
 use Rattle.rpatl_syntax.specs.Dual.{dual_of, answered_by}
 use Rattle.formula_sets.specs.Posing.{Model, Posing, Poses, initial_said, pose_said, pose_next_said}
-use Rattle.formula_sets.proofs.Asking.{pose-found, pose-again}
+use Rattle.formula_sets.proofs.Asking.{initial-found, initial-again, pose-found, pose-again}
 use Rattle.formula_sets.proofs.AskingNext.{pose_next-found, pose_next-again}
 use Rattle.run_refusals.specs.declared.refusal.Refusal.{Refusal}
 use Rattle.run_refusals.specs.declared.refusal.Refusal.TheVariants.{OfTra, OfLab, OfOwn, OfFormula, OfQuestion}
@@ -153,7 +153,7 @@ module _ (game : List (List Distribution)) (labels : Labelling) (owners : Owners
   any_poses formula problem false of is =
       let r = posed_ok OfQuestion (initial_said labels owners formula) (OfNested model) problem is in
       subst (PosesProblem game labels owners formula) r.2
-      (not_flat (is_flat formula.left && is_flat formula.right) of, refl, r.1)
+      (not_flat (is_flat formula.left && is_flat formula.right) of, refl, initial-found labels owners formula r.0 r.1)
 
   abbrev any_by : Tree → Bool → Said Problem
   any_by formula flat = cond flat (posed_by formula.kind (reading_with game labels owners formula))
@@ -184,9 +184,10 @@ module _ (game : List (List Distribution)) (labels : Labelling) (owners : Owners
   posed_again formula (OfNext p) (flat, of, poses) =
       flat_again formula (OfNext p) flat (rw of (ap (λ r. and_then (read_said OfQuestion r) (λ x. Denoted (OfNext x)))
       (pose_next-again game labels owners formula p poses)))
-  posed_again formula (OfNested m initial) (nested, of, said) =
+  posed_again formula (OfNested m initial) (nested, of, begins) =
       ap (any_by formula) (is_not_flat (is_flat formula.left && is_flat formula.right) nested)
-      ∙ (ap (λ r. and_then (read_said OfQuestion r) (λ x. Denoted (OfNested model x))) said
+      ∙ (ap (λ r. and_then (read_said OfQuestion r) (λ x. Denoted (OfNested model x)))
+      (initial-again labels owners formula initial begins)
       ∙ ap (λ m. Denoted (OfNested m initial)) (sym of))
 
 -- a problem that is said is taken

@@ -8,7 +8,7 @@ use Rattle.rpatl_syntax.specs.declared.formula.PathKind.{PathKind}
 use Rattle.rpatl_syntax.specs.declared.formula.PathKind.TheVariants.{Until, Within, Next, Always}
 use Rattle.rpatl_syntax.specs.Dual.{answered}
 use Rattle.rpatl_syntax.specs.Formula.{Tree, is_flat, IsFlat}
-use Rattle.formula_sets.specs.Posing.{Model, Posing, NextPosing, Poses, PosesNext, initial_said}
+use Rattle.formula_sets.specs.Posing.{Model, Posing, NextPosing, BeginsAt, Poses, PosesNext}
 use Rattle.asked_files.specs.declared.problem.Paths.{Paths}
 use Rattle.asked_files.specs.declared.problem.Paths.TheVariants.{Any, Unbounded, Reaching}
 
@@ -56,7 +56,7 @@ PosesProblem game l o f (OfReach p) = IsFlat f × IsReaching f.kind × Poses gam
 PosesProblem game l o f (OfWithin k p) = IsFlat f × (f.kind ≡ Within k) × Poses game l o f p
 PosesProblem game l o f (OfNext p) = IsFlat f × (f.kind ≡ Next) × PosesNext game l o f p
 PosesProblem game l o f (OfNested m initial) = (¬ IsFlat f) × (m ≡ record { game = game; labels = l; owners = o })
-    × (initial_said l o f ≡ Ok initial)
+    × BeginsAt l o f initial
 
 -- 2. Which formulas a command takes.
 

@@ -17,7 +17,7 @@ use Rattle.rpatl_syntax.specs.Formula.{Tree, IsFlat}
 use Rattle.formula_sets.specs.declared.fault.PoseFault.{PoseFault}
 use Rattle.formula_sets.specs.Truth.{holds, unknown_label}
 use Rattle.formula_sets.specs.Sides.{side_of, unknown_player}
-use Rattle.formula_sets.specs.Posing.{Posing, IsSetUp, Poses, init, formula_labels, formula_players, neither_holds}
+use Rattle.formula_sets.specs.Posing.{Posing, BeginsAt, IsSetUp, Poses, init, formula_labels, formula_players, neither_holds}
 use Rattle.formula_sets.specs.Posing.{at_states, question_with, question_of, some_state, known_with, initial_said}
 use Rattle.formula_sets.specs.Posing.{made_of, pose_said}
 
@@ -73,18 +73,11 @@ refused-none test (name ∷ names) h =
 -- 3. What is said of the initial states.
 
 module _ (l : Labelling) (o : Ownership) (f : Tree) where
-  -- the names are there, and these are the initial states
-  pub record IsBegun (initial : List ℕ) : Type 0 where
-    pub labels : All (λ name. is_known l name ≡ true) (formula_labels f)
-    pub players : All (λ name. is_player o name ≡ true) (formula_players f)
-    pub starts : initial ≡ states_with l init
-    pub some : initial ≢ []
-
   begun : (found initial : List ℕ) → found ≡ states_with l init → unknown_label l (formula_labels f) ≡ None
-      → unknown_player o (formula_players f) ≡ None → some_state found ≡ Ok initial → IsBegun initial
+      → unknown_player o (formula_players f) ≡ None → some_state found ≡ Ok initial → BeginsAt l o f initial
   begun [] initial starts label player is = cc
   begun (s ∷ found) initial starts label player is =
-      let P : List ℕ → Type 0 = λ xs. IsBegun xs in
+      let P : List ℕ → Type 0 = λ xs. BeginsAt l o f xs in
       let same : s ∷ found ≡ initial = cc in
       subst P same (record {
         labels = none-refused (is_known l) (formula_labels f) label;
@@ -95,12 +88,12 @@ module _ (l : Labelling) (o : Ownership) (f : Tree) where
 
   said : (label player : Option (List ℕ)) (initial : List ℕ)
       → unknown_label l (formula_labels f) ≡ label → unknown_player o (formula_players f) ≡ player
-      → known_with label player (some_state (states_with l init)) ≡ Ok initial → IsBegun initial
+      → known_with label player (some_state (states_with l init)) ≡ Ok initial → BeginsAt l o f initial
   said (Some label) player initial known played is = cc
   said None (Some player) initial known played is = cc
   said None None initial known played is = begun (states_with l init) initial refl known played is
 
-  pub initial-found : (initial : List ℕ) → initial_said l o f ≡ Ok initial → IsBegun initial
+  pub initial-found : (initial : List ℕ) → initial_said l o f ≡ Ok initial → BeginsAt l o f initial
   initial-found initial is =
       said (unknown_label l (formula_labels f)) (unknown_player o (formula_players f)) initial refl refl is
 
@@ -108,7 +101,7 @@ module _ (l : Labelling) (o : Ownership) (f : Tree) where
   begins [] some = absurd (some refl)
   begins (s ∷ states) some = refl
 
-  pub initial-again : (initial : List ℕ) → IsBegun initial → initial_said l o f ≡ Ok initial
+  pub initial-again : (initial : List ℕ) → BeginsAt l o f initial → initial_said l o f ≡ Ok initial
   initial-again initial h =
       ap (λ label. known_with label (unknown_player o (formula_players f)) (some_state (states_with l init)))
       (refused-none (is_known l) (formula_labels f) h.labels)
@@ -119,7 +112,8 @@ module _ (l : Labelling) (o : Ownership) (f : Tree) where
 
   -- what is made of them
   pub made-found : {X : Type 0} (make : List ℕ → X) (said : Result (List ℕ) PoseFault) (x : X)
-      → initial_said l o f ≡ said → made_of make said ≡ Ok x → (initial : List ℕ) × (make initial ≡ x) × IsBegun initial
+      → initial_said l o f ≡ said → made_of make said ≡ Ok x → (initial : List ℕ) × (make initial ≡ x)
+      × BeginsAt l o f initial
   made-found make (Ok initial) x is made = (initial, (cc), initial-found initial is)
   made-found make (Err fault) x is made = absurd (cc)
 
@@ -127,21 +121,15 @@ module _ (l : Labelling) (o : Ownership) (f : Tree) where
 
 module _ (game : List (List Distribution)) (l : Labelling) (o : Ownership) (f : Tree) where
   pub set_up : (goals deads : List Bool) (initial : List ℕ) → length goals ≡ length game → length deads ≡ length game
-      → IsBegun l o f initial → IsSetUp game l o f (question_with game o f goals deads) initial
+      → BeginsAt l o f initial → IsSetUp game l o f (question_with game o f goals deads) initial
   set_up goals deads initial goal_count dead_count h = record {
-    labels = h.labels;
-    players = h.players;
+    begins = h;
     game_same = refl;
     side_count = length-at_states (side_of f.coalition f.bound o) (length game);
     goal_count = goal_count;
     dead_count = dead_count;
     sides = λ s k. at_states-at (side_of f.coalition f.bound o) (length game) s Max k;
-    starts = h.starts;
-    some = h.some;
   }
-
-  pub is_begun : (question : Query) (initial : List ℕ) → IsSetUp game l o f question initial → IsBegun l o f initial
-  is_begun question initial h = record { labels = h.labels; players = h.players; starts = h.starts; some = h.some }
 
   pub question-same : (question : Query) (initial : List ℕ) (goals deads : List Bool)
       → IsSetUp game l o f question initial → question.goals ≡ goals → question.deads ≡ deads
@@ -183,4 +171,4 @@ module _ (game : List (List Distribution)) (l : Labelling) (o : Ownership) (f : 
       let same = question-same p.question p.initial (at_states (holds l f.right) n)
       (at_states (neither_holds l f) n) h.set_up goals deads in
       let whole : Query → Result Posing PoseFault = λ q. Ok (record { question = q; initial = p.initial }) in
-      ap (made_of posing) (initial-again l o f p.initial (is_begun p.question p.initial h.set_up)) ∙ ap whole same
+      ap (made_of posing) (initial-again l o f p.initial h.set_up.begins) ∙ ap whole same

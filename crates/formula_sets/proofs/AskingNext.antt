@@ -15,7 +15,7 @@ use Rattle.formula_sets.specs.declared.fault.PoseFault.{PoseFault}
 use Rattle.formula_sets.specs.Truth.{holds}
 use Rattle.formula_sets.specs.Posing.{NextPosing, PosesNext, at_states, opening_at, unmarked, next_question_of}
 use Rattle.formula_sets.specs.Posing.{initial_said, made_of, pose_next_said}
-use Rattle.formula_sets.proofs.Asking.{at_states-at, length-at_states, made-found, initial-again, set_up, is_begun}
+use Rattle.formula_sets.proofs.Asking.{at_states-at, length-at_states, made-found, initial-again, set_up}
 use Rattle.formula_sets.proofs.Asking.{question-same}
 
 pub never_marked : (n s : ℕ) → slice_index_or (unmarked n) s false ≡ false
@@ -77,6 +77,6 @@ module _ (game : List (List Distribution)) (l : Labelling) (o : Ownership) (f : 
       let same = question-same game l o f p.question p.initial (unmarked n) (unmarked n) h.set_up goals deads in
       let whole : Query → List ℕ → Result NextPosing PoseFault =
       λ q table. Ok (record { question = q; opening = table; initial = p.initial }) in
-      ap (made_of posing) (initial-again l o f p.initial (is_begun game l o f p.question p.initial h.set_up))
+      ap (made_of posing) (initial-again l o f p.initial h.set_up.begins)
       ∙ ap (λ q. whole q (at_states (opening_at l f) n)) same
       ∙ ap (whole p.question) (sym opening)

@@ -61,20 +61,22 @@ opening_at l f s = if holds l f.right s then unit else 0
 
 -- 1. The question, as a relation.
 
--- whatever the path: the names in the formula are there, and the question is of this game, with the formula's sides and
--- the initial states
-pub record IsSetUp (game : List (List Distribution)) (l : Labelling) (o : Ownership) (f : Tree) (question : Query)
-    (initial : List ℕ) : Type 0 where
+-- the names in the formula are there, and these are the initial states: those with the label `init`, at least one
+pub record BeginsAt (l : Labelling) (o : Ownership) (f : Tree) (initial : List ℕ) : Type 0 where
   pub labels : All (λ name. is_known l name ≡ true) (formula_labels f)
   pub players : All (λ name. is_player o name ≡ true) (formula_players f)
+  pub starts : initial ≡ states_with l init
+  pub some : initial ≢ []
+
+-- whatever the path: the question is of this game, with the formula's sides, and begins at these states
+pub record IsSetUp (game : List (List Distribution)) (l : Labelling) (o : Ownership) (f : Tree) (question : Query)
+    (initial : List ℕ) : Type 0 where
+  pub begins : BeginsAt l o f initial
   pub game_same : question.game ≡ game
   pub side_count : length question.sides ≡ length game
   pub goal_count : length question.goals ≡ length game
   pub dead_count : length question.deads ≡ length game
   pub sides : (s : ℕ) → s < length game → side_at question s ≡ side_of f.coalition f.bound o s
-  -- the initial states are those with the label `init`, at least one
-  pub starts : initial ≡ states_with l init
-  pub some : initial ≢ []
 
 -- with `U`: goals are the states where the right side holds, and dead those where neither side does; no formula stands
 -- inside

@@ -17,7 +17,6 @@ use Rattle.rpatl_syntax.specs.Rules.{DenotesFormula}
 use Rattle.rpatl_syntax.specs.Spellable.{IsSpellable}
 use Rattle.rpatl_syntax.specs.Spelling.{spelling}
 use Rattle.formula_sets.specs.Posing.{Posing, init}
-use Rattle.formula_sets.proofs.Asking.{initial-found}
 use Rattle.command_words.specs.Words.{Asked, Check, Audit, Command, OfCheck, OfAudit, OfSolve, OfMake, OfSure}
 use Rattle.command_words.specs.Words.{AreCommand}
 use Rattle.run_answers.specs.declared.status.Status.{Status}
@@ -68,11 +67,10 @@ game-few text game denotes = omega (arith, denotes.states, denotes.is_header.few
 -- the initial states of a problem are those with the label
 problem-starts : (game : List (List Distribution)) (labels : Labelling) (owners : Ownership) (f : Tree)
     (problem : Problem) → PosesProblem game labels owners f problem → initial_of problem ≡ states_with labels init
-problem-starts game labels owners f (OfReach p) (flat, of, poses) = poses.set_up.starts
-problem-starts game labels owners f (OfWithin k p) (flat, of, poses) = poses.set_up.starts
-problem-starts game labels owners f (OfNext p) (flat, of, poses) = poses.set_up.starts
-problem-starts game labels owners f (OfNested m initial) (nested, of, said) =
-    (initial-found labels owners f initial said).starts
+problem-starts game labels owners f (OfReach p) (flat, of, poses) = poses.set_up.begins.starts
+problem-starts game labels owners f (OfWithin k p) (flat, of, poses) = poses.set_up.begins.starts
+problem-starts game labels owners f (OfNext p) (flat, of, poses) = poses.set_up.begins.starts
+problem-starts game labels owners f (OfNested m initial) (nested, of, begins) = begins.starts
 
 pub initial-few : (paths : Paths) (sources : Sources) (asked : Asked) (problem : Problem)
     → Asks paths sources asked problem → length (initial_of problem) ≤ most_states

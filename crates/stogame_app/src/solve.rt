@@ -1,6 +1,6 @@
 //! The answer of `solve`: bounds that a solver finds, where they pass the checks of an audit.
 
-ghost use Rattle.std.specs.Prelude.{◌≡◌, ◌≤◌, Ok};
+ghost use Rattle.std.specs.Prelude.{◌≡◌, ◌≤◌, Ok, option_map};
 ghost use Rattle.text_lines.specs.Limits.{most_bytes};
 ghost use Rattle.rpatl_syntax.specs.Dual.{IsAtMostOne};
 ghost use Rattle.command_words.specs.Words.{OfSolve, solve_of};
