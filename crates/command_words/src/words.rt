@@ -113,7 +113,11 @@ fn read_command<'a>(
         "check" => Ok(read_check(alloc, words)?.map(CommandWords::Check)),
         "audit" => Ok(read_audit(alloc, words)?.map(CommandWords::Audit)),
         "solve" => Ok(read_solve(alloc, words)?.map(CommandWords::Solve)),
-        "make" => Ok(read_make(alloc, words)?.map(CommandWords::Make)),
+        // (what is made borrows nothing, which a proof over `map` does not cover)
+        "make" => match read_make(alloc, words)? {
+            Some(make) => Ok(Some(CommandWords::Make(make))),
+            None => Ok(None),
+        },
         "sure" => Ok(read_sure(alloc, words)?.map(CommandWords::Sure)),
         _ => Ok(None),
     }

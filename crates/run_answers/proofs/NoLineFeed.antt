@@ -6,7 +6,7 @@ use Rattle.std.specs.Prelude.{◌==◌, nat_lt, codes, decimal, if◌then◌else
 use Rattle.std.specs.List.{list_all, AllByRecursion}
 use Rattle.std.proofs.lemmas.Fmt.{decimal_by_steps_wide}
 use Rattle.text_lines.specs.Laws.{HasNo}
-use Rattle.label_reader.specs.Header.{split_first}
+use Rattle.text_lines.specs.Parts.{split_first}
 use Rattle.label_reader.proofs.Splits.{split_first-again}
 use Rattle.distributions.specs.Fraction.{Fraction}
 use Rattle.rpatl_syntax.specs.declared.formula.Bound.{Bound}
