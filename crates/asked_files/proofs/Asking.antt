@@ -1,6 +1,7 @@
 -- What texts and words say by cases is what they ask.
 use Rattle.std.proofs.Common.{◌≡◌, ◌&&◌, ℕ, Bool, true, false, cond, List, length, Option, Some, None, Result, Ok, Err}
 use Rattle.std.proofs.Common.{refl, sym, ap, subst, ◌∙◌}
+use Rattle.std.proofs.lemmas.Bool.{and_parts}
 use Rattle.game_model.specs.Game.{Distribution}
 use Rattle.distributions.proofs.Said.{number-found, number-again}
 use Rattle.distributions.proofs.Chosen.{choice-found, choice-again}
@@ -140,7 +141,8 @@ module _ (game : List (List Distribution)) (labels : Labelling) (owners : Owners
       (flat, of, pose_next-found game labels owners formula r.0 flat r.1)
   poses_by Always formula problem flat of is =
       let r = posed_ok OfQuestion (pose_said game labels owners (dual_of formula)) OfReach problem is in
-      let at = reaches formula r.0 (sym of) (tt, pose-found game labels owners (dual_of formula) r.0 flat r.1) in
+      let right = (and_parts (is_flat formula.left) (is_flat formula.right) flat).1 in
+      let at = reaches formula r.0 (sym of) (tt, pose-found game labels owners (dual_of formula) r.0 right r.1) in
       subst (PosesProblem game labels owners formula) r.2 (flat, at.0, at.1)
 
   -- with formulas inside, or with none

@@ -1,5 +1,5 @@
 -- What a formula asks of a game, and which formulas a command takes.
-use Rattle.std.specs.Prelude.{◌≡◌, ◌&&◌, ℕ, Bool, true, false, List, length, Option, Some, None, Ok, if◌then◌else◌}
+use Rattle.std.specs.Prelude.{◌≡◌, ◌&&◌, ℕ, Bool, true, false, List, length, Option, Some, None, if◌then◌else◌}
 use Rattle.game_model.specs.Game.{Distribution}
 use Rattle.game_model.specs.Query.{states}
 use Rattle.label_reader.specs.Labels.{Labelling}
