@@ -3,7 +3,7 @@ use Rattle.std.proofs.Common.{◌≡◌, ◌&&◌, ℕ, Bool, true, false, cond,
 use Rattle.std.proofs.Common.{refl, sym, ap, subst, ◌∙◌}
 use Rattle.std.proofs.lemmas.Bool.{and_parts}
 use Rattle.game_model.specs.Game.{Distribution}
-use Rattle.distributions.proofs.Said.{number-found, number-again}
+use Rattle.fractions.proofs.Said.{number-found, number-again}
 use Rattle.distributions.proofs.Chosen.{choice-found, choice-again}
 use Rattle.tra_reader.specs.Text.{DenotesGame, game_of}
 use Rattle.tra_reader.proofs.TextLaws.{text_found, text_again}

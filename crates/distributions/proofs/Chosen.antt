@@ -11,14 +11,14 @@ use Rattle.game_model.proofs.RisingEdges.{IsRising-from, weighty-from, RiseFrom-
 use Rattle.distributions.specs.declared.choice.Part.{Part}
 use Rattle.distributions.specs.declared.choice.ChoiceFault.{ChoiceFault}
 use Rattle.distributions.specs.declared.choice.ChoiceFault.TheVariants.{BadSum}
-use Rattle.distributions.specs.Divisors.{gcd_within, gcd, lcm}
+use Rattle.fractions.specs.Divisors.{gcd_within, gcd, lcm}
 use Rattle.distributions.specs.Limits.{tolerance}
 use Rattle.distributions.specs.Parts.{edge_of_part, weighted, distance, DenotesChoice, denominator_said, gathered}
 use Rattle.distributions.specs.Parts.{sum_said, with_total, choice_over, choice_said}
 use Rattle.distributions.proofs.Gathering.{gives, gathered-rises, gathered-weights, gathered-only}
 use Rattle.distributions.proofs.Multiples.{AreKept, over, over-is, ge-from, ge-test, common-same, denominator-found}
 use Rattle.distributions.proofs.Multiples.{denominator-again, denominator-is}
-use Rattle.distributions.proofs.Grammar.{chosen}
+use Rattle.fractions.proofs.Grammar.{chosen}
 
 ok-same : (d e : Distribution) → ◌≡◌ {A = Result Distribution ChoiceFault} (Ok d) (Ok e) → d ≡ e
 ok-same d e h = cc

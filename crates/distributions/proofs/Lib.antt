@@ -1,13 +1,3 @@
-pub mod Euclid
-pub mod Powers
-pub mod Wide
-pub mod Spelled
-pub mod Terms
-pub mod Factors
-pub mod Grammar
-pub mod Said
-pub mod ShortSaid
 pub mod Gathering
 pub mod Multiples
 pub mod Chosen
-mod Examples

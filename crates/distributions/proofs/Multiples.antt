@@ -11,12 +11,12 @@ use Rattle.std.proofs.Math.Seq.{drop-cons}
 use Rattle.distributions.specs.declared.choice.Part.{Part}
 use Rattle.distributions.specs.declared.choice.ChoiceFault.{ChoiceFault}
 use Rattle.distributions.specs.declared.choice.ChoiceFault.TheVariants.{TooFine}
-use Rattle.distributions.specs.Limits.{finest, most_value}
-use Rattle.distributions.specs.Divisors.{lcm}
-use Rattle.distributions.specs.Fraction.{IsFraction}
+use Rattle.fractions.specs.Limits.{finest, most_value}
+use Rattle.fractions.specs.Divisors.{lcm}
+use Rattle.fractions.specs.Fraction.{IsFraction}
 use Rattle.distributions.specs.Parts.{denominator_said, IsCommonDenominator}
-use Rattle.distributions.proofs.Euclid.{lcm-left, lcm-right, lcm-least, lcm-pos}
-use Rattle.distributions.proofs.Grammar.{chosen}
+use Rattle.fractions.proofs.Euclid.{lcm-left, lcm-right, lcm-least, lcm-pos}
+use Rattle.fractions.proofs.Grammar.{chosen}
 
 pub lcm_some : (a b : ℕ) → 1 ≤ a → 1 ≤ b → 1 ≤ lcm a b
 lcm_some a b ha hb = lcm-pos a b ha hb

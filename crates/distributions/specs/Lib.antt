@@ -1,6 +1,3 @@
 pub mod Limits
-pub mod Divisors
-pub mod Fraction
-pub mod Number
 pub mod Parts
 pub mod inside

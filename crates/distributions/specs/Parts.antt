@@ -7,8 +7,9 @@ use Rattle.game_model.specs.Game.{Distribution, IsRising, weight_to, total_of}
 use Rattle.distributions.specs.declared.choice.Part.{Part}
 use Rattle.distributions.specs.declared.choice.ChoiceFault.{ChoiceFault}
 use Rattle.distributions.specs.declared.choice.ChoiceFault.TheVariants.{OutOfMemory, TooFine, BadSum}
-use Rattle.distributions.specs.Limits.{finest, tolerance}
-use Rattle.distributions.specs.Divisors.{lcm}
+use Rattle.fractions.specs.Limits.{finest}
+use Rattle.distributions.specs.Limits.{tolerance}
+use Rattle.fractions.specs.Divisors.{lcm}
 
 -- the destination of a part, and its share of the common denominator as a whole weight
 abbrev pub edge_of_part : ℕ → Part → Edge

@@ -4,15 +4,15 @@ ghost use Rattle.std.specs.Prelude.{◌≡◌, ◌<◌, ◌≤◌, ◌*◌, ◌/
 ghost use Rattle.std.specs.Option.{IfSome};
 ghost use Prim.Native.Nat.{◌∣◌};
 ghost use Rattle.game_model.specs.Game.{IsDistribution, IsRising, total_of};
-ghost use Rattle.distributions.specs.Limits.{finest, most_parts, most_value};
-ghost use Rattle.distributions.specs.Fraction.{IsFraction};
+ghost use Rattle.fractions.specs.Limits.{finest, most_value};
+ghost use Rattle.fractions.specs.Fraction.{IsFraction};
 ghost use Rattle.game_outside.specs.Answers.{AnswersOrWants};
+ghost use Rattle.distributions.specs.Limits.{most_parts};
 ghost use Rattle.distributions.specs.Parts.{choice_said, denominator_said, edge_of_part, weighted, sum_said, with_total, IsOutOfMemory};
 
-use crate::divisors::{MOST_NARROW, least_common_multiple};
-use crate::fraction::Frac;
 use crate::gather::gather;
 use crate::limits::TOLERANCE;
+use fractions::{Frac, MOST_NARROW, least_common_multiple};
 use game_model::{Choice, Edge};
 use std::alloc::{AllocError, Global};
 

@@ -2,7 +2,7 @@
 use Rattle.std.proofs.Common.{◌≡◌, ◌<◌, ◌≤◌, ◌*◌, ◌^◌, ℕ, false, List, map, Result, Ok, Err, sym, subst, arith}
 use Rattle.std.specs.Prelude.{All, IfOk, slice_index}
 use Rattle.std.proofs.lemmas.List.Elements.{All-map, All-weaker}
-use Rattle.distributions.proofs.Powers.{pow-pos}
+use Rattle.fractions.proofs.Powers.{pow-pos}
 use Rattle.game_model.proofs.Choices.{denominator-pos}
 use Rattle.game_model.specs.Limits.{unit}
 use Rattle.game_model.specs.Query.{Query, IsQuery, states}

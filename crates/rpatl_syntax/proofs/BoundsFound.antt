@@ -2,12 +2,12 @@
 use Rattle.std.proofs.Common.{◌≡◌, ◌∙◌, inl, inr, ℕ, List, [], ◌∷◌, true, cond, Result, Ok, Err, refl, ap, sym, subst}
 use Rattle.std.proofs.Common.{nat_lt}
 use Rattle.std.specs.Prelude.{codes, bytes_eq, ◌||◌}
-use Rattle.distributions.specs.Fraction.{Fraction}
-use Rattle.distributions.specs.Number.{number_said}
-use Rattle.distributions.specs.declared.number.NumberFault.{NumberFault}
-use Rattle.distributions.specs.declared.number.NumberFault.TheVariants.{NotANumber, TooManyDigits, ZeroDenominator}
-use Rattle.distributions.specs.declared.number.NumberFault.TheVariants.{TooFine, TooLarge}
-use Rattle.distributions.proofs.Said.{number-found}
+use Rattle.fractions.specs.Fraction.{Fraction}
+use Rattle.fractions.specs.Number.{number_said}
+use Rattle.fractions.specs.declared.number.NumberFault.{NumberFault}
+use Rattle.fractions.specs.declared.number.NumberFault.TheVariants.{NotANumber, TooManyDigits, ZeroDenominator}
+use Rattle.fractions.specs.declared.number.NumberFault.TheVariants.{TooFine, TooLarge}
+use Rattle.fractions.proofs.Said.{number-found}
 use Rattle.rpatl_syntax.specs.declared.fault.FormulaCause.TheVariants.{Unexpected, ThresholdOutOfRange, AskInside}
 use Rattle.rpatl_syntax.specs.declared.formula.Bound.{Bound}
 use Rattle.rpatl_syntax.specs.declared.formula.Bound.TheVariants.{AtLeast, Above, AtMost, Below, AskMax, AskMin}

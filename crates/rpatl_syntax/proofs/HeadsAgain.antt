@@ -4,9 +4,9 @@ use Rattle.std.proofs.Common.{refl, ap, sym, subst, arith}
 use Rattle.std.specs.Prelude.{codes, bytes_eq, ◌==◌, ◌&&◌}
 use Rattle.std.specs.List.{AllByRecursion}
 use Rattle.std.proofs.lemmas.Bool.Decides.{nat_tests}
-use Rattle.distributions.specs.Fraction.{Fraction}
-use Rattle.distributions.specs.Number.{number_said}
-use Rattle.distributions.proofs.Said.{number-again}
+use Rattle.fractions.specs.Fraction.{Fraction}
+use Rattle.fractions.specs.Number.{number_said}
+use Rattle.fractions.proofs.Said.{number-again}
 use Rattle.rpatl_syntax.specs.declared.fault.FormulaCause.TheVariants.{Unexpected, ThresholdOutOfRange}
 use Rattle.rpatl_syntax.specs.declared.formula.Bound.{Bound}
 use Rattle.rpatl_syntax.specs.declared.formula.Bound.TheVariants.{AtLeast, Above, AtMost, Below, AskMax, AskMin}

@@ -1,6 +1,6 @@
 -- Duals of bounds.
 use Rattle.std.proofs.Common.{◌≡◌, ◌<◌, ◌≤◌, ◌+◌, ◌-◌, ◌*◌, ◌↔◌, ℕ, List, ap, refl, subst, arith}
-use Rattle.distributions.specs.Fraction.{Fraction, rest_of}
+use Rattle.fractions.specs.Fraction.{Fraction, rest_of}
 use Rattle.rpatl_syntax.specs.declared.formula.Bound.{Bound}
 use Rattle.rpatl_syntax.specs.declared.formula.Bound.TheVariants.{AtLeast, Above, AtMost, Below, AskMax, AskMin}
 use Rattle.rpatl_syntax.specs.Dual.{dual_bound, IsAtMostOne, IsMetBy}

@@ -7,10 +7,10 @@ use Rattle.std.proofs.lemmas.Fmt.{decimal_by_steps_wide, length-decimal-le_wide}
 use Rattle.std.proofs.lemmas.List.{append-nil}
 use Rattle.std.proofs.lemmas.Bool.Decides.{nat_tests}
 use Rattle.text_lines.specs.Text.{all_digits, value_onto, is_digit, number_of}
-use Rattle.distributions.specs.Limits.{finest, most_digits}
-use Rattle.distributions.specs.Fraction.{Fraction}
-use Rattle.distributions.specs.Number.{Decimal, Quotient, no_exponent, AreDigits, DenotesNumber}
-use Rattle.distributions.proofs.Spelled.{value_append}
+use Rattle.fractions.specs.Limits.{finest, most_digits}
+use Rattle.fractions.specs.Fraction.{Fraction}
+use Rattle.fractions.specs.Number.{Decimal, Quotient, no_exponent, AreDigits, DenotesNumber}
+use Rattle.fractions.proofs.Spelled.{value_append}
 use Rattle.rpatl_syntax.specs.Limits.{most_steps}
 use Rattle.rpatl_syntax.specs.Rules.{IsSteps}
 use Rattle.rpatl_syntax.specs.Spelling.{fraction_spelling}

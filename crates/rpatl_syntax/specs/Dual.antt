@@ -1,6 +1,6 @@
 -- The dual of a formula: what it says of the paths that come to a state where the right side fails.
 use Rattle.std.specs.Prelude.{ℕ, ◌*◌, ◌<◌, ◌≤◌}
-use Rattle.distributions.specs.Fraction.{rest_of}
+use Rattle.fractions.specs.Fraction.{rest_of}
 use Rattle.rpatl_syntax.specs.declared.formula.Bound.{Bound}
 use Rattle.rpatl_syntax.specs.declared.formula.Bound.TheVariants.{AtLeast, Above, AtMost, Below, AskMax, AskMin}
 use Rattle.rpatl_syntax.specs.declared.formula.PathKind.{PathKind}

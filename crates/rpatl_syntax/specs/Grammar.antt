@@ -1,10 +1,10 @@
 -- The grammar of formulas, read from the left: the tree that tokens spell and the tokens behind it, or the first fault.
 use Rattle.std.specs.Prelude.{ℕ, zero, suc, ◌==◌, ◌||◌, nat_lt, Bool, false, List, [], ◌∷◌, length, drop, take, ◌-◌}
 use Rattle.std.specs.Prelude.{Option, Some, None, Result, Ok, Err, if◌then◌else◌, bytes_eq, codes}
-use Rattle.distributions.specs.Fraction.{Fraction}
-use Rattle.distributions.specs.declared.number.NumberFault.{NumberFault}
-use Rattle.distributions.specs.declared.number.NumberFault.TheVariants.{TooLarge}
-use Rattle.distributions.specs.Number.{number_said}
+use Rattle.fractions.specs.Fraction.{Fraction}
+use Rattle.fractions.specs.declared.number.NumberFault.{NumberFault}
+use Rattle.fractions.specs.declared.number.NumberFault.TheVariants.{TooLarge}
+use Rattle.fractions.specs.Number.{number_said}
 use Rattle.rpatl_syntax.specs.declared.fault.FormulaFault.{FormulaFault}
 use Rattle.rpatl_syntax.specs.declared.fault.FormulaCause.{FormulaCause}
 use Rattle.rpatl_syntax.specs.declared.fault.FormulaCause.TheVariants.{End, Unexpected, TooDeep, BadNumber}

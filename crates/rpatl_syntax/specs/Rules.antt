@@ -1,8 +1,8 @@
 -- The grammar of formulas as rules: which lists of tokens spell which tree.
 use Rattle.std.specs.Prelude.{◌≡◌, ◌≤◌, ℕ, suc, true, List, [], ◌∷◌, ◌++◌, length, Option, Some, None, codes}
 use Rattle.std.specs.List.{AllByRecursion}
-use Rattle.distributions.specs.Fraction.{Fraction}
-use Rattle.distributions.specs.Number.{DenotesNumber}
+use Rattle.fractions.specs.Fraction.{Fraction}
+use Rattle.fractions.specs.Number.{DenotesNumber}
 use Rattle.rpatl_syntax.specs.declared.formula.Bound.{Bound}
 use Rattle.rpatl_syntax.specs.declared.formula.Bound.TheVariants.{AtLeast, Above, AtMost, Below, AskMax, AskMin}
 use Rattle.rpatl_syntax.specs.declared.formula.PathKind.{PathKind}

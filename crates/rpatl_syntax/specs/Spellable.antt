@@ -1,7 +1,7 @@
 -- Which formulas the grammar can spell: exactly these are read from texts, where the spelling is not too long.
 use Rattle.std.specs.Prelude.{◌≡◌, ◌≤◌, ◌+◌, ℕ, true, nat_lt, max, List, Option, Some, None, if◌then◌else◌}
 use Rattle.std.specs.List.{list_all, AllByRecursion}
-use Rattle.distributions.specs.Fraction.{Fraction, IsFraction}
+use Rattle.fractions.specs.Fraction.{Fraction, IsFraction}
 use Rattle.rpatl_syntax.specs.declared.formula.Bound.{Bound}
 use Rattle.rpatl_syntax.specs.declared.formula.Bound.TheVariants.{AtLeast, Above, AtMost, Below, AskMax, AskMin}
 use Rattle.rpatl_syntax.specs.declared.formula.PathKind.{PathKind}

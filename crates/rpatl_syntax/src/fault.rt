@@ -3,7 +3,7 @@
 ghost use Rattle.std.specs.Prelude.{◌≡◌};
 ghost use Rattle.rpatl_syntax.specs.Fault.{fault_at};
 
-use distributions::NumberFault;
+use fractions::NumberFault;
 
 /// What is wrong with a text, or that memory was wanting.
 #[derive(Clone, Copy, Debug, PartialEq, Eq)]

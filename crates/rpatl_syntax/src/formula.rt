@@ -2,7 +2,7 @@
 
 ghost use Rattle.std.specs.Prelude.{◌≡◌};
 
-use distributions::Frac;
+use fractions::Frac;
 use game_outside::Name;
 
 /// A property of states: labels, formulas inside, and their combinations.

@@ -12,7 +12,7 @@ use crate::cursor::Cursor;
 use crate::fault::{FormulaCause, FormulaFault};
 use crate::formula::{Bound, Comparison, Names};
 use crate::tokens::{Token, behind, behind_if, next_token};
-use distributions::{Frac, NumberFault, read_number};
+use fractions::{Frac, NumberFault, read_number};
 use game_outside::Name;
 use std::alloc::Global;
 

@@ -8,7 +8,7 @@ ghost use Rattle.rpatl_syntax.specs.Spellable.{IsSpellable};
 ghost use Rattle.rpatl_syntax.specs.Spelling.{strength_of, in_place, state_spelling, until_spelling, kind_spelling, names_spelling, coalition_spelling, fraction_spelling, bound_spelling, spelling};
 
 use crate::formula::{Bound, Formula, Names, PathKind, StateFormula};
-use distributions::Frac;
+use fractions::Frac;
 use game_outside::{Name, OutOfMemory};
 use itoa::Buffer;
 use std::alloc::Global;

@@ -1,7 +1,7 @@
 -- Formulas whose parts are plain: what the grammar can spell, and the dual of that.
 use Rattle.std.proofs.Common.{◌≤◌, arith}
-use Rattle.distributions.specs.Fraction.{Fraction}
-use Rattle.distributions.specs.Limits.{finest}
+use Rattle.fractions.specs.Fraction.{Fraction}
+use Rattle.fractions.specs.Limits.{finest}
 use Rattle.rpatl_syntax.specs.declared.formula.Bound.{Bound}
 use Rattle.rpatl_syntax.specs.declared.formula.Bound.TheVariants.{AtLeast, Above, AtMost, Below, AskMax, AskMin}
 use Rattle.rpatl_syntax.specs.declared.formula.PathKind.{PathKind}

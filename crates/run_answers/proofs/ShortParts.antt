@@ -4,7 +4,7 @@ use Rattle.std.proofs.Common.{None, ap, arith}
 use Rattle.std.specs.Prelude.{◌==◌, codes, decimal, if◌then◌else◌}
 use Rattle.std.proofs.lemmas.List.{length-append}
 use Rattle.std.proofs.lemmas.Fmt.{length-decimal-le_wide}
-use Rattle.distributions.specs.Fraction.{Fraction}
+use Rattle.fractions.specs.Fraction.{Fraction}
 use Rattle.rpatl_syntax.specs.declared.formula.Bound.{Bound}
 use Rattle.rpatl_syntax.specs.declared.formula.Bound.TheVariants.{AtLeast, Above, AtMost, Below, AskMax, AskMin}
 use Rattle.rpatl_syntax.specs.Formula.{State, True, False, Label, Not, And, Or, Implies, Inner}

@@ -2,8 +2,8 @@
 use Rattle.std.proofs.Common.{◌≡◌, ℕ, refl, sym, arith}
 use Rattle.std.specs.Prelude.{codes}
 use Rattle.std.proofs.lemmas.List.{append_cancel_left}
-use Rattle.distributions.specs.declared.number.NumberFault.{NumberFault}
-use Rattle.distributions.specs.declared.number.NumberFault.TheVariants as number
+use Rattle.fractions.specs.declared.number.NumberFault.{NumberFault}
+use Rattle.fractions.specs.declared.number.NumberFault.TheVariants as number
 use Rattle.distributions.specs.declared.choice.ChoiceFault.{ChoiceFault}
 use Rattle.distributions.specs.declared.choice.ChoiceFault.TheVariants as choice
 use Rattle.tra_reader.specs.declared.fault.TraCause.{TraCause}

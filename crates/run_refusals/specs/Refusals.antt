@@ -1,7 +1,7 @@
 -- The line that says why a run is refused.
 use Rattle.std.specs.Prelude.{ℕ, List, ◌∷◌, ◌++◌, codes, decimal}
-use Rattle.distributions.specs.declared.number.NumberFault.{NumberFault}
-use Rattle.distributions.specs.declared.number.NumberFault.TheVariants as number
+use Rattle.fractions.specs.declared.number.NumberFault.{NumberFault}
+use Rattle.fractions.specs.declared.number.NumberFault.TheVariants as number
 use Rattle.distributions.specs.declared.choice.ChoiceFault.{ChoiceFault}
 use Rattle.distributions.specs.declared.choice.ChoiceFault.TheVariants as choice
 use Rattle.tra_reader.specs.declared.fault.TraCause.{TraCause}

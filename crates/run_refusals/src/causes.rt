@@ -4,7 +4,8 @@ ghost use Rattle.std.specs.Prelude.{◌≡◌, IfOk};
 ghost use Rattle.std.specs.String.{string_bytes};
 ghost use Rattle.run_refusals.specs.Refusals.{number_text, choice_text, choice_place as choice_place_text, tra_text, lab_text, formula_text, plan_cause_text, upper_text, ranks_text, values_text};
 
-use distributions::{ChoiceFault, NumberFault};
+use distributions::ChoiceFault;
+use fractions::NumberFault;
 use inductive_check::UpperCause;
 use label_reader::LabCause;
 use plan_text::PlanCause;

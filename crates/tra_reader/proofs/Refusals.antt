@@ -4,7 +4,7 @@ use Rattle.std.specs.Borrow.{Bor}
 use Rattle.std.specs.Option.{option_map}
 use Rattle.text_lines.specs.Text.{fields_of, number_of, saturated}
 use Rattle.text_lines.specs.Numbers.{BeginsWithNumber}
-use Rattle.distributions.specs.Number.{number_said}
+use Rattle.fractions.specs.Number.{number_said}
 use Rattle.tra_reader.specs.declared.fault.TraCause.{TraCause}
 use Rattle.tra_reader.specs.Lines.{row_with, transition_said, parts_said, mdp_parts}
 use Rattle.tra_reader.specs.inside.Answers.{IsLastField}

@@ -3,9 +3,9 @@ use Rattle.std.proofs.Common.{◌≡◌, ◌∙◌, ◌<◌, ◌≤◌, inl, inr
 use Rattle.std.proofs.Common.{Some, None, Result, Ok, Err, refl, sym, ap, ap₂, subst, arith, nat_lt, append_assoc}
 use Rattle.std.proofs.lemmas.List.{length_push}
 use Rattle.text_lines.specs.Text.{fields_of, is_nil}
-use Rattle.distributions.specs.declared.number.NumberFault.{NumberFault}
-use Rattle.distributions.specs.Fraction.{Fraction}
-use Rattle.distributions.specs.Number.{DenotesNumber, number_said}
+use Rattle.fractions.specs.declared.number.NumberFault.{NumberFault}
+use Rattle.fractions.specs.Fraction.{Fraction}
+use Rattle.fractions.specs.Number.{DenotesNumber, number_said}
 use Rattle.tra_reader.specs.Limits.{most_stated_choices}
 use Rattle.tra_reader.specs.declared.header.Header.{Header}
 use Rattle.tra_reader.specs.declared.line.Transition.{Transition}

@@ -11,7 +11,7 @@ use Rattle.game_model.specs.Game.{Distribution, no_distribution, choices_of}
 use Rattle.game_model.specs.Limits.{most_choices}
 use Rattle.distributions.specs.declared.choice.Part.{Part}
 use Rattle.distributions.specs.declared.choice.ChoiceFault.{ChoiceFault}
-use Rattle.distributions.specs.Fraction.{IsFraction}
+use Rattle.fractions.specs.Fraction.{IsFraction}
 use Rattle.distributions.specs.Parts.{DenotesChoice, choice_said}
 use Rattle.tra_reader.specs.declared.line.Transition.{Transition}
 use Rattle.tra_reader.specs.declared.fault.TraCause.TheVariants.{ChoiceCount}

@@ -6,9 +6,9 @@ use Rattle.std.specs.Option.{option_map_or, ForSome}
 use Rattle.std.specs.Str.{bytes_eq}
 use Rattle.text_lines.specs.Text.{fields_of, number_of, is_nil}
 use Rattle.game_model.specs.Limits.{most_states}
-use Rattle.distributions.specs.declared.number.NumberFault.{NumberFault}
-use Rattle.distributions.specs.Fraction.{Fraction}
-use Rattle.distributions.specs.Number.{DenotesNumber, number_said}
+use Rattle.fractions.specs.declared.number.NumberFault.{NumberFault}
+use Rattle.fractions.specs.Fraction.{Fraction}
+use Rattle.fractions.specs.Number.{DenotesNumber, number_said}
 use Rattle.tra_reader.specs.declared.header.Header.{Header}
 use Rattle.tra_reader.specs.declared.line.Transition.{Transition}
 use Rattle.tra_reader.specs.declared.fault.TraCause.{TraCause}

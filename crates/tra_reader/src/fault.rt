@@ -1,7 +1,8 @@
 //! Why a text denotes no game.
 
 use crate::line::Transition;
-use distributions::{ChoiceFault, NumberFault};
+use distributions::ChoiceFault;
+use fractions::NumberFault;
 use std::alloc::{AllocError, AllocFailed};
 
 /// What is wrong.

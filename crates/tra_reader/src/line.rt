@@ -2,7 +2,7 @@
 
 ghost use Rattle.std.specs.Prelude.{◌≡◌, ◌<◌, [], ℕ, Option, Some, Result, Ok, Err, IfOk, option_map};
 ghost use Rattle.text_lines.specs.Text.{fields_of, saturated};
-ghost use Rattle.distributions.specs.Number.{number_said};
+ghost use Rattle.fractions.specs.Number.{number_said};
 ghost use Rattle.tra_reader.specs.Lines.{mdp_parts, dtmc_parts, parts_said, row_said, transition_said, transition_within};
 ghost use Rattle.tra_reader.specs.inside.Order.{IsWithin, place_of};
 ghost use Rattle.tra_reader.specs.inside.Answers.{SaysRow, IsLastField};
@@ -10,7 +10,8 @@ ghost use Rattle.tra_reader.specs.inside.Answers.{SaysRow, IsLastField};
 use crate::fault::TraCause;
 use crate::header::Header;
 use crate::limits::MOST_STATED_CHOICES;
-use distributions::{Frac, Part, read_number};
+use distributions::Part;
+use fractions::{Frac, read_number};
 use text_lines::{first_field, first_number};
 
 /// A line: from the source, by its choice, to the destination.

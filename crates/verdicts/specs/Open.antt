@@ -5,7 +5,7 @@ use Rattle.game_model.specs.Query.{Query}
 use Rattle.game_model.specs.Values.{denominator, numerator}
 use Rattle.game_model.specs.Rounded.{down_steps}
 use Rattle.game_model.specs.Dual.{open_numerator, swapped}
-use Rattle.distributions.specs.Fraction.{Fraction}
+use Rattle.fractions.specs.Fraction.{Fraction}
 use Rattle.rpatl_syntax.specs.declared.formula.Bound.{Bound}
 use Rattle.rpatl_syntax.specs.declared.formula.Bound.TheVariants.{AtLeast, Above, AtMost, Below, AskMax, AskMin}
 

@@ -4,7 +4,7 @@ ghost use Rattle.std.specs.Prelude.{◌≡◌, ◌≤◌};
 ghost use Rattle.game_model.specs.Limits.{unit};
 ghost use Rattle.verdicts.specs.Verdict.{reaches, exceeds, verdict_by, verdict_of};
 
-use distributions::Frac;
+use fractions::Frac;
 use game_model::UNIT;
 use rpatl_syntax::Bound;
 

@@ -1,5 +1,5 @@
 -- The bound of a comparison with a threshold.
-use Rattle.distributions.specs.Fraction.{Fraction}
+use Rattle.fractions.specs.Fraction.{Fraction}
 use Rattle.rpatl_syntax.specs.declared.formula.Comparison.{Comparison}
 use Rattle.rpatl_syntax.specs.declared.formula.Comparison.TheVariants.{AtLeast as at_least, Above as above}
 use Rattle.rpatl_syntax.specs.declared.formula.Comparison.TheVariants.{AtMost as at_most, Below as below}

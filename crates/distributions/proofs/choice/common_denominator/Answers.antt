@@ -1,5 +1,5 @@
 use Rattle.std.proofs.Common.{◌≡◌, ◌∙◌, ◌≤◌, ℕ, sym, ap, subst}
-use Rattle.distributions.specs.Divisors.{lcm}
+use Rattle.fractions.specs.Divisors.{lcm}
 use Rattle.distributions.proofs.Multiples.{denominator_step, lcm_some}
 use Rattle.distributions.proofs.choice.common_denominator.Goals as goal
 

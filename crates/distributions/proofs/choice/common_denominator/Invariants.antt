@@ -1,5 +1,5 @@
 use Rattle.std.proofs.Common.{◌≡◌, ◌≤◌, drop}
-use Rattle.distributions.specs.Limits.{finest}
+use Rattle.fractions.specs.Limits.{finest}
 use Rattle.distributions.specs.Parts.{denominator_said}
 use Rattle.distributions.proofs.choice.common_denominator.Given as goal
 

@@ -1,6 +1,6 @@
 use Rattle.std.proofs.Common.{◌≡◌, ◌∙◌, ◌≤◌, ◌*◌, ◌/◌, ℕ, sym, ap, subst, arith}
 use Rattle.game_model.specs.declared.game.Edge.{Edge}
-use Rattle.distributions.specs.Limits.{most_value}
+use Rattle.fractions.specs.Limits.{most_value}
 use Rattle.distributions.proofs.Multiples.{share_weight, share_small}
 use Rattle.distributions.proofs.choice.edge_of.Goals as goal
 

@@ -4,7 +4,7 @@ use Rattle.game_outside.specs.Answers.{AnswersOrWants}
 use Rattle.game_model.specs.declared.game.Edge.{Edge}
 use Rattle.game_model.specs.Game.{Distribution, total_of}
 use Rattle.distributions.specs.declared.choice.ChoiceFault.{ChoiceFault}
-use Rattle.distributions.specs.Limits.{finest, most_value}
+use Rattle.fractions.specs.Limits.{finest, most_value}
 use Rattle.distributions.specs.Parts.{edge_of_part, choice_over, choice_said, gathered, sum_said, weighted, with_total}
 use Rattle.distributions.specs.Parts.{IsOutOfMemory}
 use Rattle.distributions.proofs.Multiples.{denominator-is}

@@ -1,5 +1,5 @@
 use Rattle.std.proofs.lemmas.List.Elements.{AllWithin-more, at_read}
-use Rattle.distributions.specs.Fraction.{IsFraction}
+use Rattle.fractions.specs.Fraction.{IsFraction}
 use Rattle.distributions.specs.declared.choice.Part.{Part}
 use Rattle.distributions.proofs.choice.known_of_all.Goals as goal
 

@@ -1,5 +1,5 @@
 use Rattle.std.specs.List.{AllWithin}
-use Rattle.distributions.specs.Fraction.{IsFraction}
+use Rattle.fractions.specs.Fraction.{IsFraction}
 use Rattle.distributions.proofs.choice.known_of_all.Given as goal
 
 abbrev pub invariant-loop-part : goal.invariant-loop-part

@@ -1,6 +1,6 @@
 use Rattle.std.proofs.Common.{◌≡◌, ◌≤◌, ◌*◌, take}
 use Rattle.std.specs.Prelude.{All}
-use Rattle.distributions.specs.Limits.{finest, most_value}
+use Rattle.fractions.specs.Limits.{finest, most_value}
 use Rattle.distributions.specs.Parts.{weighted}
 use Rattle.distributions.proofs.choice.weigh.Given as goal
 

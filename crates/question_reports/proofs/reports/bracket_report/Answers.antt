@@ -1,7 +1,7 @@
 use Rattle.std.proofs.Common.{◌≡◌, ◌≤◌, ◌<◌, ◌^◌, ◌∙◌, ℕ, ap, sym, subst, arith}
 use Rattle.std.specs.Prelude.{slice_index}
 use Rattle.game_model.specs.Query.{states}
-use Rattle.distributions.proofs.Powers.{pow-pos}
+use Rattle.fractions.proofs.Powers.{pow-pos}
 use Rattle.game_model.specs.Values.{denominator}
 use Rattle.game_model.proofs.Choices.{denominator-pos}
 use Rattle.rpatl_syntax.specs.declared.formula.Bound.{Bound}

@@ -1,0 +1,5 @@
+pub mod Limits
+pub mod Divisors
+pub mod Fraction
+pub mod Number
+pub mod inside

@@ -1,0 +1,25 @@
+-- The spelling in a number as it is written.
+use Rattle.std.specs.Prelude.{◌≡◌, ◌≤◌, ℕ, ◌-◌, ◌^◌, true, List, length}
+use Rattle.text_lines.specs.Text.{is_digit, all_digits, value_onto}
+use Rattle.fractions.specs.declared.tens.Tens.{Tens}
+use Rattle.fractions.specs.declared.number.Power.{Power}
+use Rattle.fractions.specs.declared.number.Written.{Written}
+use Rattle.fractions.specs.declared.number.Written.TheVariants.{Point, Line}
+use Rattle.fractions.specs.Number.{Exponent, Spelling, Decimal, Quotient}
+
+-- the exponent of a number as it is written: whether it is below zero, and its digits
+abbrev pub exponent_in : Power → Exponent
+exponent_in power = record { below = power.below; digits = power.digits.now }
+
+-- the digits before and behind the point with the exponent, or those above and below the line, of a number as written
+abbrev pub spelling_in : Written → Spelling
+spelling_in (Point front back power) = Decimal front.now back.now (exponent_in power)
+spelling_in (Line above below) = Quotient above.now below.now
+
+-- so many digits over a power of ten are a digit, a point and these digits, few enough for 64 bits
+pub record AreDecimal (front : ℕ) (back : List ℕ) (tens : Tens) : Type 0 where
+  pub front_digit : is_digit front ≡ true
+  pub back_digits : all_digits back ≡ true
+  pub few : length back ≤ 18
+  pub num : tens.num ≡ value_onto (front - 48) back
+  pub den : tens.den ≡ 10 ^ length back

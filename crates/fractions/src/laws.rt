@@ -1,0 +1,44 @@
+//! Laws of numbers. Each function does nothing; its contract is the law.
+
+ghost use Rattle.std.specs.Prelude.{◌≡◌, ◌≤◌, ◌^◌, ◌↔◌, ℕ, List, Some, Ok};
+ghost use Prim.Native.Nat.{◌∣◌};
+ghost use Rattle.std.specs.Int.{IsGcd};
+ghost use Rattle.fractions.specs.Divisors.{gcd, lcm};
+ghost use Rattle.fractions.specs.Limits.{finest, most_value, most_digits, most_exponent_digits, most_exponent};
+ghost use Rattle.fractions.specs.Fraction.{Fraction};
+ghost use Rattle.fractions.specs.Number.{Spelling, Spells, spelling_of, number_said, DenotesNumber};
+
+use crate::limits::{
+    FINEST, FINEST_PLACES, MOST_DIGITS, MOST_EXPONENT, MOST_EXPONENT_DIGITS, MOST_VALUE,
+};
+
+/// The limits of the code are those of the definitions.
+pub fn limits()
+    ensures finest { FINEST ≡ finest }
+    ensures finest_places { 10 ^ FINEST_PLACES ≡ finest }
+    ensures most_value { MOST_VALUE ≡ most_value }
+    ensures most_digits { MOST_DIGITS ≡ most_digits }
+    ensures most_exponent_digits { MOST_EXPONENT_DIGITS ≡ most_exponent_digits }
+    ensures most_exponent { MOST_EXPONENT ≡ most_exponent }
+{}
+
+/// The greatest common divisor divides both numbers, and each number that divides both divides it.
+pub fn greatest_common_divisors()
+    ensures { (a b : ℕ) → IsGcd a b (gcd a b) }
+{}
+
+/// The least common multiple is a multiple of both numbers, and divides each number that is.
+pub fn least_common_multiples()
+    ensures multiple { (a b : ℕ) → 1 ≤ b → (a ∣ lcm a b) × (b ∣ lcm a b) }
+    ensures least { (a b m : ℕ) → 1 ≤ b → a ∣ m → b ∣ m → lcm a b ∣ m }
+{}
+
+/// A text is taken apart as the grammar spells it, so it has one spelling at most.
+pub fn spellings()
+    ensures { (text : List ℕ) (spelling : Spelling) → (spelling_of text ≡ Some spelling) ↔ Spells text spelling }
+{}
+
+/// What is said of a text by cases is the number that it denotes.
+pub fn said_is_denoted()
+    ensures { (text : List ℕ) (f : Fraction) → (number_said text ≡ Ok f) ↔ DenotesNumber text f }
+{}
