@@ -5,8 +5,8 @@ use Rattle.std.proofs.lemmas.Bool.{and_parts}
 use Rattle.game_model.specs.Game.{Distribution}
 use Rattle.fractions.proofs.Said.{number-found, number-again}
 use Rattle.distributions.proofs.Chosen.{choice-found, choice-again}
-use Rattle.tra_reader.specs.Text.{DenotesGame, game_of}
-use Rattle.tra_reader.proofs.TextLaws.{text_found, text_again}
+use Rattle.transition_lines.specs.Text.{DenotesGame, game_of}
+use Rattle.transition_lines.proofs.TextLaws.{text_found, text_again}
 use Rattle.label_reader.specs.Denotes.{DenotesLabels, DenotesOwners}
 use Rattle.label_reader.specs.Labels.{Labelling}
 use Rattle.label_reader.specs.Owners.{Ownership}

@@ -2,7 +2,7 @@
 use Rattle.std.specs.Prelude.{◌≡◌, ◌≤◌, ℕ, true, List, length, Option, Some, None}
 use Rattle.text_lines.specs.Limits.{most_bytes}
 use Rattle.game_model.specs.Game.{Distribution}
-use Rattle.tra_reader.specs.Text.{DenotesGame}
+use Rattle.transition_lines.specs.Text.{DenotesGame}
 use Rattle.label_reader.specs.Denotes.{DenotesLabels, DenotesOwners}
 use Rattle.label_reader.specs.Labels.{Labelling}
 use Rattle.label_reader.specs.Owners.{Ownership}

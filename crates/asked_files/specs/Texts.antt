@@ -2,7 +2,7 @@
 use Rattle.std.specs.Prelude.{ℕ, List, [], ◌∷◌, length, replicate, codes, nat_lt, Option, Some, None, if◌then◌else◌}
 use Rattle.text_lines.specs.Limits.{most_bytes}
 use Rattle.game_model.specs.Game.{Distribution}
-use Rattle.tra_reader.specs.Text.{game_of}
+use Rattle.transition_lines.specs.Text.{game_of}
 use Rattle.label_reader.specs.Labels.{Labelling}
 use Rattle.label_reader.specs.Owners.{Ownership}
 use Rattle.label_reader.specs.Texts.{labels_of, owners_of}

@@ -8,9 +8,7 @@ ghost use Rattle.fractions.specs.Limits.{finest, most_value, most_digits, most_e
 ghost use Rattle.fractions.specs.Fraction.{Fraction};
 ghost use Rattle.fractions.specs.Number.{Spelling, Spells, spelling_of, number_said, DenotesNumber};
 
-use crate::limits::{
-    FINEST, FINEST_PLACES, MOST_DIGITS, MOST_EXPONENT, MOST_EXPONENT_DIGITS, MOST_VALUE,
-};
+use crate::limits::{FINEST, FINEST_PLACES, MOST_DIGITS, MOST_EXPONENT, MOST_EXPONENT_DIGITS, MOST_VALUE};
 
 /// The limits of the code are those of the definitions.
 pub fn limits()
@@ -39,6 +37,6 @@ pub fn spellings()
 {}
 
 /// What is said of a text by cases is the number that it denotes.
-pub fn said_is_denoted()
+pub fn numbers_are_those_that_a_text_denotes()
     ensures { (text : List ℕ) (f : Fraction) → (number_said text ≡ Ok f) ↔ DenotesNumber text f }
 {}

@@ -6,7 +6,7 @@ use Rattle.text_lines.specs.Limits.{most_bytes}
 use Rattle.game_outside.specs.Outside.{Holding}
 use Rattle.game_model.specs.Game.{Distribution}
 use Rattle.game_model.specs.Limits.{most_states}
-use Rattle.tra_reader.specs.Text.{DenotesGame}
+use Rattle.transition_lines.specs.Text.{DenotesGame}
 use Rattle.label_reader.specs.Header.{Item}
 use Rattle.label_reader.specs.Lines.{StateLine}
 use Rattle.label_reader.specs.Labels.{Label, marks_of, marked_from, states_with, Labelling}

@@ -6,8 +6,8 @@ use Rattle.fractions.specs.declared.number.NumberFault.{NumberFault}
 use Rattle.fractions.specs.declared.number.NumberFault.TheVariants as number
 use Rattle.distributions.specs.declared.choice.ChoiceFault.{ChoiceFault}
 use Rattle.distributions.specs.declared.choice.ChoiceFault.TheVariants as choice
-use Rattle.tra_reader.specs.declared.fault.TraCause.{TraCause}
-use Rattle.tra_reader.specs.declared.fault.TraCause.TheVariants as tra
+use Rattle.transition_lines.specs.declared.fault.TraCause.{TraCause}
+use Rattle.transition_lines.specs.declared.fault.TraCause.TheVariants as tra
 use Rattle.label_reader.specs.declared.faults.LabCause.{LabCause}
 use Rattle.label_reader.specs.declared.faults.LabCause.TheVariants as lab
 use Rattle.rpatl_syntax.specs.declared.fault.FormulaCause.{FormulaCause}

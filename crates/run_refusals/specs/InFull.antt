@@ -2,8 +2,8 @@
 use Rattle.std.specs.Prelude.{ℕ, ◌<◌, ◌^◌}
 use Rattle.distributions.specs.declared.choice.ChoiceFault.{ChoiceFault}
 use Rattle.distributions.specs.declared.choice.ChoiceFault.TheVariants as choice
-use Rattle.tra_reader.specs.declared.fault.TraCause.{TraCause}
-use Rattle.tra_reader.specs.declared.fault.TraCause.TheVariants as tra
+use Rattle.transition_lines.specs.declared.fault.TraCause.{TraCause}
+use Rattle.transition_lines.specs.declared.fault.TraCause.TheVariants as tra
 use Rattle.label_reader.specs.declared.faults.LabCause.{LabCause}
 use Rattle.label_reader.specs.declared.faults.LabCause.TheVariants as lab
 use Rattle.inductive_check.specs.declared.upper.UpperCause.{UpperCause}

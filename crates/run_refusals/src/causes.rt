@@ -12,7 +12,7 @@ use plan_text::PlanCause;
 use rank_certificate::RankCause;
 use rpatl_syntax::FormulaCause;
 use std::alloc::{AllocError, Global};
-use tra_reader::TraCause;
+use transition_lines::TraCause;
 use values_reader::ValuesCause;
 
 /// Why a text spells no probability.

@@ -6,7 +6,7 @@ use crate::refusal::Refusal;
 use certificate_audit::AuditFault;
 use distributions::ChoiceFault;
 use label_reader::LabCause;
-use tra_reader::TraCause;
+use transition_lines::TraCause;
 
 fn known_of_number(number: u32)
     ensures { IsInFull number }

@@ -12,7 +12,7 @@ use formula_sets::PoseFault;
 use label_reader::LabFault;
 use rpatl_syntax::FormulaFault;
 use std::alloc::{AllocError, Global};
-use tra_reader::TraFault;
+use transition_lines::TraFault;
 use values_reader::ValuesFault;
 
 /// Which text of a run.

@@ -6,13 +6,13 @@ use Rattle.std.proofs.lemmas.List.{length_push, length-map, map-append}
 use Rattle.std.proofs.lemmas.List.Elements.{All-weaker, filter-append}
 use Rattle.std.specs.List.{All}
 use Rattle.distributions.specs.declared.choice.Part.{Part}
-use Rattle.tra_reader.specs.Limits.{most_stated_choices}
-use Rattle.tra_reader.specs.declared.line.Transition.{Transition}
-use Rattle.tra_reader.specs.Lines.{is_of}
-use Rattle.tra_reader.specs.Choices.{transitions_of, part_of, parts_of}
-use Rattle.tra_reader.specs.inside.Order.{From, Rises, IsWithin, place_of, transition_place}
+use Rattle.transition_lines.specs.Limits.{most_stated_choices}
+use Rattle.transition_lines.specs.declared.line.Transition.{Transition}
+use Rattle.transition_lines.specs.Lines.{is_of}
+use Rattle.transition_lines.specs.Choices.{transitions_of, part_of, parts_of}
+use Rattle.transition_lines.specs.Order.{From, Rises, IsWithin, place_of, transition_place}
 use Rattle.tra_reader.specs.inside.GrowingGames.{NoneBetween}
-use Rattle.tra_reader.proofs.Ends.{AreSmall, small_more}
+use Rattle.transition_lines.proofs.Ends.{AreSmall, small_more}
 use Rattle.tra_reader.proofs.Stays.{same_other}
 
 From-push : (q : ℕ) (ts : List Transition) (t : Transition) → From transition_place q ts → q ≤ transition_place t

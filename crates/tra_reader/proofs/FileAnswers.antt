@@ -6,11 +6,11 @@ use Rattle.game_outside.specs.declared.file.FileEnd.TheVariants as file
 use Rattle.game_outside.specs.Outside.{Holding}
 use Rattle.game_outside.specs.Files.{HeldTextWith, ReadsFile}
 use Rattle.game_model.specs.Game.{Distribution}
-use Rattle.tra_reader.specs.declared.fault.TraFault.{TraFault}
+use Rattle.transition_lines.specs.declared.fault.TraFault.{TraFault}
 use Rattle.tra_reader.specs.declared.halt.Halt.{Halt}
 use Rattle.tra_reader.specs.declared.halt.Halt.TheVariants as halt
 use Rattle.game_outside.specs.Answers.{AnswersOrWants}
-use Rattle.tra_reader.specs.Faults.{IsOutOfMemory}
+use Rattle.transition_lines.specs.Faults.{IsOutOfMemory}
 use Rattle.tra_reader.specs.inside.Reading.{IsAnswer}
 use Rattle.tra_reader.specs.inside.Ordered.{text_fault}
 use Rattle.tra_reader.specs.FileEnds.{is_out_of_memory, without_want_of, in_order_of}

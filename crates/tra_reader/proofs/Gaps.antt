@@ -5,24 +5,24 @@ use Rattle.std.specs.List.{All}
 use Rattle.game_model.specs.Limits.{most_states}
 use Rattle.game_model.specs.Game.{Distribution}
 use Rattle.game_model.specs.Draft.{Draft}
-use Rattle.tra_reader.specs.Limits.{most_stated_choices}
-use Rattle.tra_reader.specs.declared.line.Transition.{Transition}
-use Rattle.tra_reader.specs.declared.fault.TraFault.{TraFault}
-use Rattle.tra_reader.specs.declared.fault.TraCause.TheVariants.{ChoiceGap}
+use Rattle.transition_lines.specs.Limits.{most_stated_choices}
+use Rattle.transition_lines.specs.declared.line.Transition.{Transition}
+use Rattle.transition_lines.specs.declared.fault.TraFault.{TraFault}
+use Rattle.transition_lines.specs.declared.fault.TraCause.TheVariants.{ChoiceGap}
 use Rattle.tra_reader.specs.declared.progress.Progress.{Progress}
 use Rattle.tra_reader.specs.declared.progress.Progress.TheVariants.{Builds, Faulty, Crowded, Gap, OutOfMemory}
 use Rattle.tra_reader.specs.declared.whole_choices.WholeChoices.{WholeChoices}
-use Rattle.tra_reader.specs.Faults.{fault_of_all}
+use Rattle.transition_lines.specs.Faults.{fault_of_all}
 use Rattle.distributions.specs.declared.choice.Part.{Part}
-use Rattle.tra_reader.specs.Choices.{part_of, parts_of, transitions_of, choice_end, sum_of_first, first_crowded}
-use Rattle.tra_reader.specs.Choices.{states_said, unless_gap, unless_crowded, if_as_stated, transitions_game}
-use Rattle.tra_reader.specs.inside.Order.{IsWithin, place_of}
-use Rattle.tra_reader.specs.inside.Answers.{LeadsInside}
+use Rattle.transition_lines.specs.Choices.{part_of, parts_of, transitions_of, choice_end, sum_of_first, first_crowded}
+use Rattle.transition_lines.specs.Choices.{states_said, unless_gap, unless_crowded, if_as_stated, transitions_game}
+use Rattle.transition_lines.specs.Order.{IsWithin, place_of}
+use Rattle.transition_lines.specs.Answers.{LeadsInside}
 use Rattle.tra_reader.specs.inside.GrowingGames.{AreCounted, AreDrafted, HaveFault, HasGap, IsMade, IsWhole}
 use Rattle.tra_reader.specs.inside.GrowingGames.{place_behind, NoneBetween, AreWholeBefore, IsReady, IfBuilds}
 use Rattle.tra_reader.specs.inside.GrowingGames.{IsAsStated}
-use Rattle.tra_reader.proofs.Decisions.{cases_lt}
-use Rattle.tra_reader.proofs.Ends.{AreSmall, none_of_high, above_of, one_missing, gap_here, gap_stays}
+use Rattle.transition_lines.proofs.Decisions.{cases_lt}
+use Rattle.transition_lines.proofs.Ends.{AreSmall, none_of_high, above_of, one_missing, gap_here, gap_stays}
 
 -- the choices from here on are missing before one that is there
 pub noted : (crowded : Option ℕ) (ts : List Transition) (s k later count : ℕ) → k < later

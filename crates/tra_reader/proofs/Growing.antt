@@ -5,18 +5,18 @@ use Rattle.std.specs.List.{All}
 use Rattle.game_model.specs.Limits.{most_states}
 use Rattle.game_model.specs.Draft.{Draft, no_states}
 use Rattle.distributions.specs.declared.choice.Part.{Part}
-use Rattle.tra_reader.specs.Limits.{most_stated_choices}
-use Rattle.tra_reader.specs.declared.line.Transition.{Transition}
+use Rattle.transition_lines.specs.Limits.{most_stated_choices}
+use Rattle.transition_lines.specs.declared.line.Transition.{Transition}
 use Rattle.tra_reader.specs.declared.progress.Progress.{Progress}
 use Rattle.tra_reader.specs.declared.progress.Progress.TheVariants.{Builds, OutOfMemory}
 use Rattle.tra_reader.specs.declared.whole_choices.WholeChoices.{WholeChoices}
-use Rattle.tra_reader.specs.Lines.{is_of}
-use Rattle.tra_reader.specs.Choices.{transitions_of, part_of, parts_of}
-use Rattle.tra_reader.specs.inside.Order.{IsWithin, place_of, transition_place}
+use Rattle.transition_lines.specs.Lines.{is_of}
+use Rattle.transition_lines.specs.Choices.{transitions_of, part_of, parts_of}
+use Rattle.transition_lines.specs.Order.{IsWithin, place_of, transition_place}
 use Rattle.tra_reader.specs.inside.GrowingGames.{IsWhole, IsMade, place_behind, AreWholeBefore, EndsBefore, GoesTo}
 use Rattle.tra_reader.specs.inside.GrowingGames.{Growing, place_under_way, HoldsInOrder}
 use Rattle.std.proofs.lemmas.List.Elements.{All-push, All-weaker}
-use Rattle.tra_reader.proofs.Ends.{AreSmall}
+use Rattle.transition_lines.proofs.Ends.{AreSmall}
 use Rattle.tra_reader.proofs.Stays.{same_other, made_stays}
 use Rattle.tra_reader.proofs.Behind.{rises-push, this_choice, same_this, above_test, none_above, none_behind}
 use Rattle.tra_reader.proofs.Behind.{none_behind_all, last_there, small_of}

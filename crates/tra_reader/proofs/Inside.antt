@@ -7,10 +7,10 @@ use Rattle.std.specs.List.{All}
 use Rattle.game_model.specs.declared.game.Edge.{Edge}
 use Rattle.game_model.specs.Game.{Distribution, weight_to}
 use Rattle.distributions.specs.Parts.{DenotesChoice, weighted}
-use Rattle.tra_reader.specs.declared.line.Transition.{Transition}
-use Rattle.tra_reader.specs.Choices.{part_of}
-use Rattle.tra_reader.specs.inside.Answers.{LeadsInside}
-use Rattle.tra_reader.proofs.Decisions.{cases_lt, below_ne}
+use Rattle.transition_lines.specs.declared.line.Transition.{Transition}
+use Rattle.transition_lines.specs.Choices.{part_of}
+use Rattle.transition_lines.specs.Answers.{LeadsInside}
+use Rattle.transition_lines.proofs.Decisions.{cases_lt, below_ne}
 
 at_least : {X : Type 0} (f : X → ℕ) (xs : List X) (i : ℕ) (d : X) → i < length xs → f (get_or xs i d) ≤ sum_by f xs
 at_least f [] i d h = absurd (omega arith)

@@ -1,27 +1,16 @@
-pub mod Decisions
 pub mod Noting
 pub mod Silence
-pub mod Rows
 pub mod Steps
 pub mod Taking
 pub mod Outcomes
 pub mod Spans
 pub mod UnderWay
 pub mod Sorting
-pub mod Ends
 pub mod Inside
-pub mod Alike
 pub mod Sorted
 pub mod Stays
 pub mod Behind
 pub mod WholeSteps
 pub mod Gaps
 pub mod Growing
-pub mod HeaderLaws
-pub mod RowLaws
-pub mod ActionLaws
-pub mod StateLaws
-pub mod TextLaws
-pub mod Permutations
 pub mod FileAnswers
-mod Refusals

@@ -3,9 +3,9 @@ use Rattle.std.proofs.Common.{◌≡◌, ◌∙◌, inl, inr, ℕ, ◌==◌, Boo
 use Rattle.std.proofs.Common.{None, option_map, slice_get, refl, sym, ap}
 use Rattle.std.proofs.lemmas.Bool.{cases_Bool, eqb-true}
 use Rattle.std.specs.List.{filter}
-use Rattle.tra_reader.specs.Lines.{Row}
-use Rattle.tra_reader.specs.inside.Order.{has}
-use Rattle.tra_reader.specs.inside.Answers.{row_place, action_at}
+use Rattle.transition_lines.specs.Lines.{Row}
+use Rattle.transition_lines.specs.Order.{has}
+use Rattle.transition_lines.specs.Answers.{row_place, action_at}
 
 abbrev or_one : Option (List ℕ) → Option (List ℕ) → Option (List ℕ)
 or_one None other = other

@@ -6,11 +6,11 @@ use Rattle.std.proofs.lemmas.List.{take_more}
 use Rattle.std.specs.List.{filter}
 use Rattle.std.specs.Option.{option_map_or}
 use Rattle.std.specs.Str.{bytes_eq}
-use Rattle.tra_reader.specs.declared.line.Transition.{Transition}
-use Rattle.tra_reader.specs.Lines.{Row}
-use Rattle.tra_reader.specs.Text.{transitions}
-use Rattle.tra_reader.specs.inside.Order.{has}
-use Rattle.tra_reader.specs.inside.Answers.{row_place, clashes_at}
+use Rattle.transition_lines.specs.declared.line.Transition.{Transition}
+use Rattle.transition_lines.specs.Lines.{Row}
+use Rattle.transition_lines.specs.Text.{transitions}
+use Rattle.transition_lines.specs.Order.{has}
+use Rattle.transition_lines.specs.Answers.{row_place, clashes_at}
 use Rattle.tra_reader.specs.inside.Noted.{AreSilent, silent_rows}
 
 abbrev pub with_action : Transition → List ℕ → Row

@@ -1,12 +1,12 @@
 -- Transitions put in order.
 use Rattle.std.proofs.Common.{◌≡◌, ◌∙◌, inl, inr, ℕ, List, [], ◌∷◌, arith, sym}
 use Rattle.std.specs.List.{filter}
-use Rattle.tra_reader.specs.Limits.{most_stated_choices}
-use Rattle.tra_reader.specs.declared.line.Transition.{Transition}
-use Rattle.tra_reader.specs.Choices.{transitions_of}
-use Rattle.tra_reader.specs.inside.Order.{From, has, place_of, transition_place}
-use Rattle.tra_reader.proofs.Decisions.{cases_lt}
-use Rattle.tra_reader.proofs.Ends.{AreSmall, of_at, none_of_high}
+use Rattle.transition_lines.specs.Limits.{most_stated_choices}
+use Rattle.transition_lines.specs.declared.line.Transition.{Transition}
+use Rattle.transition_lines.specs.Choices.{transitions_of}
+use Rattle.transition_lines.specs.Order.{From, has, place_of, transition_place}
+use Rattle.transition_lines.proofs.Decisions.{cases_lt}
+use Rattle.transition_lines.proofs.Ends.{AreSmall, of_at, none_of_high}
 
 pub same_transitions : (ts us : List Transition) → AreSmall ts → AreSmall us
     → ((q : ℕ) → filter (has transition_place q) ts ≡ filter (has transition_place q) us) → (s k : ℕ)

@@ -4,18 +4,18 @@ use Rattle.std.proofs.Common.{length, Option, None, Some, sym, ap, subst, arith}
 use Rattle.std.proofs.lemmas.Bool.Decides.{nat_tests}
 use Rattle.std.proofs.lemmas.List.{append-nil, length-append}
 use Rattle.std.proofs.lemmas.List.Elements.{filter-append}
-use Rattle.tra_reader.specs.Limits.{most_stated_choices}
-use Rattle.tra_reader.specs.declared.line.Transition.{Transition}
-use Rattle.tra_reader.specs.declared.fault.TraFault.{TraFault}
+use Rattle.transition_lines.specs.Limits.{most_stated_choices}
+use Rattle.transition_lines.specs.declared.line.Transition.{Transition}
+use Rattle.transition_lines.specs.declared.fault.TraFault.{TraFault}
 use Rattle.game_model.specs.Draft.{Draft}
 use Rattle.tra_reader.specs.declared.progress.Progress.{Progress}
 use Rattle.tra_reader.specs.declared.progress.Progress.TheVariants.{Builds, Faulty, Crowded, Gap, OutOfMemory}
-use Rattle.tra_reader.specs.Lines.{is_of}
-use Rattle.tra_reader.specs.Choices.{transitions_of, choice_end}
-use Rattle.tra_reader.specs.inside.Order.{place_of, transition_place}
+use Rattle.transition_lines.specs.Lines.{is_of}
+use Rattle.transition_lines.specs.Choices.{transitions_of, choice_end}
+use Rattle.transition_lines.specs.Order.{place_of, transition_place}
 use Rattle.tra_reader.specs.inside.GrowingGames.{AreCounted, AreDrafted, HaveFault, HasGap, IsMade}
-use Rattle.tra_reader.proofs.Ends.{end_alike}
-use Rattle.tra_reader.proofs.Alike.{SameFirst, choices_alike, states_alike, gap_alike, crowded_alike, sum_alike}
+use Rattle.transition_lines.proofs.Ends.{end_alike}
+use Rattle.transition_lines.proofs.Alike.{SameFirst, choices_alike, states_alike, gap_alike, crowded_alike, sum_alike}
 
 -- the transition is of no choice before this one
 record IsBehind (s k : ℕ) (t : Transition) : Type 0 where

@@ -1,7 +1,7 @@
 -- The transitions of rows.
 use Rattle.std.proofs.Common.{◌≡◌, List, [], ◌∷◌, ◌++◌, length, suc, refl, ap}
-use Rattle.tra_reader.specs.Lines.{Row}
-use Rattle.tra_reader.specs.Text.{transitions}
+use Rattle.transition_lines.specs.Lines.{Row}
+use Rattle.transition_lines.specs.Text.{transitions}
 
 pub transitions_push : (before : List Row) (row : Row)
     → transitions (before ++ row ∷ []) ≡ transitions before ++ row.transition ∷ []

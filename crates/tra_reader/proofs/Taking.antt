@@ -3,17 +3,17 @@ use Rattle.std.proofs.Common.{◌≡◌, ◌≢◌, ◌∙◌, ◌<◌, ◌⊎�
 use Rattle.std.proofs.Common.{Option, Some, None, Result, Ok, Err, refl, sym, ap, subst}
 use Rattle.text_lines.specs.Text.{fields_of, is_nil}
 use Rattle.game_model.specs.Game.{Distribution}
-use Rattle.tra_reader.specs.declared.header.Header.{Header}
-use Rattle.tra_reader.specs.declared.fault.TraCause.{TraCause}
-use Rattle.tra_reader.specs.declared.fault.TraCause.TheVariants.{OutOfMemory, ActionClash}
-use Rattle.tra_reader.specs.declared.fault.TraFault.{TraFault}
+use Rattle.transition_lines.specs.declared.header.Header.{Header}
+use Rattle.transition_lines.specs.declared.fault.TraCause.{TraCause}
+use Rattle.transition_lines.specs.declared.fault.TraCause.TheVariants.{OutOfMemory, ActionClash}
+use Rattle.transition_lines.specs.declared.fault.TraFault.{TraFault}
 use Rattle.game_outside.specs.Answers.{AnswersOrWants}
-use Rattle.tra_reader.specs.Faults.{fault_at, fault_of_all, IsOutOfMemory}
-use Rattle.tra_reader.specs.Lines.{Row, row_said, header_said, behind, rows_said, clashes}
-use Rattle.tra_reader.specs.Text.{lines_game, rows_game, behind_header}
+use Rattle.transition_lines.specs.Faults.{fault_at, fault_of_all, IsOutOfMemory}
+use Rattle.transition_lines.specs.Lines.{Row, row_said, header_said, behind, rows_said, clashes}
+use Rattle.transition_lines.specs.Text.{lines_game, rows_game, behind_header}
 use Rattle.tra_reader.specs.inside.Reading.{HasFault, IsAnswer, IsRight, Begins, TakesLine, AddsRow, RefusesLine}
 use Rattle.tra_reader.specs.inside.Reading.{RefusesRow, Finishes, clash_of, at_first_line}
-use Rattle.tra_reader.proofs.Rows.{said_with}
+use Rattle.transition_lines.proofs.Rows.{said_with}
 
 pub filled : (fields : List (List ℕ)) → fields ≢ [] → is_nil fields ≡ false
 filled [] some = absurd (some refl)

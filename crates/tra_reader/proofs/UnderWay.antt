@@ -7,14 +7,14 @@ use Rattle.std.specs.List.{filter, All}
 use Rattle.std.specs.Option.{option_map_or}
 use Rattle.std.specs.Str.{bytes_eq}
 use Rattle.distributions.specs.declared.choice.Part.{Part}
-use Rattle.tra_reader.specs.declared.line.Transition.{Transition}
-use Rattle.tra_reader.specs.Lines.{Row}
-use Rattle.tra_reader.specs.Text.{transitions}
-use Rattle.tra_reader.specs.inside.Order.{has, transition_place}
-use Rattle.tra_reader.specs.inside.Answers.{row_place, action_at}
+use Rattle.transition_lines.specs.declared.line.Transition.{Transition}
+use Rattle.transition_lines.specs.Lines.{Row}
+use Rattle.transition_lines.specs.Text.{transitions}
+use Rattle.transition_lines.specs.Order.{has, transition_place}
+use Rattle.transition_lines.specs.Answers.{row_place, action_at}
 use Rattle.tra_reader.specs.inside.GrowingGames.{Growing, HoldsInOrder, place_under_way}
 use Rattle.tra_reader.specs.inside.ActionUnderWay.{IsActionUnderWay, ComparesAction}
-use Rattle.tra_reader.proofs.Decisions.{below_ne}
+use Rattle.transition_lines.proofs.Decisions.{below_ne}
 use Rattle.tra_reader.proofs.Noting.{noted_stays, newly_noted}
 
 -- no row stands at a place above all

@@ -13,23 +13,23 @@ use Rattle.distributions.specs.declared.choice.Part.{Part}
 use Rattle.distributions.specs.declared.choice.ChoiceFault.{ChoiceFault}
 use Rattle.distributions.specs.declared.choice.ChoiceFault.TheVariants.{OutOfMemory as NoMemory, TooFine, BadSum}
 use Rattle.distributions.specs.Parts.{choice_said}
-use Rattle.tra_reader.specs.Limits.{most_stated_choices}
-use Rattle.tra_reader.specs.declared.line.Transition.{Transition}
-use Rattle.tra_reader.specs.declared.fault.TraFault.{TraFault}
+use Rattle.transition_lines.specs.Limits.{most_stated_choices}
+use Rattle.transition_lines.specs.declared.line.Transition.{Transition}
+use Rattle.transition_lines.specs.declared.fault.TraFault.{TraFault}
 use Rattle.tra_reader.specs.declared.progress.Progress.{Progress}
 use Rattle.tra_reader.specs.declared.progress.Progress.TheVariants.{Builds, Faulty, Crowded, Gap, OutOfMemory}
-use Rattle.tra_reader.specs.Lines.{is_of}
-use Rattle.tra_reader.specs.declared.fault.TraCause.TheVariants.{Choice}
-use Rattle.tra_reader.specs.Faults.{fault_of_all}
-use Rattle.tra_reader.specs.Choices.{transitions_of, part_of, parts_of, choice_end, first_gap, first_crowded}
-use Rattle.tra_reader.specs.Choices.{if_crowded, least_missing, self_loop, sum_of_first, then_push, choice_at}
-use Rattle.tra_reader.specs.Choices.{choices_said, state_said, states_said}
-use Rattle.tra_reader.specs.inside.Order.{IsWithin}
-use Rattle.tra_reader.specs.inside.Answers.{LeadsInside}
+use Rattle.transition_lines.specs.Lines.{is_of}
+use Rattle.transition_lines.specs.declared.fault.TraCause.TheVariants.{Choice}
+use Rattle.transition_lines.specs.Faults.{fault_of_all}
+use Rattle.transition_lines.specs.Choices.{transitions_of, part_of, parts_of, choice_end, first_gap, first_crowded}
+use Rattle.transition_lines.specs.Choices.{if_crowded, least_missing, self_loop, sum_of_first, then_push, choice_at}
+use Rattle.transition_lines.specs.Choices.{choices_said, state_said, states_said}
+use Rattle.transition_lines.specs.Order.{IsWithin}
+use Rattle.transition_lines.specs.Answers.{LeadsInside}
 use Rattle.tra_reader.specs.inside.GrowingGames.{AreCounted, AreDrafted, HaveFault, IsMade, IsBuilt, IsChoiceFault}
 use Rattle.tra_reader.specs.inside.GrowingGames.{progress_of, ended}
-use Rattle.tra_reader.proofs.Decisions.{cases_lt, lt_test, ge_test}
-use Rattle.tra_reader.proofs.Ends.{end_is, none_missing, no_gap}
+use Rattle.transition_lines.proofs.Decisions.{cases_lt, lt_test, ge_test}
+use Rattle.transition_lines.proofs.Ends.{end_is, none_missing, no_gap}
 use Rattle.tra_reader.proofs.Inside.{inside}
 
 -- 1. One choice more.

@@ -3,9 +3,9 @@ use Rattle.std.specs.Prelude.{Bool, true, false, Option, Some, None, Result, Ok,
 use Rattle.game_outside.specs.declared.file.FileEnd.{FileEnd}
 use Rattle.game_outside.specs.declared.file.FileEnd.TheVariants as file
 use Rattle.distributions.specs.declared.choice.ChoiceFault.TheVariants as choice
-use Rattle.tra_reader.specs.declared.fault.TraCause.{TraCause}
-use Rattle.tra_reader.specs.declared.fault.TraCause.TheVariants.{OutOfMemory, Choice}
-use Rattle.tra_reader.specs.declared.fault.TraFault.{TraFault}
+use Rattle.transition_lines.specs.declared.fault.TraCause.{TraCause}
+use Rattle.transition_lines.specs.declared.fault.TraCause.TheVariants.{OutOfMemory, Choice}
+use Rattle.transition_lines.specs.declared.fault.TraFault.{TraFault}
 use Rattle.tra_reader.specs.declared.halt.Halt.{Halt}
 use Rattle.tra_reader.specs.declared.halt.Halt.TheVariants as halt
 

@@ -1,6 +1,4 @@
 -- What the crate's own loops and private functions speak of: no clause of a public function unfolds to it.
-pub mod Order
-pub mod Answers
 pub mod GrowingGames
 pub mod OfGrowing
 pub mod Reading

@@ -4,9 +4,9 @@ ghost use Rattle.std.specs.Prelude.{◌≡◌, ◌≤◌, ℕ, length, nat_eq};
 ghost use Rattle.std.specs.HashMap.{get};
 ghost use Rattle.std.specs.Option.{ForSome};
 
-use crate::line::Transition;
 use std::alloc::{AllocError, Global};
 use std::collections::HashMap;
+use transition_lines::Transition;
 
 /// Where an action stands among the bytes of all.
 #[derive(Clone, Copy, Debug, PartialEq, Eq)]
@@ -26,8 +26,8 @@ pub struct FirstActions {
 
 impl FirstActions {
     ghost use Rattle.std.specs.Prelude.{◌==◌, ◌++◌, ◌∷◌, [], IfOk, OnOk, List, Some, if◌then◌else◌};
-    ghost use Rattle.tra_reader.specs.Lines.{Row};
-    ghost use Rattle.tra_reader.specs.inside.Answers.{clashes_at, row_place};
+    ghost use Rattle.transition_lines.specs.Lines.{Row};
+    ghost use Rattle.transition_lines.specs.Answers.{clashes_at, row_place};
     ghost use Rattle.tra_reader.specs.inside.Noted.{noted, silent_rows, Notes};
 
     /// No action so far.

@@ -3,18 +3,16 @@
 ghost use Rattle.std.specs.Prelude.{◌≡◌, ◌≢◌, ◌≤◌, ◌<◌, [], ℕ, List, IfOk, OnOk, MatchResult, length};
 ghost use Rattle.std.specs.List.{All};
 ghost use Rattle.text_lines.specs.Text.{fields_of};
-ghost use Rattle.tra_reader.specs.inside.Order.{IsWithin};
-ghost use Rattle.tra_reader.specs.inside.Answers.{IsAccepted};
+ghost use Rattle.transition_lines.specs.Order.{IsWithin};
+ghost use Rattle.transition_lines.specs.Answers.{IsAccepted};
 
 use crate::body::{blank_between, check_count, first_line, no_header, read_row};
 use crate::build::build;
-use crate::fault::TraFault;
-use crate::header::Header;
-use crate::line::Transition;
 use crate::line_actions::LineActions;
 use game_model::Game;
 use std::alloc::Global;
 use text_lines::LineReader;
+use transition_lines::{Header, TraFault, Transition};
 
 /// Reads a text whose transitions stand in any order. It keeps all of them.
 #[derive(Drop)]

@@ -2,16 +2,14 @@
 
 ghost use Rattle.std.specs.Prelude.{◌≡◌, ◌≢◌, ◌≤◌, ◌<◌, IfOk, MatchResult, [], if◌then◌else◌};
 ghost use Rattle.text_lines.specs.Text.{fields_of};
-ghost use Rattle.tra_reader.specs.Limits.{most_lines};
-ghost use Rattle.tra_reader.specs.Faults.{fault_at, fault_of_all};
-ghost use Rattle.tra_reader.specs.Lines.{header_said};
-ghost use Rattle.tra_reader.specs.inside.Order.{IsWithin};
-ghost use Rattle.tra_reader.specs.inside.Answers.{IsAccepted};
+ghost use Rattle.transition_lines.specs.Limits.{most_lines};
+ghost use Rattle.transition_lines.specs.Faults.{fault_at, fault_of_all};
+ghost use Rattle.transition_lines.specs.Lines.{header_said};
+ghost use Rattle.transition_lines.specs.Order.{IsWithin};
+ghost use Rattle.transition_lines.specs.Answers.{IsAccepted};
 ghost use Rattle.tra_reader.specs.inside.Reading.{RowAnswer, at_first_line};
 
-use crate::fault::{TraCause, TraFault};
-use crate::header::{Header, read_header};
-use crate::line::{Transition, read_line};
+use transition_lines::{Header, TraCause, TraFault, Transition, read_header, read_line};
 
 /// The header of a text, from its first line.
 pub fn first_line(line: &[u8]) -> Result<Header, TraFault>

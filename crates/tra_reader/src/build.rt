@@ -2,18 +2,16 @@
 
 ghost use Rattle.std.specs.List.{All};
 ghost use Rattle.game_outside.specs.Answers.{AnswersOrWants};
-ghost use Rattle.tra_reader.specs.Faults.{IsOutOfMemory};
-ghost use Rattle.tra_reader.specs.Choices.{transitions_game};
-ghost use Rattle.tra_reader.specs.inside.Order.{IsWithin, Rises, transition_place};
-ghost use Rattle.tra_reader.specs.inside.Answers.{IsAccepted};
+ghost use Rattle.transition_lines.specs.Faults.{IsOutOfMemory};
+ghost use Rattle.transition_lines.specs.Choices.{transitions_game};
+ghost use Rattle.transition_lines.specs.Order.{IsWithin, Rises, transition_place};
+ghost use Rattle.transition_lines.specs.Answers.{IsAccepted};
 
-use crate::fault::TraFault;
 use crate::game_in_order::GameInOrder;
-use crate::header::Header;
-use crate::line::Transition;
 use crate::order::put_in_order;
 use game_model::Game;
 use std::alloc::Global;
+use transition_lines::{Header, TraFault, Transition};
 
 /// The game of these transitions, in whatever order they stand.
 pub fn build(alloc: Global, transitions: Vec<Transition>, header: &Header) -> Result<Game, TraFault>

@@ -4,20 +4,20 @@ ghost use Rattle.std.specs.Prelude.{◌≡◌, ◌≤◌};
 ghost use Rattle.text_lines.specs.Limits.{most_bytes};
 ghost use Rattle.game_outside.specs.Files.{LeavesShelf, ReadsFile, RefusesCaused};
 ghost use Rattle.game_outside.specs.Answers.{AnswersOrWants};
-ghost use Rattle.tra_reader.specs.Faults.{IsOutOfMemory};
-ghost use Rattle.tra_reader.specs.Text.{game_of};
+ghost use Rattle.transition_lines.specs.Faults.{IsOutOfMemory};
+ghost use Rattle.transition_lines.specs.Text.{game_of};
 ghost use Rattle.tra_reader.specs.inside.Reading.{IsAnswer};
 ghost use Rattle.tra_reader.specs.inside.Ordered.{text_fault};
 ghost use Rattle.tra_reader.specs.FileEnds.{is_out_of_memory, in_order_of, without_want_of};
 
 use crate::any_order::AnyLines;
-use crate::fault::{TraCause, TraFault};
 use crate::halt::Halt;
 use crate::ordered::OrderedLines;
 use distributions::ChoiceFault;
 use game_model::Game;
 use game_outside::{FileEnd, Shelf, read_lines_from};
 use std::alloc::Global;
+use transition_lines::{TraCause, TraFault};
 
 /// The game that the text under a name denotes, or its first fault, in whatever pieces the text comes. A text in the
 /// order of its choices is read in one pass; any other is begun and read once more.

@@ -3,19 +3,18 @@
 ghost use Rattle.std.specs.Prelude.{◌≡◌, ◌<◌, ◌≤◌, ◌↔◌, ◌∷◌, ◌++◌, ℕ, List, [], length, IfOk, OnOk, IsTrue};
 ghost use Rattle.game_model.specs.Limits.{most_states};
 ghost use Rattle.game_outside.specs.Answers.{AnswersOrWants};
-ghost use Rattle.tra_reader.specs.Faults.{IsOutOfMemory};
-ghost use Rattle.tra_reader.specs.Choices.{transitions_game};
-ghost use Rattle.tra_reader.specs.inside.Order.{IsWithin, transition_place};
+ghost use Rattle.transition_lines.specs.Faults.{IsOutOfMemory};
+ghost use Rattle.transition_lines.specs.Choices.{transitions_game};
+ghost use Rattle.transition_lines.specs.Order.{IsWithin, transition_place};
 ghost use Rattle.tra_reader.specs.inside.GrowingGames.{place_under_way, HoldsInOrder};
 
-use crate::fault::TraFault;
-use crate::line::{Transition, place_at};
 use crate::progress::Progress;
 use crate::whole_choices::WholeChoices;
 use distributions::Part;
 use game_model::{Edge, Game, GameBuilder};
 use std::alloc::{AllocError, Global};
 use std::marker::Model;
+use transition_lines::{TraFault, Transition, place_at};
 
 /// A game under way, made of transitions that come in the order of their choices. Only those of the choice under way
 /// are kept, as its parts, and room for the edges of a choice.

@@ -1,7 +1,7 @@
 //! Why a reader of lines in order ends.
 
-use crate::fault::{TraCause, TraFault};
 use std::alloc::AllocError;
+use transition_lines::{TraCause, TraFault};
 
 /// Why a reader of lines in order ends.
 #[derive(Clone, Copy, Debug, PartialEq, Eq)]
@@ -25,8 +25,8 @@ impl From<TraFault> for Halt {
 
 impl From<AllocError> for Halt {
     ghost use Rattle.std.specs.Prelude.{◌≡◌};
-    ghost use Rattle.tra_reader.specs.Faults.{fault_of_all};
-    ghost use Rattle.tra_reader.specs.declared.fault.TraCause.TheVariants.{OutOfMemory};
+    ghost use Rattle.transition_lines.specs.Faults.{fault_of_all};
+    ghost use Rattle.transition_lines.specs.declared.fault.TraCause.TheVariants.{OutOfMemory};
     ghost use Rattle.tra_reader.specs.declared.halt.Halt.TheVariants.{Refused};
 
     ghost from_gives = { λ _ given. given ≡ Refused (fault_of_all OutOfMemory) };

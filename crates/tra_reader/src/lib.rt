@@ -1,9 +1,7 @@
 //! Transition files: the explicit `.tra` form of an MDP or a DTMC, as the PRISM manual describes it.
 //!
-//! The first line has three whole numbers, states, choices and transition lines, for an MDP, or two, states and lines,
-//! for a DTMC. Each further line is a transition: `source choice destination probability` and an action or none, in a
-//! DTMC without the choice. Lines stand in any order, and those of one choice to one destination add up. A state
-//! without a line has one choice, a move to itself, and no state has more than 16,384.
+//! `transition_lines` says how a line is spelled. Lines stand in any order, and those of one choice to one destination
+//! add up. A state without a line has one choice, a move to itself, and no state has more than 16,384.
 //!
 //! ```text
 //! let game = read_tra(alloc, b"3 3 5\n0 0 0 0.5\n0 0 1 0.25\n0 0 2 0.25\n1 0 1 1\n2 0 2 1\n")?;
@@ -21,14 +19,9 @@ mod actions;
 mod any_order;
 mod body;
 mod build;
-mod fault;
 mod file;
 mod game_in_order;
 mod halt;
-mod header;
-pub mod laws;
-mod limits;
-mod line;
 mod line_actions;
 mod order;
 mod ordered;
@@ -36,7 +29,6 @@ mod progress;
 mod reader;
 mod whole_choices;
 
-pub use fault::{TraCause, TraFault};
 pub use file::read_tra_from;
-pub use limits::{MOST_LINES, MOST_STATED_CHOICES};
 pub use reader::read_tra;
+pub use transition_lines::{MOST_LINES, MOST_STATED_CHOICES, TraCause, TraFault};

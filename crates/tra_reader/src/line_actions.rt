@@ -1,14 +1,14 @@
 //! The actions of lines.
 
 ghost use Rattle.std.specs.Prelude.{◌≡◌, ◌++◌, ◌∷◌, [], List, IfOk, OnOk, false};
-ghost use Rattle.tra_reader.specs.Lines.{Row};
-ghost use Rattle.tra_reader.specs.Text.{transitions};
-ghost use Rattle.tra_reader.specs.inside.Answers.{clashes_at, row_place};
+ghost use Rattle.transition_lines.specs.Lines.{Row};
+ghost use Rattle.transition_lines.specs.Text.{transitions};
+ghost use Rattle.transition_lines.specs.Answers.{clashes_at, row_place};
 ghost use Rattle.tra_reader.specs.inside.Noted.{Notes, NotesLines};
 
 use crate::actions::FirstActions;
-use crate::line::Transition;
 use std::alloc::{AllocError, Global};
+use transition_lines::Transition;
 
 /// The first actions of choices. Nothing is noted as long as no line has an action.
 #[derive(Drop)]

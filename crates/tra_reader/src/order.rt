@@ -2,10 +2,10 @@
 
 ghost use Rattle.std.specs.Prelude.{◌≡◌, ℕ, OnOk, length};
 ghost use Rattle.std.specs.List.{filter, All};
-ghost use Rattle.tra_reader.specs.inside.Order.{Rises, IsWithin, has, transition_place};
+ghost use Rattle.transition_lines.specs.Order.{Rises, IsWithin, has, transition_place};
 
-use crate::line::Transition;
 use std::alloc::AllocError;
+use transition_lines::Transition;
 
 /// Puts the transitions in the order of their choices, those of one choice as they stood.
 pub fn put_in_order(transitions: &mut Vec<Transition>) -> Result<(), AllocError>

@@ -2,22 +2,20 @@
 
 ghost use Rattle.std.specs.Prelude.{◌≡◌, ◌≢◌, ◌≤◌, ◌<◌, [], ℕ, List, IfOk, OnOk, MatchResult, length};
 ghost use Rattle.text_lines.specs.Text.{fields_of};
-ghost use Rattle.tra_reader.specs.inside.Order.{IsWithin, transition_place};
-ghost use Rattle.tra_reader.specs.Lines.{Row};
-ghost use Rattle.tra_reader.specs.Text.{transitions};
-ghost use Rattle.tra_reader.specs.inside.Answers.{IsAccepted, row_place};
+ghost use Rattle.transition_lines.specs.Order.{IsWithin, transition_place};
+ghost use Rattle.transition_lines.specs.Lines.{Row};
+ghost use Rattle.transition_lines.specs.Text.{transitions};
+ghost use Rattle.transition_lines.specs.Answers.{IsAccepted, row_place};
 ghost use Rattle.tra_reader.specs.inside.GrowingGames.{HoldsInOrder, place_under_way};
 ghost use Rattle.tra_reader.specs.inside.ActionUnderWay.{IsActionUnderWay, ComparesAction};
 
 use crate::body::{blank_between, check_count, first_line, no_header, read_row};
-use crate::fault::TraFault;
 use crate::game_in_order::GameInOrder;
 use crate::halt::Halt;
-use crate::header::Header;
-use crate::line::Transition;
 use game_model::Game;
 use std::alloc::{AllocError, Global};
 use text_lines::LineReader;
+use transition_lines::{Header, TraFault, Transition};
 
 /// Reads a text whose transitions stand in the order of their choices. It keeps no row, and halts at the first line
 /// that stands before the choice under way.

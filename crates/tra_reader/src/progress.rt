@@ -2,15 +2,14 @@
 
 ghost use Rattle.std.specs.Prelude.{◌≡◌, ◌≤◌, IfOk, IfErr};
 ghost use Rattle.game_model.specs.Limits.{most_choices};
-ghost use Rattle.tra_reader.specs.Choices.{self_loop};
+ghost use Rattle.transition_lines.specs.Choices.{self_loop};
 ghost use Rattle.tra_reader.specs.inside.GrowingGames.{IsBuilt, IsChoiceFault, EndsChoice, EndsState, CrowdsState, NotesGap, ended, progress_of};
 
-use crate::fault::TraFault;
-use crate::limits::MOST_LINES;
 use distributions::laws::said_is_denoted;
 use distributions::{ChoiceFault, Part, fill_choice, known_of_all};
 use game_model::{Choice, Edge, GameBuilder, MOST_CHOICES};
 use std::alloc::{AllocError, Global};
+use transition_lines::{MOST_LINES, TraFault};
 
 /// What has come of the whole choices.
 #[derive(Drop)]

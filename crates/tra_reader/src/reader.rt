@@ -3,19 +3,19 @@
 ghost use Rattle.std.specs.Prelude.{◌≤◌, length};
 ghost use Rattle.text_lines.specs.Limits.{most_bytes};
 ghost use Rattle.game_outside.specs.Answers.{AnswersOrWants};
-ghost use Rattle.tra_reader.specs.Faults.{IsOutOfMemory};
-ghost use Rattle.tra_reader.specs.Text.{game_of};
+ghost use Rattle.transition_lines.specs.Faults.{IsOutOfMemory};
+ghost use Rattle.transition_lines.specs.Text.{game_of};
 
 use crate::any_order::AnyLines;
-use crate::fault::TraFault;
 use crate::halt::Halt;
 use crate::ordered::OrderedLines;
 use game_model::Game;
 use std::alloc::Global;
 use text_lines::read_lines;
+use transition_lines::TraFault;
 
 /// The game that a transition text denotes, or the text's first fault. A text in order is read in one pass, any other
-/// once more. What is said of a text is what it denotes: `laws::said_is_denoted`.
+/// once more. What is said of a text is what it denotes: `transition_lines::laws::said_is_denoted`.
 pub fn read_tra(alloc: Global, bytes: &[u8]) -> Result<Game, TraFault>
     requires { length bytes.now ≤ most_bytes }
     ensures { AnswersOrWants IsOutOfMemory (λ g. g) result (game_of bytes.now) }

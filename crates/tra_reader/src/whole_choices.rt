@@ -1,19 +1,19 @@
 //! The choices of a game under way that are whole, since the transitions come in the order of their choices.
 
 ghost use Rattle.std.specs.Prelude.{◌≡◌, ◌<◌, ◌≤◌, ◌+◌, ℕ, List};
-ghost use Rattle.tra_reader.specs.declared.line.Transition.{Transition};
-ghost use Rattle.tra_reader.specs.Limits.{most_stated_choices};
+ghost use Rattle.transition_lines.specs.declared.line.Transition.{Transition};
+ghost use Rattle.transition_lines.specs.Limits.{most_stated_choices};
 ghost use Rattle.game_outside.specs.Answers.{AnswersOrWants};
-ghost use Rattle.tra_reader.specs.Faults.{IsOutOfMemory};
-ghost use Rattle.tra_reader.specs.Choices.{transitions_game};
-ghost use Rattle.tra_reader.specs.inside.Order.{place_of};
+ghost use Rattle.transition_lines.specs.Faults.{IsOutOfMemory};
+ghost use Rattle.transition_lines.specs.Choices.{transitions_game};
+ghost use Rattle.transition_lines.specs.Order.{place_of};
 ghost use Rattle.tra_reader.specs.inside.GrowingGames.{IsWhole, place_behind, AddsChoice, EndsStates, EndsBefore, GoesTo, IsReady, IfBuilds, IsAsStated};
 
-use crate::fault::{TraCause, TraFault};
 use crate::progress::Progress;
 use distributions::Part;
 use game_model::{Edge, Game};
 use std::alloc::Global;
+use transition_lines::{TraCause, TraFault};
 
 /// The whole choices: all that come before one choice of one state.
 #[derive(Drop)]

@@ -1,8 +1,8 @@
 -- The action of the choice under way, where transitions come in the order of their choices.
 use Rattle.std.specs.Prelude.{◌≡◌, ◌<◌, ℕ, List, [], ◌∷◌, ◌++◌, length, Some, Bool}
 use Rattle.tra_reader.specs.inside.GrowingGames.{Growing, place_under_way}
-use Rattle.tra_reader.specs.Lines.{Row}
-use Rattle.tra_reader.specs.inside.Answers.{row_place, action_at, clashes_at}
+use Rattle.transition_lines.specs.Lines.{Row}
+use Rattle.transition_lines.specs.Answers.{row_place, action_at, clashes_at}
 
 -- where a choice is under way, this is the action of its first row
 abbrev pub IsActionUnderWay : Growing → List ℕ → List Row → Type 0

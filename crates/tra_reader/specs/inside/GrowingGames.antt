@@ -9,17 +9,17 @@ use Rattle.distributions.specs.declared.choice.Part.{Part}
 use Rattle.distributions.specs.declared.choice.ChoiceFault.{ChoiceFault}
 use Rattle.distributions.specs.declared.choice.ChoiceFault.TheVariants.{OutOfMemory as NoMemory, TooFine, BadSum}
 use Rattle.distributions.specs.Parts.{choice_said, DenotesChoice}
-use Rattle.tra_reader.specs.declared.line.Transition.{Transition}
-use Rattle.tra_reader.specs.declared.fault.TraFault.{TraFault}
+use Rattle.transition_lines.specs.declared.line.Transition.{Transition}
+use Rattle.transition_lines.specs.declared.fault.TraFault.{TraFault}
 use Rattle.tra_reader.specs.declared.progress.Progress.{Progress}
 use Rattle.tra_reader.specs.declared.progress.Progress.TheVariants.{Builds, Faulty, Crowded, Gap, OutOfMemory}
 use Rattle.tra_reader.specs.declared.whole_choices.WholeChoices.{WholeChoices}
-use Rattle.tra_reader.specs.Faults.{fault_of_choice}
-use Rattle.tra_reader.specs.Limits.{most_stated_choices}
-use Rattle.tra_reader.specs.Choices.{transitions_of, parts_of, self_loop, sum_of_first, choice_end, first_gap}
-use Rattle.tra_reader.specs.Choices.{first_crowded, choices_said, states_said, if_as_stated}
-use Rattle.tra_reader.specs.inside.Order.{Rises, IsWithin, place_of, transition_place}
-use Rattle.tra_reader.specs.inside.Answers.{LeadsInside}
+use Rattle.transition_lines.specs.Faults.{fault_of_choice}
+use Rattle.transition_lines.specs.Limits.{most_stated_choices}
+use Rattle.transition_lines.specs.Choices.{transitions_of, parts_of, self_loop, sum_of_first, choice_end, first_gap}
+use Rattle.transition_lines.specs.Choices.{first_crowded, choices_said, states_said, if_as_stated}
+use Rattle.transition_lines.specs.Order.{Rises, IsWithin, place_of, transition_place}
+use Rattle.transition_lines.specs.Answers.{LeadsInside}
 
 -- 1. The whole choices: those of the first s states, and the first k of the next state.
 

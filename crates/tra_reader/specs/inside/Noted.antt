@@ -2,11 +2,11 @@
 use Rattle.std.specs.Prelude.{◌≡◌, ℕ, Bool, true, false, List, [], map, Option, option_map, nat_eq}
 use Rattle.std.specs.List.{slice_range, AllByRecursion}
 use Rattle.std.specs.HashMap.{get}
-use Rattle.tra_reader.specs.declared.line.Transition.{Transition}
+use Rattle.transition_lines.specs.declared.line.Transition.{Transition}
 use Rattle.tra_reader.specs.declared.actions.FirstActions.{FirstActions}
 use Rattle.tra_reader.specs.declared.line_actions.LineActions.{LineActions}
-use Rattle.tra_reader.specs.Lines.{Row}
-use Rattle.tra_reader.specs.inside.Answers.{action_at}
+use Rattle.transition_lines.specs.Lines.{Row}
+use Rattle.transition_lines.specs.Answers.{action_at}
 
 -- the action that is noted of the choice at this place
 abbrev pub noted : FirstActions → ℕ → Option (List ℕ)

@@ -2,14 +2,14 @@
 use Rattle.std.specs.Prelude.{◌≡◌, ℕ, List, length, Option, Some, None, Result}
 use Rattle.std.specs.List.{All}
 use Rattle.game_model.specs.Game.{Distribution}
-use Rattle.tra_reader.specs.declared.header.Header.{Header}
-use Rattle.tra_reader.specs.declared.fault.TraFault.{TraFault}
+use Rattle.transition_lines.specs.declared.header.Header.{Header}
+use Rattle.transition_lines.specs.declared.fault.TraFault.{TraFault}
 use Rattle.tra_reader.specs.declared.halt.Halt.{Halt}
 use Rattle.tra_reader.specs.declared.halt.Halt.TheVariants.{OutOfOrder, Refused}
 use Rattle.tra_reader.specs.declared.ordered.OrderedRows.{OrderedRows}
-use Rattle.tra_reader.specs.Lines.{Row}
-use Rattle.tra_reader.specs.Text.{transitions}
-use Rattle.tra_reader.specs.inside.Order.{IsWithin}
+use Rattle.transition_lines.specs.Lines.{Row}
+use Rattle.transition_lines.specs.Text.{transitions}
+use Rattle.transition_lines.specs.Order.{IsWithin}
 use Rattle.tra_reader.specs.inside.ActionUnderWay.{IsActionUnderWay}
 use Rattle.tra_reader.specs.inside.GrowingGames.{Growing, HoldsInOrder}
 use Rattle.tra_reader.specs.inside.Reading.{IsRight, Begins, TakesLine, RefusesLine, AddsRow, RefusesRow, Finishes}

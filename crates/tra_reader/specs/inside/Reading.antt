@@ -5,15 +5,15 @@ use Rattle.std.specs.Borrow.{Bor}
 use Rattle.std.specs.Option.{ForSome}
 use Rattle.text_lines.specs.Text.{fields_of}
 use Rattle.game_model.specs.Game.{Distribution}
-use Rattle.tra_reader.specs.declared.header.Header.{Header}
-use Rattle.tra_reader.specs.declared.line.Transition.{Transition}
-use Rattle.tra_reader.specs.declared.fault.TraCause.{TraCause}
-use Rattle.tra_reader.specs.declared.fault.TraCause.TheVariants.{OutOfMemory, ActionClash}
-use Rattle.tra_reader.specs.declared.fault.TraFault.{TraFault}
+use Rattle.transition_lines.specs.declared.header.Header.{Header}
+use Rattle.transition_lines.specs.declared.line.Transition.{Transition}
+use Rattle.transition_lines.specs.declared.fault.TraCause.{TraCause}
+use Rattle.transition_lines.specs.declared.fault.TraCause.TheVariants.{OutOfMemory, ActionClash}
+use Rattle.transition_lines.specs.declared.fault.TraFault.{TraFault}
 use Rattle.game_outside.specs.Answers.{AnswersOrWants}
-use Rattle.tra_reader.specs.Faults.{fault_at, fault_of_all, IsOutOfMemory}
-use Rattle.tra_reader.specs.Lines.{Row, row_said, header_said, line_said, rows_said, clashes}
-use Rattle.tra_reader.specs.Text.{lines_game, rows_game}
+use Rattle.transition_lines.specs.Faults.{fault_at, fault_of_all, IsOutOfMemory}
+use Rattle.transition_lines.specs.Lines.{Row, row_said, header_said, line_said, rows_said, clashes}
+use Rattle.transition_lines.specs.Text.{lines_game, rows_game}
 
 -- the header of the first line, or its fault
 abbrev pub at_first_line : Result Header TraCause → Result Header TraFault

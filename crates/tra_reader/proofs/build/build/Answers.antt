@@ -1,17 +1,17 @@
 use Rattle.std.proofs.Common.{◌∙◌, ◌<◌, List, Result, sym, ap, subst}
 use Rattle.std.specs.List.{All}
 use Rattle.game_model.specs.Game.{Distribution}
-use Rattle.tra_reader.specs.Limits.{most_stated_choices}
-use Rattle.tra_reader.specs.declared.line.Transition.{Transition}
-use Rattle.tra_reader.specs.declared.fault.TraFault.{TraFault}
+use Rattle.transition_lines.specs.Limits.{most_stated_choices}
+use Rattle.transition_lines.specs.declared.line.Transition.{Transition}
+use Rattle.transition_lines.specs.declared.fault.TraFault.{TraFault}
 use Rattle.game_outside.specs.Answers.{AnswersOrWants}
-use Rattle.tra_reader.specs.Faults.{IsOutOfMemory}
-use Rattle.tra_reader.specs.Choices.{transitions_game}
-use Rattle.tra_reader.specs.inside.Order.{IsWithin}
+use Rattle.transition_lines.specs.Faults.{IsOutOfMemory}
+use Rattle.transition_lines.specs.Choices.{transitions_game}
+use Rattle.transition_lines.specs.Order.{IsWithin}
 use Rattle.tra_reader.proofs.Sorted.{same_transitions}
-use Rattle.tra_reader.proofs.Ends.{AreSmall}
+use Rattle.transition_lines.proofs.Ends.{AreSmall}
 use Rattle.std.proofs.lemmas.List.Elements.{All-weaker}
-use Rattle.tra_reader.proofs.Alike.{game_alike}
+use Rattle.transition_lines.proofs.Alike.{game_alike}
 use Rattle.tra_reader.proofs.build.build.Goals as goal
 
 pub returns : goal.returns

@@ -1,8 +1,8 @@
 use Rattle.std.proofs.Common.{rules, ◌≡◌, ◌∙◌, ◌<◌, ℕ, ◌+◌, List, [], ◌∷◌, ◌++◌, length, get_or, take, drop, sym, ap}
 use Rattle.std.proofs.Common.{subst}
 use Rattle.std.proofs.lemmas.List.{take_more, drop_more, take_all}
-use Rattle.tra_reader.specs.declared.line.Transition.{Transition}
-use Rattle.tra_reader.specs.inside.Order.{From, Rises, transition_place}
+use Rattle.transition_lines.specs.declared.line.Transition.{Transition}
+use Rattle.transition_lines.specs.Order.{From, Rises, transition_place}
 use Rattle.tra_reader.specs.inside.GrowingGames.{HoldsInOrder}
 use Rattle.tra_reader.proofs.Sorted.{from_nought}
 use Rattle.tra_reader.proofs.UnderWay.{at_last}

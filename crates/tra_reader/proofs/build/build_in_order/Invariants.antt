@@ -1,5 +1,5 @@
 use Rattle.std.proofs.Common.{take, drop}
-use Rattle.tra_reader.specs.inside.Order.{From, Rises, transition_place}
+use Rattle.transition_lines.specs.Order.{From, Rises, transition_place}
 use Rattle.tra_reader.specs.inside.GrowingGames.{HoldsInOrder, place_under_way}
 use Rattle.tra_reader.proofs.build.build_in_order.Given as goal
 

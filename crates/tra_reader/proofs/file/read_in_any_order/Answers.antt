@@ -1,9 +1,9 @@
 use Rattle.std.proofs.Common.{Some}
 use Rattle.text_lines.specs.Text.{lines_of, significant}
-use Rattle.tra_reader.specs.declared.fault.TraFault.{TraFault}
+use Rattle.transition_lines.specs.declared.fault.TraFault.{TraFault}
 use Rattle.game_outside.specs.Answers.{AnswersOrWants}
-use Rattle.tra_reader.specs.Faults.{IsOutOfMemory}
-use Rattle.tra_reader.specs.Text.{game_of}
+use Rattle.transition_lines.specs.Faults.{IsOutOfMemory}
+use Rattle.transition_lines.specs.Text.{game_of}
 use Rattle.tra_reader.specs.inside.AnyOrder.{any_header, HoldsAny, AnyRight}
 use Rattle.tra_reader.proofs.Taking.{right_whole, given}
 use Rattle.tra_reader.proofs.FileAnswers.{reads_so}

@@ -1,5 +1,5 @@
 use Rattle.text_lines.specs.Text.{lines_of, significant}
-use Rattle.tra_reader.specs.Text.{game_of}
+use Rattle.transition_lines.specs.Text.{game_of}
 use Rattle.tra_reader.specs.inside.Reading.{IsAnswer}
 use Rattle.tra_reader.specs.inside.Ordered.{ordered_header, HoldsOrdered, text_fault, OrderedRight}
 use Rattle.tra_reader.proofs.Taking.{right_whole}

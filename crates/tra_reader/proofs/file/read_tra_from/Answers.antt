@@ -1,6 +1,6 @@
 use Rattle.std.proofs.Common.{◌≡◌, sym, ◌∙◌, subst}
 use Rattle.game_outside.specs.Files.{ReadsFile}
-use Rattle.tra_reader.specs.Text.{game_of}
+use Rattle.transition_lines.specs.Text.{game_of}
 use Rattle.tra_reader.proofs.FileAnswers.{reads_exactly, reads_in_order}
 use Rattle.tra_reader.proofs.file.read_tra_from.Goals as goal
 

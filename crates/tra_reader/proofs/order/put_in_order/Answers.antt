@@ -1,8 +1,8 @@
 use Rattle.std.proofs.Common.{rules, ◌≡◌, arith}
 use Rattle.std.proofs.lemmas.List.Sorted.{IsNonDecreasingBy-from_sort_by_key, All-permutation}
 use Rattle.std.proofs.lemmas.Fn.{always_returns_same}
-use Rattle.tra_reader.specs.inside.Order.{transition_place, IsWithin}
-use Rattle.tra_reader.specs.declared.line.Transition.{Transition}
+use Rattle.transition_lines.specs.Order.{transition_place, IsWithin}
+use Rattle.transition_lines.specs.declared.line.Transition.{Transition}
 use Rattle.tra_reader.proofs.Sorting.{same_with, rises_sorted}
 use Rattle.tra_reader.proofs.order.put_in_order.Goals as goal
 

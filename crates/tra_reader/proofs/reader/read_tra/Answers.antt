@@ -1,8 +1,8 @@
 use Rattle.std.proofs.Common.{Ok, Err, Some, ap}
 use Rattle.text_lines.specs.Text.{lines_of, significant}
 use Rattle.tra_reader.specs.declared.halt.Halt.{Halt}
-use Rattle.tra_reader.specs.declared.fault.TraFault.{TraFault}
-use Rattle.tra_reader.specs.Text.{game_of, lines_game}
+use Rattle.transition_lines.specs.declared.fault.TraFault.{TraFault}
+use Rattle.transition_lines.specs.Text.{game_of, lines_game}
 use Rattle.tra_reader.specs.inside.Ordered.{ordered_header, HoldsOrdered, text_fault}
 use Rattle.tra_reader.specs.inside.AnyOrder.{any_header, HoldsAny}
 use Rattle.tra_reader.proofs.Taking.{right_whole, given}

@@ -4,7 +4,7 @@ use Rattle.std.specs.HashMap.{get}
 use Rattle.std.specs.Str.{bytes_eq}
 use Rattle.std.specs.List.{slice_range}
 use Rattle.tra_reader.specs.declared.actions.Span.{Span}
-use Rattle.tra_reader.specs.inside.Answers.{action_at}
+use Rattle.transition_lines.specs.Answers.{action_at}
 use Rattle.tra_reader.proofs.Spans.{in_bytes}
 use Rattle.tra_reader.proofs.Noting.{noted_stays, newly_noted}
 use Rattle.tra_reader.proofs.actions.FirstActions.note.Goals as goal

@@ -1,5 +1,5 @@
 use Rattle.std.proofs.Common.{rules, ◌<◌, List, [], length, take, sym, subst}
-use Rattle.tra_reader.specs.Lines.{Row}
+use Rattle.transition_lines.specs.Lines.{Row}
 use Rattle.tra_reader.specs.inside.Noted.{Notes, silent_rows}
 use Rattle.tra_reader.proofs.Silence.{silent_more, with_action}
 use Rattle.tra_reader.proofs.actions.FirstActions.note_silent.Goals as goal

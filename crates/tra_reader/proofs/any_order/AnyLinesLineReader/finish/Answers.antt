@@ -1,9 +1,9 @@
 use Rattle.std.proofs.Common.{List, Result, Ok, Err, Some, refl}
 use Rattle.game_model.specs.Game.{Distribution}
-use Rattle.tra_reader.specs.declared.fault.TraFault.{TraFault}
+use Rattle.transition_lines.specs.declared.fault.TraFault.{TraFault}
 use Rattle.tra_reader.specs.inside.AnyOrder.{any_header, HoldsAny}
 use Rattle.game_outside.specs.Answers.{AnswersOrWants}
-use Rattle.tra_reader.specs.Faults.{IsOutOfMemory}
+use Rattle.transition_lines.specs.Faults.{IsOutOfMemory}
 use Rattle.tra_reader.specs.inside.Reading.{IsAnswer}
 use Rattle.tra_reader.proofs.Taking.{answer_told, right_end}
 use Rattle.tra_reader.proofs.any_order.AnyLinesLineReader.finish.Goals as goal

@@ -1,6 +1,6 @@
 use Rattle.std.proofs.Common.{Some, refl}
 use Rattle.std.proofs.lemmas.Result.{err_from_is_err_and}
-use Rattle.tra_reader.specs.declared.fault.TraFault.{TraFault}
+use Rattle.transition_lines.specs.declared.fault.TraFault.{TraFault}
 use Rattle.tra_reader.specs.inside.AnyOrder.{any_header, HoldsAny}
 use Rattle.tra_reader.proofs.Taking.{right_header, right_no_header, right_behind, right_fault}
 use Rattle.tra_reader.proofs.Outcomes.{ok_further, fault_further}

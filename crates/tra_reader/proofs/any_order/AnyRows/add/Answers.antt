@@ -1,9 +1,9 @@
 use Rattle.std.proofs.Common.{rules, ◌≡◌, ◌∙◌, List, ◌∷◌, ◌++◌, [], inr, refl, sym, ap}
-use Rattle.tra_reader.specs.declared.line.Transition.{Transition}
-use Rattle.tra_reader.specs.Lines.{Row}
-use Rattle.tra_reader.specs.inside.Order.{IsWithin}
-use Rattle.tra_reader.specs.inside.Answers.{row_place}
-use Rattle.tra_reader.proofs.Rows.{clashes_is}
+use Rattle.transition_lines.specs.declared.line.Transition.{Transition}
+use Rattle.transition_lines.specs.Lines.{Row}
+use Rattle.transition_lines.specs.Order.{IsWithin}
+use Rattle.transition_lines.specs.Answers.{row_place}
+use Rattle.transition_lines.proofs.Rows.{clashes_is}
 use Rattle.std.proofs.lemmas.List.Elements.{All-push}
 use Rattle.tra_reader.proofs.Steps.{transitions_push}
 use Rattle.tra_reader.proofs.any_order.AnyRows.add.Goals as goal

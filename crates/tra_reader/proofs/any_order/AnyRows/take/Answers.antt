@@ -1,7 +1,7 @@
 use Rattle.std.proofs.Common.{rules, ◌≡◌, ◌∙◌, List, length, Some, sym, ap}
-use Rattle.tra_reader.specs.declared.line.Transition.{Transition}
-use Rattle.tra_reader.specs.declared.fault.TraFault.{TraFault}
-use Rattle.tra_reader.specs.Lines.{Row}
+use Rattle.transition_lines.specs.declared.line.Transition.{Transition}
+use Rattle.transition_lines.specs.declared.fault.TraFault.{TraFault}
+use Rattle.transition_lines.specs.Lines.{Row}
 use Rattle.tra_reader.specs.inside.AnyOrder.{any_header, HoldsAny}
 use Rattle.tra_reader.proofs.Steps.{transitions_length}
 use Rattle.tra_reader.proofs.Taking.{takes_row, refuses_row}

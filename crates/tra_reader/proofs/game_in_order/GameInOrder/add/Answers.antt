@@ -1,5 +1,5 @@
 use Rattle.std.proofs.Common.{rules, ◌≡◌, ◌∙◌, [], ◌∷◌, ◌++◌, refl, sym, ap, subst}
-use Rattle.tra_reader.specs.Choices.{part_of}
+use Rattle.transition_lines.specs.Choices.{part_of}
 use Rattle.tra_reader.specs.inside.GrowingGames.{Growing, HoldsInOrder}
 use Rattle.tra_reader.specs.inside.OfGrowing.{growing_of}
 use Rattle.tra_reader.proofs.Growing.{holds_same, within_held}

@@ -1,7 +1,7 @@
 use Rattle.std.proofs.Common.{rules, ◌≡◌, ◌∙◌, ◌<◌, List, [], ◌∷◌, ◌++◌, refl, sym, ap, subst, arith}
 use Rattle.distributions.specs.declared.choice.Part.{Part}
-use Rattle.tra_reader.specs.Choices.{part_of}
-use Rattle.tra_reader.specs.inside.Order.{transition_place}
+use Rattle.transition_lines.specs.Choices.{part_of}
+use Rattle.transition_lines.specs.Order.{transition_place}
 use Rattle.tra_reader.specs.inside.GrowingGames.{Growing, place_under_way, EndsBefore, HoldsInOrder}
 use Rattle.tra_reader.specs.inside.OfGrowing.{growing_of}
 use Rattle.tra_reader.proofs.Growing.{holds_next, holds_spent, whole_next, within_held}

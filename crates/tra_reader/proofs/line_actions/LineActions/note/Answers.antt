@@ -1,9 +1,9 @@
 use Rattle.std.proofs.Common.{rules, ◌≡◌, ◌∙◌, Bool, true, false, List, [], ◌∷◌, ◌++◌, sym, subst}
 use Rattle.std.proofs.lemmas.List.{nil_from_length}
 use Rattle.std.proofs.lemmas.Result.{IfOk-weaker}
-use Rattle.tra_reader.specs.Lines.{Row}
-use Rattle.tra_reader.specs.Text.{transitions}
-use Rattle.tra_reader.specs.inside.Answers.{clashes_at, row_place}
+use Rattle.transition_lines.specs.Lines.{Row}
+use Rattle.transition_lines.specs.Text.{transitions}
+use Rattle.transition_lines.specs.Answers.{clashes_at, row_place}
 use Rattle.tra_reader.specs.inside.Noted.{Notes, NotesIf, NotesLines}
 use Rattle.tra_reader.proofs.Silence.{silent_clash, silent_push}
 use Rattle.tra_reader.proofs.line_actions.LineActions.note.Goals as goal

@@ -1,5 +1,5 @@
 use Rattle.std.proofs.Common.{rules, ◌≡◌, ◌∙◌, Bool, true, List, sym, ap, subst}
-use Rattle.tra_reader.specs.Lines.{Row}
+use Rattle.transition_lines.specs.Lines.{Row}
 use Rattle.tra_reader.specs.inside.Noted.{Notes, NotesIf, silent_rows}
 use Rattle.tra_reader.proofs.Silence.{silent_is}
 use Rattle.tra_reader.proofs.line_actions.LineActions.note_all.Goals as goal

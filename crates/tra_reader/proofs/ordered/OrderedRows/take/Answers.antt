@@ -1,4 +1,4 @@
-use Rattle.tra_reader.specs.Lines.{Row}
+use Rattle.transition_lines.specs.Lines.{Row}
 use Rattle.tra_reader.specs.inside.Ordered.{ordered_header, HoldsOrdered, text_fault}
 use Rattle.tra_reader.proofs.Taking.{takes_row, refuses_row}
 use Rattle.tra_reader.proofs.Outcomes.{ok_further, fault_further}

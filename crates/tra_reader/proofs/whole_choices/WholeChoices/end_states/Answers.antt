@@ -1,5 +1,5 @@
 use Rattle.std.proofs.Common.{◌<◌, ◌≤◌, ◌+◌, arith}
-use Rattle.tra_reader.specs.inside.Order.{place_of}
+use Rattle.transition_lines.specs.Order.{place_of}
 use Rattle.tra_reader.proofs.Behind.{small_of}
 use Rattle.tra_reader.proofs.Gaps.{none_from, none_later}
 use Rattle.tra_reader.proofs.whole_choices.WholeChoices.end_states.Goals as goal

@@ -1,6 +1,6 @@
 use Rattle.std.proofs.Common.{◌≤◌, ◌-◌, ℕ, List}
-use Rattle.tra_reader.specs.declared.line.Transition.{Transition}
-use Rattle.tra_reader.specs.inside.Order.{place_of}
+use Rattle.transition_lines.specs.declared.line.Transition.{Transition}
+use Rattle.transition_lines.specs.Order.{place_of}
 use Rattle.tra_reader.specs.inside.GrowingGames.{place_behind, AreWholeBefore}
 use Rattle.tra_reader.proofs.whole_choices.WholeChoices.end_states.Given as goal
 

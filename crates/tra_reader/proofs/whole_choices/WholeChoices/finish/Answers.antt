@@ -1,8 +1,8 @@
 use Rattle.std.proofs.Common.{rules, ◌≡◌, ◌∙◌, Err, Ok, Option, None, Some, List, inr, sym, ap, subst, arith}
 use Rattle.game_model.specs.Game.{Distribution}
-use Rattle.tra_reader.specs.declared.fault.TraFault.{TraFault}
+use Rattle.transition_lines.specs.declared.fault.TraFault.{TraFault}
 use Rattle.tra_reader.specs.declared.progress.Progress.TheVariants.{Builds, Faulty, Crowded, Gap}
-use Rattle.tra_reader.specs.Choices.{states_said}
+use Rattle.transition_lines.specs.Choices.{states_said}
 use Rattle.tra_reader.specs.inside.GrowingGames.{IsAsStated}
 use Rattle.tra_reader.proofs.Gaps.{made_of_all, gap_game, full_game, fault_said, stated_answer}
 use Rattle.tra_reader.proofs.whole_choices.WholeChoices.finish.Goals as goal

@@ -1,0 +1,127 @@
+//! Why a text denotes no game.
+
+use crate::line::Transition;
+use distributions::ChoiceFault;
+use fractions::NumberFault;
+use std::alloc::{AllocError, AllocFailed};
+
+/// What is wrong.
+#[derive(Clone, Copy, Debug, PartialEq, Eq)]
+pub enum TraCause {
+    /// Memory ran out.
+    OutOfMemory,
+    /// The first line is not two or three whole numbers.
+    NoHeader,
+    /// A field that must be a whole number is none.
+    BadField,
+    /// A line has another number of fields than its kind allows.
+    FieldCount,
+    /// A number of the header, or the number of a choice, is above its limit.
+    OverLimit,
+    /// The header states no state.
+    NoStates,
+    /// A state is not below the number of states.
+    StateOutOfRange,
+    /// The probability of a line is refused.
+    Number(NumberFault),
+    /// The action of a line differs from that of the first line of its choice.
+    ActionClash {
+        state: u32,
+        choice: u32,
+    },
+    /// The transition lines are not as many as stated.
+    LineCount {
+        read: u32,
+        stated: u32,
+    },
+    /// The least choice of a state that is missing before a choice that is there.
+    ChoiceGap {
+        state: u32,
+        choice: u32,
+    },
+    /// A state has more choices than a state may have: the least such state.
+    TooManyChoices {
+        state: u32,
+    },
+    /// The choices of all states are not as many as stated.
+    ChoiceCount {
+        read: u32,
+        stated: u32,
+    },
+    /// A choice is no distribution.
+    Choice {
+        state: u32,
+        choice: u32,
+        fault: ChoiceFault,
+    },
+}
+
+/// A cause and its line, counted from 1. Line 0 is the whole text.
+#[derive(Clone, Copy, Debug, PartialEq, Eq)]
+pub struct TraFault {
+    pub line: u32,
+    pub cause: TraCause,
+}
+
+impl TraFault {
+    ghost use Rattle.std.specs.Prelude.{◌≡◌};
+    ghost use Rattle.transition_lines.specs.Faults.{fault_at, fault_of_all, fault_of_choice};
+
+    /// A fault of the whole text.
+    pub fn of_all(cause: TraCause) -> TraFault
+        ensures { result ≡ fault_of_all cause }
+    {
+        TraFault { line: 0, cause }
+    }
+
+    /// The fault of a choice, which is of the whole text too.
+    pub fn of_choice(state: u32, choice: u32, fault: ChoiceFault) -> TraFault
+        ensures { result ≡ fault_of_choice state choice fault }
+    {
+        match fault {
+            ChoiceFault::OutOfMemory => TraFault::of_all(TraCause::OutOfMemory),
+            _ => TraFault::of_all(TraCause::Choice {
+                state,
+                choice,
+                fault,
+            }),
+        }
+    }
+
+    /// The fault of a line whose action is another than that of the first line of its choice.
+    pub fn of_clash(line: u32, transition: &Transition) -> TraFault
+        ensures { result ≡ fault_at line (TraCause.ActionClash transition.now.source transition.now.choice) }
+    {
+        TraFault {
+            line,
+            cause: TraCause::ActionClash {
+                state: transition.source,
+                choice: transition.choice,
+            },
+        }
+    }
+}
+
+impl From<AllocError> for TraFault {
+    ghost use Rattle.std.specs.Prelude.{◌≡◌};
+    ghost use Rattle.transition_lines.specs.Faults.{fault_of_all};
+    ghost use Rattle.transition_lines.specs.declared.fault.TraCause.TheVariants.{OutOfMemory};
+
+    ghost from_gives = { λ _ given. given ≡ fault_of_all OutOfMemory };
+
+    fn from(_: AllocError) -> TraFault {
+        TraFault::of_all(TraCause::OutOfMemory)
+    }
+}
+
+impl<T: Drop> From<AllocFailed<T>> for TraFault {
+    ghost use Rattle.std.specs.Prelude.{◌≡◌};
+    ghost use Rattle.transition_lines.specs.Faults.{fault_of_all};
+    ghost use Rattle.transition_lines.specs.declared.fault.TraCause.TheVariants.{OutOfMemory};
+
+    ghost from_gives = { λ _ given. given ≡ fault_of_all OutOfMemory };
+
+    fn from(_: AllocFailed<T>) -> TraFault {
+        TraFault::of_all(TraCause::OutOfMemory)
+    }
+}
