@@ -7,12 +7,12 @@ use Rattle.fractions.proofs.Said.{number-found, number-again}
 use Rattle.distributions.proofs.Chosen.{choice-found, choice-again}
 use Rattle.transition_lines.specs.Text.{DenotesGame, game_of}
 use Rattle.transition_lines.proofs.TextLaws.{text_found, text_again}
-use Rattle.label_reader.specs.Denotes.{DenotesLabels, DenotesOwners}
-use Rattle.label_reader.specs.Labels.{Labelling}
-use Rattle.label_reader.specs.Owners.{Ownership}
-use Rattle.label_reader.specs.Texts.{labels_of, owners_of}
-use Rattle.label_reader.proofs.LabelLaws.{labels_of-found, labels_of-again}
-use Rattle.label_reader.proofs.OwnerLaws.{owners_of-found, owners_of-again}
+use Rattle.label_lines.specs.Denotes.{DenotesLabels, DenotesOwners}
+use Rattle.label_lines.specs.Labels.{Labelling}
+use Rattle.label_lines.specs.Owners.{Ownership}
+use Rattle.label_lines.specs.Texts.{labels_of, owners_of}
+use Rattle.label_lines.proofs.LabelLaws.{labels_of-found, labels_of-again}
+use Rattle.label_lines.proofs.OwnerLaws.{owners_of-found, owners_of-again}
 use Rattle.rpatl_syntax.specs.Formula.{Tree, is_flat, IsFlat}
 use Rattle.rpatl_syntax.specs.Grammar.{formula_said}
 use Rattle.rpatl_syntax.specs.Rules.{DenotesFormula}

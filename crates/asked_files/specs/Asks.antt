@@ -3,9 +3,9 @@ use Rattle.std.specs.Prelude.{◌≡◌, ◌≤◌, ℕ, true, List, length, Opt
 use Rattle.text_lines.specs.Limits.{most_bytes}
 use Rattle.game_model.specs.Game.{Distribution}
 use Rattle.transition_lines.specs.Text.{DenotesGame}
-use Rattle.label_reader.specs.Denotes.{DenotesLabels, DenotesOwners}
-use Rattle.label_reader.specs.Labels.{Labelling}
-use Rattle.label_reader.specs.Owners.{Ownership}
+use Rattle.label_lines.specs.Denotes.{DenotesLabels, DenotesOwners}
+use Rattle.label_lines.specs.Labels.{Labelling}
+use Rattle.label_lines.specs.Owners.{Ownership}
 use Rattle.rpatl_syntax.specs.Formula.{Tree}
 use Rattle.rpatl_syntax.specs.Rules.{DenotesFormula}
 use Rattle.command_words.specs.Words.{Asked}

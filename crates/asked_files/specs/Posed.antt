@@ -1,8 +1,8 @@
 -- The problem that the words and the texts of a command pose, or their first refusal.
 use Rattle.std.specs.Prelude.{◌≡◌, ◌&&◌, ℕ, Bool, List, length, if◌then◌else◌}
 use Rattle.game_model.specs.Game.{Distribution}
-use Rattle.label_reader.specs.Labels.{Labelling}
-use Rattle.label_reader.specs.Owners.{Ownership}
+use Rattle.label_lines.specs.Labels.{Labelling}
+use Rattle.label_lines.specs.Owners.{Ownership}
 use Rattle.rpatl_syntax.specs.Formula.{Tree, is_flat, tree_of}
 use Rattle.rpatl_syntax.specs.Grammar.{formula_said}
 use Rattle.rpatl_syntax.specs.Dual.{dual_of}

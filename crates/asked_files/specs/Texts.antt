@@ -3,9 +3,9 @@ use Rattle.std.specs.Prelude.{ℕ, List, [], ◌∷◌, length, replicate, codes
 use Rattle.text_lines.specs.Limits.{most_bytes}
 use Rattle.game_model.specs.Game.{Distribution}
 use Rattle.transition_lines.specs.Text.{game_of}
-use Rattle.label_reader.specs.Labels.{Labelling}
-use Rattle.label_reader.specs.Owners.{Ownership}
-use Rattle.label_reader.specs.Texts.{labels_of, owners_of}
+use Rattle.label_lines.specs.Labels.{Labelling}
+use Rattle.label_lines.specs.Owners.{Ownership}
+use Rattle.label_lines.specs.Texts.{labels_of, owners_of}
 use Rattle.run_refusals.specs.declared.refusal.Text.{Text}
 use Rattle.run_refusals.specs.declared.refusal.Text.TheVariants.{Tra, Lab, Own}
 use Rattle.run_refusals.specs.declared.refusal.Refusal.TheVariants.{OfTra, OfLab, OfOwn, TooLong}

@@ -8,8 +8,8 @@ use Rattle.std.proofs.lemmas.List.FromFn.{fill_by_all}
 use Rattle.game_model.specs.Game.{Distribution}
 use Rattle.game_model.specs.Limits.{unit}
 use Rattle.game_model.specs.Query.{Query}
-use Rattle.label_reader.specs.Labels.{Labelling}
-use Rattle.label_reader.specs.Owners.{Ownership}
+use Rattle.label_lines.specs.Labels.{Labelling}
+use Rattle.label_lines.specs.Owners.{Ownership}
 use Rattle.rpatl_syntax.specs.Formula.{Tree, IsFlat}
 use Rattle.formula_sets.specs.declared.fault.PoseFault.{PoseFault}
 use Rattle.formula_sets.specs.Truth.{holds}

@@ -3,8 +3,8 @@ use Rattle.std.proofs.Common.{◌≡◌, ℕ, List, ◌++◌}
 use Rattle.std.specs.Prelude.{not}
 use Rattle.std.specs.Option.{option_or}
 use Rattle.std.proofs.lemmas.List.Folds.{find-append}
-use Rattle.label_reader.specs.Labels.{Labelling, is_known}
-use Rattle.label_reader.specs.Owners.{Ownership, is_player}
+use Rattle.label_lines.specs.Labels.{Labelling, is_known}
+use Rattle.label_lines.specs.Owners.{Ownership, is_player}
 use Rattle.formula_sets.specs.Truth.{unknown_label}
 use Rattle.formula_sets.specs.Sides.{unknown_player}
 

@@ -3,7 +3,7 @@ use Rattle.std.proofs.Common.{◌≡◌, ◌<◌, ◌≤◌, ◌+◌, ℕ, Bool,
 use Rattle.std.proofs.Common.{bytes_eq, arith}
 use Rattle.std.specs.List.{AllByRecursion}
 use Rattle.std.proofs.lemmas.List.Elements.{All-from_recursion, recursion_from_All}
-use Rattle.label_reader.specs.Labels.{Label, Labelling, IsLabelling, marks_of, marked_from, states_with}
+use Rattle.label_lines.specs.Labels.{Label, Labelling, IsLabelling, marks_of, marked_from, states_with}
 
 weaker : (n m : ℕ) → n ≤ m → (xs : List ℕ) → AllByRecursion (λ s. s < n) xs → AllByRecursion (λ s. s < m) xs
 weaker n m small [] all = tt

@@ -5,8 +5,8 @@ use Rattle.std.specs.List.{range_with_len}
 use Rattle.game_model.specs.Game.{Distribution}
 use Rattle.game_model.specs.Limits.{unit}
 use Rattle.game_model.specs.Query.{Query, is_goal, is_dead, side_at}
-use Rattle.label_reader.specs.Labels.{Labelling, is_known, states_with}
-use Rattle.label_reader.specs.Owners.{Ownership, is_player}
+use Rattle.label_lines.specs.Labels.{Labelling, is_known, states_with}
+use Rattle.label_lines.specs.Owners.{Ownership, is_player}
 use Rattle.rpatl_syntax.specs.declared.formula.PathKind.{PathKind}
 use Rattle.rpatl_syntax.specs.declared.formula.PathKind.TheVariants.{Until, Within, Next, Always}
 use Rattle.rpatl_syntax.specs.Formula.{Tree, IsFlat}

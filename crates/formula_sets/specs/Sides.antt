@@ -4,7 +4,7 @@ use Rattle.std.specs.List.{list_any}
 use Rattle.game_model.specs.declared.game.Side.{Side}
 use Rattle.game_model.specs.declared.game.Side.TheVariants.{Max, Min}
 use Rattle.game_model.specs.Dual.{other_side}
-use Rattle.label_reader.specs.Owners.{Ownership, owner_of, is_player}
+use Rattle.label_lines.specs.Owners.{Ownership, owner_of, is_player}
 use Rattle.rpatl_syntax.specs.declared.formula.Bound.{Bound}
 use Rattle.rpatl_syntax.specs.declared.formula.Bound.TheVariants.{AtLeast, Above, AtMost, Below, AskMax, AskMin}
 use Rattle.rpatl_syntax.specs.Formula.{State, True, False, Label, Not, And, Or, Implies, Inner}

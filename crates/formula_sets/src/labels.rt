@@ -1,7 +1,7 @@
 //! Where state formulas hold, and the labels that they name.
 
 ghost use Rattle.std.specs.Prelude.{◌≡◌, IfOk, option_copied};
-ghost use Rattle.label_reader.specs.Labels.{holds_at};
+ghost use Rattle.label_lines.specs.Labels.{holds_at};
 ghost use Rattle.rpatl_syntax.specs.Formula.{state_of, tree_of};
 ghost use Rattle.formula_sets.specs.Truth.{holds, labels_in, unknown_label};
 ghost use Rattle.formula_sets.specs.Posing.{at_states, formula_labels};

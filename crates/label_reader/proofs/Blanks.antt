@@ -5,12 +5,12 @@ use Rattle.std.specs.Option.{option_map}
 use Rattle.std.specs.List.{position_or_len}
 use Rattle.std.proofs.lemmas.Bool.Decides.{nat_tests}
 use Rattle.text_lines.specs.Text.{fields_of, is_blank, ends_field, prepend}
-use Rattle.label_reader.specs.declared.kind.FileKind.{FileKind}
-use Rattle.label_reader.specs.declared.faults.LabCause.TheVariants.{BadField}
-use Rattle.label_reader.specs.Header.{Item}
+use Rattle.label_lines.specs.declared.kind.FileKind.{FileKind}
+use Rattle.label_lines.specs.declared.faults.LabCause.TheVariants.{BadField}
+use Rattle.label_lines.specs.Header.{Item}
 use Rattle.text_lines.specs.Parts.{split_first, parted_at}
-use Rattle.label_reader.specs.Lines.{StateLine, line_parts, known_line, add_line}
-use Rattle.label_reader.proofs.Splits.{place_behind}
+use Rattle.label_lines.specs.Lines.{StateLine, line_parts, known_line, add_line}
+use Rattle.label_lines.proofs.Splits.{place_behind}
 use Rattle.label_reader.proofs.Bodies.{add_line-unknown}
 
 -- each byte of a line with no field is a blank

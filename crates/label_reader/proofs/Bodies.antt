@@ -1,12 +1,12 @@
 -- The lines behind the header, one after another.
 use Rattle.std.proofs.Common.{◌≡◌, ◌+◌, ℕ, List, ◌∷◌, Ok, Err, Result, sym, ap, subst, inr}
-use Rattle.label_reader.specs.declared.kind.FileKind.{FileKind}
-use Rattle.label_reader.specs.declared.faults.LabCause.{LabCause}
-use Rattle.label_reader.specs.declared.faults.LabFault.{LabFault}
-use Rattle.label_reader.specs.Header.{Item, and_then}
-use Rattle.label_reader.specs.Lines.{StateLine, state_line, known_line, with_line, add_line}
+use Rattle.label_lines.specs.declared.kind.FileKind.{FileKind}
+use Rattle.label_lines.specs.declared.faults.LabCause.{LabCause}
+use Rattle.label_lines.specs.declared.faults.LabFault.{LabFault}
+use Rattle.label_lines.specs.Header.{Item, and_then}
+use Rattle.label_lines.specs.Lines.{StateLine, state_line, known_line, with_line, add_line}
 use Rattle.game_outside.specs.Answers.{AnswersOrWants}
-use Rattle.label_reader.specs.Texts.{fault_at, then_at, lines_from, made_of, IsOutOfMemory}
+use Rattle.label_lines.specs.Texts.{fault_at, then_at, lines_from, made_of, IsOutOfMemory}
 use Rattle.label_reader.specs.inside.Behind.{AnswersBehind}
 
 -- a line that is added to those before it

@@ -5,13 +5,13 @@ use Rattle.game_outside.specs.declared.file.FileEnd.{FileEnd}
 use Rattle.game_outside.specs.declared.file.FileEnd.TheVariants as file
 use Rattle.game_outside.specs.Outside.{Holding}
 use Rattle.game_outside.specs.Files.{HeldTextWith, ReadsFile}
-use Rattle.label_reader.specs.declared.faults.LabFault.{LabFault}
+use Rattle.label_lines.specs.declared.faults.LabFault.{LabFault}
 use Rattle.text_lines.specs.Text.{lines_of, significant}
-use Rattle.label_reader.specs.declared.kind.FileKind.{FileKind}
-use Rattle.label_reader.specs.Header.{Item}
-use Rattle.label_reader.specs.Lines.{StateLine}
+use Rattle.label_lines.specs.declared.kind.FileKind.{FileKind}
+use Rattle.label_lines.specs.Header.{Item}
+use Rattle.label_lines.specs.Lines.{StateLine}
 use Rattle.game_outside.specs.Answers.{AnswersOrWants}
-use Rattle.label_reader.specs.Texts.{said_by, said_by_lines, IsOutOfMemory}
+use Rattle.label_lines.specs.Texts.{said_by, said_by_lines, IsOutOfMemory}
 use Rattle.label_reader.specs.Refused.{is_out_of_memory, IsWithoutWant}
 
 of_text : (holding : Option Holding) (name : List ℕ) (limit : ℕ) (P Q : List ℕ → Type 0)

@@ -4,12 +4,12 @@ use Rattle.game_outside.specs.Answers.{AnswersOrWants}
 use Rattle.game_outside.specs.declared.file.FileEnd.{FileEnd}
 use Rattle.game_outside.specs.Outside.{Holding}
 use Rattle.game_outside.specs.Files.{ReadsFile}
-use Rattle.label_reader.specs.declared.faults.LabFault.{LabFault}
-use Rattle.label_reader.specs.Labels.{Labelling}
-use Rattle.label_reader.specs.Owners.{Ownership}
-use Rattle.label_reader.specs.Texts.{labels_of, owners_of, IsOutOfMemory}
-use Rattle.label_reader.proofs.LabelLaws.{labels_of-found}
-use Rattle.label_reader.proofs.OwnerLaws.{owners_of-found}
+use Rattle.label_lines.specs.declared.faults.LabFault.{LabFault}
+use Rattle.label_lines.specs.Labels.{Labelling}
+use Rattle.label_lines.specs.Owners.{Ownership}
+use Rattle.label_lines.specs.Texts.{labels_of, owners_of, IsOutOfMemory}
+use Rattle.label_lines.proofs.LabelLaws.{labels_of-found}
+use Rattle.label_lines.proofs.OwnerLaws.{owners_of-found}
 
 module _ (states : ℕ) (text : List ℕ) where
   pub labels_of_text_sized : (result : Result Labelling LabFault)

@@ -5,12 +5,12 @@ use Rattle.std.specs.Option.{unwrap_or}
 use Rattle.std.specs.List.{range_with_len}
 use Rattle.std.proofs.lemmas.List.{length-map, get_or-map, ext_get_or}
 use Rattle.std.proofs.lemmas.List.FromFn.{get_or-map-range_with_len, length-map-range_with_len}
-use Rattle.label_reader.specs.Header.{Item}
-use Rattle.label_reader.specs.inside.Placed.{items_of, item_at, indices_of}
-use Rattle.label_reader.specs.Labels.{Label}
-use Rattle.label_reader.specs.Named.{names_of, labels_named, places_of}
-use Rattle.label_reader.specs.Lines.{StateLine, said_of}
-use Rattle.label_reader.specs.Texts.{is_said, label_from, owner_place}
+use Rattle.label_lines.specs.Header.{Item}
+use Rattle.label_lines.specs.Placed.{items_of, item_at, indices_of}
+use Rattle.label_lines.specs.Labels.{Label}
+use Rattle.label_lines.specs.Named.{names_of, labels_named, places_of}
+use Rattle.label_lines.specs.Lines.{StateLine, said_of}
+use Rattle.label_lines.specs.Texts.{is_said, label_from, owner_place}
 use Rattle.label_reader.specs.inside.Marked.{AreMarked}
 use Rattle.label_reader.specs.inside.Owned.{first_of, AreRead}
 

@@ -10,13 +10,13 @@ use Rattle.std.proofs.lemmas.List.{length-replicate, length-set, get_or-set_same
 use Rattle.std.proofs.lemmas.List.Elements.{All-set}
 use Rattle.std.proofs.lemmas.Grind.{common_steps}
 use Rattle.text_lines.specs.Text.{number_of}
-use Rattle.label_reader.specs.Header.{Item, place_of, place_in, has_place}
-use Rattle.label_reader.specs.inside.Placed.{indices_of, AreSingle}
-use Rattle.label_reader.specs.Lines.{StateLine, number_in}
-use Rattle.label_reader.specs.Texts.{is_said}
+use Rattle.label_lines.specs.Header.{Item, place_of, place_in, has_place}
+use Rattle.label_lines.specs.Placed.{indices_of, AreSingle}
+use Rattle.label_lines.specs.Lines.{StateLine, number_in}
+use Rattle.label_lines.specs.Texts.{is_said}
 use Rattle.label_reader.specs.inside.Marked.{with_mark, with_marks, AreMarked}
-use Rattle.label_reader.proofs.Indexed.{place_of-within, index_at_place}
-use Rattle.label_reader.proofs.SaidOf.{is_said-push}
+use Rattle.label_lines.proofs.Indexed.{place_of-within, index_at_place}
+use Rattle.label_lines.proofs.SaidOf.{is_said-push}
 
 itself : (a : ℕ) → eqb a a ≡ true
 itself a = grind (arith, nat_tests)

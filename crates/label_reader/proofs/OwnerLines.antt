@@ -2,14 +2,14 @@
 use Rattle.std.proofs.Common.{◌≡◌, ◌<◌, ◌++◌, ◌∷◌, [], ℕ, Bool, true, false, cond, List, length, get_or, set, All}
 use Rattle.std.proofs.Common.{Option, Some, None, Ok, Err, Result, MatchResult, sym, ◌∙◌, refl, subst}
 use Rattle.std.specs.Option.{unwrap_or}
-use Rattle.label_reader.specs.declared.kind.FileKind.TheVariants.{OwnerFile}
-use Rattle.label_reader.specs.declared.faults.LabCause.{LabCause}
-use Rattle.label_reader.specs.declared.faults.LabCause.TheVariants.{TwoOwners}
-use Rattle.label_reader.specs.Header.{Item, and_then}
-use Rattle.label_reader.specs.Lines.{StateLine, numbered, state_line, known_fields, with_line, add_line}
+use Rattle.label_lines.specs.declared.kind.FileKind.TheVariants.{OwnerFile}
+use Rattle.label_lines.specs.declared.faults.LabCause.{LabCause}
+use Rattle.label_lines.specs.declared.faults.LabCause.TheVariants.{TwoOwners}
+use Rattle.label_lines.specs.Header.{Item, and_then}
+use Rattle.label_lines.specs.Lines.{StateLine, numbered, state_line, known_fields, with_line, add_line}
 use Rattle.label_reader.specs.inside.Owned.{all_at, owner_behind, AreRead}
 use Rattle.label_reader.proofs.Bodies.{IsAdded, add_line-known, add_line-unknown}
-use Rattle.label_reader.proofs.KnownLines.{line_with, known_line-known, known_line-fault, known_fields-all}
+use Rattle.label_lines.proofs.KnownLines.{line_with, known_line-known, known_line-fault, known_fields-all}
 use Rattle.label_reader.proofs.Owning.{owner_next, owner_next-known, with_line-agrees, with_line-clashes, AreRead-line}
 
 owner_is : (k : Result (Unit {0}) LabCause) (v : Bool) (next owner : Option ℕ) (s : ℕ)

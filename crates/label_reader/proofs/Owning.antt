@@ -10,16 +10,16 @@ use Rattle.std.proofs.lemmas.List.{append-nil, length-set, get_or-set_same, get_
 use Rattle.std.proofs.lemmas.List.Elements.{All-set}
 use Rattle.std.proofs.lemmas.List.Folds.{list_all-append}
 use Rattle.text_lines.specs.Text.{number_of}
-use Rattle.label_reader.specs.declared.kind.FileKind.TheVariants.{OwnerFile}
-use Rattle.label_reader.specs.declared.faults.LabCause.{LabCause}
-use Rattle.label_reader.specs.declared.faults.LabCause.TheVariants.{TwoOwners}
-use Rattle.label_reader.specs.Header.{Item, place_of, has_place, has_index, and_then}
-use Rattle.label_reader.specs.Lines.{StateLine, number_in, said_of, all_same, with_line, known_fields}
+use Rattle.label_lines.specs.declared.kind.FileKind.TheVariants.{OwnerFile}
+use Rattle.label_lines.specs.declared.faults.LabCause.{LabCause}
+use Rattle.label_lines.specs.declared.faults.LabCause.TheVariants.{TwoOwners}
+use Rattle.label_lines.specs.Header.{Item, place_of, has_place, has_index, and_then}
+use Rattle.label_lines.specs.Lines.{StateLine, number_in, said_of, all_same, with_line, known_fields}
 use Rattle.label_reader.specs.inside.Owned.{first_of, first_in, owner_then, is_at, all_at, AreRead}
-use Rattle.label_reader.proofs.Indexed.{place_of-within, index_at_place}
-use Rattle.label_reader.proofs.KnownLines.{line_with}
+use Rattle.label_lines.proofs.Indexed.{place_of-within, index_at_place}
+use Rattle.label_lines.proofs.KnownLines.{line_with}
 use Rattle.label_reader.proofs.Marking.{placed_field}
-use Rattle.label_reader.proofs.SaidOf.{said_of-push}
+use Rattle.label_lines.proofs.SaidOf.{said_of-push}
 
 itself : (a : ℕ) → eqb a a ≡ true
 itself a = grind (arith, nat_tests)

@@ -1,10 +1,2 @@
-pub mod Named
-pub mod Labels
-pub mod Limits
-pub mod Owners
-pub mod Header
-pub mod Lines
-pub mod Texts
 pub mod Refused
-pub mod Denotes
 pub mod inside

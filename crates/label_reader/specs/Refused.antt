@@ -2,9 +2,9 @@
 use Rattle.std.specs.Prelude.{◌≡◌, Bool, true, false, Result, Ok, Err}
 use Rattle.game_outside.specs.declared.file.FileEnd.{FileEnd}
 use Rattle.game_outside.specs.declared.file.FileEnd.TheVariants as file
-use Rattle.label_reader.specs.declared.faults.LabFault.{LabFault}
-use Rattle.label_reader.specs.declared.faults.LabCause.{LabCause}
-use Rattle.label_reader.specs.declared.faults.LabCause.TheVariants.{OutOfMemory}
+use Rattle.label_lines.specs.declared.faults.LabFault.{LabFault}
+use Rattle.label_lines.specs.declared.faults.LabCause.{LabCause}
+use Rattle.label_lines.specs.declared.faults.LabCause.TheVariants.{OutOfMemory}
 
 -- memory was wanting
 abbrev pub is_out_of_memory : LabCause → Bool

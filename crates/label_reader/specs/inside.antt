@@ -2,4 +2,3 @@
 pub mod Marked
 pub mod Owned
 pub mod Behind
-pub mod Placed

@@ -3,16 +3,15 @@
 ghost use Rattle.std.specs.Prelude.{◌≡◌, ◌≤◌, IfOk, length};
 ghost use Rattle.text_lines.specs.Limits.{most_bytes};
 ghost use Rattle.game_outside.specs.Files.{LeavesShelf, ReadsFile, RefusesCaused};
-ghost use Rattle.label_reader.specs.Texts.{labels_of, owners_of, said_by};
+ghost use Rattle.label_lines.specs.Texts.{labels_of, owners_of, said_by};
 ghost use Rattle.label_reader.specs.Refused.{is_out_of_memory, IsWithoutWant};
 
-use crate::faults::{LabCause, LabFault};
-use crate::headed_lines::{BehindHeader, HeadedLines};
 use crate::label_sets::LabelSets;
 use crate::labels::Labels;
 use crate::owner_table::OwnerTable;
 use crate::owners::Owners;
 use game_outside::{FileEnd, Shelf, read_lines_from};
+use label_lines::{BehindHeader, HeadedLines, LabCause, LabFault};
 use std::alloc::Global;
 
 /// The labels of so many states that the text under a name denotes, or its first fault, in whatever pieces the text

@@ -2,20 +2,16 @@
 
 ghost use Rattle.std.specs.Prelude.{◌≡◌, ◌<◌, false, Some, length, replicate, slice_index_or, All, IfOk, OnOk, ℕ};
 ghost use Rattle.text_lines.specs.Text.{fields_of};
-ghost use Rattle.label_reader.specs.declared.kind.FileKind.TheVariants.{LabelFile};
+ghost use Rattle.label_lines.specs.declared.kind.FileKind.TheVariants.{LabelFile};
 ghost use Rattle.label_reader.specs.inside.Behind.{AnswersBehind};
-ghost use Rattle.label_reader.specs.Lines.{known_fields};
+ghost use Rattle.label_lines.specs.Lines.{known_fields};
 ghost use Rattle.label_reader.specs.inside.Marked.{with_mark, with_marks, AreMarked};
-ghost use Rattle.label_reader.specs.inside.Placed.{AreSingle};
-ghost use Rattle.label_reader.specs.Texts.{labelling, is_said};
+ghost use Rattle.label_lines.specs.Placed.{AreSingle};
+ghost use Rattle.label_lines.specs.Texts.{labelling, is_said};
 
-use crate::faults::{LabCause, LabFault};
-use crate::headed_lines::BehindHeader;
-use crate::header::Header;
-use crate::kind::FileKind;
 use crate::labels::Labels;
-use crate::state_line::{fault_of_numbers, read_state};
 use crate::state_set::StateSet;
+use label_lines::{BehindHeader, FileKind, Header, LabCause, LabFault, fault_of_numbers, read_state};
 use std::alloc::{AllocError, Global};
 use text_lines::{LineReader, first_field};
 

@@ -2,12 +2,11 @@
 
 ghost use Rattle.std.specs.Prelude.{◌≡◌, ◌≤◌, IfOk, length};
 ghost use Rattle.game_outside.specs.Answers.{AnswersOrWants};
-ghost use Rattle.label_reader.specs.Texts.{labels_of, IsOutOfMemory};
+ghost use Rattle.label_lines.specs.Texts.{labels_of, IsOutOfMemory};
 
-use crate::faults::LabFault;
-use crate::headed_lines::HeadedLines;
 use crate::label_sets::LabelSets;
 use crate::labels::Labels;
+use label_lines::{HeadedLines, LabFault};
 use std::alloc::Global;
 use text_lines::{MOST_BYTES, read_lines};
 

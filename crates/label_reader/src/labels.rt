@@ -1,7 +1,7 @@
 //! Labels: names, and the states that have each.
 
 ghost use Rattle.std.specs.Prelude.{◌≡◌, ◌<◌, ◌≤◌, ◌^◌, IfOk, length};
-ghost use Rattle.label_reader.specs.Labels.{marked_from};
+ghost use Rattle.label_lines.specs.Labels.{marked_from};
 
 use crate::state_set::StateSet;
 use game_outside::OutOfMemory;
@@ -19,8 +19,8 @@ pub struct Labels {
 }
 
 impl Model for Labels {
-    ghost use Rattle.label_reader.specs.Labels.{Labelling};
-    ghost use Rattle.label_reader.specs.Named.{labels_named, AreNamed};
+    ghost use Rattle.label_lines.specs.Labels.{Labelling};
+    ghost use Rattle.label_lines.specs.Named.{labels_named, AreNamed};
 
     ghost Value = { Labelling };
 
@@ -30,8 +30,8 @@ impl Model for Labels {
 }
 
 impl Labels {
-    ghost use Rattle.label_reader.specs.Named.{labels_named, AreNamed};
-    ghost use Rattle.label_reader.specs.Labels.{is_known, marks_of, states_with, IsLabelling};
+    ghost use Rattle.label_lines.specs.Named.{labels_named, AreNamed};
+    ghost use Rattle.label_lines.specs.Labels.{is_known, marks_of, states_with, IsLabelling};
 
     /// The labels with these names, and the states of each.
     pub(crate) fn new(states: u32, names: IndexMap<Vec<u8>, u64>, sets: Vec<StateSet>) -> Labels

@@ -1,9 +1,8 @@
 //! Label files and owner files of explicit models.
 //!
 //! `read_labels` gives the labels of a model's states and `read_owners` the players that own them, each from the bytes
-//! of its file and the number of states; or the first fault of the text with its line. Both formats are one: a header
-//! of items `index="name"`, and lines `state: index index ..` in any order. Of a text that denotes labels or owners
-//! nothing but these is answered, unless memory is wanting. `read_labels_from` and `read_owners_from` read a file on a
+//! of its file and the number of states; or the first fault of the text with its line. `label_lines` says how a line is
+//! spelled. Of a text that denotes labels or owners nothing but these is answered, unless memory is wanting. `read_labels_from` and `read_owners_from` read a file on a
 //! shelf, a piece at a time, and give the same answer in whatever pieces it comes.
 //!
 //! ```text
@@ -14,29 +13,21 @@
 //!
 //! `Labels::marks`, `Labels::knows`, `Owners::knows` and `Owners::owner` take no memory and constant time. Contracts
 //! see `Labels` as a `Labelling`, a list of names with a mark for each state, and `Owners` as an `Ownership`.
-//!
-//! Nothing is said of what PRISM reads or refuses beyond these rules.
-#![tactic(auto)]
+//!#![tactic(auto)]
 
-mod faults;
 mod files;
-mod headed_lines;
-mod header;
-mod item;
-mod kind;
 mod label_sets;
 mod label_text;
 mod labels;
-pub mod laws;
 mod owner_table;
 mod owner_text;
 mod owners;
-mod state_line;
 mod state_set;
 
-pub use faults::{LabCause, LabFault};
 pub use files::{read_labels_from, read_owners_from};
-pub use kind::{GREATEST_INDEX, LONGEST_NAME, MOST_LABELS, MOST_PLAYERS};
+pub use label_lines::{
+    GREATEST_INDEX, LONGEST_NAME, LabCause, LabFault, MOST_LABELS, MOST_PLAYERS,
+};
 pub use label_text::read_labels;
 pub use labels::Labels;
 pub use owner_text::read_owners;

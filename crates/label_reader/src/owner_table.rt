@@ -2,17 +2,13 @@
 
 ghost use Rattle.std.specs.Prelude.{◌≡◌, ◌<◌, Some, None, length, slice_index_or, slice_set, unwrap_or, All};
 ghost use Rattle.text_lines.specs.Text.{fields_of};
-ghost use Rattle.label_reader.specs.declared.kind.FileKind.TheVariants.{OwnerFile};
+ghost use Rattle.label_lines.specs.declared.kind.FileKind.TheVariants.{OwnerFile};
 ghost use Rattle.label_reader.specs.inside.Behind.{AnswersBehind};
 ghost use Rattle.label_reader.specs.inside.Owned.{owner_behind, AreRead};
-ghost use Rattle.label_reader.specs.Texts.{ownership};
+ghost use Rattle.label_lines.specs.Texts.{ownership};
 
-use crate::faults::{LabCause, LabFault};
-use crate::headed_lines::BehindHeader;
-use crate::header::Header;
-use crate::kind::FileKind;
 use crate::owners::{Owners, nobody};
-use crate::state_line::{fault_of_numbers, read_state};
+use label_lines::{BehindHeader, FileKind, Header, LabCause, LabFault, fault_of_numbers, read_state};
 use std::alloc::{AllocError, Global};
 use text_lines::{LineReader, first_field};
 

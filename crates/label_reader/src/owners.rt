@@ -16,8 +16,8 @@ pub struct Owners {
 }
 
 impl Model for Owners {
-    ghost use Rattle.label_reader.specs.Owners.{Ownership};
-    ghost use Rattle.label_reader.specs.Named.{names_of, places_of, AreOwned};
+    ghost use Rattle.label_lines.specs.Owners.{Ownership};
+    ghost use Rattle.label_lines.specs.Named.{names_of, places_of, AreOwned};
 
     ghost Value = { Ownership };
 
@@ -27,8 +27,8 @@ impl Model for Owners {
 }
 
 impl Owners {
-    ghost use Rattle.label_reader.specs.Named.{names_of, places_of, AreOwned};
-    ghost use Rattle.label_reader.specs.Owners.{is_player, owner_of, IsOwnership};
+    ghost use Rattle.label_lines.specs.Named.{names_of, places_of, AreOwned};
+    ghost use Rattle.label_lines.specs.Owners.{is_player, owner_of, IsOwnership};
 
     /// The players with these names, and the place of each state's owner, the first where none is named.
     pub(crate) fn new(names: IndexMap<Vec<u8>, u64>, owners: Vec<Option<u32>>) -> Owners

@@ -7,7 +7,7 @@ use Rattle.game_model.specs.Game.{IsGame}
 use Rattle.game_model.specs.Query.{Query, IsQuery}
 use Rattle.game_model.specs.Query as query
 use Rattle.game_model.specs.Values.{denominator, numerator}
-use Rattle.label_reader.specs.Labels.{holds_at}
+use Rattle.label_lines.specs.Labels.{holds_at}
 use Rattle.rpatl_syntax.specs.declared.formula.Bound.{Bound}
 use Rattle.rpatl_syntax.specs.declared.formula.Bound.TheVariants.{AtLeast, Above, AtMost, Below, AskMax, AskMin}
 use Rattle.rpatl_syntax.specs.declared.formula.PathKind.{PathKind}

@@ -4,7 +4,7 @@ use Rattle.std.proofs.Common.{subst, refl, add-one}
 use Rattle.std.specs.Prelude.{count_by, All}
 use Rattle.std.specs.List.{range_with_len}
 use Rattle.game_model.specs.Game.{IsGame}
-use Rattle.label_reader.specs.Labels.{Labelling}
+use Rattle.label_lines.specs.Labels.{Labelling}
 use Rattle.rpatl_syntax.specs.declared.formula.Bound.{Bound}
 use Rattle.rpatl_syntax.specs.Dual.{IsAtMostOne}
 use Rattle.rpatl_syntax.specs.Formula.{State, True, False, Label, Not, And, Or, Implies, Inner, Tree}

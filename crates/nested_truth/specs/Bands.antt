@@ -1,7 +1,7 @@
 -- What bounds of the formulas inside a state formula say of it: where it surely holds, and where it possibly does.
 use Rattle.std.specs.Prelude.{◌+◌, ◌&&◌, ◌||◌, ℕ, Bool, true, false, not, List, slice_index, count_by}
 use Rattle.std.specs.List.{range_with_len}
-use Rattle.label_reader.specs.Labels.{Labelling, holds_at}
+use Rattle.label_lines.specs.Labels.{Labelling, holds_at}
 use Rattle.rpatl_syntax.specs.declared.formula.Bound.{Bound}
 use Rattle.rpatl_syntax.specs.Formula.{State, True, False, Label, Not, And, Or, Implies, Inner}
 use Rattle.verdicts.specs.Verdict.{verdict_of, is_yes, is_no, is_undecided}

@@ -1,7 +1,7 @@
 //! What is known of a state formula.
 
 ghost use Rattle.std.specs.Prelude.{◌≡◌, ◌↔◌, length, true, IfOk};
-ghost use Rattle.label_reader.specs.Labels.{holds_at};
+ghost use Rattle.label_lines.specs.Labels.{holds_at};
 
 use formula_sets::{intersect, marks_of_label, negate, unite};
 use game_outside::Name;

@@ -3,8 +3,8 @@ use Rattle.std.proofs.Common.{◌≡◌, ◌∙◌, ℕ, Bool, true, false, cond
 use Rattle.std.specs.Prelude.{◌&&◌, IsSome}
 use Rattle.game_model.specs.Game.{Distribution}
 use Rattle.game_model.specs.Query.{Query, states}
-use Rattle.label_reader.specs.Labels.{Labelling}
-use Rattle.label_reader.specs.Owners.{Ownership}
+use Rattle.label_lines.specs.Labels.{Labelling}
+use Rattle.label_lines.specs.Owners.{Ownership}
 use Rattle.rpatl_syntax.specs.Formula.{Tree, is_flat}
 use Rattle.plan_text.specs.Entries.{Entry, HasStates, entries_of}
 use Rattle.certificate_audit.specs.Accepted.{IsAccepted, Passes}

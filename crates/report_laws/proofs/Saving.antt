@@ -7,11 +7,11 @@ use Rattle.game_outside.specs.Outside.{Holding}
 use Rattle.game_model.specs.Game.{Distribution}
 use Rattle.game_model.specs.Limits.{most_states}
 use Rattle.transition_lines.specs.Text.{DenotesGame}
-use Rattle.label_reader.specs.Header.{Item}
-use Rattle.label_reader.specs.Lines.{StateLine}
-use Rattle.label_reader.specs.Labels.{Label, marks_of, marked_from, states_with, Labelling}
-use Rattle.label_reader.specs.Denotes.{AreLabels, DenotesLabels}
-use Rattle.label_reader.specs.Owners.{Ownership}
+use Rattle.label_lines.specs.Header.{Item}
+use Rattle.label_lines.specs.Lines.{StateLine}
+use Rattle.label_lines.specs.Labels.{Label, marks_of, marked_from, states_with, Labelling}
+use Rattle.label_lines.specs.Denotes.{AreLabels, DenotesLabels}
+use Rattle.label_lines.specs.Owners.{Ownership}
 use Rattle.rpatl_syntax.specs.Formula.{Tree}
 use Rattle.rpatl_syntax.specs.Rules.{DenotesFormula}
 use Rattle.rpatl_syntax.specs.Spellable.{IsSpellable}

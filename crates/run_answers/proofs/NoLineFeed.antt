@@ -7,7 +7,7 @@ use Rattle.std.specs.List.{list_all, AllByRecursion}
 use Rattle.std.proofs.lemmas.Fmt.{decimal_by_steps_wide}
 use Rattle.text_lines.specs.Laws.{HasNo}
 use Rattle.text_lines.specs.Parts.{split_first}
-use Rattle.label_reader.proofs.Splits.{split_first-again}
+use Rattle.label_lines.proofs.Splits.{split_first-again}
 use Rattle.fractions.specs.Fraction.{Fraction}
 use Rattle.rpatl_syntax.specs.declared.formula.Bound.{Bound}
 use Rattle.rpatl_syntax.specs.declared.formula.Bound.TheVariants.{AtLeast, Above, AtMost, Below, AskMax, AskMin}

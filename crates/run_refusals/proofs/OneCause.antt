@@ -8,8 +8,8 @@ use Rattle.distributions.specs.declared.choice.ChoiceFault.{ChoiceFault}
 use Rattle.distributions.specs.declared.choice.ChoiceFault.TheVariants as choice
 use Rattle.transition_lines.specs.declared.fault.TraCause.{TraCause}
 use Rattle.transition_lines.specs.declared.fault.TraCause.TheVariants as tra
-use Rattle.label_reader.specs.declared.faults.LabCause.{LabCause}
-use Rattle.label_reader.specs.declared.faults.LabCause.TheVariants as lab
+use Rattle.label_lines.specs.declared.faults.LabCause.{LabCause}
+use Rattle.label_lines.specs.declared.faults.LabCause.TheVariants as lab
 use Rattle.rpatl_syntax.specs.declared.fault.FormulaCause.{FormulaCause}
 use Rattle.rpatl_syntax.specs.declared.fault.FormulaCause.TheVariants as formula
 use Rattle.formula_sets.specs.declared.fault.PoseFault.{PoseFault}

@@ -4,8 +4,8 @@ use Rattle.std.specs.Prelude.{◌==◌, if◌then◌else◌, codes, decimal}
 use Rattle.std.proofs.lemmas.List.{append_cancel_left, append_cancel_right}
 use Rattle.transition_lines.specs.declared.fault.TraCause.{TraCause}
 use Rattle.transition_lines.specs.declared.fault.TraFault.{TraFault}
-use Rattle.label_reader.specs.declared.faults.LabCause.{LabCause}
-use Rattle.label_reader.specs.declared.faults.LabFault.{LabFault}
+use Rattle.label_lines.specs.declared.faults.LabCause.{LabCause}
+use Rattle.label_lines.specs.declared.faults.LabFault.{LabFault}
 use Rattle.values_reader.specs.declared.fault.ValuesCause.{ValuesCause}
 use Rattle.values_reader.specs.declared.fault.ValuesFault.{ValuesFault}
 use Rattle.rpatl_syntax.specs.declared.fault.FormulaCause.{FormulaCause}

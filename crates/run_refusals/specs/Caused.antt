@@ -1,7 +1,7 @@
 -- Refusals that are no want of memory.
 use Rattle.std.specs.Prelude.{◌≡◌, ◌≢◌, false}
 use Rattle.tra_reader.specs.FileEnds.{is_out_of_memory}
-use Rattle.label_reader.specs.declared.faults.LabCause.TheVariants as lab
+use Rattle.label_lines.specs.declared.faults.LabCause.TheVariants as lab
 use Rattle.rpatl_syntax.specs.declared.fault.FormulaCause.TheVariants as formula
 use Rattle.formula_sets.specs.declared.fault.PoseFault.TheVariants as question
 use Rattle.certificate_audit.specs.Refused.{IsOutOfMemory}

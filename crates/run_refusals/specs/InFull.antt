@@ -4,8 +4,8 @@ use Rattle.distributions.specs.declared.choice.ChoiceFault.{ChoiceFault}
 use Rattle.distributions.specs.declared.choice.ChoiceFault.TheVariants as choice
 use Rattle.transition_lines.specs.declared.fault.TraCause.{TraCause}
 use Rattle.transition_lines.specs.declared.fault.TraCause.TheVariants as tra
-use Rattle.label_reader.specs.declared.faults.LabCause.{LabCause}
-use Rattle.label_reader.specs.declared.faults.LabCause.TheVariants as lab
+use Rattle.label_lines.specs.declared.faults.LabCause.{LabCause}
+use Rattle.label_lines.specs.declared.faults.LabCause.TheVariants as lab
 use Rattle.inductive_check.specs.declared.upper.UpperCause.{UpperCause}
 use Rattle.inductive_check.specs.declared.upper.UpperCause.TheVariants as upper
 use Rattle.rank_certificate.specs.declared.check.RankCause.{RankCause}

@@ -6,8 +6,8 @@ use Rattle.distributions.specs.declared.choice.ChoiceFault.{ChoiceFault}
 use Rattle.distributions.specs.declared.choice.ChoiceFault.TheVariants as choice
 use Rattle.transition_lines.specs.declared.fault.TraCause.{TraCause}
 use Rattle.transition_lines.specs.declared.fault.TraCause.TheVariants as tra
-use Rattle.label_reader.specs.declared.faults.LabCause.{LabCause}
-use Rattle.label_reader.specs.declared.faults.LabCause.TheVariants as lab
+use Rattle.label_lines.specs.declared.faults.LabCause.{LabCause}
+use Rattle.label_lines.specs.declared.faults.LabCause.TheVariants as lab
 use Rattle.values_reader.specs.declared.fault.ValuesCause.{ValuesCause}
 use Rattle.values_reader.specs.declared.fault.ValuesCause.TheVariants as values
 use Rattle.rpatl_syntax.specs.declared.fault.FormulaCause.{FormulaCause}

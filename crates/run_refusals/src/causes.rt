@@ -7,7 +7,7 @@ ghost use Rattle.run_refusals.specs.Refusals.{number_text, choice_text, choice_p
 use distributions::ChoiceFault;
 use fractions::NumberFault;
 use inductive_check::UpperCause;
-use label_reader::LabCause;
+use label_lines::LabCause;
 use plan_text::PlanCause;
 use rank_certificate::RankCause;
 use rpatl_syntax::FormulaCause;

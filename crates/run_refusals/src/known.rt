@@ -5,7 +5,7 @@ ghost use Rattle.run_refusals.specs.InFull.{IsInFull, ChoiceInFull, TraInFull, L
 use crate::refusal::Refusal;
 use certificate_audit::AuditFault;
 use distributions::ChoiceFault;
-use label_reader::LabCause;
+use label_lines::LabCause;
 use transition_lines::TraCause;
 
 fn known_of_number(number: u32)

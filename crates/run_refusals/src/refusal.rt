@@ -9,7 +9,7 @@ use crate::causes::{
 };
 use certificate_audit::AuditFault;
 use formula_sets::PoseFault;
-use label_reader::LabFault;
+use label_lines::LabFault;
 use rpatl_syntax::FormulaFault;
 use std::alloc::{AllocError, Global};
 use transition_lines::TraFault;

@@ -1,11 +1,11 @@
 -- The answers of a reader of the lines behind a header.
 use Rattle.std.specs.Prelude.{ℕ, List, Result}
-use Rattle.label_reader.specs.declared.kind.FileKind.{FileKind}
-use Rattle.label_reader.specs.declared.faults.LabFault.{LabFault}
-use Rattle.label_reader.specs.Header.{Item}
-use Rattle.label_reader.specs.Lines.{StateLine}
+use Rattle.label_lines.specs.declared.kind.FileKind.{FileKind}
+use Rattle.label_lines.specs.declared.faults.LabFault.{LabFault}
+use Rattle.label_lines.specs.Header.{Item}
+use Rattle.label_lines.specs.Lines.{StateLine}
 use Rattle.game_outside.specs.Answers.{AnswersOrWants}
-use Rattle.label_reader.specs.Texts.{lines_from, made_of, IsOutOfMemory}
+use Rattle.label_lines.specs.Texts.{lines_from, made_of, IsOutOfMemory}
 
 -- The answer to a text whose lines go on with these, of which the first has this number. What the lines before them say
 -- is what the reader holds.

@@ -1,8 +1,8 @@
 -- Sets of states as they are marked, one set for each item of the header.
 use Rattle.std.specs.Prelude.{◌≡◌, ◌<◌, ℕ, Bool, true, false, List, [], ◌∷◌, length, Option, Some, None, slice_index}
 use Rattle.std.specs.Prelude.{slice_index_or, slice_set, All}
-use Rattle.label_reader.specs.Header.{Item, place_in}
-use Rattle.label_reader.specs.inside.Placed.{indices_of}
+use Rattle.label_lines.specs.Header.{Item, place_in}
+use Rattle.label_lines.specs.Placed.{indices_of}
 
 -- the sets, with the state marked in the one at this place
 abbrev pub with_mark : ℕ → Option ℕ → List (List Bool) → List (List Bool)

@@ -2,10 +2,10 @@
 use Rattle.std.specs.Prelude.{◌≡◌, ◌==◌, ◌<◌, ℕ, Bool, true, false, List, [], ◌∷◌, length, Option, Some, None}
 use Rattle.std.specs.Prelude.{slice_index_or, if◌then◌else◌, Result, Ok, Err}
 use Rattle.std.specs.List.{list_all}
-use Rattle.label_reader.specs.declared.faults.LabCause.{LabCause}
-use Rattle.label_reader.specs.declared.faults.LabCause.TheVariants.{TwoOwners}
-use Rattle.label_reader.specs.Header.{Item, place_of, place_in, has_index, and_then}
-use Rattle.label_reader.specs.Lines.{StateLine, said_of, all_same, known_fields}
+use Rattle.label_lines.specs.declared.faults.LabCause.{LabCause}
+use Rattle.label_lines.specs.declared.faults.LabCause.TheVariants.{TwoOwners}
+use Rattle.label_lines.specs.Header.{Item, place_of, place_in, has_index, and_then}
+use Rattle.label_lines.specs.Lines.{StateLine, said_of, all_same, known_fields}
 
 -- the place of the first index that is said
 abbrev pub first_of : List Item → List ℕ → Option ℕ

@@ -1,5 +1,5 @@
 use Rattle.std.proofs.Common.{◌≡◌, ◌∙◌, ◌++◌, ℕ, Bool, List, length, ap, arith}
-use Rattle.label_reader.specs.Labels.{marks_of}
+use Rattle.label_lines.specs.Labels.{marks_of}
 use Rattle.formula_sets.proofs.Inside.{marks_within}
 use Rattle.formula_sets.proofs.Marked.{padded}
 use Rattle.formula_sets.proofs.labels.marks_of_label.Goals as goal

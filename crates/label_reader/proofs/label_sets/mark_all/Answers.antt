@@ -1,9 +1,9 @@
 use Rattle.std.proofs.Common.{◌∙◌, sym, ap, cond, Err, rules}
 use Rattle.std.specs.List.{list_all}
 use Rattle.text_lines.specs.Text.{fields_of}
-use Rattle.label_reader.specs.declared.faults.LabCause.TheVariants.{BadField, UnknownIndex}
-use Rattle.label_reader.specs.Lines.{is_number, known_fields}
-use Rattle.label_reader.proofs.KnownLines.{known_fields-place, known_fields-no_place}
+use Rattle.label_lines.specs.declared.faults.LabCause.TheVariants.{BadField, UnknownIndex}
+use Rattle.label_lines.specs.Lines.{is_number, known_fields}
+use Rattle.label_lines.proofs.KnownLines.{known_fields-place, known_fields-no_place}
 use Rattle.label_reader.proofs.label_sets.mark_all.Goals as goal
 
 pub loop-field-preserved : goal.loop-field-preserved

@@ -1,6 +1,6 @@
 use Rattle.std.proofs.Common.{◌≡◌, ◌<◌, ℕ, length, All}
 use Rattle.text_lines.specs.Text.{fields_of}
-use Rattle.label_reader.specs.Lines.{known_fields}
+use Rattle.label_lines.specs.Lines.{known_fields}
 use Rattle.label_reader.specs.inside.Marked.{with_marks}
 use Rattle.label_reader.proofs.label_sets.mark_all.Given as goal
 

@@ -1,7 +1,7 @@
 use Rattle.text_lines.specs.Text.{lines_of, significant}
-use Rattle.label_reader.specs.declared.kind.FileKind.TheVariants.{LabelFile}
+use Rattle.label_lines.specs.declared.kind.FileKind.TheVariants.{LabelFile}
 use Rattle.label_reader.specs.inside.Behind.{AnswersBehind}
-use Rattle.label_reader.specs.Texts.{labelling, is_said}
+use Rattle.label_lines.specs.Texts.{labelling, is_said}
 use Rattle.label_reader.specs.inside.Marked.{AreMarked}
 use Rattle.label_reader.proofs.FileAnswers.{says_exactly}
 use Rattle.label_reader.proofs.FileSizes.{labels_of_text_sized}

@@ -1,5 +1,5 @@
 use Rattle.std.proofs.Common.{◌≡◌, ◌++◌, drop}
-use Rattle.label_reader.specs.Labels.{marked_from}
+use Rattle.label_lines.specs.Labels.{marked_from}
 use Rattle.label_reader.proofs.labels.marked.Given as goal
 
 abbrev pub invariant-loop-state : goal.invariant-loop-state

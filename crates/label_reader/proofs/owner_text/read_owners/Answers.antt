@@ -1,7 +1,7 @@
 use Rattle.text_lines.specs.Text.{lines_of, significant}
-use Rattle.label_reader.specs.declared.kind.FileKind.TheVariants.{OwnerFile}
+use Rattle.label_lines.specs.declared.kind.FileKind.TheVariants.{OwnerFile}
 use Rattle.label_reader.specs.inside.Behind.{AnswersBehind}
-use Rattle.label_reader.specs.Texts.{ownership}
+use Rattle.label_lines.specs.Texts.{ownership}
 use Rattle.label_reader.specs.inside.Owned.{AreRead}
 use Rattle.label_reader.proofs.FileAnswers.{says_exactly}
 use Rattle.label_reader.proofs.FileSizes.{owners_of_text_sized}

@@ -1,6 +1,6 @@
 use Rattle.std.proofs.Common.{ℕ, Bool, false, List, [], replicate, sym, subst, ap, ◌∙◌}
 use Rattle.label_reader.specs.inside.Marked.{AreMarked}
-use Rattle.label_reader.specs.Texts.{is_said}
+use Rattle.label_lines.specs.Texts.{is_said}
 use Rattle.label_reader.proofs.Marking.{AreMarked-nothing}
 use Rattle.label_reader.proofs.label_sets.LabelSetsBehindHeader.new.Goals as goal
 

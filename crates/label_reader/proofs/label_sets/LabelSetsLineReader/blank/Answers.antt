@@ -1,7 +1,7 @@
-use Rattle.label_reader.specs.declared.kind.FileKind.TheVariants.{LabelFile}
-use Rattle.label_reader.specs.declared.faults.LabCause.TheVariants.{BadField}
+use Rattle.label_lines.specs.declared.kind.FileKind.TheVariants.{LabelFile}
+use Rattle.label_lines.specs.declared.faults.LabCause.TheVariants.{BadField}
 use Rattle.label_reader.specs.inside.Marked.{AreMarked}
-use Rattle.label_reader.specs.Texts.{labelling, is_said}
+use Rattle.label_lines.specs.Texts.{labelling, is_said}
 use Rattle.label_reader.proofs.Blanks.{add_line-blank}
 use Rattle.label_reader.proofs.Bodies.{AnswersBehind-fault}
 use Rattle.label_reader.proofs.label_sets.LabelSetsLineReader.blank.Goals as goal

@@ -1,5 +1,5 @@
 use Rattle.std.proofs.Common.{ℕ, List, Ok, sym, ap, ◌∙◌}
-use Rattle.label_reader.specs.Labels.{Label, Labelling}
+use Rattle.label_lines.specs.Labels.{Label, Labelling}
 use Rattle.label_reader.proofs.Filled.{labels_named-marked}
 use Rattle.label_reader.proofs.label_sets.LabelSetsLineReader.finish.Goals as goal
 

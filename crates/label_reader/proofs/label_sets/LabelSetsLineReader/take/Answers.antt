@@ -1,11 +1,11 @@
 use Rattle.std.proofs.Common.{◌≡◌, ◌++◌, ◌∷◌, [], List, Bool, length, take, drop, All, sym, ap, subst, ◌∙◌, arith}
 use Rattle.text_lines.specs.Text.{fields_of}
-use Rattle.label_reader.specs.declared.kind.FileKind.TheVariants.{LabelFile}
+use Rattle.label_lines.specs.declared.kind.FileKind.TheVariants.{LabelFile}
 use Rattle.label_reader.specs.inside.Marked.{AreMarked, with_marks}
-use Rattle.label_reader.specs.Texts.{labelling, is_said}
+use Rattle.label_lines.specs.Texts.{labelling, is_said}
 use Rattle.label_reader.proofs.Bodies.{AnswersBehind-line, AnswersBehind-fault, add_line-known, add_line-unknown}
 use Rattle.std.proofs.lemmas.List.{take_at}
-use Rattle.label_reader.proofs.KnownLines.{line_with, known_line-known, known_line-fault, known_fields-all}
+use Rattle.label_lines.proofs.KnownLines.{line_with, known_line-known, known_line-fault, known_fields-all}
 use Rattle.label_reader.proofs.Marking.{AreMarked-line}
 use Rattle.label_reader.proofs.label_sets.LabelSetsLineReader.take.Goals as goal
 

@@ -1,6 +1,6 @@
 use Rattle.std.proofs.Common.{subst}
-use Rattle.label_reader.specs.Labels.{Labelling, IsLabelling}
-use Rattle.label_reader.proofs.NamedMarks.{All-labels_named}
+use Rattle.label_lines.specs.Labels.{Labelling, IsLabelling}
+use Rattle.label_lines.proofs.NamedMarks.{All-labels_named}
 use Rattle.label_reader.proofs.labels.Labels.known.Goals as goal
 
 pub returns : goal.returns

@@ -1,6 +1,6 @@
 use Rattle.std.proofs.Common.{◌∙◌, ap}
-use Rattle.label_reader.specs.Labels.{is_known}
-use Rattle.label_reader.proofs.NamedMarks.{is_some-lookup, list_any-labels_named}
+use Rattle.label_lines.specs.Labels.{is_known}
+use Rattle.label_lines.proofs.NamedMarks.{is_some-lookup, list_any-labels_named}
 use Rattle.label_reader.proofs.labels.Labels.knows.Goals as goal
 
 pub returns : goal.returns

@@ -1,7 +1,7 @@
 use Rattle.std.proofs.Common.{◌≡◌, ◌<◌, ◌∙◌, ap, sym, length, get_or, [], List, Bool, arith, rules}
 use Rattle.std.proofs.lemmas.List.{get_or_default, get_or_past}
-use Rattle.label_reader.specs.Labels.{marks_of}
-use Rattle.label_reader.proofs.NamedMarks.{marks_of-labels_named, place_named, placed, not_placed, past_sets}
+use Rattle.label_lines.specs.Labels.{marks_of}
+use Rattle.label_lines.proofs.NamedMarks.{marks_of-labels_named, place_named, placed, not_placed, past_sets}
 use Rattle.label_reader.proofs.labels.Labels.marks.Goals as goal
 
 pub returns-in-Some-clause-marks : goal.returns-in-Some-clause-marks

@@ -1,7 +1,7 @@
-use Rattle.label_reader.specs.declared.kind.FileKind.TheVariants.{OwnerFile}
-use Rattle.label_reader.specs.declared.faults.LabCause.TheVariants.{BadField}
+use Rattle.label_lines.specs.declared.kind.FileKind.TheVariants.{OwnerFile}
+use Rattle.label_lines.specs.declared.faults.LabCause.TheVariants.{BadField}
 use Rattle.label_reader.specs.inside.Owned.{AreRead}
-use Rattle.label_reader.specs.Texts.{ownership}
+use Rattle.label_lines.specs.Texts.{ownership}
 use Rattle.label_reader.proofs.Blanks.{add_line-blank}
 use Rattle.label_reader.proofs.Bodies.{AnswersBehind-fault}
 use Rattle.label_reader.proofs.owner_table.OwnerTableLineReader.blank.Goals as goal

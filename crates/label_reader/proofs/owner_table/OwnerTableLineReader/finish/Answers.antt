@@ -1,7 +1,7 @@
 use Rattle.std.proofs.Common.{ℕ, List, Ok, sym, ap, map, ◌∙◌}
-use Rattle.label_reader.specs.Header.{Item}
-use Rattle.label_reader.specs.Named.{places_of}
-use Rattle.label_reader.specs.Owners.{Ownership}
+use Rattle.label_lines.specs.Header.{Item}
+use Rattle.label_lines.specs.Named.{places_of}
+use Rattle.label_lines.specs.Owners.{Ownership}
 use Rattle.label_reader.proofs.Filled.{names_of-items, places_of-read}
 use Rattle.label_reader.proofs.owner_table.OwnerTableLineReader.finish.Goals as goal
 

@@ -1,9 +1,9 @@
 use Rattle.std.proofs.Common.{◌≡◌, ◌<◌, None, Ok, Err, List, Option, ℕ, length, set, get_or, ap, ◌∙◌, arith}
 use Rattle.std.proofs.lemmas.List.{length-set, get_or_default}
 use Rattle.text_lines.specs.Text.{fields_of}
-use Rattle.label_reader.specs.declared.kind.FileKind.TheVariants.{OwnerFile}
+use Rattle.label_lines.specs.declared.kind.FileKind.TheVariants.{OwnerFile}
 use Rattle.label_reader.specs.inside.Owned.{owner_behind, AreRead}
-use Rattle.label_reader.specs.Texts.{ownership}
+use Rattle.label_lines.specs.Texts.{ownership}
 use Rattle.label_reader.proofs.Bodies.{AnswersBehind-line, AnswersBehind-fault}
 use Rattle.label_reader.proofs.OwnerLines.{owner_behind-known, owner_behind-line}
 use Rattle.label_reader.proofs.owner_table.OwnerTableLineReader.take.Goals as goal

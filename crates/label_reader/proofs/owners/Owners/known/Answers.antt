@@ -2,8 +2,8 @@ use Rattle.std.proofs.Common.{◌<◌, ℕ, length, subst, sym, All}
 use Rattle.std.proofs.lemmas.List.{length-map}
 use Rattle.std.proofs.lemmas.List.Elements.{All-map}
 use Rattle.std.specs.Option.{unwrap_or}
-use Rattle.label_reader.specs.Owners.{Ownership, IsOwnership}
-use Rattle.label_reader.specs.Named.{places_of}
+use Rattle.label_lines.specs.Owners.{Ownership, IsOwnership}
+use Rattle.label_lines.specs.Named.{places_of}
 use Rattle.label_reader.proofs.owners.Owners.known.Goals as goal
 
 pub returns : goal.returns

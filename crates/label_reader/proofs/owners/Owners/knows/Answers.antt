@@ -1,6 +1,6 @@
 use Rattle.std.proofs.Common.{◌∙◌, ap}
-use Rattle.label_reader.specs.Owners.{is_player}
-use Rattle.label_reader.proofs.NamedMarks.{is_some-lookup}
+use Rattle.label_lines.specs.Owners.{is_player}
+use Rattle.label_lines.proofs.NamedMarks.{is_some-lookup}
 use Rattle.label_reader.proofs.owners.Owners.knows.Goals as goal
 
 pub returns : goal.returns

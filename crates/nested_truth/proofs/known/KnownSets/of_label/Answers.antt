@@ -1,5 +1,5 @@
 use Rattle.std.proofs.Common.{sym, false}
-use Rattle.label_reader.specs.Labels.{holds_at}
+use Rattle.label_lines.specs.Labels.{holds_at}
 use Rattle.nested_truth.proofs.Tables.{filled-length, filled-at}
 use Rattle.nested_truth.proofs.known.KnownSets.of_label.Goals as goal
 

@@ -1,0 +1,14 @@
+pub mod NamedMarks
+pub mod Indexed
+pub mod HeaderSteps
+pub mod KnownLines
+pub mod SaidOf
+pub mod Heads
+pub mod Splits
+pub mod ItemLaws
+pub mod StateLineLaws
+pub mod TextLaws
+pub mod SetLaws
+pub mod LabelLaws
+pub mod OwnerLaws
+pub mod RisingStates

@@ -1,0 +1,9 @@
+pub mod Named
+pub mod Labels
+pub mod Limits
+pub mod Owners
+pub mod Header
+pub mod Lines
+pub mod Texts
+pub mod Denotes
+pub mod Placed
