@@ -2,8 +2,9 @@
 //!
 //! `read_labels` gives the labels of a model's states and `read_owners` the players that own them, each from the bytes
 //! of its file and the number of states; or the first fault of the text with its line. `label_lines` says how a line is
-//! spelled. Of a text that denotes labels or owners nothing but these is answered, unless memory is wanting. `read_labels_from` and `read_owners_from` read a file on a
-//! shelf, a piece at a time, and give the same answer in whatever pieces it comes.
+//! spelled. Of a text that denotes labels or owners nothing but these is answered, unless memory is wanting.
+//! `read_labels_from` and `read_owners_from` read a file on a shelf, a piece at a time, and give the same answer in
+//! whatever pieces it comes.
 //!
 //! ```text
 //! let labels = read_labels(alloc, &bytes, game.states())?;
@@ -13,7 +14,7 @@
 //!
 //! `Labels::marks`, `Labels::knows`, `Owners::knows` and `Owners::owner` take no memory and constant time. Contracts
 //! see `Labels` as a `Labelling`, a list of names with a mark for each state, and `Owners` as an `Ownership`.
-//!#![tactic(auto)]
+#![tactic(auto)]
 
 mod files;
 mod label_sets;

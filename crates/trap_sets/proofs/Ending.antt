@@ -4,10 +4,12 @@ use Rattle.std.proofs.Common.{Option}
 use Rattle.std.specs.Prelude.{slice_index}
 use Rattle.std.proofs.lemmas.Bool.{cases_eq, eq-eqb, eqb-true}
 use Rattle.game_model.specs.Query.{Query, states}
-use Rattle.trap_sets.specs.Ends.{Walk, IsEndComponent, numbered}
-use Rattle.trap_sets.specs.inside.Parts.{IsInner, IsStep, Comes, KeepsEnds, IsRooted, HaveInner, AreJoined, AreSettled}
+use Rattle.trap_sets.specs.Ends.{IsEndComponent, numbered}
+use Rattle.strong_components.specs.Moves.{Walk}
+use Rattle.strong_components.specs.Parts.{IsInner, IsStep, Comes, IsRooted}
+use Rattle.trap_sets.specs.inside.Settled.{KeepsEnds, HaveInner, AreJoined, AreSettled}
 use Rattle.trap_sets.proofs.Listing.{listed-by, inner-listed, listed-inner, walk-listed}
-use Rattle.trap_sets.proofs.Marking.{within}
+use Rattle.strong_components.proofs.Marking.{within}
 
 -- a state that comes to another has an inner choice
 first-step : (q : Query) (replies : List (Option ℕ)) (part : List ℕ) (n s t : ℕ) → Walk (IsStep q replies part) n s t

@@ -1,13 +1,8 @@
-pub mod Leading
 pub mod Lowering
 pub mod Capping
 pub mod Exits
 pub mod Closing
 pub mod Lowered
-pub mod Walking
-pub mod Placing
-pub mod Marking
-pub mod Following
 pub mod Trimming
 pub mod Pairs
 pub mod Settling

@@ -3,12 +3,14 @@ use Rattle.std.proofs.Common.{◌≡◌, ◌≢◌, ℕ, zero, suc, ◌-◌, ◌
 use Rattle.std.specs.Prelude.{slice_index}
 use Rattle.std.proofs.lemmas.Bool.{cases_eq}
 use Rattle.game_model.specs.Query.{Query}
-use Rattle.trap_sets.specs.Ends.{IsEndComponent, IsMove, Walk, Reach}
-use Rattle.trap_sets.specs.inside.Parts.{Leaves, CutsPart, IsInner, IsStep, Comes, KeepsEnds, AreClasses, AreUncut}
-use Rattle.trap_sets.specs.inside.Parts.{AreJoined}
+use Rattle.trap_sets.specs.Ends.{IsEndComponent}
+use Rattle.strong_components.specs.Moves.{IsMove, Walk, Reach}
+use Rattle.strong_components.specs.Parts.{Leaves, CutsPart, IsInner, IsStep, Comes, AreClasses, AreUncut}
+use Rattle.trap_sets.specs.inside.Settled.{KeepsEnds}
+use Rattle.trap_sets.specs.inside.Settled.{AreJoined}
 use Rattle.trap_sets.specs.inside.Pairs.{pairs}
-use Rattle.trap_sets.proofs.Walking.{reach-join, reach-step, comes-part}
-use Rattle.trap_sets.proofs.Marking.{within}
+use Rattle.strong_components.proofs.Walking.{reach-join, reach-step, comes-part}
+use Rattle.strong_components.proofs.Marking.{within}
 use Rattle.trap_sets.proofs.Trimming.{ends-inner}
 use Rattle.trap_sets.proofs.Pairs.{pairs-fewer}
 

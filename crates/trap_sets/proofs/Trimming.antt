@@ -9,10 +9,12 @@ use Rattle.std.proofs.lemmas.List.{get_or_append_left, length-set}
 use Rattle.std.proofs.lemmas.List.Sums.{sum_by-set, sum_by-cons}
 use Rattle.game_model.specs.Game.{choices_of}
 use Rattle.game_model.specs.Query.{Query, states}
-use Rattle.trap_sets.specs.Ends.{IsCut, Leads, IsEndComponent}
-use Rattle.trap_sets.specs.inside.Parts.{off, IsInner, KeepsEnds, HaveInner}
+use Rattle.trap_sets.specs.Ends.{IsEndComponent}
+use Rattle.strong_components.specs.Moves.{IsCut, Leads}
+use Rattle.strong_components.specs.Parts.{off, IsInner}
+use Rattle.trap_sets.specs.inside.Settled.{KeepsEnds, HaveInner}
 use Rattle.trap_sets.specs.inside.Trimming.{IsTrimmed, IsInnerBut, AreWaiting, IsTested}
-use Rattle.trap_sets.proofs.Marking.{off-same, off-other, longer-at, longer-length}
+use Rattle.strong_components.proofs.Marking.{off-same, off-other, longer-at, longer-length}
 
 -- the listed choices of an end component are inner
 pub ends-inner : (q : Query) (replies : List (Option ℕ)) (part : List ℕ) (member : ℕ → Bool) (listed : ℕ → ℕ → Bool)

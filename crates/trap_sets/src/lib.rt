@@ -20,26 +20,15 @@
 //! mutual reachability the new parts, from scratch (Baier and Katoen, Principles of Model Checking, 2008, algorithm
 //! 47). The rounds end where these sets cut no inner choice: none leads both to another state of the set of its state
 //! and out of that set. Then the states of each set still reach each other by choices that stay in it, and what a
-//! last removal leaves are whole sets. A set is found by a search backward from a pivot and one forward in what it
-//! met. The pivots stand in the order in which a depth-first search leaves the states, backward, so no search meets
-//! two sets (Kosaraju; Sharir 1981); no contract rests on that order. A round takes time linear in the states, choices
-//! and edges: which choices stay is found in one pass, one byte a choice. There are as many rounds as sets break up
-//! one within another, and most often one; a chain or a walk of any length takes one, since removal goes on backward
-//! at once. The time is no part of the contract.
+//! last removal leaves are whole sets. `strong_components` finds these sets. A round takes time linear in the states,
+//! choices and edges. There are as many rounds as sets break up one within another, and most often one; a chain or a
+//! walk of any length takes one, since removal goes on backward at once. The time is no part of the contract.
 #![tactic(auto)]
 
 mod arena;
-mod backward;
-mod choices;
-mod classes;
-mod cut;
-mod forward;
-mod inner;
 mod lower;
 mod numbers;
-mod order;
 mod rounds;
-mod split;
 mod trim;
 
 pub use lower::{lower_traps, lower_traps_over};

@@ -3,16 +3,15 @@
 ghost use Rattle.std.specs.Prelude.{◌≡◌, ◌<◌, ◌↔◌, true, false, IsTrue, IfOk, OnOk};
 ghost use Rattle.game_model.specs.Query.{states};
 ghost use Rattle.fixed_bellman.specs.Given.{IsFree};
-ghost use Rattle.trap_sets.specs.inside.Parts.{IsRooted};
+ghost use Rattle.strong_components.specs.Parts.{IsRooted};
 ghost use Rattle.trap_sets.specs.inside.Pairs.{pairs};
-ghost use Rattle.trap_sets.specs.inside.OfCut.{KeepsEndsOf, AreJoinedIn, AreSettledOf};
+ghost use Rattle.trap_sets.specs.inside.OfRounds.{KeepsEndsOf, AreJoinedIn, AreSettledOf};
 
-use crate::cut::Cut;
-use crate::split::split;
 use crate::trim::trim;
 use game_model::Question;
 use game_outside::OutOfMemory;
 use std::alloc::Global;
+use strong_components::{Cut, split};
 
 /// The greatest parts that are end components.
 pub fn settled_parts(alloc: Global, cut: &Cut<'_>) -> Result<Vec<u32>, OutOfMemory>

@@ -2,11 +2,12 @@
 
 ghost use Rattle.std.specs.Prelude.{◌≡◌, ◌≢◌, ℕ, ◌+◌, ◌<◌, List, length, slice_index, OnOk};
 ghost use Rattle.game_model.specs.Growing.{IsLonger};
-ghost use Rattle.trap_sets.specs.inside.OfCut.{states_in, KeepsEndsOf, HaveInnerOf, IsTrimmedOf, AreWaitingOf, IsTestedOf};
+ghost use Rattle.trap_sets.specs.inside.OfRounds.{KeepsEndsOf, HaveInnerOf, IsTrimmedOf, AreWaitingOf, IsTestedOf};
+ghost use Rattle.strong_components.specs.OfCut.{states_in};
 
-use crate::cut::Cut;
 use game_outside::OutOfMemory;
 use std::alloc::Global;
+use strong_components::Cut;
 
 /// Takes its part from each state that has no inner choice, and from each that has none left then, and so
 /// on. A state waits for one choice at a time, so each choice is tested twice at most.

@@ -1,5 +1,5 @@
 use Rattle.std.proofs.Common.{◌≡◌, ◌<◌, ℕ, List, sym, ◌∙◌, subst}
-use Rattle.trap_sets.specs.inside.Parts.{KeepsEnds, AreJoined}
+use Rattle.trap_sets.specs.inside.Settled.{KeepsEnds, AreJoined}
 use Rattle.trap_sets.specs.inside.Pairs.{pairs}
 use Rattle.trap_sets.proofs.Settling.{KeepsEnds-classes, AreJoined-uncut, fewer-cut}
 use Rattle.trap_sets.proofs.rounds.next_round.Goals as goal

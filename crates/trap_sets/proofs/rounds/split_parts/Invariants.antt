@@ -1,6 +1,7 @@
 use Rattle.std.proofs.Common.{◌≡◌, ◌+◌, false}
 use Rattle.std.specs.Bool.{if◌then◌else◌}
-use Rattle.trap_sets.specs.inside.Parts.{IsRooted, KeepsEnds, AreJoined}
+use Rattle.strong_components.specs.Parts.{IsRooted}
+use Rattle.trap_sets.specs.inside.Settled.{KeepsEnds, AreJoined}
 use Rattle.trap_sets.specs.inside.Pairs.{pairs}
 use Rattle.trap_sets.proofs.rounds.split_parts.Given as goal
 

@@ -7,10 +7,10 @@ use Rattle.game_model.specs.Query.{states}
 use Rattle.predecessors.specs.declared.lists.Move.{Move}
 use Rattle.predecessors.specs.Moves.{move, LeadsTo}
 use Rattle.predecessors.proofs.Listed.{listed-exactly}
-use Rattle.trap_sets.specs.Ends.{Leads}
+use Rattle.strong_components.specs.Moves.{Leads}
 use Rattle.trap_sets.specs.inside.Trimming.{IsTrimmed, AreWaiting}
-use Rattle.trap_sets.proofs.Marking.{longer-join, longer-at, longer-length}
-use Rattle.trap_sets.proofs.Leading.{listed-move}
+use Rattle.strong_components.proofs.Marking.{longer-join, longer-at, longer-length}
+use Rattle.strong_components.proofs.Leading.{listed-move}
 use Rattle.trap_sets.proofs.Trimming.{of-three, AreWaiting-tested, passed-tested, AreWaiting-passed}
 use Rattle.trap_sets.proofs.trim.follow_gone.Goals as goal
 use Rattle.trap_sets.proofs.trim.follow_gone.Goals.{then-part-state-ne0+then-awaited-state+in_ok-test}

@@ -2,7 +2,7 @@ use Rattle.std.proofs.Common.{◌≡◌, ◌≢◌, ◌<◌, ℕ, get_or}
 use Rattle.std.specs.Prelude.{slice_index}
 use Rattle.game_model.specs.Growing.{IsLonger}
 use Rattle.predecessors.specs.Moves.{move}
-use Rattle.trap_sets.specs.inside.OfCut.{states_in}
+use Rattle.strong_components.specs.OfCut.{states_in}
 use Rattle.trap_sets.specs.inside.Trimming.{IsTrimmed, AreWaiting}
 use Rattle.trap_sets.proofs.trim.follow_gone.Given as goal
 

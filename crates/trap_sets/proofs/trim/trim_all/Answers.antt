@@ -1,5 +1,5 @@
 use Rattle.std.proofs.Common.{◌<◌, length, arith, ◌∙◌}
-use Rattle.trap_sets.proofs.Marking.{longer-length}
+use Rattle.strong_components.proofs.Marking.{longer-length}
 use Rattle.trap_sets.proofs.Trimming.{HaveInner-held}
 use Rattle.trap_sets.proofs.trim.trim_all.Goals as goal
 

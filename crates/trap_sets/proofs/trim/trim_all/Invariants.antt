@@ -1,6 +1,6 @@
 use Rattle.std.proofs.Common.{◌≡◌, ◌≢◌, ◌≤◌, ◌-◌, ℕ, length}
 use Rattle.std.specs.Prelude.{slice_index}
-use Rattle.trap_sets.specs.inside.OfCut.{states_in}
+use Rattle.strong_components.specs.OfCut.{states_in}
 use Rattle.trap_sets.specs.inside.Trimming.{IsTrimmed, AreWaiting}
 use Rattle.trap_sets.proofs.trim.trim_all.Given as goal
 

@@ -1,0 +1,5 @@
+pub mod Leading
+pub mod Walking
+pub mod Placing
+pub mod Marking
+pub mod Following

@@ -1,0 +1,4 @@
+pub mod Moves
+pub mod Parts
+pub mod OfCut
+pub mod inside

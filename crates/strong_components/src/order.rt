@@ -1,0 +1,108 @@
+//! The order in which a depth-first search leaves the states.
+
+ghost use Rattle.std.specs.Prelude.{◌≡◌, ◌<◌, length, All, IfOk, OnOk};
+ghost use Rattle.game_model.specs.Game.{choices_of};
+ghost use Rattle.strong_components.specs.inside.OfInner.{states_of};
+
+use crate::inner::Inner;
+use game_outside::OutOfMemory;
+use predecessors::Move;
+use std::alloc::Global;
+
+/// A state on the stack: it is to be entered, or to be left.
+#[derive(Clone, Copy)]
+struct Visit {
+    state: u32,
+    leave: bool,
+}
+
+/// The states that have a part in the order in which a depth-first search over inner choices leaves them.
+pub fn leaving_order(alloc: Global, inner: &Inner<'_>) -> Result<Vec<u32>, OutOfMemory>
+    ensures { IfOk result (λ order. All (λ s. s < states_of inner.now) order.items) }
+{
+    let game = inner.cut.question.game();
+    let states = game.states();
+    let mut entered = vec![in alloc; false; states as usize]?;
+    let mut order = Vec::new(alloc);
+    let mut stack = opening_stack(alloc, inner)?;
+    let turns = game.edges_below(states) + 2 * u64::from(states);
+    for _turn in 0..turns {
+        let Some(visit) = stack.pop() else {
+            return Ok(order);
+        };
+        if visit.leave {
+            order.push(visit.state)?;
+        } else if !entered[visit.state as usize] {
+            entered[visit.state as usize] = true;
+            stack.push(Visit {
+                state: visit.state,
+                leave: true,
+            })?;
+            enter(inner, &entered, visit.state, &mut stack)?;
+        }
+    }
+    Ok(order)
+}
+
+/// The states that have a part, to be entered, the first of them on top.
+fn opening_stack(alloc: Global, inner: &Inner<'_>) -> Result<Vec<Visit>, OutOfMemory>
+    ensures { IfOk result (λ stack. All (λ v. v.state < states_of inner.now) stack.items) }
+{
+    let states = inner.cut.question.game().states();
+    let mut stack = Vec::new(alloc);
+    for below in 0..states {
+        let state = states - 1 - below;
+        if inner.part[state as usize] != 0 {
+            stack.push(Visit {
+                state,
+                leave: false,
+            })?;
+        }
+    }
+    Ok(stack)
+}
+
+/// Puts on the stack the states that inner choices of this one lead to.
+fn enter(
+    inner: &Inner<'_>,
+    entered: &[bool],
+    state: u32,
+    stack: &mut Vec<Visit>,
+) -> Result<(), OutOfMemory>
+    requires entered { length entered.now ≡ states_of inner.now }
+    requires state { state < states_of inner.now }
+    requires stack { All (λ v. v.state < states_of inner.now) stack.old.items }
+    ensures { OnOk result (All (λ v. v.state < states_of inner.now) stack.new.items) }
+{
+    for choice in 0..inner.cut.question.game().choices_of(state) {
+        if inner.has(state, choice) {
+            put_successors(inner, entered, Move { state, choice }, stack)?;
+        }
+    }
+    Ok(())
+}
+
+/// Puts on the stack the successors of a choice that were not entered.
+fn put_successors(
+    inner: &Inner<'_>,
+    entered: &[bool],
+    step: Move,
+    stack: &mut Vec<Visit>,
+) -> Result<(), OutOfMemory>
+    requires entered { length entered.now ≡ states_of inner.now }
+    requires state { step.state < states_of inner.now }
+    requires choice { step.choice < length (choices_of inner.now.cut.question.now.game step.state) }
+    requires stack { All (λ v. v.state < states_of inner.now) stack.old.items }
+    ensures { OnOk result (All (λ v. v.state < states_of inner.now) stack.new.items) }
+{
+    let game = inner.cut.question.game();
+    for to in game.successors(step.state, step.choice) {
+        if !entered[*to as usize] {
+            stack.push(Visit {
+                state: *to,
+                leave: false,
+            })?;
+        }
+    }
+    Ok(())
+}
