@@ -6,7 +6,7 @@ use Rattle.game_model.specs.Query.{Query, IsQuery, states}
 use Rattle.game_model.specs.Limits.{unit}
 use Rattle.game_model.specs.Ranks.{Ranked}
 use Rattle.rank_certificate.specs.Layers.{AreLayered}
-use Rattle.rank_certificate.specs.LowerGuess.{IsLowerGuess}
+use Rattle.lower_guess.specs.LowerGuess.{IsLowerGuess}
 use Rattle.rank_certificate.proofs.Layered.{none-at-goals, none-at-deads, none-at-least, none-at-zero, plan-layered}
 use Rattle.bracket_engine.specs.Choices.{AreChoices}
 

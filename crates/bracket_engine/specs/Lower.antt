@@ -4,7 +4,7 @@ use Rattle.game_model.specs.Query.{Query, states}
 use Rattle.game_model.specs.Limits.{unit}
 use Rattle.game_model.specs.Rounded.{IsBelow}
 use Rattle.game_model.specs.Bounds.{IsNear}
-use Rattle.rank_certificate.specs.LowerGuess.{IsLowerGuess}
+use Rattle.lower_guess.specs.LowerGuess.{IsLowerGuess}
 
 -- k-step values come as near to the lower table as one likes, and it is nowhere below the base: it is the lower guess
 -- of the base, with the choices and the ranks that vouch for it

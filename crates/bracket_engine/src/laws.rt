@@ -9,7 +9,7 @@ ghost use Rattle.bracket_engine.specs.Bracket.{IsBracket};
 ghost use Rattle.bracket_engine.specs.Lower.{IsLowerTable};
 
 use crate::run::MOST_ROUNDS;
-use rank_certificate::laws::one_lower_table;
+use lower_guess::laws::one_lower_table;
 
 /// The constant is the number of the definitions.
 pub fn limits()

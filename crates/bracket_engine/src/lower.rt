@@ -9,8 +9,8 @@ ghost use Rattle.bracket_engine.specs.inside.Sides.{IsLowerSide};
 use crate::base::Base;
 use crate::tables::choices_of_words;
 use game_outside::OutOfMemory;
+use lower_guess::{LowerGuess, lower_guess_over};
 use rank_certificate::laws::ranks_reach;
-use rank_certificate::{LowerGuess, lower_guess_over};
 use std::alloc::Global;
 use value_words::Words;
 

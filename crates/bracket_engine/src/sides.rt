@@ -14,7 +14,7 @@ use crate::stopping::SettlingGuess;
 use crate::team::Team;
 use crate::upper::{UpperSide, upper_side};
 use game_outside::OutOfMemory;
-use rank_certificate::LowerGuess;
+use lower_guess::LowerGuess;
 use std::alloc::Global;
 use std::thread::{Threads, join};
 use value_words::Words;

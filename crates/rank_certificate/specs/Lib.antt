@@ -2,5 +2,4 @@ pub mod Ranking
 pub mod Faults
 pub mod Layers
 pub mod Carrying
-pub mod LowerGuess
 pub mod inside

@@ -9,10 +9,7 @@ ghost use Rattle.rank_certificate.specs.declared.check.RankCause.{RankCause};
 ghost use Rattle.rank_certificate.specs.Faults.{IsRankFault};
 ghost use Rattle.rank_certificate.specs.Layers.{AreLayered};
 ghost use Rattle.rank_certificate.specs.Carrying.{IsLayeredPlan};
-ghost use Rattle.rank_certificate.specs.LowerGuess.{last_place, most_steps, IsLowerGuess};
 
-use crate::guess::LAST_PLACE;
-use crate::guesses::MOST_STEPS;
 use game_model::Question;
 
 /// Where values, choices and ranks go together, the plan of the choices reaches the values, less any 1/m, at
@@ -43,29 +40,6 @@ pub fn ranks_reach(question: &Question, values: &[u64], choices: &[Option<u32>],
 pub fn ranked_values_are_near()
     ensures { (q : Query) (values : List ℕ) (choices : List (Option ℕ)) (ranks : List ℕ) →
         IsQuery q → Ranked q values choices ranks → IsNear q (slice_index values) }
-{}
-
-/// There is one lower guess of a table and choices: it does not depend on which tables were made, nor on the order of
-/// the search.
-pub fn one_lower_guess()
-    ensures { (q : Query) (marks : List Bool) (base : List ℕ) (given : List (Option ℕ)) (values other : List ℕ)
-        (choices others : List (Option ℕ)) (ranks alike : List ℕ) →
-        IsLowerGuess q marks base given values choices ranks → IsLowerGuess q marks base given other others alike
-        → (values ≡ other) × (choices ≡ others) × (ranks ≡ alike) }
-{}
-
-/// The values of a lower guess do not depend on the choices that were handed in.
-pub fn one_lower_table()
-    ensures { (q : Query) (marks : List Bool) (base : List ℕ) (given instead : List (Option ℕ)) (values other : List ℕ)
-        (choices others : List (Option ℕ)) (ranks alike : List ℕ) →
-        IsLowerGuess q marks base given values choices ranks → IsLowerGuess q marks base instead other others alike
-        → values ≡ other }
-{}
-
-/// The limits of the code are those of the definitions.
-pub fn guess_limits()
-    ensures place { LAST_PLACE ≡ last_place }
-    ensures steps { MOST_STEPS ≡ most_steps }
 {}
 
 /// Ranked values of a program's own question are near.

@@ -9,10 +9,7 @@
 //! check takes no memory. [`find_ranks`] gives the least such ranks, layer by layer, where there are any.
 //! [`find_ranks_over`] does so over lists of predecessors that the caller has.
 //!
-//! [`rank_table`] finds choices and ranks for values alone, or shows that there are none at all. [`lower_guess`]
-//! raises a lower table by a few units where some choices and ranks vouch for the raised one. So a value is found
-//! that rounded steps come near to and never reach. This is guess and verify, as optimistic value iteration does
-//! it for upper tables (Hartmanns and Kaminski, Optimistic value iteration, CAV 2020).
+//! [`rank_table`] finds choices and ranks for values alone, or shows that there are none at all.
 #![tactic(auto)]
 
 mod asked;
@@ -21,14 +18,9 @@ mod check;
 mod choice;
 mod find;
 mod growth;
-mod guess;
-mod guesses;
 pub mod laws;
-mod lesser;
-mod local;
 mod table;
 
 pub use check::{RankCause, RankFault, check_ranks};
 pub use find::{find_ranks, find_ranks_over};
-pub use guess::{LowerGuess, lower_guess, lower_guess_over};
-pub use table::{RankPlan, rank_table, rank_table_over};
+pub use table::{RankPlan, rank_standing, rank_table, rank_table_over};

@@ -1,7 +1,7 @@
 -- The two sides of a bracket.
 use Rattle.std.specs.Prelude.{ℕ, Bool, List, Option}
 use Rattle.game_model.specs.Query.{Query}
-use Rattle.rank_certificate.specs.declared.guess.LowerGuess.{LowerGuess}
+use Rattle.lower_guess.specs.declared.guess.LowerGuess.{LowerGuess}
 use Rattle.bracket_engine.specs.declared.upper.UpperSide.{UpperSide}
 use Rattle.bracket_engine.specs.declared.stopping.SettlingGuess.{SettlingGuess}
 use Rattle.bracket_engine.specs.Choices.{AreChoices, AreRanks}

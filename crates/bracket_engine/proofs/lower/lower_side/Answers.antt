@@ -3,7 +3,7 @@ use Rattle.std.specs.Prelude.{slice_index_or, None}
 use Rattle.game_model.specs.Query.{states}
 use Rattle.game_model.specs.Ranks.{ReachesUnder}
 use Rattle.rank_certificate.specs.Layers.{IsRankable}
-use Rattle.rank_certificate.specs.LowerGuess.{IsLowerGuess}
+use Rattle.lower_guess.specs.LowerGuess.{IsLowerGuess}
 use Rattle.bracket_engine.specs.Choices.{choice_of_word}
 use Rattle.bracket_engine.proofs.ClosedChoices.{AreChoices-closed, IsRankable-closed}
 use Rattle.bracket_engine.proofs.Guessed.{all-units-ranked, AreChoices-guessed, AreLayered-guessed}

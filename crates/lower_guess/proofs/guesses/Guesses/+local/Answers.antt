@@ -1,0 +1,61 @@
+use Rattle.std.proofs.Common.{◌≡◌, ℕ, ◌+◌, ◌-◌, ◌*◌, ◌^◌, ◌<◌, arith, ap, min, sym, subst, ◌∙◌}
+use Rattle.std.specs.Prelude.{IfSome}
+use Rattle.lower_guess.specs.inside.OfGuesses.{entry_of}
+use Rattle.lower_guess.proofs.Entries.{entry-first, entry-later, entry-zero, step-goal, step-dead, step-free}
+use Rattle.lower_guess.proofs.Entries.{sum-more, sum-more-fits}
+use Rattle.lower_guess.proofs.guesses.Guesses.+local.Goals as goal
+
+pub entry-returns-then-steps-eq0 : goal.entry-returns-then-steps-eq0
+entry-returns-then-steps-eq0 t c =
+    c.first_entry.ensures.value ∙ sym (entry-first c.args.self.now c.args.steps c.args.state c.if-steps-eq0.true)
+
+pub entry-returns-then-entry-eq0 : goal.entry-returns-then-entry-eq0
+entry-returns-then-entry-eq0 t c = sym (entry-zero c.args.self.now c.args.steps c.args.state
+    (omega (arith, c.if-steps-eq0.false)) (omega (arith, c.in_ok-entry.ensures, c.if-entry-eq0.true)))
+
+pub entry-returns : goal.entry-returns
+entry-returns t c =
+    let g = c.args.self.now in
+    c.min.ensures ∙ ap (λ x. min x c.in_ok-step.step) c.in_ok-entry.ensures
+    ∙ ap (min (entry_of g (c.args.steps - 1) c.args.state)) c.in_ok-step.ensures
+    ∙ sym (entry-later g c.args.steps c.args.state (omega (arith, c.if-steps-eq0.false)))
+
+pub step-returns-then-is_goal : goal.step-returns-then-is_goal
+step-returns-then-is_goal t c =
+    sym (step-goal c.args.self.now c.args.steps c.args.state (sym c.is_goal.ensures ∙ c.if-is_goal.true))
+
+pub step-returns-then-is_dead : goal.step-returns-then-is_dead
+step-returns-then-is_dead t c = sym (step-dead c.args.self.now c.args.steps c.args.state
+    (sym c.is_goal.ensures ∙ c.if-is_goal.false) (sym c.is_dead.ensures ∙ c.if-is_dead.true))
+
+pub step-returns : goal.step-returns
+step-returns t c =
+    subst (λ (x : ℕ). IfSome c.best.result (λ v. v ≡ x))
+    (sym (step-free c.args.self.now c.args.steps c.args.state (sym c.is_goal.ensures ∙ c.if-is_goal.false)
+    (sym c.is_dead.ensures ∙ c.if-is_dead.false)))
+    c.best.ensures
+
+pub sum-overflow_mul-sum : goal.sum-overflow_mul-sum
+sum-overflow_mul-sum t c =
+    let fits : c.loop-place.sum + c.edge-edge.result.weight * c.in_ok-entry.entry < 2 ^ 128 =
+    sum-more-fits c.args.self.now c.args.steps c.args.state c.args.choice c.loop-place.place
+    c.edge_count-place-end.result c.loop-place.sum c.in_ok-entry.entry c.edge-edge.result c.game-game.result.now
+    c.game-game.ensures c.edge_count-place-end.ensures c.loop-place-test.true c.edge-edge.ensures c.loop-place.invariant
+    c.in_ok-entry.ensures c.requires.state c.requires.choice in
+    rw c.from.ensures (omega (arith, fits))
+
+pub sum-overflow_add-sum : goal.sum-overflow_add-sum
+sum-overflow_add-sum t c =
+    let fits : c.loop-place.sum + c.edge-edge.result.weight * c.in_ok-entry.entry < 2 ^ 128 =
+    sum-more-fits c.args.self.now c.args.steps c.args.state c.args.choice c.loop-place.place
+    c.edge_count-place-end.result c.loop-place.sum c.in_ok-entry.entry c.edge-edge.result c.game-game.result.now
+    c.game-game.ensures c.edge_count-place-end.ensures c.loop-place-test.true c.edge-edge.ensures c.loop-place.invariant
+    c.in_ok-entry.ensures c.requires.state c.requires.choice in
+    rw c.from.ensures (omega (arith, fits))
+
+pub sum-loop-place-preserved : goal.sum-loop-place-preserved
+sum-loop-place-preserved t c =
+    rw c.from.ensures (sum-more c.args.self.now c.args.steps c.args.state c.args.choice c.loop-place.place
+    c.edge_count-place-end.result c.loop-place.sum c.in_ok-entry.entry c.edge-edge.result c.game-game.result.now
+    c.game-game.ensures c.edge_count-place-end.ensures c.loop-place-test.true c.edge-edge.ensures c.loop-place.invariant
+    c.in_ok-entry.ensures)

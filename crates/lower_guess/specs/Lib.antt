@@ -1,0 +1,2 @@
+pub mod LowerGuess
+pub mod inside

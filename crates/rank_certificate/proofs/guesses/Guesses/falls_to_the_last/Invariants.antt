@@ -1,5 +1,0 @@
-use Rattle.std.proofs.Common.{◌-◌}
-use Rattle.rank_certificate.proofs.guesses.Guesses.falls_to_the_last.Given as goal
-
-abbrev pub decreases-loop-state : goal.decreases-loop-state
-decreases-loop-state l = l.states - l.state
