@@ -21,23 +21,23 @@ use Rattle.verdicts.specs.declared.report.How.{How}
 use Rattle.verdicts.specs.declared.verdict.Verdict.TheVariants.{Undecided}
 use Rattle.nested_truth.specs.declared.judging.Judged.{Judged}
 use Rattle.formula_sets.specs.Posing.{Model}
-use Rattle.nested_truth.specs.Truth.{Valuation, IsTruth, states, holds, everywhere}
-use Rattle.nested_truth.specs.Bands.{Band, Known, known, exactly, negated, judgement, undecided_at, undecided_in}
-use Rattle.nested_truth.specs.Bands.{verdict_at}
-use Rattle.nested_truth.specs.Runs.{AreFoundBy, AreRaced, pessimistic, optimistic, mirrored}
+use Rattle.formula_truth.specs.Truth.{Valuation, IsTruth, states, holds, everywhere}
+use Rattle.formula_truth.specs.Bands.{Band, Known, known, exactly, negated, judgement, undecided_at, undecided_in}
+use Rattle.formula_truth.specs.Bands.{verdict_at}
+use Rattle.formula_truth.specs.Runs.{AreFoundBy, AreRaced, pessimistic, optimistic, mirrored}
 use Rattle.nested_truth.specs.Open.{IsOpenBy}
 use Rattle.nested_truth.specs.Nested.{IsNested}
 use Rattle.nested_truth.specs.Seen.{AreAlike, IsBand, IsJudged, seen}
-use Rattle.nested_truth.specs.Sound.{IsAround, IsRightOf, AreSoundBy}
+use Rattle.formula_truth.specs.Sound.{IsAround, IsRightOf, AreSoundBy}
 use Rattle.nested_truth.proofs.Parts.{alike-back}
-use Rattle.nested_truth.proofs.Counted.{undecided-few, undecided-pairs}
-use Rattle.nested_truth.proofs.Widened.{sound-by}
-use Rattle.nested_truth.proofs.Valuation.{right-by, small-share}
-use Rattle.nested_truth.proofs.Around.{around}
-use Rattle.nested_truth.proofs.Inside.{open-within, outermost}
+use Rattle.formula_truth.proofs.Counted.{undecided-few, undecided-pairs}
+use Rattle.formula_truth.proofs.Widened.{sound-by}
+use Rattle.formula_truth.proofs.Valuation.{right-by, small-share}
+use Rattle.formula_truth.proofs.Around.{around}
+use Rattle.formula_truth.proofs.Inside.{open-within, outermost}
 use Rattle.nested_truth.proofs.Exactly.{both-same, found-same}
 use Rattle.nested_truth.proofs.Decided.{decided-truth}
-use Rattle.nested_truth.proofs.Existing.{truth-of}
+use Rattle.formula_truth.proofs.Existing.{truth-of}
 use Rattle.nested_truth.proofs.Opened.{all-opened}
 
 -- 1. `G`.

@@ -6,8 +6,8 @@ use Rattle.std.proofs.lemmas.List.FromFn.{fill_by_all}
 use Rattle.game_model.specs.Query.{Query}
 use Rattle.rpatl_syntax.specs.Formula.{Tree}
 use Rattle.formula_sets.specs.Posing.{Model, at_states, question_with}
-use Rattle.nested_truth.specs.Truth.{states, question_by}
-use Rattle.nested_truth.proofs.Posed.{goals-apart, lost_by}
+use Rattle.formula_truth.specs.Truth.{states, question_by}
+use Rattle.formula_truth.proofs.Posed.{goals-apart, lost_by}
 
 -- what marks say of a state
 abbrev pub marked : List Bool → ℕ → Bool

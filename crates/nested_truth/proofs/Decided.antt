@@ -4,11 +4,11 @@ use Rattle.game_model.specs.Game.{IsGame}
 use Rattle.rpatl_syntax.specs.Formula.{State}
 use Rattle.rpatl_syntax.specs.Spellable.{HasParts}
 use Rattle.formula_sets.specs.Posing.{Model}
-use Rattle.nested_truth.specs.Truth.{Valuation, IsTruth, states, holds}
-use Rattle.nested_truth.specs.Bands.{Bands, known, exactly, undecided_in}
-use Rattle.nested_truth.specs.Runs.{AreFound}
+use Rattle.formula_truth.specs.Truth.{Valuation, IsTruth, states, holds}
+use Rattle.formula_truth.specs.Bands.{Bands, known, exactly, undecided_in}
+use Rattle.formula_truth.specs.Runs.{AreFound}
 use Rattle.nested_truth.specs.Seen.{AreAlike}
-use Rattle.nested_truth.proofs.Around.{around}
+use Rattle.formula_truth.proofs.Around.{around}
 use Rattle.nested_truth.proofs.Exactly.{known-exactly, settled}
 
 pub decided-truth : (m : Model) → IsGame m.game → (truth : Valuation) → IsTruth m truth → (asked : ℕ)

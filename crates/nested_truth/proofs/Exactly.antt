@@ -22,13 +22,13 @@ use Rattle.verdicts.specs.declared.report.How.{How}
 use Rattle.verdicts.specs.declared.verdict.Verdict.{Verdict}
 use Rattle.verdicts.specs.declared.verdict.Verdict.TheVariants.{Yes, No, Undecided, Bracket}
 use Rattle.verdicts.specs.Verdict.{verdict_by, verdict_of, is_yes, is_no, is_undecided}
-use Rattle.nested_truth.specs.Truth.{states, everywhere}
-use Rattle.nested_truth.specs.Bands.{Band, Bands, Known, exactly, negated, surely, possibly, verdict_at, undecided_in}
-use Rattle.nested_truth.specs.Runs.{AreRaced, AreSwept, AreFoundBy, pessimistic, optimistic, units_at}
+use Rattle.formula_truth.specs.Truth.{states, everywhere}
+use Rattle.formula_truth.specs.Bands.{Band, Bands, Known, exactly, negated, surely, possibly, verdict_at, undecided_in}
+use Rattle.formula_truth.specs.Runs.{AreRaced, AreSwept, AreFoundBy, pessimistic, optimistic, units_at}
 use Rattle.nested_truth.specs.Seen.{AreAlike}
-use Rattle.nested_truth.specs.Sound.{IsAround}
+use Rattle.formula_truth.specs.Sound.{IsAround}
 use Rattle.nested_truth.proofs.Parts.{negated-alike}
-use Rattle.nested_truth.proofs.Posed.{question-equal, is_next_query}
+use Rattle.formula_truth.proofs.Posed.{question-equal, is_next_query}
 
 -- 1. Nothing undecided.
 

@@ -29,14 +29,14 @@ use Rattle.verdicts.specs.Open.{LeavesOpen, IsLeftOpen, IsLeftOpenBy}
 use Rattle.verdicts.specs.Verdict.{verdict_of, is_settling}
 use Rattle.verdicts.proofs.Opening.{open-here, open-wider}
 use Rattle.verdicts.proofs.Staying.{settled-on}
-use Rattle.nested_truth.specs.Truth.{states, everywhere, question_by}
-use Rattle.nested_truth.specs.Bands.{Band, exactly, negated, verdict_at}
-use Rattle.nested_truth.specs.Runs.{AreRaced, AreSwept, AreFoundBy, mirrored, units_at}
+use Rattle.formula_truth.specs.Truth.{states, everywhere, question_by}
+use Rattle.formula_truth.specs.Bands.{Band, exactly, negated, verdict_at}
+use Rattle.formula_truth.specs.Runs.{AreRaced, AreSwept, AreFoundBy, mirrored, units_at}
 use Rattle.nested_truth.specs.Open.{IsRunOpen, IsOpenBy}
-use Rattle.nested_truth.proofs.Posed.{is_query, is_next_query}
-use Rattle.nested_truth.proofs.Looked.{IsLookedAt, looked-start}
-use Rattle.nested_truth.proofs.Widened.{raced, next-opens, exactly-around, negated-around}
-use Rattle.nested_truth.proofs.Coarsely.{HasUnits, bounded-units, verdict-mirrored, complement-entry}
+use Rattle.formula_truth.proofs.Posed.{is_query, is_next_query}
+use Rattle.formula_truth.proofs.Looked.{IsLookedAt, looked-start}
+use Rattle.formula_truth.proofs.Widened.{raced, next-opens, exactly-around, negated-around}
+use Rattle.formula_truth.proofs.Coarsely.{HasUnits, bounded-units, verdict-mirrored, complement-entry}
 
 -- 1. A run on one question, at a state where it looks.
 

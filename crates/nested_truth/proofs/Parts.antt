@@ -5,8 +5,8 @@ use Rattle.rpatl_syntax.specs.Formula.{State, True, False, And, Or, Implies}
 use Rattle.nested_truth.specs.declared.judging.Judged.{Judged}
 use Rattle.nested_truth.specs.declared.known.KnownSets.{KnownSets}
 use Rattle.formula_sets.specs.Posing.{Model}
-use Rattle.nested_truth.specs.Truth.{states}
-use Rattle.nested_truth.specs.Bands.{Known, known, exactly, negated, both, either}
+use Rattle.formula_truth.specs.Truth.{states}
+use Rattle.formula_truth.specs.Bands.{Known, known, exactly, negated, both, either}
 use Rattle.nested_truth.specs.Seen.{AreAlike, IsJudged, seen}
 
 -- 1. What says the same.

@@ -6,7 +6,7 @@ use Rattle.rpatl_syntax.specs.declared.formula.Bound.{Bound}
 use Rattle.bounded_rounds.specs.Steps.{IsSweep}
 use Rattle.bracket_engine.specs.declared.bounds.Bracket.{Bracket}
 use Rattle.verdicts.specs.declared.report.How.TheVariants.{Rounds, Steps}
-use Rattle.nested_truth.specs.Runs.{AreRaced, AreSwept, IsRun, units_at}
+use Rattle.formula_truth.specs.Runs.{AreRaced, AreSwept, IsRun, units_at}
 use Rattle.nested_truth.specs.Seen.{high_or}
 
 module _ (low : Query) (high : Option Query) (bound : Bound) (starts : List ℕ) (asked : ℕ) (found : Bracket)

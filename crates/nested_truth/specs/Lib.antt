@@ -1,9 +1,3 @@
-pub mod Truth
-pub mod Rest
-pub mod Bands
-pub mod Runs
-pub mod Sound
-pub mod Coarse
 pub mod Open
 pub mod Nested
 pub mod Seen

@@ -4,12 +4,12 @@ use Rattle.rpatl_syntax.specs.Formula.{Tree, formulas_inside}
 use Rattle.verdicts.specs.declared.report.How.{How}
 use Rattle.verdicts.specs.declared.verdict.Verdict.TheVariants.{Undecided}
 use Rattle.formula_sets.specs.Posing.{Model}
-use Rattle.nested_truth.specs.Truth.{Valuation, IsTruth, states, holds}
-use Rattle.nested_truth.specs.Bands.{Band, Bands, known, exactly, verdict_at, undecided_in}
-use Rattle.nested_truth.specs.Runs.{AreFound, AreFoundBy}
-use Rattle.nested_truth.specs.Coarse.{AreCoarse, AreOpenWithin, AreWithin, IsCoarse}
+use Rattle.formula_truth.specs.Truth.{Valuation, IsTruth, states, holds}
+use Rattle.formula_truth.specs.Bands.{Band, Bands, known, exactly, verdict_at, undecided_in}
+use Rattle.formula_truth.specs.Runs.{AreFound, AreFoundBy}
+use Rattle.formula_truth.specs.Coarse.{AreCoarse, AreOpenWithin, AreWithin, IsCoarse}
 use Rattle.nested_truth.specs.Open.{IsOpenBy}
-use Rattle.nested_truth.specs.Sound.{IsAround, AreSoundBy, IsRightOf}
+use Rattle.formula_truth.specs.Sound.{IsAround, AreSoundBy, IsRightOf}
 
 -- The bounds of the formula, found with those of the formulas inside, and how many of these there are and how many
 -- pairs of one and a state are left undecided. `starts` are the states where the outermost run looks whether its

@@ -11,9 +11,9 @@ use Rattle.rpatl_syntax.specs.Formula.{Tree}
 use Rattle.formula_sets.specs.Posing.{Model, next_question_of}
 use Rattle.bounded_rounds.specs.Exact.{next_numerator}
 use Rattle.verdicts.specs.Open.{IsLeftOpen, IsLeftOpenBy}
-use Rattle.nested_truth.specs.Truth.{question_by, dual_question_by}
-use Rattle.nested_truth.specs.Bands.{Band}
-use Rattle.nested_truth.specs.Runs.{mirrored}
+use Rattle.formula_truth.specs.Truth.{question_by, dual_question_by}
+use Rattle.formula_truth.specs.Bands.{Band}
+use Rattle.formula_truth.specs.Runs.{mirrored}
 
 -- the threshold of a question is left open at a state by a band, by as many rounded steps as rounds were asked for, and
 -- by the values of as many steps, over its zero set

@@ -9,9 +9,9 @@ use Rattle.nested_truth.specs.declared.judging.Judged.{Judged}
 use Rattle.nested_truth.specs.declared.known.KnownSets.{KnownSets}
 use Rattle.nested_truth.specs.declared.setting.Setting.{Setting}
 use Rattle.formula_sets.specs.Posing.{Model}
-use Rattle.nested_truth.specs.Truth.{states}
-use Rattle.nested_truth.specs.Bands.{Band, Bands, Known, known, undecided_in}
-use Rattle.nested_truth.specs.Runs.{AreFound}
+use Rattle.formula_truth.specs.Truth.{states}
+use Rattle.formula_truth.specs.Bands.{Band, Bands, Known, known, undecided_in}
+use Rattle.formula_truth.specs.Runs.{AreFound}
 
 -- the game of a setting with its labels and owners
 abbrev pub model_of : Setting → Model

@@ -18,7 +18,7 @@ pub struct Bounds {
 }
 
 impl Bounds {
-    ghost use Rattle.nested_truth.specs.Runs.{mirrored};
+    ghost use Rattle.formula_truth.specs.Runs.{mirrored};
     ghost use Rattle.nested_truth.specs.Seen.{band_in};
 
     /// 1 less the bounds: those of what does not happen.

@@ -19,7 +19,7 @@ pub struct KnownSets {
 }
 
 impl KnownSets {
-    ghost use Rattle.nested_truth.specs.Bands.{exactly, negated, both, either};
+    ghost use Rattle.formula_truth.specs.Bands.{exactly, negated, both, either};
     ghost use Rattle.nested_truth.specs.Seen.{AreAlike, seen};
 
     /// It is known to hold at all of so many states, or at none.

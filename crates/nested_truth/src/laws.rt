@@ -1,28 +1,13 @@
-//! Laws of truth, of values and of bounds. Each function does nothing: its contract is the law.
+//! The law of what is decided. The function does nothing: its contract is the law.
 
-ghost use Rattle.std.specs.Prelude.{◌≡◌, ◌<◌, ◌≤◌, ℕ, All, List, Bool, true};
+ghost use Rattle.std.specs.Prelude.{◌≡◌, ◌<◌, ℕ};
 ghost use Rattle.game_model.specs.Game.{IsGame};
-ghost use Rattle.game_model.specs.Query.{Query, IsQuery, is_dead, is_goal};
-ghost use Rattle.game_model.specs.Values.{numerator};
-ghost use Rattle.rpatl_syntax.specs.Formula.{State, Tree};
-ghost use Rattle.rpatl_syntax.specs.Spellable.{HasParts, HasShare};
-ghost use Rattle.verdicts.specs.declared.report.How.{How};
+ghost use Rattle.rpatl_syntax.specs.Formula.{State};
+ghost use Rattle.rpatl_syntax.specs.Spellable.{HasParts};
 ghost use Rattle.formula_sets.specs.Posing.{Model};
-ghost use Rattle.nested_truth.specs.Truth.{IsTruth, Valuation, holds, states};
-ghost use Rattle.nested_truth.specs.Bands.{Band, Bands, known, surely, possibly, undecided_in};
-ghost use Rattle.nested_truth.specs.Runs.{AreFound, AreFoundBy};
-ghost use Rattle.nested_truth.specs.Coarse.{AreCoarse, AreOpenWithin, AreWithin, IsCoarse, IsFiner};
-
-/// Each model has a truth: a valuation in which each formula is true at exactly the states where it is.
-pub fn there_is_a_truth()
-    ensures { (m : Model) → IsGame m.game → (truth : Valuation) × IsTruth m truth }
-{}
-
-/// There is at most one truth: two valuations that are true of every formula say the same at all states.
-pub fn there_is_one_truth()
-    ensures { (m : Model) (valuation other : Valuation) → IsGame m.game → IsTruth m valuation → IsTruth m other
-        → (f : Tree) (s : ℕ) → s < states m → valuation f s ≡ other f s }
-{}
+ghost use Rattle.formula_truth.specs.Truth.{IsTruth, Valuation, holds, states};
+ghost use Rattle.formula_truth.specs.Bands.{Bands, surely, possibly, undecided_in};
+ghost use Rattle.formula_truth.specs.Runs.{AreFound};
 
 /// Where no pair of a formula inside a state formula and a state is undecided, the bounds of the formulas inside say
 /// what is true: the state formula surely holds exactly where it holds in the truth, and possibly holds exactly there.
@@ -33,44 +18,4 @@ pub fn what_is_decided_is_the_truth()
     ensures possible { (m : Model) (truth : Valuation) (asked : ℕ) (x : State) (found : Bands x) → IsGame m.game
         → IsTruth m truth → HasParts x → AreFound m asked x found → undecided_in x found (states m) ≡ 0
         → (s : ℕ) → s < states m → possibly m.labels x found s ≡ holds m.labels truth x s }
-{}
-
-/// More goals and fewer dead states give no smaller values.
-pub fn more_goals_give_no_smaller_values()
-    ensures { (q : Query) (more fewer : List Bool) → IsQuery q
-        → ((s : ℕ) → is_goal q s ≡ true → is_goal (record q { goals = more; deads = fewer }) s ≡ true)
-        → ((s : ℕ) → is_dead (record q { goals = more; deads = fewer }) s ≡ true → is_dead q s ≡ true)
-        → (k s : ℕ) → numerator q k s ≤ numerator (record q { goals = more; deads = fewer }) k s }
-{}
-
-/// There are coarse bounds: of the formulas inside every state formula, and of every formula, after every number of
-/// rounds.
-pub fn there_are_coarse_bounds()
-    ensures inside { (m : Model) (x : State) (asked : ℕ) → IsGame m.game
-        → (bands : Bands x) × AreCoarse m asked x bands }
-    ensures outermost { (m : Model) (f : Tree) (asked : ℕ) → IsGame m.game
-        → (left : Bands f.left) × (right : Bands f.right) × (band : Band) × IsCoarse m f asked left right band }
-{}
-
-/// Where a state formula surely holds or surely fails by coarse bounds of the formulas inside, it does by those that
-/// runs of as many rounds find, though a run may end early: they leave a formula inside undecided only where the coarse
-/// ones do.
-pub fn undecided_only_where_coarse_bounds_are()
-    ensures finer { (m : Model) (asked : ℕ) (x : State) (found coarse : Bands x) → IsGame m.game → HasParts x
-        → AreFound m asked x found → AreCoarse m asked x coarse
-        → IsFiner (states m) (known m.labels x found) (known m.labels x coarse) }
-    ensures inside { (m : Model) (asked : ℕ) (x : State) (found coarse : Bands x) → IsGame m.game → HasParts x
-        → AreFound m asked x found → AreCoarse m asked x coarse
-        → AreOpenWithin (states m) x found coarse }
-    ensures fewer { (m : Model) (asked : ℕ) (x : State) (found coarse : Bands x) → IsGame m.game → HasParts x
-        → AreFound m asked x found → AreCoarse m asked x coarse
-        → undecided_in x found (states m) ≤ undecided_in x coarse (states m) }
-    // So is the outermost formula at the states where its run looks. If it asks for a value its bounds lie within the
-    // coarse ones there.
-    ensures outermost { (m : Model) (f : Tree) (asked : ℕ) (starts : List ℕ) (left coarse_left : Bands f.left)
-        (right coarse_right : Bands f.right) (band coarse : Band) (how : How)
-        → IsGame m.game → HasShare f.bound → HasParts f.left → HasParts f.right → All (λ s. s < states m) starts
-        → AreFound m asked f.left left → AreFound m asked f.right right
-        → AreFoundBy f.kind m f (known m.labels f.left left) (known m.labels f.right right) starts asked band how
-        → IsCoarse m f asked coarse_left coarse_right coarse → AreWithin f.bound starts band coarse }
 {}

@@ -8,7 +8,7 @@ use Rattle.game_model.specs.Values.{denominator, numerator}
 use Rattle.plan_text.specs.declared.plan.Plan.{Plan}
 use Rattle.plan_text.specs.Entries.{HasStates}
 use Rattle.certificate_audit.specs.Accepted.{IsSoundPlan, Passes}
-use Rattle.nested_truth.specs.Rest.{IsBelowRest, IsNearRest}
+use Rattle.formula_truth.specs.Rest.{IsBelowRest, IsNearRest}
 use Rattle.question_reports.proofs.Limits.{plan-units}
 
 -- the rest of an upper bound, and of a lower one

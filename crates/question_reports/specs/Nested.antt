@@ -4,7 +4,7 @@ use Rattle.rpatl_syntax.specs.Formula.{Tree, formulas_inside, tree_of}
 use Rattle.rpatl_syntax.specs.Limits.{longest}
 use Rattle.rpatl_syntax.specs.Spellable.{IsSpellable}
 use Rattle.formula_sets.specs.Posing.{Model, initial_said}
-use Rattle.nested_truth.specs.Bands.{Band}
+use Rattle.formula_truth.specs.Bands.{Band}
 use Rattle.nested_truth.specs.Nested.{IsNested}
 use Rattle.run_refusals.specs.Refusals.{numbered}
 use Rattle.verdicts.specs.Report.{IsLine, report}

@@ -7,7 +7,7 @@ ghost use Rattle.game_model.specs.Query.{Query, states};
 ghost use Rattle.plan_text.specs.declared.plan.Plan.{Plan};
 ghost use Rattle.plan_text.specs.Entries.{HasStates};
 ghost use Rattle.certificate_audit.specs.Accepted.{IsSoundPlan, Passes};
-ghost use Rattle.nested_truth.specs.Rest.{IsBelowRest, IsNearRest};
+ghost use Rattle.formula_truth.specs.Rest.{IsBelowRest, IsNearRest};
 ghost use Rattle.run_answers.specs.declared.status.Status.TheVariants.{Fine};
 ghost use Rattle.question_reports.specs.Made.{IsMade};
 

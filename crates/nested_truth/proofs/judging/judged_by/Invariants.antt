@@ -1,5 +1,5 @@
 use Rattle.nested_truth.specs.Seen.{band_in}
-use Rattle.nested_truth.proofs.Counted.{IsJudgedBelow}
+use Rattle.formula_truth.proofs.Counted.{IsJudgedBelow}
 use Rattle.nested_truth.proofs.judging.judged_by.Given as goal
 
 abbrev pub invariant-loop-state : goal.invariant-loop-state

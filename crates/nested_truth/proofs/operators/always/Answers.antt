@@ -1,7 +1,7 @@
 use Rattle.std.proofs.Common.{length, subst}
 use Rattle.rpatl_syntax.specs.Formula.{tree_of}
-use Rattle.nested_truth.specs.Bands.{exactly, negated}
-use Rattle.nested_truth.specs.Truth.{everywhere}
+use Rattle.formula_truth.specs.Bands.{exactly, negated}
+use Rattle.formula_truth.specs.Truth.{everywhere}
 use Rattle.nested_truth.specs.Seen.{AreAlike, band_in, model_of, seen}
 use Rattle.nested_truth.proofs.Answered.{always-found, if_ok-band}
 use Rattle.nested_truth.proofs.operators.always.Goals as goal

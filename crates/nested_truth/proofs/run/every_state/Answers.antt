@@ -1,5 +1,5 @@
 use Rattle.std.proofs.Common.{◌∙◌, ◌++◌, ◌∷◌, [], ℕ, List, ap, sym}
-use Rattle.nested_truth.proofs.Numbers.{range_with_len-more}
+use Rattle.formula_truth.proofs.Numbers.{range_with_len-more}
 use Rattle.nested_truth.proofs.run.every_state.Goals as goal
 
 pub loop-state-preserved : goal.loop-state-preserved

@@ -1,0 +1,16 @@
+pub mod Numbers
+pub mod Ordered
+pub mod Posed
+pub mod Widened
+pub mod Counted
+pub mod Valuation
+pub mod Around
+pub mod Stepped
+pub mod Sharper
+pub mod Looked
+pub mod Finer
+pub mod Coarsely
+pub mod Inside
+pub mod Existing
+pub mod CoarseBounds
+pub mod Unique

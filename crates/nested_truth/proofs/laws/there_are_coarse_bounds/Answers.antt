@@ -1,8 +1,0 @@
-use Rattle.nested_truth.proofs.CoarseBounds.{coarse-inside, coarse-bounds}
-use Rattle.nested_truth.proofs.laws.there_are_coarse_bounds.Goals as goal
-
-pub returns-clause-inside : goal.returns-clause-inside
-returns-clause-inside c = λ m x asked game. coarse-inside m game asked x
-
-pub returns-clause-outermost : goal.returns-clause-outermost
-returns-clause-outermost c = λ m f asked game. coarse-bounds m game asked f
