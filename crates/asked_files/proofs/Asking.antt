@@ -13,13 +13,13 @@ use Rattle.label_lines.specs.Owners.{Ownership}
 use Rattle.label_lines.specs.Texts.{labels_of, owners_of}
 use Rattle.label_lines.proofs.LabelLaws.{labels_of-found, labels_of-again}
 use Rattle.label_lines.proofs.OwnerLaws.{owners_of-found, owners_of-again}
-use Rattle.rpatl_syntax.specs.Formula.{Tree, is_flat, IsFlat}
-use Rattle.rpatl_syntax.specs.Grammar.{formula_said}
-use Rattle.rpatl_syntax.specs.Rules.{DenotesFormula}
-use Rattle.rpatl_syntax.proofs.Denoted.{formula_denoted}
-use Rattle.rpatl_syntax.proofs.Again.{formula_said_again}
-use Rattle.rpatl_syntax.specs.declared.formula.PathKind.{PathKind}
-use Rattle.rpatl_syntax.specs.declared.formula.PathKind.TheVariants.{Until, Within, Next, Always}
+use Rattle.formula_reader.specs.Formula.{Tree, is_flat, IsFlat}
+use Rattle.formula_reader.specs.Grammar.{formula_said}
+use Rattle.formula_reader.specs.Rules.{DenotesFormula}
+use Rattle.formula_reader.proofs.Denoted.{formula_denoted}
+use Rattle.formula_reader.proofs.Again.{formula_said_again}
+use Rattle.formula_reader.specs.declared.formula.PathKind.{PathKind}
+use Rattle.formula_reader.specs.declared.formula.PathKind.TheVariants.{Until, Within, Next, Always}
 use Rattle.rpatl_syntax.specs.Dual.{dual_of, answered_by}
 use Rattle.formula_sets.specs.Posing.{Model, Posing, Poses, initial_said, pose_said, pose_next_said}
 use Rattle.formula_sets.proofs.Asking.{initial-found, initial-again, pose-found, pose-again}

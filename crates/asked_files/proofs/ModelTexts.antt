@@ -4,8 +4,8 @@ use Rattle.game_outside.specs.Outside.{Holding}
 use Rattle.game_model.specs.Game.{Distribution}
 use Rattle.label_lines.specs.Labels.{Labelling}
 use Rattle.label_lines.specs.Owners.{Ownership}
-use Rattle.rpatl_syntax.specs.Formula.{Tree, tree_of}
-use Rattle.rpatl_syntax.specs.Rules.{DenotesFormula}
+use Rattle.formula_reader.specs.Formula.{Tree, tree_of}
+use Rattle.formula_reader.specs.Rules.{DenotesFormula}
 use Rattle.command_words.specs.Words.{Asked}
 use Rattle.run_refusals.specs.declared.refusal.Refusal.{Refusal}
 use Rattle.asked_files.specs.declared.load.End.{End}

@@ -6,8 +6,8 @@ use Rattle.transition_lines.specs.Text.{DenotesGame}
 use Rattle.label_lines.specs.Denotes.{DenotesLabels, DenotesOwners}
 use Rattle.label_lines.specs.Labels.{Labelling}
 use Rattle.label_lines.specs.Owners.{Ownership}
-use Rattle.rpatl_syntax.specs.Formula.{Tree}
-use Rattle.rpatl_syntax.specs.Rules.{DenotesFormula}
+use Rattle.formula_reader.specs.Formula.{Tree}
+use Rattle.formula_reader.specs.Rules.{DenotesFormula}
 use Rattle.command_words.specs.Words.{Asked}
 use Rattle.asked_files.specs.declared.problem.Paths.{Paths}
 use Rattle.asked_files.specs.Problems.{Problem, PosesProblem, takes_formula}

@@ -3,11 +3,11 @@ use Rattle.std.specs.Prelude.{◌≡◌, ◌&&◌, ℕ, Bool, List, length, if�
 use Rattle.game_model.specs.Game.{Distribution}
 use Rattle.label_lines.specs.Labels.{Labelling}
 use Rattle.label_lines.specs.Owners.{Ownership}
-use Rattle.rpatl_syntax.specs.Formula.{Tree, is_flat, tree_of}
-use Rattle.rpatl_syntax.specs.Grammar.{formula_said}
+use Rattle.formula_reader.specs.Formula.{Tree, is_flat, tree_of}
+use Rattle.formula_reader.specs.Grammar.{formula_said}
 use Rattle.rpatl_syntax.specs.Dual.{dual_of}
-use Rattle.rpatl_syntax.specs.declared.formula.PathKind.{PathKind}
-use Rattle.rpatl_syntax.specs.declared.formula.PathKind.TheVariants.{Until, Within, Next, Always}
+use Rattle.formula_reader.specs.declared.formula.PathKind.{PathKind}
+use Rattle.formula_reader.specs.declared.formula.PathKind.TheVariants.{Until, Within, Next, Always}
 use Rattle.formula_sets.specs.Posing.{initial_said, pose_said, pose_next_said}
 use Rattle.run_refusals.specs.declared.refusal.Refusal.TheVariants.{OfFormula, OfQuestion, WrongKind}
 use Rattle.asked_files.specs.declared.model.Loaded.{Loaded}

@@ -4,10 +4,10 @@ use Rattle.game_model.specs.Game.{Distribution}
 use Rattle.game_model.specs.Query.{states}
 use Rattle.label_lines.specs.Labels.{Labelling}
 use Rattle.label_lines.specs.Owners.{Ownership}
-use Rattle.rpatl_syntax.specs.declared.formula.PathKind.{PathKind}
-use Rattle.rpatl_syntax.specs.declared.formula.PathKind.TheVariants.{Until, Within, Next, Always}
+use Rattle.formula_reader.specs.declared.formula.PathKind.{PathKind}
+use Rattle.formula_reader.specs.declared.formula.PathKind.TheVariants.{Until, Within, Next, Always}
 use Rattle.rpatl_syntax.specs.Dual.{answered}
-use Rattle.rpatl_syntax.specs.Formula.{Tree, is_flat, IsFlat}
+use Rattle.formula_reader.specs.Formula.{Tree, is_flat, IsFlat}
 use Rattle.formula_sets.specs.Posing.{Model, Posing, NextPosing, BeginsAt, Poses, PosesNext}
 use Rattle.asked_files.specs.declared.problem.Paths.{Paths}
 use Rattle.asked_files.specs.declared.problem.Paths.TheVariants.{Any, Unbounded, Reaching}

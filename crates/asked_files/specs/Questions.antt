@@ -3,7 +3,7 @@ use Rattle.std.specs.Prelude.{◌≡◌, ◌<◌, ℕ, List, length, Option, Som
 use Rattle.text_lines.specs.Limits.{most_bytes}
 use Rattle.game_outside.specs.Outside.{Holding}
 use Rattle.game_model.specs.Query.{Query}
-use Rattle.rpatl_syntax.specs.Rules.{DenotesFormula}
+use Rattle.formula_reader.specs.Rules.{DenotesFormula}
 use Rattle.certificate_audit.specs.Refused.{IsRefused}
 use Rattle.values_reader.specs.Faults.{fault_of}
 use Rattle.command_words.specs.Words.{Asked}

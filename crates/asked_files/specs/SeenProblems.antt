@@ -1,9 +1,9 @@
 -- What contracts see of a problem that was posed.
 use Rattle.std.specs.Prelude.{◌≡◌, Some, None, Ok}
-use Rattle.rpatl_syntax.specs.declared.formula.PathKind.{PathKind}
-use Rattle.rpatl_syntax.specs.declared.formula.PathKind.TheVariants as kind_of
+use Rattle.formula_reader.specs.declared.formula.PathKind.{PathKind}
+use Rattle.formula_reader.specs.declared.formula.PathKind.TheVariants as kind_of
 use Rattle.rpatl_syntax.specs.Dual.{dual_of}
-use Rattle.rpatl_syntax.specs.Formula.{Tree, tree_of}
+use Rattle.formula_reader.specs.Formula.{Tree, tree_of}
 use Rattle.formula_sets.specs.Posing.{initial_said}
 use Rattle.formula_sets.specs.Seen.{posing_of, next_posing_of}
 use Rattle.asked_files.specs.declared.model.Loaded.{Loaded}

@@ -3,8 +3,8 @@
 ghost use Rattle.std.specs.Prelude.{◌≡◌, ◌≢◌, ◌<◌, ◌↔◌, ◌&&◌, All, Err, IfOk, IsErrOf, false, true};
 ghost use Rattle.game_model.specs.Query.{states};
 ghost use Rattle.rpatl_syntax.specs.Dual.{IsAtMostOne, dual_of};
-ghost use Rattle.rpatl_syntax.specs.Formula.{IsFlat, is_flat, tree_of};
-ghost use Rattle.rpatl_syntax.specs.Rules.{DenotesFormula};
+ghost use Rattle.formula_reader.specs.Formula.{IsFlat, is_flat, tree_of};
+ghost use Rattle.formula_reader.specs.Rules.{DenotesFormula};
 ghost use Rattle.formula_sets.specs.Posing.{IsUntil, pose_said, pose_next_said};
 ghost use Rattle.formula_sets.specs.Seen.{posing_of, next_posing_of};
 ghost use Rattle.command_words.specs.Words.{asked_of_words};
@@ -19,12 +19,15 @@ ghost use Rattle.asked_files.specs.Questions.{LacksText, Reads, ReadsAs};
 use crate::load::{End, load_game, load_labels, load_owners};
 use crate::problem::{Paths, Problem};
 use command_words::AskedWords;
+use formula_reader::laws::formulas_are_those_that_a_text_denotes;
+use formula_reader::{Formula, PathKind, read_formula};
 use formula_sets::{Posed, PosedNext, initial_of, is_flat, pose, pose_next};
+use formula_tokens::FormulaCause;
 use game_model::Game;
 use game_outside::Shelf;
 use label_reader::{Labels, Owners};
-use rpatl_syntax::laws::{formulas_are_those_that_a_text_denotes, thresholds_are_at_most_one};
-use rpatl_syntax::{Formula, FormulaCause, PathKind, dual, read_formula};
+use rpatl_syntax::dual;
+use rpatl_syntax::laws::thresholds_are_at_most_one;
 use run_refusals::Refusal;
 use std::alloc::Global;
 

@@ -3,8 +3,8 @@
 ghost use Rattle.std.specs.Prelude.{◌≡◌};
 
 use crate::model::Loaded;
+use formula_reader::{Formula, PathKind};
 use formula_sets::{Posed, PosedNext};
-use rpatl_syntax::{Formula, PathKind};
 
 /// What a formula asks, by the kind of its paths.
 #[derive(Drop)]
@@ -22,7 +22,7 @@ pub enum Problem<'g> {
 impl<'g> Problem<'g> {
     ghost use Rattle.std.specs.Prelude.{Some};
     ghost use Rattle.rpatl_syntax.specs.Dual.{answered};
-    ghost use Rattle.rpatl_syntax.specs.Formula.{tree_of};
+    ghost use Rattle.formula_reader.specs.Formula.{tree_of};
     ghost use Rattle.formula_sets.specs.Seen.{posing_of};
     ghost use Rattle.asked_files.specs.Problems.{posing_in};
     ghost use Rattle.asked_files.specs.SeenProblems.{HasDual, IsUnbounded, problem_of};
@@ -65,7 +65,7 @@ pub enum Paths {
 
 impl Paths {
     ghost use Rattle.std.specs.Prelude.{◌&&◌};
-    ghost use Rattle.rpatl_syntax.specs.Formula.{is_flat, tree_of};
+    ghost use Rattle.formula_reader.specs.Formula.{is_flat, tree_of};
     ghost use Rattle.asked_files.specs.Problems.{takes, takes_formula};
 
     /// Whether a formula with such a path is taken.

@@ -3,7 +3,7 @@ use Rattle.std.proofs.Common.{◌≡◌, ℕ, ◌<◌, Bool, true, List, length,
 use Rattle.std.specs.Prelude.{slice_index}
 use Rattle.std.proofs.lemmas.List.{get_or_default, same_lists}
 use Rattle.game_model.specs.Query.{Query, states}
-use Rattle.rpatl_syntax.specs.declared.formula.Bound.{Bound}
+use Rattle.formula_reader.specs.declared.formula.Bound.{Bound}
 use Rattle.verdicts.specs.Verdict.{is_asking}
 use Rattle.upper_guess.specs.Guess.{IsFirstGuess}
 use Rattle.upper_guess.proofs.One.{one-first-guess}

@@ -21,7 +21,7 @@ use Rattle.game_laws.proofs.High.{IsHigh-up_step}
 use Rattle.game_laws.proofs.Near.{swapped-value-near}
 use Rattle.step_core.specs.Word.{value_in, value_at, values_of, picks_of}
 use Rattle.step_core.proofs.Words.{values_of-is, AreSoundWords-goals, AreSoundWords-units}
-use Rattle.rpatl_syntax.specs.declared.formula.Bound.{Bound}
+use Rattle.formula_reader.specs.declared.formula.Bound.{Bound}
 use Rattle.verdicts.specs.Verdict.{is_asking}
 use Rattle.verdicts.proofs.Staying.{settled-on}
 use Rattle.bracket_engine.specs.declared.stopping.SettlingGuess.{SettlingGuess}

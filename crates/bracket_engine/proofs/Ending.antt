@@ -8,7 +8,7 @@ use Rattle.std.proofs.lemmas.Nat.{ones_le_self}
 use Rattle.game_model.specs.Limits.{unit}
 use Rattle.game_model.specs.Query.{Query, states}
 use Rattle.game_model.specs.Rounded.{down_steps, IsBelow}
-use Rattle.rpatl_syntax.specs.declared.formula.Bound.{Bound}
+use Rattle.formula_reader.specs.declared.formula.Bound.{Bound}
 use Rattle.verdicts.specs.Verdict.{is_asking}
 use Rattle.verdicts.proofs.Staying.{settled-on}
 use Rattle.bracket_engine.specs.Stop.{AreSettledAt, EndsWhereSettled, upper_from}

@@ -5,7 +5,7 @@ use Rattle.std.proofs.lemmas.List.{length-map, get_or-map, get_or_default}
 use Rattle.game_model.specs.Query.{Query, IsQuery, states}
 use Rattle.game_model.specs.Limits.{unit}
 use Rattle.game_model.specs.Rounded.{IsBelow, IsInductive}
-use Rattle.rpatl_syntax.specs.declared.formula.Bound.{Bound}
+use Rattle.formula_reader.specs.declared.formula.Bound.{Bound}
 use Rattle.verdicts.proofs.Staying.{settled-on}
 use Rattle.inductive_check.proofs.UpSteps.{IsInductive-min}
 use Rattle.upper_guess.specs.Guess.{IsFirstGuess}

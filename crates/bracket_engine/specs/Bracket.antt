@@ -8,7 +8,7 @@ use Rattle.game_model.specs.Limits.{unit}
 use Rattle.game_model.specs.Rounded.{down_steps, opening, IsBelow, IsSettled}
 use Rattle.game_model.specs.Dual.{open_numerator, swapped}
 use Rattle.game_model.specs.Bounds.{IsLow, IsHigh}
-use Rattle.rpatl_syntax.specs.declared.formula.Bound.{Bound}
+use Rattle.formula_reader.specs.declared.formula.Bound.{Bound}
 use Rattle.verdicts.specs.Verdict.{is_asking}
 use Rattle.bracket_engine.specs.declared.stopping.SettlingGuess.{SettlingGuess}
 use Rattle.bracket_engine.specs.Stop.{AreSettledAt, EndsWhereSettled, IsSettlingGuess, IsUpperFrom}

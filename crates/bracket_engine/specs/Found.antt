@@ -1,7 +1,7 @@
 -- What a call of the engine finds.
 use Rattle.std.specs.Prelude.{ℕ, Bool, List}
 use Rattle.game_model.specs.Query.{Query}
-use Rattle.rpatl_syntax.specs.declared.formula.Bound.{Bound}
+use Rattle.formula_reader.specs.declared.formula.Bound.{Bound}
 use Rattle.bracket_engine.specs.declared.bounds.Bracket.{Bracket}
 use Rattle.bracket_engine.specs.Bracket.{IsBracket}
 use Rattle.bracket_engine.specs.Lower.{IsLowerTable}

@@ -5,7 +5,7 @@ use Rattle.std.specs.Int.{is_power_of_two}
 use Rattle.game_model.specs.Limits.{unit}
 use Rattle.game_model.specs.Query.{Query, states}
 use Rattle.game_model.specs.Rounded.{down_steps, IsBelow, IsInductive}
-use Rattle.rpatl_syntax.specs.declared.formula.Bound.{Bound}
+use Rattle.formula_reader.specs.declared.formula.Bound.{Bound}
 use Rattle.verdicts.specs.Verdict.{verdict_of, is_settling, is_asking}
 use Rattle.upper_guess.specs.Guess.{IsFirstGuess}
 use Rattle.bracket_engine.specs.declared.stopping.SettlingGuess.{SettlingGuess}

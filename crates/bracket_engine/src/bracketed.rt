@@ -10,10 +10,10 @@ ghost use Rattle.bracket_engine.specs.Found.{IsFound};
 
 use crate::bounds::Bracket;
 use crate::run::bracket_over;
+use formula_reader::Bound;
 use game_model::{Marks, Question};
 use game_outside::{Gate, OutOfMemory};
 use predecessors::Predecessors;
-use rpatl_syntax::Bound;
 use std::alloc::Global;
 use std::thread::Threads;
 use verdicts::{StopRule, settle};

@@ -2,7 +2,7 @@
 
 ghost use Rattle.std.specs.Prelude.{◌≡◌, ℕ, List, Bool, Option, true};
 ghost use Rattle.game_model.specs.Query.{Query};
-ghost use Rattle.rpatl_syntax.specs.declared.formula.Bound.{Bound};
+ghost use Rattle.formula_reader.specs.declared.formula.Bound.{Bound};
 ghost use Rattle.verdicts.specs.Verdict.{is_asking};
 ghost use Rattle.bracket_engine.specs.Limits.{most_rounds};
 ghost use Rattle.bracket_engine.specs.Bracket.{IsBracket};

@@ -13,7 +13,7 @@ use Rattle.game_model.specs.Game.{Distribution}
 use Rattle.game_model.specs.Query.{Query}
 use Rattle.label_lines.specs.Labels.{Labelling, is_known, states_with}
 use Rattle.label_lines.specs.Owners.{Ownership, is_player}
-use Rattle.rpatl_syntax.specs.Formula.{Tree, IsFlat}
+use Rattle.formula_reader.specs.Formula.{Tree, IsFlat}
 use Rattle.formula_sets.specs.declared.fault.PoseFault.{PoseFault}
 use Rattle.formula_sets.specs.Truth.{holds, unknown_label}
 use Rattle.formula_sets.specs.Sides.{side_of, unknown_player}

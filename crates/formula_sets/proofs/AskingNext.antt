@@ -10,7 +10,7 @@ use Rattle.game_model.specs.Limits.{unit}
 use Rattle.game_model.specs.Query.{Query}
 use Rattle.label_lines.specs.Labels.{Labelling}
 use Rattle.label_lines.specs.Owners.{Ownership}
-use Rattle.rpatl_syntax.specs.Formula.{Tree, IsFlat}
+use Rattle.formula_reader.specs.Formula.{Tree, IsFlat}
 use Rattle.formula_sets.specs.declared.fault.PoseFault.{PoseFault}
 use Rattle.formula_sets.specs.Truth.{holds}
 use Rattle.formula_sets.specs.Posing.{NextPosing, PosesNext, at_states, opening_at, unmarked, next_question_of}

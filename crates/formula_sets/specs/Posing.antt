@@ -7,9 +7,9 @@ use Rattle.game_model.specs.Limits.{unit}
 use Rattle.game_model.specs.Query.{Query, is_goal, is_dead, side_at}
 use Rattle.label_lines.specs.Labels.{Labelling, is_known, states_with}
 use Rattle.label_lines.specs.Owners.{Ownership, is_player}
-use Rattle.rpatl_syntax.specs.declared.formula.PathKind.{PathKind}
-use Rattle.rpatl_syntax.specs.declared.formula.PathKind.TheVariants.{Until, Within, Next, Always}
-use Rattle.rpatl_syntax.specs.Formula.{Tree, IsFlat}
+use Rattle.formula_reader.specs.declared.formula.PathKind.{PathKind}
+use Rattle.formula_reader.specs.declared.formula.PathKind.TheVariants.{Until, Within, Next, Always}
+use Rattle.formula_reader.specs.Formula.{Tree, IsFlat}
 use Rattle.formula_sets.specs.declared.fault.PoseFault.{PoseFault}
 use Rattle.formula_sets.specs.declared.fault.PoseFault.TheVariants.{OutOfMemory, UnknownLabel, UnknownPlayer, NoInit}
 use Rattle.formula_sets.specs.Truth.{holds, labels_in, unknown_label}

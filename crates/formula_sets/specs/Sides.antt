@@ -5,9 +5,9 @@ use Rattle.game_model.specs.declared.game.Side.{Side}
 use Rattle.game_model.specs.declared.game.Side.TheVariants.{Max, Min}
 use Rattle.game_model.specs.Dual.{other_side}
 use Rattle.label_lines.specs.Owners.{Ownership, owner_of, is_player}
-use Rattle.rpatl_syntax.specs.declared.formula.Bound.{Bound}
-use Rattle.rpatl_syntax.specs.declared.formula.Bound.TheVariants.{AtLeast, Above, AtMost, Below, AskMax, AskMin}
-use Rattle.rpatl_syntax.specs.Formula.{State, True, False, Label, Not, And, Or, Implies, Inner}
+use Rattle.formula_reader.specs.declared.formula.Bound.{Bound}
+use Rattle.formula_reader.specs.declared.formula.Bound.TheVariants.{AtLeast, Above, AtMost, Below, AskMax, AskMin}
+use Rattle.formula_reader.specs.Formula.{State, True, False, Label, Not, And, Or, Implies, Inner}
 
 -- the side of a coalition: it tries to meet the bound, or to reach what is asked
 abbrev pub coalition_side : Bound → Side

@@ -1,7 +1,7 @@
 -- Where state formulas hold, and the labels that they name.
 use Rattle.std.specs.Prelude.{ℕ, Bool, true, false, not, ◌&&◌, ◌||◌, List, [], ◌∷◌, ◌++◌, Option, find}
 use Rattle.label_lines.specs.Labels.{Labelling, holds_at, is_known}
-use Rattle.rpatl_syntax.specs.Formula.{State, True, False, Label, Not, And, Or, Implies, Inner}
+use Rattle.formula_reader.specs.Formula.{State, True, False, Label, Not, And, Or, Implies, Inner}
 
 -- the state formula holds at the state; labels alone say nothing of a formula inside
 abbrev pub holds : Labelling → State → ℕ → Bool

@@ -3,8 +3,8 @@
 ghost use Rattle.std.specs.Prelude.{◌≡◌};
 ghost use Rattle.formula_sets.specs.Sides.{coalition_side, common_side};
 
+use formula_reader::Bound;
 use game_model::Side;
-use rpatl_syntax::Bound;
 
 /// The side of a coalition.
 pub fn coalition_side_of(bound: &Bound) -> Side

@@ -1,9 +1,9 @@
 //! Whether formulas stand inside a formula.
 
 ghost use Rattle.std.specs.Prelude.{◌≡◌, ◌&&◌};
-ghost use Rattle.rpatl_syntax.specs.Formula.{is_flat, state_of};
+ghost use Rattle.formula_reader.specs.Formula.{is_flat, state_of};
 
-use rpatl_syntax::{Formula, StateFormula};
+use formula_reader::{Formula, StateFormula};
 
 /// Whether no formula stands inside the sides of a formula.
 pub fn is_flat(formula: &Formula) -> bool

@@ -2,14 +2,14 @@
 
 ghost use Rattle.std.specs.Prelude.{◌≡◌, IfOk, option_copied};
 ghost use Rattle.label_lines.specs.Labels.{holds_at};
-ghost use Rattle.rpatl_syntax.specs.Formula.{state_of, tree_of};
+ghost use Rattle.formula_reader.specs.Formula.{state_of, tree_of};
 ghost use Rattle.formula_sets.specs.Truth.{holds, labels_in, unknown_label};
 ghost use Rattle.formula_sets.specs.Posing.{at_states, formula_labels};
 
 use crate::marks::{intersect, negate, unite};
+use formula_reader::{Formula, StateFormula};
 use game_outside::Name;
 use label_reader::Labels;
-use rpatl_syntax::{Formula, StateFormula};
 use std::alloc::{AllocError, Global};
 
 /// The same mark for each of so many states.

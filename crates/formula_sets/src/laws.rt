@@ -4,7 +4,7 @@ ghost use Rattle.std.specs.Prelude.{◌≡◌, ◌↔◌, List, Ok};
 ghost use Rattle.game_model.specs.Game.{Distribution};
 ghost use Rattle.label_lines.specs.Labels.{Labelling};
 ghost use Rattle.label_lines.specs.Owners.{Ownership};
-ghost use Rattle.rpatl_syntax.specs.Formula.{Tree, IsFlat};
+ghost use Rattle.formula_reader.specs.Formula.{Tree, IsFlat};
 ghost use Rattle.formula_sets.specs.Posing.{Posing, NextPosing, Poses, PosesNext, pose_said, pose_next_said};
 
 /// The question that is posed of a formula with none inside is the one that it poses.

@@ -3,8 +3,8 @@
 ghost use Rattle.std.specs.Prelude.{◌≡◌, ◌<◌, ◌≤◌, All, IfOk, false, if◌then◌else◌, length, slice_index_or};
 ghost use Rattle.game_model.specs.Limits.{unit};
 ghost use Rattle.game_model.specs.Query.{states};
-ghost use Rattle.rpatl_syntax.specs.declared.formula.PathKind.TheVariants.{Next};
-ghost use Rattle.rpatl_syntax.specs.Formula.{IsFlat, tree_of};
+ghost use Rattle.formula_reader.specs.declared.formula.PathKind.TheVariants.{Next};
+ghost use Rattle.formula_reader.specs.Formula.{IsFlat, tree_of};
 ghost use Rattle.game_outside.specs.Answers.{AnswersOrWants};
 ghost use Rattle.formula_sets.specs.Posing.{at_states, opening_at, next_question_of, pose_next_said, IsOutOfMemory};
 ghost use Rattle.formula_sets.specs.Seen.{next_posing_of};
@@ -12,9 +12,9 @@ ghost use Rattle.formula_sets.specs.Seen.{next_posing_of};
 use crate::fault::PoseFault;
 use crate::labels::{marks_of, same_marks};
 use crate::question::{initial_of, sides_of};
+use formula_reader::Formula;
 use game_model::{Game, Question, UNIT};
 use label_reader::{Labels, Owners};
-use rpatl_syntax::Formula;
 use std::alloc::{AllocError, Global};
 
 /// A question of one step, whose states have no marks, and the initial states of its game, rising.

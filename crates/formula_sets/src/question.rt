@@ -2,7 +2,7 @@
 
 ghost use Rattle.std.specs.Prelude.{◌≡◌, ◌<◌, All, IfOk, length};
 ghost use Rattle.game_model.specs.Query.{states};
-ghost use Rattle.rpatl_syntax.specs.Formula.{IsFlat, state_of, tree_of};
+ghost use Rattle.formula_reader.specs.Formula.{IsFlat, state_of, tree_of};
 ghost use Rattle.formula_sets.specs.Truth.{holds};
 ghost use Rattle.formula_sets.specs.Sides.{side_of};
 ghost use Rattle.game_outside.specs.Answers.{AnswersOrWants};
@@ -13,9 +13,9 @@ use crate::fault::PoseFault;
 use crate::labels::{marks_of, unknown_label_of};
 use crate::marks::{negate, unite};
 use crate::sides::{side_at_state, unknown_player_of};
+use formula_reader::Formula;
 use game_model::{Game, Question, Side};
 use label_reader::{Labels, Owners};
-use rpatl_syntax::Formula;
 use std::alloc::{AllocError, Global};
 
 /// A question, and the initial states of its game, rising.

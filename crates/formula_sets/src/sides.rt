@@ -1,15 +1,15 @@
 //! Who chooses at each state.
 
 ghost use Rattle.std.specs.Prelude.{◌≡◌, ◌<◌, option_copied, option_map, length};
-ghost use Rattle.rpatl_syntax.specs.Formula.{names_of, state_of, tree_of};
+ghost use Rattle.formula_reader.specs.Formula.{names_of, state_of, tree_of};
 ghost use Rattle.formula_sets.specs.Posing.{formula_players};
 ghost use Rattle.formula_sets.specs.Sides.{is_member, members_of, players_in, side_of, unknown_player};
 
 use crate::bounds::{coalition_side_of, common_side_of};
+use formula_reader::{Bound, Formula, Names, StateFormula};
 use game_model::Side;
 use game_outside::Name;
 use label_reader::Owners;
-use rpatl_syntax::{Bound, Formula, Names, StateFormula};
 
 fn is_member_of(names: &[Name], name: &[u8]) -> bool
     ensures { result ≡ is_member names.now name.now }

@@ -6,10 +6,10 @@ use Rattle.game_model.specs.Query.{Query, IsQuery}
 use Rattle.game_model.specs.Query as query
 use Rattle.game_model.specs.Rounded.{down_steps, opening}
 use Rattle.game_model.specs.Dual.{IsZeroSet, swapped}
-use Rattle.rpatl_syntax.specs.declared.formula.PathKind.{PathKind}
-use Rattle.rpatl_syntax.specs.declared.formula.PathKind.TheVariants.{Until, Within, Next, Always}
+use Rattle.formula_reader.specs.declared.formula.PathKind.{PathKind}
+use Rattle.formula_reader.specs.declared.formula.PathKind.TheVariants.{Until, Within, Next, Always}
 use Rattle.rpatl_syntax.specs.Dual.{dual_of}
-use Rattle.rpatl_syntax.specs.Formula.{State, True, False, Label, Not, And, Or, Implies, Inner, Tree}
+use Rattle.formula_reader.specs.Formula.{State, True, False, Label, Not, And, Or, Implies, Inner, Tree}
 use Rattle.formula_sets.specs.Posing.{Model, at_states, next_question_of}
 use Rattle.formula_sets.proofs.Asking.{at_states-at, length-at_states}
 use Rattle.bounded_rounds.specs.Steps.{IsSweep, down_from, up_from}

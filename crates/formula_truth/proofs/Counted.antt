@@ -6,8 +6,8 @@ use Rattle.std.specs.Int.{from_bool}
 use Rattle.std.specs.List.{range_with_len}
 use Rattle.std.proofs.lemmas.List.Sums.{count_by-le-length, sum_by-append, sum_by-cons}
 use Rattle.std.proofs.lemmas.List.FromFn.{length-range_with_len}
-use Rattle.rpatl_syntax.specs.declared.formula.Bound.{Bound}
-use Rattle.rpatl_syntax.specs.Formula.{State, True, False, Label, Not, And, Or, Implies, Inner, formulas_in}
+use Rattle.formula_reader.specs.declared.formula.Bound.{Bound}
+use Rattle.formula_reader.specs.Formula.{State, True, False, Label, Not, And, Or, Implies, Inner, formulas_in}
 use Rattle.formula_sets.specs.Posing.{at_states}
 use Rattle.formula_sets.proofs.Asking.{pushed-more}
 use Rattle.formula_truth.specs.Bands.{Band, Bands, verdict_at, judgement, undecided_at, undecided_in}

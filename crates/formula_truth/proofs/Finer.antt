@@ -9,7 +9,7 @@ use Rattle.game_model.specs.Rounded.{down_steps, opening}
 use Rattle.game_model.specs.Dual.{IsZeroSet, swapped, other_side}
 use Rattle.game_model.proofs.Choices.{AreChoicesOf, AreChoicesOf-choices_of}
 use Rattle.game_model.proofs.Marked.{marked-goal}
-use Rattle.rpatl_syntax.specs.Formula.{Tree}
+use Rattle.formula_reader.specs.Formula.{Tree}
 use Rattle.formula_sets.specs.Posing.{Model, at_states}
 use Rattle.bounded_rounds.specs.Steps.{steps_from, down_from}
 use Rattle.bounded_rounds.proofs.Stepping.{step_of}

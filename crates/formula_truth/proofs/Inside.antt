@@ -5,9 +5,9 @@ use Rattle.std.specs.Prelude.{count_by, All}
 use Rattle.std.specs.List.{range_with_len}
 use Rattle.game_model.specs.Game.{IsGame}
 use Rattle.label_lines.specs.Labels.{Labelling}
-use Rattle.rpatl_syntax.specs.declared.formula.Bound.{Bound}
+use Rattle.formula_reader.specs.declared.formula.Bound.{Bound}
 use Rattle.rpatl_syntax.specs.Dual.{IsAtMostOne}
-use Rattle.rpatl_syntax.specs.Formula.{State, True, False, Label, Not, And, Or, Implies, Inner, Tree}
+use Rattle.formula_reader.specs.Formula.{State, True, False, Label, Not, And, Or, Implies, Inner, Tree}
 use Rattle.rpatl_syntax.specs.Spellable.{HasShare, HasParts}
 use Rattle.verdicts.specs.declared.report.How.{How}
 use Rattle.verdicts.specs.declared.verdict.Verdict.{Verdict}

@@ -17,8 +17,8 @@ use Rattle.game_model.proofs.Marked.{marked-none, marked-goal}
 use Rattle.game_model.proofs.Open.{numerator-open}
 use Rattle.game_model.proofs.Swap.{open_numerator-swapped}
 use Rattle.game_laws.proofs.Low.{down_steps-below}
-use Rattle.rpatl_syntax.specs.declared.formula.Bound.{Bound}
-use Rattle.rpatl_syntax.specs.declared.formula.Bound.TheVariants.{AtLeast, Above, AtMost, Below, AskMax, AskMin}
+use Rattle.formula_reader.specs.declared.formula.Bound.{Bound}
+use Rattle.formula_reader.specs.declared.formula.Bound.TheVariants.{AtLeast, Above, AtMost, Below, AskMax, AskMin}
 use Rattle.verdicts.specs.Verdict.{verdict_of, is_settling, is_asking}
 use Rattle.bracket_engine.specs.declared.bounds.Bracket.{Bracket}
 use Rattle.bracket_engine.specs.Found.{IsFound}

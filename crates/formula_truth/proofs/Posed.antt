@@ -10,7 +10,7 @@ use Rattle.game_model.specs.Query.{Query, IsQuery}
 use Rattle.game_model.specs.Values.{numerator}
 use Rattle.game_model.specs.Bounds.{IsNear, IsHigh}
 use Rattle.game_model.proofs.Choices.{AreChoicesOf-choices_of}
-use Rattle.rpatl_syntax.specs.Formula.{Tree}
+use Rattle.formula_reader.specs.Formula.{Tree}
 use Rattle.formula_sets.specs.Posing.{Model, at_states, next_question_of}
 use Rattle.formula_sets.specs.Sides.{side_of}
 use Rattle.formula_sets.proofs.Asking.{at_states-at, length-at_states}

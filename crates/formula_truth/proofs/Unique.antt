@@ -4,10 +4,10 @@ use Rattle.game_model.specs.Game.{IsGame}
 use Rattle.game_model.specs.Query.{Query}
 use Rattle.game_model.specs.Values.{denominator, numerator}
 use Rattle.game_model.proofs.Choices.{AreChoicesOf-choices_of}
-use Rattle.rpatl_syntax.specs.declared.formula.PathKind.{PathKind}
-use Rattle.rpatl_syntax.specs.declared.formula.PathKind.TheVariants.{Until, Within, Next, Always}
+use Rattle.formula_reader.specs.declared.formula.PathKind.{PathKind}
+use Rattle.formula_reader.specs.declared.formula.PathKind.TheVariants.{Until, Within, Next, Always}
 use Rattle.rpatl_syntax.specs.Dual.{IsMetBy, dual_bound, dual_of}
-use Rattle.rpatl_syntax.specs.Formula.{State, True, False, Label, Not, And, Or, Implies, Inner, Tree}
+use Rattle.formula_reader.specs.Formula.{State, True, False, Label, Not, And, Or, Implies, Inner, Tree}
 use Rattle.formula_sets.specs.Posing.{Model, next_question_of}
 use Rattle.bounded_rounds.specs.Exact.{next_numerator}
 use Rattle.verdicts.specs.Truth.{IsTrueOf}

@@ -10,12 +10,12 @@ use Rattle.game_model.specs.Values.{denominator, numerator}
 use Rattle.game_model.specs.Bounds.{IsNear, IsHigh}
 use Rattle.game_model.proofs.Choices.{denominator-pos}
 use Rattle.game_laws.proofs.Truth.{IsNear-reaches, IsNear-exceeds, IsHigh-not-exceeds, IsHigh-not-reaches}
-use Rattle.rpatl_syntax.specs.declared.formula.Bound.{Bound}
-use Rattle.rpatl_syntax.specs.declared.formula.Bound.TheVariants.{AtLeast, Above, AtMost, Below, AskMax, AskMin}
-use Rattle.rpatl_syntax.specs.declared.formula.PathKind.{PathKind}
-use Rattle.rpatl_syntax.specs.declared.formula.PathKind.TheVariants.{Until, Within, Next, Always}
+use Rattle.formula_reader.specs.declared.formula.Bound.{Bound}
+use Rattle.formula_reader.specs.declared.formula.Bound.TheVariants.{AtLeast, Above, AtMost, Below, AskMax, AskMin}
+use Rattle.formula_reader.specs.declared.formula.PathKind.{PathKind}
+use Rattle.formula_reader.specs.declared.formula.PathKind.TheVariants.{Until, Within, Next, Always}
 use Rattle.rpatl_syntax.specs.Dual.{IsAtMostOne, IsMetBy, dual_of, dual_bound}
-use Rattle.rpatl_syntax.specs.Formula.{Tree}
+use Rattle.formula_reader.specs.Formula.{Tree}
 use Rattle.rpatl_syntax.specs.Spellable.{HasShare}
 use Rattle.formula_sets.specs.Posing.{Model, next_question_of}
 use Rattle.bounded_rounds.specs.Exact.{next_numerator}

@@ -2,8 +2,8 @@
 use Rattle.std.specs.Prelude.{◌+◌, ◌&&◌, ◌||◌, ℕ, Bool, true, false, not, List, slice_index, count_by}
 use Rattle.std.specs.List.{range_with_len}
 use Rattle.label_lines.specs.Labels.{Labelling, holds_at}
-use Rattle.rpatl_syntax.specs.declared.formula.Bound.{Bound}
-use Rattle.rpatl_syntax.specs.Formula.{State, True, False, Label, Not, And, Or, Implies, Inner}
+use Rattle.formula_reader.specs.declared.formula.Bound.{Bound}
+use Rattle.formula_reader.specs.Formula.{State, True, False, Label, Not, And, Or, Implies, Inner}
 use Rattle.verdicts.specs.Verdict.{verdict_of, is_yes, is_no, is_undecided}
 use Rattle.verdicts.specs.declared.verdict.Verdict.{Verdict}
 

@@ -3,9 +3,9 @@ use Rattle.std.specs.Prelude.{◌≡◌, ◌<◌, ◌≤◌, ◌*◌, ◌^◌, �
 use Rattle.game_model.specs.Limits.{unit}
 use Rattle.game_model.specs.Values.{denominator, numerator}
 use Rattle.game_model.specs.Bounds.{IsNear, IsHigh}
-use Rattle.rpatl_syntax.specs.declared.formula.PathKind.{PathKind}
-use Rattle.rpatl_syntax.specs.declared.formula.PathKind.TheVariants.{Until, Within, Next, Always}
-use Rattle.rpatl_syntax.specs.Formula.{Tree}
+use Rattle.formula_reader.specs.declared.formula.PathKind.{PathKind}
+use Rattle.formula_reader.specs.declared.formula.PathKind.TheVariants.{Until, Within, Next, Always}
+use Rattle.formula_reader.specs.Formula.{Tree}
 use Rattle.formula_sets.specs.Posing.{Model, next_question_of}
 use Rattle.bounded_rounds.specs.Exact.{next_numerator}
 use Rattle.verdicts.specs.declared.verdict.Verdict.{Verdict}

@@ -9,12 +9,12 @@ use Rattle.std.proofs.lemmas.List.Elements.{All-from_get_or}
 use Rattle.std.proofs.lemmas.List.FromFn.{get_or-range_with_len, length-range_with_len}
 use Rattle.game_model.specs.Game.{IsGame}
 use Rattle.game_model.specs.Limits.{unit, most_states}
-use Rattle.rpatl_syntax.specs.declared.formula.Bound.{Bound}
-use Rattle.rpatl_syntax.specs.declared.formula.PathKind.{PathKind}
-use Rattle.rpatl_syntax.specs.declared.formula.PathKind.TheVariants.{Until, Always}
+use Rattle.formula_reader.specs.declared.formula.Bound.{Bound}
+use Rattle.formula_reader.specs.declared.formula.PathKind.{PathKind}
+use Rattle.formula_reader.specs.declared.formula.PathKind.TheVariants.{Until, Always}
 use Rattle.rpatl_syntax.specs.Dual.{dual_bound, dual_of}
-use Rattle.rpatl_syntax.specs.Formula.{State, Tree, formulas_in, inner_of}
-use Rattle.rpatl_syntax.specs.Limits.{longest}
+use Rattle.formula_reader.specs.Formula.{State, Tree, formulas_in, inner_of}
+use Rattle.formula_tokens.specs.Limits.{longest}
 use Rattle.rpatl_syntax.specs.Spellable.{IsSpellable}
 use Rattle.bracket_engine.specs.Bracket.{complements_of}
 use Rattle.verdicts.specs.declared.report.How.{How}

@@ -4,7 +4,7 @@ use mathlib.Core.Bool.{beq}
 use Rattle.std.specs.Bool.{Decides}
 use Rattle.std.proofs.lemmas.List.FromFn.{fill_by_all}
 use Rattle.game_model.specs.Query.{Query}
-use Rattle.rpatl_syntax.specs.Formula.{Tree}
+use Rattle.formula_reader.specs.Formula.{Tree}
 use Rattle.formula_sets.specs.Posing.{Model, at_states, question_with}
 use Rattle.formula_truth.specs.Truth.{states, question_by}
 use Rattle.formula_truth.proofs.Posed.{goals-apart, lost_by}

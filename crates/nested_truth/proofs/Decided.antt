@@ -1,7 +1,7 @@
 -- Where no formula inside is undecided, what surely holds is what holds in the truth.
 use Rattle.std.proofs.Common.{◌≡◌, ℕ}
 use Rattle.game_model.specs.Game.{IsGame}
-use Rattle.rpatl_syntax.specs.Formula.{State}
+use Rattle.formula_reader.specs.Formula.{State}
 use Rattle.rpatl_syntax.specs.Spellable.{HasParts}
 use Rattle.formula_sets.specs.Posing.{Model}
 use Rattle.formula_truth.specs.Truth.{Valuation, IsTruth, states, holds}

@@ -11,11 +11,11 @@ use Rattle.game_model.specs.Values.{denominator, numerator}
 use Rattle.game_model.specs.Rounded.{down_steps, opening}
 use Rattle.game_model.specs.Dual.{open_numerator, swapped}
 use Rattle.game_model.proofs.Choices.{denominator-pos}
-use Rattle.rpatl_syntax.specs.declared.formula.Bound.{Bound}
-use Rattle.rpatl_syntax.specs.declared.formula.PathKind.{PathKind}
-use Rattle.rpatl_syntax.specs.declared.formula.PathKind.TheVariants.{Until, Within, Next, Always}
+use Rattle.formula_reader.specs.declared.formula.Bound.{Bound}
+use Rattle.formula_reader.specs.declared.formula.PathKind.{PathKind}
+use Rattle.formula_reader.specs.declared.formula.PathKind.TheVariants.{Until, Within, Next, Always}
 use Rattle.rpatl_syntax.specs.Dual.{IsAtMostOne, dual_of, dual_bound}
-use Rattle.rpatl_syntax.specs.Formula.{Tree}
+use Rattle.formula_reader.specs.Formula.{Tree}
 use Rattle.formula_sets.specs.Posing.{Model, next_question_of}
 use Rattle.bounded_rounds.specs.Exact.{IsBracketed, next_numerator}
 use Rattle.bounded_rounds.specs.Steps.{IsSweep}

@@ -1,7 +1,7 @@
 -- What is known of a state formula, from what is known of its parts.
 use Rattle.std.proofs.Common.{◌≡◌, ◌∙◌, ◌+◌, ℕ, Bool, true, false, not, ◌&&◌, ◌||◌, length, arith, sym, ap, subst, refl}
 use Rattle.std.specs.Bool.{if◌then◌else◌}
-use Rattle.rpatl_syntax.specs.Formula.{State, True, False, And, Or, Implies}
+use Rattle.formula_reader.specs.Formula.{State, True, False, And, Or, Implies}
 use Rattle.nested_truth.specs.declared.judging.Judged.{Judged}
 use Rattle.nested_truth.specs.declared.known.KnownSets.{KnownSets}
 use Rattle.formula_sets.specs.Posing.{Model}

@@ -2,7 +2,7 @@
 use Rattle.std.proofs.Common.{◌≡◌, ◌≢◌, ℕ, Bool, List, Option, Some, None, get_or, false, refl, sym, subst}
 use Rattle.std.specs.Prelude.{IfSome}
 use Rattle.game_model.specs.Query.{Query}
-use Rattle.rpatl_syntax.specs.declared.formula.Bound.{Bound}
+use Rattle.formula_reader.specs.declared.formula.Bound.{Bound}
 use Rattle.bounded_rounds.specs.Steps.{IsSweep}
 use Rattle.bracket_engine.specs.declared.bounds.Bracket.{Bracket}
 use Rattle.verdicts.specs.declared.report.How.TheVariants.{Rounds, Steps}

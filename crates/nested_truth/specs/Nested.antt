@@ -1,6 +1,6 @@
 -- The answer to a formula with formulas inside.
 use Rattle.std.specs.Prelude.{◌≡◌, ◌<◌, ◌+◌, ℕ, List, All}
-use Rattle.rpatl_syntax.specs.Formula.{Tree, formulas_inside}
+use Rattle.formula_reader.specs.Formula.{Tree, formulas_inside}
 use Rattle.verdicts.specs.declared.report.How.{How}
 use Rattle.verdicts.specs.declared.verdict.Verdict.TheVariants.{Undecided}
 use Rattle.formula_sets.specs.Posing.{Model}

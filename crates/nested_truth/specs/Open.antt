@@ -3,11 +3,11 @@ use Rattle.std.specs.Prelude.{◌^◌, ℕ, Bool, List, slice_index}
 use Rattle.game_model.specs.Query.{Query}
 use Rattle.game_model.specs.Values.{denominator, numerator}
 use Rattle.game_model.specs.Dual.{IsZeroSet}
-use Rattle.rpatl_syntax.specs.declared.formula.Bound.{Bound}
-use Rattle.rpatl_syntax.specs.declared.formula.PathKind.{PathKind}
-use Rattle.rpatl_syntax.specs.declared.formula.PathKind.TheVariants.{Until, Within, Next, Always}
+use Rattle.formula_reader.specs.declared.formula.Bound.{Bound}
+use Rattle.formula_reader.specs.declared.formula.PathKind.{PathKind}
+use Rattle.formula_reader.specs.declared.formula.PathKind.TheVariants.{Until, Within, Next, Always}
 use Rattle.rpatl_syntax.specs.Dual.{dual_bound}
-use Rattle.rpatl_syntax.specs.Formula.{Tree}
+use Rattle.formula_reader.specs.Formula.{Tree}
 use Rattle.formula_sets.specs.Posing.{Model, next_question_of}
 use Rattle.bounded_rounds.specs.Exact.{next_numerator}
 use Rattle.verdicts.specs.Open.{IsLeftOpen, IsLeftOpenBy}

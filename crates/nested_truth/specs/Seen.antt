@@ -2,7 +2,7 @@
 use Rattle.std.specs.Prelude.{◌≡◌, ◌<◌, ◌≤◌, ℕ, false, length, slice_index_or, All, Option, Some, None}
 use Rattle.game_model.specs.Limits.{unit}
 use Rattle.game_model.specs.Query.{Query}
-use Rattle.rpatl_syntax.specs.Formula.{State, formulas_in}
+use Rattle.formula_reader.specs.Formula.{State, formulas_in}
 use Rattle.nested_truth.specs.declared.answer.Nested.{Nested}
 use Rattle.nested_truth.specs.declared.bounds.Bounds.{Bounds}
 use Rattle.nested_truth.specs.declared.judging.Judged.{Judged}

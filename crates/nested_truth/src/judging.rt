@@ -6,7 +6,7 @@ ghost use Rattle.nested_truth.specs.Seen.{AreAlike, IsBand, band_in, seen};
 
 use crate::bounds::Bounds;
 use crate::known::KnownSets;
-use rpatl_syntax::Bound;
+use formula_reader::Bound;
 use std::alloc::{AllocError, Global};
 use verdicts::settle;
 
@@ -22,7 +22,7 @@ pub struct Judged {
 
 impl Judged {
     ghost use Rattle.std.specs.Prelude.{ℕ, ◌+◌, ◌<◌, ◌^◌};
-    ghost use Rattle.rpatl_syntax.specs.Formula.{State, Not, And, Or, Implies};
+    ghost use Rattle.formula_reader.specs.Formula.{State, Not, And, Or, Implies};
     ghost use Rattle.formula_sets.specs.Posing.{Model};
     ghost use Rattle.nested_truth.specs.Seen.{IsJudged};
 

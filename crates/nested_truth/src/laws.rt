@@ -2,7 +2,7 @@
 
 ghost use Rattle.std.specs.Prelude.{◌≡◌, ◌<◌, ℕ};
 ghost use Rattle.game_model.specs.Game.{IsGame};
-ghost use Rattle.rpatl_syntax.specs.Formula.{State};
+ghost use Rattle.formula_reader.specs.Formula.{State};
 ghost use Rattle.rpatl_syntax.specs.Spellable.{HasParts};
 ghost use Rattle.formula_sets.specs.Posing.{Model};
 ghost use Rattle.formula_truth.specs.Truth.{IsTruth, Valuation, holds, states};

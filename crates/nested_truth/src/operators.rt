@@ -1,7 +1,7 @@
 //! The bounds of a formula whose sides are known in part.
 
 ghost use Rattle.std.specs.Prelude.{◌≡◌, ◌<◌, All, IfOk, length};
-ghost use Rattle.rpatl_syntax.specs.Formula.{state_of, tree_of};
+ghost use Rattle.formula_reader.specs.Formula.{state_of, tree_of};
 ghost use Rattle.rpatl_syntax.specs.Spellable.{HasKind, HasShare};
 ghost use Rattle.formula_truth.specs.Bands.{Known};
 ghost use Rattle.formula_truth.specs.Runs.{AreFoundBy};
@@ -13,8 +13,9 @@ use crate::questions::Questions;
 use crate::races::race;
 use crate::setting::Setting;
 use crate::sweeps::{next_sweep, sweep};
+use formula_reader::{Formula, PathKind};
 use game_outside::{Gate, OutOfMemory};
-use rpatl_syntax::{Formula, PathKind, dual};
+use rpatl_syntax::dual;
 use std::alloc::Global;
 use std::thread::Threads;
 

@@ -2,15 +2,15 @@
 
 ghost use Rattle.std.specs.Prelude.{◌≡◌, ◌≢◌, ◌<◌, ◌&&◌, ◌↔◌, ℕ, not, length, slice_index_or, true, false, IfOk, IfSome};
 ghost use Rattle.game_model.specs.Query.{states};
-ghost use Rattle.rpatl_syntax.specs.Formula.{tree_of};
+ghost use Rattle.formula_reader.specs.Formula.{tree_of};
 ghost use Rattle.formula_sets.specs.Posing.{at_states, next_question_of, question_with};
 
 use crate::known::{KnownSets, are_equal};
 use crate::setting::Setting;
+use formula_reader::Formula;
 use formula_sets::{same_marks, sides_of};
 use game_model::Question;
 use game_outside::OutOfMemory;
-use rpatl_syntax::Formula;
 use std::alloc::{AllocError, Global};
 
 /// The question of the sure states, and that of the possible ones where it is another.

@@ -3,8 +3,8 @@
 ghost use Rattle.std.specs.Prelude.{◌≡◌, ◌<◌, ◌≤◌, All, IfOk, length};
 ghost use Rattle.std.specs.List.{range_with_len};
 ghost use Rattle.game_model.specs.Limits.{unit};
-ghost use Rattle.rpatl_syntax.specs.Formula.{tree_of, formulas_inside};
-ghost use Rattle.rpatl_syntax.specs.Limits.{longest};
+ghost use Rattle.formula_reader.specs.Formula.{tree_of, formulas_inside};
+ghost use Rattle.formula_tokens.specs.Limits.{longest};
 ghost use Rattle.rpatl_syntax.specs.Spellable.{IsSpellable};
 ghost use Rattle.game_outside.specs.Answers.{AnswersOrWants};
 ghost use Rattle.formula_sets.specs.Posing.{initial_said, IsOutOfMemory};
@@ -17,12 +17,12 @@ use crate::answer::Nested;
 use crate::operators::bounds_of;
 use crate::setting::Setting;
 use crate::states::judge;
+use formula_reader::Formula;
 use formula_sets::{PoseFault, initial_of};
 use game_model::Game;
 use game_outside::{Gate, OutOfMemory};
 use label_reader::{Labels, Owners};
 use predecessors::Predecessors;
-use rpatl_syntax::Formula;
 use std::alloc::{AllocError, Global};
 use std::thread::Threads;
 

@@ -1,8 +1,8 @@
 //! What is known of state formulas, from bounds of the formulas inside.
 
 ghost use Rattle.std.specs.Prelude.{◌≤◌, IfOk, if◌then◌else◌};
-ghost use Rattle.rpatl_syntax.specs.Formula.{True, False, Label, formulas_in, inner_of, state_of, tree_of};
-ghost use Rattle.rpatl_syntax.specs.Limits.{longest};
+ghost use Rattle.formula_reader.specs.Formula.{True, False, Label, formulas_in, inner_of, state_of, tree_of};
+ghost use Rattle.formula_tokens.specs.Limits.{longest};
 ghost use Rattle.rpatl_syntax.specs.Spellable.{HasParts};
 ghost use Rattle.nested_truth.specs.Seen.{IsJudged, model_of};
 
@@ -10,8 +10,8 @@ use crate::judging::{Judged, judged_by};
 use crate::known::KnownSets;
 use crate::operators::bounds_of;
 use crate::setting::Setting;
+use formula_reader::{Formula, StateFormula};
 use game_outside::{Gate, Name, OutOfMemory};
-use rpatl_syntax::{Formula, StateFormula};
 use std::alloc::Global;
 use std::thread::Threads;
 

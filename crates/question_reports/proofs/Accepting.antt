@@ -5,7 +5,7 @@ use Rattle.game_model.specs.Game.{Distribution}
 use Rattle.game_model.specs.Query.{Query, states}
 use Rattle.label_lines.specs.Labels.{Labelling}
 use Rattle.label_lines.specs.Owners.{Ownership}
-use Rattle.rpatl_syntax.specs.Formula.{Tree, is_flat}
+use Rattle.formula_reader.specs.Formula.{Tree, is_flat}
 use Rattle.plan_text.specs.Entries.{Entry, HasStates, entries_of}
 use Rattle.certificate_audit.specs.Accepted.{IsAccepted, Passes}
 use Rattle.plan_text.specs.declared.plan.Plan.{Plan}

@@ -3,7 +3,7 @@ use Rattle.std.proofs.Common.{◌≡◌, ◌<◌, ℕ, List, map, Result, Ok, Er
 use Rattle.std.specs.Prelude.{All, IfOk, slice_index}
 use Rattle.std.proofs.lemmas.List.Elements.{All-map, All-weaker}
 use Rattle.game_model.specs.Query.{Query, IsQuery, states}
-use Rattle.rpatl_syntax.specs.Formula.{Tree}
+use Rattle.formula_reader.specs.Formula.{Tree}
 use Rattle.plan_text.specs.declared.plan.Plan.{Plan}
 use Rattle.plan_text.specs.Entries.{HasStates}
 use Rattle.certificate_audit.specs.Accepted.{Passes, IsSoundPlan}

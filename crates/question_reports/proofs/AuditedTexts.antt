@@ -2,7 +2,7 @@
 use Rattle.std.proofs.Common.{ℕ, List, Option}
 use Rattle.game_outside.specs.Outside.{Holding}
 use Rattle.game_model.specs.Query.{Query}
-use Rattle.rpatl_syntax.specs.Formula.{Tree}
+use Rattle.formula_reader.specs.Formula.{Tree}
 use Rattle.plan_text.specs.declared.plan.Plan.{Plan}
 use Rattle.certificate_audit.specs.Accepted.{IsAccepted}
 use Rattle.asked_files.specs.Asks.{GivenTextWith}

@@ -9,8 +9,8 @@ use Rattle.game_model.specs.Limits.{unit, most_states}
 use Rattle.game_model.specs.Query.{Query}
 use Rattle.game_model.specs.Values.{numerator}
 use Rattle.game_model.specs.Dual.{IsZeroSet}
-use Rattle.rpatl_syntax.specs.declared.formula.Bound.{Bound}
-use Rattle.rpatl_syntax.specs.declared.formula.Bound.TheVariants.{AskMax}
+use Rattle.formula_reader.specs.declared.formula.Bound.{Bound}
+use Rattle.formula_reader.specs.declared.formula.Bound.TheVariants.{AskMax}
 use Rattle.verdicts.specs.Verdict.{is_asking}
 use Rattle.bracket_engine.specs.declared.bounds.Bracket.{Bracket}
 use Rattle.bracket_engine.specs.Bracket.{IsBracket}

@@ -14,7 +14,7 @@ use Rattle.game_model.specs.Limits.{unit, most_choices}
 use Rattle.game_model.specs.Ranks.{Ranked, HasRankedChoice}
 use Rattle.inductive_check.specs.Replies.{IsFirstReply, AreFirstReplies}
 use Rattle.inductive_check.specs.Held.{IsFirstHeld}
-use Rattle.rpatl_syntax.specs.Formula.{Tree}
+use Rattle.formula_reader.specs.Formula.{Tree}
 use Rattle.plan_text.specs.declared.plan.Plan.{Plan}
 use Rattle.plan_text.specs.Entries.{IsSmall, IsInRange, HasStates, greatest_choice, greatest_rank, entry_at}
 use Rattle.certificate_audit.specs.Accepted.{Passes}

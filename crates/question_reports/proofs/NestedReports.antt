@@ -5,7 +5,7 @@ use Rattle.std.proofs.lemmas.List.Elements.{All-map, All-weaker}
 use Rattle.game_outside.specs.declared.OutOfMemory.{OutOfMemory}
 use Rattle.game_model.specs.Game.{IsGame}
 use Rattle.game_model.specs.Limits.{unit}
-use Rattle.rpatl_syntax.specs.Formula.{Tree}
+use Rattle.formula_reader.specs.Formula.{Tree}
 use Rattle.formula_sets.specs.Posing.{Model}
 use Rattle.nested_truth.specs.declared.answer.Nested.{Nested}
 use Rattle.nested_truth.specs.Nested.{IsNested}

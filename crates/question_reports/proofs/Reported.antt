@@ -9,11 +9,11 @@ use Rattle.game_model.specs.Values.{denominator, numerator}
 use Rattle.std.proofs.Math.Nat.{mul-le-mul_right}
 use Rattle.game_model.specs.Rounded.{down_steps, IsBelow}
 use Rattle.game_model.specs.Dual.{IsZeroSet, swapped}
-use Rattle.rpatl_syntax.specs.Formula.{Tree}
+use Rattle.formula_reader.specs.Formula.{Tree}
 use Rattle.plan_text.specs.declared.plan.Plan.{Plan}
 use Rattle.plan_text.specs.Entries.{HasStates}
 use Rattle.certificate_audit.specs.Accepted.{Passes, IsSoundPlan}
-use Rattle.rpatl_syntax.specs.declared.formula.Bound.{Bound}
+use Rattle.formula_reader.specs.declared.formula.Bound.{Bound}
 use Rattle.verdicts.specs.declared.verdict.Verdict.{Verdict}
 use Rattle.verdicts.specs.declared.verdict.Verdict.TheVariants.{Undecided}
 use Rattle.verdicts.specs.Verdict.{verdict_of, is_settling}
@@ -25,8 +25,8 @@ use Rattle.bracket_engine.specs.Bracket.{IsBracket, IsNarrow}
 use Rattle.bracket_engine.specs.Stop.{AreSettledAt}
 use Rattle.command_words.specs.Words.{Check}
 use Rattle.run_answers.specs.declared.status.Status.{Status}
-use Rattle.rpatl_syntax.specs.declared.formula.PathKind.{PathKind}
-use Rattle.rpatl_syntax.specs.declared.formula.PathKind.TheVariants.{Until, Within, Next, Always}
+use Rattle.formula_reader.specs.declared.formula.PathKind.{PathKind}
+use Rattle.formula_reader.specs.declared.formula.PathKind.TheVariants.{Until, Within, Next, Always}
 use Rattle.rpatl_syntax.specs.Dual.{IsAtMostOne, dual_bound, answered_by, answered}
 use Rattle.run_answers.specs.Printed.{is_mirrored, status_of, output_of}
 use Rattle.bracket_engine.specs.Found.{IsFound}

@@ -5,7 +5,7 @@ use Rattle.std.proofs.lemmas.List.{length-append, length-map}
 use Rattle.text_lines.specs.Limits.{most_bytes}
 use Rattle.game_model.specs.Limits.{most_states}
 use Rattle.game_model.specs.Query.{Query}
-use Rattle.rpatl_syntax.specs.Formula.{Tree}
+use Rattle.formula_reader.specs.Formula.{Tree}
 use Rattle.rpatl_syntax.specs.Spelling.{spelling}
 use Rattle.plan_text.specs.Entries.{entries_of}
 use Rattle.plan_text.specs.Written.{certificate_text}

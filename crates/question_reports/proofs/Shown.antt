@@ -4,7 +4,7 @@ use Rattle.std.specs.Prelude.{All, Option, slice_index}
 use Rattle.game_model.specs.Query.{Query, IsQuery, states}
 use Rattle.game_model.specs.Rounded.{IsBelow}
 use Rattle.game_model.specs.Ranks.{Ranked}
-use Rattle.rpatl_syntax.specs.declared.formula.Bound.{Bound}
+use Rattle.formula_reader.specs.declared.formula.Bound.{Bound}
 use Rattle.plan_text.specs.declared.plan.Plan.{Plan}
 use Rattle.plan_text.specs.Entries.{HasStates, greatest_rank}
 use Rattle.certificate_audit.specs.Accepted.{Passes, IsSoundPlan}

@@ -3,7 +3,7 @@ use Rattle.std.proofs.Common.{◌≡◌, ◌<◌, ◌≤◌, ℕ, Bool, List, ma
 use Rattle.std.specs.Prelude.{All, IfOk, slice_index}
 use Rattle.std.proofs.lemmas.List.Elements.{All-map}
 use Rattle.game_model.specs.Query.{Query, IsQuery, states}
-use Rattle.rpatl_syntax.specs.Formula.{Tree}
+use Rattle.formula_reader.specs.Formula.{Tree}
 use Rattle.rpatl_syntax.specs.Dual.{answered}
 use Rattle.rank_certificate.specs.Carrying.{IsLayeredPlan}
 use Rattle.rank_certificate.proofs.Layered.{none-at-goals, none-at-deads, none-at-least, none-at-zero}

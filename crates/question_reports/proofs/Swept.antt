@@ -7,8 +7,8 @@ use Rattle.game_model.proofs.Choices.{denominator-pos}
 use Rattle.game_model.specs.Limits.{unit}
 use Rattle.game_model.specs.Query.{Query, IsQuery, states}
 use Rattle.game_model.specs.Values.{denominator}
-use Rattle.rpatl_syntax.specs.Formula.{Tree}
-use Rattle.rpatl_syntax.specs.declared.formula.Bound.{Bound}
+use Rattle.formula_reader.specs.Formula.{Tree}
+use Rattle.formula_reader.specs.declared.formula.Bound.{Bound}
 use Rattle.bounded_rounds.specs.Exact.{IsBracketed, exact_from}
 use Rattle.bounded_rounds.specs.Steps.{IsSweep, down_from, up_from}
 use Rattle.verdicts.specs.Exact.{IsRight}

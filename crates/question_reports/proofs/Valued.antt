@@ -9,7 +9,7 @@ use Rattle.strategies.proofs.Plans.{against-near}
 use Rattle.exact_values.specs.Exact.{HasValues}
 use Rattle.exact_values.proofs.Bracketing.{below, above}
 use Rattle.exact_values.proofs.Holding.{questions-have_values}
-use Rattle.rpatl_syntax.specs.Formula.{Tree}
+use Rattle.formula_reader.specs.Formula.{Tree}
 use Rattle.plan_text.specs.declared.plan.Plan.{Plan}
 use Rattle.certificate_audit.specs.Accepted.{IsSoundPlan}
 use Rattle.verdicts.proofs.Fractions.{right}

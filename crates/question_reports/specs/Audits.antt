@@ -1,7 +1,7 @@
 -- The answer of an audit: a report of the initial states from a certificate that is accepted.
 use Rattle.std.specs.Prelude.{◌≡◌, ℕ, false, List, slice_index, All}
 use Rattle.game_model.specs.Query.{Query}
-use Rattle.rpatl_syntax.specs.Formula.{Tree}
+use Rattle.formula_reader.specs.Formula.{Tree}
 use Rattle.plan_text.specs.declared.plan.Plan.{Plan}
 use Rattle.certificate_audit.specs.Accepted.{IsAccepted}
 use Rattle.verdicts.specs.Open.{LeavesOpen}

@@ -4,7 +4,7 @@ use Rattle.game_model.specs.Query.{Query}
 use Rattle.game_model.specs.Dual.{IsZeroSet}
 use Rattle.drawn_game.specs.Rules.{drawn_game}
 use Rattle.drawn_game.specs.Asked.{question_of}
-use Rattle.rpatl_syntax.specs.declared.formula.Bound.TheVariants.{AskMax}
+use Rattle.formula_reader.specs.declared.formula.Bound.TheVariants.{AskMax}
 use Rattle.bracket_engine.specs.declared.bounds.Bracket.{Bracket}
 use Rattle.bracket_engine.specs.Bracket.{IsBracket}
 use Rattle.bracket_engine.specs.Lower.{IsLowerTable}

@@ -1,7 +1,7 @@
 -- The answer to a formula with others inside.
 use Rattle.std.specs.Prelude.{◌≡◌, ◌<◌, ◌≤◌, ◌^◌, ◌++◌, ℕ, false, List, length, map, codes, All, Ok}
-use Rattle.rpatl_syntax.specs.Formula.{Tree, formulas_inside, tree_of}
-use Rattle.rpatl_syntax.specs.Limits.{longest}
+use Rattle.formula_reader.specs.Formula.{Tree, formulas_inside, tree_of}
+use Rattle.formula_tokens.specs.Limits.{longest}
 use Rattle.rpatl_syntax.specs.Spellable.{IsSpellable}
 use Rattle.formula_sets.specs.Posing.{Model, initial_said}
 use Rattle.formula_truth.specs.Bands.{Band}

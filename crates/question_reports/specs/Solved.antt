@@ -2,7 +2,7 @@
 -- for.
 use Rattle.std.specs.Prelude.{◌≡◌, ℕ, Bool, List, slice_index, All}
 use Rattle.game_model.specs.Query.{Query, IsQuery, states}
-use Rattle.rpatl_syntax.specs.Formula.{Tree}
+use Rattle.formula_reader.specs.Formula.{Tree}
 use Rattle.rpatl_syntax.specs.Dual.{answered}
 use Rattle.plan_text.specs.declared.plan.Plan.{Plan}
 use Rattle.plan_text.specs.Entries.{HasStates}

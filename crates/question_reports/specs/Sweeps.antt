@@ -6,7 +6,7 @@ use Rattle.game_model.specs.Values.{denominator, numerator}
 use Rattle.game_model.specs.Rounded.{opening}
 use Rattle.strategies.specs.Strategies.{AreBest}
 use Rattle.strategies.specs.Next.{AreBestNext}
-use Rattle.rpatl_syntax.specs.Formula.{Tree}
+use Rattle.formula_reader.specs.Formula.{Tree}
 use Rattle.bounded_rounds.specs.Exact.{IsBracketed, IsNext, next_numerator}
 use Rattle.bounded_rounds.specs.Steps.{IsSweep}
 use Rattle.verdicts.specs.Exact.{IsRight}

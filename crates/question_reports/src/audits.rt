@@ -3,16 +3,16 @@
 ghost use Rattle.std.specs.Prelude.{◌<◌, All, IfOk};
 ghost use Rattle.game_model.specs.Query.{states};
 ghost use Rattle.rpatl_syntax.specs.Dual.{IsAtMostOne};
-ghost use Rattle.rpatl_syntax.specs.Formula.{tree_of};
+ghost use Rattle.formula_reader.specs.Formula.{tree_of};
 ghost use Rattle.plan_text.specs.Entries.{HasStates};
 ghost use Rattle.certificate_audit.specs.Accepted.{Passes, IsSoundPlan};
 ghost use Rattle.run_answers.specs.Status.{IsAnswer};
 ghost use Rattle.question_reports.specs.Audits.{IsAudited};
 
+use formula_reader::Formula;
 use game_model::Question;
 use game_outside::OutOfMemory;
 use plan_text::Plan;
-use rpatl_syntax::Formula;
 use run_answers::{Answer, is_mirrored, report_of};
 use std::alloc::Global;
 use verdicts::How;

@@ -2,7 +2,7 @@
 
 ghost use Rattle.std.specs.Prelude.{◌≡◌, ◌<◌, ◌≤◌, ◌^◌, ◌++◌, All, IfOk, false, length, map};
 ghost use Rattle.std.specs.String.{string_bytes};
-ghost use Rattle.rpatl_syntax.specs.Formula.{tree_of};
+ghost use Rattle.formula_reader.specs.Formula.{tree_of};
 ghost use Rattle.game_model.specs.Limits.{unit};
 ghost use Rattle.verdicts.specs.Report.{HasCount, report};
 ghost use Rattle.command_words.specs.Words.{AreInRange, check_of};

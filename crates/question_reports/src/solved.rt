@@ -3,17 +3,17 @@
 ghost use Rattle.std.specs.Prelude.{◌≡◌, ◌<◌, All, IfOk};
 ghost use Rattle.game_model.specs.Query.{states};
 ghost use Rattle.rpatl_syntax.specs.Dual.{IsAtMostOne, answered as answered_of};
-ghost use Rattle.rpatl_syntax.specs.Formula.{tree_of};
+ghost use Rattle.formula_reader.specs.Formula.{tree_of};
 ghost use Rattle.run_answers.specs.Status.{IsAnswer};
 ghost use Rattle.question_reports.specs.Solved.{IsSolved};
 
 use crate::reports::{Formulas, make_answer};
 use almost_sure::almost_sure_over;
+use formula_reader::Formula;
 use formula_sets::Posed;
 use game_outside::OutOfMemory;
 use plan_solver::find_bounds;
 use predecessors::Predecessors;
-use rpatl_syntax::Formula;
 use run_answers::Answer;
 use solved_plans::hand_out;
 use std::alloc::Global;

@@ -3,21 +3,19 @@
 ghost use Rattle.std.specs.Prelude.{◌≡◌, ◌*◌, ◌<◌, ◌≤◌, ℕ, All, IfOk, false, length, slice_index};
 ghost use Rattle.game_model.specs.Limits.{unit};
 ghost use Rattle.game_model.specs.Query.{states};
-ghost use Rattle.rpatl_syntax.specs.Formula.{tree_of};
+ghost use Rattle.formula_reader.specs.Formula.{tree_of};
 ghost use Rattle.bounded_rounds.specs.Exact.{exact_from};
 ghost use Rattle.bounded_rounds.specs.Limits.{most_steps, most_workers};
 ghost use Rattle.bounded_rounds.specs.Steps.{IsSweep};
 ghost use Rattle.run_answers.specs.Status.{IsAnswer};
 ghost use Rattle.question_reports.specs.Sweeps.{IsNextReport, IsOpening, IsSweepReport, IsWithinReport};
 
-use bounded_rounds::laws::{
-    exact_values_are_k_step_values, one_step_is_the_next_value, rounded_steps_bracket_exact_values,
-};
+use bounded_rounds::laws::{exact_values_are_k_step_values, one_step_is_the_next_value, rounded_steps_bracket_exact_values};
 use bounded_rounds::{Sweep, bounded, bounded_values};
+use formula_reader::Formula;
 use formula_sets::{Posed, PosedNext};
 use game_model::Question;
 use game_outside::{Gate, OutOfMemory};
-use rpatl_syntax::Formula;
 use run_answers::{Answer, report_of};
 use std::alloc::Global;
 use std::thread::Threads;

@@ -8,7 +8,7 @@ use Rattle.game_model.specs.Values.{denominator, numerator}
 use Rattle.game_model.specs.Dual.{open_numerator}
 use Rattle.game_model.specs.Rounded.{IsBelow}
 use Rattle.strategies.specs.Stopping.{AreClose}
-use Rattle.rpatl_syntax.specs.Formula.{Tree}
+use Rattle.formula_reader.specs.Formula.{Tree}
 use Rattle.command_words.specs.Words.{Check}
 use Rattle.run_answers.specs.declared.status.Status.{Status}
 use Rattle.question_reports.specs.Reports.{IsBracketReport}

@@ -1,7 +1,7 @@
 -- What a verdict says is so, where it is so of yes and no.
 use Rattle.std.proofs.Common.{◌≡◌, ℕ, refl}
 use Rattle.game_model.specs.Query.{Query}
-use Rattle.rpatl_syntax.specs.declared.formula.Bound.{Bound}
+use Rattle.formula_reader.specs.declared.formula.Bound.{Bound}
 use Rattle.verdicts.specs.Truth.{IsTrueOf, IsFalseOf, VerdictIsRight}
 use Rattle.verdicts.specs.declared.verdict.Verdict.{Verdict}
 use Rattle.verdicts.specs.declared.verdict.Verdict.TheVariants.{Yes, No, Undecided, Bracket}

@@ -12,8 +12,8 @@ use Rattle.label_lines.specs.Lines.{StateLine}
 use Rattle.label_lines.specs.Labels.{Label, marks_of, marked_from, states_with, Labelling}
 use Rattle.label_lines.specs.Denotes.{AreLabels, DenotesLabels}
 use Rattle.label_lines.specs.Owners.{Ownership}
-use Rattle.rpatl_syntax.specs.Formula.{Tree}
-use Rattle.rpatl_syntax.specs.Rules.{DenotesFormula}
+use Rattle.formula_reader.specs.Formula.{Tree}
+use Rattle.formula_reader.specs.Rules.{DenotesFormula}
 use Rattle.rpatl_syntax.specs.Spellable.{IsSpellable}
 use Rattle.rpatl_syntax.specs.Spelling.{spelling}
 use Rattle.formula_sets.specs.Posing.{Posing, init}

@@ -3,7 +3,7 @@ use Rattle.std.proofs.Common.{◌≡◌, ◌∙◌, ◌≤◌, ℕ, true, List, 
 use Rattle.text_lines.specs.Limits.{most_bytes}
 use Rattle.game_outside.specs.Outside.{Holding}
 use Rattle.game_model.specs.Limits.{most_states}
-use Rattle.rpatl_syntax.specs.Formula.{Tree}
+use Rattle.formula_reader.specs.Formula.{Tree}
 use Rattle.formula_sets.specs.Posing.{Posing}
 use Rattle.command_words.specs.Words.{Asked, Solve, Audit, Command, OfCheck, OfAudit, OfSolve, OfMake, OfSure}
 use Rattle.command_words.specs.Words.{AreCommand}

@@ -3,7 +3,7 @@
 ghost use Rattle.std.specs.Prelude.{ℕ, ◌<◌, slice_index};
 ghost use Rattle.game_model.specs.Bounds.{IsHigh, IsNear};
 ghost use Rattle.game_model.specs.Query.{Query, IsQuery, states};
-ghost use Rattle.rpatl_syntax.specs.declared.formula.Bound.{Bound};
+ghost use Rattle.formula_reader.specs.declared.formula.Bound.{Bound};
 ghost use Rattle.plan_text.specs.declared.plan.Plan.{Plan};
 ghost use Rattle.certificate_audit.specs.Accepted.{IsSoundPlan};
 ghost use Rattle.verdicts.specs.Truth.{VerdictIsRight};

@@ -8,15 +8,15 @@ use Rattle.std.proofs.Math.Seq.{take-append_seam}
 use Rattle.std.proofs.lemmas.List.{length-append}
 use Rattle.fractions.specs.Fraction.{Fraction}
 use Rattle.text_lines.specs.Text.{is_digit}
-use Rattle.rpatl_syntax.specs.declared.formula.Bound.{Bound}
-use Rattle.rpatl_syntax.specs.declared.formula.Bound.TheVariants.{AtLeast, Above, AtMost, Below, AskMax, AskMin}
-use Rattle.rpatl_syntax.specs.Tokens.{in_word}
-use Rattle.rpatl_syntax.specs.TokenRules.{IsName, IsSpelling, word, number, quoted_name, long_sign, short_sign}
-use Rattle.rpatl_syntax.specs.Grammar.{is_word, is_quoted, unquoted}
-use Rattle.rpatl_syntax.specs.Rules.{with_commas, IsWord, IsCoalition, IsComparison, IsBound, Compares}
+use Rattle.formula_reader.specs.declared.formula.Bound.{Bound}
+use Rattle.formula_reader.specs.declared.formula.Bound.TheVariants.{AtLeast, Above, AtMost, Below, AskMax, AskMin}
+use Rattle.formula_tokens.specs.Tokens.{in_word}
+use Rattle.formula_tokens.specs.TokenRules.{IsName, IsSpelling, word, number, quoted_name, long_sign, short_sign}
+use Rattle.formula_tokens.specs.Reading.{is_word, is_quoted, unquoted}
+use Rattle.formula_reader.specs.Rules.{with_commas, IsWord, IsCoalition, IsComparison, IsBound, Compares}
 use Rattle.rpatl_syntax.specs.Spellable.{IsWholeWord, HasWords, IsShare, HasShare, HasThreshold}
-use Rattle.rpatl_syntax.proofs.Fronts.{word_no_quote, digit_no_quote, digit_begins_no_word, long_is_other}
-use Rattle.rpatl_syntax.proofs.Fronts.{short_is_other}
+use Rattle.formula_tokens.proofs.Fronts.{word_no_quote, digit_no_quote, digit_begins_no_word, long_is_other}
+use Rattle.formula_tokens.proofs.Fronts.{short_is_other}
 
 pub all_left : (ts us : List (List ℕ)) → AllByRecursion IsSpelling (ts ++ us) → AllByRecursion IsSpelling ts
 all_left [] us a = tt

@@ -7,16 +7,16 @@ use Rattle.std.specs.List.{list_all, AllByRecursion}
 use Rattle.std.proofs.lemmas.List.{length-append}
 use Rattle.std.proofs.lemmas.Bool.Decides.{nat_tests}
 use Rattle.text_lines.specs.Text.{is_digit}
-use Rattle.rpatl_syntax.specs.declared.front.Front.TheVariants.{Spelling}
+use Rattle.formula_tokens.specs.declared.front.Front.TheVariants.{Spelling}
 use Rattle.rpatl_syntax.specs.Spelling.{names_spelling}
-use Rattle.rpatl_syntax.specs.Tokens.{tokens_from, front_from, in_word, is_letter, in_number, word_length}
-use Rattle.rpatl_syntax.specs.Tokens.{number_length, is_long_sign}
-use Rattle.rpatl_syntax.specs.Grammar.{is_word}
-use Rattle.rpatl_syntax.specs.Rules.{with_commas}
+use Rattle.formula_tokens.specs.Tokens.{tokens_from, front_from, in_word, is_letter, in_number, word_length}
+use Rattle.formula_tokens.specs.Tokens.{number_length, is_long_sign}
+use Rattle.formula_tokens.specs.Reading.{is_word}
+use Rattle.formula_reader.specs.Rules.{with_commas}
 use Rattle.rpatl_syntax.specs.Spellable.{IsWholeWord}
-use Rattle.rpatl_syntax.proofs.Spans.{Spans, spans_append}
-use Rattle.rpatl_syntax.proofs.Fronts.{front_word, front_number}
-use Rattle.rpatl_syntax.proofs.Cutting.{token_read}
+use Rattle.formula_tokens.proofs.Spans.{Spans, spans_append}
+use Rattle.formula_tokens.proofs.Fronts.{front_word, front_number}
+use Rattle.formula_tokens.proofs.Cutting.{token_read}
 
 -- wherever the text stands before rest, these are its tokens
 abbrev pub Lays : List ℕ → List (List ℕ) → List ℕ → Type 0

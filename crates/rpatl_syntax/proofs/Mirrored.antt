@@ -1,11 +1,11 @@
 -- Duals of bounds.
 use Rattle.std.proofs.Common.{◌≡◌, ◌<◌, ◌≤◌, ◌+◌, ◌-◌, ◌*◌, ◌↔◌, ℕ, List, ap, refl, subst, arith}
 use Rattle.fractions.specs.Fraction.{Fraction, rest_of}
-use Rattle.rpatl_syntax.specs.declared.formula.Bound.{Bound}
-use Rattle.rpatl_syntax.specs.declared.formula.Bound.TheVariants.{AtLeast, Above, AtMost, Below, AskMax, AskMin}
+use Rattle.formula_reader.specs.declared.formula.Bound.{Bound}
+use Rattle.formula_reader.specs.declared.formula.Bound.TheVariants.{AtLeast, Above, AtMost, Below, AskMax, AskMin}
 use Rattle.rpatl_syntax.specs.Dual.{dual_bound, IsAtMostOne, IsMetBy}
-use Rattle.rpatl_syntax.specs.Formula.{Tree}
-use Rattle.rpatl_syntax.specs.Rules.{IsBound, DenotesFormula}
+use Rattle.formula_reader.specs.Formula.{Tree}
+use Rattle.formula_reader.specs.Rules.{IsBound, DenotesFormula}
 
 rest-rest : (p : Fraction) → p.num ≤ p.den → rest_of (rest_of p) ≡ p
 rest-rest p small =

@@ -4,14 +4,14 @@ use Rattle.std.specs.Prelude.{codes, max}
 use Rattle.std.specs.List.{AllByRecursion}
 use Rattle.std.proofs.Math.Nat.{max-le}
 use Rattle.std.proofs.lemmas.Bool.Decides.{nat_tests}
-use Rattle.rpatl_syntax.specs.declared.formula.PathKind.{PathKind}
-use Rattle.rpatl_syntax.specs.Formula.{State, True}
-use Rattle.rpatl_syntax.specs.Limits.{most_nested}
+use Rattle.formula_reader.specs.declared.formula.PathKind.{PathKind}
+use Rattle.formula_reader.specs.Formula.{State, True}
+use Rattle.formula_reader.specs.Limits.{most_nested}
 use Rattle.rpatl_syntax.specs.Spelling.{strength_of}
-use Rattle.rpatl_syntax.specs.TokenRules.{IsSpelling}
-use Rattle.rpatl_syntax.specs.Rules.{IsState, IsEither, IsBoth, IsUnary, IsPath, plain_state, implies, plain_either, or}
-use Rattle.rpatl_syntax.specs.Rules.{plain_both, and, negation, brackets, everywhere, nowhere, label, inside, reach}
-use Rattle.rpatl_syntax.specs.Rules.{reach_within, until, until_within, next, always}
+use Rattle.formula_tokens.specs.TokenRules.{IsSpelling}
+use Rattle.formula_reader.specs.Rules.{IsState, IsEither, IsBoth, IsUnary, IsPath, plain_state, implies, plain_either, or}
+use Rattle.formula_reader.specs.Rules.{plain_both, and, negation, brackets, everywhere, nowhere, label, inside, reach}
+use Rattle.formula_reader.specs.Rules.{reach_within, until, until_within, next, always}
 use Rattle.rpatl_syntax.specs.Spellable.{HasParts, HasKind, HasHead, IsSide, need_in, need}
 use Rattle.rpatl_syntax.proofs.Kept.{all_left, all_right, label_kept, coalition_kept, threshold_kept}
 

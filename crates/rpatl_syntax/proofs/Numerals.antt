@@ -11,8 +11,8 @@ use Rattle.fractions.specs.Limits.{finest, most_digits}
 use Rattle.fractions.specs.Fraction.{Fraction}
 use Rattle.fractions.specs.Number.{Decimal, Quotient, no_exponent, AreDigits, DenotesNumber}
 use Rattle.fractions.proofs.Spelled.{value_append}
-use Rattle.rpatl_syntax.specs.Limits.{most_steps}
-use Rattle.rpatl_syntax.specs.Rules.{IsSteps}
+use Rattle.formula_reader.specs.Limits.{most_steps}
+use Rattle.formula_reader.specs.Rules.{IsSteps}
 use Rattle.rpatl_syntax.specs.Spelling.{fraction_spelling}
 use Rattle.rpatl_syntax.specs.Spellable.{IsShare}
 use Rattle.rpatl_syntax.proofs.Laying.{in_fraction, all_in_fraction}

@@ -3,14 +3,14 @@ use Rattle.std.proofs.Common.{◌∙◌, ℕ, List, [], ◌∷◌, ◌++◌, Opt
 use Rattle.std.specs.Prelude.{codes, decimal}
 use Rattle.std.specs.List.{AllByRecursion}
 use Rattle.fractions.specs.Fraction.{Fraction}
-use Rattle.rpatl_syntax.specs.declared.formula.Bound.{Bound}
-use Rattle.rpatl_syntax.specs.declared.formula.Bound.TheVariants.{AtLeast, Above, AtMost, Below, AskMax, AskMin}
-use Rattle.rpatl_syntax.specs.declared.formula.PathKind.{PathKind}
-use Rattle.rpatl_syntax.specs.declared.formula.PathKind.TheVariants.{Until, Within, Next, Always}
-use Rattle.rpatl_syntax.specs.Formula.{State, True, False, Label, Not, And, Or, Implies, Inner}
-use Rattle.rpatl_syntax.specs.Grammar.{is_number}
-use Rattle.rpatl_syntax.specs.Rules.{IsWord, IsCoalition, IsComparison, IsBound, IsState, IsSteps, IsPath, reach}
-use Rattle.rpatl_syntax.specs.Rules.{reach_within, until, until_within, next, always}
+use Rattle.formula_reader.specs.declared.formula.Bound.{Bound}
+use Rattle.formula_reader.specs.declared.formula.Bound.TheVariants.{AtLeast, Above, AtMost, Below, AskMax, AskMin}
+use Rattle.formula_reader.specs.declared.formula.PathKind.{PathKind}
+use Rattle.formula_reader.specs.declared.formula.PathKind.TheVariants.{Until, Within, Next, Always}
+use Rattle.formula_reader.specs.Formula.{State, True, False, Label, Not, And, Or, Implies, Inner}
+use Rattle.formula_tokens.specs.Reading.{is_number}
+use Rattle.formula_reader.specs.Rules.{IsWord, IsCoalition, IsComparison, IsBound, IsState, IsSteps, IsPath, reach}
+use Rattle.formula_reader.specs.Rules.{reach_within, until, until_within, next, always}
 use Rattle.rpatl_syntax.specs.Spellable.{IsWholeWord, HasWords, IsShare, HasShare, HasThreshold, HasKind}
 use Rattle.rpatl_syntax.specs.Spelling.{fraction_spelling}
 use Rattle.rpatl_syntax.proofs.Numerals.{fraction_text, steps_text}

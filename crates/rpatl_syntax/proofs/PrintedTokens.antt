@@ -1,13 +1,13 @@
 -- The tokens of the spelling of a formula.
 use Rattle.std.proofs.Common.{ℕ, List, [], ◌∷◌, ◌++◌, Option, Some, None, nat_lt}
 use Rattle.std.specs.Prelude.{codes, decimal, if◌then◌else◌}
-use Rattle.rpatl_syntax.specs.declared.formula.Bound.{Bound}
-use Rattle.rpatl_syntax.specs.declared.formula.Bound.TheVariants.{AtLeast, Above, AtMost, Below, AskMax, AskMin}
-use Rattle.rpatl_syntax.specs.declared.formula.PathKind.{PathKind}
-use Rattle.rpatl_syntax.specs.declared.formula.PathKind.TheVariants.{Until, Within, Next, Always}
-use Rattle.rpatl_syntax.specs.Formula.{State, True, False, Label, Not, And, Or, Implies, Inner, Tree}
+use Rattle.formula_reader.specs.declared.formula.Bound.{Bound}
+use Rattle.formula_reader.specs.declared.formula.Bound.TheVariants.{AtLeast, Above, AtMost, Below, AskMax, AskMin}
+use Rattle.formula_reader.specs.declared.formula.PathKind.{PathKind}
+use Rattle.formula_reader.specs.declared.formula.PathKind.TheVariants.{Until, Within, Next, Always}
+use Rattle.formula_reader.specs.Formula.{State, True, False, Label, Not, And, Or, Implies, Inner, Tree}
 use Rattle.rpatl_syntax.specs.Spelling.{strength_of, fraction_spelling}
-use Rattle.rpatl_syntax.specs.Rules.{between, with_commas, formula_of}
+use Rattle.formula_reader.specs.Rules.{between, with_commas, formula_of}
 
 abbrev pub team_tokens : Option (List (List ℕ)) → List (List ℕ)
 team_tokens None = []

@@ -2,12 +2,12 @@
 use Rattle.std.proofs.Common.{◌+◌, ◌≤◌, ℕ, zero, suc, List, [], ◌∷◌, ◌++◌, Option, refl, subst, arith}
 use Rattle.std.specs.Prelude.{codes}
 use Rattle.std.proofs.Math.Nat.{le-max_left, le-max_right}
-use Rattle.rpatl_syntax.specs.declared.formula.Bound.{Bound}
-use Rattle.rpatl_syntax.specs.declared.formula.Bound.TheVariants.{AtLeast, Above, AtMost, Below, AskMax, AskMin}
-use Rattle.rpatl_syntax.specs.declared.formula.PathKind.{PathKind}
-use Rattle.rpatl_syntax.specs.Formula.{State, True, False, Label, Not, And, Or, Implies, Inner}
-use Rattle.rpatl_syntax.specs.Rules.{IsState, IsEither, IsBoth, IsUnary, Compares, plain_state, implies, plain_either}
-use Rattle.rpatl_syntax.specs.Rules.{or, plain_both, and, negation, brackets, everywhere, nowhere, label, inside}
+use Rattle.formula_reader.specs.declared.formula.Bound.{Bound}
+use Rattle.formula_reader.specs.declared.formula.Bound.TheVariants.{AtLeast, Above, AtMost, Below, AskMax, AskMin}
+use Rattle.formula_reader.specs.declared.formula.PathKind.{PathKind}
+use Rattle.formula_reader.specs.Formula.{State, True, False, Label, Not, And, Or, Implies, Inner}
+use Rattle.formula_reader.specs.Rules.{IsState, IsEither, IsBoth, IsUnary, Compares, plain_state, implies, plain_either}
+use Rattle.formula_reader.specs.Rules.{or, plain_both, and, negation, brackets, everywhere, nowhere, label, inside}
 use Rattle.rpatl_syntax.specs.Spellable.{HasThreshold, HasHead, HasParts, need, need_in}
 use Rattle.rpatl_syntax.proofs.Kept.{unquoted-quoted}
 use Rattle.rpatl_syntax.proofs.PrintedTokens.{team_tokens, bound_tokens, kind_tokens, tokens_in, state_tokens}

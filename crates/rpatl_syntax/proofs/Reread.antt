@@ -5,18 +5,19 @@ use Rattle.std.specs.Prelude.{codes, IfOk}
 use Rattle.game_outside.specs.declared.OutOfMemory.{OutOfMemory}
 use Rattle.std.specs.List.{AllByRecursion}
 use Rattle.std.proofs.lemmas.List.{append-nil}
-use Rattle.rpatl_syntax.specs.Formula.{Tree}
-use Rattle.rpatl_syntax.specs.Grammar.{formula, formula_said}
-use Rattle.rpatl_syntax.specs.Laws.{AreTokens}
-use Rattle.rpatl_syntax.specs.TokenRules.{IsSpelling}
-use Rattle.rpatl_syntax.specs.Limits.{longest, most_nested}
-use Rattle.rpatl_syntax.specs.Rules.{IsFormula, DenotesFormula}
+use Rattle.formula_reader.specs.Formula.{Tree}
+use Rattle.formula_reader.specs.Grammar.{formula, formula_said}
+use Rattle.formula_tokens.specs.Laws.{AreTokens}
+use Rattle.formula_tokens.specs.TokenRules.{IsSpelling}
+use Rattle.formula_reader.specs.Limits.{most_nested}
+use Rattle.formula_tokens.specs.Limits.{longest}
+use Rattle.formula_reader.specs.Rules.{IsFormula, DenotesFormula}
 use Rattle.rpatl_syntax.specs.Spellable.{IsSpellable}
 use Rattle.rpatl_syntax.specs.Spelling.{state_spelling, spelling}
-use Rattle.rpatl_syntax.specs.Tokens.{tokens_of}
-use Rattle.rpatl_syntax.proofs.Denoted.{ends_with}
-use Rattle.rpatl_syntax.proofs.Again.{formula_again, formula_said_again}
-use Rattle.rpatl_syntax.proofs.Cutting.{tokens_cut, cut_spelled}
+use Rattle.formula_tokens.specs.Tokens.{tokens_of}
+use Rattle.formula_reader.proofs.Denoted.{ends_with}
+use Rattle.formula_reader.proofs.Again.{formula_again, formula_said_again}
+use Rattle.formula_tokens.proofs.Cutting.{tokens_cut, cut_spelled}
 use Rattle.rpatl_syntax.proofs.Kept.{all_left, all_right, coalition_kept, bound_kept}
 use Rattle.rpatl_syntax.proofs.Needs.{side, path_suits}
 use Rattle.rpatl_syntax.proofs.Laying.{Lays}

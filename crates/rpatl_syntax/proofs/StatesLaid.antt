@@ -5,21 +5,21 @@ use Rattle.std.specs.Prelude.{codes, decimal}
 use Rattle.std.proofs.lemmas.List.{length-append}
 use Rattle.fractions.specs.Fraction.{Fraction}
 use Rattle.text_lines.specs.Text.{is_digit}
-use Rattle.rpatl_syntax.specs.declared.front.Front.TheVariants.{Spelling}
-use Rattle.rpatl_syntax.specs.declared.formula.Bound.{Bound}
-use Rattle.rpatl_syntax.specs.declared.formula.Bound.TheVariants.{AtLeast, Above, AtMost, Below, AskMax, AskMin}
-use Rattle.rpatl_syntax.specs.declared.formula.PathKind.{PathKind}
-use Rattle.rpatl_syntax.specs.declared.formula.PathKind.TheVariants.{Until, Within, Next, Always}
-use Rattle.rpatl_syntax.specs.Formula.{State, True, False, Label, Not, And, Or, Implies, Inner}
-use Rattle.rpatl_syntax.specs.Limits.{most_steps}
-use Rattle.rpatl_syntax.specs.Rules.{between, with_commas}
+use Rattle.formula_tokens.specs.declared.front.Front.TheVariants.{Spelling}
+use Rattle.formula_reader.specs.declared.formula.Bound.{Bound}
+use Rattle.formula_reader.specs.declared.formula.Bound.TheVariants.{AtLeast, Above, AtMost, Below, AskMax, AskMin}
+use Rattle.formula_reader.specs.declared.formula.PathKind.{PathKind}
+use Rattle.formula_reader.specs.declared.formula.PathKind.TheVariants.{Until, Within, Next, Always}
+use Rattle.formula_reader.specs.Formula.{State, True, False, Label, Not, And, Or, Implies, Inner}
+use Rattle.formula_reader.specs.Limits.{most_steps}
+use Rattle.formula_reader.specs.Rules.{between, with_commas}
 use Rattle.rpatl_syntax.specs.Spellable.{HasWords, IsShare, HasShare, HasKind, HasParts}
 use Rattle.rpatl_syntax.specs.Spelling.{strength_of, in_place, state_spelling, until_spelling, kind_spelling}
 use Rattle.rpatl_syntax.specs.Spelling.{spelling_with, names_spelling, coalition_spelling, fraction_spelling}
 use Rattle.rpatl_syntax.specs.Spelling.{bound_spelling}
-use Rattle.rpatl_syntax.specs.TokenRules.{IsName}
-use Rattle.rpatl_syntax.specs.Tokens.{tokens_from, name_from}
-use Rattle.rpatl_syntax.proofs.Fronts.{name_reads}
+use Rattle.formula_tokens.specs.TokenRules.{IsName}
+use Rattle.formula_tokens.specs.Tokens.{tokens_from, name_from}
+use Rattle.formula_tokens.proofs.Fronts.{name_reads}
 use Rattle.rpatl_syntax.proofs.Laying.{Lays, Ends, spaced, lays_append, lays_token, lays_blank, lays_spaced, lays_open}
 use Rattle.rpatl_syntax.proofs.Laying.{lays_close, lays_not, lays_bracket, lays_names, lays_number, lays_above}
 use Rattle.rpatl_syntax.proofs.Laying.{lays_below}

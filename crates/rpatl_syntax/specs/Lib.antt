@@ -1,12 +1,3 @@
 pub mod Dual
-pub mod Fault
-pub mod Formula
-pub mod Grammar
-pub mod Laws
-pub mod Limits
-pub mod Rules
 pub mod Spellable
 pub mod Spelling
-pub mod TokenRules
-pub mod Tokens
-pub mod inside

@@ -2,16 +2,16 @@
 use Rattle.std.specs.Prelude.{◌≡◌, ◌≤◌, ◌+◌, ℕ, true, nat_lt, max, List, Option, Some, None, if◌then◌else◌}
 use Rattle.std.specs.List.{list_all, AllByRecursion}
 use Rattle.fractions.specs.Fraction.{Fraction, IsFraction}
-use Rattle.rpatl_syntax.specs.declared.formula.Bound.{Bound}
-use Rattle.rpatl_syntax.specs.declared.formula.Bound.TheVariants.{AtLeast, Above, AtMost, Below, AskMax, AskMin}
-use Rattle.rpatl_syntax.specs.declared.formula.PathKind.{PathKind}
-use Rattle.rpatl_syntax.specs.declared.formula.PathKind.TheVariants.{Until, Within, Next, Always}
-use Rattle.rpatl_syntax.specs.Formula.{State, True, False, Label, Not, And, Or, Implies, Inner, Tree}
-use Rattle.rpatl_syntax.specs.Grammar.{is_word}
-use Rattle.rpatl_syntax.specs.TokenRules.{IsName}
-use Rattle.rpatl_syntax.specs.Limits.{most_nested, most_steps}
+use Rattle.formula_reader.specs.declared.formula.Bound.{Bound}
+use Rattle.formula_reader.specs.declared.formula.Bound.TheVariants.{AtLeast, Above, AtMost, Below, AskMax, AskMin}
+use Rattle.formula_reader.specs.declared.formula.PathKind.{PathKind}
+use Rattle.formula_reader.specs.declared.formula.PathKind.TheVariants.{Until, Within, Next, Always}
+use Rattle.formula_reader.specs.Formula.{State, True, False, Label, Not, And, Or, Implies, Inner, Tree}
+use Rattle.formula_tokens.specs.Reading.{is_word}
+use Rattle.formula_tokens.specs.TokenRules.{IsName}
+use Rattle.formula_reader.specs.Limits.{most_nested, most_steps}
 use Rattle.rpatl_syntax.specs.Spelling.{strength_of}
-use Rattle.rpatl_syntax.specs.Tokens.{in_word}
+use Rattle.formula_tokens.specs.Tokens.{in_word}
 
 -- a letter or `_`, and then letters, digits and `_`
 pub record IsWholeWord (word : List ℕ) : Type 0 where

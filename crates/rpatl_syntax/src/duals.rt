@@ -2,9 +2,9 @@
 
 ghost use Rattle.std.specs.Prelude.{◌≡◌, IfOk, option_map};
 ghost use Rattle.rpatl_syntax.specs.Dual.{dual_bound, dual_of, IsAtMostOne};
-ghost use Rattle.rpatl_syntax.specs.Formula.{state_of, tree_of, names_of};
+ghost use Rattle.formula_reader.specs.Formula.{state_of, tree_of, names_of};
 
-use crate::formula::{Bound, Formula, Names, PathKind, StateFormula};
+use formula_reader::{Bound, Formula, Names, PathKind, StateFormula};
 use game_outside::{Name, OutOfMemory};
 use std::alloc::Global;
 

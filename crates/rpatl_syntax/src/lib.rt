@@ -1,32 +1,14 @@
-//! Formulas of PCTL (Hansson and Jonsson 1994) and rPATL (Chen et al. 2013), spelled as PRISM spells them: a bound on
-//! the probability of a path with `F` or `U`, with a deadline in steps or without, `X` or `G`. Formulas that compare
-//! with a threshold also stand inside state formulas, to any depth up to a limit.
-//!
-//! `read_formula` gives the formula that a text spells, or the first fault of the text with its offset. `print_formula`
-//! gives the one spelling of a formula, from which it is read again. `dual` gives the formula by which one with `G` is
-//! judged. The rules of the grammar are `IsFormula` of `specs/Rules.antt`, over the tokens of `specs/TokenRules.antt`;
-//! contracts see a formula as a `Tree` of `specs/Formula.antt`, by `tree_of`. Which names stand for labels or players
-//! of a model is not looked at here.
+//! Formulas of PCTL and rPATL, both ways: `read_formula` of `formula_reader` reads them, and `print_formula` gives the
+//! one spelling of a formula, from which it is read again. `dual` gives the formula by which one with `G` is judged.
 #![tactic(auto)]
 
-mod cursor;
-mod deadlines;
 mod duals;
-mod fault;
-mod formula;
-mod front;
-mod heads;
 pub mod laws;
-mod levels;
-mod limits;
 mod print;
-mod read;
-mod states;
-mod tokens;
 
 pub use duals::dual;
-pub use fault::{FormulaCause, FormulaFault};
-pub use formula::{Bound, Formula, Names, PathKind, StateFormula};
-pub use limits::{LONGEST, LONGEST_NAME, MOST_NESTED, MOST_STEPS};
+pub use formula_reader::{
+    Bound, Formula, MOST_NESTED, MOST_STEPS, Names, PathKind, StateFormula, read_formula,
+};
+pub use formula_tokens::{FormulaCause, FormulaFault, LONGEST, LONGEST_NAME};
 pub use print::print_formula;
-pub use read::read_formula;

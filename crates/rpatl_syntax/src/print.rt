@@ -1,13 +1,13 @@
 //! The one spelling of a formula.
 
 ghost use Rattle.std.specs.Prelude.{◌≡◌, ◌≤◌, ◌++◌, length, option_map, Ok, OnOk, IfOk, decimal};
-ghost use Rattle.rpatl_syntax.specs.Formula.{state_of, tree_of, names_of};
-ghost use Rattle.rpatl_syntax.specs.Grammar.{formula_said};
-ghost use Rattle.rpatl_syntax.specs.Limits.{longest};
+ghost use Rattle.formula_reader.specs.Formula.{state_of, tree_of, names_of};
+ghost use Rattle.formula_reader.specs.Grammar.{formula_said};
+ghost use Rattle.formula_tokens.specs.Limits.{longest};
 ghost use Rattle.rpatl_syntax.specs.Spellable.{IsSpellable};
 ghost use Rattle.rpatl_syntax.specs.Spelling.{strength_of, in_place, state_spelling, until_spelling, kind_spelling, names_spelling, coalition_spelling, fraction_spelling, bound_spelling, spelling};
 
-use crate::formula::{Bound, Formula, Names, PathKind, StateFormula};
+use formula_reader::{Bound, Formula, Names, PathKind, StateFormula};
 use fractions::Frac;
 use game_outside::{Name, OutOfMemory};
 use itoa::Buffer;

@@ -9,13 +9,13 @@ use Rattle.text_lines.specs.Laws.{HasNo}
 use Rattle.text_lines.specs.Parts.{split_first}
 use Rattle.label_lines.proofs.Splits.{split_first-again}
 use Rattle.fractions.specs.Fraction.{Fraction}
-use Rattle.rpatl_syntax.specs.declared.formula.Bound.{Bound}
-use Rattle.rpatl_syntax.specs.declared.formula.Bound.TheVariants.{AtLeast, Above, AtMost, Below, AskMax, AskMin}
-use Rattle.rpatl_syntax.specs.Formula.{State, True, False, Label, Not, And, Or, Implies, Inner, Tree}
-use Rattle.rpatl_syntax.specs.TokenRules.{is_name_byte}
-use Rattle.rpatl_syntax.specs.Tokens.{in_word}
-use Rattle.rpatl_syntax.specs.declared.formula.PathKind.{PathKind}
-use Rattle.rpatl_syntax.specs.declared.formula.PathKind.TheVariants.{Until, Within, Next, Always}
+use Rattle.formula_reader.specs.declared.formula.Bound.{Bound}
+use Rattle.formula_reader.specs.declared.formula.Bound.TheVariants.{AtLeast, Above, AtMost, Below, AskMax, AskMin}
+use Rattle.formula_reader.specs.Formula.{State, True, False, Label, Not, And, Or, Implies, Inner, Tree}
+use Rattle.formula_tokens.specs.TokenRules.{is_name_byte}
+use Rattle.formula_tokens.specs.Tokens.{in_word}
+use Rattle.formula_reader.specs.declared.formula.PathKind.{PathKind}
+use Rattle.formula_reader.specs.declared.formula.PathKind.TheVariants.{Until, Within, Next, Always}
 use Rattle.rpatl_syntax.specs.Spelling.{strength_of, in_place, state_spelling, until_spelling, kind_spelling}
 use Rattle.rpatl_syntax.specs.Spelling.{spelling_with, names_spelling, coalition_spelling, fraction_spelling}
 use Rattle.rpatl_syntax.specs.Spelling.{bound_spelling, spelling}

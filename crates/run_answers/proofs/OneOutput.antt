@@ -5,7 +5,7 @@ use Rattle.std.specs.Prelude.{All, codes}
 use Rattle.std.proofs.lemmas.List.{append_cancel_left, append_cancel_right}
 use Rattle.std.proofs.lemmas.List.Elements.{All-nil, All-cons, All-head, All-tail}
 use Rattle.game_model.specs.Limits.{most_states}
-use Rattle.rpatl_syntax.specs.Formula.{Tree}
+use Rattle.formula_reader.specs.Formula.{Tree}
 use Rattle.rpatl_syntax.specs.Spelling.{spelling}
 use Rattle.rpatl_syntax.specs.Spellable.{IsSpellable}
 use Rattle.plan_text.specs.Entries.{Entry, IsInRange}

@@ -8,7 +8,7 @@ use Rattle.game_model.specs.Limits.{most_states}
 use Rattle.text_lines.specs.Text.{fields_of}
 use Rattle.text_lines.specs.Laws.{HasNo, EndsInNoCr}
 use Rattle.text_lines.proofs.FieldLaws.{fields_of-parted}
-use Rattle.rpatl_syntax.specs.Formula.{Tree}
+use Rattle.formula_reader.specs.Formula.{Tree}
 use Rattle.rpatl_syntax.specs.Spelling.{state_spelling, kind_spelling, coalition_spelling, bound_spelling, spelling}
 use Rattle.plan_text.specs.Entries.{Entry, IsInRange}
 use Rattle.plan_text.specs.Written.{certificate_text}

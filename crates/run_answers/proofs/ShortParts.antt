@@ -5,16 +5,16 @@ use Rattle.std.specs.Prelude.{◌==◌, codes, decimal, if◌then◌else◌}
 use Rattle.std.proofs.lemmas.List.{length-append}
 use Rattle.std.proofs.lemmas.Fmt.{length-decimal-le_wide}
 use Rattle.fractions.specs.Fraction.{Fraction}
-use Rattle.rpatl_syntax.specs.declared.formula.Bound.{Bound}
-use Rattle.rpatl_syntax.specs.declared.formula.Bound.TheVariants.{AtLeast, Above, AtMost, Below, AskMax, AskMin}
-use Rattle.rpatl_syntax.specs.Formula.{State, True, False, Label, Not, And, Or, Implies, Inner}
-use Rattle.rpatl_syntax.specs.Grammar.{is_number}
-use Rattle.rpatl_syntax.specs.declared.formula.PathKind.{PathKind}
-use Rattle.rpatl_syntax.specs.declared.formula.PathKind.TheVariants.{Within}
-use Rattle.rpatl_syntax.specs.Rules.{formula_of, with_commas, IsCoalition, IsComparison, IsBound, Compares}
+use Rattle.formula_reader.specs.declared.formula.Bound.{Bound}
+use Rattle.formula_reader.specs.declared.formula.Bound.TheVariants.{AtLeast, Above, AtMost, Below, AskMax, AskMin}
+use Rattle.formula_reader.specs.Formula.{State, True, False, Label, Not, And, Or, Implies, Inner}
+use Rattle.formula_tokens.specs.Reading.{is_number}
+use Rattle.formula_reader.specs.declared.formula.PathKind.{PathKind}
+use Rattle.formula_reader.specs.declared.formula.PathKind.TheVariants.{Within}
+use Rattle.formula_reader.specs.Rules.{formula_of, with_commas, IsCoalition, IsComparison, IsBound, Compares}
 use Rattle.rpatl_syntax.specs.Spelling.{until_spelling, kind_spelling, spelling_with, names_spelling}
 use Rattle.rpatl_syntax.specs.Spelling.{coalition_spelling, fraction_spelling, bound_spelling, spelling}
-use Rattle.rpatl_syntax.specs.TokenRules.{AreCut, nothing, blank, token}
+use Rattle.formula_tokens.specs.TokenRules.{AreCut, nothing, blank, token}
 use Rattle.run_answers.proofs.PlainParts.{IsFine, HasFine}
 use Rattle.run_answers.proofs.ShortLines.{joined-short}
 

@@ -4,16 +4,16 @@ use Rattle.std.proofs.Common.{◌≡◌, ◌≤◌, ◌+◌, ◌-◌, ◌*◌, �
 use Rattle.std.proofs.Common.{ap, arith}
 use Rattle.std.specs.Prelude.{nat_lt, codes, if◌then◌else◌}
 use Rattle.std.proofs.lemmas.List.{length-append, length-take}
-use Rattle.rpatl_syntax.specs.Formula.{State, True, Not, Tree}
-use Rattle.rpatl_syntax.specs.Grammar.{is_quoted, unquoted}
-use Rattle.rpatl_syntax.specs.declared.formula.PathKind.{PathKind}
-use Rattle.rpatl_syntax.specs.declared.formula.PathKind.TheVariants.{Until, Within, Next, Always}
+use Rattle.formula_reader.specs.Formula.{State, True, Not, Tree}
+use Rattle.formula_tokens.specs.Reading.{is_quoted, unquoted}
+use Rattle.formula_reader.specs.declared.formula.PathKind.{PathKind}
+use Rattle.formula_reader.specs.declared.formula.PathKind.TheVariants.{Until, Within, Next, Always}
 use Rattle.rpatl_syntax.specs.Dual.{dual_of, answered_by, answered}
-use Rattle.rpatl_syntax.specs.Limits.{longest}
-use Rattle.rpatl_syntax.specs.Rules.{between, IsState, IsEither, IsBoth, IsUnary, IsPath, plain_state, implies}
-use Rattle.rpatl_syntax.specs.Rules.{plain_either, or, plain_both, and, negation, brackets, everywhere, nowhere, label}
-use Rattle.rpatl_syntax.specs.Rules.{inside, reach, reach_within, until, until_within, next, always, IsFormula}
-use Rattle.rpatl_syntax.specs.Rules.{DenotesFormula}
+use Rattle.formula_tokens.specs.Limits.{longest}
+use Rattle.formula_reader.specs.Rules.{between, IsState, IsEither, IsBoth, IsUnary, IsPath, plain_state, implies}
+use Rattle.formula_reader.specs.Rules.{plain_either, or, plain_both, and, negation, brackets, everywhere, nowhere, label}
+use Rattle.formula_reader.specs.Rules.{inside, reach, reach_within, until, until_within, next, always, IsFormula}
+use Rattle.formula_reader.specs.Rules.{DenotesFormula}
 use Rattle.rpatl_syntax.specs.Spelling.{strength_of, in_place, state_spelling, kind_spelling, coalition_spelling}
 use Rattle.rpatl_syntax.specs.Spelling.{spelling}
 use Rattle.run_answers.proofs.PlainParts.{HasFine, HasPlainParts, answered-plain}

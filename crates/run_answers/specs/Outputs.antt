@@ -1,7 +1,7 @@
 -- What a run writes: the lines of a report, and the certificate with its formula.
 use Rattle.std.specs.Prelude.{◌≤◌, List, ℕ, [], ◌++◌, length, Option, Some, None, All, codes}
 use Rattle.game_model.specs.Limits.{most_states}
-use Rattle.rpatl_syntax.specs.Formula.{Tree}
+use Rattle.formula_reader.specs.Formula.{Tree}
 use Rattle.rpatl_syntax.specs.Spellable.{IsSpellable}
 use Rattle.rpatl_syntax.specs.Spelling.{spelling}
 use Rattle.plan_text.specs.Entries.{Entry, IsInRange}

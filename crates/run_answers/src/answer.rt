@@ -9,9 +9,9 @@ ghost use Rattle.verdicts.specs.Verdict.{is_no, is_undecided};
 ghost use Rattle.run_answers.specs.Status.{IsAnswer};
 
 use crate::status::Status;
+use formula_reader::{Bound, Formula, PathKind};
 use game_model::UNIT;
 use game_outside::OutOfMemory;
-use rpatl_syntax::{Bound, Formula, PathKind};
 use std::alloc::Global;
 use verdicts::{How, ReportLine, report_text, settle};
 

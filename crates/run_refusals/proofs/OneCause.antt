@@ -10,8 +10,8 @@ use Rattle.transition_lines.specs.declared.fault.TraCause.{TraCause}
 use Rattle.transition_lines.specs.declared.fault.TraCause.TheVariants as tra
 use Rattle.label_lines.specs.declared.faults.LabCause.{LabCause}
 use Rattle.label_lines.specs.declared.faults.LabCause.TheVariants as lab
-use Rattle.rpatl_syntax.specs.declared.fault.FormulaCause.{FormulaCause}
-use Rattle.rpatl_syntax.specs.declared.fault.FormulaCause.TheVariants as formula
+use Rattle.formula_tokens.specs.declared.fault.FormulaCause.{FormulaCause}
+use Rattle.formula_tokens.specs.declared.fault.FormulaCause.TheVariants as formula
 use Rattle.formula_sets.specs.declared.fault.PoseFault.{PoseFault}
 use Rattle.formula_sets.specs.declared.fault.PoseFault.TheVariants as question
 use Rattle.plan_text.specs.declared.fault.PlanCause.{PlanCause}

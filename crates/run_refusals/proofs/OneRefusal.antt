@@ -8,8 +8,8 @@ use Rattle.label_lines.specs.declared.faults.LabCause.{LabCause}
 use Rattle.label_lines.specs.declared.faults.LabFault.{LabFault}
 use Rattle.values_reader.specs.declared.fault.ValuesCause.{ValuesCause}
 use Rattle.values_reader.specs.declared.fault.ValuesFault.{ValuesFault}
-use Rattle.rpatl_syntax.specs.declared.fault.FormulaCause.{FormulaCause}
-use Rattle.rpatl_syntax.specs.declared.fault.FormulaFault.{FormulaFault}
+use Rattle.formula_tokens.specs.declared.fault.FormulaCause.{FormulaCause}
+use Rattle.formula_tokens.specs.declared.fault.FormulaFault.{FormulaFault}
 use Rattle.plan_text.specs.declared.fault.PlanCause.{PlanCause}
 use Rattle.plan_text.specs.declared.fault.PlanFault.{PlanFault}
 use Rattle.inductive_check.specs.declared.upper.UpperCause.{UpperCause}

@@ -2,7 +2,7 @@
 use Rattle.std.specs.Prelude.{◌≡◌, ◌≢◌, false}
 use Rattle.tra_reader.specs.FileEnds.{is_out_of_memory}
 use Rattle.label_lines.specs.declared.faults.LabCause.TheVariants as lab
-use Rattle.rpatl_syntax.specs.declared.fault.FormulaCause.TheVariants as formula
+use Rattle.formula_tokens.specs.declared.fault.FormulaCause.TheVariants as formula
 use Rattle.formula_sets.specs.declared.fault.PoseFault.TheVariants as question
 use Rattle.certificate_audit.specs.Refused.{IsOutOfMemory}
 use Rattle.run_refusals.specs.declared.refusal.Refusal.{Refusal}

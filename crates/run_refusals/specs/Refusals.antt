@@ -10,9 +10,9 @@ use Rattle.label_lines.specs.declared.faults.LabCause.{LabCause}
 use Rattle.label_lines.specs.declared.faults.LabCause.TheVariants as lab
 use Rattle.values_reader.specs.declared.fault.ValuesCause.{ValuesCause}
 use Rattle.values_reader.specs.declared.fault.ValuesCause.TheVariants as values
-use Rattle.rpatl_syntax.specs.declared.fault.FormulaCause.{FormulaCause}
-use Rattle.rpatl_syntax.specs.declared.fault.FormulaCause.TheVariants as formula
-use Rattle.rpatl_syntax.specs.declared.fault.FormulaFault.{FormulaFault}
+use Rattle.formula_tokens.specs.declared.fault.FormulaCause.{FormulaCause}
+use Rattle.formula_tokens.specs.declared.fault.FormulaCause.TheVariants as formula
+use Rattle.formula_tokens.specs.declared.fault.FormulaFault.{FormulaFault}
 use Rattle.formula_sets.specs.declared.fault.PoseFault.{PoseFault}
 use Rattle.formula_sets.specs.declared.fault.PoseFault.TheVariants as question
 use Rattle.plan_text.specs.declared.fault.PlanCause.{PlanCause}

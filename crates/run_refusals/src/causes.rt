@@ -5,12 +5,12 @@ ghost use Rattle.std.specs.String.{string_bytes};
 ghost use Rattle.run_refusals.specs.Refusals.{number_text, choice_text, choice_place as choice_place_text, tra_text, lab_text, formula_text, plan_cause_text, upper_text, ranks_text, values_text};
 
 use distributions::ChoiceFault;
+use formula_tokens::FormulaCause;
 use fractions::NumberFault;
 use inductive_check::UpperCause;
 use label_lines::LabCause;
 use plan_text::PlanCause;
 use rank_certificate::RankCause;
-use rpatl_syntax::FormulaCause;
 use std::alloc::{AllocError, Global};
 use transition_lines::TraCause;
 use values_reader::ValuesCause;

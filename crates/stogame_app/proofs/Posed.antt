@@ -7,8 +7,8 @@ use Rattle.game_model.specs.Game.{Distribution}
 use Rattle.game_model.specs.Limits.{unit}
 use Rattle.label_lines.specs.Labels.{Labelling}
 use Rattle.label_lines.specs.Owners.{Ownership}
-use Rattle.rpatl_syntax.specs.Formula.{Tree, formulas_inside, tree_of}
-use Rattle.rpatl_syntax.specs.Limits.{longest}
+use Rattle.formula_reader.specs.Formula.{Tree, formulas_inside, tree_of}
+use Rattle.formula_tokens.specs.Limits.{longest}
 use Rattle.rpatl_syntax.specs.Spellable.{IsSpellable}
 use Rattle.formula_sets.specs.Truth.{holds}
 use Rattle.formula_sets.specs.Posing.{NextPosing, PosesNext}

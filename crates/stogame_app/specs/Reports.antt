@@ -3,8 +3,8 @@ use Rattle.std.specs.Prelude.{◌≡◌, ◌≤◌, ℕ, Bool, List, Option, Som
 use Rattle.text_lines.specs.Limits.{most_bytes}
 use Rattle.game_outside.specs.Outside.{Holding}
 use Rattle.game_model.specs.Query.{states}
-use Rattle.rpatl_syntax.specs.Formula.{Tree}
-use Rattle.rpatl_syntax.specs.Rules.{DenotesFormula}
+use Rattle.formula_reader.specs.Formula.{Tree}
+use Rattle.formula_reader.specs.Rules.{DenotesFormula}
 use Rattle.formula_sets.specs.Posing.{Model, Posing, NextPosing}
 use Rattle.command_words.specs.Words.{Asked, Check, Audit, Solve, Make, Command, OfCheck, OfAudit, OfSolve, OfMake}
 use Rattle.command_words.specs.Words.{OfSure, AreCommand}

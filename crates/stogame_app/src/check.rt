@@ -3,7 +3,7 @@
 ghost use Rattle.std.specs.Prelude.{◌≡◌, ◌<◌, ℕ, List, Option, All, IfOk};
 ghost use Rattle.game_outside.specs.Outside.{Holding};
 ghost use Rattle.rpatl_syntax.specs.Dual.{IsAtMostOne};
-ghost use Rattle.rpatl_syntax.specs.Formula.{tree_of};
+ghost use Rattle.formula_reader.specs.Formula.{tree_of};
 ghost use Rattle.rpatl_syntax.specs.Spellable.{HasKind};
 ghost use Rattle.command_words.specs.Words.{AreInRange, OfCheck, check_of};
 ghost use Rattle.asked_files.specs.Posed.{HasSizes, reading_of};
@@ -18,10 +18,11 @@ ghost use Rattle.stogame_app.specs.Reports.{Checks, IsReportOfWords};
 
 use asked_files::{End, Loaded, Paths, Problem, load_model, pose_loaded};
 use command_words::CheckWords;
+use formula_reader::Formula;
+use formula_reader::laws::formulas_inside_are_few;
 use game_outside::{Gate, OutOfMemory, Shelf};
 use question_reports::{bracket_report, nested_report, next_report, within_report};
-use rpatl_syntax::Formula;
-use rpatl_syntax::laws::{formulas_inside_are_few, formulas_of_texts_are_spellable};
+use rpatl_syntax::laws::formulas_of_texts_are_spellable;
 use run_answers::Answer;
 use std::alloc::Global;
 use std::thread::Threads;

@@ -4,8 +4,8 @@ use Rattle.std.proofs.lemmas.Bool.{leb-true, leb-false, ltb-true, ltb-false}
 use Rattle.std.proofs.Math.Nat.{mul-le-mul_right}
 use Rattle.game_model.specs.Limits.{unit}
 use Rattle.fractions.specs.Fraction.{Fraction}
-use Rattle.rpatl_syntax.specs.declared.formula.Bound.{Bound}
-use Rattle.rpatl_syntax.specs.declared.formula.Bound.TheVariants.{AtLeast, Above, AtMost, Below, AskMax, AskMin}
+use Rattle.formula_reader.specs.declared.formula.Bound.{Bound}
+use Rattle.formula_reader.specs.declared.formula.Bound.TheVariants.{AtLeast, Above, AtMost, Below, AskMax, AskMin}
 use Rattle.verdicts.specs.declared.verdict.Verdict.TheVariants.{Undecided}
 use Rattle.verdicts.specs.Verdict.{reaches, exceeds, verdict_by, verdict_of}
 use Rattle.verdicts.specs.Open.{IsBelowLess, IsAtMostLess, IsAtLeastMore, IsAboveMore, LeavesOpen}

@@ -4,8 +4,8 @@ use Rattle.std.proofs.lemmas.Bool.{leb-true, leb-false, ltb-true, ltb-false, not
 use Rattle.game_model.specs.Query.{Query}
 use Rattle.game_model.specs.Bounds.{Reaches, Exceeds}
 use Rattle.game_model.specs.Limits.{unit}
-use Rattle.rpatl_syntax.specs.declared.formula.Bound.{Bound}
-use Rattle.rpatl_syntax.specs.declared.formula.Bound.TheVariants.{AtLeast, Above, AtMost, Below, AskMax, AskMin}
+use Rattle.formula_reader.specs.declared.formula.Bound.{Bound}
+use Rattle.formula_reader.specs.declared.formula.Bound.TheVariants.{AtLeast, Above, AtMost, Below, AskMax, AskMin}
 use Rattle.verdicts.specs.declared.verdict.Verdict.TheVariants.{Yes, No}
 use Rattle.verdicts.specs.Verdict.{verdict_by, verdict_of}
 use Rattle.verdicts.specs.Truth.{IsTrueOf, IsFalseOf}

@@ -1,6 +1,6 @@
 -- What a verdict says of a probability that is a fraction.
 use Rattle.std.specs.Prelude.{ℕ}
-use Rattle.rpatl_syntax.specs.declared.formula.Bound.{Bound}
+use Rattle.formula_reader.specs.declared.formula.Bound.{Bound}
 use Rattle.rpatl_syntax.specs.Dual.{IsMetBy}
 use Rattle.verdicts.specs.declared.verdict.Verdict.{Verdict}
 use Rattle.verdicts.specs.declared.verdict.Verdict.TheVariants.{Yes, No, Undecided, Bracket}

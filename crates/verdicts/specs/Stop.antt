@@ -2,7 +2,7 @@
 use Rattle.std.specs.Prelude.{◌≡◌, ◌≤◌, ℕ, Bool}
 use Rattle.std.specs.Fn.{Shared}
 use Rattle.game_model.specs.Limits.{unit}
-use Rattle.rpatl_syntax.specs.declared.formula.Bound.{Bound}
+use Rattle.formula_reader.specs.declared.formula.Bound.{Bound}
 use Rattle.verdicts.specs.declared.stop.StopRule.{StopRule}
 use Rattle.verdicts.specs.Verdict.{verdict_of, is_settling}
 

@@ -5,7 +5,7 @@ ghost use Rattle.game_model.specs.Query.{Query, IsQuery, states};
 ghost use Rattle.game_model.specs.Limits.{unit};
 ghost use Rattle.game_model.specs.Bounds.{IsHigh, Reaches};
 ghost use Rattle.game_model.specs.Ranks.{ReachesUnder};
-ghost use Rattle.rpatl_syntax.specs.declared.formula.Bound.{Bound};
+ghost use Rattle.formula_reader.specs.declared.formula.Bound.{Bound};
 ghost use Rattle.rpatl_syntax.specs.Dual.{IsAtMostOne, dual_bound};
 ghost use Rattle.verdicts.specs.declared.report.ReportLine.{ReportLine};
 ghost use Rattle.verdicts.specs.declared.verdict.Verdict.TheVariants.{Yes, No, Undecided};

@@ -5,7 +5,7 @@ ghost use Rattle.game_model.specs.Limits.{unit};
 ghost use Rattle.verdicts.specs.Verdict.{verdict_of, is_settling, is_asking};
 ghost use Rattle.verdicts.specs.Stop.{bound_of, IsRuleOf, IsStopRule};
 
-use rpatl_syntax::Bound;
+use formula_reader::Bound;
 
 /// A bound, and a closure that says of a lower and an upper bound of a value whether they settle it.
 ///

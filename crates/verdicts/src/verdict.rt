@@ -4,9 +4,9 @@ ghost use Rattle.std.specs.Prelude.{◌≡◌, ◌≤◌};
 ghost use Rattle.game_model.specs.Limits.{unit};
 ghost use Rattle.verdicts.specs.Verdict.{reaches, exceeds, verdict_by, verdict_of};
 
+use formula_reader::Bound;
 use fractions::Frac;
 use game_model::UNIT;
-use rpatl_syntax::Bound;
 
 /// What the bounds say of a formula at a state.
 #[derive(Clone, Copy, Debug, PartialEq, Eq)]

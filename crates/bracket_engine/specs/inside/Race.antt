@@ -3,7 +3,7 @@ use Rattle.std.specs.Prelude.{◌≡◌, ℕ, ◌<◌, ◌≤◌, ◌⊎◌, Boo
 use Rattle.game_model.specs.Query.{Query}
 use Rattle.game_model.specs.Rounded.{IsSettled}
 use Rattle.step_core.specs.Word.{value_at}
-use Rattle.rpatl_syntax.specs.declared.formula.Bound.{Bound}
+use Rattle.formula_reader.specs.declared.formula.Bound.{Bound}
 use Rattle.verdicts.specs.Verdict.{is_asking}
 use Rattle.marked_rounds.specs.Agenda.{read_of}
 use Rattle.marked_rounds.specs.Rounds.{IsRaced, IsRacing}

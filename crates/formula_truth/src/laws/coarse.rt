@@ -2,7 +2,7 @@
 
 ghost use Rattle.std.specs.Prelude.{◌<◌, ◌≤◌, ℕ, All, List};
 ghost use Rattle.game_model.specs.Game.{IsGame};
-ghost use Rattle.rpatl_syntax.specs.Formula.{State, Tree};
+ghost use Rattle.formula_reader.specs.Formula.{State, Tree};
 ghost use Rattle.rpatl_syntax.specs.Spellable.{HasParts, HasShare};
 ghost use Rattle.verdicts.specs.declared.report.How.{How};
 ghost use Rattle.formula_sets.specs.Posing.{Model};

@@ -4,7 +4,7 @@ ghost use Rattle.std.specs.Prelude.{◌≡◌, ◌<◌, ◌≤◌, ℕ, List, Bo
 ghost use Rattle.game_model.specs.Game.{IsGame};
 ghost use Rattle.game_model.specs.Query.{Query, IsQuery, is_dead, is_goal};
 ghost use Rattle.game_model.specs.Values.{numerator};
-ghost use Rattle.rpatl_syntax.specs.Formula.{Tree};
+ghost use Rattle.formula_reader.specs.Formula.{Tree};
 ghost use Rattle.formula_sets.specs.Posing.{Model};
 ghost use Rattle.formula_truth.specs.Truth.{IsTruth, Valuation, states};
 

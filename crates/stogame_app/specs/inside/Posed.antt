@@ -1,6 +1,6 @@
 -- What a report of `check` needs of the problem that was posed.
 use Rattle.std.specs.Prelude.{◌≡◌}
-use Rattle.rpatl_syntax.specs.Formula.{Tree, tree_of}
+use Rattle.formula_reader.specs.Formula.{Tree, tree_of}
 use Rattle.asked_files.specs.declared.problem.Problem.{Problem}
 use Rattle.asked_files.specs.declared.problem.Problem.TheVariants.{Reach, Within, Next, Nested}
 use Rattle.question_reports.specs.Nested.{IsAnswerable}

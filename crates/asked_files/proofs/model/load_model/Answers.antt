@@ -1,6 +1,6 @@
 use Rattle.std.proofs.Common.{None, Some, ◌∙◌}
 use Rattle.std.proofs.lemmas.Result.{err_from_is_err_and}
-use Rattle.rpatl_syntax.specs.Formula.{tree_of}
+use Rattle.formula_reader.specs.Formula.{tree_of}
 use Rattle.command_words.specs.Words.{asked_of_words}
 use Rattle.asked_files.specs.Texts.{labels_said, owners_said}
 use Rattle.asked_files.proofs.Leaving.{answer_leaves, both_leave, end_leaves, other_end}

@@ -1,7 +1,7 @@
 use Rattle.std.proofs.Common.{◌≡◌, ◌∙◌, ◌&&◌, ◌||◌, not, sym, ap, arith}
 use Rattle.std.proofs.lemmas.List.{take_at}
-use Rattle.rpatl_syntax.specs.declared.formula.StateFormula.{StateFormula}
-use Rattle.rpatl_syntax.specs.Formula.{state_of}
+use Rattle.formula_reader.specs.declared.formula.StateFormula.{StateFormula}
+use Rattle.formula_reader.specs.Formula.{state_of}
 use Rattle.formula_sets.specs.Truth.{holds}
 use Rattle.formula_sets.specs.Posing.{at_states}
 use Rattle.formula_sets.proofs.Marked.{changed, joined}

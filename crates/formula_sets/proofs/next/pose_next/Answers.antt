@@ -1,6 +1,6 @@
 use Rattle.std.proofs.Common.{◌∙◌, ap, sym}
 use Rattle.game_model.specs.Query.{Query, states}
-use Rattle.rpatl_syntax.specs.Formula.{tree_of}
+use Rattle.formula_reader.specs.Formula.{tree_of}
 use Rattle.formula_sets.proofs.AskingNext.{opening-table}
 use Rattle.formula_sets.proofs.next.pose_next.Goals as goal
 

@@ -1,7 +1,7 @@
 use Rattle.std.proofs.Common.{◌∙◌, Bool, List, length, ap}
 use Rattle.std.specs.Prelude.{false, slice_index_or}
 use Rattle.game_model.specs.declared.game.Side.{Side}
-use Rattle.rpatl_syntax.specs.Formula.{tree_of}
+use Rattle.formula_reader.specs.Formula.{tree_of}
 use Rattle.formula_sets.specs.Sides.{side_of}
 use Rattle.formula_sets.proofs.Asking.{length-at_states}
 use Rattle.formula_sets.proofs.AskingNext.{never_marked}

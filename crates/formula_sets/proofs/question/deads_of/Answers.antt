@@ -1,6 +1,6 @@
 use Rattle.std.proofs.Common.{◌≡◌, ◌∙◌, ◌||◌, not, arith}
 use Rattle.std.proofs.lemmas.List.{take_at}
-use Rattle.rpatl_syntax.specs.Formula.{state_of}
+use Rattle.formula_reader.specs.Formula.{state_of}
 use Rattle.formula_sets.specs.Truth.{holds}
 use Rattle.formula_sets.specs.Posing.{at_states}
 use Rattle.formula_sets.proofs.Marked.{changed, joined, neither}

@@ -1,4 +1,4 @@
-use Rattle.rpatl_syntax.specs.Formula.{tree_of}
+use Rattle.formula_reader.specs.Formula.{tree_of}
 use Rattle.formula_sets.specs.Sides.{side_of}
 use Rattle.formula_sets.proofs.Asking.{pushed-more}
 use Rattle.formula_sets.proofs.question.sides_of.Goals as goal

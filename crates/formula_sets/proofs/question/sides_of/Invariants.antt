@@ -1,5 +1,5 @@
 use Rattle.std.proofs.Common.{◌≡◌}
-use Rattle.rpatl_syntax.specs.Formula.{tree_of}
+use Rattle.formula_reader.specs.Formula.{tree_of}
 use Rattle.formula_sets.specs.Sides.{side_of}
 use Rattle.formula_sets.specs.Posing.{at_states}
 use Rattle.formula_sets.proofs.question.sides_of.Given as goal

@@ -1,5 +1,5 @@
 use Rattle.std.proofs.Common.{length, subst}
-use Rattle.rpatl_syntax.specs.Formula.{tree_of}
+use Rattle.formula_reader.specs.Formula.{tree_of}
 use Rattle.formula_truth.specs.Bands.{exactly, negated}
 use Rattle.formula_truth.specs.Truth.{everywhere}
 use Rattle.nested_truth.specs.Seen.{AreAlike, band_in, model_of, seen}

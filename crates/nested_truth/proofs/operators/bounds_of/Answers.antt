@@ -1,4 +1,4 @@
-use Rattle.rpatl_syntax.specs.Formula.{tree_of}
+use Rattle.formula_reader.specs.Formula.{tree_of}
 use Rattle.nested_truth.specs.Seen.{band_in, model_of, seen}
 use Rattle.nested_truth.proofs.Answered.{always-of}
 use Rattle.nested_truth.proofs.operators.bounds_of.Goals as goal

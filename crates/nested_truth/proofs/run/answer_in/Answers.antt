@@ -1,5 +1,5 @@
 use Rattle.std.proofs.Common.{refl}
-use Rattle.rpatl_syntax.specs.Formula.{tree_of}
+use Rattle.formula_reader.specs.Formula.{tree_of}
 use Rattle.nested_truth.specs.Seen.{band_in, model_of}
 use Rattle.nested_truth.proofs.Answered.{nested-of, undecided-fits}
 use Rattle.nested_truth.proofs.run.answer_in.Goals as goal

@@ -1,6 +1,6 @@
 use Rattle.std.proofs.Common.{◌∙◌, List, ℕ, ◌<◌, length, subst, sym}
 use Rattle.std.specs.Prelude.{All}
-use Rattle.rpatl_syntax.specs.Formula.{tree_of}
+use Rattle.formula_reader.specs.Formula.{tree_of}
 use Rattle.formula_sets.specs.Posing.{init}
 use Rattle.formula_sets.proofs.Asking.{initial-found}
 use Rattle.formula_sets.proofs.Inside.{states_inside}

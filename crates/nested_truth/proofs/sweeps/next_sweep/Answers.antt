@@ -1,5 +1,5 @@
 use Rattle.std.proofs.Common.{◌∙◌, sym}
-use Rattle.rpatl_syntax.specs.Formula.{tree_of}
+use Rattle.formula_reader.specs.Formula.{tree_of}
 use Rattle.formula_sets.specs.Posing.{next_question_of}
 use Rattle.nested_truth.proofs.Raced.{stepped-once, stepped-twice}
 use Rattle.nested_truth.proofs.sweeps.next_sweep.Goals as goal

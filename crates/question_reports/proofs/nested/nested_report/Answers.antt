@@ -1,5 +1,5 @@
 use Rattle.std.proofs.Common.{◌≡◌, ◌∙◌, sym}
-use Rattle.rpatl_syntax.specs.Formula.{tree_of}
+use Rattle.formula_reader.specs.Formula.{tree_of}
 use Rattle.question_reports.proofs.NestedReports.{answered-nested}
 use Rattle.question_reports.proofs.nested.nested_report.Goals as goal
 

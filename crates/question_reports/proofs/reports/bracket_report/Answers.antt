@@ -4,8 +4,8 @@ use Rattle.game_model.specs.Query.{states}
 use Rattle.fractions.proofs.Powers.{pow-pos}
 use Rattle.game_model.specs.Values.{denominator}
 use Rattle.game_model.proofs.Choices.{denominator-pos}
-use Rattle.rpatl_syntax.specs.declared.formula.Bound.{Bound}
-use Rattle.rpatl_syntax.specs.Formula.{Tree, tree_of}
+use Rattle.formula_reader.specs.declared.formula.Bound.{Bound}
+use Rattle.formula_reader.specs.Formula.{Tree, tree_of}
 use Rattle.command_words.specs.Words.{check_of}
 use Rattle.rpatl_syntax.specs.Dual.{answered}
 use Rattle.bracket_engine.specs.Found.{IsFound}

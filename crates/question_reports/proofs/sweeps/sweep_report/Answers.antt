@@ -1,4 +1,4 @@
-use Rattle.rpatl_syntax.specs.Formula.{tree_of}
+use Rattle.formula_reader.specs.Formula.{tree_of}
 use Rattle.question_reports.proofs.Swept.{swept}
 use Rattle.question_reports.proofs.sweeps.sweep_report.Goals as goal
 

@@ -1,4 +1,4 @@
-use Rattle.rpatl_syntax.specs.Formula.{tree_of}
+use Rattle.formula_reader.specs.Formula.{tree_of}
 use Rattle.rpatl_syntax.proofs.Reread.{printed_again}
 use Rattle.rpatl_syntax.proofs.print.print_formula.Goals as goal
 

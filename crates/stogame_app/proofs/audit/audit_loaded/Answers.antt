@@ -1,7 +1,7 @@
 use Rattle.std.proofs.Common.{Option, subst}
 use Rattle.std.proofs.lemmas.Result.{err_from_is_err_and}
 use Rattle.game_outside.specs.Outside.{Holding}
-use Rattle.rpatl_syntax.specs.Formula.{tree_of}
+use Rattle.formula_reader.specs.Formula.{tree_of}
 use Rattle.certificate_audit.specs.Accepted.{IsAccepted}
 use Rattle.command_words.specs.Words.{audit_of}
 use Rattle.asked_files.specs.declared.problem.Paths.TheVariants.{Unbounded}

@@ -1,8 +1,8 @@
 use Rattle.std.proofs.Common.{◌≡◌, subst}
 use Rattle.std.proofs.lemmas.Result.{IfOk-weaker}
-use Rattle.rpatl_syntax.specs.declared.formula.PathKind.{PathKind}
-use Rattle.rpatl_syntax.specs.declared.formula.PathKind.TheVariants.{Within}
-use Rattle.rpatl_syntax.specs.Formula.{tree_of}
+use Rattle.formula_reader.specs.declared.formula.PathKind.{PathKind}
+use Rattle.formula_reader.specs.declared.formula.PathKind.TheVariants.{Within}
+use Rattle.formula_reader.specs.Formula.{tree_of}
 use Rattle.rpatl_syntax.specs.Spellable.{HasKind}
 use Rattle.formula_sets.specs.Seen.{posing_of, next_posing_of}
 use Rattle.command_words.specs.Words.{check_of}

@@ -2,7 +2,7 @@ use Rattle.std.proofs.Common.{Option, subst}
 use Rattle.std.proofs.lemmas.Result.{err_from_is_err_and}
 use Rattle.game_outside.specs.Outside.{Holding}
 use Rattle.game_model.specs.Query.{states}
-use Rattle.rpatl_syntax.specs.Formula.{tree_of}
+use Rattle.formula_reader.specs.Formula.{tree_of}
 use Rattle.command_words.specs.Words.{solve_of}
 use Rattle.asked_files.specs.declared.problem.Paths.TheVariants.{Unbounded}
 use Rattle.asked_files.specs.Questions.{GivesValues}

@@ -3,7 +3,7 @@ use Rattle.asked_files.specs.declared.problem.Paths.TheVariants.{Reaching}
 use Rattle.formula_sets.specs.Seen.{posing_of}
 use Rattle.asked_files.specs.SeenProblems.{problem_of}
 use Rattle.command_words.specs.Words.{asked_of_words}
-use Rattle.rpatl_syntax.specs.Formula.{tree_of}
+use Rattle.formula_reader.specs.Formula.{tree_of}
 use Rattle.stogame_app.specs.Reports.{of_sure}
 use Rattle.stogame_app.proofs.Answered.{reached-inside, report_made, sure_asks, unposed, want_made}
 use Rattle.stogame_app.proofs.sure.sure_of_loaded.Goals as goal

@@ -1,5 +1,5 @@
 use Rattle.std.proofs.Common.{◌∙◌, sym, ap, refl}
-use Rattle.rpatl_syntax.specs.Formula.{tree_of}
+use Rattle.formula_reader.specs.Formula.{tree_of}
 use Rattle.formula_sets.specs.Posing.{question_with}
 use Rattle.nested_truth.specs.Seen.{model_of}
 use Rattle.nested_truth.proofs.Tables.{filled-length}

@@ -1,0 +1,16 @@
+pub mod Again
+pub mod Denoted
+pub mod Derived
+pub mod Joining
+pub mod BlankFormulas
+pub mod FewInside
+pub mod Naming
+pub mod Orders
+pub mod Steps
+pub mod Beginning
+pub mod HeadsAgain
+pub mod StatesAgain
+pub mod PathsAgain
+pub mod CoalitionsFound
+pub mod BoundsFound
+pub mod PathsFound

@@ -1,0 +1,5 @@
+pub mod Formula
+pub mod Grammar
+pub mod Limits
+pub mod Rules
+pub mod inside

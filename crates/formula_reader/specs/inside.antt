@@ -1,0 +1,4 @@
+-- What the crate's own loops and private functions speak of: no clause of a public function unfolds to it.
+pub mod Bounds
+pub mod Levels
+pub mod Paths

@@ -1,0 +1,92 @@
+//! The operators of state formulas, from the one that binds weakest, and what stands under them.
+
+ghost use Rattle.std.specs.Prelude.{◌≡◌, MatchResult, option_map};
+ghost use Rattle.formula_tokens.specs.Fault.{IsOutOfMemory};
+ghost use Rattle.formula_reader.specs.Formula.{state_of, names_of, Not, Inner};
+ghost use Rattle.formula_reader.specs.inside.Levels.{sign_of, join_of};
+
+use crate::formula::{Bound, Formula, Names, PathKind, StateFormula};
+use formula_tokens::{FormulaCause, FormulaFault};
+use std::alloc::Global;
+
+/// What an operator makes of two state formulas.
+#[derive(Clone, Copy, Debug, PartialEq, Eq)]
+pub enum Level {
+    Implication,
+    Disjunction,
+    Conjunction,
+}
+
+impl Level {
+    /// How the operator of the level is spelt.
+    pub fn sign(self) -> &'static str
+        ensures { result.now ≡ sign_of self }
+    {
+        match self {
+            Level::Implication => "=>",
+            Level::Disjunction => "|",
+            Level::Conjunction => "&",
+        }
+    }
+
+    /// The formula of two operands under the operator of the level. The only error is want of memory.
+    pub fn join(
+        self,
+        alloc: Global,
+        left: StateFormula,
+        right: StateFormula,
+    ) -> Result<StateFormula, FormulaFault>
+        ensures { MatchResult result (λ whole. state_of whole
+            ≡ join_of self (state_of left) (state_of right)) IsOutOfMemory }
+    {
+        let left = boxed(alloc, left)?;
+        let right = boxed(alloc, right)?;
+        match self {
+            Level::Implication => Ok(StateFormula::Implies(left, right)),
+            Level::Disjunction => Ok(StateFormula::Or(left, right)),
+            Level::Conjunction => Ok(StateFormula::And(left, right)),
+        }
+    }
+}
+
+/// What `!` makes of a state formula.
+pub fn negation(alloc: Global, state: StateFormula) -> Result<StateFormula, FormulaFault>
+    ensures { MatchResult result (λ whole. state_of whole ≡ Not (state_of state)) IsOutOfMemory }
+{
+    let state = boxed(alloc, state)?;
+    Ok(StateFormula::Not(state))
+}
+
+/// A formula of its parts as a state formula: the states where it is true.
+pub fn inner(
+    alloc: Global,
+    coalition: Option<Names>,
+    bound: Bound,
+    kind: PathKind,
+    left: StateFormula,
+    right: StateFormula,
+) -> Result<StateFormula, FormulaFault>
+    ensures { MatchResult result (λ whole. state_of whole ≡ Inner (option_map names_of coalition) bound kind
+        (state_of left) (state_of right)) IsOutOfMemory }
+{
+    let formula = Formula {
+        coalition,
+        bound,
+        kind,
+        left,
+        right,
+    };
+    match Box::new(alloc, formula) {
+        Ok(place) => Ok(StateFormula::Inner(place)),
+        Err(_) => Err(FormulaFault::new(0, FormulaCause::OutOfMemory)),
+    }
+}
+
+fn boxed(alloc: Global, state: StateFormula) -> Result<Box<StateFormula>, FormulaFault>
+    ensures { MatchResult result (λ place. place.value ≡ state) IsOutOfMemory }
+{
+    match Box::new(alloc, state) {
+        Ok(place) => Ok(place),
+        Err(_) => Err(FormulaFault::new(0, FormulaCause::OutOfMemory)),
+    }
+}

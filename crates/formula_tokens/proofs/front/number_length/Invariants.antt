@@ -1,0 +1,12 @@
+use Rattle.std.proofs.Common.{◌≡◌, ◌+◌, length}
+use Rattle.formula_tokens.specs.Tokens.{number_length}
+use Rattle.formula_tokens.proofs.front.number_length.Given as goal
+
+abbrev pub invariant-loop-left : goal.invariant-loop-left
+invariant-loop-left l = record {
+  value : l.count + number_length l.before l.left ≡ number_length l.first l.rest;
+  within : l.count + length l.left ≡ length l.rest;
+}
+
+abbrev pub decreases-loop-left : goal.decreases-loop-left
+decreases-loop-left l = length l.left

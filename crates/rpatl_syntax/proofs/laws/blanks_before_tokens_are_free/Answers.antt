@@ -1,5 +1,0 @@
-use Rattle.rpatl_syntax.proofs.Reaching.{before_token}
-use Rattle.rpatl_syntax.proofs.laws.blanks_before_tokens_are_free.Goals as goal
-
-pub returns : goal.returns
-returns c = before_token

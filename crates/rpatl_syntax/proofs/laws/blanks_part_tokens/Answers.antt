@@ -1,5 +1,0 @@
-use Rattle.rpatl_syntax.proofs.Blanks.{parted_spellings, parted_cause}
-use Rattle.rpatl_syntax.proofs.laws.blanks_part_tokens.Goals as goal
-
-pub returns : goal.returns
-returns c = record { spellings = parted_spellings; cause = parted_cause }
