@@ -14,10 +14,9 @@
 #![tactic(auto)]
 
 mod file;
+mod for_tests;
 mod gate;
 mod held;
-mod hold_gate;
-mod late_gate;
 pub mod laws;
 mod line_text;
 mod memory_shelf;
@@ -30,10 +29,9 @@ mod whole;
 mod whole_lines;
 
 pub use file::{FileEnd, read_lines_from};
+pub use for_tests::{HoldGate, LateGate};
 pub use gate::{Gate, OpenGate};
 pub use held::HeldFile;
-pub use hold_gate::HoldGate;
-pub use late_gate::LateGate;
 pub use line_text::LineText;
 pub use memory_shelf::{MemShelf, SteadyShelf};
 pub use memory_sink::{MemSink, Received, SteadySink};

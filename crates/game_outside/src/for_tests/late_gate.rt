@@ -1,5 +1,7 @@
 //! A gate that shows that a worker reads what others have just raised.
 
+ghost use Rattle.std.specs.Prelude.{◌≡◌};
+
 use crate::gate::Gate;
 use std::sync::atomic::{AtomicBool, AtomicU64, Ordering};
 use std::thread;
@@ -8,7 +10,7 @@ use std::thread;
 const TURNS: u32 = 10_000_000;
 
 /// A gate that holds the first arrival of one worker until the others have arrived so often in all, for a number of
-/// turns. Where they don't, it gives up. It promises nothing.
+/// turns. Where they don't, it gives up. No clause says that it holds anybody.
 #[derive(Drop)]
 pub struct LateGate {
     turns: u32,
@@ -22,12 +24,20 @@ pub struct LateGate {
 
 impl LateGate {
     /// A gate that holds this worker until the others have arrived so often.
-    pub fn new(held: u32, others: u32) -> LateGate {
+    pub fn new(held: u32, others: u32) -> LateGate
+        ensures held { result.held ≡ held }
+        ensures others { result.others ≡ others }
+        ensures turns { result.turns ≡ TURNS }
+    {
         LateGate::holding_for(held, others, TURNS)
     }
 
     /// The same, which holds the worker for so many turns.
-    pub fn holding_for(held: u32, others: u32, turns: u32) -> LateGate {
+    pub fn holding_for(held: u32, others: u32, turns: u32) -> LateGate
+        ensures held { result.held ≡ held }
+        ensures others { result.others ≡ others }
+        ensures turns { result.turns ≡ turns }
+    {
         LateGate {
             turns,
             held,

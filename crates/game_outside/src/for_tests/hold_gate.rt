@@ -1,5 +1,7 @@
 //! A gate that shows that two workers work at once.
 
+ghost use Rattle.std.specs.Prelude.{◌≡◌};
+
 use crate::gate::Gate;
 use std::sync::atomic::{AtomicBool, Ordering};
 use std::thread;
@@ -8,7 +10,7 @@ use std::thread;
 const TURNS: u32 = 10_000_000;
 
 /// A gate that holds the first arrivals of the workers 0 and 1 until both have arrived, for a number of
-/// turns each. Where the two run one after another, it gives up. It promises nothing.
+/// turns each. Where the two run one after another, it gives up. No clause says that it holds anybody.
 #[derive(Drop)]
 pub struct HoldGate {
     turns: u32,
@@ -19,12 +21,16 @@ pub struct HoldGate {
 
 impl HoldGate {
     /// A gate where nobody has arrived.
-    pub fn new() -> HoldGate {
+    pub fn new() -> HoldGate
+        ensures { result.turns ≡ TURNS }
+    {
         HoldGate::holding_for(TURNS)
     }
 
     /// The same, which holds a worker for so many turns.
-    pub fn holding_for(turns: u32) -> HoldGate {
+    pub fn holding_for(turns: u32) -> HoldGate
+        ensures { result.turns ≡ turns }
+    {
         HoldGate {
             turns,
             first: AtomicBool::new(false),
