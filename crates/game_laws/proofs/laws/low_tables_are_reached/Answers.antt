@@ -1,5 +1,0 @@
-use Rattle.game_laws.proofs.Truth.{IsLow-reaches}
-use Rattle.game_laws.proofs.laws.low_tables_are_reached.Goals as goal
-
-pub returns : goal.returns
-returns c = IsLow-reaches

@@ -1,5 +1,0 @@
-use Rattle.game_laws.proofs.Truth.{IsNear-reaches}
-use Rattle.game_laws.proofs.laws.near_tables_are_reached.Goals as goal
-
-pub returns : goal.returns
-returns c = IsNear-reaches
