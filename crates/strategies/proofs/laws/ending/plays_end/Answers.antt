@@ -1,6 +1,6 @@
 use Rattle.std.proofs.Common.{[]}
 use Rattle.strategies.proofs.Ending.{ended, ending-posed}
-use Rattle.strategies.proofs.laws.plays_end.Goals as goal
+use Rattle.strategies.proofs.laws.ending.plays_end.Goals as goal
 
 pub returns-clause-posed : goal.returns-clause-posed
 returns-clause-posed c = ending-posed

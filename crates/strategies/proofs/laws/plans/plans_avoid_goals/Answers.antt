@@ -1,5 +1,5 @@
 use Rattle.strategies.proofs.Avoiding.{holds-avoids, reaches-avoided}
-use Rattle.strategies.proofs.laws.plans_avoid_goals.Goals as goal
+use Rattle.strategies.proofs.laws.plans.plans_avoid_goals.Goals as goal
 
 pub returns-clause-avoids : goal.returns-clause-avoids
 returns-clause-avoids c = holds-avoids

@@ -1,5 +1,5 @@
 use Rattle.strategies.proofs.Plans.{against-near, against-high}
-use Rattle.strategies.proofs.laws.plans_bound_values.Goals as goal
+use Rattle.strategies.proofs.laws.plans.plans_bound_values.Goals as goal
 
 pub returns-clause-high : goal.returns-clause-high
 returns-clause-high c = against-high

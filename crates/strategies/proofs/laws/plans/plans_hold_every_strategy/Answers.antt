@@ -1,5 +1,5 @@
 use Rattle.strategies.proofs.Plans.{plan-holds}
-use Rattle.strategies.proofs.laws.plans_hold_every_strategy.Goals as goal
+use Rattle.strategies.proofs.laws.plans.plans_hold_every_strategy.Goals as goal
 
 pub returns : goal.returns
 returns c = plan-holds

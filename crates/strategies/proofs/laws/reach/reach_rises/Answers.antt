@@ -1,5 +1,5 @@
 use Rattle.strategies.proofs.Rises.{reach-rises, reach-within}
-use Rattle.strategies.proofs.laws.reach_rises.Goals as goal
+use Rattle.strategies.proofs.laws.reach.reach_rises.Goals as goal
 
 pub returns-clause-rises : goal.returns-clause-rises
 returns-clause-rises c = λ q faces k s greatest least. reach-rises q faces greatest least k s
