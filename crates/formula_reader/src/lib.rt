@@ -2,9 +2,10 @@
 //! probability of a path with `F` or `U`, with a deadline in steps or without, `X` or `G`. Formulas that compare with a
 //! threshold also stand inside state formulas, to any depth up to a limit.
 //!
-//! `read_formula` gives the formula that a text spells, or the first fault of the text with its offset. The rules of the
-//! grammar are `IsFormula` of `specs/Rules.antt`, over the tokens of `formula_tokens`; contracts see a formula as a `Tree`
-//! of `specs/Formula.antt`, by `tree_of`. Which names stand for labels or players of a model is not looked at here.
+//! `read_formula` gives the formula that a text spells, or the first fault of the text with its offset. The rules of
+//! the grammar are `IsFormula` of `specs/Rules.antt`, over the tokens of `formula_tokens`; contracts see a formula as a
+//! `Tree` of `specs/Formula.antt`, by `tree_of`. Which names stand for labels or players of a model is not looked at
+//! here.
 #![tactic(auto)]
 
 mod deadlines;
