@@ -1,12 +1,11 @@
 -- The grammar of formulas, read from the left: the tree that tokens spell and the tokens behind it, or the first fault.
-use Rattle.std.specs.Prelude.{ℕ, zero, suc, ◌==◌, ◌||◌, nat_lt, Bool, false, List, [], ◌∷◌, length, drop, take, ◌-◌}
+use Rattle.std.specs.Prelude.{ℕ, zero, suc, ◌||◌, nat_lt, Bool, false, List, [], ◌∷◌, length, ◌-◌}
 use Rattle.std.specs.Prelude.{Option, Some, None, Result, Ok, Err, if◌then◌else◌, bytes_eq, codes}
 use Rattle.fractions.specs.Fraction.{Fraction}
 use Rattle.fractions.specs.declared.number.NumberFault.{NumberFault}
 use Rattle.fractions.specs.declared.number.NumberFault.TheVariants.{TooLarge}
 use Rattle.fractions.specs.Number.{number_said}
 use Rattle.formula_tokens.specs.declared.fault.FormulaFault.{FormulaFault}
-use Rattle.formula_tokens.specs.declared.fault.FormulaCause.{FormulaCause}
 use Rattle.formula_tokens.specs.declared.fault.FormulaCause.TheVariants.{End, Unexpected, TooDeep, BadNumber}
 use Rattle.formula_tokens.specs.declared.fault.FormulaCause.TheVariants.{ThresholdOutOfRange, TooLong, BadSteps}
 use Rattle.formula_tokens.specs.declared.fault.FormulaCause.TheVariants.{AskInside}
@@ -19,8 +18,8 @@ use Rattle.formula_reader.specs.Formula.{State, True, False, Label, Not, And, Or
 use Rattle.formula_reader.specs.Limits.{most_nested, most_steps}
 use Rattle.formula_tokens.specs.Reading.{Reading, next, fails, is, behind, is_word, is_number, is_quoted, unquoted, follows, where_next}
 use Rattle.formula_tokens.specs.Limits.{longest}
-use Rattle.text_lines.specs.Text.{is_digit, number_of}
-use Rattle.formula_tokens.specs.Tokens.{Tokens, Finish, Broken, Then, Token, tokens_of, count_of, begins_word}
+use Rattle.text_lines.specs.Text.{number_of}
+use Rattle.formula_tokens.specs.Tokens.{Tokens, Finish, Broken, Then, Token, tokens_of, count_of}
 
 -- coalition = "<<" [ word { "," word } ] ">>"
 

@@ -8,7 +8,9 @@ ghost use Rattle.fractions.specs.Limits.{finest, most_value, most_digits, most_e
 ghost use Rattle.fractions.specs.Fraction.{Fraction};
 ghost use Rattle.fractions.specs.Number.{Spelling, Spells, spelling_of, number_said, DenotesNumber};
 
-use crate::limits::{FINEST, FINEST_PLACES, MOST_DIGITS, MOST_EXPONENT, MOST_EXPONENT_DIGITS, MOST_VALUE};
+use crate::limits::{
+    FINEST, FINEST_PLACES, MOST_DIGITS, MOST_EXPONENT, MOST_EXPONENT_DIGITS, MOST_VALUE,
+};
 
 /// The limits of the code are those of the definitions.
 pub fn limits()

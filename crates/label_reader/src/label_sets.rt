@@ -11,7 +11,9 @@ ghost use Rattle.label_lines.specs.Texts.{labelling, is_said};
 
 use crate::labels::Labels;
 use crate::state_set::StateSet;
-use label_lines::{BehindHeader, FileKind, Header, LabCause, LabFault, fault_of_numbers, read_state};
+use label_lines::{
+    BehindHeader, FileKind, Header, LabCause, LabFault, fault_of_numbers, read_state,
+};
 use std::alloc::{AllocError, Global};
 use text_lines::{LineReader, first_field};
 

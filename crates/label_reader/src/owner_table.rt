@@ -8,7 +8,9 @@ ghost use Rattle.label_reader.specs.inside.Owned.{owner_behind, AreRead};
 ghost use Rattle.label_lines.specs.Texts.{ownership};
 
 use crate::owners::{Owners, nobody};
-use label_lines::{BehindHeader, FileKind, Header, LabCause, LabFault, fault_of_numbers, read_state};
+use label_lines::{
+    BehindHeader, FileKind, Header, LabCause, LabFault, fault_of_numbers, read_state,
+};
 use std::alloc::{AllocError, Global};
 use text_lines::{LineReader, first_field};
 

@@ -18,7 +18,10 @@ use expectations::{holds, same};
 use game_outside::OpenGate;
 use nested_truth::{Nested, nested};
 use random_games::Draw;
-use rpatl_syntax::laws::{formulas_are_those_that_a_text_denotes, formulas_inside_are_few, formulas_of_texts_are_spellable};
+use rpatl_syntax::laws::{
+    formulas_are_those_that_a_text_denotes, formulas_inside_are_few,
+    formulas_of_texts_are_spellable,
+};
 use rpatl_syntax::{Formula, read_formula};
 use std::alloc::Global;
 use std::test::Fail;

@@ -10,7 +10,9 @@ ghost use Rattle.bounded_rounds.specs.Steps.{IsSweep};
 ghost use Rattle.run_answers.specs.Status.{IsAnswer};
 ghost use Rattle.question_reports.specs.Sweeps.{IsNextReport, IsOpening, IsSweepReport, IsWithinReport};
 
-use bounded_rounds::laws::{exact_values_are_k_step_values, one_step_is_the_next_value, rounded_steps_bracket_exact_values};
+use bounded_rounds::laws::{
+    exact_values_are_k_step_values, one_step_is_the_next_value, rounded_steps_bracket_exact_values,
+};
 use bounded_rounds::{Sweep, bounded, bounded_values};
 use formula_reader::Formula;
 use formula_sets::{Posed, PosedNext};

@@ -1,6 +1,6 @@
 //! Laws of ranked tables. No function here does anything: its contract is the law.
 
-ghost use Rattle.std.specs.Prelude.{◌≡◌, ℕ, ◌<◌, true, List, Bool, Option, None, length, slice_index, slice_index_or};
+ghost use Rattle.std.specs.Prelude.{◌≡◌, ℕ, ◌<◌, true, List, Option, None, length, slice_index, slice_index_or};
 ghost use Rattle.game_model.specs.declared.game.Side.TheVariants.{Min};
 ghost use Rattle.game_model.specs.Query.{Query, IsQuery, states, is_goal, is_dead, side_at};
 ghost use Rattle.game_model.specs.Bounds.{IsNear};

@@ -4,7 +4,9 @@ ghost use Rattle.std.specs.Prelude.{◌≡◌, ◌++◌, IfOk, codes};
 ghost use Rattle.std.specs.String.{string_bytes};
 ghost use Rattle.run_refusals.specs.Refusals.{refusal_text, refused_line, formula_refused, question_refused, certificate_refused, usage_text};
 
-use crate::causes::{formula_cause, lab_cause, plan_cause, ranks_cause, tra_cause, upper_cause, values_cause};
+use crate::causes::{
+    formula_cause, lab_cause, plan_cause, ranks_cause, tra_cause, upper_cause, values_cause,
+};
 use certificate_audit::AuditFault;
 use formula_sets::PoseFault;
 use formula_tokens::FormulaFault;

@@ -1,5 +1,4 @@
 -- What is read of a path.
-use Rattle.std.specs.Prelude.{ℕ}
 use Rattle.formula_tokens.specs.declared.cursor.Cursor.{Cursor}
 use Rattle.formula_reader.specs.declared.formula.StateFormula.{StateFormula}
 use Rattle.formula_reader.specs.declared.formula.PathKind.{PathKind}
