@@ -8,7 +8,8 @@ use Rattle.formula_reader.specs.declared.formula.Bound.TheVariants.{AtLeast, Abo
 use Rattle.formula_reader.specs.Formula.{State}
 use Rattle.formula_tokens.specs.Reading.{is_quoted}
 use Rattle.formula_reader.specs.Rules.{between, with_commas, formula_of, IsCoalition, IsBound, Compares, IsState}
-use Rattle.formula_reader.specs.Rules.{IsEither, IsBoth, IsUnary, plain_state, implies, plain_either, or, plain_both, and}
+use Rattle.formula_reader.specs.Rules.{IsEither, IsBoth, IsUnary, plain_state, implies, plain_either, or, plain_both}
+use Rattle.formula_reader.specs.Rules.{and}
 use Rattle.formula_reader.specs.Rules.{negation, brackets, everywhere, nowhere, label, inside}
 
 pub quoted_begins : (token : List ℕ) → is_quoted token ≡ true → (bytes : List ℕ) × (token ≡ 34 ∷ bytes)

@@ -5,7 +5,8 @@ use Rattle.std.proofs.lemmas.List.{length-append}
 use Rattle.formula_reader.specs.declared.formula.PathKind.{PathKind}
 use Rattle.formula_reader.specs.Formula.{State, Tree, formulas_in, formulas_inside}
 use Rattle.formula_tokens.specs.Limits.{longest}
-use Rattle.formula_tokens.specs.TokenRules.{IsSpelling, word, number, quoted_name, long_sign, short_sign, AreCut, nothing}
+use Rattle.formula_tokens.specs.TokenRules.{IsSpelling, word, number, quoted_name, long_sign, short_sign, AreCut}
+use Rattle.formula_tokens.specs.TokenRules.{nothing}
 use Rattle.formula_tokens.specs.TokenRules.{blank, token}
 use Rattle.formula_reader.specs.Rules.{between, formula_of, IsState, IsEither, IsBoth, IsUnary, IsPath, plain_state}
 use Rattle.formula_reader.specs.Rules.{implies, plain_either, or, plain_both, and, negation, brackets, everywhere}

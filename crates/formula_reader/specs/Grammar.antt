@@ -16,7 +16,8 @@ use Rattle.formula_reader.specs.declared.formula.PathKind.TheVariants.{Until, Wi
 use Rattle.formula_tokens.specs.Fault.{fault_at, ◌>>=◌}
 use Rattle.formula_reader.specs.Formula.{State, True, False, Label, Not, And, Or, Implies, Path, Tree, inner_of}
 use Rattle.formula_reader.specs.Limits.{most_nested, most_steps}
-use Rattle.formula_tokens.specs.Reading.{Reading, next, fails, is, behind, is_word, is_number, is_quoted, unquoted, follows, where_next}
+use Rattle.formula_tokens.specs.Reading.{Reading, next, fails, is, behind, is_word, is_number, is_quoted, unquoted}
+use Rattle.formula_tokens.specs.Reading.{follows, where_next}
 use Rattle.formula_tokens.specs.Limits.{longest}
 use Rattle.text_lines.specs.Text.{number_of}
 use Rattle.formula_tokens.specs.Tokens.{Tokens, Finish, Broken, Then, Token, tokens_of, count_of}

@@ -17,7 +17,8 @@ use Rattle.formula_reader.specs.Formula.{Tree, IsFlat}
 use Rattle.formula_sets.specs.declared.fault.PoseFault.{PoseFault}
 use Rattle.formula_sets.specs.Truth.{holds, unknown_label}
 use Rattle.formula_sets.specs.Sides.{side_of, unknown_player}
-use Rattle.formula_sets.specs.Posing.{Posing, BeginsAt, IsSetUp, Poses, init, formula_labels, formula_players, neither_holds}
+use Rattle.formula_sets.specs.Posing.{Posing, BeginsAt, IsSetUp, Poses, init, formula_labels, formula_players}
+use Rattle.formula_sets.specs.Posing.{neither_holds}
 use Rattle.formula_sets.specs.Posing.{at_states, question_with, question_of, some_state, known_with, initial_said}
 use Rattle.formula_sets.specs.Posing.{made_of, pose_said}
 

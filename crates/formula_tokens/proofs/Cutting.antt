@@ -11,7 +11,8 @@ use Rattle.formula_tokens.specs.declared.front.Front.TheVariants.{Blank, Spellin
 use Rattle.formula_tokens.specs.Laws.{AreTokens}
 use Rattle.formula_tokens.specs.TokenRules.{IsSpelling, IsLongest, AreCut, nothing, blank, token}
 use Rattle.formula_tokens.specs.Limits.{longest_name}
-use Rattle.formula_tokens.specs.Tokens.{Tokens, Then, tokens_of, in_front, tokens_from, front_from, begins_word, in_name}
+use Rattle.formula_tokens.specs.Tokens.{Tokens, Then, tokens_of, in_front, tokens_from, front_from, begins_word}
+use Rattle.formula_tokens.specs.Tokens.{in_name}
 use Rattle.formula_tokens.specs.Tokens.{is_blank, is_long_sign, is_short_sign, word_length, number_length, name_from}
 use Rattle.formula_tokens.specs.Tokens.{sign_from, short_sign}
 use Rattle.formula_tokens.proofs.Spans.{chosen}

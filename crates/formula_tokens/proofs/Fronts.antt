@@ -8,7 +8,8 @@ use Rattle.std.proofs.lemmas.Bool.Decides.{nat_tests}
 use Rattle.std.proofs.lemmas.List.{length-append}
 use Rattle.text_lines.specs.Text.{is_digit}
 use Rattle.formula_tokens.specs.declared.front.Front.TheVariants.{Blank, Spelling, Strange}
-use Rattle.formula_tokens.specs.TokenRules.{go_on_number, is_name_byte, IsSpelling, word, number, quoted_name, long_sign}
+use Rattle.formula_tokens.specs.TokenRules.{go_on_number, is_name_byte, IsSpelling, word, number, quoted_name}
+use Rattle.formula_tokens.specs.TokenRules.{long_sign}
 use Rattle.formula_tokens.specs.TokenRules.{short_sign}
 use Rattle.formula_tokens.specs.Limits.{longest_name}
 use Rattle.formula_tokens.specs.Tokens.{front_from, begins_word, in_word, in_number, in_name, is_blank, is_long_sign}

@@ -8,7 +8,8 @@ use Rattle.std.proofs.lemmas.Bool.Decides.{nat_tests}
 use Rattle.std.proofs.lemmas.List.Folds.{list_all-append}
 use Rattle.text_lines.specs.Text.{is_digit}
 use Rattle.formula_tokens.specs.Laws.{IsBlank, space, tab, line_feed, return_and_line_feed}
-use Rattle.formula_tokens.specs.TokenRules.{go_on_number, is_name_byte, IsSpelling, word, number, quoted_name, long_sign}
+use Rattle.formula_tokens.specs.TokenRules.{go_on_number, is_name_byte, IsSpelling, word, number, quoted_name}
+use Rattle.formula_tokens.specs.TokenRules.{long_sign}
 use Rattle.formula_tokens.specs.TokenRules.{short_sign, IsLongest}
 use Rattle.formula_tokens.specs.Tokens.{begins_word, in_word, in_number, is_long_sign, is_short_sign}
 

@@ -9,7 +9,8 @@ use Rattle.formula_reader.specs.Formula.{State, True}
 use Rattle.formula_reader.specs.Limits.{most_nested}
 use Rattle.rpatl_syntax.specs.Spelling.{strength_of}
 use Rattle.formula_tokens.specs.TokenRules.{IsSpelling}
-use Rattle.formula_reader.specs.Rules.{IsState, IsEither, IsBoth, IsUnary, IsPath, plain_state, implies, plain_either, or}
+use Rattle.formula_reader.specs.Rules.{IsState, IsEither, IsBoth, IsUnary, IsPath, plain_state, implies, plain_either}
+use Rattle.formula_reader.specs.Rules.{or}
 use Rattle.formula_reader.specs.Rules.{plain_both, and, negation, brackets, everywhere, nowhere, label, inside, reach}
 use Rattle.formula_reader.specs.Rules.{reach_within, until, until_within, next, always}
 use Rattle.rpatl_syntax.specs.Spellable.{HasParts, HasKind, HasHead, IsSide, need_in, need}

@@ -11,7 +11,8 @@ use Rattle.formula_reader.specs.declared.formula.PathKind.TheVariants.{Until, Wi
 use Rattle.rpatl_syntax.specs.Dual.{dual_of, answered_by, answered}
 use Rattle.formula_tokens.specs.Limits.{longest}
 use Rattle.formula_reader.specs.Rules.{between, IsState, IsEither, IsBoth, IsUnary, IsPath, plain_state, implies}
-use Rattle.formula_reader.specs.Rules.{plain_either, or, plain_both, and, negation, brackets, everywhere, nowhere, label}
+use Rattle.formula_reader.specs.Rules.{plain_either, or, plain_both, and, negation, brackets, everywhere, nowhere}
+use Rattle.formula_reader.specs.Rules.{label}
 use Rattle.formula_reader.specs.Rules.{inside, reach, reach_within, until, until_within, next, always, IsFormula}
 use Rattle.formula_reader.specs.Rules.{DenotesFormula}
 use Rattle.rpatl_syntax.specs.Spelling.{strength_of, in_place, state_spelling, kind_spelling, coalition_spelling}

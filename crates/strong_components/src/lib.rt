@@ -5,8 +5,8 @@
 //!
 //! A class is found by a search backward from a pivot and one forward in what it met. The pivots stand in the order in
 //! which a depth-first search leaves the states, backward, so no search meets two classes (Kosaraju; Sharir 1981); no
-//! contract rests on that order. The time is linear in the states, choices and edges: which choices stay is found in one
-//! pass, one byte a choice. It is no part of the contract.
+//! contract rests on that order. The time is linear in the states, choices and edges: which choices stay is found in
+//! one pass, one byte a choice. It is no part of the contract.
 #![tactic(auto)]
 
 mod backward;

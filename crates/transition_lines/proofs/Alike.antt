@@ -5,7 +5,8 @@ use Rattle.std.specs.Option.{option_or}
 use Rattle.distributions.specs.Parts.{choice_said}
 use Rattle.transition_lines.specs.declared.line.Transition.{Transition}
 use Rattle.transition_lines.specs.Choices.{transitions_of, part_of, choice_end, least_missing, first_gap, first_crowded}
-use Rattle.transition_lines.specs.Choices.{if_crowded, of_state, self_loop, sum_of_first, then_push, choice_at, choices_said}
+use Rattle.transition_lines.specs.Choices.{if_crowded, of_state, self_loop, sum_of_first, then_push, choice_at}
+use Rattle.transition_lines.specs.Choices.{choices_said}
 use Rattle.transition_lines.specs.Choices.{state_said, states_said, unless_gap, unless_crowded, if_as_stated}
 use Rattle.transition_lines.specs.Choices.{transitions_game}
 use Rattle.transition_lines.proofs.Ends.{end_alike, missing_alike}

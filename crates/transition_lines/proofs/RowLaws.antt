@@ -10,10 +10,12 @@ use Rattle.transition_lines.specs.Limits.{most_stated_choices}
 use Rattle.transition_lines.specs.declared.header.Header.{Header}
 use Rattle.transition_lines.specs.declared.line.Transition.{Transition}
 use Rattle.transition_lines.specs.declared.fault.TraCause.{TraCause}
-use Rattle.transition_lines.specs.declared.fault.TraCause.TheVariants.{StateOutOfRange, OverLimit, LineCount, ActionClash}
+use Rattle.transition_lines.specs.declared.fault.TraCause.TheVariants.{StateOutOfRange, OverLimit, LineCount}
+use Rattle.transition_lines.specs.declared.fault.TraCause.TheVariants.{ActionClash}
 use Rattle.transition_lines.specs.Faults.{fault_of_all}
 use Rattle.transition_lines.specs.Lines.{Row, LineParts, IsRow, AreRows, line_parts, transition_with, transition_within}
-use Rattle.transition_lines.specs.Lines.{transition_said, row_with, parts_said, row_said, clashes, action_checked, line_said}
+use Rattle.transition_lines.specs.Lines.{transition_said, row_with, parts_said, row_said, clashes, action_checked}
+use Rattle.transition_lines.specs.Lines.{line_said}
 use Rattle.transition_lines.specs.Lines.{behind, rows_said}
 use Rattle.transition_lines.proofs.Decisions.{chosen, lt_from, ge_from, lt_test, ge_test}
 use Rattle.transition_lines.proofs.Rows.{said_with}

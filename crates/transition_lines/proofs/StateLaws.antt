@@ -17,7 +17,8 @@ use Rattle.transition_lines.specs.declared.line.Transition.{Transition}
 use Rattle.transition_lines.specs.declared.fault.TraCause.TheVariants.{ChoiceCount}
 use Rattle.transition_lines.specs.declared.fault.TraFault.{TraFault}
 use Rattle.transition_lines.specs.Faults.{fault_of_all}
-use Rattle.transition_lines.specs.Choices.{transitions_of, part_of, parts_of, HasChoices, IsState, self_loop, sum_of_first}
+use Rattle.transition_lines.specs.Choices.{transitions_of, part_of, parts_of, HasChoices, IsState, self_loop}
+use Rattle.transition_lines.specs.Choices.{sum_of_first}
 use Rattle.transition_lines.specs.Choices.{choice_end, least_missing, first_gap, first_crowded, of_state, then_push}
 use Rattle.transition_lines.specs.Choices.{choice_at, choices_said, state_said, states_said, unless_gap, unless_crowded}
 use Rattle.transition_lines.specs.Choices.{if_as_stated, transitions_game}

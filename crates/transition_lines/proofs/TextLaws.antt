@@ -15,7 +15,8 @@ use Rattle.transition_lines.proofs.RowLaws.{NumbersFound, NumbersAgain, Follow, 
 use Rattle.transition_lines.proofs.ActionLaws.{action_in, actions_found, actions_again}
 use Rattle.transition_lines.proofs.Alike.{sum_alike}
 use Rattle.transition_lines.proofs.StateLaws.{ChoicesFound, ChoicesAgain, HaveFractions, fraction_first, MakesGame}
-use Rattle.transition_lines.proofs.StateLaws.{state_found, state_again, states_found, states_again, gaps_found, gaps_again}
+use Rattle.transition_lines.proofs.StateLaws.{state_found, state_again, states_found, states_again, gaps_found}
+use Rattle.transition_lines.proofs.StateLaws.{gaps_again}
 use Rattle.transition_lines.proofs.StateLaws.{crowds_found, crowds_again, game_found, game_again}
 
 -- the probabilities of rows are fractions

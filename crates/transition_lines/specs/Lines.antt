@@ -12,7 +12,8 @@ use Rattle.fractions.specs.Number.{DenotesNumber, number_said}
 use Rattle.transition_lines.specs.declared.header.Header.{Header}
 use Rattle.transition_lines.specs.declared.line.Transition.{Transition}
 use Rattle.transition_lines.specs.declared.fault.TraCause.{TraCause}
-use Rattle.transition_lines.specs.declared.fault.TraCause.TheVariants.{NoHeader, BadField, FieldCount, OverLimit, NoStates}
+use Rattle.transition_lines.specs.declared.fault.TraCause.TheVariants.{NoHeader, BadField, FieldCount, OverLimit}
+use Rattle.transition_lines.specs.declared.fault.TraCause.TheVariants.{NoStates}
 use Rattle.transition_lines.specs.declared.fault.TraCause.TheVariants.{StateOutOfRange, Number, ActionClash, LineCount}
 use Rattle.transition_lines.specs.declared.fault.TraFault.{TraFault}
 use Rattle.transition_lines.specs.Faults.{fault_at, fault_of_all}
