@@ -1,5 +1,5 @@
 use Rattle.bounded_rounds.proofs.Bracketed.{IsBracketed-next}
-use Rattle.bounded_rounds.proofs.laws.next_values_are_bracketed.Goals as goal
+use Rattle.bounded_rounds.proofs.laws.brackets.next_values_are_bracketed.Goals as goal
 
 pub returns : goal.returns
 returns c = IsBracketed-next

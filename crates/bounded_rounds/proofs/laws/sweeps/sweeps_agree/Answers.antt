@@ -1,5 +1,5 @@
 use Rattle.bounded_rounds.proofs.Parts.{IsSweep-one}
-use Rattle.bounded_rounds.proofs.laws.sweeps_agree.Goals as goal
+use Rattle.bounded_rounds.proofs.laws.sweeps.sweeps_agree.Goals as goal
 
 pub returns : goal.returns
 returns c = IsSweep-one
