@@ -4,7 +4,7 @@ ghost use Rattle.std.specs.Prelude.{◌≡◌, ◌≤◌, ◌<◌, [], ◌∷◌
 ghost use Rattle.game_model.specs.Limits.{unit};
 ghost use Rattle.game_model.specs.Query.{states};
 ghost use Rattle.game_model.specs.Dual.{IsZeroSet};
-ghost use Rattle.formula_reader.specs.declared.formula.Bound.TheVariants.{AskMax};
+ghost use Rattle.rpatl_syntax.specs.declared.formula.Bound.TheVariants.{AskMax};
 ghost use Rattle.round_workers.specs.Share.{most_workers};
 ghost use Rattle.bracket_engine.specs.Limits.{most_rounds};
 ghost use Rattle.bracket_engine.specs.Found.{IsFound};
@@ -15,8 +15,8 @@ use expectations::same;
 use game_model::{Marks, Question, UNIT};
 use game_outside::{OpenGate, OutOfMemory};
 use inductive_check::swap;
-use random_games::{Draw, SMALL, opening_table, plain_sweep, random_game, random_question};
 use rpatl_syntax::Bound;
+use sample_games::{Draw, SMALL, opening_table, plain_sweep, random_game, random_question};
 use std::alloc::Global;
 use std::test::Fail;
 use std::thread::Threads;

@@ -4,8 +4,7 @@
 use crate::brackets::value_bracket;
 use expectations::same;
 use game_model::{Game, Question, UNIT};
-use random_games::{coin_game, coin_question};
-use sample_games::{Draft, question_with};
+use sample_games::{Draft, coin_game, coin_question, question_with};
 use std::alloc::Global;
 use std::test::Fail;
 use std::thread::Threads;

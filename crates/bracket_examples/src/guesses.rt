@@ -1,25 +1,16 @@
-//! Guesses: the first of all tables, after few up steps.
+//! Guesses: over the base of a bracket they are the first of all tables.
 
 ghost use Rattle.std.specs.Prelude.{◌≡◌, ◌≤◌, All, length};
 ghost use Rattle.game_model.specs.Limits.{unit};
 ghost use Rattle.game_model.specs.Query.{states};
 ghost use Rattle.game_model.specs.Dual.{IsZeroSet};
-ghost use Rattle.bracket_engine.specs.Limits.{most_rounds};
 
-use crate::brackets::value_bracket;
-use crate::counted::Counted;
-use expectations::{holds, same};
-use game_model::{Marks, Question, Side, UNIT};
-use random_games::{
-    Model, agreement_game, agreement_question, coin, coin_game, coin_question, contract,
-    plain_guess, retransmission, robot,
-};
-use sample_games::{chain, question_of};
+use expectations::same;
+use game_model::{Marks, Question, UNIT};
+use sample_games::plain_guess;
 use std::alloc::Global;
 use std::test::Fail;
-use std::thread::Threads;
-use upper_guess::{Alone, Witnesses, guess, guess_with};
-use zero_sets::zero_set;
+use upper_guess::guess;
 
 // Compares an upper table with the lesser of a guess and of the unit less the swapped values.
 fn are_the_lesser(uppers: &[u64], swapped_values: &[u64], guess: &[u64]) -> Result<(), Fail> {
@@ -52,141 +43,4 @@ pub(crate) fn agrees_with_the_plain_guess(
     are_the_lesser(uppers, swapped_values, &plain)?;
     let guessed = guess(alloc, &*question, &*zero, &*table)?;
     same("the guess", guessed.as_slice(), plain.as_slice())
-}
-
-/// The most up steps of whole tables that a guess is to make.
-const FEW: u64 = 60;
-
-// The up steps of the guess over the base after so many rounds.
-fn up_steps<R: Threads + Sync>(
-    rt: &R,
-    alloc: Global,
-    question: &Question<'_>,
-    rounds: u32,
-) -> Result<u64, Fail>
-    requires { rounds ≤ most_rounds }
-{
-    question.known();
-    let zero = zero_set(alloc, question)?;
-    let found = value_bracket(rt, alloc, question, &zero, rounds, 1)?;
-    let counted = Counted::of(&Alone {});
-    let _guess = guess_with(
-        &counted,
-        alloc,
-        &*question,
-        &zero,
-        &found.base,
-        &mut Witnesses::none(),
-    )?;
-    Ok(counted.up_steps())
-}
-
-// Compares the up steps of the guess over the base after so many rounds.
-fn makes_up_steps<R: Threads + Sync>(
-    rt: &R,
-    alloc: Global,
-    question: &Question<'_>,
-    rounds: u32,
-    count: u64,
-) -> Result<(), Fail>
-    requires { rounds ≤ most_rounds }
-{
-    let made = up_steps(rt, alloc, question, rounds)?;
-    same(rounds, made, count)
-}
-
-// The guess makes exactly so many up steps: without an excess it takes two at the values of the coin loop, and after
-// three rounds the first table of the excess that reaches one half is accepted.
-#[test]
-fn guesses_of_the_coin_loop_make_so_many_up_steps(rt: HostRuntime) -> Result<(), Fail> {
-    let alloc = rt.alloc();
-    let game = coin_game(alloc).ok_or("the game")?;
-    let question = coin_question(alloc, &game).ok_or("the question")?;
-    makes_up_steps(&rt, alloc, &question, 3, 1)?;
-    makes_up_steps(&rt, alloc, &question, 1_000, 2)
-}
-
-// The guess makes few up steps, after few rounds and after many.
-fn are_few<R: Threads + Sync>(
-    rt: &R,
-    alloc: Global,
-    name: &str,
-    question: &Question<'_>,
-) -> Result<(), Fail> {
-    for rounds in [3, 1_000] {
-        let count = up_steps(rt, alloc, question, rounds)?;
-        holds(
-            format_args!("few: {name}, {count} after {rounds} rounds"),
-            count <= FEW,
-        )?;
-    }
-    Ok(())
-}
-
-// The same of a structured model, for a player of either side.
-fn are_few_of<R: Threads + Sync>(
-    rt: &R,
-    alloc: Global,
-    name: &str,
-    model: Option<Model>,
-) -> Result<(), Fail> {
-    let model = model.ok_or("the model")?;
-    for side in [Side::Max, Side::Min] {
-        let question = model.question(alloc, side).ok_or("the question")?;
-        are_few(rt, alloc, name, &question)?;
-    }
-    Ok(())
-}
-
-// The same of the coin loop.
-fn are_few_of_the_coin<R: Threads + Sync>(rt: &R, alloc: Global) -> Result<(), Fail> {
-    let game = coin_game(alloc).ok_or("the game")?;
-    let question = coin_question(alloc, &game).ok_or("the question")?;
-    are_few(rt, alloc, "the coin loop", &question)
-}
-
-// The same of the agreement protocol.
-fn are_few_of_the_agreement<R: Threads + Sync>(rt: &R, alloc: Global) -> Result<(), Fail> {
-    let game = agreement_game(alloc).ok_or("the game")?;
-    let question = agreement_question(alloc, &game).ok_or("the question")?;
-    are_few(rt, alloc, "the agreement protocol", &question)
-}
-
-#[test]
-fn guesses_make_few_up_steps(rt: HostRuntime) -> Result<(), Fail> {
-    let alloc = rt.alloc();
-    are_few_of_the_coin(&rt, alloc)?;
-    are_few_of_the_agreement(&rt, alloc)?;
-    are_few_of(&rt, alloc, "the robot", robot(alloc))?;
-    are_few_of(&rt, alloc, "bounded retransmission", retransmission(alloc))?;
-    are_few_of(&rt, alloc, "contract signing", contract(alloc))?;
-    are_few_of(&rt, alloc, "the shared coin", coin(alloc))
-}
-
-#[test]
-fn a_guess_looks_first_at_the_states_that_refused_the_last_one(
-    rt: HostRuntime,
-) -> Result<(), Fail> {
-    let alloc = rt.alloc();
-    let game = chain(alloc, 8)?;
-    let question = question_of(alloc, &game, Side::Max, 7)?;
-    check_steps(alloc, &question, &[0, 0, 0, 0, 0, 0, 0, UNIT])
-}
-
-// Two guesses over one table of a chain of eight states take 6 up steps, and 1 more.
-fn check_steps(alloc: Global, question: &Question<'_>, lower: &[u64]) -> Result<(), Fail>
-    requires many { length lower.now ≡ states question.now }
-    requires units { All (λ v. v ≤ unit) lower.now }
-{
-    question.known();
-    let zero = zero_set(alloc, question)?;
-    let counted = Counted::of(&Alone {});
-    let mut witnesses = Witnesses::none();
-    // The five tables without an excess are made, and each is refused at another state. These states refuse all others
-    // up to the one that has the unit everywhere.
-    guess_with(&counted, alloc, &*question, &zero, &*lower, &mut witnesses)?;
-    let first = counted.up_steps();
-    // Now they refuse the five as well.
-    guess_with(&counted, alloc, &*question, &zero, &*lower, &mut witnesses)?;
-    same("up steps", (first, counted.up_steps()), (6, 7))
 }

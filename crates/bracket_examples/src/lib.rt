@@ -1,5 +1,5 @@
-//! Tests of brackets and of what is made of them, beside their clauses, over random and structured games: of
-//! thresholds, guesses and certificates.
+//! Tests of brackets and of what is made of them, beside their clauses, over random games and known ones: of thresholds
+//! and certificates.
 #![tactic(auto)]
 
 #[cfg(test)]
@@ -9,19 +9,11 @@ mod certificates;
 #[cfg(test)]
 mod closing;
 #[cfg(test)]
-mod counted;
-#[cfg(test)]
 mod guesses;
 #[cfg(test)]
 mod known;
 #[cfg(test)]
-mod lower_guesses;
-#[cfg(test)]
 mod mutants;
-#[cfg(test)]
-mod plain_ranks;
-#[cfg(test)]
-mod teams;
 #[cfg(test)]
 mod thresholds;
 #[cfg(test)]

@@ -15,7 +15,7 @@ use expectations::{are_more, holds, same};
 use game_model::Question;
 use game_outside::OutOfMemory;
 use plan_text::{Plan, PlanCause, read_plan, write_plan};
-use random_games::{Draw, Shape, random_game, random_question};
+use sample_games::{Draw, Shape, random_game, random_question};
 use std::alloc::Global;
 use std::test::Fail;
 use std::thread::Threads;

@@ -2,12 +2,10 @@
 //! exchanged, and lie around 1 less the dual's k-step values.
 
 use crate::drawn_models::{DrawnModel, MOST_STATES, draw_model};
-use crate::draws::Draws;
-use crate::plain_values::{LeavingGame, Staying};
-use crate::printed_lines::{PrintedLine, read_lines};
-use game_model::{Game, Side, UNIT};
+use game_model::{Game, Question, Side, UNIT};
 use game_outside::OpenGate;
-use run_rows::{Row, runs};
+use reference_values::{Staying, bounds_of_staying};
+use sample_games::{Draw, none_of, question};
 use std::alloc::Global;
 use std::process::Abort;
 use std::test::Fail;
@@ -15,6 +13,7 @@ use std::thread::Threads;
 use stogame_app::Status;
 use text_lines::MOST_BYTES;
 use tra_reader::read_tra;
+use worked_rows::{PrintedLine, Row, read_lines, runs};
 
 // At least as many rounds as steps are compared, and few enough that many bounds stay apart.
 const NUMBERS: &[&str] = &["--workers", "1", "--rounds", "6"];
@@ -115,14 +114,14 @@ fn side_of(asked: Asked, coalition: Coalition, is_second: bool) -> Side {
     }
 }
 
-// The dual of a model as a plain game: who maximises wants to leave the states with the label.
-fn dual_game<'g>(
+// The dual of a model as a plain question: who maximises wants to leave the states with the label.
+fn dual_question<'g>(
     alloc: Global,
     model: &DrawnModel,
     game: &'g Game,
     asked: Asked,
     coalition: Coalition,
-) -> Option<LeavingGame<'g>> {
+) -> Option<Question<'g>> {
     let mut sides = Vec::new(alloc);
     for is_second in &model.of_second {
         sides.push(side_of(asked, coalition, *is_second)).ok()?;
@@ -131,7 +130,7 @@ fn dual_game<'g>(
     for has_label in &model.has_label {
         outside.push(!*has_label).ok()?;
     }
-    LeavingGame::new(alloc, game, sides, outside)
+    question(game, sides, outside, none_of(alloc, game.states()).ok()?)
 }
 
 // What `check` writes of a model, and how it ends.
@@ -211,10 +210,10 @@ fn compare<R: Threads + Sync + Abort>(
     let dual_lines = read_lines(alloc, &dual_text)?;
     assert!(rt; ended == dual_ended, "{always} gives {ended:?}");
     assert!(rt; are_mirrored(&lines, &dual_lines), "{always}");
-    let plain = dual_game(alloc, model, game, asked, coalition).ok_or("no plain game")?;
+    let plain = dual_question(alloc, model, game, asked, coalition).ok_or("no plain question")?;
     let is_value = asked.always.ends_with("=?");
     for steps in 0..=MOST_STATES {
-        let staying = plain.staying(alloc, steps).ok_or("no values")?;
+        let staying = bounds_of_staying(alloc, &plain, steps).ok_or("no values")?;
         let lie = all_lie_around(&lines, &staying, steps, is_value).ok_or("no products")?;
         assert!(rt; lie, "{always} after {steps} steps");
     }
@@ -226,7 +225,7 @@ fn compare<R: Threads + Sync + Abort>(
 fn compare_drawn<R: Threads + Sync + Abort>(
     rt: &R,
     alloc: Global,
-    draws: &mut Draws,
+    draws: &mut Draw,
 ) -> Result<usize, Fail> {
     let model = draw_model(alloc, draws)?;
     let coalition = COALITIONS[draws.below(COALITIONS.len())];
@@ -244,7 +243,7 @@ fn compare_drawn<R: Threads + Sync + Abort>(
 #[test]
 fn what_always_holds_in_random_games_is_1_less_the_dual(rt: HostRuntime) -> Result<(), Fail> {
     let alloc = rt.alloc();
-    let mut draws = Draws::from_seed(41);
+    let mut draws = Draw::new(41);
     let mut apart = 0_usize;
     for _model in 0..250 {
         apart = apart.saturating_add(compare_drawn(&rt, alloc, &mut draws)?);

@@ -2,7 +2,7 @@
 
 ghost use Rattle.std.specs.Prelude.{◌<◌};
 
-use crate::draws::Draws;
+use sample_games::Draw;
 use std::alloc::Global;
 use std::test::Fail;
 
@@ -32,7 +32,7 @@ pub struct DrawnModel {
 }
 
 /// A model of two to six states.
-pub(crate) fn draw_model(alloc: Global, draws: &mut Draws) -> Result<DrawnModel, Fail> {
+pub(crate) fn draw_model(alloc: Global, draws: &mut Draw) -> Result<DrawnModel, Fail> {
     let states = 2 + draws.below(MOST_STATES as usize - 1) as u32;
     let tra = draw_transitions(alloc, draws, states)?;
     let of_second = draw_marks(alloc, draws, states, 2)?;
@@ -49,7 +49,7 @@ pub(crate) fn draw_model(alloc: Global, draws: &mut Draws) -> Result<DrawnModel,
 // Marks of some states: of so many states all but one are marked on average.
 fn draw_marks(
     alloc: Global,
-    draws: &mut Draws,
+    draws: &mut Draw,
     states: u32,
     often: usize,
 ) -> Result<Vec<bool>, Fail>
@@ -88,7 +88,7 @@ struct Transitions {
     tosses: u32,
 }
 
-fn draw_transitions(alloc: Global, draws: &mut Draws, states: u32) -> Result<String, Fail>
+fn draw_transitions(alloc: Global, draws: &mut Draw, states: u32) -> Result<String, Fail>
     requires { 0 < states }
 {
     let mut drawn = Transitions {
@@ -114,7 +114,7 @@ impl Transitions {
     fn add_state(
         &mut self,
         alloc: Global,
-        draws: &mut Draws,
+        draws: &mut Draw,
         states: u32,
         state: u32,
     ) -> Result<(), Fail>
@@ -131,7 +131,7 @@ impl Transitions {
     fn add_choice(
         &mut self,
         alloc: Global,
-        draws: &mut Draws,
+        draws: &mut Draw,
         states: u32,
         front: &str,
     ) -> Result<(), Fail>
@@ -152,7 +152,7 @@ impl Transitions {
     fn add_part(
         &mut self,
         alloc: Global,
-        draws: &mut Draws,
+        draws: &mut Draw,
         states: u32,
         front: &str,
         share: &str,

@@ -2,7 +2,7 @@
 
 ghost use Rattle.std.specs.Prelude.{◌<◌};
 
-use crate::draws::Draws;
+use sample_games::Draw;
 use std::alloc::Global;
 use std::test::Fail;
 
@@ -88,7 +88,7 @@ const DAMAGE: [u8; 23] = *b"0123456789 \t\r\n.:\"=/eap\0";
 /// A text of a file of a model with so many states, which denotes what the file is for.
 pub(crate) fn draw_text(
     alloc: Global,
-    draws: &mut Draws,
+    draws: &mut Draw,
     file: ModelFile,
     states: u32,
 ) -> Result<Vec<u8>, Fail>
@@ -104,7 +104,7 @@ pub(crate) fn draw_text(
 
 fn draw_lines(
     alloc: Global,
-    draws: &mut Draws,
+    draws: &mut Draw,
     file: ModelFile,
     states: u32,
 ) -> Result<Vec<String>, Fail>
@@ -124,7 +124,7 @@ fn draw_lines(
 }
 
 // The text of these lines. The last has an ending at times.
-fn text_of(alloc: Global, draws: &mut Draws, lines: &[String]) -> Result<Vec<u8>, Fail> {
+fn text_of(alloc: Global, draws: &mut Draw, lines: &[String]) -> Result<Vec<u8>, Fail> {
     let endings = ENDINGS[draws.below(ENDINGS.len())];
     let mut text = Vec::new(alloc);
     let mut ending = "";
@@ -147,14 +147,14 @@ struct Lines {
 }
 
 impl Lines {
-    fn begin(alloc: Global, draws: &mut Draws) -> Lines {
+    fn begin(alloc: Global, draws: &mut Draw) -> Lines {
         Lines {
             list: Vec::new(alloc),
             is_shuffled: draws.below(2) == 0,
         }
     }
 
-    fn add(&mut self, draws: &mut Draws, line: String) -> Result<(), Fail> {
+    fn add(&mut self, draws: &mut Draw, line: String) -> Result<(), Fail> {
         if self.is_shuffled {
             let place = draws.below(self.list.len() + 1);
             self.list.insert(place, line)?;
@@ -172,7 +172,7 @@ impl Lines {
     }
 }
 
-fn dtmc_lines(alloc: Global, draws: &mut Draws, states: u32) -> Result<Vec<String>, Fail>
+fn dtmc_lines(alloc: Global, draws: &mut Draw, states: u32) -> Result<Vec<String>, Fail>
     requires { 0 < states }
 {
     let mut lines = Lines::begin(alloc, draws);
@@ -186,7 +186,7 @@ fn dtmc_lines(alloc: Global, draws: &mut Draws, states: u32) -> Result<Vec<Strin
     lines.behind(header)
 }
 
-fn mdp_lines(alloc: Global, draws: &mut Draws, states: u32) -> Result<Vec<String>, Fail>
+fn mdp_lines(alloc: Global, draws: &mut Draw, states: u32) -> Result<Vec<String>, Fail>
     requires { 0 < states }
 {
     let mut lines = Lines::begin(alloc, draws);
@@ -206,7 +206,7 @@ fn mdp_lines(alloc: Global, draws: &mut Draws, states: u32) -> Result<Vec<String
 // Adds the lines of a choice, each with these words at its front.
 fn add_choice(
     alloc: Global,
-    draws: &mut Draws,
+    draws: &mut Draw,
     lines: &mut Lines,
     front: &str,
     states: u32,
@@ -223,7 +223,7 @@ fn add_choice(
     Ok(())
 }
 
-fn label_lines(alloc: Global, draws: &mut Draws, states: u32) -> Result<Vec<String>, Fail>
+fn label_lines(alloc: Global, draws: &mut Draw, states: u32) -> Result<Vec<String>, Fail>
     requires { 0 < states }
 {
     let items = LABELS[draws.below(LABELS.len())];
@@ -239,7 +239,7 @@ fn label_lines(alloc: Global, draws: &mut Draws, states: u32) -> Result<Vec<Stri
 // A line with some of the labels at a state.
 fn label_line(
     alloc: Global,
-    draws: &mut Draws,
+    draws: &mut Draw,
     items: &[Item],
     state: usize,
 ) -> Result<String, Fail> {
@@ -254,7 +254,7 @@ fn label_line(
 }
 
 // A line for each state, unless no owner is drawn.
-fn owner_lines(alloc: Global, draws: &mut Draws, states: u32) -> Result<Vec<String>, Fail> {
+fn owner_lines(alloc: Global, draws: &mut Draw, states: u32) -> Result<Vec<String>, Fail> {
     let items = PLAYERS[draws.below(PLAYERS.len())];
     let mut lines = Lines::begin(alloc, draws);
     for state in 0..states {
@@ -277,7 +277,7 @@ fn header_of(alloc: Global, items: &[Item]) -> Result<String, Fail> {
 }
 
 /// Changes one to three bytes.
-pub(crate) fn damage(draws: &mut Draws, text: &mut Vec<u8>) -> Result<(), Fail> {
+pub(crate) fn damage(draws: &mut Draw, text: &mut Vec<u8>) -> Result<(), Fail> {
     for _ in 0..1 + draws.below(3) {
         change_byte(draws, text)?;
     }
@@ -285,7 +285,7 @@ pub(crate) fn damage(draws: &mut Draws, text: &mut Vec<u8>) -> Result<(), Fail> 
 }
 
 // Replaces, drops or inserts a byte.
-fn change_byte(draws: &mut Draws, text: &mut Vec<u8>) -> Result<(), Fail> {
+fn change_byte(draws: &mut Draw, text: &mut Vec<u8>) -> Result<(), Fail> {
     let byte = DAMAGE[draws.below(DAMAGE.len())];
     let is_replaced = draws.below(2) == 0;
     if draws.below(3) != 0 && !text.is_empty() {

@@ -1,15 +1,15 @@
 //! Words that are drawn: the program reads them as a plain reading does.
 
-use crate::draws::Draws;
 use crate::plain_reading::{PlainWords, plain_words};
 use command_words::{AskedWords, AuditWords, CheckWords, CommandWords, SolveWords, read_words};
 use game_outside::{OpenGate, SteadyShelf, SteadySink};
-use run_rows::coin_loop_files;
+use sample_games::Draw;
 use std::alloc::Global;
 use std::process::Abort;
 use std::test::Fail;
 use std::thread::Threads;
 use stogame_app::{Status, run};
+use worked_rows::{coin_loop_files, words};
 
 const REACH: &str = "Pmax=? [ F \"goal\" ]";
 
@@ -62,14 +62,14 @@ const DRAWN: [&str; 39] = [
     "--=",
 ];
 
-fn draw_word(draws: &mut Draws) -> &'static str {
+fn draw_word(draws: &mut Draw) -> &'static str {
     DRAWN[draws.below(DRAWN.len())]
 }
 
 // These words with up to five words put between them, and one changed at times.
 fn draw_list(
     alloc: Global,
-    draws: &mut Draws,
+    draws: &mut Draw,
     command: &[&'static str],
 ) -> Result<Vec<&'static str>, Fail> {
     let mut list = command.to_vec(alloc)?;
@@ -176,13 +176,13 @@ fn ends_with_usage<R: Threads + Sync + Abort>(
 fn read_drawn<R: Threads + Sync + Abort>(
     rt: &R,
     alloc: Global,
-    draws: &mut Draws,
+    draws: &mut Draw,
     words: &[&'static str],
 ) -> Result<u32, Fail> {
     let mut commands = 0_u32;
     for _ in 0..2500 {
         let list = draw_list(alloc, draws, words)?;
-        let given = run_rows::words(alloc, &list)?;
+        let given = words(alloc, &list)?;
         let plain = plain_words(alloc, &list)?;
         let read = read_words(alloc, &given)?;
         assert!(rt;
@@ -206,7 +206,7 @@ fn read_drawn<R: Threads + Sync + Abort>(
 #[test]
 fn drawn_words_are_read_as_a_plain_reading_says(rt: HostRuntime) -> Result<(), Fail> {
     let alloc = rt.alloc();
-    let mut draws = Draws::from_seed(1);
+    let mut draws = Draw::new(1);
     for words in [CHECK, AUDIT, SOLVE] {
         let commands = read_drawn(&rt, alloc, &mut draws, words)?;
         assert!(rt;

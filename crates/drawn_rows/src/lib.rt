@@ -13,12 +13,6 @@ mod drawn_texts;
 #[cfg(test)]
 mod drawn_words;
 #[cfg(test)]
-mod draws;
-#[cfg(test)]
 mod plain_reading;
-#[cfg(test)]
-mod plain_values;
-#[cfg(test)]
-mod printed_lines;
 #[cfg(test)]
 mod random_cuts;

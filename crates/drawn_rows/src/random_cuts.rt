@@ -4,19 +4,19 @@ ghost use Rattle.std.specs.Prelude.{◌<◌};
 
 use crate::answers::{answer_in_pieces, answer_of_whole};
 use crate::drawn_texts::{ModelFile, damage, draw_text};
-use crate::draws::Draws;
 use game_outside::MemShelf;
-use run_rows::file_of_bytes;
+use sample_games::Draw;
 use std::alloc::Global;
 use std::process::Abort;
 use std::test::Fail;
+use worked_rows::file_of_bytes;
 
 const NAME: &str = "m";
 
-// Draws a text, and damages about half of those that are drawn.
+// Draw a text, and damages about half of those that are drawn.
 fn draw_good_or_bad(
     alloc: Global,
-    draws: &mut Draws,
+    draws: &mut Draw,
     file: ModelFile,
     states: u32,
 ) -> Result<Vec<u8>, Fail>
@@ -30,18 +30,18 @@ fn draw_good_or_bad(
 }
 
 // A shelf with this text, which gives pieces of 1 to 40 bytes.
-fn shelf_of(alloc: Global, draws: &mut Draws, text: &[u8]) -> Result<MemShelf, Fail> {
+fn shelf_of(alloc: Global, draws: &mut Draw, text: &[u8]) -> Result<MemShelf, Fail> {
     let mut files = Vec::new(alloc);
     files.push(file_of_bytes(alloc, NAME, text)?)?;
     let piece = 1 + draws.below(40);
     Ok(MemShelf::new(files, piece as u32, Vec::new(alloc)))
 }
 
-// Draws a text and reads it as a whole and in pieces. It gives whether the text is accepted.
+// Draw a text and reads it as a whole and in pieces. It gives whether the text is accepted.
 fn read_drawn<R: Abort>(
     rt: &R,
     alloc: Global,
-    draws: &mut Draws,
+    draws: &mut Draw,
     file: ModelFile,
 ) -> Result<bool, Fail> {
     let states = (1 + draws.below(4)) as u32;
@@ -57,11 +57,11 @@ fn read_drawn<R: Abort>(
     Ok(whole.is_accepted)
 }
 
-// Draws and reads so many texts. It gives how many are accepted.
+// Draw and reads so many texts. It gives how many are accepted.
 fn read_texts<R: Abort>(
     rt: &R,
     alloc: Global,
-    draws: &mut Draws,
+    draws: &mut Draw,
     file: ModelFile,
     count: u32,
 ) -> Result<u32, Fail> {
@@ -77,7 +77,7 @@ fn read_texts<R: Abort>(
 #[test]
 fn random_texts_in_pieces_are_read_as_whole_texts(rt: HostRuntime) -> Result<(), Fail> {
     let alloc = rt.alloc();
-    let mut draws = Draws::from_seed(1);
+    let mut draws = Draw::new(1);
     // In all at least 120 of the 500 are accepted and at least 122 refused.
     let files = [
         (ModelFile::Transitions, 168),

@@ -1,5 +1,5 @@
-//! Worked examples of the crates that compute over games: values, sets, guesses, ranks, brackets and formulas with
-//! others inside, over small games.
+//! Worked examples of the crates that compute over games: values, sets, traps, brackets and formulas with others
+//! inside, over small games.
 //!
 //! They stand over these crates, since a test in a crate proves that crate once more.
 #![tactic(auto)]
@@ -13,17 +13,9 @@ mod brackets;
 #[cfg(test)]
 mod drawn;
 #[cfg(test)]
-mod inductive;
-#[cfg(test)]
-mod lower_guesses;
-#[cfg(test)]
 mod nested_formulas;
 #[cfg(test)]
-mod ranks;
-#[cfg(test)]
 mod traps;
-#[cfg(test)]
-mod upper_guesses;
 #[cfg(test)]
 mod values;
 #[cfg(test)]

@@ -1,7 +1,7 @@
 //! Random formulas with formulas inside, the same for the same seed.
 
 use crate::formulas::{Asked, Coalition, Head, Share, Tree, Way};
-use random_games::Draw;
+use sample_games::Draw;
 use std::alloc::Global;
 
 // The thresholds that are drawn: ends, shares that values of small games meet, and others.

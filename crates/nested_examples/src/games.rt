@@ -2,8 +2,8 @@
 //! they say of thresholds is true.
 
 ghost use Rattle.std.specs.Prelude.{◌≤◌, IfOk};
-ghost use Rattle.formula_reader.specs.Formula.{formulas_inside, tree_of};
-ghost use Rattle.formula_tokens.specs.Limits.{longest};
+ghost use Rattle.rpatl_syntax.specs.Formula.{formulas_inside, tree_of};
+ghost use Rattle.rpatl_syntax.specs.Limits.{longest};
 ghost use Rattle.rpatl_syntax.specs.Spellable.{IsSpellable};
 ghost use Rattle.bracket_engine.specs.Limits.{most_rounds};
 ghost use Rattle.bounded_rounds.specs.Limits.{most_workers};
@@ -17,12 +17,12 @@ use crate::values::{Exact, share_of};
 use expectations::{holds, same};
 use game_outside::OpenGate;
 use nested_truth::{Nested, nested};
-use random_games::Draw;
 use rpatl_syntax::laws::{
     formulas_are_those_that_a_text_denotes, formulas_inside_are_few,
     formulas_of_texts_are_spellable,
 };
 use rpatl_syntax::{Formula, read_formula};
+use sample_games::Draw;
 use std::alloc::Global;
 use std::test::Fail;
 use std::thread::Threads;

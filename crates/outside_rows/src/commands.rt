@@ -6,15 +6,15 @@ use command_words::{CheckWords, CommandWords, SolveWords, read_words};
 use expectations::same;
 use formula_sets::is_flat;
 use rpatl_syntax::{Formula, PathKind, read_formula};
-use run_rows::{
+use std::alloc::Global;
+use std::test::Fail;
+use stogame_app::Status;
+use worked_rows::{
     AUDIT_OF_LOOP_OR_COIN, AUDIT_OF_TWO_PLAYERS, CHECK_OF_AGREEMENT, CHECK_OF_COIN_LOOP,
     COIN_LOOP_OUT_OF_ORDER, COIN_LOOP_REPORT, Case, Command, DRAWN_GAME, FIRST_OF_TWO_PLAYERS,
     MOST_OF_AGREEMENT, MOST_OF_COIN_LOOP, MOST_OF_LOOP_OR_COIN, NO_COMMAND, OTHER_VERSION,
     PLAN_OF_LOOP_OR_COIN, PLAN_OF_TWO_PLAYERS, Row, STATE_OUT_OF_RANGE,
 };
-use std::alloc::Global;
-use std::test::Fail;
-use stogame_app::Status;
 
 /// Cases with the names of the texts that each begins where no call fails, a space behind each name. Of each kind of
 /// command there is one at least: `each_kind_of_command_has_a_case` fails where one is missing.

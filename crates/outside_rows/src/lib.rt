@@ -1,4 +1,4 @@
-//! Rows over an outside that fails, is late or comes in pieces, and over texts that are refused, hostile or damaged.
+//! Rows over an outside that fails, is late or comes in pieces, and how workers pass its gate.
 //!
 //! Expected values were worked out by hand or by a program apart from this one.
 #![tactic(auto)]
@@ -8,17 +8,9 @@ mod adapters;
 #[cfg(test)]
 mod all_workers;
 #[cfg(test)]
-mod audit_faults;
-#[cfg(test)]
 mod commands;
 #[cfg(test)]
-mod damaged;
-#[cfg(test)]
 mod failing_calls;
-#[cfg(test)]
-mod hostile_files;
-#[cfg(test)]
-mod hostile_values;
 #[cfg(test)]
 mod late_workers;
 #[cfg(test)]
@@ -27,7 +19,5 @@ mod long_texts;
 mod names_begun;
 #[cfg(test)]
 mod pieces;
-#[cfg(test)]
-mod transitions;
 #[cfg(test)]
 mod workers;

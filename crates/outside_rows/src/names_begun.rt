@@ -5,11 +5,11 @@ ghost use Rattle.std.specs.Prelude.{None, false};
 use crate::commands::COMMANDS;
 use expectations::same;
 use game_outside::{Failed, OpenGate, Shelf, SteadyShelf, SteadySink};
-use run_rows::Case;
 use std::alloc::Global;
 use std::test::Fail;
 use std::thread::Threads;
 use stogame_app::run;
+use worked_rows::Case;
 
 // A shelf that notes each name that it begins, with a space behind it.
 #[derive(Drop)]

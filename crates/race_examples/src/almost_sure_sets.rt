@@ -13,7 +13,7 @@ use crate::searches::{longer, reached};
 use almost_sure::almost_sure;
 use expectations::{are_more, same};
 use game_model::{Question, Side};
-use random_games::{Draw, Shape, random_game, random_question};
+use sample_games::{Draw, Shape, random_game, random_question};
 use std::alloc::Global;
 use std::test::Fail;
 

@@ -9,7 +9,7 @@ use expectations::{are_more, same};
 use fixed_bellman::up_choice;
 use game_model::{Question, Side};
 use inductive_check::{check_upper, replies};
-use random_games::{Draw, Shape, random_game, random_question, swept_down};
+use sample_games::{Draw, Shape, random_game, random_question, swept_down};
 use std::alloc::Global;
 use std::test::Fail;
 use trap_sets::{lower_traps, traps};

@@ -4,7 +4,7 @@ ghost use Rattle.std.specs.Prelude.{◌≡◌, length};
 
 use expectations::same;
 use game_model::UNIT;
-use random_games::{coin_game, coin_question};
+use sample_games::{coin_game, coin_question};
 use std::test::Fail;
 use step_core::{Event, Refused, World, pack};
 

@@ -1,15 +1,11 @@
-//! Worked examples of the crates that read and write texts: shelves and sinks, numbers, transition, label and owner
-//! files, values, formulas, the questions that they pose, words, verdicts and certificates.
+//! Worked examples of the crates that read and write files: shelves and sinks, numbers, transition, label and owner
+//! files, values and certificates.
 //!
 //! They stand over these crates, since a test in a crate proves that crate once more.
 #![tactic(auto)]
 
 #[cfg(test)]
 mod audits;
-#[cfg(test)]
-mod duals;
-#[cfg(test)]
-mod formulas;
 #[cfg(test)]
 mod labels;
 #[cfg(test)]
@@ -19,12 +15,6 @@ mod outside;
 #[cfg(test)]
 mod plans;
 #[cfg(test)]
-mod questions;
-#[cfg(test)]
 mod transitions;
 #[cfg(test)]
 mod values;
-#[cfg(test)]
-mod verdict_lines;
-#[cfg(test)]
-mod words;

@@ -1,12 +1,12 @@
 //! Certificates that are audited.
 
-use expectations::same;
-use game_outside::OpenGate;
-use run_rows::{
+use crate::{
     Answer, Audited, Case, Command, FIRST_OF_TWO_PLAYERS, MOST_OF_COIN_LOOP,
     MOST_OF_COIN_LOOP_WITH_PLAN, MOST_OF_LOOP_OR_COIN, Row, all_write, answers_write,
     audit_refuses, printed_are_audited, runs,
 };
+use expectations::same;
+use game_outside::OpenGate;
 use std::alloc::Global;
 use std::test::Fail;
 use std::thread::Threads;

@@ -1,11 +1,11 @@
 //! Certificates, as they are printed.
 
-use expectations::same;
-use plan_text::{Plan, read_plan};
-use run_rows::{
+use crate::{
     Case, Command, LOOP_OR_COIN_PLAN, MOST_OF_COIN_LOOP_WITH_PLAN, PLAN_OF_LOOP_OR_COIN,
     PLAN_OF_TWO_PLAYERS, all_write,
 };
+use expectations::same;
+use plan_text::{Plan, read_plan};
 use std::alloc::Global;
 use std::test::Fail;
 use stogame_app::Status;

@@ -1,6 +1,6 @@
 //! Formulas that are refused.
 
-use run_rows::{Answer, Command, MOST_OF_COIN_LOOP, answers_write, push_times, refuses};
+use crate::{Answer, Command, MOST_OF_COIN_LOOP, answers_write, push_times, refuses};
 use std::alloc::Global;
 use std::test::Fail;
 use std::thread::Threads;

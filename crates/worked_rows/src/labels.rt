@@ -1,6 +1,6 @@
 //! Label files, owner files and questions that are refused.
 
-use run_rows::{Case, Command, GOAL_AT_2, MOST_OF_COIN_LOOP, Row, TWO_PLAYERS, all_write};
+use crate::{Case, Command, GOAL_AT_2, MOST_OF_COIN_LOOP, Row, TWO_PLAYERS, all_write};
 use std::test::Fail;
 use stogame_app::Status;
 

@@ -1,8 +1,8 @@
 //! Games that a seed draws.
 
+use crate::{Case, Command, OF_THREE_STATES, USAGE, all_write, ends, words};
 use expectations::{holds, same};
 use game_outside::{Gate, HoldGate, OpenGate, SteadyShelf};
-use run_rows::{Case, Command, OF_THREE_STATES, USAGE, all_write, ends, words};
 use std::alloc::Global;
 use std::sync::atomic::{AtomicU32, Ordering};
 use std::test::Fail;

@@ -1,10 +1,10 @@
 //! Formulas with others inside.
 
-use expectations::same;
-use game_outside::{Gate, HoldGate, OpenGate};
-use run_rows::{
+use crate::{
     Answer, Case, Command, MOST_OF_COIN_LOOP, Row, all_write, answers_write, comes_to, runs,
 };
+use expectations::same;
+use game_outside::{Gate, HoldGate, OpenGate};
 use std::alloc::Global;
 use std::test::Fail;
 use std::thread::Threads;

@@ -1,6 +1,6 @@
 //! Certificates that the program wrote when its values had 12 decimals, as it wrote them: they mean what they meant.
 
-use run_rows::{
+use crate::{
     Case, Command, FIRST_OF_TWO_PLAYERS, MOST_OF_COIN_LOOP, MOST_OF_LOOP_OR_COIN, all_write,
 };
 use std::test::Fail;

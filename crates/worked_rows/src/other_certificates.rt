@@ -1,6 +1,6 @@
 //! Certificates that were written for another formula or another model: each is refused, or is right there too.
 
-use run_rows::{
+use crate::{
     Audited, Case, Command, FIRST_OF_TWO_PLAYERS, FORK, MOST_OF_COIN_LOOP_WITH_PLAN,
     MOST_OF_LOOP_OR_COIN, Row, all_write, printed_are_audited,
 };

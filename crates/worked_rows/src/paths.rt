@@ -3,12 +3,12 @@
 use crate::traps::{
     GOAL_AT_2, GOAL_AT_3, NO_ROUNDS, SECOND_OWNS_1, STAY_OR_COIN, TO_AND_FRO, TRAPS,
 };
-use expectations::holds;
-use game_outside::{HoldGate, OpenGate};
-use run_rows::{
+use crate::{
     Answer, Case, Command, MOST_OF_COIN_LOOP, Row, all_write, answers_write, audit_writes,
     comes_to, runs,
 };
+use expectations::holds;
+use game_outside::{HoldGate, OpenGate};
 use std::alloc::Global;
 use std::test::Fail;
 use std::thread::Threads;

@@ -1,7 +1,7 @@
 //! Bounds that a solver finds and the checks of an audit accept.
 
 use crate::traps::{GOAL_AT_3, TO_AND_FRO};
-use run_rows::{
+use crate::{
     Answer, Audited, COIN_LOOP, Case, Command, GOAL_AT_1, GOAL_AT_2, Row, SECOND_OWNS_1,
     TWO_PLAYERS, all_write, answers_write, printed_are_audited,
 };

@@ -1,6 +1,6 @@
 //! The states from which the goal is reached almost surely.
 
-use run_rows::{Case, Command, FORK, MOST_OF_AGREEMENT, MOST_OF_COIN_LOOP, Row, all_write};
+use crate::{Case, Command, FORK, MOST_OF_AGREEMENT, MOST_OF_COIN_LOOP, Row, all_write};
 use std::test::Fail;
 use stogame_app::Status;
 

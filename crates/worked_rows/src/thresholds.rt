@@ -1,11 +1,11 @@
 //! Thresholds, and what the bounds say of them.
 
-use expectations::{holds, same};
-use game_outside::OpenGate;
-use run_rows::{
+use crate::{
     Answer, COIN_LOOP, Case, Command, GOAL_AT_2, MOST_OF_AGREEMENT, MOST_OF_COIN_LOOP, ONE_WORKER,
     Row, SECOND_OWNS_1, TWO_PLAYERS, all_write, answers_write, runs,
 };
+use expectations::{holds, same};
+use game_outside::OpenGate;
 use std::alloc::Global;
 use std::test::Fail;
 use std::thread::Threads;

@@ -1,6 +1,6 @@
 //! Upper tables that are lowered to the best exits of traps.
 
-use run_rows::{Audited, COIN_LOOP, Case, Command, GOAL_AT_1, Row, all_write, printed_are_audited};
+use crate::{Audited, COIN_LOOP, Case, Command, GOAL_AT_1, Row, all_write, printed_are_audited};
 use std::test::Fail;
 use stogame_app::Status;
 

@@ -1,6 +1,6 @@
 //! Values of models.
 
-use run_rows::{
+use crate::{
     COIN_LOOP_REPORT, Case, Command, FORK, GOAL_AT_2, MOST_OF_AGREEMENT, MOST_OF_COIN_LOOP,
     ONE_WORKER, Row, SECOND_OWNS_1, TWO_PLAYERS, all_write,
 };

@@ -1,0 +1,10 @@
+use Rattle.std.proofs.Common.{◌≡◌, ◌≤◌, length}
+use Rattle.std.specs.Prelude.{All}
+use Rattle.game_model.specs.Limits.{unit}
+use Rattle.guess_examples.proofs.teams.nothing.Given as goal
+
+abbrev pub invariant-loop-state : goal.invariant-loop-state
+invariant-loop-state l = record {
+  many : length l.table.items ≡ l._state;
+  units : All (λ v. v ≤ unit) l.table.items;
+}

@@ -1,0 +1,11 @@
+use Rattle.std.proofs.Common.{◌≡◌, ◌≤◌, length}
+use Rattle.std.specs.Prelude.{All}
+use Rattle.game_model.specs.Query.{states}
+use Rattle.game_model.specs.Limits.{unit}
+use Rattle.sample_games.proofs.plain_tables.first_of_excess.Given as goal
+
+abbrev pub invariant-loop-step : goal.invariant-loop-step
+invariant-loop-step l = record {
+  many : length l.table.items ≡ states l.question;
+  units : All (λ v. v ≤ unit) l.table.items;
+}

@@ -1,0 +1,32 @@
+//! Structured games of one player, made as the tool of the measurements makes its models: the states are numbered and
+//! the weights are per cent as there.
+
+pub mod contract;
+mod numbered;
+pub mod retransmission;
+pub mod robot;
+pub mod shared_coin;
+
+use crate::draft::question;
+use game_model::{Game, Question, Side};
+use std::alloc::Global;
+
+/// A game and its goal states.
+#[derive(Drop)]
+pub struct Model {
+    pub game: Game,
+    pub goal: Vec<bool>,
+}
+
+impl Model {
+    /// How likely can a goal be reached by a player of this side, who chooses everywhere?
+    pub fn question(&self, alloc: Global, side: Side) -> Option<Question<'_>> {
+        let states = self.game.states() as usize;
+        question(
+            &self.game,
+            vec![in alloc; side; states].ok()?,
+            self.goal.clone().ok()?,
+            vec![in alloc; false; states].ok()?,
+        )
+    }
+}

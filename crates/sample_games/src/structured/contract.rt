@@ -1,0 +1,36 @@
+// Contract signing by two parties.
+use super::Model;
+use crate::draft::Draft;
+use std::alloc::Global;
+
+/// The stages of the protocol.
+const STAGES: u32 = 200;
+
+/// The state in which a party has the advantage.
+const ADVANTAGE: u32 = STAGES;
+
+/// The state in which none has.
+const FAIR: u32 = STAGES + 1;
+
+/// The parties release secrets in turn: at each stage a party releases the next one, which succeeds with probability
+/// 0.9999, or stops, and then the last stage alone gives the other one the advantage, with 0.5. The weights are per ten
+/// thousand. The goal is the advantage.
+pub fn contract(alloc: Global) -> Option<Model> {
+    let mut draft = Draft::new(alloc, STAGES + 2);
+    let mut goal = Vec::new(alloc);
+    for stage in 0..STAGES - 1 {
+        draft.two(alloc, &[(stage + 1, 9_999), (FAIR, 1)], &[(FAIR, 10_000)])?;
+        goal.push(false).ok()?;
+    }
+    let last = [(ADVANTAGE, 9_999), (FAIR, 1)];
+    draft.two(alloc, &last, &[(ADVANTAGE, 5_000), (FAIR, 5_000)])?;
+    goal.push(false).ok()?;
+    draft.one(alloc, &[(ADVANTAGE, 10_000)])?;
+    goal.push(true).ok()?;
+    draft.one(alloc, &[(FAIR, 10_000)])?;
+    goal.push(false).ok()?;
+    Some(Model {
+        game: draft.game(alloc)?,
+        goal,
+    })
+}

@@ -1,0 +1,79 @@
+// Models from a rule of successors.
+use super::Model;
+use crate::draft::{Draft, merged};
+use std::alloc::Global;
+
+/// The most states that are numbered.
+const MOST_NUMBERED: usize = 1_000;
+
+/// A state, by what holds in it.
+pub trait Situation: Copy + PartialEq {
+    /// The choices there: each is a list of states that it leads to, with the probability of each in per cent.
+    fn choices(self, alloc: Global) -> Option<Vec<Vec<(Self, u64)>>>;
+
+    /// Whether it is a goal.
+    fn is_goal(self) -> bool;
+}
+
+/// The model of the states that are reached from the first one, numbered breadth first.
+pub(crate) fn model_from<S: Situation>(alloc: Global, first: S) -> Option<Model> {
+    let states = reached(alloc, first)?;
+    let mut draft = Draft::new(alloc, u32::try_from(states.len()).ok()?);
+    let mut goal = Vec::new(alloc);
+    for state in &states {
+        add_state(alloc, &mut draft, &states, *state)?;
+        goal.push(state.is_goal()).ok()?;
+    }
+    Some(Model {
+        game: draft.game(alloc)?,
+        goal,
+    })
+}
+
+// The states that are reached, breadth first, where there are not too many.
+fn reached<S: Situation>(alloc: Global, first: S) -> Option<Vec<S>> {
+    let mut states = Vec::new(alloc);
+    states.push(first).ok()?;
+    for place in 0..MOST_NUMBERED {
+        if place >= states.len() {
+            return Some(states);
+        }
+        let choices = states[place].choices(alloc)?;
+        for choice in &choices {
+            add_new(&mut states, choice)?;
+        }
+    }
+    None
+}
+
+// Adds those successors that are not there yet.
+fn add_new<S: Situation>(states: &mut Vec<S>, choice: &[(S, u64)]) -> Option<()> {
+    for (to, _) in choice {
+        if !states.iter().any(|state| *state == *to) {
+            states.push(*to).ok()?;
+        }
+    }
+    Some(())
+}
+
+// Adds the next state of a draft.
+fn add_state<S: Situation>(alloc: Global, draft: &mut Draft, states: &[S], state: S) -> Option<()> {
+    for choice in &state.choices(alloc)? {
+        draft.choice(alloc, &edges_of(alloc, states, choice)?)?;
+    }
+    draft.end_state(alloc)
+}
+
+// The edges of a choice, by numbers of states.
+fn edges_of<S: Situation>(
+    alloc: Global,
+    states: &[S],
+    choice: &[(S, u64)],
+) -> Option<Vec<(u32, u64)>> {
+    let mut parts = Vec::new(alloc);
+    for (to, part) in choice {
+        let number = states.iter().position(|state| *state == *to)?;
+        parts.push((u32::try_from(number).ok()?, *part)).ok()?;
+    }
+    merged(alloc, &parts)
+}
