@@ -47,12 +47,7 @@ pub(crate) fn draw_model(alloc: Global, draws: &mut Draw) -> Result<DrawnModel, 
 }
 
 // Marks of some states: of so many states all but one are marked on average.
-fn draw_marks(
-    alloc: Global,
-    draws: &mut Draw,
-    states: u32,
-    often: usize,
-) -> Result<Vec<bool>, Fail>
+fn draw_marks(alloc: Global, draws: &mut Draw, states: u32, often: usize) -> Result<Vec<bool>, Fail>
     requires { 0 < often }
 {
     let mut marks = Vec::new(alloc);

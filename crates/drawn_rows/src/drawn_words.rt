@@ -9,7 +9,7 @@ use std::process::Abort;
 use std::test::Fail;
 use std::thread::Threads;
 use stogame_app::{Status, run};
-use worked_rows::{coin_loop_files, words};
+use worked_rows::coin_loop_files;
 
 const REACH: &str = "Pmax=? [ F \"goal\" ]";
 
@@ -182,7 +182,7 @@ fn read_drawn<R: Threads + Sync + Abort>(
     let mut commands = 0_u32;
     for _ in 0..2500 {
         let list = draw_list(alloc, draws, words)?;
-        let given = words(alloc, &list)?;
+        let given = worked_rows::words(alloc, &list)?;
         let plain = plain_words(alloc, &list)?;
         let read = read_words(alloc, &given)?;
         assert!(rt;

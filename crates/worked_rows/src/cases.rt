@@ -1,12 +1,12 @@
 //! Commands with what they write, for tests of the outside.
 
-use crate::printed_plans::{
-    FIRST_OF_TWO_PLAYERS, LOOP_OR_COIN_PLAN, MOST_OF_LOOP_OR_COIN, TWO_PLAYERS_PLAN,
-};
 use crate::commands::Command;
 use crate::models::{
     AGREEMENT, AGREEMENT_LABELS, AGREEMENT_OWNERS, COIN_LOOP, COIN_LOOP_REPORT, GOAL_AT_1,
     OF_THREE_STATES, USAGE,
+};
+use crate::printed_plans::{
+    FIRST_OF_TWO_PLAYERS, LOOP_OR_COIN_PLAN, MOST_OF_LOOP_OR_COIN, TWO_PLAYERS_PLAN,
 };
 use crate::rows::{ONE_WORKER, Row};
 use stogame_app::Status;

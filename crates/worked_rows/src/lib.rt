@@ -6,23 +6,16 @@
 #![tactic(auto)]
 
 mod audit_checks;
-mod cases;
-mod checks;
-mod coin_loop;
-mod commands;
-mod models;
-mod printed_lines;
-mod printed_plans;
-mod rows;
-mod solutions;
-mod tables;
-
 #[cfg(test)]
 mod audits;
+mod cases;
 #[cfg(test)]
 mod certificates;
+mod checks;
+mod coin_loop;
 #[cfg(test)]
 mod command_lines;
+mod commands;
 #[cfg(test)]
 mod formulas;
 #[cfg(test)]
@@ -31,6 +24,7 @@ mod labels;
 mod made;
 #[cfg(test)]
 mod many_choices;
+mod models;
 #[cfg(test)]
 mod nested;
 #[cfg(test)]
@@ -39,10 +33,15 @@ mod old_certificates;
 mod other_certificates;
 #[cfg(test)]
 mod paths;
+mod printed_lines;
+mod printed_plans;
+mod rows;
+mod solutions;
 #[cfg(test)]
 mod solve;
 #[cfg(test)]
 mod sure;
+mod tables;
 #[cfg(test)]
 mod thresholds;
 #[cfg(test)]
