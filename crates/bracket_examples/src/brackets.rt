@@ -4,7 +4,7 @@ ghost use Rattle.std.specs.Prelude.{◌≡◌, ◌≤◌, ◌<◌, [], ◌∷◌
 ghost use Rattle.game_model.specs.Limits.{unit};
 ghost use Rattle.game_model.specs.Query.{states};
 ghost use Rattle.game_model.specs.Dual.{IsZeroSet};
-ghost use Rattle.rpatl_syntax.specs.declared.formula.Bound.TheVariants.{AskMax};
+ghost use Rattle.formula_reader.specs.declared.formula.Bound.TheVariants.{AskMax};
 ghost use Rattle.round_workers.specs.Share.{most_workers};
 ghost use Rattle.bracket_engine.specs.Limits.{most_rounds};
 ghost use Rattle.bracket_engine.specs.Found.{IsFound};

@@ -1,7 +1,7 @@
 //! Duals of formulas, printed.
 
 ghost use Rattle.std.specs.Prelude.{◌≡◌, ◌↔◌, ◌≤◌, IfOk, IsTrue};
-ghost use Rattle.rpatl_syntax.specs.declared.formula.PathKind.TheVariants.{Always};
+ghost use Rattle.formula_reader.specs.declared.formula.PathKind.TheVariants.{Always};
 ghost use Rattle.rpatl_syntax.specs.Dual.{IsAtMostOne};
 
 use distributions::Frac;

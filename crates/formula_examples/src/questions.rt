@@ -2,8 +2,8 @@
 
 ghost use Rattle.std.specs.Prelude.{◌≡◌, ◌↔◌, IfOk, IsTrue, length};
 ghost use Rattle.formula_sets.specs.Posing.{IsUntil};
-ghost use Rattle.rpatl_syntax.specs.declared.formula.PathKind.TheVariants.{Next};
-ghost use Rattle.rpatl_syntax.specs.Formula.{IsFlat, tree_of};
+ghost use Rattle.formula_reader.specs.declared.formula.PathKind.TheVariants.{Next};
+ghost use Rattle.formula_reader.specs.Formula.{IsFlat, tree_of};
 
 use expectations::same;
 use formula_sets::{is_flat, pose, pose_next};

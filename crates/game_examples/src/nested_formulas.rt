@@ -1,7 +1,7 @@
 //! Worked formulas with formulas inside.
 
 ghost use Rattle.std.specs.Prelude.{◌≡◌, ◌≤◌, None, IfOk, codes, length};
-ghost use Rattle.rpatl_syntax.specs.Formula.{Label, True, formulas_inside, state_of, tree_of};
+ghost use Rattle.formula_reader.specs.Formula.{Label, True, formulas_inside, state_of, tree_of};
 ghost use Rattle.rpatl_syntax.specs.Spellable.{IsShare, IsSpellable};
 ghost use Rattle.bracket_engine.specs.Limits.{most_rounds};
 

@@ -6,7 +6,8 @@ ghost use Rattle.game_model.specs.Ranks.{Ranked};
 
 use expectations::{holds, same};
 use game_model::{Game, Question, Side, UNIT};
-use rank_certificate::{LowerGuess, RankPlan, lower_guess, rank_table};
+use lower_guess::{LowerGuess, lower_guess};
+use rank_certificate::{RankPlan, rank_table};
 use sample_games::{chain, coin_loop, four_states, question_of, wait_or_coin};
 use std::alloc::Global;
 use std::test::Fail;

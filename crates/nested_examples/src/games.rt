@@ -2,8 +2,8 @@
 //! they say of thresholds is true.
 
 ghost use Rattle.std.specs.Prelude.{◌≤◌, IfOk};
-ghost use Rattle.rpatl_syntax.specs.Formula.{formulas_inside, tree_of};
-ghost use Rattle.rpatl_syntax.specs.Limits.{longest};
+ghost use Rattle.formula_reader.specs.Formula.{formulas_inside, tree_of};
+ghost use Rattle.formula_tokens.specs.Limits.{longest};
 ghost use Rattle.rpatl_syntax.specs.Spellable.{IsSpellable};
 ghost use Rattle.bracket_engine.specs.Limits.{most_rounds};
 ghost use Rattle.bounded_rounds.specs.Limits.{most_workers};
@@ -15,12 +15,10 @@ use crate::models::{Model, random_model, random_trapping_game};
 use crate::tally::Tally;
 use crate::values::{Exact, share_of};
 use expectations::{holds, same};
+use formula_reader::laws::{formulas_are_those_that_a_text_denotes, formulas_inside_are_few};
 use game_outside::OpenGate;
 use nested_truth::{Nested, nested};
-use rpatl_syntax::laws::{
-    formulas_are_those_that_a_text_denotes, formulas_inside_are_few,
-    formulas_of_texts_are_spellable,
-};
+use rpatl_syntax::laws::formulas_of_texts_are_spellable;
 use rpatl_syntax::{Formula, read_formula};
 use sample_games::Draw;
 use std::alloc::Global;

@@ -1,4 +1,4 @@
-use Rattle.rpatl_syntax.specs.Formula.{tree_of}
+use Rattle.formula_reader.specs.Formula.{tree_of}
 use Rattle.nested_examples.proofs.games.formula_of.Goals as goal
 
 pub returns-in-Ok-clause-spellable : goal.returns-in-Ok-clause-spellable
