@@ -1,6 +1,7 @@
 //! What an elimination did, to solve by.
 
-ghost use Rattle.std.specs.Prelude.{◌≡◌, ◌+◌, ◌*◌, ◌^◌, ◌<◌, ◌≤◌, IfOk, length, vec_len};
+ghost use Rattle.std.specs.Prelude.{◌≡◌, ◌+◌, ◌*◌, ◌^◌, ◌<◌, ◌≤◌, EachIndex, IfOk, length, slice_get, vec_len};
+ghost use Rattle.std.specs.Float.{float_zero};
 ghost use Rattle.float_games.specs.Nodes.{nodes_in};
 
 use crate::elimination::{Shape, eliminate, row_of};
@@ -19,7 +20,7 @@ pub struct Factors {
 }
 
 impl Factors {
-    ghost use Rattle.band_elimination.specs.Rows.{rows_of};
+    ghost use Rattle.band_elimination.specs.Rows.{rows_of, LeavesNothing};
 
     /// The factors of a chain whose edges stay in this band; others are left out. The only error is want of memory.
     pub fn of_chain(alloc: Global, chain: &Chain, band: Band) -> Result<Factors, OutOfMemory>
@@ -39,6 +40,7 @@ impl Factors {
     /// nothing leaves, the value is 0.
     pub fn solve(&self, sums: &mut [f64])
         requires { length sums.old ≡ rows_of self.now }
+        ensures { EachIndex sums.new (λ k. LeavesNothing self.now k → slice_get sums.new k ≡ Some float_zero) }
     {
         for row in (0..self.shape.rows).rev() {
             sums[row] = self.sum(sums, row);
@@ -63,6 +65,7 @@ impl Factors {
     fn value(&self, values: &[f64], row: usize) -> f64
         requires row { row < rows_of self.now }
         requires values { length values.now ≡ rows_of self.now }
+        ensures { LeavesNothing self.now row → result ≡ float_zero }
     {
         let out = self.outs[row];
         if !(0.0 < out) {

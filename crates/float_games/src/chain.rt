@@ -1,6 +1,7 @@
 //! The chain of a policy.
 
-ghost use Rattle.std.specs.Prelude.{◌≡◌, ◌^◌, ◌<◌, ◌≤◌, IfOk, length, vec_len};
+ghost use Rattle.std.specs.Float.{◌≤ᶠ◌, float_zero};
+ghost use Rattle.std.specs.Prelude.{◌≡◌, ◌+◌, ◌^◌, ◌<◌, ◌≤◌, EachIndex, IfOk, length, slice_index, vec_len};
 
 use crate::game::FloatGame;
 use game_outside::OutOfMemory;
@@ -35,7 +36,7 @@ struct Row {
 const MOST: usize = 2_147_483_647;
 
 impl<'g> Chain<'g> {
-    ghost use Rattle.float_games.specs.Nodes.{nodes_of, nodes_in};
+    ghost use Rattle.float_games.specs.Nodes.{nodes_of, nodes_in, choice_in, successors_in, shares_in};
 
     /// The chain of a policy.
     pub fn of_policy(game: &'g FloatGame, policy: &'g [u32]) -> Chain<'g>
@@ -80,6 +81,8 @@ impl<'g> Chain<'g> {
     /// The successors of a node.
     pub fn successors(&self, node: usize) -> &[u32]
         requires { node < nodes_in self.now }
+        ensures list { result.now ≡ successors_in self.now node }
+        ensures inside { EachIndex result.now (λ k. slice_index result.now k < nodes_in self.now) }
     {
         let row = self.row(node);
         if row.end < row.begin {
@@ -91,6 +94,8 @@ impl<'g> Chain<'g> {
     /// The shares of the edges of a node, in the order of its successors.
     pub fn shares(&self, node: usize) -> &[f64]
         requires { node < nodes_in self.now }
+        ensures list { result.now ≡ shares_in self.now node }
+        ensures all { length result.now ≡ length (successors_in self.now node) }
     {
         let row = self.row(node);
         if row.end < row.begin {
@@ -102,8 +107,11 @@ impl<'g> Chain<'g> {
     /// Where the edges of a node lie.
     fn row(&self, node: usize) -> Row
         requires { node < nodes_in self.now }
-        ensures choice { result.choice < vec_len self.now.game.now.gives }
-        ensures end { result.end ≤ vec_len self.now.game.now.to }
+        ensures choice { result.choice ≡ choice_in self.now node }
+        ensures within { result.choice < vec_len self.now.game.now.gives }
+        ensures begin { result.begin ≡ slice_index self.now.game.now.edge_starts.items result.choice }
+        ensures end { result.end ≡ slice_index self.now.game.now.edge_starts.items (result.choice + 1) }
+        ensures last { result.end ≤ vec_len self.now.game.now.to }
     {
         let choice = (self.policy[node] as usize).min(self.game.gives.len() - 1);
         Row {
@@ -118,6 +126,7 @@ impl<'g> Chain<'g> {
     pub fn pass(&self, sums: &[f64], values: &mut [f64]) -> f64
         requires sums { length sums.now ≡ nodes_in self.now }
         requires values { length values.old ≡ nodes_in self.now }
+        ensures { float_zero ≤ᶠ result }
     {
         let mut change = 0.0;
         let choices = self.game.gives.len();

@@ -1,6 +1,6 @@
 //! A game under way.
 
-ghost use Rattle.std.specs.Prelude.{◌≡◌, IfOk};
+ghost use Rattle.std.specs.Prelude.{◌≡◌, ◌+◌, ◌≤◌, IfOk, IfSome, OnOk, if◌then◌else◌};
 
 use crate::game::{FloatGame, Lists, NO_MARK};
 use game_outside::OutOfMemory;
@@ -21,6 +21,8 @@ pub struct Draft {
 }
 
 impl Draft {
+    ghost use Rattle.float_games.specs.Nodes.{nodes_of, choices_of, ended_nodes, ended_choices};
+
     /// Nothing so far, with room for so many nodes, choices and edges. The only error of this and the other calls is
     /// want of memory; more than 2^32 - 1 choices or edges count as that.
     pub fn new(
@@ -28,7 +30,10 @@ impl Draft {
         nodes: usize,
         choices: usize,
         edges: usize,
-    ) -> Result<Draft, OutOfMemory> {
+    ) -> Result<Draft, OutOfMemory>
+        ensures nodes { IfOk result (λ d. ended_nodes d ≡ 0) }
+        ensures choices { IfOk result (λ d. ended_choices d ≡ 0) }
+    {
         let mut choice_starts = Vec::with_capacity(alloc, nodes.saturating_add(1))?;
         choice_starts.push(0)?;
         let mut edge_starts = Vec::with_capacity(alloc, choices.saturating_add(1))?;
@@ -52,12 +57,17 @@ impl Draft {
     }
 
     /// How many choices have ended: the number of the next one.
-    pub fn choices(&self) -> usize {
+    pub fn choices(&self) -> usize
+        ensures { result ≡ ended_choices self.now }
+    {
         self.lists.gives.len()
     }
 
     /// An edge of the choice under way to a node, with its weight. Edges to the node under way are left out.
-    pub fn add_edge(&mut self, to: u32, weight: f64) -> Result<(), OutOfMemory> {
+    pub fn add_edge(&mut self, to: u32, weight: f64) -> Result<(), OutOfMemory>
+        ensures nodes { ended_nodes self.new ≡ ended_nodes self.old }
+        ensures choices { ended_choices self.new ≡ ended_choices self.old }
+    {
         if to as usize == self.lists.maximises.len() {
             return Ok(());
         }
@@ -68,7 +78,10 @@ impl Draft {
     }
 
     /// What the choice under way gives where it leaves with this weight: a value in units.
-    pub fn add_exit(&mut self, weight: f64, value: f64) {
+    pub fn add_exit(&mut self, weight: f64, value: f64)
+        ensures nodes { ended_nodes self.new ≡ ended_nodes self.old }
+        ensures choices { ended_choices self.new ≡ ended_choices self.old }
+    {
         self.total += weight;
         self.left += weight;
         self.given += weight * value;
@@ -77,7 +90,10 @@ impl Draft {
     /// Ends the choice under way: weights become shares. By its mark who made the game knows it again, as by its place
     /// among the choices of its state. One that leads nowhere but to its own node is left out; the answer is whether it
     /// is in.
-    pub fn end_choice(&mut self, mark: u32) -> Result<bool, OutOfMemory> {
+    pub fn end_choice(&mut self, mark: u32) -> Result<bool, OutOfMemory>
+        ensures nodes { ended_nodes self.new ≡ ended_nodes self.old }
+        ensures one { IfOk result (λ b. ended_choices self.new ≡ ended_choices self.old + (if b then 1 else 0)) }
+    {
         let total = self.total;
         let is_in = 0.0 < total;
         if is_in {
@@ -98,7 +114,11 @@ impl Draft {
 
     /// Ends the node under way, which this side owns. One without a choice gets one that leaves with the value 0 and
     /// has no mark.
-    pub fn end_node(&mut self, maximises: bool) -> Result<(), OutOfMemory> {
+    pub fn end_node(&mut self, maximises: bool) -> Result<(), OutOfMemory>
+        ensures one { OnOk result (ended_nodes self.new ≡ ended_nodes self.old + 1) }
+        ensures kept { OnOk result (ended_choices self.old ≤ ended_choices self.new) }
+        ensures few { OnOk result (ended_choices self.new ≤ ended_choices self.old + 1) }
+    {
         if self.lists.choice_starts.last().copied() == Some(number_of(self.choices())?) {
             self.add_exit(1.0, 0.0);
             let _is_in = self.end_choice(NO_MARK)?;
@@ -110,7 +130,10 @@ impl Draft {
     }
 
     /// The game of the nodes that have ended, or nothing where an edge leads to no node.
-    pub fn finish(self) -> Option<FloatGame> {
+    pub fn finish(self) -> Option<FloatGame>
+        ensures nodes { IfSome result (λ g. nodes_of g ≡ ended_nodes self) }
+        ensures choices { IfSome result (λ g. choices_of g ≡ ended_choices self) }
+    {
         FloatGame::checked(self.lists)
     }
 }

@@ -1,6 +1,8 @@
 //! A game in flat lists.
 
-ghost use Rattle.std.specs.Prelude.{◌≡◌, ◌+◌, ◌^◌, ◌<◌, ◌≤◌, ◌↔◌, EachIndex, IfOk, IfSome, IsTrue, slice_index, vec_len};
+ghost use Rattle.std.specs.Prelude.{◌≡◌, ◌+◌, ◌^◌, ◌<◌, ◌≤◌, ◌↔◌, ◌&&◌, true, false, EachIndex, IfOk, IfSome, IsTrue};
+ghost use Rattle.float_games.specs.Owners.{is_among};
+ghost use Rattle.std.specs.Prelude.{slice_index, vec_len};
 
 use game_outside::OutOfMemory;
 use std::alloc::Global;
@@ -29,6 +31,7 @@ pub struct FloatGame {
     ghost marked: { vec_len marks ≡ vec_len gives },
     ghost edges: { EachIndex edge_starts.items (λ k. slice_index edge_starts.items k ≤ vec_len to) },
     ghost shares: { vec_len share ≡ vec_len to },
+    ghost sides: { both ≡ (is_among true maximises.items && is_among false maximises.items) },
     ghost inside: { EachIndex to.items (λ k. slice_index to.items k < vec_len maximises) },
 }
 
@@ -52,11 +55,12 @@ pub const NO_MARK: u32 = 4_294_967_295;
 const FEW: usize = 2_147_483_648;
 
 impl FloatGame {
-    ghost use Rattle.float_games.specs.Nodes.{nodes_of};
+    ghost use Rattle.float_games.specs.Nodes.{nodes_of, choices_of, edges_of, mark_of, owner_of, has_both};
 
     /// The game of these lists, if they fit each other and each index in them is in range.
     pub(crate) fn checked(lists: Lists) -> Option<FloatGame>
-        ensures { IfSome result (λ g. nodes_of g ≡ vec_len lists.maximises) }
+        ensures nodes { IfSome result (λ g. nodes_of g ≡ vec_len lists.maximises) }
+        ensures choices { IfSome result (λ g. choices_of g ≡ vec_len lists.gives) }
     {
         let nodes = lists.maximises.len();
         let choices = lists.gives.len();
@@ -105,28 +109,37 @@ impl FloatGame {
     }
 
     /// How many choices there are.
-    pub fn choices(&self) -> usize {
+    pub fn choices(&self) -> usize
+        ensures { result ≡ choices_of self.now }
+    {
         self.gives.len()
     }
 
     /// How many edges there are.
-    pub fn edges(&self) -> usize {
+    pub fn edges(&self) -> usize
+        ensures { result ≡ edges_of self.now }
+    {
         self.to.len()
     }
 
     /// The mark of a choice; [`NO_MARK`] where it is none of the game, or was put in for a node that had none.
-    pub fn mark(&self, choice: u32) -> u32 {
+    pub fn mark(&self, choice: u32) -> u32
+        ensures { result ≡ mark_of self.now choice }
+    {
         self.marks.get(choice as usize).copied().unwrap_or(NO_MARK)
     }
 
     /// Whether both sides own nodes.
-    pub fn has_both_sides(&self) -> bool {
+    pub fn has_both_sides(&self) -> bool
+        ensures { result ≡ has_both self.now }
+    {
         self.both
     }
 
     /// Whether the maximiser owns a node.
     pub fn maximises(&self, node: usize) -> bool
         requires { node < nodes_of self.now }
+        ensures { owner_of self.now node ≡ Some result }
     {
         self.maximises[node]
     }
@@ -144,7 +157,9 @@ impl FloatGame {
 }
 
 /// Whether some entry is this one.
-fn has(entries: &[bool], wanted: bool) -> bool {
+fn has(entries: &[bool], wanted: bool) -> bool
+    ensures { result ≡ is_among wanted entries.now }
+{
     entries.iter().any(|entry| *entry == wanted)
 }
 

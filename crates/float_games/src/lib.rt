@@ -9,9 +9,10 @@
 //! A [`Chain`] is what is left of a game under a policy, one choice a node: its passes, its residuals, and the [`Band`]
 //! that its edges stay in.
 //!
-//! Values are in units, of which 10^15 are probability 1, so an entry is from 0 to 10^15. Nothing is promised of them,
-//! and nothing is asked but that lists have one entry a node: any floats may be handed in. A policy has a choice for
-//! each node, by its number in the game; one that is out of range costs only time and nearness.
+//! Values are in units, of which 10^15 are probability 1, so an entry is from 0 to 10^15. A sweep leaves them there;
+//! nothing else is promised of them, and nothing is asked but that lists have one entry a node: any floats may be handed
+//! in. A policy has a choice for each node, by its number in the game; one that is out of range costs only time and
+//! nearness.
 #![tactic(auto)]
 
 mod chain;
@@ -23,7 +24,7 @@ mod sweeps;
 pub use chain::{Band, Chain};
 pub use draft::Draft;
 pub use game::{FloatGame, NO_MARK};
-pub use rounded::{Bound, Rounded, ceil_of, floor_of};
+pub use rounded::{Bound, Rounded, whole_units};
 pub use sweeps::{Swept, bounded};
 
 /// Probability 1, in units.

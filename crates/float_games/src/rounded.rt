@@ -1,9 +1,11 @@
 //! Sweeps of rounded steps over whole units.
 
-ghost use Rattle.std.specs.Prelude.{◌≡◌, ◌<◌, length, vec_len};
+ghost use Rattle.std.specs.Prelude.{◌≡◌, ◌<◌, ◌≤◌, length, vec_len};
+ghost use Rattle.float_games.specs.Units.{IsInUnits};
 
 use crate::UNIT;
 use crate::game::FloatGame;
+use crate::sweeps::bounded;
 
 /// Which bound a table is.
 #[derive(Clone, Copy, Debug, PartialEq, Eq)]
@@ -26,17 +28,30 @@ pub struct Rounded {
 /// What sums of differences may be off by: values are whole units.
 const OFF: f64 = 0.3;
 
+/// What values may be off by, in units: floats of this size are an eighth apart.
+const VALUE_OFF: f64 = 0.25;
+
 /// 2^52 and half of it: behind a sum with it a float below 2^51 in size has no fraction.
 const SHIFT: f64 = 6_755_399_441_055_744.0;
 
+/// A value as whole units from 0 to the unit, on the side of the bound. One that is nearly whole becomes that number.
+pub fn whole_units(bound: Bound, value: f64) -> f64
+    ensures { IsInUnits result }
+{
+    bounded(match bound {
+        Bound::Lower => floor_of(value + VALUE_OFF),
+        Bound::Upper => ceil_of(value - VALUE_OFF),
+    })
+}
+
 /// The greatest whole number that is not above a float below 2^51 in size.
-pub fn floor_of(x: f64) -> f64 {
+fn floor_of(x: f64) -> f64 {
     let whole = (x + SHIFT) - SHIFT;
     if whole > x { whole - 1.0 } else { whole }
 }
 
 /// The least whole number that is not below a float below 2^51 in size.
-pub fn ceil_of(x: f64) -> f64 {
+fn ceil_of(x: f64) -> f64 {
     let whole = (x + SHIFT) - SHIFT;
     if whole < x { whole + 1.0 } else { whole }
 }
@@ -50,6 +65,8 @@ impl FloatGame {
     pub fn sweep_rounded(&self, bound: Bound, values: &mut [f64], policy: &[u32]) -> Rounded
         requires values { length values.old ≡ nodes_of self.now }
         requires policy { length policy.now ≡ nodes_of self.now }
+        ensures few { result.changed ≤ nodes_of self.now }
+        ensures kept { result.changed ≡ 0 → values.new ≡ values.old }
     {
         let lower = bound == Bound::Lower;
         let choices = self.gives.len();

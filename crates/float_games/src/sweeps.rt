@@ -1,6 +1,8 @@
 //! Sweeps over the values of a game.
 
-ghost use Rattle.std.specs.Prelude.{◌≡◌, ◌<◌, length, vec_len};
+ghost use Rattle.std.specs.Float.{◌<ᶠ◌, ◌≤ᶠ◌, float_zero};
+ghost use Rattle.std.specs.Prelude.{◌≡◌, ◌<◌, ◌≤◌, length, vec_len};
+ghost use Rattle.float_games.specs.Units.{IsInUnits, AreInUnits};
 
 use crate::UNIT;
 use crate::game::FloatGame;
@@ -22,7 +24,10 @@ struct Best {
 }
 
 /// The nearest value from 0 to the unit; 0 for what is no number.
-pub fn bounded(value: f64) -> f64 {
+pub fn bounded(value: f64) -> f64
+    ensures units { IsInUnits result }
+    ensures same { float_zero <ᶠ value → value ≤ᶠ UNIT → result ≡ value }
+{
     if value > UNIT {
         UNIT
     } else if value > 0.0 {
@@ -41,6 +46,10 @@ impl FloatGame {
     pub fn sweep(&self, cost: f64, gain: f64, values: &mut [f64], policy: &mut [u32]) -> Swept
         requires values { length values.old ≡ nodes_of self.now }
         requires policy { length policy.old ≡ nodes_of self.now }
+        ensures units { AreInUnits values.new }
+        ensures few { result.exchanged ≤ nodes_of self.now }
+        ensures kept { result.exchanged ≡ 0 → policy.new ≡ policy.old }
+        ensures change { float_zero ≤ᶠ result.change }
     {
         let mut change = 0.0;
         let mut exchanged: u32 = 0;
@@ -93,6 +102,8 @@ impl FloatGame {
     pub fn sweep_policy(&self, cost: f64, values: &mut [f64], policy: &[u32]) -> f64
         requires values { length values.old ≡ nodes_of self.now }
         requires policy { length policy.now ≡ nodes_of self.now }
+        ensures units { AreInUnits values.new }
+        ensures change { float_zero ≤ᶠ result }
     {
         let mut change = 0.0;
         let choices = self.gives.len();
@@ -135,6 +146,8 @@ impl FloatGame {
     pub fn improve(&self, side: bool, gain: f64, values: &[f64], policy: &mut [u32]) -> u32
         requires values { length values.now ≡ nodes_of self.now }
         requires policy { length policy.old ≡ nodes_of self.now }
+        ensures few { result ≤ nodes_of self.now }
+        ensures kept { result ≡ 0 → policy.new ≡ policy.old }
     {
         let mut exchanged: u32 = 0;
         for node in 0..self.maximises.len() {

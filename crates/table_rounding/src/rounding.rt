@@ -7,7 +7,7 @@ ghost use Rattle.float_games.specs.Nodes.{nodes_of};
 use crate::mending::mend;
 use crate::setting::Setting;
 use crate::table::UnitTable;
-use float_games::{Bound, bounded, ceil_of, floor_of};
+use float_games::whole_units;
 use game_outside::OutOfMemory;
 use std::alloc::Global;
 use std::num::saturating_f64_to_u64;
@@ -26,9 +26,6 @@ const SWEEPS: u64 = 1_000_000;
 
 /// Values count as settled where at most one in so many nodes changes: the rest is mended.
 const FEW: usize = 2_000;
-
-/// What values may be off by, in units: floats of this size are an eighth apart.
-const OFF: f64 = 0.25;
 
 /// Tries to round values to entries of the component that hold. False where that takes long; entries are then anything.
 pub(crate) fn try_values(
@@ -66,10 +63,7 @@ fn rounded(alloc: Global, bound: Bound, values: &[f64]) -> Result<Vec<f64>, OutO
 {
     let mut list = values.to_vec(alloc)?;
     for value in &mut list {
-        *value = bounded(match bound {
-            Bound::Lower => floor_of(*value + OFF),
-            Bound::Upper => ceil_of(*value - OFF),
-        });
+        *value = whole_units(bound, *value);
     }
     Ok(list)
 }
