@@ -1,6 +1,7 @@
 //! The steps, one after another.
 
-ghost use Rattle.std.specs.Prelude.{◌≡◌, length};
+ghost use Rattle.std.specs.Float.{◌≤ᶠ◌, float_zero};
+ghost use Rattle.std.specs.Prelude.{◌≡◌, IfOk, OnErr, length};
 ghost use Rattle.float_games.specs.Nodes.{nodes_in};
 
 use crate::vectors::{add_scaled, copy};
@@ -28,6 +29,8 @@ pub fn approach(
 ) -> Result<f64, OutOfMemory>
     requires sums { length sums.now ≡ nodes_in chain.now }
     requires values { length values.old ≡ nodes_in chain.now }
+    ensures left { IfOk result (λ left. float_zero ≤ᶠ left) }
+    ensures kept { OnErr result (values.new ≡ values.old) }
 {
     let mut work = Work::begin(alloc, chain, sums, values)?;
     let first = work.left;

@@ -1,5 +1,6 @@
 //! Lists of floats as vectors. Where lists differ in length, the rest of the longer one is left out.
 
+ghost use Rattle.std.specs.Float.{◌≤ᶠ◌, float_zero};
 ghost use Rattle.std.specs.Prelude.{◌≡◌, length};
 
 /// The sum of the products.
@@ -17,12 +18,20 @@ pub(crate) fn square_and_product(a: &[f64], b: &[f64]) -> (f64, f64) {
 }
 
 /// The greatest size of an entry; infinite where one is no number.
-pub(crate) fn greatest(list: &[f64]) -> f64 {
-    list.iter().fold(0.0, |most, x| greater(most, *x))
+pub(crate) fn greatest(list: &[f64]) -> f64
+    ensures { float_zero ≤ᶠ result }
+{
+    let mut most = 0.0;
+    for x in list {
+        most = greater(most, *x);
+    }
+    most
 }
 
 /// The greater one of this and the size of an entry; infinite where that is no number.
-fn greater(most: f64, x: f64) -> f64 {
+fn greater(most: f64, x: f64) -> f64
+    ensures { float_zero ≤ᶠ most → float_zero ≤ᶠ result }
+{
     if x.abs() <= most {
         most
     } else if x.is_nan() {
@@ -68,6 +77,7 @@ pub(crate) fn advance(
     requires direction { length direction.now ≡ length found.old }
     requires turned { length turned.now ≡ length found.old }
     requires shadow { length shadow.now ≡ length found.old }
+    ensures { float_zero ≤ᶠ result.greatest }
 {
     let mut left = Left {
         greatest: 0.0,

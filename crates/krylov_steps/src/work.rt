@@ -1,5 +1,6 @@
 //! The vectors of the steps.
 
+ghost use Rattle.std.specs.Float.{◌≤ᶠ◌, float_zero};
 ghost use Rattle.std.specs.Prelude.{◌≡◌, IfOk, length, vec_len};
 ghost use Rattle.float_games.specs.Nodes.{nodes_in};
 
@@ -28,6 +29,7 @@ pub struct Work {
     ghost moves: { vec_len moved ≡ nodes },
     ghost turns: { vec_len turned ≡ nodes },
     ghost founds: { vec_len found ≡ nodes },
+    ghost lefts: { float_zero ≤ᶠ left },
 }
 
 impl Work {
