@@ -1,7 +1,8 @@
 //! The values of a policy.
 
-ghost use Rattle.std.specs.Prelude.{◌≡◌, IfOk, IfSome, length, vec_len};
+ghost use Rattle.std.specs.Prelude.{◌≡◌, IfOk, IfSome, OnErr, length, vec_len};
 ghost use Rattle.float_games.specs.Nodes.{nodes_of, nodes_in};
+ghost use Rattle.float_games.specs.Units.{AreInUnits};
 
 use crate::limits::{ENOUGH, is_narrow, products_of};
 use band_elimination::Factors;
@@ -51,7 +52,7 @@ pub(crate) fn evaluate(
 }
 
 /// Adds to values of a policy what they miss, where an elimination takes little. What they miss is found from
-/// differences, which are nearly exact. The only error is want of memory.
+/// differences, which are nearly exact. The only error is want of memory: values then stay as they were.
 pub fn refine(
     alloc: Global,
     game: &FloatGame,
@@ -60,6 +61,8 @@ pub fn refine(
 ) -> Result<(), OutOfMemory>
     requires policy { length policy.now ≡ nodes_of game.now }
     requires values { length values.old ≡ nodes_of game.now }
+    ensures units { AreInUnits values.old → AreInUnits values.new }
+    ensures kept { OnErr result (values.new ≡ values.old) }
 {
     let chain = Chain::of_policy(game, policy);
     let band = chain.band();
@@ -69,10 +72,18 @@ pub fn refine(
     let mut missed = chain.residuals(alloc, values)?;
     let factors = Factors::of_chain(alloc, &chain, band)?;
     factors.solve(&mut missed);
-    for (value, more) in values.iter_mut().zip(&missed) {
-        *value = bounded(*value + *more);
-    }
+    add_missed(values, &missed);
     Ok(())
+}
+
+/// Adds to each value what it misses, within 0 and the unit.
+fn add_missed(values: &mut [f64], missed: &[f64])
+    requires { length missed.now ≡ length values.old }
+    ensures { AreInUnits values.new }
+{
+    for node in 0..values.len() {
+        values[node] = bounded(values[node] + missed[node]);
+    }
 }
 
 /// For each node how many moves a policy is expected to make before it leaves, or nothing where this is not found. Ten

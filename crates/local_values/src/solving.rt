@@ -1,7 +1,8 @@
 //! Sweeps first, then strategy iteration.
 
-ghost use Rattle.std.specs.Prelude.{◌≡◌, length};
+ghost use Rattle.std.specs.Prelude.{◌≡◌, IsTrue, OnOk, length};
 ghost use Rattle.float_games.specs.Nodes.{nodes_of};
+ghost use Rattle.float_games.specs.Units.{AreInUnits};
 
 use crate::iteration::iterate;
 use crate::limits::{ENOUGH, GAIN};
@@ -31,6 +32,7 @@ pub fn solve(
 ) -> Result<bool, OutOfMemory>
     requires values { length values.old ≡ nodes_of game.now }
     requires policy { length policy.old ≡ nodes_of game.now }
+    ensures { OnOk result (AreInUnits values.new) }
 {
     if is_swept(game, cost, values, policy) {
         return Ok(true);
@@ -45,6 +47,7 @@ pub fn solve(
 fn is_swept(game: &FloatGame, cost: f64, values: &mut [f64], policy: &mut [u32]) -> bool
     requires values { length values.old ≡ nodes_of game.now }
     requires policy { length policy.old ≡ nodes_of game.now }
+    ensures { IsTrue result → AreInUnits values.new }
 {
     for round in 0..ROUNDS {
         if game.sweep(cost, GAIN, values, policy).change <= ENOUGH {
@@ -78,6 +81,7 @@ fn follow(game: &FloatGame, cost: f64, values: &mut [f64], policy: &[u32]) -> Pa
 fn last_change(game: &FloatGame, cost: f64, values: &mut [f64], policy: &mut [u32]) -> f64
     requires values { length values.old ≡ nodes_of game.now }
     requires policy { length policy.old ≡ nodes_of game.now }
+    ensures { AreInUnits values.new }
 {
     let mut change = f64::MAX;
     for _ in 0..SWEEPS {
