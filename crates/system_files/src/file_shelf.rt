@@ -24,7 +24,12 @@ pub struct FileShelf<'a, R: Files> {
 
 impl<'a, R: Files> FileShelf<'a, R> {
     /// A shelf on which no file is begun.
-    pub fn new(rt: &'a R, alloc: Global) -> Self {
+    pub fn new(rt: &'a R, alloc: Global) -> Self
+        ensures name { result.name ≡ None }
+        ensures failure { result.failure ≡ None }
+        ensures taken { result.taken ≡ 0 }
+        ensures faults { result.faults ≡ 0 }
+    {
         FileShelf {
             rt,
             alloc,

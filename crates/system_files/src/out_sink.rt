@@ -16,7 +16,11 @@ pub struct OutSink<W: Write> {
 
 impl<W: Write> OutSink<W> {
     /// The sink over this writer.
-    pub fn new(writer: W) -> Self {
+    pub fn new(writer: W) -> Self
+        ensures writer { result.writer ≡ writer }
+        ensures failure { result.failure ≡ None }
+        ensures faults { result.faults ≡ 0 }
+    {
         OutSink {
             writer,
             faults: 0,
