@@ -1,6 +1,7 @@
 //! Exact steps: what choices give by a table, in 128 bits.
 
-ghost use Rattle.std.specs.Prelude.{◌≡◌, ◌<◌, length};
+ghost use Rattle.std.specs.Prelude.{◌≡◌, ◌<◌, ◌⊎◌, length};
+ghost use Rattle.game_model.specs.Game.{choices_of};
 ghost use Rattle.game_model.specs.Query.{states};
 
 use crate::table::UnitTable;
@@ -215,7 +216,9 @@ pub struct Entry {
 /// down or up. A choice that leads only back to the state counts for nothing. Where there is no other, the entry is 0.
 pub fn single_entry(question: &Question, table: &UnitTable, bound: Bound, state: u32) -> Entry
     requires { state < states question.now }
+    ensures { result.choice < length (choices_of question.now.game state) }
 {
+    question.known();
     let mut best: Option<Entry> = None;
     let row = question.row(state);
     for choice in 0..row.choices() {
@@ -233,7 +236,9 @@ pub fn single_entry(question: &Question, table: &UnitTable, bound: Bound, state:
 }
 
 /// The better entry for a side, the first one of equal ones.
-fn better(side: Side, best: Option<Entry>, other: Entry) -> Entry {
+fn better(side: Side, best: Option<Entry>, other: Entry) -> Entry
+    ensures { (result ≡ other) ⊎ (best ≡ Some result) }
+{
     let Some(best) = best else {
         return other;
     };

@@ -7,7 +7,7 @@ ghost use Rattle.float_games.specs.Nodes.{nodes_of};
 use crate::mending::mend;
 use crate::setting::Setting;
 use crate::table::UnitTable;
-use float_games::whole_units;
+use float_games::{Bound, whole_units};
 use game_outside::OutOfMemory;
 use std::alloc::Global;
 use std::num::saturating_f64_to_u64;
