@@ -3,6 +3,7 @@
 ghost use Rattle.std.specs.Prelude.{◌≡◌, ◌+◌, ◌<◌, IfOk, length};
 ghost use Rattle.game_model.specs.Query.{states};
 ghost use Rattle.predecessors.specs.Lists.{ArePredecessors};
+ghost use Rattle.plan_solver.specs.Tables.{IsTableOrNone};
 
 use crate::approach::{Approach, NONE};
 use crate::frame::{Frame, is_open};
@@ -35,6 +36,8 @@ pub fn find_bounds(
     requires predecessors { ArePredecessors question.now.game predecessors.now }
     requires sure { length sure.now ≡ states question.now }
     requires zero { length zero.now ≡ states question.now }
+    ensures lower { IfOk result (λ c. IsTableOrNone (states question.now) c.lower.items) }
+    ensures upper { IfOk result (λ c. IsTableOrNone (states question.now) c.upper.items) }
 {
     question.known();
     if !has_open(question, sure, zero) {
@@ -112,7 +115,8 @@ fn lower_bounds(
     node_of: &mut [u32],
 ) -> Result<Lower, OutOfMemory>
     requires { length replies.old ≡ states frame.now.question.now }
-    ensures { length replies.new ≡ length replies.old }
+    ensures replies { length replies.new ≡ length replies.old }
+    ensures table { IfOk result (λ l. length l.table ≡ states frame.now.question.now) }
 {
     let states = frame.question.game().states() as usize;
     let mut table = known_table(alloc, frame.question, frame.sure)?;
