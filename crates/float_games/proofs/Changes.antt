@@ -1,5 +1,6 @@
 -- Values that one sweep has written, and the greatest change so far.
-use Rattle.std.proofs.Common.{◌≢◌, ℕ, ◌+◌, ◌<◌, List, length, set, get_or, arith, below_more, get_or-set_other, get_or-set_same}
+use Rattle.std.proofs.Common.{◌≢◌, ℕ, ◌+◌, ◌<◌, List, length, set, get_or, arith}
+use Rattle.std.proofs.Common.{below_more, get_or-set_other, get_or-set_same}
 use Rattle.std.proofs.lemmas.Float.{le_of_lt, le_trans}
 use Rattle.std.specs.Float.{Float, ◌<ᶠ◌, ◌≤ᶠ◌, float_zero}
 use Rattle.float_games.specs.Units.{IsInUnits}

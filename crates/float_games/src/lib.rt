@@ -10,8 +10,8 @@
 //! that its edges stay in.
 //!
 //! Values are in units, of which 10^15 are probability 1, so an entry is from 0 to 10^15. A sweep leaves them there;
-//! nothing else is promised of them, and nothing is asked but that lists have one entry a node: any floats may be handed
-//! in. A policy has a choice for each node, by its number in the game; one that is out of range costs only time and
+//! nothing else is promised of them, and nothing is asked but that lists have one entry a node: any floats may be
+//! handed in. A policy has a choice for each node, by its number in the game; one that is out of range costs only time and
 //! nearness.
 #![tactic(auto)]
 

@@ -228,7 +228,7 @@ fn number_in(text: &[u8]) -> Result<Frac, NumberFault>
 }
 
 /// The fraction that a text spells, or the first reason why it spells none. Most texts are short decimals. What is said
-/// of a text is what it denotes: `laws::said_is_denoted`.
+/// of a text is what it denotes: `laws::numbers_are_those_that_a_text_denotes`.
 #[inline(always)]
 pub fn read_number(text: &[u8]) -> Result<Frac, NumberFault>
     ensures { result ≡ number_said text.now }

@@ -14,7 +14,7 @@ use text_lines::{MOST_BYTES, read_lines};
 pub(crate) type LabelLines = HeadedLines<LabelSets>;
 
 /// The labels of so many states that a text denotes, or its first fault. What is said of a text is what it denotes:
-/// `laws::labels_are_those_that_a_text_denotes`.
+/// `label_lines::laws::labels_are_those_that_a_text_denotes`.
 pub fn read_labels(alloc: Global, bytes: &[u8], states: u32) -> Result<Labels, LabFault>
     requires { length bytes.now ≤ MOST_BYTES }
     ensures exact { AnswersOrWants IsOutOfMemory (λ x. x) result (labels_of bytes.now states) }

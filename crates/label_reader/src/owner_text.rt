@@ -14,7 +14,7 @@ use text_lines::{MOST_BYTES, read_lines};
 pub(crate) type OwnerLines = HeadedLines<OwnerTable>;
 
 /// The owners of so many states that a text denotes, or its first fault. What is said of a text is what it denotes:
-/// `laws::owners_are_those_that_a_text_denotes`.
+/// `label_lines::laws::owners_are_those_that_a_text_denotes`.
 pub fn read_owners(alloc: Global, bytes: &[u8], states: u32) -> Result<Owners, LabFault>
     requires { length bytes.now ≤ MOST_BYTES }
     ensures exact { AnswersOrWants IsOutOfMemory (λ x. x) result (owners_of bytes.now states) }

@@ -31,10 +31,11 @@ pub struct LowerGuess {
 pub const LAST_PLACE: u32 = 2;
 
 /// The lower guess of a table of values in units, where these choices and some ranks vouch for the table: the first of
-/// 15 tables that any choices and ranks vouch for, with the plan of [`crate::rank_table`]. For an excess of 4, 2 and
-/// then 1 units, the first of its tables has the excess over the given one, but the unit at goals, 0 on the zero set,
-/// and nowhere more than the unit; four times the next one is the lesser of the last and of its down step. Where no
-/// table can be ranked, the guess is the given one, with these choices and the ranks of [`crate::find_ranks`].
+/// 15 tables that any choices and ranks vouch for, with the plan of [`rank_certificate::rank_table`]. For an excess of
+/// 4, 2 and then 1 units, the first of its tables has the excess over the given one, but the unit at goals, 0 on the
+/// zero set, and nowhere more than the unit; four times the next one is the lesser of the last and of its down step.
+/// Where no table can be ranked, the guess is the given one, with these choices and the ranks of
+/// [`rank_certificate::find_ranks`].
 ///
 /// The guess is nowhere below the table, and k-step values come as near to it as one likes. A table of which a state
 /// falls is refused without ranks. A first table takes a step at each state, and a later one at the predecessors of
