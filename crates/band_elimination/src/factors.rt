@@ -36,8 +36,8 @@ impl Factors {
         Ok(Factors { shape, cells, outs })
     }
 
-    /// Makes sums to values: each is the sum of its node, plus the values of its successors by their shares. Where
-    /// nothing leaves, the value is 0.
+    /// Makes sums to values: each is the sum of its node, plus the values of its successors by their shares. Where the
+    /// elimination left nothing that leaves a row, its value is 0.
     pub fn solve(&self, sums: &mut [f64])
         requires { length sums.old ≡ rows_of self.now }
         ensures { EachIndex sums.new (λ k. LeavesNothing self.now k → slice_get sums.new k ≡ Some float_zero) }

@@ -8,7 +8,8 @@
 //!
 //! Nothing is subtracted, so each value has a small relative error however slowly the chain leaves. The time is the
 //! number of nodes times how far edges lead back times how far they lead forth, and the room the number of nodes times
-//! both together. None of this is part of the contract; nothing is promised of values.
+//! both together. None of this is part of the contract; nothing is promised of values, but that one is 0 where the
+//! elimination left nothing that leaves its row.
 #![tactic(auto)]
 
 mod elimination;

@@ -9,10 +9,11 @@
 //! A [`Chain`] is what is left of a game under a policy, one choice a node: its passes, its residuals, and the [`Band`]
 //! that its edges stay in.
 //!
-//! Values are in units, of which 10^15 are probability 1, so an entry is from 0 to 10^15. A sweep leaves them there;
-//! nothing else is promised of them, and nothing is asked but that lists have one entry a node: any floats may be
-//! handed in. A policy has a choice for each node, by its number in the game; one that is out of range costs only time and
-//! nearness.
+//! Values are in units, of which 10^15 are probability 1, so an entry is from 0 to 10^15. [`FloatGame::sweep`] and
+//! [`FloatGame::sweep_policy`] leave them there, and [`FloatGame::sweep_rounded`] leaves them as they were where it
+//! changed none; of nearness nothing is promised. Nothing is asked but that lists have one entry a node: any floats may
+//! be handed in. A policy has a choice for each node, by its number in the game; one that is out of range costs only
+//! time and nearness.
 #![tactic(auto)]
 
 mod chain;

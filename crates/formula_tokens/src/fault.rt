@@ -22,7 +22,7 @@ pub enum FormulaCause {
     ThresholdOutOfRange,
     /// The text has more than `LONGEST` bytes, which is the place.
     TooLong,
-    /// The number of steps behind `F<=` or `U<=` is not a whole number, or is above `MOST_STEPS`.
+    /// The number of steps behind `F<=` or `U<=` is not a whole number, or is above the limit.
     BadSteps,
     /// `Pmax` or `Pmin` as the bound of a formula inside, which has to compare with a threshold.
     AskInside,

@@ -5,8 +5,8 @@
 //! [`approach`] brings values nearer to those of a chain. What it solves is that a pass in place (Gauss and Seidel)
 //! changes nothing: so a pass is the preconditioner, and a step takes two of them.
 //!
-//! Nothing is promised of values. Where the steps go astray, the values stay as they were, or become the best that were
-//! seen.
+//! How near values come is promised by nothing. Where memory is wanting they stay as they were; where the steps go
+//! astray they stay so, too, or become the best that were seen.
 #![tactic(auto)]
 
 mod steps;

@@ -56,7 +56,7 @@ impl LabFault {
     }
 
     /// The fault of a header with this cause.
-    pub fn of_header(cause: LabCause) -> LabFault
+    pub(crate) fn of_header(cause: LabCause) -> LabFault
         ensures { GivesFault cause result }
     {
         match cause {

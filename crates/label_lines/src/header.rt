@@ -39,7 +39,7 @@ impl Header {
     ghost use Rattle.label_lines.specs.Placed.{AreSingle, items_of};
 
     /// No item.
-    pub fn new(alloc: Global) -> Header
+    pub(crate) fn new(alloc: Global) -> Header
         ensures { result ≡ [] }
     {
         Header {
@@ -122,7 +122,7 @@ impl Header {
     }
 
     /// One item more, which a field spells, or its first fault.
-    pub fn add(self, alloc: Global, kind: FileKind, field: &[u8]) -> Result<Header, LabCause>
+    pub(crate) fn add(self, alloc: Global, kind: FileKind, field: &[u8]) -> Result<Header, LabCause>
         ensures { AnswersOrWants IsOutOfMemoryCause (λ items. items) result
             (with_item kind self (item_of kind field.now)) }
     {

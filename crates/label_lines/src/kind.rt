@@ -27,7 +27,7 @@ impl FileKind {
     ghost use Rattle.label_lines.specs.Header.{most_items};
 
     /// The most items of a header.
-    pub fn most_items(self) -> usize
+    pub(crate) fn most_items(self) -> usize
         ensures { result ≡ most_items self }
     {
         match self {

@@ -18,12 +18,12 @@ pub fn limits()
     ensures name { LONGEST_NAME ≡ longest_name }
 {}
 
-/// The labels that are read from a text are those that it denotes.
+/// The labels that are said of a text by cases are those that it denotes.
 pub fn labels_are_those_that_a_text_denotes()
     ensures { (text : List ℕ) (n : ℕ) (l : Labelling) → (labels_of text n ≡ Ok l) ↔ DenotesLabels text n l }
 {}
 
-/// The owners that are read from a text are those that it denotes.
+/// The owners that are said of a text by cases are those that it denotes.
 pub fn owners_are_those_that_a_text_denotes()
     ensures { (text : List ℕ) (n : ℕ) (o : Ownership) → (owners_of text n ≡ Ok o) ↔ DenotesOwners text n o }
 {}

@@ -20,7 +20,8 @@ pub struct Labels {
 
 impl Model for Labels {
     ghost use Rattle.label_lines.specs.Labels.{Labelling};
-    ghost use Rattle.label_lines.specs.Named.{labels_named, AreNamed};
+    ghost use Rattle.label_lines.specs.Named.{labels_named};
+    ghost use Rattle.label_reader.specs.Named.{AreNamed};
 
     ghost Value = { Labelling };
 
@@ -30,7 +31,8 @@ impl Model for Labels {
 }
 
 impl Labels {
-    ghost use Rattle.label_lines.specs.Named.{labels_named, AreNamed};
+    ghost use Rattle.label_lines.specs.Named.{labels_named};
+    ghost use Rattle.label_reader.specs.Named.{AreNamed};
     ghost use Rattle.label_lines.specs.Labels.{is_known, marks_of, states_with, IsLabelling};
 
     /// The labels with these names, and the states of each.

@@ -17,7 +17,8 @@ pub struct Owners {
 
 impl Model for Owners {
     ghost use Rattle.label_lines.specs.Owners.{Ownership};
-    ghost use Rattle.label_lines.specs.Named.{names_of, places_of, AreOwned};
+    ghost use Rattle.label_lines.specs.Named.{names_of, places_of};
+    ghost use Rattle.label_reader.specs.Named.{AreOwned};
 
     ghost Value = { Ownership };
 
@@ -27,7 +28,8 @@ impl Model for Owners {
 }
 
 impl Owners {
-    ghost use Rattle.label_lines.specs.Named.{names_of, places_of, AreOwned};
+    ghost use Rattle.label_lines.specs.Named.{names_of, places_of};
+    ghost use Rattle.label_reader.specs.Named.{AreOwned};
     ghost use Rattle.label_lines.specs.Owners.{is_player, owner_of, IsOwnership};
 
     /// The players with these names, and the place of each state's owner, the first where none is named.

@@ -9,8 +9,9 @@
 //! [`refine`] makes values of a policy nearer once more, from what they miss, and [`expected_moves`] says how many
 //! moves a policy makes before it leaves.
 //!
-//! A policy is evaluated by elimination where its band is narrow, and else by steps in a Krylov space. Nothing is
-//! promised of values: who hands them on tests what they are for. Each loop has its count.
+//! A policy is evaluated by elimination where its band is narrow, and else by steps in a Krylov space. Of values no
+//! more is promised than that they are from 0 to the unit where they are found: who hands them on tests what they are
+//! for. Each loop has its count.
 #![tactic(auto)]
 
 mod evaluation;

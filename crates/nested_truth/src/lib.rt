@@ -1,9 +1,9 @@
 //! Formulas with formulas inside (nested PCTL, Hansson and Jonsson 1994), answered by sound bounds.
 //!
 //! Each formula inside is answered first, at every state. Where its bounds settle its threshold it holds or fails;
-//! where they do not it is left undecided, and then a state formula has a set of states where it surely holds and a set
-//! where it possibly does (three-valued abstraction, Bruns and Godefroid 1999). The lower bounds of a formula are those
-//! of the question of the sure states, its upper bounds those of the question of the possible ones.
+//! where they do not it is left undecided. The lower bounds of a formula are those of the question of the states where
+//! its sides surely hold, its upper bounds those of the question of the states where they possibly do. What is true,
+//! and what bounds surely and possibly say, is defined in `formula_truth`.
 //!
 //! [`nested`] gives the bounds of the outermost formula. They are sound for its exact question, in which each formula
 //! inside holds where it is true.

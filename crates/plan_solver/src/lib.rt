@@ -6,8 +6,9 @@
 //! replies are fixed, and each end component that is left to the maximiser is one node (de Alfaro 1997); the replies
 //! are then improved over what was found.
 //!
-//! Of values nothing is promised, and nothing needs to be: every function here is safe and ends, and there is no random
-//! number and no clock, so the same question gives the same tables on every machine.
+//! Of values nothing is promised but that an entry is at most the unit, and that a table has one for each state or
+//! none, and nothing needs to be: every function here is safe and ends, and there is no random number and no clock, so
+//! the same question gives the same tables on every machine.
 #![tactic(auto)]
 
 mod approach;

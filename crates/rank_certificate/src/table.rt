@@ -75,7 +75,8 @@ pub fn rank_table_over(
     rank_standing(alloc, question, values, predecessors)
 }
 
-/// The plan for values that no state refuses at sight.
+/// The plan of [`rank_table_over`], for values in units of which the caller knows that each state stands: it has what
+/// its kind asks, and its down step is not below its value. The only error is want of memory.
 pub fn rank_standing(
     alloc: Global,
     question: &Question,

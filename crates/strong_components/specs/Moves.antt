@@ -1,6 +1,5 @@
 -- Moves of a question whose minimiser plays its replies.
-use Rattle.std.specs.Prelude.{◌≡◌, ℕ, zero, suc, ◌<◌, Bool, true, List, length, slice_index_or, Option, Some, None}
-use Rattle.std.specs.Prelude.{Contains}
+use Rattle.std.specs.Prelude.{◌≡◌, ℕ, zero, suc, ◌<◌, List, length, slice_index_or, Option, Some, None, Contains}
 use Rattle.game_model.specs.declared.game.Side.TheVariants.{Min}
 use Rattle.game_model.specs.Game.{choices_of, choice_of, destinations}
 use Rattle.game_model.specs.Query.{Query, side_at}
@@ -13,13 +12,6 @@ pub record IsCut (q : Query) (replies : List (Option ℕ)) (s c : ℕ) : Type 0 
 -- choice c of state s leads to state t
 abbrev pub Leads : Query → ℕ → ℕ → ℕ → Type 0
 Leads q s c t = Contains (destinations (choice_of q.game s c).edges) t
-
--- one move of the listed choices
-pub record IsMove (q : Query) (listed : ℕ → ℕ → Bool) (s t : ℕ) : Type 0 where
-  pub choice : ℕ
-  pub inside : choice < length (choices_of q.game s)
-  pub chosen : listed s choice ≡ true
-  pub leads : Leads q s choice t
 
 -- so many moves lead from one state to another
 abbrev pub Walk : (ℕ → ℕ → Type 0) → ℕ → ℕ → ℕ → Type 0

@@ -42,7 +42,7 @@ impl Cut<'_> {
     }
 
     /// Whether a choice is inner: one of the cut question that stays in the part of its state.
-    pub fn is_inner(&self, part: &[u32], state: u32, choice: u32) -> bool
+    pub(crate) fn is_inner(&self, part: &[u32], state: u32, choice: u32) -> bool
         requires state { state < states_in self.now }
         requires choice { choice < length (choices_of self.now.question.now.game state) }
         requires part { length part.now ≡ states_in self.now }

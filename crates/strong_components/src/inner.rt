@@ -1,4 +1,4 @@
-//! The inner choices of a round, found once.
+//! The inner choices of given parts, found once.
 
 ghost use Rattle.std.specs.Prelude.{◌≡◌, ◌<◌, length};
 ghost use Rattle.game_model.specs.Game.{choices_of};

@@ -1,4 +1,5 @@
-//! Strongly connected components of a question whose minimiser plays its replies, in given parts of its states.
+//! Strongly connected components of a question whose minimiser plays its replies, in given parts of its states: a step
+//! of the search for traps. Those of a whole question, in the order of play, are in `play_components`.
 //!
 //! A choice is inner where its successors are all in the part of its state. [`split`] gives the classes of a part: the
 //! sets of states that reach each other by inner choices; and whether the classes cut an inner choice.
@@ -16,8 +17,8 @@ mod cut;
 mod forward;
 mod inner;
 mod order;
-mod round;
+mod splitting;
 
 pub use choices::stays;
 pub use cut::Cut;
-pub use round::{Round, split};
+pub use splitting::{Split, split};

@@ -17,7 +17,7 @@ use Rattle.distributions.specs.declared.choice.Part.{Part}
 use Rattle.transition_lines.specs.Choices.{part_of, parts_of, transitions_of, choice_end, sum_of_first, first_crowded}
 use Rattle.transition_lines.specs.Choices.{states_said, unless_gap, unless_crowded, if_as_stated, transitions_game}
 use Rattle.transition_lines.specs.Order.{IsWithin, place_of}
-use Rattle.transition_lines.specs.Answers.{LeadsInside}
+use Rattle.tra_reader.specs.inside.GrowingGames.{LeadsInside}
 use Rattle.tra_reader.specs.inside.GrowingGames.{AreCounted, AreDrafted, HaveFault, HasGap, IsMade, IsWhole}
 use Rattle.tra_reader.specs.inside.GrowingGames.{place_behind, NoneBetween, AreWholeBefore, IsReady, IfBuilds}
 use Rattle.tra_reader.specs.inside.GrowingGames.{IsAsStated}

@@ -9,7 +9,7 @@ use Rattle.game_model.specs.Game.{Distribution, weight_to}
 use Rattle.distributions.specs.Parts.{DenotesChoice, weighted}
 use Rattle.transition_lines.specs.declared.line.Transition.{Transition}
 use Rattle.transition_lines.specs.Choices.{part_of}
-use Rattle.transition_lines.specs.Answers.{LeadsInside}
+use Rattle.tra_reader.specs.inside.GrowingGames.{LeadsInside}
 use Rattle.transition_lines.proofs.Decisions.{cases_lt, below_ne}
 
 at_least : {X : Type 0} (f : X → ℕ) (xs : List X) (i : ℕ) (d : X) → i < length xs → f (get_or xs i d) ≤ sum_by f xs

@@ -25,7 +25,7 @@ use Rattle.transition_lines.specs.Choices.{transitions_of, part_of, parts_of, ch
 use Rattle.transition_lines.specs.Choices.{if_crowded, least_missing, self_loop, sum_of_first, then_push, choice_at}
 use Rattle.transition_lines.specs.Choices.{choices_said, state_said, states_said}
 use Rattle.transition_lines.specs.Order.{IsWithin}
-use Rattle.transition_lines.specs.Answers.{LeadsInside}
+use Rattle.tra_reader.specs.inside.GrowingGames.{LeadsInside}
 use Rattle.tra_reader.specs.inside.GrowingGames.{AreCounted, AreDrafted, HaveFault, IsMade, IsBuilt, IsChoiceFault}
 use Rattle.tra_reader.specs.inside.GrowingGames.{progress_of, ended}
 use Rattle.transition_lines.proofs.Decisions.{cases_lt, lt_test, ge_test}

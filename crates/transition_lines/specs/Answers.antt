@@ -1,11 +1,10 @@
--- What the parts of the reader answer.
+-- What headers and lines that were read have to do with what is said of them.
 use Rattle.std.specs.Prelude.{◌≡◌, ◌≤◌, ◌<◌, ℕ, List, [], ◌∷◌, slice_get, Option, Some, None, Result, Ok, Err}
 use Rattle.std.specs.Prelude.{option_map, not, Bool, false}
 use Rattle.std.specs.Borrow.{Bor}
-use Rattle.std.specs.List.{filter, All}
+use Rattle.std.specs.List.{filter}
 use Rattle.std.specs.Option.{option_map_or}
 use Rattle.std.specs.Str.{bytes_eq}
-use Rattle.game_model.specs.Game.{Distribution}
 use Rattle.game_model.specs.Limits.{most_states}
 use Rattle.transition_lines.specs.declared.header.Header.{Header}
 use Rattle.transition_lines.specs.declared.line.Transition.{Transition}
@@ -46,7 +45,3 @@ action_at rows place = option_map (λ row. row.action) (slice_get (filter (has r
 abbrev pub clashes_at : List Row → Row → Bool
 clashes_at before row = option_map_or (λ action. not (bytes_eq action row.action))
     (action_at before (row_place row)) false
-
--- each edge leads to one of n states
-abbrev pub LeadsInside : ℕ → Distribution → Type 0
-LeadsInside n distribution = All (λ e. e.to < n) distribution.edges

@@ -3,8 +3,8 @@ use Rattle.std.proofs.Common.{◌≡◌, ◌≢◌, ℕ, zero, suc, ◌-◌, ◌
 use Rattle.std.specs.Prelude.{slice_index}
 use Rattle.std.proofs.lemmas.Bool.{cases_eq}
 use Rattle.game_model.specs.Query.{Query}
-use Rattle.trap_sets.specs.Ends.{IsEndComponent}
-use Rattle.strong_components.specs.Moves.{IsMove, Walk, Reach}
+use Rattle.trap_sets.specs.Ends.{IsMove, IsEndComponent}
+use Rattle.strong_components.specs.Moves.{Walk, Reach}
 use Rattle.strong_components.specs.Parts.{Leaves, CutsPart, IsInner, IsStep, Comes, AreClasses, AreUncut}
 use Rattle.trap_sets.specs.inside.Settled.{KeepsEnds}
 use Rattle.trap_sets.specs.inside.Settled.{AreJoined}

@@ -1,4 +1,4 @@
--- The definitions, at the inner choices of a round.
+-- The definitions, at the inner choices of given parts.
 use Rattle.std.specs.Prelude.{ℕ, List}
 use Rattle.game_model.specs.Query.{states}
 use Rattle.strong_components.specs.declared.inner.Inner.{Inner}

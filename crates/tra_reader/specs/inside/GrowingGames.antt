@@ -19,7 +19,10 @@ use Rattle.transition_lines.specs.Limits.{most_stated_choices}
 use Rattle.transition_lines.specs.Choices.{transitions_of, parts_of, self_loop, sum_of_first, choice_end, first_gap}
 use Rattle.transition_lines.specs.Choices.{first_crowded, choices_said, states_said, if_as_stated}
 use Rattle.transition_lines.specs.Order.{Rises, IsWithin, place_of, transition_place}
-use Rattle.transition_lines.specs.Answers.{LeadsInside}
+
+-- each edge leads to one of n states
+abbrev pub LeadsInside : ℕ → Distribution → Type 0
+LeadsInside n distribution = All (λ e. e.to < n) distribution.edges
 
 -- 1. The whole choices: those of the first s states, and the first k of the next state.
 

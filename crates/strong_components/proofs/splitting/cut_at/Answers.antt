@@ -2,8 +2,8 @@ use Rattle.std.proofs.Common.{arith, ap, sym, subst, inl, inr, length}
 use Rattle.std.proofs.lemmas.Bool.{cases_eq, both_ways}
 use Rattle.game_model.specs.Game.{choices_of}
 use Rattle.strong_components.specs.inside.OfInner.{IsInnerOf, IsUncutOf}
-use Rattle.strong_components.proofs.round.cut_at.Goals as goal
-use Rattle.strong_components.proofs.round.cut_at.Goals.{else-has-via-then-has+else-cuts, else-has-via-else-has}
+use Rattle.strong_components.proofs.splitting.cut_at.Goals as goal
+use Rattle.strong_components.proofs.splitting.cut_at.Goals.{else-has-via-then-has+else-cuts, else-has-via-else-has}
 
 pub loop-choice-preserved : goal.loop-choice-preserved
 loop-choice-preserved c = λ k below inner. elim (cases_eq k c.loop-choice.choice) [

@@ -2,9 +2,9 @@ use Rattle.std.proofs.Common.{◌∙◌, arith, ap, sym, subst, inl, inr, length
 use Rattle.std.specs.Prelude.{slice_index}
 use Rattle.std.proofs.lemmas.Bool.{cases_eq}
 use Rattle.strong_components.specs.inside.OfInner.{IsInnerOf, IsUncutOf}
-use Rattle.strong_components.proofs.round.any_cut.Goals as goal
-use Rattle.strong_components.proofs.round.any_cut.Goals.{else-inner-state-ne0-via-then-inner-state-ne0+else-cut_at}
-use Rattle.strong_components.proofs.round.any_cut.Goals.{else-inner-state-ne0-via-else-inner-state-ne0}
+use Rattle.strong_components.proofs.splitting.any_cut.Goals as goal
+use Rattle.strong_components.proofs.splitting.any_cut.Goals.{else-inner-state-ne0-via-then-inner-state-ne0+else-cut_at}
+use Rattle.strong_components.proofs.splitting.any_cut.Goals.{else-inner-state-ne0-via-else-inner-state-ne0}
 
 pub loop-state-preserved : goal.loop-state-preserved
 loop-state-preserved c = λ s k below some inner. elim (cases_eq s c.loop-state.state) [

@@ -2,7 +2,7 @@ use Rattle.std.proofs.Common.{ℕ, List, subst}
 use Rattle.strong_components.specs.declared.cut.Cut.{Cut}
 use Rattle.strong_components.specs.OfCut.{AreUncutIn}
 use Rattle.strong_components.specs.inside.OfInner.{AreUncutOf}
-use Rattle.strong_components.proofs.round.split.Goals as goal
+use Rattle.strong_components.proofs.splitting.split.Goals as goal
 
 pub returns-clause-uncut : goal.returns-clause-uncut
 returns-clause-uncut c =

@@ -1,4 +1,4 @@
-//! The classes of a round, and whether a round more is needed.
+//! The classes of given parts, and whether they cut an inner choice.
 
 ghost use Rattle.std.specs.Prelude.{◌≡◌, ◌≢◌, ℕ, ◌<◌, length, slice_index, true, false, IsTrue, IfOk};
 ghost use Rattle.strong_components.specs.Parts.{CutsPart};
@@ -12,24 +12,24 @@ use crate::inner::Inner;
 use game_outside::OutOfMemory;
 use std::alloc::Global;
 
-/// The classes of a round, and whether they cut an inner choice.
+/// The classes of the parts, and whether they cut an inner choice.
 #[derive(Drop)]
-pub struct Round {
+pub struct Split {
     pub class: Vec<u32>,
     pub cuts: bool,
 }
 
 /// The sets of mutual reachability in these parts, and whether they cut an inner choice.
-pub fn split(alloc: Global, cut: &Cut<'_>, part: &[u32]) -> Result<Round, OutOfMemory>
+pub fn split(alloc: Global, cut: &Cut<'_>, part: &[u32]) -> Result<Split, OutOfMemory>
     requires { length part.now ≡ states_in cut.now }
-    ensures classes { IfOk result (λ round. AreClassesIn cut.now part.now round.class.items) }
-    ensures uncut { IfOk result (λ round. round.cuts ≡ false → AreUncutIn cut.now part.now round.class.items) }
-    ensures cut { IfOk result (λ round. round.cuts ≡ true → CutsPart part.now round.class.items) }
+    ensures classes { IfOk result (λ split. AreClassesIn cut.now part.now split.class.items) }
+    ensures uncut { IfOk result (λ split. split.cuts ≡ false → AreUncutIn cut.now part.now split.class.items) }
+    ensures cut { IfOk result (λ split. split.cuts ≡ true → CutsPart part.now split.class.items) }
 {
     let inner = Inner::of_parts(alloc, cut, part)?;
     let class = classes(alloc, &inner)?;
     let cuts = any_cut(&inner, &class);
-    Ok(Round { class, cuts })
+    Ok(Split { class, cuts })
 }
 
 /// Whether the classes cut an inner choice.

@@ -1,7 +1,7 @@
 use Rattle.std.proofs.Common.{◌≢◌, ℕ, ◌<◌}
 use Rattle.std.specs.Prelude.{slice_index}
 use Rattle.strong_components.specs.inside.OfInner.{IsInnerOf, IsUncutOf}
-use Rattle.strong_components.proofs.round.any_cut.Given as goal
+use Rattle.strong_components.proofs.splitting.any_cut.Given as goal
 
 abbrev pub invariant-loop-state : goal.invariant-loop-state
 invariant-loop-state l =
