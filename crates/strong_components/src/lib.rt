@@ -21,4 +21,4 @@ mod splitting;
 
 pub use choices::stays;
 pub use cut::Cut;
-pub use splitting::{Split, split};
+pub use splitting::{SplitParts, split};

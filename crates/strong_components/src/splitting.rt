@@ -14,13 +14,13 @@ use std::alloc::Global;
 
 /// The classes of the parts, and whether they cut an inner choice.
 #[derive(Drop)]
-pub struct Split {
+pub struct SplitParts {
     pub class: Vec<u32>,
     pub cuts: bool,
 }
 
 /// The sets of mutual reachability in these parts, and whether they cut an inner choice.
-pub fn split(alloc: Global, cut: &Cut<'_>, part: &[u32]) -> Result<Split, OutOfMemory>
+pub fn split(alloc: Global, cut: &Cut<'_>, part: &[u32]) -> Result<SplitParts, OutOfMemory>
     requires { length part.now ≡ states_in cut.now }
     ensures classes { IfOk result (λ split. AreClassesIn cut.now part.now split.class.items) }
     ensures uncut { IfOk result (λ split. split.cuts ≡ false → AreUncutIn cut.now part.now split.class.items) }
@@ -29,7 +29,7 @@ pub fn split(alloc: Global, cut: &Cut<'_>, part: &[u32]) -> Result<Split, OutOfM
     let inner = Inner::of_parts(alloc, cut, part)?;
     let class = classes(alloc, &inner)?;
     let cuts = any_cut(&inner, &class);
-    Ok(Split { class, cuts })
+    Ok(SplitParts { class, cuts })
 }
 
 /// Whether the classes cut an inner choice.
