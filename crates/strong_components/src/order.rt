@@ -24,42 +24,58 @@ pub fn leaving_order(alloc: Global, inner: &Inner<'_>) -> Result<Vec<u32>, OutOf
     let states = game.states();
     let mut entered = vec![in alloc; false; states as usize]?;
     let mut order = Vec::new(alloc);
-    let mut stack = opening_stack(alloc, inner)?;
+    let mut stack = Vec::new(alloc);
+    open(inner, &mut stack)?;
     let turns = game.edges_below(states) + 2 * u64::from(states);
     for _turn in 0..turns {
         let Some(visit) = stack.pop() else {
             return Ok(order);
         };
-        if visit.leave {
-            order.push(visit.state)?;
-        } else if !entered[visit.state as usize] {
-            entered[visit.state as usize] = true;
-            stack.push(Visit {
-                state: visit.state,
-                leave: true,
-            })?;
-            enter(inner, &entered, visit.state, &mut stack)?;
-        }
+        go_on(inner, visit, &mut entered, &mut order, &mut stack)?;
     }
     Ok(order)
 }
 
-/// The states that have a part, to be entered, the first of them on top.
-fn opening_stack(alloc: Global, inner: &Inner<'_>) -> Result<Vec<Visit>, OutOfMemory>
-    ensures { IfOk result (λ stack. All (λ v. v.state < states_of inner.now) stack.items) }
+/// Leaves a state, or enters it where that was not done.
+fn go_on(
+    inner: &Inner<'_>,
+    visit: Visit,
+    entered: &mut [bool],
+    order: &mut Vec<u32>,
+    stack: &mut Vec<Visit>,
+) -> Result<(), OutOfMemory>
+    requires state { visit.state < states_of inner.now }
+    requires entered { length entered.old ≡ states_of inner.now }
+    requires order { All (λ s. s < states_of inner.now) order.old.items }
+    requires stack { All (λ v. v.state < states_of inner.now) stack.old.items }
+    ensures entered { length entered.new ≡ states_of inner.now }
+    ensures order { OnOk result (All (λ s. s < states_of inner.now) order.new.items) }
+    ensures stack { OnOk result (All (λ v. v.state < states_of inner.now) stack.new.items) }
+{
+    let state = visit.state;
+    if visit.leave {
+        order.push(state)?;
+    } else if !entered[state as usize] {
+        entered[state as usize] = true;
+        put(inner, state, true, stack)?;
+        enter(inner, entered, state, stack)?;
+    }
+    Ok(())
+}
+
+/// Puts the states that have a part on the stack, to be entered, the first of them on top.
+fn open(inner: &Inner<'_>, stack: &mut Vec<Visit>) -> Result<(), OutOfMemory>
+    requires { All (λ v. v.state < states_of inner.now) stack.old.items }
+    ensures { OnOk result (All (λ v. v.state < states_of inner.now) stack.new.items) }
 {
     let states = inner.cut.question.game().states();
-    let mut stack = Vec::new(alloc);
     for below in 0..states {
         let state = states - 1 - below;
         if inner.part[state as usize] != 0 {
-            stack.push(Visit {
-                state,
-                leave: false,
-            })?;
+            put(inner, state, false, stack)?;
         }
     }
-    Ok(stack)
+    Ok(())
 }
 
 /// Puts on the stack the states that inner choices of this one lead to.
@@ -104,5 +120,20 @@ fn put_successors(
             })?;
         }
     }
+    Ok(())
+}
+
+/// Puts a state on the stack, to be left or to be entered.
+fn put(
+    inner: &Inner<'_>,
+    state: u32,
+    leave: bool,
+    stack: &mut Vec<Visit>,
+) -> Result<(), OutOfMemory>
+    requires state { state < states_of inner.now }
+    requires stack { All (λ v. v.state < states_of inner.now) stack.old.items }
+    ensures { OnOk result (All (λ v. v.state < states_of inner.now) stack.new.items) }
+{
+    stack.push(Visit { state, leave })?;
     Ok(())
 }
