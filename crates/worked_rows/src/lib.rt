@@ -19,6 +19,8 @@ mod commands;
 #[cfg(test)]
 mod formulas;
 #[cfg(test)]
+mod hostile;
+#[cfg(test)]
 mod labels;
 #[cfg(test)]
 mod made;

@@ -1,14 +1,14 @@
 //! Certificates that are refused: the faults of their texts, and of what they say.
 
+use crate::{
+    FIRST_OF_TWO_PLAYERS, MOST_OF_COIN_LOOP, MOST_OF_LOOP_OR_COIN, Row, audit_refuses, audit_words,
+    audit_writes, comes_to, ends, files,
+};
 use game_outside::{MemShelf, OpenGate};
 use std::alloc::Global;
 use std::test::Fail;
 use std::thread::Threads;
 use stogame_app::Status;
-use worked_rows::{
-    FIRST_OF_TWO_PLAYERS, MOST_OF_COIN_LOOP, MOST_OF_LOOP_OR_COIN, Row, audit_refuses, audit_words,
-    audit_writes, comes_to, ends, files,
-};
 
 const TEXTS: [(&str, &str); 18] = [
     ("", "0 NoCertificate"),

@@ -1,10 +1,10 @@
 //! Files of values that no solver writes: each is refused with its line, or changes no answer.
 
+use crate::{MOST_OF_COIN_LOOP, Row, solve_writes};
 use std::alloc::Global;
 use std::test::Fail;
 use std::thread::Threads;
 use stogame_app::Status;
-use worked_rows::{MOST_OF_COIN_LOOP, Row, solve_writes};
 
 // The coin loop solved from these values writes this text.
 fn from_values<R: Threads + Sync>(

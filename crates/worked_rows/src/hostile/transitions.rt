@@ -1,10 +1,10 @@
 //! Transition files that are refused.
 
+use crate::{Case, Command, FORK, MOST_OF_COIN_LOOP, Row, all_write, refuses};
 use std::alloc::Global;
 use std::test::Fail;
 use std::thread::Threads;
 use stogame_app::Status;
-use worked_rows::{Case, Command, FORK, MOST_OF_COIN_LOOP, Row, all_write, refuses};
 
 const SUMS: &[Case<'static>] = &[
     Case {

@@ -2,18 +2,18 @@
 
 ghost use Rattle.std.specs.Prelude.{◌<◌};
 
+use crate::{
+    AGREEMENT, AGREEMENT_LABELS, AGREEMENT_OWNERS, AUDIT_OF_TWO_PLAYERS, CERTIFICATE, COIN_LOOP,
+    COIN_LOOP_REPORT, Command, FIRST_OF_TWO_PLAYERS, GOAL_AT_1, GOAL_AT_2, MOST_OF_AGREEMENT,
+    MOST_OF_COIN_LOOP, Row, SECOND_OWNS_1, TWO_PLAYERS, TWO_PLAYERS_PLAN, comes_to, ends,
+    file_of_bytes, with_file,
+};
 use expectations::{holds, same};
 use game_outside::{MemShelf, OpenGate};
 use std::alloc::Global;
 use std::test::Fail;
 use std::thread::Threads;
 use stogame_app::Status;
-use worked_rows::{
-    AGREEMENT, AGREEMENT_LABELS, AGREEMENT_OWNERS, AUDIT_OF_TWO_PLAYERS, CERTIFICATE, COIN_LOOP,
-    COIN_LOOP_REPORT, Command, FIRST_OF_TWO_PLAYERS, GOAL_AT_1, GOAL_AT_2, MOST_OF_AGREEMENT,
-    MOST_OF_COIN_LOOP, Row, SECOND_OWNS_1, TWO_PLAYERS, TWO_PLAYERS_PLAN, comes_to, ends,
-    file_of_bytes, with_file,
-};
 
 /// The file that is damaged.
 #[derive(Clone, Copy, Debug, PartialEq, Eq)]

@@ -1,15 +1,15 @@
 //! Files that no tool writes: each is refused with its line.
 
+use crate::{
+    COIN_LOOP_REPORT, FIRST_IS_TRUE, FIRST_OF_TWO_PLAYERS, MOST_OF_COIN_LOOP, MOST_OF_LOOP_OR_COIN,
+    ONE_WORKER, Row, audit_refuses, comes_to, ends, file_of_bytes, files, push_times, refuses,
+    row_words, with_file, writes,
+};
 use game_outside::{OpenGate, SteadyShelf};
 use std::alloc::Global;
 use std::test::Fail;
 use std::thread::Threads;
 use stogame_app::Status;
-use worked_rows::{
-    COIN_LOOP_REPORT, FIRST_IS_TRUE, FIRST_OF_TWO_PLAYERS, MOST_OF_COIN_LOOP, MOST_OF_LOOP_OR_COIN,
-    ONE_WORKER, Row, audit_refuses, comes_to, ends, file_of_bytes, files, push_times, refuses,
-    row_words, with_file, writes,
-};
 
 /// More than any number of a file.
 const FAR: &str = "9999999999999999999999999999999999999999";
