@@ -11,7 +11,7 @@ use std::alloc::Global;
 use std::test::Fail;
 
 // Formulas, each with the spelling of its dual.
-const DUALS: [(&str, &str); 7] = [
+const DUALS: &[(&str, &str)] = &[
     ("P>=0.25 [ G \"a\" ]", "P<=3/4 [ F !\"a\" ]"),
     ("P>1/3 [ G \"a\" & \"b\" ]", "P<2/3 [ F !(\"a\" & \"b\") ]"),
     ("<<p1>> P<=1 [ G !\"a\" ]", "<<p1>> P>=0 [ F !!\"a\" ]"),
@@ -74,7 +74,7 @@ fn dual_spelling(alloc: Global, text: &str) -> Result<Vec<u8>, Fail> {
 
 #[test]
 fn each_bound_has_its_dual(rt: HostRuntime) -> Result<(), Fail> {
-    for (text, spelling) in DUALS.as_slice() {
+    for (text, spelling) in DUALS {
         let printed = dual_spelling(rt.alloc(), text)?;
         same(text, printed.as_slice(), spelling.as_bytes())?;
     }

@@ -281,7 +281,7 @@ const INSIDE: [(&str, &str); 14] = [
 ];
 
 // Texts that are no formula, each with its fault.
-const REFUSED: [(&str, u32, FormulaCause); 65] = [
+const REFUSED: &[(&str, u32, FormulaCause)] = &[
     ("Pmax=? [ F goal ]", 11, FormulaCause::Unexpected),
     ("P>=1.5 [ F true ]", 3, FormulaCause::ThresholdOutOfRange),
     ("P>=0.5 [ F \"goal\"", 17, FormulaCause::End),
@@ -394,7 +394,7 @@ const REFUSED: [(&str, u32, FormulaCause); 65] = [
 ];
 
 // Texts of a front, a piece so many times and a back, each with its fault.
-const LIMITS: [(&str, &str, usize, &str, u32, FormulaCause); 14] = [
+const LIMITS: &[(&str, &str, usize, &str, u32, FormulaCause)] = &[
     ("Pmax=? [ F ", "(", 65, "", 75, FormulaCause::TooDeep),
     ("Pmax=? [ F ", "(", 64, "", 75, FormulaCause::End),
     ("Pmax=? [ F ", "!", 65, "", 75, FormulaCause::TooDeep),
@@ -468,7 +468,7 @@ fn fault_of(alloc: Global, text: &str) -> Option<FormulaFault> {
 
 #[test]
 fn each_fault_has_its_place(rt: HostRuntime) -> Result<(), Fail> {
-    for (text, place, cause) in REFUSED.as_slice() {
+    for (text, place, cause) in REFUSED {
         let wanted = FormulaFault::new(*place, *cause);
         same(text, fault_of(rt.alloc(), text), Some(wanted))?;
     }
@@ -493,7 +493,7 @@ fn repeated(
 
 #[test]
 fn limits_are_kept(rt: HostRuntime) -> Result<(), Fail> {
-    for (front, piece, count, back, place, cause) in LIMITS.as_slice() {
+    for (front, piece, count, back, place, cause) in LIMITS {
         let text = repeated(rt.alloc(), front, piece, *count, back)?;
         let wanted = FormulaFault::new(*place, *cause);
         let fault = fault_of(rt.alloc(), text.as_str());

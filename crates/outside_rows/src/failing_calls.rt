@@ -1,6 +1,6 @@
 //! Every call of the shelf and of the sink fails in turn.
 
-use crate::commands::COMMANDS;
+use crate::commands::commands;
 use expectations::same;
 use std::alloc::Global;
 use std::test::Fail;
@@ -96,7 +96,7 @@ fn each_writing_fails<R: Threads + Sync>(
 
 #[test]
 fn a_shelf_that_fails_leaves_nothing_written(rt: HostRuntime) -> Result<(), Fail> {
-    for (case, _names) in COMMANDS.as_slice() {
+    for (case, _names) in commands() {
         let _calls = each_reading_fails(&rt, rt.alloc(), case)?;
     }
     Ok(())
@@ -123,7 +123,7 @@ fn a_file_out_of_order_fails_in_each_call_of_both_readings(rt: HostRuntime) -> R
 
 #[test]
 fn a_sink_that_fails_leaves_a_front_of_the_text(rt: HostRuntime) -> Result<(), Fail> {
-    for (case, _names) in COMMANDS.as_slice() {
+    for (case, _names) in commands() {
         each_writing_fails(&rt, rt.alloc(), case)?;
     }
     Ok(())

@@ -2,7 +2,7 @@
 
 ghost use Rattle.std.specs.Prelude.{None, false};
 
-use crate::commands::COMMANDS;
+use crate::commands::commands;
 use expectations::same;
 use game_outside::{Failed, OpenGate, Shelf, SteadyShelf, SteadySink};
 use std::alloc::Global;
@@ -81,7 +81,7 @@ fn begins<R: Threads + Sync>(
 
 #[test]
 fn only_the_named_texts_are_begun(rt: HostRuntime) -> Result<(), Fail> {
-    for (case, names) in COMMANDS.as_slice() {
+    for (case, names) in commands() {
         begins(&rt, rt.alloc(), case, names)?;
     }
     Ok(())

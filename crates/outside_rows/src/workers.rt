@@ -131,7 +131,7 @@ fn passes<R: Threads + Sync>(
 }
 
 /// Formulas, the most rounds, and how often the gate is passed before each state. A round updates two tables.
-const PASSES: [(&str, &str, u32); 9] = [
+const PASSES: &[(&str, &str, u32)] = &[
     ("Pmax=? [ F \"goal\" ]", "0", 0),
     ("Pmax=? [ F \"goal\" ]", "1", 2),
     ("Pmax=? [ F \"goal\" ]", "5", 10),
@@ -144,7 +144,7 @@ const PASSES: [(&str, &str, u32); 9] = [
 ];
 
 fn all_pass<R: Threads + Sync>(rt: &R, alloc: Global) -> Result<(), Fail> {
-    for (formula, rounds, times) in PASSES.as_slice() {
+    for (formula, rounds, times) in PASSES {
         let (counts, _strays) = passes(rt, alloc, formula, rounds)?;
         same(formula, counts, [*times; 3])?;
     }

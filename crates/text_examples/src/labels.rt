@@ -9,7 +9,7 @@ use std::test::Fail;
 use text_lines::MOST_BYTES;
 
 // Texts that give three states no labels, each with its fault.
-const REFUSED: [(&str, u32, LabCause); 12] = [
+const REFUSED: &[(&str, u32, LabCause)] = &[
     ("", 1, LabCause::NoHeader),
     ("0=init", 1, LabCause::BadHeader),
     ("0=\"a\" 1=\"a\"", 1, LabCause::DoubleName),
@@ -68,7 +68,7 @@ fn fault_of(alloc: Global, text: &[u8]) -> Option<LabFault> {
 
 #[test]
 fn the_first_fault_is_named_with_its_line(rt: HostRuntime) -> Result<(), Fail> {
-    for (text, line, cause) in REFUSED.as_slice() {
+    for (text, line, cause) in REFUSED {
         let (line, cause) = (*line, *cause);
         let fault = fault_of(rt.alloc(), text.as_bytes());
         same(text, fault, Some(LabFault { line, cause }))?;

@@ -11,7 +11,7 @@ const REPORT: &[u8] = b"state 0 lower 0.500000000000000 upper 0.500000000000000 
     formula Pmax=? [ F \"goal\" ]\n";
 
 // One certificate in three texts.
-const CERTIFICATES: [&[u8]; 3] = [
+const CERTIFICATES: &[&[u8]] = &[
     b"certificate 2 3\n\
         0 0.500000000000000 1 1 0.500000000000001 -\n\
         1 1.000000000000000 - 0 1.000000000000000 -\n\
@@ -29,7 +29,7 @@ const CERTIFICATES: [&[u8]; 3] = [
 ];
 
 // Texts that have no certificate of three states, each with its fault behind the report.
-const REFUSED: [(&str, u32, PlanCause); 28] = [
+const REFUSED: &[(&str, u32, PlanCause)] = &[
     ("", 0, PlanCause::NoCertificate),
     ("certificate2 2 3\n\n", 0, PlanCause::NoCertificate),
     ("certificate 9 3\n", 3, PlanCause::Version),
@@ -189,7 +189,7 @@ fn is_read(alloc: Global, certificate: &[u8], tables: Tables<'_>) -> Result<(), 
 
 #[test]
 fn a_certificate_is_read(rt: HostRuntime) -> Result<(), Fail> {
-    for text in CERTIFICATES.as_slice() {
+    for text in CERTIFICATES {
         is_read(
             rt.alloc(),
             text,
@@ -245,7 +245,7 @@ fn the_first_fault_is_named_with_its_line(rt: HostRuntime) -> Result<(), Fail> {
         read_plan(rt.alloc(), b"", 3).err(),
         Some(nothing),
     )?;
-    for (text, line, cause) in REFUSED.as_slice() {
+    for (text, line, cause) in REFUSED {
         let (line, cause) = (*line, *cause);
         let fault = fault_of(rt.alloc(), text)?;
         same(text, fault, Some(PlanFault { line, cause }))?;

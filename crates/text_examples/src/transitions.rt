@@ -11,7 +11,7 @@ use tra_reader::{TraCause, TraFault, read_tra};
 const COIN_LOOP: &[u8] = b"3 3 5\n0 0 0 0.5\n0 0 1 0.25\n0 0 2 0.25\n1 0 1 1\n2 0 2 1\n";
 
 // Texts, each with the first choice of its game.
-const CHOICES: [(&[u8], &str); 5] = [
+const CHOICES: &[(&[u8], &str)] = &[
     (COIN_LOOP, "4 0:2 1:1 2:1"),
     (
         b"3 4\r\n0 1 0.3\r\n0 2 0.7 a\r\n1 1 1\r\n2 2 1\r\n\r\n \r\n",
@@ -26,7 +26,7 @@ const CHOICES: [(&[u8], &str); 5] = [
 ];
 
 // Texts, each with the same lines in another order.
-const SHUFFLED: [(&[u8], &[u8]); 3] = [
+const SHUFFLED: &[(&[u8], &[u8])] = &[
     (
         COIN_LOOP,
         b"3 3 5\n2 0 2 1\n0 0 2 0.25\n1 0 1 1\n0 0 0 0.5\n0 0 1 0.25\n",
@@ -207,7 +207,7 @@ fn choice_in(alloc: Global, text: &[u8]) -> Result<String, Fail> {
 
 #[test]
 fn choices_are_read(rt: HostRuntime) -> Result<(), Fail> {
-    for (text, wanted) in CHOICES.as_slice() {
+    for (text, wanted) in CHOICES {
         same("choice", choice_in(rt.alloc(), text)?.as_str(), *wanted)?;
     }
     Ok(())
@@ -215,7 +215,7 @@ fn choices_are_read(rt: HostRuntime) -> Result<(), Fail> {
 
 #[test]
 fn order_of_lines_plays_no_part(rt: HostRuntime) -> Result<(), Fail> {
-    for (ordered, shuffled) in SHUFFLED.as_slice() {
+    for (ordered, shuffled) in SHUFFLED {
         let wanted = choice_in(rt.alloc(), ordered)?;
         same("choice", choice_in(rt.alloc(), shuffled)?, wanted)?;
     }

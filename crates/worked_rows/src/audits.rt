@@ -45,7 +45,7 @@ fn with_line(alloc: Global, line: &str) -> Result<String, Fail> {
     )?)
 }
 
-const CHANGES: [(&str, &str); 3] = [
+const CHANGES: &[(&str, &str)] = &[
     (
         "0 0.500000000000000 0 1 0.500000000000000 -",
         "0 NoStep state 0 choice 0",
@@ -69,7 +69,7 @@ fn unchanged_is_printed<R: Threads + Sync>(rt: &R, alloc: Global) -> Result<(), 
 
 // Each change is refused with its cause.
 fn changes_are_refused<R: Threads + Sync>(rt: &R, alloc: Global) -> Result<(), Fail> {
-    for (line, cause) in CHANGES.as_slice() {
+    for (line, cause) in CHANGES {
         let changed = with_line(alloc, line)?;
         audit_refuses(rt, alloc, MOST_OF_LOOP_OR_COIN, changed.as_bytes(), cause)?;
     }

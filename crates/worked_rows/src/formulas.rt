@@ -39,14 +39,14 @@ fn formulas_are_refused_at_their_place(rt: HostRuntime) -> Result<(), Fail> {
 }
 
 // How a formula begins, a sign and how often it stands then, the end, and where and why it is refused.
-const TOO_LONG: [(&str, &str, u32, &str, &str); 3] = [
+const TOO_LONG: &[(&str, &str, u32, &str, &str)] = &[
     ("Pmax=? [ F ", "!", 65, "true ]", "75 TooDeep"),
     ("Pmax=? [ F ", "(", 65, "", "75 TooDeep"),
     ("Pmax=? [ F true ]", " ", 4080, "", "4096 TooLong"),
 ];
 
 fn too_long_are_refused<R: Threads + Sync>(rt: &R, alloc: Global) -> Result<(), Fail> {
-    for (front, sign, times, back, cause) in TOO_LONG.as_slice() {
+    for (front, sign, times, back, cause) in TOO_LONG {
         let mut formula = String::from_str(alloc, front)?;
         push_times(&mut formula, sign, *times)?;
         formula.push_str(back)?;

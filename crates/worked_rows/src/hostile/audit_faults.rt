@@ -10,7 +10,7 @@ use std::test::Fail;
 use std::thread::Threads;
 use stogame_app::Status;
 
-const TEXTS: [(&str, &str); 18] = [
+const TEXTS: &[(&str, &str)] = &[
     ("", "0 NoCertificate"),
     ("certificates 2 3\n", "0 NoCertificate"),
     ("certificate 2\n", "1 BadLine"),
@@ -59,7 +59,7 @@ const TEXTS: [(&str, &str); 18] = [
 ];
 
 fn texts_are_refused<R: Threads + Sync>(rt: &R, alloc: Global) -> Result<(), Fail> {
-    for (certificate, cause) in TEXTS.as_slice() {
+    for (certificate, cause) in TEXTS {
         audit_refuses(
             rt,
             alloc,
@@ -117,7 +117,7 @@ fn refused<R: Threads + Sync>(
     )
 }
 
-const CAUSES: [(&str, &str); 14] = [
+const CAUSES: &[(&str, &str)] = &[
     (
         "0 0.650000000000000 1 1 1.000000000000001 -",
         "2 NumberOutOfRange",
@@ -177,7 +177,7 @@ const CAUSES: [(&str, &str); 14] = [
 ];
 
 fn each_change_is_refused<R: Threads + Sync>(rt: &R, alloc: Global) -> Result<(), Fail> {
-    for (change, cause) in CAUSES.as_slice() {
+    for (change, cause) in CAUSES {
         refused(rt, alloc, &[change], cause)?;
     }
     Ok(())
@@ -196,7 +196,7 @@ fn each_cause_is_named_with_its_state(rt: HostRuntime) -> Result<(), Fail> {
     refused(&rt, rt.alloc(), LOWER_BELOW_1, "0 Value state 2")
 }
 
-const RIGHT: [(&str, &str, Status); 4] = [
+const RIGHT: &[(&str, &str, Status)] = &[
     (
         "1 0.200000000000000 7 1 0.200000000000000 1",
         "lower 0.650000000000000 upper 0.650000000000000 audited True",
@@ -220,7 +220,7 @@ const RIGHT: [(&str, &str, Status); 4] = [
 ];
 
 fn right_changes_are_accepted<R: Threads + Sync>(rt: &R, alloc: Global) -> Result<(), Fail> {
-    for (change, bounds, status) in RIGHT.as_slice() {
+    for (change, bounds, status) in RIGHT {
         let certificate = with_changes(alloc, &[change])?;
         let text = format!(in alloc; "state 0 {bounds}\n")?;
         let row = FIRST_OF_TWO_PLAYERS;
@@ -252,7 +252,7 @@ const UPPER_BELOW_1: &str = "2 1.000000000000000 - 0 0.999999999999999 -";
 const OVER_ONE: &str = "3 0.000000000000000 - 0 1.000000000000001 -";
 
 // Changes, and the first cause of them.
-const FIRST_CAUSES: [(&[&str], &str); 6] = [
+const FIRST_CAUSES: &[(&[&str], &str)] = &[
     (&[NO_CHOICE], "0 Choice state 0"),
     (&[NO_CHOICE, NO_REPLY], "0 Reply state 1"),
     (&[NO_CHOICE, NO_REPLY, UPPER_BELOW_1], "0 Goal state 2"),
@@ -268,7 +268,7 @@ const FIRST_CAUSES: [(&[&str], &str); 6] = [
 ];
 
 fn first_causes_are_told<R: Threads + Sync>(rt: &R, alloc: Global) -> Result<(), Fail> {
-    for (changes, cause) in FIRST_CAUSES.as_slice() {
+    for (changes, cause) in FIRST_CAUSES {
         refused(rt, alloc, changes, cause)?;
     }
     Ok(())
@@ -300,7 +300,7 @@ fn a_certificate_that_is_not_held_writes_nothing(rt: HostRuntime) -> Result<(), 
     writes_without(&rt, rt.alloc(), FIRST_OF_TWO_PLAYERS, "", Status::ReadFault)
 }
 
-const REFUSED_MODELS: [(Row<'static>, &str); 5] = [
+const REFUSED_MODELS: &[(Row<'static>, &str)] = &[
     (
         Row {
             tra: "three states\n",
@@ -340,7 +340,7 @@ const REFUSED_MODELS: [(Row<'static>, &str); 5] = [
 
 // The audit is refused so, with a certificate and without one.
 fn models_are_refused<R: Threads + Sync>(rt: &R, alloc: Global) -> Result<(), Fail> {
-    for (row, text) in REFUSED_MODELS.as_slice() {
+    for (row, text) in REFUSED_MODELS {
         let certificate = b"certificate 2 3\n";
         audit_writes(rt, alloc, *row, certificate, text, Status::ModelRefused)?;
         writes_without(rt, alloc, *row, text, Status::ModelRefused)?;

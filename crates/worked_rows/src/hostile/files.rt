@@ -25,12 +25,12 @@ fn refused<R: Threads + Sync>(rt: &R, alloc: Global, tra: &str, cause: &str) -> 
 }
 
 // Counts of states, of choices and of lines, of which one is too many.
-const FAR_COUNTS: [(&str, &str, &str); 3] = [(FAR, "1", "1"), ("1", FAR, "1"), ("1", "1", FAR)];
+const FAR_COUNTS: &[(&str, &str, &str)] = &[(FAR, "1", "1"), ("1", FAR, "1"), ("1", "1", FAR)];
 
 fn headers_are_refused<R: Threads + Sync>(rt: &R, alloc: Global) -> Result<(), Fail> {
     refused(rt, alloc, "", "1 NoHeader")?;
     refused(rt, alloc, "1000001 1 1\n", "1 OverLimit")?;
-    for (states, choices, lines) in FAR_COUNTS.as_slice() {
+    for (states, choices, lines) in FAR_COUNTS {
         let tra = format!(in alloc; "{states} {choices} {lines}\n")?;
         refused(rt, alloc, tra.as_str(), "1 OverLimit")?;
     }
@@ -42,7 +42,7 @@ fn transition_headers_are_refused(rt: HostRuntime) -> Result<(), Fail> {
     headers_are_refused(&rt, rt.alloc())
 }
 
-const LINES: [(&str, &str); 5] = [
+const LINES: &[(&str, &str)] = &[
     (
         "3 3 4\n0 0 1 1.5\n0 0 2 0.25\n1 0 1 1\n2 0 2 1\n",
         "0 BadSum state 0 choice 0 sum 7 denominator 4",
@@ -66,7 +66,7 @@ const LINES: [(&str, &str); 5] = [
 ];
 
 fn lines_are_refused<R: Threads + Sync>(rt: &R, alloc: Global) -> Result<(), Fail> {
-    for (tra, cause) in LINES.as_slice() {
+    for (tra, cause) in LINES {
         refused(rt, alloc, tra, cause)?;
     }
     Ok(())
@@ -266,14 +266,14 @@ fn owners_of_40_digits_are_refused(rt: HostRuntime) -> Result<(), Fail> {
 }
 
 // A state, a choice and a destination, of which one has 40 digits.
-const FAR_LINES: [(&str, &str, &str, &str); 3] = [
+const FAR_LINES: &[(&str, &str, &str, &str)] = &[
     (FAR, "0", "1", "2 StateOutOfRange"),
     ("0", FAR, "1", "2 OverLimit"),
     ("0", "0", FAR, "2 StateOutOfRange"),
 ];
 
 fn far_transitions_are_refused<R: Threads + Sync>(rt: &R, alloc: Global) -> Result<(), Fail> {
-    for (source, choice, destination, cause) in FAR_LINES.as_slice() {
+    for (source, choice, destination, cause) in FAR_LINES {
         let tra = format!(in alloc; "3 3 5\n{source} {choice} {destination} 1\n")?;
         refused(rt, alloc, tra.as_str(), cause)?;
     }
@@ -305,7 +305,7 @@ const KEPT: &str = "0 0.500000000000000 1 1 0.500000000000000 -";
 const GOAL: &str = "1 1.000000000000000 - 0 1.000000000000000 -";
 
 // The head of a certificate, its first two lines, and why it is refused.
-const CHANGED: [(&str, &str, &str, &str); 3] = [
+const CHANGED: &[(&str, &str, &str, &str)] = &[
     ("9 3", KEPT, GOAL, "3 Version"),
     (
         "2 3",
@@ -322,7 +322,7 @@ const CHANGED: [(&str, &str, &str, &str); 3] = [
 ];
 
 fn changed_texts_are_refused<R: Threads + Sync>(rt: &R, alloc: Global) -> Result<(), Fail> {
-    for (header, first, second, cause) in CHANGED.as_slice() {
+    for (header, first, second, cause) in CHANGED {
         let certificate = format!(in alloc;
             "state 0 lower 0.500000000000000 upper 0.500000000000000 rounds 2 Bracket\nformula Pmax=? [ F \"goal\" ]\ncertificate {header}\n{first}\n{second}\n2 0.000000000000000 - 0 0.000000000000000 -\n"
         )?;
@@ -349,7 +349,7 @@ const KEPT_REPLY: &str = "1 0.200000000000000 - 1 0.200000000000000 1";
 const GOAL_OF_TWO: &str = "2 1.000000000000000 - 0 1.000000000000000 -";
 
 // The lines of states 1 and 2, and why the certificate is refused.
-const CHANGED_OF_TWO: [(&str, &str, &str); 2] = [
+const CHANGED_OF_TWO: &[(&str, &str, &str)] = &[
     (
         "1 0.200000000000000 - 1 0.100000000000000 1",
         GOAL_OF_TWO,
@@ -363,7 +363,7 @@ const CHANGED_OF_TWO: [(&str, &str, &str); 2] = [
 ];
 
 fn changed_replies_are_refused<R: Threads + Sync>(rt: &R, alloc: Global) -> Result<(), Fail> {
-    for (second, third, cause) in CHANGED_OF_TWO.as_slice() {
+    for (second, third, cause) in CHANGED_OF_TWO {
         let certificate = format!(in alloc;
             "state 0 lower 0.650000000000000 upper 0.650000000000000 rounds 1 True\nformula <<p1>> P>=3/5 [ F \"goal\" ]\ncertificate 2 4\n0 0.650000000000000 1 1 0.650000000000000 -\n{second}\n{third}\n3 0.000000000000000 - 0 0.000000000000000 -\n"
         )?;

@@ -150,7 +150,7 @@ fn headers_and_fields_are_refused(rt: HostRuntime) -> Result<(), Fail> {
     all_write(&rt, rt.alloc(), HEADERS_AND_FIELDS)
 }
 
-const NUMBERS: [(&str, &str); 6] = [
+const NUMBERS: &[(&str, &str)] = &[
     (".5", "NotANumber"),
     ("1e-24", "TooFine"),
     ("0.000000000000000000000001", "TooFine"),
@@ -161,7 +161,7 @@ const NUMBERS: [(&str, &str); 6] = [
 
 // The coin loop with each of these numbers in its second line is refused for the cause beside it.
 fn numbers_are_refused<R: Threads + Sync>(rt: &R, alloc: Global) -> Result<(), Fail> {
-    for (number, cause) in NUMBERS.as_slice() {
+    for (number, cause) in NUMBERS {
         let tra = format!(in alloc;
             "3 3 5\n0 0 0 {number}\n0 0 1 0.25\n0 0 2 0.25\n1 0 1 1\n2 0 2 1\n"
         )?;

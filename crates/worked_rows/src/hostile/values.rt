@@ -21,7 +21,7 @@ fn from_values<R: Threads + Sync>(
     solve_writes(rt, alloc, row, Some(values), text, status)
 }
 
-const FAR: [&str; 6] = [
+const FAR: &[&str] = &[
     "nan\ninf\n-inf\n",
     "-1e999\n1e-999\n1e999\n",
     "9999999999999999999999999999999999999999\n-0\n-9999999999999999999999999999999999999999\n",
@@ -32,7 +32,7 @@ const FAR: [&str; 6] = [
 
 fn far_values_change_nothing<R: Threads + Sync>(rt: &R, alloc: Global) -> Result<(), Fail> {
     let half = "state 0 lower 0.500000000000000 upper 0.500000000000000 solved Bracket\n";
-    for values in FAR.as_slice() {
+    for values in FAR {
         from_values(rt, alloc, values, half, Status::Fine)?;
     }
     Ok(())
@@ -43,7 +43,7 @@ fn numbers_far_from_any_value_change_no_answer(rt: HostRuntime) -> Result<(), Fa
     far_values_change_nothing(&rt, rt.alloc())
 }
 
-const REFUSED: [(&str, &str); 14] = [
+const REFUSED: &[(&str, &str)] = &[
     ("", "0 LineCount"),
     ("0.5\n1\n0\n0\n", "0 LineCount"),
     ("0.5\n\nhalf\n", "3 BadField"),
@@ -64,7 +64,7 @@ const REFUSED: [(&str, &str); 14] = [
 ];
 
 fn each_is_refused<R: Threads + Sync>(rt: &R, alloc: Global) -> Result<(), Fail> {
-    for (values, cause) in REFUSED.as_slice() {
+    for (values, cause) in REFUSED {
         let text = format!(in alloc; "refused values line {cause}\n")?;
         from_values(rt, alloc, values, text.as_str(), Status::ModelRefused)?;
     }
