@@ -4,58 +4,19 @@ use crate::formulas::{Asked, Coalition, Head, Share, Tree, Way};
 use sample_games::Draw;
 use std::alloc::Global;
 
-// The thresholds that are drawn: ends, shares that values of small games meet, and others.
-const SHARES: [Share; 10] = [
-    Share {
-        text: "0",
-        numerator: 0,
-        denominator: 1,
-    },
-    Share {
-        text: "1",
-        numerator: 1,
-        denominator: 1,
-    },
-    Share {
-        text: "0.5",
-        numerator: 1,
-        denominator: 2,
-    },
-    Share {
-        text: "1/3",
-        numerator: 1,
-        denominator: 3,
-    },
-    Share {
-        text: "2/3",
-        numerator: 2,
-        denominator: 3,
-    },
-    Share {
-        text: "3/7",
-        numerator: 3,
-        denominator: 7,
-    },
-    Share {
-        text: "5/11",
-        numerator: 5,
-        denominator: 11,
-    },
-    Share {
-        text: "0.3",
-        numerator: 3,
-        denominator: 10,
-    },
-    Share {
-        text: "6e-1",
-        numerator: 3,
-        denominator: 5,
-    },
-    Share {
-        text: "0.85",
-        numerator: 17,
-        denominator: 20,
-    },
+// The thresholds that are drawn: ends, shares that values of small games meet, and others. Each is a spelling, and the
+// same as a numerator and a denominator.
+const SHARES: &[(&str, u128, u128)] = &[
+    ("0", 0, 1),
+    ("1", 1, 1),
+    ("0.5", 1, 2),
+    ("1/3", 1, 3),
+    ("2/3", 2, 3),
+    ("3/7", 3, 7),
+    ("5/11", 5, 11),
+    ("0.3", 3, 10),
+    ("6e-1", 3, 5),
+    ("0.85", 17, 20),
 ];
 
 /// The most formulas that stand in one another, the outermost one counted.
@@ -74,7 +35,12 @@ fn random_coalition(draw: &mut Draw) -> Coalition {
 
 fn random_threshold(draw: &mut Draw) -> Option<Asked> {
     let place = draw.between(0, SHARES.len() as u32 - 1);
-    let share = SHARES.get(place as usize).copied()?;
+    let (text, numerator, denominator) = *SHARES.get(place as usize)?;
+    let share = Share {
+        text,
+        numerator,
+        denominator,
+    };
     Some(match draw.between(0, 3) {
         0 => Asked::AtLeast(share),
         1 => Asked::Above(share),
@@ -111,6 +77,11 @@ fn taken(draw: &mut Draw, trees: &mut Vec<Tree>) -> Tree {
     }
 }
 
+// The same in a box.
+fn taken_box(alloc: Global, draw: &mut Draw, trees: &mut Vec<Tree>) -> Option<Box<Tree>> {
+    Box::new(alloc, taken(draw, trees)).ok()
+}
+
 // The formula with this bound and a random path over the last trees.
 fn random_bounded(
     alloc: Global,
@@ -123,27 +94,23 @@ fn random_bounded(
         asked,
         way: random_way(draw),
     };
-    let right = taken(draw, trees);
+    let right = taken_box(alloc, draw, trees)?;
     let left = if head.has_left() {
-        taken(draw, trees)
+        taken_box(alloc, draw, trees)
     } else {
-        Tree::Everywhere
+        Box::new(alloc, Tree::Everywhere).ok()
     };
-    Some(Tree::Bounded(
-        head,
-        Box::new(alloc, left).ok()?,
-        Box::new(alloc, right).ok()?,
-    ))
+    Some(Tree::Bounded(head, left?, right))
 }
 
 // A connective over the last trees.
 fn random_connective(alloc: Global, draw: &mut Draw, trees: &mut Vec<Tree>) -> Option<Tree> {
     let kind = draw.between(0, 6);
-    let first = Box::new(alloc, taken(draw, trees)).ok()?;
+    let first = taken_box(alloc, draw, trees)?;
     if kind == 0 {
         return Some(Tree::Not(first));
     }
-    let second = Box::new(alloc, taken(draw, trees)).ok()?;
+    let second = taken_box(alloc, draw, trees)?;
     Some(match kind {
         1 | 2 => Tree::And(first, second),
         3 | 4 => Tree::Or(second, first),

@@ -93,32 +93,43 @@ impl Coalition {
 }
 
 impl Asked {
-    fn text(self, alloc: Global) -> Result<String, AllocError> {
+    // The text up to the threshold, and the threshold.
+    fn texts(self) -> (&'static str, &'static str) {
         match self {
-            Asked::AtLeast(share) => format!(in alloc; "P>={}", share.text),
-            Asked::Above(share) => format!(in alloc; "P>{}", share.text),
-            Asked::AtMost(share) => format!(in alloc; "P<={}", share.text),
-            Asked::Below(share) => format!(in alloc; "P<{}", share.text),
-            Asked::Most => String::from_str(alloc, "Pmax=?"),
-            Asked::Least => String::from_str(alloc, "Pmin=?"),
+            Asked::AtLeast(share) => ("P>=", share.text),
+            Asked::Above(share) => ("P>", share.text),
+            Asked::AtMost(share) => ("P<=", share.text),
+            Asked::Below(share) => ("P<", share.text),
+            Asked::Most => ("Pmax=?", ""),
+            Asked::Least => ("Pmin=?", ""),
+        }
+    }
+}
+
+impl Way {
+    // Adds what stands between the sides, or before the only one.
+    fn add_text(self, alloc: Global, text: &mut String) -> Result<(), AllocError> {
+        match self {
+            Way::Eventually => text.push_str("F "),
+            Way::Until => text.push_str(" U "),
+            Way::EventuallyWithin(steps) => {
+                text.push_str(format!(in alloc; "F<={steps} ")?.as_str())
+            }
+            Way::UntilWithin(steps) => text.push_str(format!(in alloc; " U<={steps} ")?.as_str()),
+            Way::Next => text.push_str("X "),
+            Way::Always => text.push_str("G "),
         }
     }
 }
 
 impl Head {
-    // The text of the formula with these sides.
-    fn text(self, alloc: Global, left: &str, right: &str) -> Result<String, AllocError> {
-        let path = match self.way {
-            Way::Eventually => format!(in alloc; "F {right}"),
-            Way::Until => format!(in alloc; "{left} U {right}"),
-            Way::EventuallyWithin(steps) => format!(in alloc; "F<={steps} {right}"),
-            Way::UntilWithin(steps) => format!(in alloc; "{left} U<={steps} {right}"),
-            Way::Next => format!(in alloc; "X {right}"),
-            Way::Always => format!(in alloc; "G {right}"),
-        }?;
-        let coalition = self.coalition.text();
-        let asked = self.asked.text(alloc)?;
-        format!(in alloc; "{coalition}{asked} [ {path} ]")
+    // Adds what stands before the path.
+    fn add_text(self, text: &mut String) -> Result<(), AllocError> {
+        let (start, threshold) = self.asked.texts();
+        text.push_str(self.coalition.text())?;
+        text.push_str(start)?;
+        text.push_str(threshold)?;
+        text.push_str(" [ ")
     }
 
     /// Whether the path has a left side.
@@ -128,6 +139,15 @@ impl Head {
 }
 
 impl Tree {
+    // What stands between two sides.
+    fn sign(&self) -> &'static str {
+        match self {
+            Tree::And(_, _) => " & ",
+            Tree::Or(_, _) => " | ",
+            _ => " => ",
+        }
+    }
+
     // How tightly it binds: `=>` least.
     fn strength(&self) -> u32 {
         match self {
@@ -138,23 +158,49 @@ impl Tree {
         }
     }
 
-    /// The text, in brackets where it binds less tightly than it has to.
-    pub(crate) fn text(&self, alloc: Global, least: u32) -> Result<String, AllocError> {
-        let text = match self {
-            Tree::Everywhere => String::from_str(alloc, "true"),
-            Tree::Nowhere => String::from_str(alloc, "false"),
-            Tree::HasA => String::from_str(alloc, "\"a\""),
-            Tree::HasB => String::from_str(alloc, "\"b\""),
-            Tree::Not(x) => joined(alloc, "", "!", &x.text(alloc, 3)?),
-            Tree::And(x, y) => joined(alloc, &x.text(alloc, 2)?, " & ", &y.text(alloc, 3)?),
-            Tree::Or(x, y) => joined(alloc, &x.text(alloc, 1)?, " | ", &y.text(alloc, 2)?),
-            Tree::Implies(x, y) => joined(alloc, &x.text(alloc, 0)?, " => ", &y.text(alloc, 1)?),
-            Tree::Bounded(head, x, y) => head.text(alloc, &x.text(alloc, 0)?, &y.text(alloc, 0)?),
-        }?;
-        if self.strength() < least {
-            return joined(alloc, "(", text.as_str(), ")");
+    /// What the connective says of what its sides say.
+    pub(crate) fn says(&self, x: bool, y: bool) -> bool {
+        match self {
+            Tree::And(_, _) => x && y,
+            Tree::Or(_, _) => x || y,
+            _ => !x || y,
         }
-        Ok(text)
+    }
+
+    /// Adds the text, in brackets where it binds less tightly than it has to.
+    pub(crate) fn add_text(
+        &self,
+        alloc: Global,
+        text: &mut String,
+        least: u32,
+    ) -> Result<(), AllocError> {
+        let is_loose = self.strength() < least;
+        text.push_str(if is_loose { "(" } else { "" })?;
+        match self {
+            Tree::Everywhere => text.push_str("true"),
+            Tree::Nowhere => text.push_str("false"),
+            Tree::HasA => text.push_str("\"a\""),
+            Tree::HasB => text.push_str("\"b\""),
+            Tree::Not(x) => {
+                text.push_str("!")?;
+                x.add_text(alloc, text, 3)
+            }
+            Tree::And(x, y) | Tree::Or(x, y) | Tree::Implies(x, y) => {
+                x.add_text(alloc, text, self.strength())?;
+                text.push_str(self.sign())?;
+                y.add_text(alloc, text, self.strength().saturating_add(1))
+            }
+            Tree::Bounded(head, x, y) => {
+                head.add_text(text)?;
+                if head.has_left() {
+                    x.add_text(alloc, text, 0)?;
+                }
+                head.way.add_text(alloc, text)?;
+                y.add_text(alloc, text, 0)?;
+                text.push_str(" ]")
+            }
+        }?;
+        text.push_str(if is_loose { ")" } else { "" })
     }
 
     /// How many formulas stand in one another at most.
@@ -181,9 +227,4 @@ impl Tree {
             }
         }
     }
-}
-
-// Three texts, one behind the other.
-fn joined(alloc: Global, one: &str, middle: &str, other: &str) -> Result<String, AllocError> {
-    format!(in alloc; "{one}{middle}{other}")
 }

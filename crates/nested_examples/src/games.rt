@@ -131,6 +131,11 @@ fn lie_right(
     }
 }
 
+// Ok where a fact about the bounds of a formula at a state holds.
+fn holds_at(text: &str, state: usize, lower: u64, upper: u64, fact: bool) -> Result<(), Fail> {
+    holds(format_args!("{text} at {state}: {lower} and {upper}"), fact)
+}
+
 // Compares what bounds say of a threshold at a state with what its value keeps. It tells whether they leave it open.
 fn compare_verdict(
     valued: &Valued<'_>,
@@ -147,7 +152,7 @@ fn compare_verdict(
     let verdict = said(asked, lower, upper);
     let truth = valued.exact.keeps(state, asked).ok_or("no products")?;
     tally.note_verdict(verdict);
-    holds(format_args!("{text} at {state}"), verdict != Some(!truth))?;
+    holds_at(text, state, lower, upper, verdict != Some(!truth))?;
     Ok(verdict.is_none())
 }
 
@@ -162,10 +167,7 @@ fn compare_state(
     tally: &mut Tally,
 ) -> Result<bool, Fail> {
     let right = lie_right(valued, undecided, state, lower, upper).ok_or("no products")?;
-    holds(
-        format_args!("{text} at {state}: {lower} and {upper}"),
-        right,
-    )?;
+    holds_at(text, state, lower, upper, right)?;
     tally.note_value(&valued.exact, state).ok_or("no value")?;
     compare_verdict(valued, text, state, lower, upper, tally)
 }
@@ -226,7 +228,8 @@ fn compare<R: Threads + Sync>(
     requires some { 1 ≤ workers }
     requires few { workers ≤ most_workers }
 {
-    let text = valued.formula.text(alloc, 0)?;
+    let mut text = String::new(alloc);
+    valued.formula.add_text(alloc, &mut text, 0)?;
     let text = text.as_str();
     let answer = answer_of(rt, alloc, model, text, rounds, workers)?;
     compare_answer(valued, &answer, model.seen.of_second.len(), text, tally)

@@ -35,23 +35,33 @@ pub(crate) fn random_trapping_game(alloc: Global, draw: &mut Draw) -> Option<Gam
     let states = draw.between(FEW_STATES.least_states, FEW_STATES.most_states);
     let mut draft = Draft::new(alloc, states);
     for state in 0..states {
-        if draw.between(0, 3) == 0 {
-            draft.one(alloc, &[(state, 1)])?;
-        } else {
-            add_state(alloc, draw, states, &mut draft)?;
-        }
+        add_state(alloc, draw, states, state, &mut draft)?;
     }
     draft.game(alloc)
 }
 
-// Adds a state with random choices.
-fn add_state(alloc: Global, draw: &mut Draw, states: u32, draft: &mut Draft) -> Option<()> {
+// Adds a state that is never left, or one with random choices.
+fn add_state(
+    alloc: Global,
+    draw: &mut Draw,
+    states: u32,
+    state: u32,
+    draft: &mut Draft,
+) -> Option<()> {
+    if draw.between(0, 3) == 0 {
+        return draft.one(alloc, &[(state, 1)]);
+    }
     for _choice in 0..draw.between(1, FEW_STATES.most_choices) {
-        let successors = draw.between(2, FEW_STATES.most_successors);
-        let edges = random_edges(alloc, draw, &FEW_STATES, states, successors)?;
-        draft.choice(alloc, &edges)?;
+        add_choice(alloc, draw, states, draft)?;
     }
     draft.end_state(alloc)
+}
+
+// Adds a random choice to the next state.
+fn add_choice(alloc: Global, draw: &mut Draw, states: u32, draft: &mut Draft) -> Option<()> {
+    let successors = draw.between(2, FEW_STATES.most_successors);
+    let edges = random_edges(alloc, draw, &FEW_STATES, states, successors)?;
+    draft.choice(alloc, &edges)
 }
 
 // Marks of states that are drawn, one in so many.
@@ -63,35 +73,40 @@ fn random_marks(alloc: Global, draw: &mut Draw, states: u32, often: u32) -> Opti
     Some(marks)
 }
 
-// The line of a state in the label file: each is initial.
-fn label_line(alloc: Global, state: usize, is_a: bool, is_b: bool) -> Result<String, AllocError> {
-    let a = if is_a { " 1" } else { "" };
-    let b = if is_b { " 2" } else { "" };
-    format!(in alloc; "{state}: 0{a}{b}\n")
+// Adds the line of a state to a label file or an owner file.
+fn add_line(
+    alloc: Global,
+    text: &mut String,
+    state: usize,
+    numbers: &str,
+) -> Result<(), AllocError> {
+    text.push_str(format!(in alloc; "{state}: {numbers}\n")?.as_str())
+}
+
+// The numbers of the labels of a state: each is initial.
+fn label_numbers(is_a: bool, is_b: bool) -> &'static str {
+    match (is_a, is_b) {
+        (false, false) => "0",
+        (true, false) => "0 1",
+        (false, true) => "0 2",
+        (true, true) => "0 1 2",
+    }
 }
 
 // The label file.
 fn text_of_labels(alloc: Global, has_a: &[bool], has_b: &[bool]) -> Result<String, AllocError> {
     let mut text = String::from_str(alloc, "0=\"init\" 1=\"a\" 2=\"b\"\n")?;
     for (state, (is_a, is_b)) in has_a.iter().zip(has_b.iter()).enumerate() {
-        let line = label_line(alloc, state, *is_a, *is_b)?;
-        text.push_str(line.as_str())?;
+        add_line(alloc, &mut text, state, label_numbers(*is_a, *is_b))?;
     }
     Ok(text)
-}
-
-// The line of a state in the owner file.
-fn owner_line(alloc: Global, state: usize, is_second: bool) -> Result<String, AllocError> {
-    let player = if is_second { "1" } else { "0" };
-    format!(in alloc; "{state}: {player}\n")
 }
 
 // The owner file.
 fn text_of_owners(alloc: Global, of_second: &[bool]) -> Result<String, AllocError> {
     let mut text = String::from_str(alloc, "0=\"p1\" 1=\"p2\"\n")?;
     for (state, is_second) in of_second.iter().enumerate() {
-        let line = owner_line(alloc, state, *is_second)?;
-        text.push_str(line.as_str())?;
+        add_line(alloc, &mut text, state, if *is_second { "1" } else { "0" })?;
     }
     Ok(text)
 }

@@ -23,12 +23,12 @@ const SLACK: u128 = 100_000;
 const MANY_STEPS: u32 = 20_000;
 
 /// Who chooses where, what is to be reached, and over which states.
-#[derive(Drop)]
+#[derive(Clone, Copy)]
 pub struct Reaching<'g> {
     pub game: &'g Game,
-    pub maximises: Vec<bool>,
-    pub over: Vec<bool>,
-    pub goals: Vec<bool>,
+    pub maximises: &'g [bool],
+    pub over: &'g [bool],
+    pub goals: &'g [bool],
 }
 
 impl Reaching<'_> {
@@ -65,18 +65,24 @@ impl Reaching<'_> {
         Some(best)
     }
 
-    // The table one step on, with a numerator of 1 that is so many times as great.
+    // The value of a state one step on, with a numerator of 1 that is so many times as great.
+    fn value_after(&self, state: u32, table: &[u128], one: u128, scale: u128) -> Option<u128>
+        requires { state < length self.now.game.now }
+    {
+        if *self.goals.get(state as usize)? {
+            return one.checked_mul(scale);
+        }
+        if *self.over.get(state as usize)? {
+            return self.best_value(state, table, scale);
+        }
+        Some(0)
+    }
+
+    // The table one step on.
     fn stepped(&self, alloc: Global, table: &[u128], one: u128, scale: u128) -> Option<Vec<u128>> {
         let mut next = Vec::new(alloc);
         for state in 0..self.game.states() {
-            let value = if *self.goals.get(state as usize)? {
-                one.checked_mul(scale)?
-            } else if *self.over.get(state as usize)? {
-                self.best_value(state, table, scale)?
-            } else {
-                0
-            };
-            next.push(value).ok()?;
+            next.push(self.value_after(state, table, one, scale)?).ok()?;
         }
         Some(next)
     }
@@ -98,7 +104,7 @@ impl Reaching<'_> {
 
     /// The values without a bound on the steps, where steps that are rounded down come to rest.
     pub(crate) fn at_last(&self, alloc: Global) -> Option<Exact> {
-        let mut table = table_of(alloc, &self.goals, FINE)?;
+        let mut table = table_of(alloc, self.goals, FINE)?;
         for _step in 0..MANY_STEPS {
             let next = self.stepped(alloc, &table, FINE, 1)?;
             if next == table {
@@ -112,6 +118,48 @@ impl Reaching<'_> {
         }
         None
     }
+
+    /// The values of a goal at the next state.
+    pub(crate) fn next(self, alloc: Global) -> Option<Exact> {
+        let nowhere = vec![in alloc; false; self.goals.len()].ok()?;
+        let step = Reaching {
+            goals: &nowhere,
+            ..self
+        };
+        step.within(alloc, self.goals, 1)
+    }
+
+    /// The values of staying at the goals for ever, where the maximiser is who wants to leave them.
+    pub(crate) fn always(self, alloc: Global) -> Option<Exact> {
+        let failing = negated(alloc, self.goals)?;
+        let leaving = Reaching {
+            goals: &failing,
+            ..self
+        };
+        mirrored(alloc, &leaving.at_last(alloc)?)
+    }
+}
+
+/// The marks of the other states.
+pub(crate) fn negated(alloc: Global, marks: &[bool]) -> Option<Vec<bool>> {
+    let mut others = Vec::new(alloc);
+    for mark in marks {
+        others.push(!*mark).ok()?;
+    }
+    Some(others)
+}
+
+// 1 less the values.
+fn mirrored(alloc: Global, exact: &Exact) -> Option<Exact> {
+    let mut rests = Vec::new(alloc);
+    for numerator in &exact.numerators {
+        rests.push(exact.one.checked_sub(*numerator)?).ok()?;
+    }
+    Some(Exact {
+        numerators: rests,
+        one: exact.one,
+        slack: exact.slack,
+    })
 }
 
 // This numerator at the marked states, and 0 elsewhere.

@@ -1,7 +1,7 @@
 //! Values of formulas with formulas inside by their meaning, plain and exact: a tree is evaluated from its leaves up.
 
 use crate::formulas::{Asked, Coalition, Head, Share, Tree, Way};
-use crate::steps::Reaching;
+use crate::steps::{Reaching, negated};
 use game_model::Game;
 use std::alloc::Global;
 use std::cmp::Ordering;
@@ -43,19 +43,6 @@ impl Exact {
         let share = share_of(asked)?;
         Some(is_kept(asked, self.compared(state, share)?))
     }
-
-    // 1 less the values.
-    fn mirrored(self, alloc: Global) -> Option<Exact> {
-        let mut rests = Vec::new(alloc);
-        for numerator in &self.numerators {
-            rests.push(self.one.checked_sub(*numerator)?).ok()?;
-        }
-        Some(Exact {
-            numerators: rests,
-            one: self.one,
-            slack: self.slack,
-        })
-    }
 }
 
 /// The threshold of a bound.
@@ -93,40 +80,21 @@ fn is_maximised(head: Head, is_second: bool) -> bool {
     }
 }
 
-fn negated(alloc: Global, marks: &[bool]) -> Option<Vec<bool>> {
-    let mut others = Vec::new(alloc);
-    for mark in marks {
-        others.push(!*mark).ok()?;
-    }
-    Some(others)
-}
-
 impl<'g> Seen<'g> {
     fn all(&self, alloc: Global, holds: bool) -> Option<Vec<bool>> {
         vec![in alloc; holds; self.of_second.len()].ok()
     }
 
-    // The question of reaching a goal, with the sides of a head; or with these exchanged.
-    fn reaching(
-        &self,
-        alloc: Global,
-        head: Head,
-        exchanged: bool,
-        over: Vec<bool>,
-        goals: Vec<bool>,
-    ) -> Option<Reaching<'g>> {
+    // Where the maximiser chooses on a path with this head: what is always so is what the other side does not leave.
+    fn maximised(&self, alloc: Global, head: Head) -> Option<Vec<bool>> {
+        let is_exchanged = head.way == Way::Always;
         let mut maximises = Vec::new(alloc);
         for is_second in &self.of_second {
             maximises
-                .push(is_maximised(head, *is_second) != exchanged)
+                .push(is_maximised(head, *is_second) != is_exchanged)
                 .ok()?;
         }
-        Some(Reaching {
-            game: self.game,
-            maximises,
-            over,
-            goals,
-        })
+        Some(maximises)
     }
 
     // The values of a path whose sides hold at these states.
@@ -134,28 +102,23 @@ impl<'g> Seen<'g> {
         &self,
         alloc: Global,
         head: Head,
-        left: Vec<bool>,
-        right: Vec<bool>,
+        left: &[bool],
+        right: &[bool],
     ) -> Option<Exact> {
+        let maximises = self.maximised(alloc, head)?;
+        let reaching = Reaching {
+            game: self.game,
+            maximises: &maximises,
+            over: left,
+            goals: right,
+        };
         match head.way {
-            Way::Eventually | Way::Until => self
-                .reaching(alloc, head, false, left, right)?
-                .at_last(alloc),
+            Way::Eventually | Way::Until => reaching.at_last(alloc),
             Way::EventuallyWithin(steps) | Way::UntilWithin(steps) => {
-                let opening = right.to_vec(alloc).ok()?;
-                self.reaching(alloc, head, false, left, right)?
-                    .within(alloc, &opening, steps)
+                reaching.within(alloc, right, steps)
             }
-            Way::Next => {
-                let nowhere = self.all(alloc, false)?;
-                self.reaching(alloc, head, false, left, nowhere)?
-                    .within(alloc, &right, 1)
-            }
-            Way::Always => {
-                let failing = negated(alloc, &right)?;
-                let leaving = self.reaching(alloc, head, true, left, failing)?;
-                leaving.at_last(alloc)?.mirrored(alloc)
-            }
+            Way::Next => reaching.next(alloc),
+            Way::Always => reaching.always(alloc),
         }
     }
 
@@ -169,7 +132,7 @@ impl<'g> Seen<'g> {
     ) -> Option<Exact> {
         let left = self.truth(alloc, left)?;
         let right = self.truth(alloc, right)?;
-        self.path_values(alloc, head, left, right)
+        self.path_values(alloc, head, &left, &right)
     }
 
     // Where a formula holds.
@@ -180,33 +143,29 @@ impl<'g> Seen<'g> {
             Tree::HasA => self.has_a.to_vec(alloc).ok(),
             Tree::HasB => self.has_b.to_vec(alloc).ok(),
             Tree::Not(x) => negated(alloc, &self.truth(alloc, x)?),
-            Tree::And(x, y) => {
-                let (x, y) = (self.truth(alloc, x)?, self.truth(alloc, y)?);
-                combined(alloc, &x, &y, Connective::And)
-            }
-            Tree::Or(x, y) => {
-                let (x, y) = (self.truth(alloc, x)?, self.truth(alloc, y)?);
-                combined(alloc, &x, &y, Connective::Or)
-            }
-            Tree::Implies(x, y) => {
-                let (x, y) = (self.truth(alloc, x)?, self.truth(alloc, y)?);
-                combined(alloc, &x, &y, Connective::Implies)
-            }
-            Tree::Bounded(head, x, y) => {
+            Tree::And(x, y) | Tree::Or(x, y) | Tree::Implies(x, y) | Tree::Bounded(_, x, y) => {
                 let (left, right) = (self.truth(alloc, x)?, self.truth(alloc, y)?);
-                self.kept(alloc, *head, left, right)
+                self.joined(alloc, tree, &left, &right)
             }
         }
     }
 
-    // Where the values of a path meet the bound.
-    fn kept(
+    // Where a formula holds whose sides hold at these states.
+    fn joined(
         &self,
         alloc: Global,
-        head: Head,
-        left: Vec<bool>,
-        right: Vec<bool>,
+        tree: &Tree,
+        left: &[bool],
+        right: &[bool],
     ) -> Option<Vec<bool>> {
+        match tree {
+            Tree::Bounded(head, _, _) => self.kept(alloc, *head, left, right),
+            _ => combined(alloc, tree, left, right),
+        }
+    }
+
+    // Where the values of a path meet the bound.
+    fn kept(&self, alloc: Global, head: Head, left: &[bool], right: &[bool]) -> Option<Vec<bool>> {
         let values = self.path_values(alloc, head, left, right)?;
         let mut kept = Vec::new(alloc);
         for state in 0..values.numerators.len() {
@@ -216,35 +175,11 @@ impl<'g> Seen<'g> {
     }
 }
 
-// What stands between two formulas.
-#[derive(Clone, Copy)]
-enum Connective {
-    And,
-    Or,
-    Implies,
-}
-
-impl Connective {
-    // What it says of two marks.
-    fn of(self, x: bool, y: bool) -> bool {
-        match self {
-            Connective::And => x && y,
-            Connective::Or => x || y,
-            Connective::Implies => !x || y,
-        }
-    }
-}
-
-// What a connective says of two lists of marks.
-fn combined(
-    alloc: Global,
-    one: &[bool],
-    other: &[bool],
-    connective: Connective,
-) -> Option<Vec<bool>> {
+// What the connective of a tree says of two lists of marks.
+fn combined(alloc: Global, tree: &Tree, one: &[bool], other: &[bool]) -> Option<Vec<bool>> {
     let mut marks = Vec::new(alloc);
     for (x, y) in one.iter().zip(other.iter()) {
-        marks.push(connective.of(*x, *y)).ok()?;
+        marks.push(tree.says(*x, *y)).ok()?;
     }
     Some(marks)
 }
