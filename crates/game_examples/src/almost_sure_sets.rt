@@ -1,10 +1,10 @@
 //! Worked almost-sure sets.
 
-ghost use Rattle.std.specs.Prelude.{◌≡◌, length};
+ghost use Rattle.std.specs.Prelude.{◌≡◌, length, IfOk};
 
 use almost_sure::almost_sure;
 use expectations::same;
-use game_model::{Game, Side};
+use game_model::{Game, Question, Side};
 use sample_games::{
     chain, coin, coin_loop, goal_or_sink, question_of, question_with_dead, wait_or_coin,
 };
@@ -15,33 +15,64 @@ use std::test::Fail;
 fn three_states(rt: HostRuntime) -> Result<(), Fail> {
     let alloc = rt.alloc();
     // A coin that may fall on the sink.
-    let game = coin_loop(alloc)?;
-    check_three("coin loop", alloc, game, Side::Max, (false, true, false))?;
+    check_three(
+        "coin loop",
+        alloc,
+        coin_loop(alloc),
+        Side::Max,
+        (false, true, false),
+    )?;
     // One that is tossed until it falls on the goal.
-    let game = coin(alloc)?;
-    check_three("coin", alloc, game, Side::Max, (true, true, false))?;
+    check_three("coin", alloc, coin(alloc), Side::Max, (true, true, false))?;
     // Where it may fall on the sink, to wait does not help.
-    let game = wait_or_coin(alloc)?;
-    check_three("wait or coin", alloc, game, Side::Max, (false, true, false))?;
+    check_three(
+        "wait or coin",
+        alloc,
+        wait_or_coin(alloc),
+        Side::Max,
+        (false, true, false),
+    )?;
     // The minimiser goes to the sink.
-    let game = goal_or_sink(alloc)?;
-    check_three("maximiser", alloc, game, Side::Max, (true, true, false))?;
-    let game = goal_or_sink(alloc)?;
-    check_three("minimiser", alloc, game, Side::Min, (false, true, false))
+    check_three(
+        "maximiser",
+        alloc,
+        goal_or_sink(alloc),
+        Side::Max,
+        (true, true, false),
+    )?;
+    check_three(
+        "minimiser",
+        alloc,
+        goal_or_sink(alloc),
+        Side::Min,
+        (false, true, false),
+    )
 }
 
 /// These of three states are almost sure, where state 1 is the goal and one side chooses at all.
 fn check_three(
     name: &str,
     alloc: Global,
-    game: Game,
+    game: Result<Game, Fail>,
     side: Side,
     wanted: (bool, bool, bool),
 ) -> Result<(), Fail>
-    requires { length game ≡ 3 }
+    requires { IfOk game (λ game. length game ≡ 3) }
 {
-    let question = question_of(alloc, &game, side, 1)?;
-    let marks = almost_sure(alloc, &question)?;
+    let game = game?;
+    check_marks(name, alloc, &question_of(alloc, &game, side, 1)?, wanted)
+}
+
+/// These of three states are almost sure.
+fn check_marks(
+    name: &str,
+    alloc: Global,
+    question: &Question<'_>,
+    wanted: (bool, bool, bool),
+) -> Result<(), Fail>
+    requires { length question.now.game ≡ 3 }
+{
+    let marks = almost_sure(alloc, question)?;
     same(name, (marks.has(0), marks.has(1), marks.has(2)), wanted)
 }
 

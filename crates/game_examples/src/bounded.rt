@@ -7,7 +7,7 @@ ghost use Rattle.round_workers.specs.Share.{most_workers};
 
 use bounded_rounds::{MOST_STEPS, Sweep, bounded, bounded_values};
 use expectations::{holds, same};
-use game_model::{Side, UNIT};
+use game_model::{Question, Side, UNIT};
 use game_outside::{Gate, HoldGate, OpenGate};
 use sample_games::{
     all_of, chain, coin_loop, four_states, ladder, question_of, question_of_sides,
@@ -20,7 +20,18 @@ use std::thread::Threads;
 
 #[test]
 fn the_coin_loop_step_by_step(rt: HostRuntime) -> Result<(), Fail> {
-    for (steps, lower, upper) in [
+    let alloc = rt.alloc();
+    let game = coin_loop(alloc)?;
+    check_coin_loop(&rt, alloc, &question_of(alloc, &game, Side::Max, 1)?)
+}
+
+/// The bounds of the coin loop, where the goal is state 1, after so many steps.
+fn check_coin_loop<R: Threads + Sync>(
+    rt: &R,
+    alloc: Global,
+    question: &Question<'_>,
+) -> Result<(), Fail> {
+    for (steps, lower, upper) in &[
         (0, 0, 0),
         (1, 250_000_000_000_000, 250_000_000_000_000),
         (2, 375_000_000_000_000, 375_000_000_000_000),
@@ -28,17 +39,32 @@ fn the_coin_loop_step_by_step(rt: HostRuntime) -> Result<(), Fail> {
         // Both tables rest long before.
         (MOST_STEPS, 499_999_999_999_999, 500_000_000_000_000),
     ] {
-        for workers in [1, 2, 3, 64] {
-            check_coin_loop(&rt, rt.alloc(), steps, workers, (lower, upper))?;
-        }
+        check_steps(rt, alloc, question, *steps, (*lower, *upper))?;
     }
     Ok(())
 }
 
-/// The bounds of state 0 of the coin loop, where the goal is state 1, are these.
-fn check_coin_loop<R: Threads + Sync>(
+/// The bounds of state 0 of the coin loop after so many steps are these, with any number of workers.
+fn check_steps<R: Threads + Sync>(
     rt: &R,
     alloc: Global,
+    question: &Question<'_>,
+    steps: u32,
+    wanted: (u64, u64),
+) -> Result<(), Fail>
+    requires { steps ≤ most_steps }
+{
+    for workers in &[1, 2, 3, 64] {
+        check_bounds(rt, alloc, question, steps, *workers, wanted)?;
+    }
+    Ok(())
+}
+
+/// The same with so many workers.
+fn check_bounds<R: Threads + Sync>(
+    rt: &R,
+    alloc: Global,
+    question: &Question<'_>,
     steps: u32,
     workers: u32,
     wanted: (u64, u64),
@@ -46,7 +72,7 @@ fn check_coin_loop<R: Threads + Sync>(
     requires steps { steps ≤ most_steps }
     requires workers { (1 ≤ workers) × (workers ≤ most_workers) }
 {
-    let found = coin_values(rt, alloc, steps, workers)?;
+    let found = bounded_values(rt, alloc, question, steps, workers, &OpenGate {})?;
     same(
         format_args!("{steps} steps, {workers} workers"),
         (found.lower.as_slice(), found.upper.as_slice()),
@@ -55,21 +81,6 @@ fn check_coin_loop<R: Threads + Sync>(
             [wanted.1, UNIT, 0].as_slice(),
         ),
     )
-}
-
-/// The sweep of the coin loop from the table that iteration opens with.
-fn coin_values<R: Threads + Sync>(
-    rt: &R,
-    alloc: Global,
-    steps: u32,
-    workers: u32,
-) -> Result<Sweep, Fail>
-    requires steps { steps ≤ most_steps }
-    requires workers { (1 ≤ workers) × (workers ≤ most_workers) }
-{
-    let game = coin_loop(alloc)?;
-    let question = question_of(alloc, &game, Side::Max, 1)?;
-    Ok(bounded_values(rt, alloc, &question, steps, workers, &OpenGate {})?)
 }
 
 #[test]
@@ -135,20 +146,20 @@ fn later_steps_over_many_states_have_all_workers(rt: HostRuntime) -> Result<(), 
 
 #[test]
 fn each_player_takes_its_better_choice(rt: HostRuntime) -> Result<(), Fail> {
-    let found = one_step(&rt, rt.alloc())?;
+    check_one_step(&rt, rt.alloc())
+}
+
+/// One step of the game of four states and two players. Without goals: is state 2 the next one?
+fn check_one_step<R: Threads + Sync>(rt: &R, alloc: Global) -> Result<(), Fail> {
+    let game = four_states(alloc)?;
+    let question = question_with_minimiser_at(alloc, &game, 1, 4)?;
+    let found = bounded(rt, alloc, &question, &[0, 0, UNIT, 0], 1, 4, &OpenGate {})?;
     let values = [UNIT / 100 * 65, UNIT / 5, UNIT, 0];
     same(
         "lower and upper",
         (found.lower.as_slice(), found.upper.as_slice()),
         (values.as_slice(), values.as_slice()),
     )
-}
-
-/// One step of the game of four states and two players. Without goals: is state 2 the next one?
-fn one_step<R: Threads + Sync>(rt: &R, alloc: Global) -> Result<Sweep, Fail> {
-    let game = four_states(alloc)?;
-    let question = question_with_minimiser_at(alloc, &game, 1, 4)?;
-    Ok(bounded(rt, alloc, &question, &[0, 0, UNIT, 0], 1, 4, &OpenGate {})?)
 }
 
 // The unit at one state, and 0 elsewhere.
@@ -175,27 +186,57 @@ fn every_third(alloc: Global) -> Result<Vec<Side>, AllocError>
 }
 
 /// The sweep of 40 steps over a ladder of two players.
-fn ladder_sweep<R: Threads + Sync>(rt: &R, alloc: Global, workers: u32) -> Result<Sweep, Fail>
-    requires { (1 ≤ workers) × (workers ≤ most_workers) }
+fn ladder_sweep<R: Threads + Sync>(
+    rt: &R,
+    alloc: Global,
+    question: &Question<'_>,
+    workers: u32,
+) -> Result<Sweep, Fail>
+    requires states { length question.now.game ≡ 100 }
+    requires workers { (1 ≤ workers) × (workers ≤ most_workers) }
     ensures { IfOk result (λ sweep. length sweep.lower.items ≡ 100) }
 {
-    let game = ladder(alloc, 100)?;
-    let question = question_of_sides(alloc, &game, every_third(alloc)?, 60)?;
     let opening = unit_at(alloc, 60, 100)?;
-    Ok(bounded(rt, alloc, &question, &opening, 40, workers, &OpenGate {})?)
+    Ok(bounded(rt, alloc, question, &opening, 40, workers, &OpenGate {})?)
 }
 
 #[test]
 fn every_number_of_workers_finds_the_same(rt: HostRuntime) -> Result<(), Fail> {
-    let alone = ladder_sweep(&rt, rt.alloc(), 1)?;
+    let alloc = rt.alloc();
+    let game = ladder(alloc, 100)?;
+    let sides = every_third(alloc)?;
+    check_ladder(&rt, alloc, &question_of_sides(alloc, &game, sides, 60)?)
+}
+
+/// 40 steps reach 40 states down, and every number of workers finds the same.
+fn check_ladder<R: Threads + Sync>(
+    rt: &R,
+    alloc: Global,
+    question: &Question<'_>,
+) -> Result<(), Fail>
+    requires { length question.now.game ≡ 100 }
+{
+    let alone = ladder_sweep(rt, alloc, question, 1)?;
     holds(
         "40 steps reach 40 states down",
         alone.lower[25] > 0 && alone.lower[15] == 0,
     )?;
-    for workers in [2, 3, 8, 64] {
-        let found = ladder_sweep(&rt, rt.alloc(), workers)?;
+    check_workers(rt, alloc, question, &alone)
+}
+
+/// Every number of workers finds the same as one alone.
+fn check_workers<R: Threads + Sync>(
+    rt: &R,
+    alloc: Global,
+    question: &Question<'_>,
+    alone: &Sweep,
+) -> Result<(), Fail>
+    requires { length question.now.game ≡ 100 }
+{
+    for workers in &[2, 3, 8, 64] {
+        let found = ladder_sweep(rt, alloc, question, *workers)?;
         same(
-            workers,
+            *workers,
             (found.lower.as_slice(), found.upper.as_slice()),
             (alone.lower.as_slice(), alone.upper.as_slice()),
         )?;

@@ -48,61 +48,50 @@ fn value_bracket<R: Threads + Sync, G: Gate + Sync>(
     )?)
 }
 
-// The bracket of the coin loop, where the goal is state 1.
-fn coin_bracket<R: Threads + Sync, G: Gate + Sync>(
-    rt: &R,
-    alloc: Global,
-    rounds: u32,
-    workers: u32,
-    gate: &G,
-) -> Result<Bracket, Fail>
-    requires rounds { rounds ≤ most_rounds }
-    requires some { 1 ≤ workers }
-    requires few { workers ≤ most_workers }
-{
-    let game = coin_loop(alloc)?;
-    let question = question_of(alloc, &game, Side::Max, 1)?;
-    value_bracket(rt, alloc, &question, rounds, workers, gate)
-}
-
 #[test]
 fn the_coin_loop_settles_at_round_50(rt: HostRuntime) -> Result<(), Fail> {
-    for (asked, base, lower, upper, rounds, stable) in [
-        (0, 0, 4, 562_949_953_421_312, 0, false),
+    let alloc = rt.alloc();
+    let game = coin_loop(alloc)?;
+    check_coin_loop(&rt, alloc, &question_of(alloc, &game, Side::Max, 1)?)
+}
+
+/// Where the coin loop is after so many rounds at most.
+fn check_coin_loop<R: Threads + Sync>(
+    rt: &R,
+    alloc: Global,
+    question: &Question<'_>,
+) -> Result<(), Fail> {
+    for (asked, base, lower, upper, end) in &[
+        (0, 0, 4, 562_949_953_421_312, (0, false)),
         (
             2,
             UNIT / 8 * 3,
             UNIT / 8 * 3 + 4,
             515_737_488_355_328,
-            2,
-            false,
+            (2, false),
         ),
-        (49, UNIT / 2 - 1, UNIT / 2, UNIT / 2, 49, true),
-        (1_000, UNIT / 2 - 1, UNIT / 2, UNIT / 2, 50, true),
+        (49, UNIT / 2 - 1, UNIT / 2, UNIT / 2, (49, true)),
+        (1_000, UNIT / 2 - 1, UNIT / 2, UNIT / 2, (50, true)),
     ] {
-        check_coin_loop(
-            &rt,
-            rt.alloc(),
-            asked,
-            (base, lower, upper),
-            (rounds, stable),
-        )?;
+        let entries = (*base, *lower, *upper);
+        check_rounds(rt, alloc, question, *asked, entries, *end)?;
     }
     Ok(())
 }
 
 /// After so many rounds at most, these are the base and the bounds of state 0 of the coin loop, and these are the
 /// rounds that it took and whether it settled.
-fn check_coin_loop<R: Threads + Sync>(
+fn check_rounds<R: Threads + Sync>(
     rt: &R,
     alloc: Global,
+    question: &Question<'_>,
     asked: u32,
     entries: (u64, u64, u64),
     end: (u32, bool),
 ) -> Result<(), Fail>
     requires { asked ≤ most_rounds }
 {
-    let found = coin_bracket(rt, alloc, asked, 1, &OpenGate {})?;
+    let found = value_bracket(rt, alloc, question, asked, 1, &OpenGate {})?;
     same(
         asked,
         (
@@ -122,8 +111,8 @@ fn check_coin_loop<R: Threads + Sync>(
 
 #[test]
 fn the_first_player_chooses_the_better_lottery(rt: HostRuntime) -> Result<(), Fail> {
-    for workers in [1, 2, 3, 64] {
-        check_lotteries(&rt, rt.alloc(), workers)?;
+    for workers in &[1, 2, 3, 64] {
+        check_lotteries(&rt, rt.alloc(), *workers)?;
     }
     Ok(())
 }
@@ -166,26 +155,43 @@ fn lottery_bracket<R: Threads + Sync>(rt: &R, alloc: Global, workers: u32) -> Re
 
 #[test]
 fn after_r_rounds_r_units_at_most_are_missing(rt: HostRuntime) -> Result<(), Fail> {
+    let alloc = rt.alloc();
+    let game = coin_loop(alloc)?;
+    check_all_missing(&rt, alloc, &question_of(alloc, &game, Side::Max, 1)?)
+}
+
+/// As many units as rounds at most are missing at each state of the coin loop.
+fn check_all_missing<R: Threads + Sync>(
+    rt: &R,
+    alloc: Global,
+    question: &Question<'_>,
+) -> Result<(), Fail> {
     let mut power: u128 = 1;
     for rounds in 0..20u32 {
-        check_missing(&rt, rt.alloc(), rounds, power)?;
+        check_missing(rt, alloc, question, rounds, power)?;
         power = power.saturating_mul(4);
     }
     Ok(())
 }
 
-/// As many units as rounds at most are missing at each state of the coin loop, by its numerators over this power of 4.
+/// The same after so many rounds, by its numerators over this power of 4.
 fn check_missing<R: Threads + Sync>(
     rt: &R,
     alloc: Global,
+    question: &Question<'_>,
     rounds: u32,
     power: u128,
 ) -> Result<(), Fail>
     requires { rounds ≤ most_rounds }
 {
-    let found = coin_bracket(rt, alloc, rounds, 1, &OpenGate {})?;
-    let exact = coin_numerators(alloc, rounds)?;
-    for (base, numerator) in found.base.iter().zip(exact.iter()) {
+    let found = value_bracket(rt, alloc, question, rounds, 1, &OpenGate {})?;
+    let exact = numerators(alloc, question, rounds)?;
+    are_near(rounds, power, &found.base, &exact)
+}
+
+/// To no value more than one unit a round is missing.
+fn are_near(rounds: u32, power: u128, base: &[u64], exact: &[u128]) -> Result<(), Fail> {
+    for (base, numerator) in base.iter().zip(exact.iter()) {
         let reached = (u128::from(*base) + u128::from(rounds)).saturating_mul(power);
         let value = numerator.saturating_mul(u128::from(UNIT));
         holds(format_args!("near after {rounds} rounds"), reached >= value)?;
@@ -193,17 +199,16 @@ fn check_missing<R: Threads + Sync>(
     Ok(())
 }
 
-// The numerators of the coin loop after so many rounds.
-fn coin_numerators(alloc: Global, rounds: u32) -> Result<Vec<u128>, Fail> {
-    let game = coin_loop(alloc)?;
-    let question = question_of(alloc, &game, Side::Max, 1)?;
-    Ok(numerators(alloc, &question, rounds)?)
-}
-
 #[test]
 fn two_workers_run_at_once(rt: HostRuntime) -> Result<(), Fail> {
     let gate = HoldGate::new();
-    let found = coin_bracket(&rt, rt.alloc(), 10, 2, &gate)?;
-    same("rounds", found.rounds, 10)?;
+    same("rounds", rounds_through(&rt, rt.alloc(), &gate)?, 10)?;
     holds("the workers ran at once", !gate.gave_up())
+}
+
+// How many rounds of the coin loop two workers make of ten.
+fn rounds_through<R: Threads + Sync>(rt: &R, alloc: Global, gate: &HoldGate) -> Result<u32, Fail> {
+    let game = coin_loop(alloc)?;
+    let question = question_of(alloc, &game, Side::Max, 1)?;
+    Ok(value_bracket(rt, alloc, &question, 10, 2, gate)?.rounds)
 }

@@ -23,19 +23,29 @@ fn the_generator_gives_the_known_draw() -> Result<(), Fail> {
 
 // A line for each state: its side, and of each choice the total and the edges.
 fn text_of(alloc: Global, drawn: &Drawn) -> Result<String, AllocError> {
-    drawn.known();
-    let game = drawn.game();
-    let sides = drawn.sides();
     let mut text = String::new(alloc);
-    for state in 0..game.states() {
-        text.push_str(side_text(sides[state as usize]))?;
-        for choice in 0..game.choices_of(state) {
-            let choice_text = choice_text(alloc, game, state, choice)?;
-            text.push_str(choice_text.as_str())?;
-        }
-        text.push('\n')?;
+    for state in 0..drawn.game().states() {
+        add_state_text(alloc, drawn, state, &mut text)?;
     }
     Ok(text)
+}
+
+// Adds the line of a state.
+fn add_state_text(
+    alloc: Global,
+    drawn: &Drawn,
+    state: u32,
+    text: &mut String,
+) -> Result<(), AllocError>
+    requires { state < length drawn.now.game }
+{
+    drawn.known();
+    let game = drawn.game();
+    text.push_str(side_text(drawn.sides()[state as usize]))?;
+    for choice in 0..game.choices_of(state) {
+        add_choice_text(alloc, game, state, choice, text)?;
+    }
+    text.push('\n')
 }
 
 fn side_text(side: Side) -> &'static str {
@@ -45,17 +55,36 @@ fn side_text(side: Side) -> &'static str {
     }
 }
 
-fn choice_text(alloc: Global, game: &Game, state: u32, choice: u32) -> Result<String, AllocError>
+// Adds the total of a choice and its edges.
+fn add_choice_text(
+    alloc: Global,
+    game: &Game,
+    state: u32,
+    choice: u32,
+    text: &mut String,
+) -> Result<(), AllocError>
     requires state { state < length game.now }
     requires choice { choice < length (choices_of game.now state) }
 {
-    let mut text = format!(in alloc; " {}", game.total(state, choice))?;
+    add_total_text(alloc, game.total(state, choice), text)?;
     for place in 0..game.edge_count(state, choice) {
         let edge = game.edge(state, choice, place);
-        text.push_str(format!(in alloc; " {}:{}", edge.to, edge.weight)?.as_str())?;
+        add_edge_text(alloc, edge.to as usize, edge.weight, text)?;
     }
-    text.push(';')?;
-    Ok(text)
+    text.push(';')
+}
+
+fn add_total_text(alloc: Global, total: u128, text: &mut String) -> Result<(), AllocError> {
+    text.push_str(format!(in alloc; " {total}")?.as_str())
+}
+
+fn add_edge_text(
+    alloc: Global,
+    to: usize,
+    weight: u128,
+    text: &mut String,
+) -> Result<(), AllocError> {
+    text.push_str(format!(in alloc; " {to}:{weight}")?.as_str())
 }
 
 // The text of the game that is drawn.
@@ -89,18 +118,31 @@ fn plain_text(alloc: Global, seed: u64, states: u64) -> Result<String, AllocErro
     let mut x = seed;
     let mut text = String::new(alloc);
     for _state in 0..states - 2 {
-        x = next(x);
-        text.push_str(if x % 2 == 0 { "Max" } else { "Min" })?;
-        x = next(x);
-        for _choice in 0..1 + x % 3 {
-            x = add_plain_choice(alloc, x, states, &mut text)?;
-        }
-        text.push('\n')?;
+        x = add_plain_state(alloc, x, states, &mut text)?;
     }
     let goal = states - 2;
     let sink = states - 1;
     text.push_str(format!(in alloc; "Max 1 {goal}:1;\nMax 1 {sink}:1;\n")?.as_str())?;
     Ok(text)
+}
+
+// Adds the line of a state before the goal, and gives the last draw.
+fn add_plain_state(
+    alloc: Global,
+    last: u64,
+    states: u64,
+    text: &mut String,
+) -> Result<u64, AllocError>
+    requires { (3 ≤ states) × (states < 2 ^ 32) }
+{
+    let side = next(last);
+    let mut x = next(side);
+    text.push_str(if side % 2 == 0 { "Max" } else { "Min" })?;
+    for _choice in 0..1 + x % 3 {
+        x = add_plain_choice(alloc, x, states, text)?;
+    }
+    text.push('\n')?;
+    Ok(x)
 }
 
 // Adds the text of a choice, and gives the last draw.
@@ -112,8 +154,17 @@ fn add_plain_choice(
 ) -> Result<u64, AllocError>
     requires { (3 ≤ states) × (states < 2 ^ 32) }
 {
-    let mut weights = vec![in alloc; 0u64; states as usize]?;
-    let mut total = 0u64;
+    let mut weights = vec![in alloc; 0u128; states as usize]?;
+    let (total, x) = draw_weights(last, states, &mut weights);
+    add_weights_text(alloc, total, &weights, text)?;
+    Ok(x)
+}
+
+// Adds the weights of a choice to those of the states, and gives their sum and the last draw.
+fn draw_weights(last: u64, states: u64, weights: &mut [u128]) -> (u128, u64)
+    requires { (3 ≤ states) × (states < 2 ^ 32) }
+{
+    let mut total = 0u128;
     let mut x = next(last);
     for part in 0..2 + x % 3 {
         x = next(x);
@@ -123,20 +174,29 @@ fn add_plain_choice(
             _ => x % states,
         };
         x = next(x);
-        let weight = 1 + x % 9;
+        let weight = u128::from(1 + x % 9);
         if let Some(sum) = weights.get_mut(to as usize) {
             *sum = sum.saturating_add(weight);
         }
         total = total.saturating_add(weight);
     }
-    text.push_str(format!(in alloc; " {total}")?.as_str())?;
+    (total, x)
+}
+
+// Adds the sum of the weights of a choice, and those that are not 0.
+fn add_weights_text(
+    alloc: Global,
+    total: u128,
+    weights: &[u128],
+    text: &mut String,
+) -> Result<(), AllocError> {
+    add_total_text(alloc, total, text)?;
     for (to, weight) in weights.iter().enumerate() {
         if *weight > 0 {
-            text.push_str(format!(in alloc; " {to}:{weight}")?.as_str())?;
+            add_edge_text(alloc, to, *weight, text)?;
         }
     }
-    text.push(';')?;
-    Ok(x)
+    text.push(';')
 }
 
 /// The drawn game reads as the rules say.
@@ -151,8 +211,8 @@ fn check_drawn(alloc: Global, seed: u32, states: u32) -> Result<(), Fail>
 
 #[test]
 fn games_are_as_a_plain_reading_says(rt: HostRuntime) -> Result<(), Fail> {
-    for (seed, states) in [(7, 20), (2_147_483_646, 3), (1, 4), (48_271, 100)] {
-        check_drawn(rt.alloc(), seed, states)?;
+    for (seed, states) in &[(7, 20), (2_147_483_646, 3), (1, 4), (48_271, 100)] {
+        check_drawn(rt.alloc(), *seed, *states)?;
     }
     Ok(())
 }
@@ -169,18 +229,18 @@ fn check_question(alloc: Global, seed: u32, states: u32) -> Result<(), Fail>
 {
     let drawn = draw_game(alloc, seed, states)?;
     let question = drawn.question(alloc)?;
-    same("states", question.game().states(), states)?;
-    check_goal(&question, states - 2)
+    check_goal(&question, states)
 }
 
-/// This state and no other is a goal, and none is dead.
-fn check_goal(question: &Question<'_>, goal: u32) -> Result<(), Fail> {
+/// Of so many states the one before the last and no other is a goal, and none is dead.
+fn check_goal(question: &Question<'_>, states: u32) -> Result<(), Fail> {
     question.known();
+    same("states", question.game().states(), states)?;
     for state in 0..question.game().states() {
         same(
             state,
             (question.is_goal(state), question.is_dead(state)),
-            (state == goal, false),
+            (u64::from(state) + 2 == u64::from(states), false),
         )?;
     }
     Ok(())

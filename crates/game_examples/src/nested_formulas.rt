@@ -2,7 +2,7 @@
 
 ghost use Rattle.std.specs.Prelude.{◌≡◌, ◌≤◌, None, IfOk, codes, length};
 ghost use Rattle.formula_reader.specs.Formula.{Label, True, formulas_inside, state_of, tree_of};
-ghost use Rattle.rpatl_syntax.specs.Spellable.{IsShare, IsSpellable};
+ghost use Rattle.rpatl_syntax.specs.Spellable.{HasThreshold, IsShare, IsSpellable};
 ghost use Rattle.bracket_engine.specs.Limits.{most_rounds};
 
 use distributions::{Frac, read_number};
@@ -57,22 +57,28 @@ fn reaching(bound: Bound, right: StateFormula) -> Formula
     }
 }
 
+// `P>0.5`, or `P>=0.5`.
+fn inner_bound(above: bool) -> Result<Bound, Fail>
+    ensures { IfOk result (λ bound. HasThreshold bound) }
+{
+    let half = share(b"0.5")?;
+    Ok(if above {
+        Bound::Above(half)
+    } else {
+        Bound::AtLeast(half)
+    })
+}
+
 // `P>=outer [ F P>0.5 [ F "goal" ] ]`, or with `>=` inside.
 fn formula_of(alloc: Global, row: &Row) -> Result<Formula, Fail>
     ensures spellable { IfOk result (λ formula. IsSpellable (tree_of formula)) }
     ensures few { IfOk result (λ formula. formulas_inside (tree_of formula) ≡ 1) }
 {
-    let half = share(b"0.5")?;
-    let bound = if row.above {
-        Bound::Above(half)
-    } else {
-        Bound::AtLeast(half)
-    };
-    let inside = reaching(bound, goal(alloc)?);
+    let outer = share(row.outer)?;
+    let inside = reaching(inner_bound(row.above)?, goal(alloc)?);
     let Ok(place) = Box::new(alloc, inside) else {
         return Err(Fail::new("no memory"));
     };
-    let outer = share(row.outer)?;
     Ok(reaching(Bound::AtLeast(outer), StateFormula::Inner(place)))
 }
 
@@ -121,7 +127,7 @@ fn answer_of<R: Threads + Sync>(
 }
 
 // A formula, and the answer at state 0.
-#[derive(Drop)]
+#[derive(Clone, Copy)]
 struct Row {
     // The outer threshold, and whether the inner one is `>0.5`, else `>=0.5`.
     outer: &'static [u8],

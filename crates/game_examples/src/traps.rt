@@ -1,13 +1,13 @@
 //! Worked traps and lowered tables.
 
-ghost use Rattle.std.specs.Prelude.{◌≡◌, ◌≤◌, length, slice_index, All, IsOk};
+ghost use Rattle.std.specs.Prelude.{◌≡◌, ◌≤◌, length, slice_index, All, IfOk, IsOk};
 ghost use Rattle.game_model.specs.Limits.{unit};
 ghost use Rattle.game_model.specs.Query.{states};
 ghost use Rattle.game_model.specs.Rounded.{IsInductive};
 ghost use Rattle.inductive_check.specs.Replies.{AreReplies};
 
 use expectations::same;
-use game_model::{Question, Side, UNIT};
+use game_model::{Game, Question, Side, UNIT};
 use inductive_check::{check_replies, check_upper};
 use sample_games::{
     coin_loop, leaky_ring, question_of, question_with_minimiser_at, ring_of_two, stay_or_coin,
@@ -53,6 +53,21 @@ fn check_lowered(alloc: Global, question: &Question, row: Row<'_>) -> Result<(),
     check_held(question, &table, row.replies)
 }
 
+/// The same for a game where one side chooses at all states.
+fn check_game(
+    alloc: Global,
+    game: Result<Game, Fail>,
+    side: Side,
+    goal: u32,
+    row: Row<'_>,
+) -> Result<(), Fail>
+    requires replies { IfOk game (λ game. length row.replies.now ≡ length game) }
+    requires upper { IfOk game (λ game. length row.upper.now ≡ length game) }
+{
+    let game = game?;
+    check_row(alloc, &question_of(alloc, &game, side, goal)?, row)
+}
+
 /// A table and replies pass the checks.
 fn check_held(question: &Question, upper: &[u64], replies: &[Option<u32>]) -> Result<(), Fail>
     requires upper { length upper.now ≡ states question.now }
@@ -69,11 +84,11 @@ fn check_held(question: &Question, upper: &[u64], replies: &[Option<u32>]) -> Re
 #[test]
 fn a_coin_loop_traps_at_its_sink(rt: HostRuntime) -> Result<(), Fail> {
     let alloc = rt.alloc();
-    let game = coin_loop(alloc)?;
-    let question = question_of(alloc, &game, Side::Max, 1)?;
-    check_row(
+    check_game(
         alloc,
-        &question,
+        coin_loop(alloc),
+        Side::Max,
+        1,
         Row {
             replies: &[None, None, None],
             upper: &[ONE, ONE, ONE],
@@ -86,11 +101,11 @@ fn a_coin_loop_traps_at_its_sink(rt: HostRuntime) -> Result<(), Fail> {
 #[test]
 fn who_may_stay_is_held_to_the_coin(rt: HostRuntime) -> Result<(), Fail> {
     let alloc = rt.alloc();
-    let game = stay_or_coin(alloc)?;
-    let question = question_of(alloc, &game, Side::Max, 2)?;
-    check_row(
+    check_game(
         alloc,
-        &question,
+        stay_or_coin(alloc),
+        Side::Max,
+        2,
         Row {
             replies: &[None, None, None, None],
             upper: &[HIGH, HIGH, ONE, 0],
@@ -109,11 +124,11 @@ fn the_minimiser_traps_where_its_reply_stays(rt: HostRuntime) -> Result<(), Fail
 
 /// The traps and the lowered table where the minimiser replies with this choice at state 0.
 fn check_reply(alloc: Global, reply: u32, traps: &[u32], lowered: &[u64]) -> Result<(), Fail> {
-    let game = stay_or_coin(alloc)?;
-    let question = question_of(alloc, &game, Side::Min, 2)?;
-    check_row(
+    check_game(
         alloc,
-        &question,
+        stay_or_coin(alloc),
+        Side::Min,
+        2,
         Row {
             replies: &[Some(reply), Some(0), None, Some(0)],
             upper: &[HIGH, HIGH, ONE, 0],
@@ -143,12 +158,12 @@ fn a_ring_of_both_players_is_held_to_its_one_exit(rt: HostRuntime) -> Result<(),
 #[test]
 fn a_ring_with_a_leak_breaks_up(rt: HostRuntime) -> Result<(), Fail> {
     let alloc = rt.alloc();
-    let game = leaky_ring(alloc)?;
     // No state is a goal.
-    let question = question_of(alloc, &game, Side::Max, 4)?;
-    check_row(
+    check_game(
         alloc,
-        &question,
+        leaky_ring(alloc),
+        Side::Max,
+        4,
         Row {
             replies: &[None, None, None, None],
             upper: &[ONE, ONE, ONE, ONE],
