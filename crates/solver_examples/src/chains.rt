@@ -3,6 +3,7 @@
 ghost use Rattle.std.specs.Prelude.{◌≡◌, IfOk, length, vec_len};
 ghost use Rattle.float_games.specs.Nodes.{nodes_of};
 
+use crate::rows::{Way, add_node, finished};
 use band_elimination::Factors;
 use expectations::{holds, same};
 use float_games::{Chain, Draft, FloatGame, UNIT};
@@ -15,20 +16,31 @@ use std::test::Fail;
 pub(crate) fn ruin(alloc: Global, states: u32) -> Result<FloatGame, Fail> {
     let mut draft = Draft::new(alloc, states as usize, states as usize, states as usize)?;
     for state in 0..states {
-        if state == 0 {
-            draft.add_exit(1.0, 0.0);
-        } else {
-            draft.add_edge(state - 1, 1.0)?;
-        }
-        if state + 1 == states {
-            draft.add_exit(1.0, UNIT);
-        } else {
-            draft.add_edge(state + 1, 1.0)?;
-        }
-        let _is_in = draft.end_choice(0)?;
-        draft.end_node(true)?;
+        let (down, up) = (state.saturating_sub(1), state.saturating_add(1));
+        add_gambler(&mut draft, state, states - 1, down, up)?;
     }
-    Ok(draft.finish().ok_or("no game")?)
+    finished(draft)
+}
+
+/// Adds a state of a gambler: it goes to these nodes, but the first state to ruin, and the last one to the goal.
+pub(crate) fn add_gambler(
+    draft: &mut Draft,
+    state: u32,
+    last: u32,
+    down: u32,
+    up: u32,
+) -> Result<(), Fail> {
+    let lower = if state == 0 {
+        Way::Out(1.0, 0.0)
+    } else {
+        Way::To(down, 1.0)
+    };
+    let upper = if state == last {
+        Way::Out(1.0, 1.0)
+    } else {
+        Way::To(up, 1.0)
+    };
+    add_node(draft, true, &[&[lower, upper]])
 }
 
 /// Each value is this near to its share of the unit.
@@ -68,15 +80,16 @@ fn an_elimination_gives_the_chances_of_a_gambler(rt: HostRuntime) -> Result<(), 
 #[test]
 fn steps_in_a_krylov_space_come_to_the_same(rt: HostRuntime) -> Result<(), Fail> {
     let game = ruin(rt.alloc(), 100)?;
-    let policy = game.first_policy(rt.alloc())?;
-    let chain = Chain::of_policy(&game, &policy);
-    let sums = chain.gives(rt.alloc(), 0.0)?;
-    let mut values = vec![in rt.alloc(); 0.0; chain.nodes()]?;
-    let left = approach(rt.alloc(), &chain, &sums, &mut values, 0.3, 400)?;
-    holds(format_args!("little is left: {left}"), left <= 0.3)?;
+    check_steps(rt.alloc(), &game)
+}
+
+/// Steps come to a gambler's chances, and once more to the same values.
+fn check_steps(alloc: Global, game: &FloatGame) -> Result<(), Fail> {
+    let policy = game.first_policy(alloc)?;
+    let chain = Chain::of_policy(game, &policy);
+    let values = approached(alloc, &chain)?;
     near_shares(&values, 10_000.0)?;
-    let mut again = vec![in rt.alloc(); 0.0; chain.nodes()]?;
-    let _left = approach(rt.alloc(), &chain, &sums, &mut again, 0.3, 400)?;
+    let again = approached(alloc, &chain)?;
     same(
         "the same once more",
         again.as_slice() == values.as_slice(),
@@ -84,19 +97,36 @@ fn steps_in_a_krylov_space_come_to_the_same(rt: HostRuntime) -> Result<(), Fail>
     )
 }
 
+/// The values that steps from 0 come to, where a pass changes little in the end.
+fn approached(alloc: Global, chain: &Chain) -> Result<Vec<f64>, Fail> {
+    let sums = chain.gives(alloc, 0.0)?;
+    let mut values = vec![in alloc; 0.0; chain.nodes()]?;
+    let left = approach(alloc, chain, &sums, &mut values, 0.3, 400)?;
+    holds(format_args!("little is left: {left}"), left <= 0.3)?;
+    Ok(values)
+}
+
 #[test]
 fn what_never_leaves_has_the_value_zero(rt: HostRuntime) -> Result<(), Fail> {
-    let mut draft = Draft::new(rt.alloc(), 2, 2, 2)?;
-    for state in [1, 0] {
-        draft.add_edge(state, 1.0)?;
-        let _is_in = draft.end_choice(0)?;
-        draft.end_node(true)?;
-    }
-    let game = draft.finish().ok_or("no game")?;
-    let policy = game.first_policy(rt.alloc())?;
-    let chain = Chain::of_policy(&game, &policy);
-    let factors = Factors::of_chain(rt.alloc(), &chain, chain.band())?;
-    let mut values = chain.gives(rt.alloc(), 0.0)?;
+    let game = endless(rt.alloc())?;
+    check_endless(rt.alloc(), &game)
+}
+
+/// An elimination gives nodes that never leave the value 0.
+fn check_endless(alloc: Global, game: &FloatGame) -> Result<(), Fail> {
+    let policy = game.first_policy(alloc)?;
+    let chain = Chain::of_policy(game, &policy);
+    let factors = Factors::of_chain(alloc, &chain, chain.band())?;
+    let mut values = chain.gives(alloc, 0.0)?;
     factors.solve(&mut values);
     holds("both are 0", values.iter().all(|value| *value == 0.0))
+}
+
+/// Two nodes that go to each other.
+fn endless(alloc: Global) -> Result<FloatGame, Fail> {
+    let mut draft = Draft::new(alloc, 2, 2, 2)?;
+    for node in [1, 0] {
+        add_node(&mut draft, true, &[&[Way::To(node, 1.0)]])?;
+    }
+    finished(draft)
 }

@@ -1,6 +1,7 @@
 //! Worked components.
 
 ghost use Rattle.std.specs.Prelude.{◌≡◌, IfOk, length};
+ghost use Rattle.play_components.specs.Division.{states_of};
 
 use expectations::{holds, same};
 use game_model::{Game, Side};
@@ -27,14 +28,18 @@ fn way_to_a_cycle(alloc: Global) -> Result<Game, Fail>
 
 #[test]
 fn a_cycle_stands_behind_its_exit(rt: HostRuntime) -> Result<(), Fail> {
-    let game = way_to_a_cycle(rt.alloc())?;
-    check(&game, rt.alloc(), &[], &[2, 1, 1, 0], &[3, 1, 2, 0])
+    check_way_to_a_cycle(rt.alloc(), &[], &[3, 1, 2, 0])
 }
 
 #[test]
 fn members_stand_in_the_order_that_is_handed_in(rt: HostRuntime) -> Result<(), Fail> {
-    let game = way_to_a_cycle(rt.alloc())?;
-    check(&game, rt.alloc(), &[2, 9, 2], &[2, 1, 1, 0], &[3, 2, 1, 0])
+    check_way_to_a_cycle(rt.alloc(), &[2, 9, 2], &[3, 2, 1, 0])
+}
+
+/// In this order the members of the components of the way to a cycle, one after another, are these.
+fn check_way_to_a_cycle(alloc: Global, order: &[u32], members: &[u32]) -> Result<(), Fail> {
+    let game = way_to_a_cycle(alloc)?;
+    check(&game, alloc, order, &[2, 1, 1, 0], members)
 }
 
 #[test]
@@ -53,16 +58,31 @@ fn check(
 ) -> Result<(), Fail> {
     let question = question_of(alloc, game, Side::Max, 0)?;
     let found = Components::of_question(alloc, &question, &KeepsAll {}, order)?;
+    have_numbers(alloc, &found, game.states(), component)?;
+    have_members(alloc, &found, members)
+}
+
+/// The states have these components.
+fn have_numbers(
+    alloc: Global,
+    found: &Components,
+    states: u32,
+    component: &[u32],
+) -> Result<(), Fail>
+    requires { states ≡ states_of found.now }
+{
     let mut numbers = Vec::new(alloc);
-    for state in 0..game.states() {
+    for state in 0..states {
         numbers.push(found.component_of(state))?;
     }
-    same("components", numbers.as_slice(), component)?;
+    same("components", numbers.as_slice(), component)
+}
+
+/// The members of one component after another are these.
+fn have_members(alloc: Global, found: &Components, members: &[u32]) -> Result<(), Fail> {
     let mut all = Vec::new(alloc);
     for number in 0..found.count() {
-        for state in found.members(number) {
-            all.push(*state)?;
-        }
+        all.extend_from_slice(found.members(number))?;
     }
     same("members", all.as_slice(), members)
 }

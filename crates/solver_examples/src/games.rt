@@ -1,6 +1,10 @@
 //! Worked local games.
 
-use crate::chains::{near_shares, ruin};
+ghost use Rattle.std.specs.Prelude.{◌≡◌, IfOk, length, vec_len};
+ghost use Rattle.float_games.specs.Nodes.{nodes_of};
+
+use crate::chains::{add_gambler, near_shares, ruin};
+use crate::rows::{Way, add_node, finished};
 use expectations::{holds, same};
 use float_games::{Draft, FloatGame, UNIT};
 use local_values::{expected_moves, refine, solve};
@@ -11,14 +15,19 @@ use std::test::Fail;
 fn values_of_a_gambler(rt: HostRuntime) -> Result<(), Fail> {
     for states in [1, 2, 7, 300] {
         let game = ruin(rt.alloc(), states)?;
-        let mut policy = game.first_policy(rt.alloc())?;
-        let mut values = vec![in rt.alloc(); 0.0; game.nodes()]?;
-        let is_found = solve(rt.alloc(), &game, 0.0, &mut values, &mut policy)?;
-        holds("found", is_found)?;
-        refine(rt.alloc(), &game, &policy, &mut values)?;
-        near_shares(&values, 2.0)?;
+        check_ruin(rt.alloc(), &game)?;
     }
     Ok(())
+}
+
+/// The values of gambler's ruin are found, and are near its shares of the unit.
+fn check_ruin(alloc: Global, game: &FloatGame) -> Result<(), Fail> {
+    let mut policy = game.first_policy(alloc)?;
+    let mut values = vec![in alloc; 0.0; game.nodes()]?;
+    let is_found = solve(alloc, game, 0.0, &mut values, &mut policy)?;
+    holds("found", is_found)?;
+    refine(alloc, game, &policy, &mut values)?;
+    near_shares(&values, 2.0)
 }
 
 /// Gambler's ruin over 701 states, mixed so that the band of the chain is too wide for an elimination: node `i` is
@@ -28,96 +37,111 @@ fn mixed_ruin(alloc: Global) -> Result<FloatGame, Fail> {
     for node in 0..701u32 {
         let state = node * 211 % 701;
         // 402 is the inverse of 211.
-        if state == 0 {
-            draft.add_exit(1.0, 0.0);
-        } else {
-            draft.add_edge((state - 1) * 402 % 701, 1.0)?;
-        }
-        if state == 700 {
-            draft.add_exit(1.0, UNIT);
-        } else {
-            draft.add_edge((state + 1) * 402 % 701, 1.0)?;
-        }
-        let _is_in = draft.end_choice(0)?;
-        draft.end_node(true)?;
+        let (down, up) = ((state + 700) * 402 % 701, (state + 1) * 402 % 701);
+        add_gambler(&mut draft, state, 700, down, up)?;
     }
-    Ok(draft.finish().ok_or("no game")?)
+    finished(draft)
 }
 
 #[test]
 fn values_of_a_gambler_whose_band_is_wide(rt: HostRuntime) -> Result<(), Fail> {
     let game = mixed_ruin(rt.alloc())?;
-    let mut policy = game.first_policy(rt.alloc())?;
-    let mut values = vec![in rt.alloc(); 0.0; game.nodes()]?;
-    let _is_found = solve(rt.alloc(), &game, 0.0, &mut values, &mut policy)?;
-    let mut sorted = vec![in rt.alloc(); 0.0; game.nodes()]?;
+    check_mixed_ruin(rt.alloc(), &game)
+}
+
+/// The values of the mixed gambler's ruin are near its shares of the unit.
+fn check_mixed_ruin(alloc: Global, game: &FloatGame) -> Result<(), Fail> {
+    let mut policy = game.first_policy(alloc)?;
+    let values = solved(alloc, game, &mut policy)?;
+    near_shares(&by_state(alloc, &values)?, 1_000_000.0)
+}
+
+/// The values that a game and a policy are brought to, from 0 on.
+pub(crate) fn solved(alloc: Global, game: &FloatGame, policy: &mut [u32]) -> Result<Vec<f64>, Fail>
+    requires { length policy.old ≡ nodes_of game.now }
+    ensures { IfOk result (λ values. vec_len values ≡ nodes_of game.now) }
+{
+    let mut values = vec![in alloc; 0.0; game.nodes()]?;
+    let _is_found = solve(alloc, game, 0.0, &mut values, policy)?;
+    Ok(values)
+}
+
+/// The values of the mixed nodes in the order of their states.
+fn by_state(alloc: Global, values: &[f64]) -> Result<Vec<f64>, Fail> {
+    let mut sorted = vec![in alloc; 0.0; values.len()]?;
     for (node, value) in values.iter().enumerate() {
         if let Some(entry) = sorted.get_mut(node % 701 * 211 % 701) {
             *entry = *value;
         }
     }
-    near_shares(&sorted, 1_000_000.0)
+    Ok(sorted)
 }
 
 /// Node 0 may go to 1, or leave with 0.65 of the unit; node 1, of this side, leaves with 0.5 or with 0.2, or goes back.
 fn two_nodes(alloc: Global, maximises: bool) -> Result<FloatGame, Fail> {
     let mut draft = Draft::new(alloc, 2, 4, 3)?;
-    draft.add_edge(1, 1.0)?;
-    let _back = draft.end_choice(0)?;
-    draft.add_exit(13.0, UNIT);
-    draft.add_exit(7.0, 0.0);
-    let _out = draft.end_choice(0)?;
-    draft.end_node(true)?;
-    draft.add_exit(1.0, 0.2 * UNIT);
-    let _out = draft.end_choice(0)?;
-    draft.add_edge(0, 1.0)?;
-    draft.add_exit(1.0, 0.5 * UNIT);
-    let _out = draft.end_choice(0)?;
-    draft.end_node(maximises)?;
-    Ok(draft.finish().ok_or("no game")?)
+    let out = [Way::Out(13.0, 1.0), Way::Out(7.0, 0.0)];
+    add_node(&mut draft, true, &[&[Way::To(1, 1.0)], &out])?;
+    let back = [Way::To(0, 1.0), Way::Out(1.0, 0.5)];
+    add_node(&mut draft, maximises, &[&[Way::Out(1.0, 0.2)], &back])?;
+    finished(draft)
 }
 
 #[test]
 fn each_side_takes_its_best_choice(rt: HostRuntime) -> Result<(), Fail> {
-    for (maximises, first, second, choice) in [(true, 0.65, 0.575, 3), (false, 0.65, 0.2, 2)] {
-        let game = two_nodes(rt.alloc(), maximises)?;
-        // The worse choice of node 1 first.
-        let start = if maximises { [1, 2] } else { [1, 3] };
-        let mut policy = game.first_policy(rt.alloc())?;
-        for (entry, first) in policy.iter_mut().zip(&start) {
-            *entry = *first;
-        }
-        let mut values = vec![in rt.alloc(); 0.0; game.nodes()]?;
-        let _is_found = solve(rt.alloc(), &game, 0.0, &mut values, &mut policy)?;
-        same("policy", policy.as_slice(), [1, choice].as_slice())?;
-        for (value, wanted) in values.iter().zip(&[first, second]) {
-            let off = (*value - *wanted * UNIT).abs();
-            holds(format_args!("{value} is {wanted}"), off < 1.0)?;
-        }
+    // The worse choice of node 1 first.
+    check_two_nodes(rt.alloc(), true, &[1, 2], &[1, 3], &[0.65, 0.575])?;
+    check_two_nodes(rt.alloc(), false, &[1, 3], &[1, 2], &[0.65, 0.2])
+}
+
+/// From this policy the two nodes come to that one, and to these shares of the unit.
+fn check_two_nodes(
+    alloc: Global,
+    maximises: bool,
+    start: &[u32],
+    wanted: &[u32],
+    shares: &[f64],
+) -> Result<(), Fail> {
+    let game = two_nodes(alloc, maximises)?;
+    let mut policy = game.first_policy(alloc)?;
+    for (entry, first) in policy.iter_mut().zip(start) {
+        *entry = *first;
+    }
+    let values = solved(alloc, &game, &mut policy)?;
+    same("policy", policy.as_slice(), wanted)?;
+    are_near(&values, shares)
+}
+
+/// The values are these shares of the unit, or off by less than one unit.
+fn are_near(values: &[f64], shares: &[f64]) -> Result<(), Fail> {
+    for (value, wanted) in values.iter().zip(shares) {
+        let off = (*value - *wanted * UNIT).abs();
+        holds(format_args!("{value} is {wanted}"), off < 1.0)?;
     }
     Ok(())
 }
 
+/// Node 0 goes to 1, from where half goes back, and half leaves, with the unit or with nothing.
+fn cycle(alloc: Global) -> Result<FloatGame, Fail> {
+    let mut draft = Draft::new(alloc, 2, 2, 2)?;
+    add_node(&mut draft, false, &[&[Way::To(1, 1.0)]])?;
+    let out = [Way::To(0, 2.0), Way::Out(1.0, 1.0), Way::Out(1.0, 0.0)];
+    add_node(&mut draft, false, &[&out])?;
+    finished(draft)
+}
+
 #[test]
 fn a_cycle_with_an_exit(rt: HostRuntime) -> Result<(), Fail> {
-    let mut draft = Draft::new(rt.alloc(), 2, 2, 2)?;
-    draft.add_edge(1, 1.0)?;
-    let _on = draft.end_choice(0)?;
-    draft.end_node(false)?;
-    draft.add_edge(0, 2.0)?;
-    draft.add_exit(1.0, UNIT);
-    draft.add_exit(1.0, 0.0);
-    let _back = draft.end_choice(0)?;
-    draft.end_node(false)?;
-    let game = draft.finish().ok_or("no game")?;
-    let mut policy = game.first_policy(rt.alloc())?;
-    let mut values = vec![in rt.alloc(); 0.0; game.nodes()]?;
-    let _is_found = solve(rt.alloc(), &game, 0.0, &mut values, &mut policy)?;
-    holds(
-        "both are a half",
-        values.iter().all(|value| (*value - 0.5 * UNIT).abs() < 1.0),
-    )?;
-    let moves = expected_moves(rt.alloc(), &game, &policy)?.ok_or("no moves")?;
+    let game = cycle(rt.alloc())?;
+    check_cycle(rt.alloc(), &game)
+}
+
+/// From both nodes of the cycle half reaches the unit, and from the first it takes four moves.
+fn check_cycle(alloc: Global, game: &FloatGame) -> Result<(), Fail> {
+    let mut policy = game.first_policy(alloc)?;
+    let values = solved(alloc, game, &mut policy)?;
+    are_near(&values, &[0.5, 0.5])?;
+    let moves = expected_moves(alloc, game, &policy)?.ok_or("no moves")?;
     holds(
         "four moves from the first",
         moves
@@ -128,12 +152,17 @@ fn a_cycle_with_an_exit(rt: HostRuntime) -> Result<(), Fail> {
 
 #[test]
 fn nonsense_ends(rt: HostRuntime) -> Result<(), Fail> {
+    let game = ruin(rt.alloc(), 30)?;
     for nonsense in [f64::NAN, f64::INFINITY, -1e300, 1e300] {
-        let game = ruin(rt.alloc(), 30)?;
-        let mut policy = vec![in rt.alloc(); 4_000_000_000u32; game.nodes()]?;
-        let mut values = vec![in rt.alloc(); nonsense; game.nodes()]?;
-        let _is_found = solve(rt.alloc(), &game, nonsense, &mut values, &mut policy)?;
-        same("as many", values.len(), 30)?;
+        check_nonsense(rt.alloc(), &game, nonsense)?;
     }
     Ok(())
+}
+
+/// From a policy that is none, and from this value, by this cost a move, there is an end.
+fn check_nonsense(alloc: Global, game: &FloatGame, nonsense: f64) -> Result<(), Fail> {
+    let mut policy = vec![in alloc; 4_000_000_000u32; game.nodes()]?;
+    let mut values = vec![in alloc; nonsense; game.nodes()]?;
+    let _is_found = solve(alloc, game, nonsense, &mut values, &mut policy)?;
+    same("as many", values.len(), 30)
 }

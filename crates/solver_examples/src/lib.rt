@@ -11,4 +11,6 @@ mod components;
 #[cfg(test)]
 mod games;
 #[cfg(test)]
+mod rows;
+#[cfg(test)]
 mod tables;

@@ -5,11 +5,13 @@ ghost use Rattle.game_model.specs.Game.{choices_of};
 ghost use Rattle.game_model.specs.Query.{states};
 ghost use Rattle.play_components.specs.Division.{states_of};
 
+use crate::games::solved;
+use crate::rows::finished;
 use expectations::{holds, same};
 use fixed_bellman::{down_state, up_state};
 use float_games::{Bound, Draft, FloatGame};
 use game_model::{Game, Question, Side, UNIT};
-use local_values::{refine, solve};
+use local_values::refine;
 use play_components::Components;
 use predecessors::{ChoiceFlags, Predecessors};
 use sample_games::{Draw, Shape, game_of, question_of, random_game};
@@ -61,15 +63,24 @@ fn a_gambler_has_exact_quarters(rt: HostRuntime) -> Result<(), Fail> {
 fn thirds_are_rounded_to_both_sides(rt: HostRuntime) -> Result<(), Fail> {
     let game = thirds(rt.alloc())?;
     let question = question_of(rt.alloc(), &game, Side::Max, 2)?;
-    let lower = table_of(rt.alloc(), &question, Bound::Lower)?;
-    let upper = table_of(rt.alloc(), &question, Bound::Upper)?;
-    let again = table_of(rt.alloc(), &question, Bound::Upper)?;
-    same("the same once more", again.entries(), upper.entries())?;
-    for (below, above) in lower.entries().iter().zip(upper.entries()) {
-        holds(format_args!("{below} is at most {above}"), *below <= *above)?;
+    check_thirds(rt.alloc(), &question)
+}
+
+/// Both tables of a question are near each other, and the upper one is the same once more.
+fn check_thirds(alloc: Global, question: &Question<'_>) -> Result<(), Fail> {
+    let lower = table_of(alloc, question, Bound::Lower)?;
+    let upper = table_of(alloc, question, Bound::Upper)?;
+    are_near(lower.entries(), upper.entries())?;
+    let again = table_of(alloc, question, Bound::Upper)?;
+    same("the same once more", again.entries(), upper.entries())
+}
+
+/// Each entry is at most that of another table, and near it.
+fn are_near(lower: &[u64], upper: &[u64]) -> Result<(), Fail> {
+    for (below, above) in lower.iter().zip(upper) {
         holds(
-            format_args!("{above} is near {below}"),
-            above.saturating_sub(*below) <= 4,
+            format_args!("{below} is at most {above}, and near it"),
+            *below <= *above && above.saturating_sub(*below) <= 4,
         )?;
     }
     Ok(())
@@ -100,7 +111,7 @@ fn table_of(alloc: Global, question: &Question<'_>, bound: Bound) -> Result<Unit
     Ok(table)
 }
 
-/// Fills in the entries of a component.
+/// Fills in the entries of a component, that of a single state from the table alone.
 fn fill(
     alloc: Global,
     question: &Question<'_>,
@@ -131,16 +142,7 @@ fn fill(
         return Ok(());
     }
     let game = local_game(alloc, question, components, component, table)?;
-    let mut nodes = Vec::new(alloc);
-    for node in 0..game.nodes() {
-        nodes.push(node as u32)?;
-    }
-    let mut values = vec![in alloc; 0.0; game.nodes()]?;
-    let mut policy = game.first_policy(alloc)?;
-    let _is_found = solve(alloc, &game, 0.0, &mut values, &mut policy)?;
-    refine(alloc, &game, &policy, &mut values)?;
-    let mut planned = vec![in alloc; 0u32; question.game().states() as usize]?;
-    plan(&game, members, &policy, &mut planned);
+    let nodes = numbers(alloc, game.nodes() as u32)?;
     let setting = Setting {
         question,
         predecessors,
@@ -150,7 +152,31 @@ fn fill(
         nodes: &nodes,
         bound,
     };
-    let _is_held = round_component(alloc, &setting, &values, &policy, &mut planned, table)?;
+    round(alloc, &setting, table)
+}
+
+/// The numbers below this one.
+fn numbers(alloc: Global, count: u32) -> Result<Vec<u32>, Fail> {
+    let mut list = Vec::new(alloc);
+    for number in 0..count {
+        list.push(number)?;
+    }
+    Ok(list)
+}
+
+/// Fills in the entries of a component, by the values of its local game.
+fn round(alloc: Global, setting: &Setting<'_, '_>, table: &mut UnitTable) -> Result<(), Fail>
+    requires { length table.old ≡ states setting.now.question.now }
+    ensures { length table.new ≡ length table.old }
+{
+    let game = setting.game;
+    let mut policy = game.first_policy(alloc)?;
+    let mut values = solved(alloc, game, &mut policy)?;
+    refine(alloc, game, &policy, &mut values)?;
+    let mut planned = vec![in alloc; 0u32; setting.question.game().states() as usize]?;
+    let members = setting.components.members(setting.component);
+    plan(game, members, &policy, &mut planned);
+    let _is_held = round_component(alloc, setting, &values, &policy, &mut planned, table)?;
     Ok(())
 }
 
@@ -185,10 +211,10 @@ fn local_game(
         }
         draft.end_node(question.side(*state) == Side::Max)?;
     }
-    Ok(draft.finish().ok_or("no game")?)
+    finished(draft)
 }
 
-/// Adds the edges of a choice: those that leave the component give what the table says.
+/// Adds the edges of a choice.
 fn add_choice(
     question: &Question<'_>,
     components: &Components,
@@ -207,11 +233,27 @@ fn add_choice(
     for place in 0..question.game().edge_count(state, choice) {
         let edge = question.game().edge(state, choice, place);
         let weight = nearest_u64_to_f64(u64::try_from(edge.weight).unwrap_or(1));
-        if components.component_of(edge.to) == component {
-            draft.add_edge(components.place_of(edge.to), weight)?;
-        } else {
-            draft.add_exit(weight, nearest_u64_to_f64(table.get(edge.to)));
-        }
+        add_edge(components, component, table, edge.to, weight, draft)?;
+    }
+    Ok(())
+}
+
+/// Adds an edge: to the node of a state, or out of the component with what the table says.
+fn add_edge(
+    components: &Components,
+    component: u32,
+    table: &UnitTable,
+    to: u32,
+    weight: f64,
+    draft: &mut Draft,
+) -> Result<(), Fail>
+    requires components { to < states_of components.now }
+    requires table { to < length table.now }
+{
+    if components.component_of(to) == component {
+        draft.add_edge(components.place_of(to), weight)?;
+    } else {
+        draft.add_exit(weight, nearest_u64_to_f64(table.get(to)));
     }
     Ok(())
 }
@@ -237,32 +279,60 @@ fn tables_of_random_games_hold(rt: HostRuntime) -> Result<(), Fail> {
         } else {
             Side::Min
         };
-        wide = check_tables(rt.alloc(), &game, side)?.saturating_add(wide);
+        wide = check_game(rt.alloc(), &game, side)?.saturating_add(wide);
     }
     holds(format_args!("few are wide: {wide}"), wide < 10)
 }
 
-/// The bounds of the first state's chance, where one side chooses everywhere: the lower table holds, and so does the
-/// upper one. Gives whether they are far apart somewhere.
-fn check_tables(alloc: Global, game: &Game, side: Side) -> Result<u32, Fail> {
+/// The bounds of the first state's chance, where one side chooses everywhere. Gives whether they are far apart
+/// somewhere.
+fn check_game(alloc: Global, game: &Game, side: Side) -> Result<u32, Fail> {
     let question = question_of(alloc, game, side, 0)?;
-    let lower = table_of(alloc, &question, Bound::Lower)?;
-    let upper = table_of(alloc, &question, Bound::Upper)?;
+    let widest = check_tables(alloc, &question)?;
+    Ok(if widest > 1_000 { 1 } else { 0 })
+}
+
+/// The lower table of a question holds, and so does the upper one. Gives how far they are apart at most.
+fn check_tables(alloc: Global, question: &Question<'_>) -> Result<u64, Fail> {
+    let lower = table_of(alloc, question, Bound::Lower)?;
+    let upper = table_of(alloc, question, Bound::Upper)?;
+    check_states(question, &lower, &upper)
+}
+
+/// Both tables hold. Gives how far they are apart at most.
+fn check_states(question: &Question<'_>, lower: &UnitTable, upper: &UnitTable) -> Result<u64, Fail>
+    requires lower { length lower.now ≡ states question.now }
+    requires upper { length upper.now ≡ states question.now }
+{
+    let mut widest = 0;
+    for state in 0..question.game().states() {
+        widest = check_state(question, lower, upper, state)?.max(widest);
+    }
+    Ok(widest)
+}
+
+/// Both tables hold at a state. Gives how far they are apart there.
+fn check_state(
+    question: &Question<'_>,
+    lower: &UnitTable,
+    upper: &UnitTable,
+    state: u32,
+) -> Result<u64, Fail>
+    requires lower { length lower.now ≡ states question.now }
+    requires upper { length upper.now ≡ states question.now }
+    requires state { state < states question.now }
+{
     lower.known();
     upper.known();
-    let mut widest = 0;
-    for state in 0..game.states() {
-        let below = lower.get(state);
-        let above = upper.get(state);
-        let (down, _) = down_state(&question, state, lower.entries());
-        holds(
-            format_args!("{below} holds at {state}: {down}"),
-            below <= down,
-        )?;
-        let up = up_state(&question, state, upper.entries());
-        holds(format_args!("{above} holds at {state}: {up}"), up <= above)?;
-        holds(format_args!("{below} is at most {above}"), below <= above)?;
-        widest = above.saturating_sub(below).max(widest);
-    }
-    Ok(if widest > 1_000 { 1 } else { 0 })
+    let below = lower.get(state);
+    let above = upper.get(state);
+    let (down, _) = down_state(question, state, lower.entries());
+    holds(
+        format_args!("{below} holds at {state}: {down}"),
+        below <= down,
+    )?;
+    let up = up_state(question, state, upper.entries());
+    holds(format_args!("{above} holds at {state}: {up}"), up <= above)?;
+    holds(format_args!("{below} is at most {above}"), below <= above)?;
+    Ok(above.saturating_sub(below))
 }
