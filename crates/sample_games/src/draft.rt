@@ -199,20 +199,52 @@ pub fn question_with<'g>(
     goal: &[u32],
     dead: &[u32],
 ) -> Option<Question<'g>> {
-    let mut sides = Vec::new(alloc);
-    let mut goals = Vec::new(alloc);
-    let mut deads = Vec::new(alloc);
+    let mut lists = Lists::new(alloc);
     for state in 0..game.states() {
         let side = if minimiser.contains(&state) {
             Side::Min
         } else {
             Side::Max
         };
-        sides.push(side).ok()?;
-        goals.push(goal.contains(&state)).ok()?;
-        deads.push(dead.contains(&state)).ok()?;
+        lists.add(side, goal.contains(&state), dead.contains(&state))?;
     }
-    question(game, sides, goals, deads)
+    lists.question(game)
+}
+
+/// The lists of a question that is being made, state after state.
+#[derive(Drop)]
+pub(crate) struct Lists {
+    sides: Vec<Side>,
+    goals: Vec<bool>,
+    deads: Vec<bool>,
+}
+
+impl Lists {
+    /// The lists of no states.
+    pub(crate) fn new(alloc: Global) -> Lists {
+        Lists {
+            sides: Vec::new(alloc),
+            goals: Vec::new(alloc),
+            deads: Vec::new(alloc),
+        }
+    }
+
+    /// Adds the next state.
+    pub(crate) fn add(&mut self, side: Side, is_goal: bool, is_dead: bool) -> Option<()> {
+        self.sides.push(side).ok()?;
+        self.goals.push(is_goal).ok()?;
+        self.deads.push(is_dead).ok()
+    }
+
+    /// The question of these lists.
+    pub(crate) fn question(self, game: &Game) -> Option<Question<'_>> {
+        let Lists {
+            sides,
+            goals,
+            deads,
+        } = self;
+        question(game, sides, goals, deads)
+    }
 }
 
 // Whether no state is both.

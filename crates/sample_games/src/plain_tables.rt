@@ -1,6 +1,6 @@
 //! Plain sweeps and guesses over whole tables.
 
-ghost use Rattle.std.specs.Prelude.{◌≡◌, ◌≤◌, All, IfSome, length};
+ghost use Rattle.std.specs.Prelude.{◌≡◌, ◌<◌, ◌≤◌, All, IfSome, length};
 ghost use Rattle.game_model.specs.Query.{states};
 ghost use Rattle.game_model.specs.Limits.{unit};
 
@@ -65,16 +65,27 @@ pub fn guess_of_excess(
 {
     let mut table = Vec::new(alloc);
     for state in 0..question.game().states() {
-        let entry = if zero.has(state) {
-            0
-        } else if question.is_goal(state) {
-            UNIT
-        } else {
-            UNIT.min(lower[state as usize].saturating_add(excess))
-        };
-        table.push(entry).ok()?;
+        table
+            .push(guess_at(question, zero, lower, excess, state))
+            .ok()?;
     }
     Some(table)
+}
+
+/// The first guess at a state.
+fn guess_at(question: &Question, zero: &Marks, lower: &[u64], excess: u64, state: u32) -> u64
+    requires zero { length zero.now ≡ states question.now }
+    requires many { length lower.now ≡ states question.now }
+    requires state { state < states question.now }
+    ensures { result ≤ unit }
+{
+    if zero.has(state) {
+        0
+    } else if question.is_goal(state) {
+        UNIT
+    } else {
+        UNIT.min(lower[state as usize].saturating_add(excess))
+    }
 }
 
 /// The up step of a table.

@@ -3,7 +3,7 @@
 ghost use Rattle.std.specs.Prelude.{◌<◌, ◌≤◌, length};
 ghost use Rattle.game_model.specs.Game.{choices_of};
 
-use crate::draft::{Draft, question};
+use crate::draft::{Draft, Lists};
 use game_model::{Game, Question, Side};
 use std::alloc::Global;
 
@@ -80,13 +80,13 @@ pub fn same_question<'g>(
     asked: &Question<'_>,
     game: &'g Game,
 ) -> Option<Question<'g>> {
-    let mut sides = Vec::new(alloc);
-    let mut goals = Vec::new(alloc);
-    let mut deads = Vec::new(alloc);
+    let mut lists = Lists::new(alloc);
     for state in 0..asked.game().states() {
-        sides.push(asked.side(state)).ok()?;
-        goals.push(asked.is_goal(state)).ok()?;
-        deads.push(asked.is_dead(state)).ok()?;
+        lists.add(
+            asked.side(state),
+            asked.is_goal(state),
+            asked.is_dead(state),
+        )?;
     }
-    question(game, sides, goals, deads)
+    lists.question(game)
 }

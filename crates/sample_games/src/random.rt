@@ -2,7 +2,7 @@
 
 ghost use Rattle.std.specs.Prelude.{◌<◌, ◌≤◌};
 
-use crate::draft::{Draft, merged, question};
+use crate::draft::{Draft, Lists, merged};
 use game_model::{Game, Question, Side};
 use std::alloc::Global;
 
@@ -120,9 +120,7 @@ pub fn random_edges(
 pub fn random_question<'g>(alloc: Global, draw: &mut Draw, game: &'g Game) -> Option<Question<'g>> {
     let states = game.states();
     let first = draw.between(0, states.saturating_sub(1));
-    let mut sides = Vec::new(alloc);
-    let mut goals = Vec::new(alloc);
-    let mut deads = Vec::new(alloc);
+    let mut lists = Lists::new(alloc);
     for state in 0..states {
         let side = if draw.between(0, 1) == 0 {
             Side::Max
@@ -131,9 +129,7 @@ pub fn random_question<'g>(alloc: Global, draw: &mut Draw, game: &'g Game) -> Op
         };
         let mark = draw.between(0, 5);
         let is_goal = state == first || mark == 0;
-        sides.push(side).ok()?;
-        goals.push(is_goal).ok()?;
-        deads.push(mark == 1 && !is_goal).ok()?;
+        lists.add(side, is_goal, mark == 1 && !is_goal)?;
     }
-    question(game, sides, goals, deads)
+    lists.question(game)
 }

@@ -1,6 +1,7 @@
 // Contract signing by two parties.
 use super::Model;
 use crate::draft::Draft;
+use game_model::Game;
 use std::alloc::Global;
 
 /// The stages of the protocol.
@@ -16,21 +17,23 @@ const FAIR: u32 = STAGES + 1;
 /// 0.9999, or stops, and then the last stage alone gives the other one the advantage, with 0.5. The weights are per ten
 /// thousand. The goal is the advantage.
 pub fn contract(alloc: Global) -> Option<Model> {
+    let mut goal = vec![in alloc; false; FAIR as usize + 1].ok()?;
+    goal[ADVANTAGE as usize] = true;
+    Some(Model {
+        game: protocol(alloc)?,
+        goal,
+    })
+}
+
+// The game of the stages.
+fn protocol(alloc: Global) -> Option<Game> {
     let mut draft = Draft::new(alloc, STAGES + 2);
-    let mut goal = Vec::new(alloc);
     for stage in 0..STAGES - 1 {
         draft.two(alloc, &[(stage + 1, 9_999), (FAIR, 1)], &[(FAIR, 10_000)])?;
-        goal.push(false).ok()?;
     }
     let last = [(ADVANTAGE, 9_999), (FAIR, 1)];
     draft.two(alloc, &last, &[(ADVANTAGE, 5_000), (FAIR, 5_000)])?;
-    goal.push(false).ok()?;
     draft.one(alloc, &[(ADVANTAGE, 10_000)])?;
-    goal.push(true).ok()?;
     draft.one(alloc, &[(FAIR, 10_000)])?;
-    goal.push(false).ok()?;
-    Some(Model {
-        game: draft.game(alloc)?,
-        goal,
-    })
+    draft.game(alloc)
 }

@@ -49,11 +49,16 @@ fn reached<S: Situation>(alloc: Global, first: S) -> Option<Vec<S>> {
 // Adds those successors that are not there yet.
 fn add_new<S: Situation>(states: &mut Vec<S>, choice: &[(S, u64)]) -> Option<()> {
     for (to, _) in choice {
-        if !states.iter().any(|state| *state == *to) {
+        if place_of(states, *to).is_none() {
             states.push(*to).ok()?;
         }
     }
     Some(())
+}
+
+// Where a state stands among others.
+fn place_of<S: Situation>(states: &[S], wanted: S) -> Option<usize> {
+    states.iter().position(|state| *state == wanted)
 }
 
 // Adds the next state of a draft.
@@ -72,7 +77,7 @@ fn edges_of<S: Situation>(
 ) -> Option<Vec<(u32, u64)>> {
     let mut parts = Vec::new(alloc);
     for (to, part) in choice {
-        let number = states.iter().position(|state| *state == *to)?;
+        let number = place_of(states, *to)?;
         parts.push((u32::try_from(number).ok()?, *part)).ok()?;
     }
     merged(alloc, &parts)

@@ -22,10 +22,8 @@ impl Way {
     /// The ways to both sides.
     fn sides(self) -> (Way, Way) {
         match self {
-            Way::East => (Way::North, Way::South),
-            Way::South => (Way::East, Way::West),
-            Way::West => (Way::South, Way::North),
-            Way::North => (Way::West, Way::East),
+            Way::East | Way::West => (Way::North, Way::South),
+            Way::South | Way::North => (Way::East, Way::West),
         }
     }
 
@@ -63,8 +61,8 @@ pub fn robot(alloc: Global) -> Option<Model> {
 
 // The next field, with its four choices.
 fn add_field(alloc: Global, draft: &mut Draft, field: u32) -> Option<()> {
-    for way in [Way::East, Way::South, Way::West, Way::North] {
-        draft.choice(alloc, &steered(alloc, field, way)?)?;
+    for way in &[Way::East, Way::South, Way::West, Way::North] {
+        draft.choice(alloc, &steered(alloc, field, *way)?)?;
     }
     draft.end_state(alloc)
 }
