@@ -49,7 +49,8 @@ fn three_states(rt: HostRuntime) -> Result<(), Fail> {
     )
 }
 
-/// These of three states are almost sure, where state 1 is the goal and one side chooses at all.
+/// These of three states are almost sure, where state 1 is the goal and one side chooses at all. The game comes as it was
+/// made, or not: so a test of several has one place to leave for each.
 fn check_three(
     name: &str,
     alloc: Global,

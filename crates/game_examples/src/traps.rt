@@ -42,18 +42,8 @@ fn check_row(alloc: Global, question: &Question, row: Row<'_>) -> Result<(), Fai
     check_lowered(alloc, question, row)
 }
 
-/// The table and the replies pass the checks, before and after the table is lowered.
-fn check_lowered(alloc: Global, question: &Question, row: Row<'_>) -> Result<(), Fail>
-    requires replies { length row.replies.now ≡ states question.now }
-    requires upper { length row.upper.now ≡ states question.now }
-{
-    check_held(question, row.upper, row.replies)?;
-    let table = lower_traps(alloc, question, row.upper, row.replies)?;
-    same("lowered table", table.as_slice(), row.lowered)?;
-    check_held(question, &table, row.replies)
-}
-
-/// The same for a game where one side chooses at all states.
+/// The row of a game where one side chooses at all states. The game comes as it was made, or not: so a test of a row has
+/// one place to leave.
 fn check_game(
     alloc: Global,
     game: Result<Game, Fail>,
@@ -66,6 +56,17 @@ fn check_game(
 {
     let game = game?;
     check_row(alloc, &question_of(alloc, &game, side, goal)?, row)
+}
+
+/// The table and the replies pass the checks, before and after the table is lowered.
+fn check_lowered(alloc: Global, question: &Question, row: Row<'_>) -> Result<(), Fail>
+    requires replies { length row.replies.now ≡ states question.now }
+    requires upper { length row.upper.now ≡ states question.now }
+{
+    check_held(question, row.upper, row.replies)?;
+    let table = lower_traps(alloc, question, row.upper, row.replies)?;
+    same("lowered table", table.as_slice(), row.lowered)?;
+    check_held(question, &table, row.replies)
 }
 
 /// A table and replies pass the checks.

@@ -139,7 +139,7 @@ impl Head {
 }
 
 impl Tree {
-    // What stands between two sides.
+    // What stands between the two sides of a connective; no other tree is asked.
     fn sign(&self) -> &'static str {
         match self {
             Tree::And(_, _) => " & ",
@@ -158,7 +158,7 @@ impl Tree {
         }
     }
 
-    /// What the connective says of what its sides say.
+    /// What a connective of two sides says of what these say; no other tree is asked.
     pub(crate) fn says(&self, x: bool, y: bool) -> bool {
         match self {
             Tree::And(_, _) => x && y,

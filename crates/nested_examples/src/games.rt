@@ -131,9 +131,19 @@ fn lie_right(
     }
 }
 
-// Ok where a fact about the bounds of a formula at a state holds.
-fn holds_at(text: &str, state: usize, lower: u64, upper: u64, fact: bool) -> Result<(), Fail> {
-    holds(format_args!("{text} at {state}: {lower} and {upper}"), fact)
+// Ok where the bounds of a formula at a state, or what they say, are right.
+fn are_right(
+    what: &str,
+    text: &str,
+    state: usize,
+    bounds: (u64, u64),
+    right: bool,
+) -> Result<(), Fail> {
+    let (lower, upper) = bounds;
+    holds(
+        format_args!("{what} of {text} at {state}: {lower} and {upper}"),
+        right,
+    )
 }
 
 // Compares what bounds say of a threshold at a state with what its value keeps. It tells whether they leave it open.
@@ -152,7 +162,8 @@ fn compare_verdict(
     let verdict = said(asked, lower, upper);
     let truth = valued.exact.keeps(state, asked).ok_or("no products")?;
     tally.note_verdict(verdict);
-    holds_at(text, state, lower, upper, verdict != Some(!truth))?;
+    let right = verdict != Some(!truth);
+    are_right("verdict", text, state, (lower, upper), right)?;
     Ok(verdict.is_none())
 }
 
@@ -167,7 +178,7 @@ fn compare_state(
     tally: &mut Tally,
 ) -> Result<bool, Fail> {
     let right = lie_right(valued, undecided, state, lower, upper).ok_or("no products")?;
-    holds_at(text, state, lower, upper, right)?;
+    are_right("bounds", text, state, (lower, upper), right)?;
     tally.note_value(&valued.exact, state).ok_or("no value")?;
     compare_verdict(valued, text, state, lower, upper, tally)
 }

@@ -1,4 +1,4 @@
-//! Values of reaching goals by steps over whole tables of fractions.
+//! Values of paths by steps over whole tables of fractions.
 
 ghost use Rattle.std.specs.Prelude.{◌<◌, length};
 ghost use Rattle.game_model.specs.Game.{choices_of};
@@ -22,7 +22,7 @@ const SLACK: u128 = 100_000;
 // Many steps: most games come to rest much earlier.
 const MANY_STEPS: u32 = 20_000;
 
-/// Who chooses where, what is to be reached, and over which states.
+/// Who chooses where, what is to be reached, and over which states; for `G` the goals are where to stay.
 #[derive(Clone, Copy)]
 pub struct Reaching<'g> {
     pub game: &'g Game,
@@ -78,7 +78,7 @@ impl Reaching<'_> {
         Some(0)
     }
 
-    // The table one step on.
+    // The table one step on, by the value of each state.
     fn stepped(&self, alloc: Global, table: &[u128], one: u128, scale: u128) -> Option<Vec<u128>> {
         let mut next = Vec::new(alloc);
         for state in 0..self.game.states() {

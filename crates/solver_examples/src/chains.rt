@@ -22,7 +22,8 @@ pub(crate) fn ruin(alloc: Global, states: u32) -> Result<FloatGame, Fail> {
     finished(draft)
 }
 
-/// Adds a state of a gambler: it goes to these nodes, but the first state to ruin, and the last one to the goal.
+/// Adds a state of a gambler: it goes down and up to these nodes, but the first state down to ruin, and the last one up
+/// to the goal.
 pub(crate) fn add_gambler(
     draft: &mut Draft,
     state: u32,

@@ -36,7 +36,7 @@ fn mixed_ruin(alloc: Global) -> Result<FloatGame, Fail> {
     let mut draft = Draft::new(alloc, 701, 701, 1402)?;
     for node in 0..701u32 {
         let state = node * 211 % 701;
-        // 402 is the inverse of 211.
+        // 402 is the inverse of 211, and 700 stands for -1.
         let (down, up) = ((state + 700) * 402 % 701, (state + 1) * 402 % 701);
         add_gambler(&mut draft, state, 700, down, up)?;
     }
@@ -112,8 +112,9 @@ fn check_two_nodes(
     are_near(&values, shares)
 }
 
-/// The values are these shares of the unit, or off by less than one unit.
+/// The values are as many as these shares of the unit, and each is off by less than one unit.
 fn are_near(values: &[f64], shares: &[f64]) -> Result<(), Fail> {
+    same("as many", values.len(), shares.len())?;
     for (value, wanted) in values.iter().zip(shares) {
         let off = (*value - *wanted * UNIT).abs();
         holds(format_args!("{value} is {wanted}"), off < 1.0)?;

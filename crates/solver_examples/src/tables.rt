@@ -111,7 +111,7 @@ fn table_of(alloc: Global, question: &Question<'_>, bound: Bound) -> Result<Unit
     Ok(table)
 }
 
-/// Fills in the entries of a component, that of a single state from the table alone.
+/// Fills in the entries of a component.
 fn fill(
     alloc: Global,
     question: &Question<'_>,
@@ -129,16 +129,7 @@ fn fill(
 {
     let members = components.members(component);
     if members.len() == 1 {
-        let state = members[0];
-        let entry = single_entry(question, table, bound, state);
-        table.set(
-            state,
-            if question.is_goal(state) {
-                UNIT
-            } else {
-                entry.value
-            },
-        );
+        fill_single(question, members[0], bound, table);
         return Ok(());
     }
     let game = local_game(alloc, question, components, component, table)?;
@@ -153,6 +144,23 @@ fn fill(
         bound,
     };
     round(alloc, &setting, table)
+}
+
+/// Fills in the entry of a component of one state, from the table alone.
+fn fill_single(question: &Question<'_>, state: u32, bound: Bound, table: &mut UnitTable)
+    requires state { state < states question.now }
+    requires many { length table.old ≡ states question.now }
+    ensures { length table.new ≡ length table.old }
+{
+    let entry = single_entry(question, table, bound, state);
+    table.set(
+        state,
+        if question.is_goal(state) {
+            UNIT
+        } else {
+            entry.value
+        },
+    );
 }
 
 /// The numbers below this one.

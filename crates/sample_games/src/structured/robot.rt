@@ -19,7 +19,7 @@ enum Way {
 }
 
 impl Way {
-    /// The ways to both sides.
+    /// The ways to both sides, in any order: the robot slips to each with the same weight.
     fn sides(self) -> (Way, Way) {
         match self {
             Way::East | Way::West => (Way::North, Way::South),
