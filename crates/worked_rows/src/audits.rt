@@ -1,9 +1,11 @@
 //! Certificates that are audited.
 
+use crate::printed_plans::MOST_OF_COIN_LOOP_WITH_PLAN;
+use crate::tables::{
+    Answer, Audited, all_write, answers_write, audit_refuses, printed_are_audited,
+};
 use crate::{
-    Answer, Audited, Case, Command, FIRST_OF_TWO_PLAYERS, MOST_OF_COIN_LOOP,
-    MOST_OF_COIN_LOOP_WITH_PLAN, MOST_OF_LOOP_OR_COIN, Row, all_write, answers_write,
-    audit_refuses, printed_are_audited, runs,
+    Case, Command, FIRST_OF_TWO_PLAYERS, MOST_OF_COIN_LOOP, MOST_OF_LOOP_OR_COIN, Row, runs,
 };
 use expectations::same;
 use game_outside::OpenGate;
@@ -71,7 +73,7 @@ fn unchanged_is_printed<R: Threads + Sync>(rt: &R, alloc: Global) -> Result<(), 
 fn changes_are_refused<R: Threads + Sync>(rt: &R, alloc: Global) -> Result<(), Fail> {
     for (line, cause) in CHANGES {
         let changed = with_line(alloc, line)?;
-        audit_refuses(rt, alloc, MOST_OF_LOOP_OR_COIN, changed.as_bytes(), cause)?;
+        audit_refuses(rt, alloc, MOST_OF_LOOP_OR_COIN, changed.as_str(), cause)?;
     }
     Ok(())
 }

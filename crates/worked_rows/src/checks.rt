@@ -64,13 +64,3 @@ pub fn writes<R: Threads + Sync>(
     let (ended, written) = runs(rt, alloc, row, &OpenGate {})?;
     comes_to(row.formula, ended, &written, status, text)
 }
-
-/// The row is refused with this line.
-pub fn refuses<R: Threads + Sync>(
-    rt: &R,
-    alloc: Global,
-    row: Row<'_>,
-    text: &str,
-) -> Result<(), Fail> {
-    writes(rt, alloc, row, text, Status::ModelRefused)
-}

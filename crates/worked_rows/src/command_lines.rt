@@ -1,6 +1,8 @@
 //! Words of the command line.
 
-use crate::{COIN_LOOP_REPORT, USAGE, coin_loop_files, comes_to, ends, words};
+use crate::checks::comes_to;
+use crate::models::USAGE;
+use crate::{COIN_LOOP_REPORT, coin_loop_files, ends, words};
 use game_outside::{OpenGate, SteadyShelf};
 use std::alloc::Global;
 use std::test::Fail;

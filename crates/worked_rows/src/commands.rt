@@ -2,10 +2,9 @@
 
 ghost use Rattle.std.specs.Prelude.{◌<◌};
 
-use crate::audit_checks::{CERTIFICATE, audit_words};
+use crate::asked::{audit_files, audit_words, check_words, solve_files, solve_words, sure_words};
 use crate::checks::comes_to;
-use crate::rows::{Row, file, files, row_words, sure_words, words};
-use crate::solutions::{solve_files, solve_words};
+use crate::rows::{Row, files, words};
 use game_outside::{HeldFile, MemShelf, MemSink, OpenGate};
 use std::alloc::Global;
 use std::test::Fail;
@@ -52,7 +51,7 @@ impl<'a> Command<'a> {
     /// The words of the command.
     pub fn words(self, alloc: Global) -> Result<Vec<String>, Fail> {
         match self {
-            Command::Check(row) => row_words(alloc, row),
+            Command::Check(row) => check_words(alloc, row),
             Command::Audit(row, _) => audit_words(alloc, row),
             Command::Solve(row, values) => solve_words(alloc, row, values),
             Command::Sure(row) => sure_words(alloc, row),
@@ -64,11 +63,7 @@ impl<'a> Command<'a> {
     pub fn files(self, alloc: Global) -> Result<Vec<HeldFile>, Fail> {
         match self {
             Command::Check(row) | Command::Sure(row) => files(alloc, row),
-            Command::Audit(row, certificate) => {
-                let mut held = files(alloc, row)?;
-                held.push(file(alloc, CERTIFICATE, certificate)?)?;
-                Ok(held)
-            }
+            Command::Audit(row, certificate) => audit_files(alloc, row, certificate),
             Command::Solve(row, values) => solve_files(alloc, row, values),
             Command::Words(_) => Ok(Vec::new(alloc)),
         }

@@ -1,6 +1,7 @@
 //! Formulas that are refused.
 
-use crate::{Answer, Command, MOST_OF_COIN_LOOP, answers_write, push_times, refuses};
+use crate::tables::{Answer, answers_write, refuses};
+use crate::{Command, MOST_OF_COIN_LOOP, push_times};
 use std::alloc::Global;
 use std::test::Fail;
 use std::thread::Threads;

@@ -1,6 +1,8 @@
 //! Label files, owner files and questions that are refused.
 
-use crate::{Case, Command, GOAL_AT_2, MOST_OF_COIN_LOOP, Row, TWO_PLAYERS, all_write};
+use crate::models::{GOAL_AT_2, TWO_PLAYERS};
+use crate::tables::all_write;
+use crate::{Case, Command, MOST_OF_COIN_LOOP, Row};
 use std::test::Fail;
 use stogame_app::Status;
 

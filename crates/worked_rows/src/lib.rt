@@ -5,7 +5,7 @@
 //! are public: the other tests of `run` take them from here.
 #![tactic(auto)]
 
-mod audit_checks;
+mod asked;
 #[cfg(test)]
 mod audits;
 mod cases;
@@ -38,11 +38,11 @@ mod paths;
 mod printed_lines;
 mod printed_plans;
 mod rows;
-mod solutions;
 #[cfg(test)]
 mod solve;
 #[cfg(test)]
 mod sure;
+#[cfg(test)]
 mod tables;
 #[cfg(test)]
 mod thresholds;
@@ -51,27 +51,15 @@ mod traps;
 #[cfg(test)]
 mod values;
 
-pub use audit_checks::{CERTIFICATE, audit_refuses, audit_words, audit_writes};
 pub use cases::{
     AUDIT_OF_LOOP_OR_COIN, AUDIT_OF_TWO_PLAYERS, CHECK_OF_AGREEMENT, CHECK_OF_COIN_LOOP,
     COIN_LOOP_OUT_OF_ORDER, Case, DRAWN_GAME, MOST_OF_AGREEMENT, MOST_OF_COIN_LOOP, NO_COMMAND,
     OTHER_VERSION, PLAN_OF_LOOP_OR_COIN, PLAN_OF_TWO_PLAYERS, STATE_OUT_OF_RANGE,
 };
-pub use checks::{comes_to, refuses, writes};
+pub use checks::writes;
 pub use coin_loop::coin_loop_files;
 pub use commands::{Command, Ended, Outside, STEP, ends_over, gives};
-pub use models::{
-    AGREEMENT, AGREEMENT_LABELS, AGREEMENT_OWNERS, COIN_LOOP, COIN_LOOP_REPORT, FIRST_IS_TRUE,
-    FORK, GOAL_AT_1, GOAL_AT_2, LOOP_OR_COIN, OF_THREE_STATES, SECOND_OWNS_1, TWO_PLAYERS, USAGE,
-};
+pub use models::{COIN_LOOP, COIN_LOOP_REPORT, FIRST_IS_TRUE, GOAL_AT_1, SECOND_OWNS_1};
 pub use printed_lines::{PrintedLine, read_lines};
-pub use printed_plans::{
-    FIRST_OF_TWO_PLAYERS, LOOP_OR_COIN_PLAN, MOST_OF_COIN_LOOP_WITH_PLAN, MOST_OF_LOOP_OR_COIN,
-    PLAN, TWO_PLAYERS_PLAN,
-};
-pub use rows::{
-    ONE_WORKER, Row, add_words, ends, file, file_of_bytes, files, push_times, row_words, runs,
-    sure_words, with_file, words,
-};
-pub use solutions::{solve_writes, solves};
-pub use tables::{Answer, Audited, all_write, answers_write, printed_are_audited};
+pub use printed_plans::{FIRST_OF_TWO_PLAYERS, MOST_OF_LOOP_OR_COIN};
+pub use rows::{ONE_WORKER, Row, ends, file, file_of_bytes, push_times, runs, words};

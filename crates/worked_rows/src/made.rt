@@ -1,6 +1,8 @@
 //! Games that a seed draws.
 
-use crate::{Case, Command, OF_THREE_STATES, USAGE, all_write, ends, words};
+use crate::models::{OF_THREE_STATES, USAGE};
+use crate::tables::all_write;
+use crate::{Case, Command, ends, words};
 use expectations::{holds, same};
 use game_outside::{Gate, HoldGate, OpenGate, SteadyShelf};
 use std::alloc::Global;

@@ -1,8 +1,8 @@
 //! Formulas with others inside.
 
-use crate::{
-    Answer, Case, Command, MOST_OF_COIN_LOOP, Row, all_write, answers_write, comes_to, runs,
-};
+use crate::checks::comes_to;
+use crate::tables::{Answer, all_write, answers_write};
+use crate::{Case, Command, MOST_OF_COIN_LOOP, Row, runs};
 use expectations::same;
 use game_outside::{Gate, HoldGate, OpenGate};
 use std::alloc::Global;

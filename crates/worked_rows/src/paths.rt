@@ -1,12 +1,11 @@
 //! Paths with a bound on the steps, the next step, and what always holds.
 
+use crate::checks::comes_to;
+use crate::tables::{Answer, Audited, all_write, answers_write, printed_are_audited};
 use crate::traps::{
     GOAL_AT_2, GOAL_AT_3, NO_ROUNDS, SECOND_OWNS_1, STAY_OR_COIN, TO_AND_FRO, TRAPS,
 };
-use crate::{
-    Answer, Case, Command, MOST_OF_COIN_LOOP, Row, all_write, answers_write, audit_writes,
-    comes_to, runs,
-};
+use crate::{Case, Command, MOST_OF_COIN_LOOP, Row, runs};
 use expectations::holds;
 use game_outside::{HoldGate, OpenGate};
 use std::alloc::Global;
@@ -243,6 +242,13 @@ const PLANNED: Row<'static> = Row {
 };
 
 // The certificate is that of the dual, and the audit mirrors its numbers.
+const OF_THE_DUAL: &[Audited<'static>] = &[(
+    Command::Check(PLANNED),
+    PLANNED,
+    "state 0 lower 0.100000000000000 upper 0.100000000000000 audited Bracket\n",
+    Status::Fine,
+)];
+
 #[test]
 fn certificates_of_the_dual_are_audited(rt: HostRuntime) -> Result<(), Fail> {
     let alloc = rt.alloc();
@@ -251,8 +257,7 @@ fn certificates_of_the_dual_are_audited(rt: HostRuntime) -> Result<(), Fail> {
     let front =
         b"state 0 lower 0.100000000000000 upper 0.100000000000000 rounds 3 Bracket\nformula Pmax=? [ F !!\"goal\" ]\ncertificate 2 4\n0 0.900000000000000 1 ";
     holds("it is the dual's", printed.starts_with(front))?;
-    let text = "state 0 lower 0.100000000000000 upper 0.100000000000000 audited Bracket\n";
-    audit_writes(&rt, alloc, PLANNED, &printed, text, Status::Fine)
+    printed_are_audited(&rt, alloc, OF_THE_DUAL)
 }
 
 const BAD_STEPS: &[Answer<'static>] = &[

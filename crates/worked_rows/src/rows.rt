@@ -1,5 +1,6 @@
 //! Rows: files in memory and words, run, and what is written.
 
+use crate::asked::check_words;
 use game_outside::{Gate, HeldFile, Name, Shelf, SteadyShelf, SteadySink};
 use std::alloc::Global;
 use std::test::Fail;
@@ -58,20 +59,6 @@ pub fn files(alloc: Global, row: Row<'_>) -> Result<Vec<HeldFile>, Fail> {
     Ok(files)
 }
 
-/// These files, with one in front: of two files of one name the first counts.
-pub fn with_file(
-    alloc: Global,
-    front: HeldFile,
-    others: Vec<HeldFile>,
-) -> Result<Vec<HeldFile>, Fail> {
-    let mut held = Vec::new(alloc);
-    held.push(front)?;
-    for other in others {
-        held.push(other)?;
-    }
-    Ok(held)
-}
-
 /// Adds so many times the same part to a text.
 pub fn push_times(text: &mut String, part: &str, times: u32) -> Result<(), Fail> {
     for _ in 0..times {
@@ -88,36 +75,15 @@ pub fn words(alloc: Global, words: &[&str]) -> Result<Vec<String>, Fail> {
 }
 
 /// Adds these words.
-pub fn add_words(alloc: Global, owned: &mut Vec<String>, words: &[&str]) -> Result<(), Fail> {
+pub(crate) fn add_words(
+    alloc: Global,
+    owned: &mut Vec<String>,
+    words: &[&str],
+) -> Result<(), Fail> {
     for word in words {
         owned.push(String::from_str(alloc, word)?)?;
     }
     Ok(())
-}
-
-/// The words that ask a command the question of a row.
-pub(crate) fn question_words(
-    alloc: Global,
-    command: &str,
-    row: Row<'_>,
-) -> Result<Vec<String>, Fail> {
-    let mut owned = words(alloc, &[command, "m.tra", "m.lab", row.formula])?;
-    if row.own.is_some() {
-        add_words(alloc, &mut owned, &["--own", "m.own"])?;
-    }
-    Ok(owned)
-}
-
-/// The words that check a row.
-pub fn row_words(alloc: Global, row: Row<'_>) -> Result<Vec<String>, Fail> {
-    let mut owned = question_words(alloc, "check", row)?;
-    add_words(alloc, &mut owned, row.numbers)?;
-    Ok(owned)
-}
-
-/// The words that ask a row for its almost-sure states.
-pub fn sure_words(alloc: Global, row: Row<'_>) -> Result<Vec<String>, Fail> {
-    question_words(alloc, "sure", row)
 }
 
 /// How a row ends over a shelf and a sink that never fail, and what it writes.
@@ -127,7 +93,7 @@ pub fn runs<R: Threads + Sync, G: Gate + Sync>(
     row: Row<'_>,
     gate: &G,
 ) -> Result<(Status, Vec<u8>), Fail> {
-    let words = row_words(alloc, row)?;
+    let words = check_words(alloc, row)?;
     let mut shelf = SteadyShelf::new(files(alloc, row)?);
     ends(rt, alloc, &words, &mut shelf, gate)
 }

@@ -1,21 +1,19 @@
-//! Tables of rows: each is run, one after another, and writes what stands beside it.
+//! Commands over a shelf and a sink that never fail, and tables of them: each writes what stands beside it.
 
-use crate::audit_checks::audit_writes;
-use crate::cases::Case;
 use crate::checks::comes_to;
-use crate::commands::Command;
-use crate::rows::{Row, ends};
+use crate::{Case, Command, Row, ends, writes};
 use game_outside::{OpenGate, SteadyShelf};
 use std::alloc::Global;
+use std::str::from_utf8;
 use std::test::Fail;
 use std::thread::Threads;
 use stogame_app::Status;
 
 /// A formula, the end of the text that it gives, and how the command ends.
-pub type Answer<'a> = (&'a str, &'a str, Status);
+pub(crate) type Answer<'a> = (&'a str, &'a str, Status);
 
 /// A command that prints a certificate, the row for which that is audited, and the text and the end of the audit.
-pub type Audited<'a> = (Command<'a>, Row<'a>, &'a str, Status);
+pub(crate) type Audited<'a> = (Command<'a>, Row<'a>, &'a str, Status);
 
 // How a command ends over a shelf and a sink that never fail, and what it writes.
 fn printed<R: Threads + Sync>(
@@ -28,8 +26,8 @@ fn printed<R: Threads + Sync>(
     ends(rt, alloc, &words, &mut shelf, &OpenGate {})
 }
 
-// The command over a shelf and a sink that never fail writes this text and ends with this status.
-fn prints<R: Threads + Sync>(
+/// The command over a shelf and a sink that never fail writes this text and ends with this status.
+pub(crate) fn prints<R: Threads + Sync>(
     rt: &R,
     alloc: Global,
     command: Command<'_>,
@@ -47,8 +45,41 @@ fn prints<R: Threads + Sync>(
     )
 }
 
+/// The row is refused with this line.
+pub(crate) fn refuses<R: Threads + Sync>(
+    rt: &R,
+    alloc: Global,
+    row: Row<'_>,
+    text: &str,
+) -> Result<(), Fail> {
+    writes(rt, alloc, row, text, Status::ModelRefused)
+}
+
+/// The certificate is refused with this line and cause.
+pub(crate) fn audit_refuses<R: Threads + Sync>(
+    rt: &R,
+    alloc: Global,
+    row: Row<'_>,
+    certificate: &str,
+    cause: &str,
+) -> Result<(), Fail> {
+    let text = format!(in alloc; "refused cert line {cause}\n")?;
+    let refused = Status::CertificateRefused;
+    prints(
+        rt,
+        alloc,
+        Command::Audit(row, certificate),
+        text.as_str(),
+        refused,
+    )
+}
+
 /// Each case over a shelf and a sink that never fail writes its text and ends with its status.
-pub fn all_write<R: Threads + Sync>(rt: &R, alloc: Global, cases: &[Case<'_>]) -> Result<(), Fail> {
+pub(crate) fn all_write<R: Threads + Sync>(
+    rt: &R,
+    alloc: Global,
+    cases: &[Case<'_>],
+) -> Result<(), Fail> {
     for case in cases {
         prints(rt, alloc, case.command, case.text, case.status)?;
     }
@@ -57,7 +88,7 @@ pub fn all_write<R: Threads + Sync>(rt: &R, alloc: Global, cases: &[Case<'_>]) -
 
 /// The command, asked each of these formulas in place of its own, writes this front, the end that stands beside the
 /// formula, and LF.
-pub fn answers_write<R: Threads + Sync>(
+pub(crate) fn answers_write<R: Threads + Sync>(
     rt: &R,
     alloc: Global,
     command: Command<'_>,
@@ -71,15 +102,30 @@ pub fn answers_write<R: Threads + Sync>(
     Ok(())
 }
 
+// The audit of what was printed, for this row, writes this text and ends with this status.
+fn audit_prints<R: Threads + Sync>(
+    rt: &R,
+    alloc: Global,
+    row: Row<'_>,
+    written: &[u8],
+    text: &str,
+    status: Status,
+) -> Result<(), Fail> {
+    let Ok(certificate) = from_utf8(written) else {
+        return Err(Fail::new("the text is no UTF-8"));
+    };
+    prints(rt, alloc, Command::Audit(row, certificate), text, status)
+}
+
 /// What each of these commands prints is audited, for the row beside it, with the text and the end beside that.
-pub fn printed_are_audited<R: Threads + Sync>(
+pub(crate) fn printed_are_audited<R: Threads + Sync>(
     rt: &R,
     alloc: Global,
     table: &[Audited<'_>],
 ) -> Result<(), Fail> {
     for (command, row, text, status) in table {
-        let (_, certificate) = printed(rt, alloc, *command)?;
-        audit_writes(rt, alloc, *row, &certificate, text, *status)?;
+        let (_, written) = printed(rt, alloc, *command)?;
+        audit_prints(rt, alloc, *row, &written, text, *status)?;
     }
     Ok(())
 }

@@ -1,8 +1,10 @@
 //! Thresholds, and what the bounds say of them.
 
+use crate::models::{GOAL_AT_2, TWO_PLAYERS};
+use crate::tables::{Answer, all_write, answers_write};
 use crate::{
-    Answer, COIN_LOOP, Case, Command, GOAL_AT_2, MOST_OF_AGREEMENT, MOST_OF_COIN_LOOP, ONE_WORKER,
-    Row, SECOND_OWNS_1, TWO_PLAYERS, all_write, answers_write, runs,
+    COIN_LOOP, Case, Command, MOST_OF_AGREEMENT, MOST_OF_COIN_LOOP, ONE_WORKER, Row, SECOND_OWNS_1,
+    runs,
 };
 use expectations::{holds, same};
 use game_outside::OpenGate;

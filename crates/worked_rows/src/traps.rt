@@ -1,6 +1,7 @@
 //! Upper tables that are lowered to the best exits of traps.
 
-use crate::{Audited, COIN_LOOP, Case, Command, GOAL_AT_1, Row, all_write, printed_are_audited};
+use crate::tables::{Audited, all_write, printed_are_audited};
+use crate::{COIN_LOOP, Case, Command, GOAL_AT_1, Row};
 use std::test::Fail;
 use stogame_app::Status;
 

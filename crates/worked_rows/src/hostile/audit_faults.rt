@@ -1,9 +1,10 @@
 //! Certificates that are refused: the faults of their texts, and of what they say.
 
-use crate::{
-    FIRST_OF_TWO_PLAYERS, MOST_OF_COIN_LOOP, MOST_OF_LOOP_OR_COIN, Row, audit_refuses, audit_words,
-    audit_writes, comes_to, ends, files,
-};
+use crate::asked::audit_words;
+use crate::checks::comes_to;
+use crate::rows::files;
+use crate::tables::{audit_refuses, prints};
+use crate::{Command, FIRST_OF_TWO_PLAYERS, MOST_OF_COIN_LOOP, MOST_OF_LOOP_OR_COIN, Row, ends};
 use game_outside::{MemShelf, OpenGate};
 use std::alloc::Global;
 use std::test::Fail;
@@ -60,13 +61,7 @@ const TEXTS: &[(&str, &str)] = &[
 
 fn texts_are_refused<R: Threads + Sync>(rt: &R, alloc: Global) -> Result<(), Fail> {
     for (certificate, cause) in TEXTS {
-        audit_refuses(
-            rt,
-            alloc,
-            MOST_OF_LOOP_OR_COIN,
-            certificate.as_bytes(),
-            cause,
-        )?;
+        audit_refuses(rt, alloc, MOST_OF_LOOP_OR_COIN, certificate, cause)?;
     }
     Ok(())
 }
@@ -108,13 +103,7 @@ fn refused<R: Threads + Sync>(
     cause: &str,
 ) -> Result<(), Fail> {
     let certificate = with_changes(alloc, changes)?;
-    audit_refuses(
-        rt,
-        alloc,
-        FIRST_OF_TWO_PLAYERS,
-        certificate.as_bytes(),
-        cause,
-    )
+    audit_refuses(rt, alloc, FIRST_OF_TWO_PLAYERS, certificate.as_str(), cause)
 }
 
 const CAUSES: &[(&str, &str)] = &[
@@ -223,15 +212,8 @@ fn right_changes_are_accepted<R: Threads + Sync>(rt: &R, alloc: Global) -> Resul
     for (change, bounds, status) in RIGHT {
         let certificate = with_changes(alloc, &[change])?;
         let text = format!(in alloc; "state 0 {bounds}\n")?;
-        let row = FIRST_OF_TWO_PLAYERS;
-        audit_writes(
-            rt,
-            alloc,
-            row,
-            certificate.as_bytes(),
-            text.as_str(),
-            *status,
-        )?;
+        let audit = Command::Audit(FIRST_OF_TWO_PLAYERS, certificate.as_str());
+        prints(rt, alloc, audit, text.as_str(), *status)?;
     }
     Ok(())
 }
@@ -341,8 +323,8 @@ const REFUSED_MODELS: &[(Row<'static>, &str)] = &[
 // The audit is refused so, with a certificate and without one.
 fn models_are_refused<R: Threads + Sync>(rt: &R, alloc: Global) -> Result<(), Fail> {
     for (row, text) in REFUSED_MODELS {
-        let certificate = b"certificate 2 3\n";
-        audit_writes(rt, alloc, *row, certificate, text, Status::ModelRefused)?;
+        let audit = Command::Audit(*row, "certificate 2 3\n");
+        prints(rt, alloc, audit, text, Status::ModelRefused)?;
         writes_without(rt, alloc, *row, text, Status::ModelRefused)?;
     }
     Ok(())

@@ -1,9 +1,13 @@
 //! Files that no tool writes: each is refused with its line.
 
+use crate::asked::check_words;
+use crate::checks::comes_to;
+use crate::hostile::with_file;
+use crate::rows::files;
+use crate::tables::{audit_refuses, refuses};
 use crate::{
     COIN_LOOP_REPORT, FIRST_IS_TRUE, FIRST_OF_TWO_PLAYERS, MOST_OF_COIN_LOOP, MOST_OF_LOOP_OR_COIN,
-    ONE_WORKER, Row, audit_refuses, comes_to, ends, file_of_bytes, files, push_times, refuses,
-    row_words, with_file, writes,
+    ONE_WORKER, Row, ends, file_of_bytes, push_times, writes,
 };
 use game_outside::{OpenGate, SteadyShelf};
 use std::alloc::Global;
@@ -84,7 +88,7 @@ fn compressed<R: Threads + Sync>(
     name: &str,
     text: &str,
 ) -> Result<(), Fail> {
-    let words = row_words(alloc, FIRST_OF_TWO_PLAYERS)?;
+    let words = check_words(alloc, FIRST_OF_TWO_PLAYERS)?;
     let file = file_of_bytes(alloc, name, &[31, 139, 8, 0])?;
     let held = with_file(alloc, file, files(alloc, FIRST_OF_TWO_PLAYERS)?)?;
     let mut shelf = SteadyShelf::new(held);
@@ -326,13 +330,7 @@ fn changed_texts_are_refused<R: Threads + Sync>(rt: &R, alloc: Global) -> Result
         let certificate = format!(in alloc;
             "state 0 lower 0.500000000000000 upper 0.500000000000000 rounds 2 Bracket\nformula Pmax=? [ F \"goal\" ]\ncertificate {header}\n{first}\n{second}\n2 0.000000000000000 - 0 0.000000000000000 -\n"
         )?;
-        audit_refuses(
-            rt,
-            alloc,
-            MOST_OF_LOOP_OR_COIN,
-            certificate.as_bytes(),
-            cause,
-        )?;
+        audit_refuses(rt, alloc, MOST_OF_LOOP_OR_COIN, certificate.as_str(), cause)?;
     }
     Ok(())
 }
@@ -367,13 +365,7 @@ fn changed_replies_are_refused<R: Threads + Sync>(rt: &R, alloc: Global) -> Resu
         let certificate = format!(in alloc;
             "state 0 lower 0.650000000000000 upper 0.650000000000000 rounds 1 True\nformula <<p1>> P>=3/5 [ F \"goal\" ]\ncertificate 2 4\n0 0.650000000000000 1 1 0.650000000000000 -\n{second}\n{third}\n3 0.000000000000000 - 0 0.000000000000000 -\n"
         )?;
-        audit_refuses(
-            rt,
-            alloc,
-            FIRST_OF_TWO_PLAYERS,
-            certificate.as_bytes(),
-            cause,
-        )?;
+        audit_refuses(rt, alloc, FIRST_OF_TWO_PLAYERS, certificate.as_str(), cause)?;
     }
     Ok(())
 }

@@ -1,6 +1,8 @@
 //! Transition files that are refused.
 
-use crate::{Case, Command, FORK, MOST_OF_COIN_LOOP, Row, all_write, refuses};
+use crate::models::FORK;
+use crate::tables::{all_write, refuses};
+use crate::{Case, Command, MOST_OF_COIN_LOOP, Row};
 use std::alloc::Global;
 use std::test::Fail;
 use std::thread::Threads;

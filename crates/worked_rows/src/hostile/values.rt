@@ -1,6 +1,7 @@
 //! Files of values that no solver writes: each is refused with its line, or changes no answer.
 
-use crate::{MOST_OF_COIN_LOOP, Row, solve_writes};
+use crate::tables::prints;
+use crate::{Command, MOST_OF_COIN_LOOP, Row};
 use std::alloc::Global;
 use std::test::Fail;
 use std::thread::Threads;
@@ -18,7 +19,7 @@ fn from_values<R: Threads + Sync>(
         numbers: &[],
         ..MOST_OF_COIN_LOOP
     };
-    solve_writes(rt, alloc, row, Some(values), text, status)
+    prints(rt, alloc, Command::Solve(row, Some(values)), text, status)
 }
 
 const FAR: &[&str] = &[

@@ -1,0 +1,87 @@
+//! The words that ask a command the question of a row, and the files that they name.
+
+use crate::rows::{Row, add_words, file, files, words};
+use game_outside::HeldFile;
+use std::alloc::Global;
+use std::test::Fail;
+
+/// The name of the certificate's file.
+pub(crate) const CERTIFICATE: &str = "c";
+
+// The name of the file of values to begin with.
+const VALUES: &str = "v";
+
+// Adds the words that name the file of owners, where the row has one.
+fn add_owners(alloc: Global, owned: &mut Vec<String>, row: Row<'_>) -> Result<(), Fail> {
+    match row.own {
+        Some(_) => add_words(alloc, owned, &["--own", "m.own"]),
+        None => Ok(()),
+    }
+}
+
+// The words that ask a command the question of a row.
+fn question_words(alloc: Global, command: &str, row: Row<'_>) -> Result<Vec<String>, Fail> {
+    let mut owned = words(alloc, &[command, "m.tra", "m.lab", row.formula])?;
+    add_owners(alloc, &mut owned, row)?;
+    Ok(owned)
+}
+
+/// The words that check a row.
+pub(crate) fn check_words(alloc: Global, row: Row<'_>) -> Result<Vec<String>, Fail> {
+    let mut owned = question_words(alloc, "check", row)?;
+    add_words(alloc, &mut owned, row.numbers)?;
+    Ok(owned)
+}
+
+/// The words that ask a row for its almost-sure states.
+pub(crate) fn sure_words(alloc: Global, row: Row<'_>) -> Result<Vec<String>, Fail> {
+    question_words(alloc, "sure", row)
+}
+
+/// The words that audit a certificate for the model and the formula of a row.
+pub(crate) fn audit_words(alloc: Global, row: Row<'_>) -> Result<Vec<String>, Fail> {
+    let mut owned = words(
+        alloc,
+        &["audit", "m.tra", "m.lab", row.formula, CERTIFICATE],
+    )?;
+    add_owners(alloc, &mut owned, row)?;
+    Ok(owned)
+}
+
+/// The files of a row, and that of a certificate.
+pub(crate) fn audit_files(
+    alloc: Global,
+    row: Row<'_>,
+    certificate: &str,
+) -> Result<Vec<HeldFile>, Fail> {
+    let mut held = files(alloc, row)?;
+    held.push(file(alloc, CERTIFICATE, certificate)?)?;
+    Ok(held)
+}
+
+/// The words that solve a row, from a file of values where there is one.
+pub(crate) fn solve_words(
+    alloc: Global,
+    row: Row<'_>,
+    values: Option<&str>,
+) -> Result<Vec<String>, Fail> {
+    let mut owned = question_words(alloc, "solve", row)?;
+    if values.is_some() {
+        add_words(alloc, &mut owned, &["--values", VALUES])?;
+    }
+    add_words(alloc, &mut owned, row.numbers)?;
+    Ok(owned)
+}
+
+/// The files of a row, and that of values where there is one.
+pub(crate) fn solve_files(
+    alloc: Global,
+    row: Row<'_>,
+    values: Option<&str>,
+) -> Result<Vec<HeldFile>, Fail> {
+    let mut held = files(alloc, row)?;
+    if let Some(text) = values {
+        held.push(file(alloc, VALUES, text)?)?;
+    }
+    Ok(held)
+}
