@@ -1,8 +1,15 @@
 //! A maker of tables that counts them.
 
-use game_model::Question;
+ghost use Rattle.std.specs.Prelude.{◌≡◌, ◌≤◌, All, length};
+ghost use Rattle.game_model.specs.Dual.{IsZeroSet};
+ghost use Rattle.game_model.specs.Limits.{unit};
+ghost use Rattle.game_model.specs.Query.{states};
+
+use game_model::{Marks, Question};
+use std::alloc::Global;
 use std::sync::atomic::{AtomicU64, Ordering};
-use upper_guess::UpTables;
+use std::test::Fail;
+use upper_guess::{UpTables, Witnesses, guess_with};
 
 /// Fills tables as another maker does, and counts the up steps of whole tables; each takes the time of a sweep over all
 /// edges.
@@ -13,8 +20,6 @@ pub struct Counted<'m, M: UpTables> {
 }
 
 impl<'m, M: UpTables> Counted<'m, M> {
-    ghost use Rattle.std.specs.Prelude.{◌≡◌};
-
     /// This maker, which has made no step.
     pub(crate) fn of(maker: &'m M) -> Counted<'m, M>
         ensures { result.maker.now ≡ maker.now }
@@ -39,4 +44,30 @@ impl<M: UpTables> UpTables for Counted<'_, M> {
         self.count.fetch_add(1, Ordering::SeqCst);
         self.maker.fill(question, table, next);
     }
+}
+
+/// A guess, and how many up steps it took.
+pub(crate) fn guess_by<M: UpTables>(
+    maker: &M,
+    alloc: Global,
+    question: &Question<'_>,
+    zero: &Marks,
+    lower: &[u64],
+) -> Result<(Vec<u64>, u64), Fail>
+    requires can { M.can_fill }
+    requires zero { IsZeroSet question.now zero.now }
+    requires many { length lower.now ≡ states question.now }
+    requires units { All (λ v. v ≤ unit) lower.now }
+{
+    question.known();
+    let counted = Counted::of(maker);
+    let guess = guess_with(
+        &counted,
+        alloc,
+        &*question,
+        &*zero,
+        &*lower,
+        &mut Witnesses::none(),
+    )?;
+    Ok((guess, counted.up_steps()))
 }

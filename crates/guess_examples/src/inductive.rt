@@ -1,10 +1,10 @@
 //! Worked upper tables.
 
-ghost use Rattle.std.specs.Prelude.{◌≡◌, length};
+ghost use Rattle.std.specs.Prelude.{◌≡◌};
 ghost use Rattle.game_model.specs.Query.{states};
 
 use expectations::same;
-use game_model::{Game, Question, Side, UNIT};
+use game_model::{Question, Side, UNIT};
 use inductive_check::{UpperCause, UpperFault, check_replies, check_upper, replies, swap};
 use sample_games::{coin_loop, goal_or_sink, question_of};
 use std::alloc::Global;
@@ -19,24 +19,17 @@ fn fault(state: u32, cause: UpperCause) -> UpperFault {
     UpperFault { state, cause }
 }
 
-/// What the check says of a table, where one side chooses at all three states and the goal is state 1.
-fn check_table(
-    alloc: Global,
-    game: Game,
-    side: Side,
-    table: [u64; 3],
-    wanted: Result<(), UpperFault>,
-) -> Result<(), Fail>
-    requires { length game ≡ 3 }
-{
-    let question = question_of(alloc, &game, side, 1)?;
-    let found = check_upper(&question, &table);
-    same(format_args!("{table:?}"), found, wanted)
-}
-
 #[test]
 fn a_coin_loop_is_held_to_one_half(rt: HostRuntime) -> Result<(), Fail> {
     let alloc = rt.alloc();
+    let game = coin_loop(alloc)?;
+    check_coin_loop(&question_of(alloc, &game, Side::Max, 1)?)
+}
+
+/// What the check says of the tables of the coin loop.
+fn check_coin_loop(question: &Question<'_>) -> Result<(), Fail>
+    requires { states question.now ≡ 3 }
+{
     for (table, wanted) in [
         ([HALF, ONE, 0], Ok(())),
         ([ONE, ONE, ONE], Ok(())),
@@ -47,54 +40,73 @@ fn a_coin_loop_is_held_to_one_half(rt: HostRuntime) -> Result<(), Fail> {
         ([HALF, ONE - 1, 0], Err(fault(1, UpperCause::Goal))),
         ([0, ONE, ONE + 1], Err(fault(2, UpperCause::OverOne))),
     ] {
-        check_table(alloc, coin_loop(alloc)?, Side::Max, table, wanted)?;
+        check_table(question, &table, wanted)?;
     }
     Ok(())
+}
+
+/// What the check says of a table.
+fn check_table(
+    question: &Question<'_>,
+    table: &[u64; 3],
+    wanted: Result<(), UpperFault>,
+) -> Result<(), Fail>
+    requires { states question.now ≡ 3 }
+{
+    let found = check_upper(question, table);
+    same(format_args!("{table:?}"), found, wanted)
 }
 
 #[test]
 fn the_minimiser_replies_with_the_sink(rt: HostRuntime) -> Result<(), Fail> {
     let alloc = rt.alloc();
+    let game = goal_or_sink(alloc)?;
+    check_sink(alloc, &question_of(alloc, &game, Side::Min, 1)?)
+}
+
+/// What the checks say where the minimiser chooses between goal and sink.
+fn check_sink(alloc: Global, question: &Question<'_>) -> Result<(), Fail>
+    requires { states question.now ≡ 3 }
+{
     let no_reply = Err(fault(0, UpperCause::NoReply));
-    check_table(
-        alloc,
-        goal_or_sink(alloc)?,
-        Side::Min,
-        [0, ONE, 1],
-        no_reply,
-    )?;
-    check_found(alloc, [0, ONE, 0], [Some(1), None, Some(0)])?;
+    check_table(question, &[0, ONE, 1], no_reply)?;
+    check_found(alloc, question, &[0, ONE, 0], &[Some(1), None, Some(0)])?;
     for (given, wanted) in [
         ([Some(1), None, Some(0)], Ok(())),
         ([Some(0), None, Some(0)], Err(fault(0, UpperCause::Reply))),
         ([Some(2), None, Some(0)], Err(fault(0, UpperCause::Reply))),
         ([Some(1), None, None], Err(fault(2, UpperCause::Reply))),
     ] {
-        check_given(alloc, [0, ONE, 0], given, wanted)?;
+        check_given(question, &[0, ONE, 0], &given, wanted)?;
     }
     Ok(())
 }
 
-/// The minimiser chooses between goal and sink: these replies are found for a table that passes the check.
-fn check_found(alloc: Global, upper: [u64; 3], wanted: [Option<u32>; 3]) -> Result<(), Fail> {
-    let game = goal_or_sink(alloc)?;
-    let question = question_of(alloc, &game, Side::Min, 1)?;
-    check_upper(&question, &upper)?;
-    let found = replies(alloc, &question, &upper)?;
+/// These replies are found for a table that passes the check.
+fn check_found(
+    alloc: Global,
+    question: &Question<'_>,
+    upper: &[u64; 3],
+    wanted: &[Option<u32>; 3],
+) -> Result<(), Fail>
+    requires { states question.now ≡ 3 }
+{
+    check_upper(question, upper)?;
+    let found = replies(alloc, question, upper)?;
     same("replies", found.as_slice(), wanted.as_slice())
 }
 
-/// There, this is what the check says of given replies to a table that passes its own.
+/// This is what the check says of given replies to a table that passes its own.
 fn check_given(
-    alloc: Global,
-    upper: [u64; 3],
-    given: [Option<u32>; 3],
+    question: &Question<'_>,
+    upper: &[u64; 3],
+    given: &[Option<u32>; 3],
     wanted: Result<(), UpperFault>,
-) -> Result<(), Fail> {
-    let game = goal_or_sink(alloc)?;
-    let question = question_of(alloc, &game, Side::Min, 1)?;
-    check_upper(&question, &upper)?;
-    let found = check_replies(&question, &upper, &given);
+) -> Result<(), Fail>
+    requires { states question.now ≡ 3 }
+{
+    check_upper(question, upper)?;
+    let found = check_replies(question, upper, given);
     same(format_args!("{given:?}"), found, wanted)
 }
 

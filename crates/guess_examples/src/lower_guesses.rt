@@ -33,13 +33,13 @@ fn plan_of(alloc: Global, question: &Question<'_>, values: &[u64]) -> Result<Ran
 fn check_plan(
     alloc: Global,
     question: &Question<'_>,
-    values: [u64; 4],
-    choices: [Option<u32>; 4],
-    ranks: [u32; 4],
+    values: &[u64; 4],
+    choices: &[Option<u32>; 4],
+    ranks: &[u32; 4],
 ) -> Result<(), Fail>
     requires { states question.now ≡ 4 }
 {
-    let plan = plan_of(alloc, question, &values)?;
+    let plan = plan_of(alloc, question, values)?;
     same(
         "choices and ranks",
         (plan.choices.as_slice(), plan.ranks.as_slice()),
@@ -47,24 +47,28 @@ fn check_plan(
     )
 }
 
+/// Values of a chain that have no plan.
+const WITHOUT_A_PLAN: &[[u64; 4]] = &[
+    [UNIT + 1, UNIT, UNIT, UNIT],
+    [UNIT, UNIT, UNIT, UNIT - 1],
+    [UNIT, UNIT, UNIT - 1, UNIT],
+];
+
 #[test]
 fn a_chain_has_a_layer_and_a_choice_for_each_state(rt: HostRuntime) -> Result<(), Fail> {
     let alloc = rt.alloc();
     let game = chain(alloc, 4)?;
-    let question = question_of(alloc, &game, Side::Max, 3)?;
-    check_plan(
-        alloc,
-        &question,
-        [UNIT; 4],
-        [Some(0), Some(0), Some(0), None],
-        [3, 2, 1, 0],
-    )?;
-    for values in [
-        [UNIT + 1, UNIT, UNIT, UNIT],
-        [UNIT, UNIT, UNIT, UNIT - 1],
-        [UNIT, UNIT, UNIT - 1, UNIT],
-    ] {
-        holds("no plan", rank_table(alloc, &question, &values)?.is_none())?;
+    check_chain(alloc, &question_of(alloc, &game, Side::Max, 3)?)
+}
+
+/// The plan of the chain, and the values that have none.
+fn check_chain(alloc: Global, question: &Question<'_>) -> Result<(), Fail>
+    requires { states question.now ≡ 4 }
+{
+    let choices = [Some(0), Some(0), Some(0), None];
+    check_plan(alloc, question, &[UNIT; 4], &choices, &[3, 2, 1, 0])?;
+    for values in WITHOUT_A_PLAN {
+        holds("no plan", rank_table(alloc, question, values)?.is_none())?;
     }
     Ok(())
 }
@@ -73,24 +77,31 @@ fn a_chain_has_a_layer_and_a_choice_for_each_state(rt: HostRuntime) -> Result<()
 fn the_first_choice_for_the_rank_is_taken(rt: HostRuntime) -> Result<(), Fail> {
     let alloc = rt.alloc();
     let game = four_states(alloc)?;
-    let question = question_of(alloc, &game, Side::Max, 2)?;
-    // State 0 falls short by its first choice, and state 1 gives 0.5 by its first and 0.2 by both.
-    for values in [
-        [650_000_000_000_000, HALF, UNIT, 0],
-        [FIFTH, FIFTH, UNIT, 0],
-    ] {
-        let choices = [Some(1), Some(0), None, None];
-        check_plan(alloc, &question, values, choices, [1, 1, 0, 0])?;
-    }
-    Ok(())
+    check_four_states(alloc, &question_of(alloc, &game, Side::Max, 2)?)
+}
+
+/// State 0 falls short by its first choice, and state 1 gives 0.5 by its first and 0.2 by both.
+fn check_four_states(alloc: Global, question: &Question<'_>) -> Result<(), Fail>
+    requires { states question.now ≡ 4 }
+{
+    let choices = [Some(1), Some(0), None, None];
+    let most = [650_000_000_000_000, HALF, UNIT, 0];
+    check_plan(alloc, question, &most, &choices, &[1, 1, 0, 0])?;
+    let least = [FIFTH, FIFTH, UNIT, 0];
+    check_plan(alloc, question, &least, &choices, &[1, 1, 0, 0])
 }
 
 /// The lower guess of this value of state 0, where the goal is state 1, has this value, and this choice at state 0.
-fn check_guess(alloc: Global, game: &Game, value: u64, wanted: u64, choice: u32) -> Result<(), Fail>
-    requires { length game.now ≡ 3 }
+fn check_guess(
+    alloc: Global,
+    question: &Question<'_>,
+    value: u64,
+    wanted: u64,
+    choice: u32,
+) -> Result<(), Fail>
+    requires { states question.now ≡ 3 }
 {
-    let question = question_of(alloc, game, Side::Max, 1)?;
-    let found = guess_of(alloc, &question, &[value, UNIT, 0])?;
+    let found = guess_of(alloc, question, &[value, UNIT, 0])?;
     same(
         value,
         (
@@ -115,20 +126,27 @@ fn guess_of(alloc: Global, question: &Question<'_>, base: &[u64]) -> Result<Lowe
     Ok(lower_guess(alloc, &*question, &zero, &*base, &plan.choices)?)
 }
 
-#[test]
-fn the_coin_loop_is_met_in_the_limit(rt: HostRuntime) -> Result<(), Fail> {
-    let alloc = rt.alloc();
-    let game = coin_loop(alloc)?;
-    // By 4 it falls to 3, to 1 and to 0 above one half; from far below by 4 at once.
-    for (value, want) in [(HALF - 1, HALF), (HALF, HALF), (0, 4), (HALF - 9, HALF - 5)] {
-        check_guess(alloc, &game, value, want, 0)?;
+/// The lower guesses of these values, where the maximiser chooses.
+fn check_guesses(alloc: Global, game: &Game, rows: &[(u64, u64)], choice: u32) -> Result<(), Fail>
+    requires { length game.now ≡ 3 }
+{
+    let question = question_of(alloc, game, Side::Max, 1)?;
+    for (value, wanted) in rows {
+        check_guess(alloc, &question, *value, *wanted, choice)?;
     }
     Ok(())
 }
 
 #[test]
+fn the_coin_loop_is_met_in_the_limit(rt: HostRuntime) -> Result<(), Fail> {
+    let alloc = rt.alloc();
+    // By 4 it falls to 3, to 1 and to 0 above one half; from far below by 4 at once.
+    let rows = [(HALF - 1, HALF), (HALF, HALF), (0, 4), (HALF - 9, HALF - 5)];
+    check_guesses(alloc, &coin_loop(alloc)?, &rows, 0)
+}
+
+#[test]
 fn a_loop_that_keeps_its_excess_has_no_rank(rt: HostRuntime) -> Result<(), Fail> {
     let alloc = rt.alloc();
-    let game = wait_or_coin(alloc)?;
-    check_guess(alloc, &game, HALF, HALF, 1)
+    check_guesses(alloc, &wait_or_coin(alloc)?, &[(HALF, HALF)], 1)
 }

@@ -253,9 +253,19 @@ fn agrees_over_quarters(
 fn agrees(alloc: Global, draw: &mut Draw, count: &mut Count) -> Result<(), Fail> {
     let game = random_game(alloc, draw, &EVEN).ok_or("no game")?;
     let question = random_question(alloc, draw, &game).ok_or("no question")?;
-    let zero = zero_set(alloc, &question)?;
-    agrees_over_sweeps(alloc, draw, &question, &zero, count)?;
-    agrees_over_quarters(alloc, draw, &question, &zero, count)
+    agrees_about(alloc, draw, &question, count)
+}
+
+// The same for a question.
+fn agrees_about(
+    alloc: Global,
+    draw: &mut Draw,
+    question: &Question<'_>,
+    count: &mut Count,
+) -> Result<(), Fail> {
+    let zero = zero_set(alloc, question)?;
+    agrees_over_sweeps(alloc, draw, question, &zero, count)?;
+    agrees_over_quarters(alloc, draw, question, &zero, count)
 }
 
 /// The games that are drawn.

@@ -74,8 +74,27 @@ fn suffice(question: &Question<'_>, state: u32, carrying: &[u32]) -> bool
     }
 }
 
-// The ranks with the next layer: of each state that is carried by the states before it. Of those of the maximiser the
-// first choice that does so is written down.
+// Whether a state is carried by those that have a rank. Of one of the maximiser the first choice that does so is
+// written down.
+fn is_carried(
+    alloc: Global,
+    question: &Question<'_>,
+    values: &[u64],
+    ranks: &[Option<u32>],
+    state: u32,
+    choices: &mut [Option<u32>],
+) -> Option<bool>
+    requires { state < states question.now }
+{
+    let carrying = carrying(alloc, question, values, ranks, state)?;
+    let suffices = suffice(question, state, &carrying);
+    if suffices && question.side(state) == Side::Max {
+        *choices.get_mut(state as usize)? = carrying.first().copied();
+    }
+    Some(suffices)
+}
+
+// The ranks with the next layer: of each state that is carried by the states before it.
 fn next_layer(
     alloc: Global,
     question: &Question<'_>,
@@ -87,14 +106,8 @@ fn next_layer(
     let mut next = Vec::new(alloc);
     for state in 0..question.game().states() {
         let mut rank = rank_of(ranks, state);
-        if rank.is_none() {
-            let carrying = carrying(alloc, question, values, ranks, state)?;
-            if suffice(question, state, &carrying) {
-                rank = Some(layer);
-                if question.side(state) == Side::Max {
-                    *choices.get_mut(state as usize)? = carrying.first().copied();
-                }
-            }
+        if rank.is_none() && is_carried(alloc, question, values, ranks, state, choices)? {
+            rank = Some(layer);
         }
         next.push(rank).ok()?;
     }

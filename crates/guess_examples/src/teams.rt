@@ -1,48 +1,21 @@
 //! Tables and guesses of several workers, beside those of one.
 
-ghost use Rattle.std.specs.Prelude.{◌≡◌, ◌≤◌, length, All, IfOk};
+ghost use Rattle.std.specs.Prelude.{◌≡◌, ◌≤◌, length, All};
 ghost use Rattle.game_model.specs.Limits.{most_states, unit};
 ghost use Rattle.drawn_game.specs.Limits.{least_states, most_seed};
-ghost use Rattle.game_model.specs.Dual.{IsZeroSet};
 ghost use Rattle.game_model.specs.Query.{states};
 
-use crate::counted::Counted;
+use crate::counted::guess_by;
 use bracket_engine::Team;
 use drawn_game::draw_game;
 use expectations::same;
-use game_model::{Game, Marks, Question, Side, UNIT};
+use game_model::{Game, Question, Side, UNIT};
 use sample_games::{chain, four_states, question_of};
-use std::alloc::{AllocError, Global};
+use std::alloc::Global;
 use std::test::Fail;
 use std::thread::Threads;
-use upper_guess::{Alone, UpTables, Witnesses, guess_with};
+use upper_guess::Alone;
 use zero_sets::zero_set;
-
-// A guess, and how many up steps it took.
-fn guess_by<M: UpTables>(
-    maker: &M,
-    alloc: Global,
-    question: &Question<'_>,
-    zero: &Marks,
-    lower: &[u64],
-) -> Result<(Vec<u64>, u64), Fail>
-    requires can { M.can_fill }
-    requires zero { IsZeroSet question.now zero.now }
-    requires many { length lower.now ≡ states question.now }
-    requires units { All (λ v. v ≤ unit) lower.now }
-{
-    question.known();
-    let counted = Counted::of(maker);
-    let guess = guess_with(
-        &counted,
-        alloc,
-        &*question,
-        &*zero,
-        &*lower,
-        &mut Witnesses::none(),
-    )?;
-    Ok((guess, counted.up_steps()))
-}
 
 // Teams of several sizes guess what one worker does, by as many up steps.
 fn teams_agree<R: Threads + Sync>(
@@ -93,18 +66,6 @@ fn teams_guess_what_one_worker_does(rt: HostRuntime) -> Result<(), Fail> {
     teams_agree_over(&rt, alloc, game, Side::Min, 2, &[0, 0, UNIT, 0])
 }
 
-// A table that is 0 everywhere.
-fn nothing(alloc: Global, count: u32) -> Result<Vec<u64>, AllocError>
-    ensures many { IfOk result (λ table. length table.items ≡ count) }
-    ensures units { IfOk result (λ table. All (λ v. v ≤ unit) table.items) }
-{
-    let mut table = Vec::new(alloc);
-    for _state in 0..count {
-        table.push(0)?;
-    }
-    Ok(table)
-}
-
 // They do so over the table that is 0 everywhere.
 fn teams_agree_from_nothing<R: Threads + Sync>(
     rt: &R,
@@ -112,7 +73,7 @@ fn teams_agree_from_nothing<R: Threads + Sync>(
     question: &Question<'_>,
 ) -> Result<(), Fail> {
     question.known();
-    let lower = nothing(alloc, question.game().states())?;
+    let lower = vec![in alloc; 0; question.game().states() as usize]?;
     teams_agree(rt, alloc, question, &lower)
 }
 

@@ -5,7 +5,7 @@ ghost use Rattle.game_model.specs.Limits.{unit};
 ghost use Rattle.game_model.specs.Query.{states};
 ghost use Rattle.bracket_engine.specs.Limits.{most_rounds};
 
-use crate::counted::Counted;
+use crate::counted::{Counted, guess_by};
 use bracket_engine::bracket_for;
 use expectations::{holds, same};
 use game_model::{Question, Side, UNIT};
@@ -47,16 +47,8 @@ fn up_steps<R: Threads + Sync>(
         1,
         &OpenGate {},
     )?;
-    let counted = Counted::of(&Alone {});
-    let _guess = guess_with(
-        &counted,
-        alloc,
-        &*question,
-        &found.zero,
-        &found.bracket.base,
-        &mut Witnesses::none(),
-    )?;
-    Ok(counted.up_steps())
+    let (_guess, steps) = guess_by(&Alone {}, alloc, question, &found.zero, &found.bracket.base)?;
+    Ok(steps)
 }
 
 // Compares the up steps of the guess over the base after so many rounds.
@@ -84,21 +76,33 @@ fn guesses_of_the_coin_loop_make_so_many_up_steps(rt: HostRuntime) -> Result<(),
     makes_up_steps(&rt, alloc, &question, 1_000, 2)
 }
 
-// The guess makes few up steps, after few rounds and after many.
-fn are_few<R: Threads + Sync>(
+// The guess makes few up steps after so many rounds.
+fn makes_few<R: Threads + Sync>(
     rt: &R,
     alloc: Global,
     name: &str,
     question: &Question<'_>,
+    rounds: u32,
+) -> Result<(), Fail>
+    requires { rounds ≤ most_rounds }
+{
+    let count = up_steps(rt, alloc, question, rounds)?;
+    holds(
+        format_args!("few: {name}, {count} after {rounds} rounds"),
+        count <= FEW,
+    )
+}
+
+// It does so after few rounds and after many.
+fn are_few<R: Threads + Sync>(
+    rt: &R,
+    alloc: Global,
+    name: &str,
+    question: Option<Question<'_>>,
 ) -> Result<(), Fail> {
-    for rounds in [3, 1_000] {
-        let count = up_steps(rt, alloc, question, rounds)?;
-        holds(
-            format_args!("few: {name}, {count} after {rounds} rounds"),
-            count <= FEW,
-        )?;
-    }
-    Ok(())
+    let question = question.ok_or("the question")?;
+    makes_few(rt, alloc, name, &question, 3)?;
+    makes_few(rt, alloc, name, &question, 1_000)
 }
 
 // The same of a structured model, for a player of either side.
@@ -109,25 +113,25 @@ fn are_few_of<R: Threads + Sync>(
     model: Option<Model>,
 ) -> Result<(), Fail> {
     let model = model.ok_or("the model")?;
-    for side in [Side::Max, Side::Min] {
-        let question = model.question(alloc, side).ok_or("the question")?;
-        are_few(rt, alloc, name, &question)?;
-    }
-    Ok(())
+    are_few(rt, alloc, name, model.question(alloc, Side::Max))?;
+    are_few(rt, alloc, name, model.question(alloc, Side::Min))
 }
 
 // The same of the coin loop.
 fn are_few_of_the_coin<R: Threads + Sync>(rt: &R, alloc: Global) -> Result<(), Fail> {
     let game = coin_game(alloc).ok_or("the game")?;
-    let question = coin_question(alloc, &game).ok_or("the question")?;
-    are_few(rt, alloc, "the coin loop", &question)
+    are_few(rt, alloc, "the coin loop", coin_question(alloc, &game))
 }
 
 // The same of the agreement protocol.
 fn are_few_of_the_agreement<R: Threads + Sync>(rt: &R, alloc: Global) -> Result<(), Fail> {
     let game = agreement_game(alloc).ok_or("the game")?;
-    let question = agreement_question(alloc, &game).ok_or("the question")?;
-    are_few(rt, alloc, "the agreement protocol", &question)
+    are_few(
+        rt,
+        alloc,
+        "the agreement protocol",
+        agreement_question(alloc, &game),
+    )
 }
 
 #[test]

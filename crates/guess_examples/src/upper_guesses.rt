@@ -6,27 +6,35 @@ ghost use Rattle.game_model.specs.Query.{states};
 
 use expectations::same;
 use game_model::{Question, Side, UNIT};
-use sample_games::{chain, coin_loop, four_states, question_of};
+use sample_games::{coin_loop, four_states, question_of};
 use std::alloc::Global;
+use std::fmt::Display;
 use std::test::Fail;
 use upper_guess::guess;
 use zero_sets::zero_set;
 
-/// The guess over this table.
-fn guess_of(alloc: Global, question: &Question<'_>, lower: &[u64]) -> Result<Vec<u64>, Fail>
-    requires many { length lower.now ≡ states question.now }
+/// The guess over this table is the one wanted.
+fn check_guess<D: Display + Drop>(
+    what: D,
+    alloc: Global,
+    question: Question<'_>,
+    lower: &[u64],
+    wanted: &[u64],
+) -> Result<(), Fail>
+    requires many { length lower.now ≡ states question }
     requires units { All (λ v. v ≤ unit) lower.now }
 {
-    let zero = zero_set(alloc, question)?;
-    Ok(guess(alloc, &*question, &zero, &*lower)?)
+    let zero = zero_set(alloc, &question)?;
+    let found = guess(alloc, &question, &zero, &*lower)?;
+    same(what, found.as_slice(), wanted)
 }
 
 /// The guess of the coin loop over this lower value of state 0, where the goal is state 1, has this value there.
 fn check_coin_loop(alloc: Global, value: u64, wanted: u64) -> Result<(), Fail> {
     let game = coin_loop(alloc)?;
     let question = question_of(alloc, &game, Side::Max, 1)?;
-    let found = guess_of(alloc, &question, &[value.min(UNIT), UNIT, 0])?;
-    same(value, found.as_slice(), [wanted, UNIT, 0].as_slice())
+    let lower = [value.min(UNIT), UNIT, 0];
+    check_guess(value, alloc, question, &lower, &[wanted, UNIT, 0])
 }
 
 #[test]
@@ -50,8 +58,7 @@ fn the_coin_loop(rt: HostRuntime) -> Result<(), Fail> {
 fn check_four_states(name: &str, alloc: Global, side: Side, wanted: &[u64]) -> Result<(), Fail> {
     let game = four_states(alloc)?;
     let question = question_of(alloc, &game, side, 2)?;
-    let found = guess_of(alloc, &question, &[0, 0, UNIT, 0])?;
-    same(name, found.as_slice(), wanted)
+    check_guess(name, alloc, question, &[0, 0, UNIT, 0], wanted)
 }
 
 #[test]
