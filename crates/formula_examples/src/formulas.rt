@@ -7,7 +7,7 @@ use std::alloc::Global;
 use std::test::Fail;
 
 // Formulas, each with its spelling.
-const SPELLED: [(&str, &str); 66] = [
+const SPELLED: &[(&str, &str)] = &[
     ("Pmax=? [ F \"goal\" ]", "Pmax=? [ F \"goal\" ]"),
     ("Pmin=?[F\"goal\"]", "Pmin=? [ F \"goal\" ]"),
     ("P>=0.5 [ F true ]", "P>=1/2 [ F true ]"),
@@ -197,7 +197,7 @@ const SPELLED: [(&str, &str); 66] = [
 ];
 
 // Formulas with a deadline, `X` or `G`, each with its spelling.
-const PATHS: [(&str, &str); 11] = [
+const PATHS: &[(&str, &str)] = &[
     ("Pmax=? [ F<=2 \"goal\" ]", "Pmax=? [ F<=2 \"goal\" ]"),
     ("Pmax=?[F<=007\"a\"]", "Pmax=? [ F<=7 \"a\" ]"),
     ("Pmin=? [ F <= 0 true ]", "Pmin=? [ F<=0 true ]"),
@@ -221,7 +221,7 @@ const PATHS: [(&str, &str); 11] = [
 ];
 
 // Formulas with formulas inside, each with its spelling.
-const INSIDE: [(&str, &str); 14] = [
+const INSIDE: &[(&str, &str)] = &[
     (
         "P>=0.5 [ F P>=0.5 [ F \"goal\" ] ]",
         "P>=1/2 [ F P>=1/2 [ F \"goal\" ] ]",
@@ -448,17 +448,17 @@ fn are_spelled(alloc: Global, rows: &[(&str, &str)]) -> Result<(), Fail> {
 
 #[test]
 fn formulas_are_read_printed_and_read_again(rt: HostRuntime) -> Result<(), Fail> {
-    are_spelled(rt.alloc(), SPELLED.as_slice())
+    are_spelled(rt.alloc(), SPELLED)
 }
 
 #[test]
 fn paths_are_read_printed_and_read_again(rt: HostRuntime) -> Result<(), Fail> {
-    are_spelled(rt.alloc(), PATHS.as_slice())
+    are_spelled(rt.alloc(), PATHS)
 }
 
 #[test]
 fn formulas_inside_are_read_printed_and_read_again(rt: HostRuntime) -> Result<(), Fail> {
-    are_spelled(rt.alloc(), INSIDE.as_slice())
+    are_spelled(rt.alloc(), INSIDE)
 }
 
 // The fault for which a text is refused, or nothing.

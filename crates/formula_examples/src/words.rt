@@ -6,7 +6,7 @@ use std::alloc::Global;
 use std::test::Fail;
 
 // Words that denote a command.
-const TAKEN: [&str; 29] = [
+const TAKEN: &[&str] = &[
     "check m.tra m.lab F",
     "check m.tra m.lab ",
     "check --plan --own m.own m.tra --rounds=0 m.lab --traps F --workers 64",
@@ -39,7 +39,7 @@ const TAKEN: [&str; 29] = [
 ];
 
 // Words that denote no command: no name is one, or `sure` does not take them.
-const UNNAMED: [&str; 15] = [
+const UNNAMED: &[&str] = &[
     "",
     "m.tra m.lab F",
     " m.tra m.lab F",
@@ -58,7 +58,7 @@ const UNNAMED: [&str; 15] = [
 ];
 
 // Words that are no `check`.
-const NO_CHECK: [&str; 32] = [
+const NO_CHECK: &[&str] = &[
     "check",
     "check m.tra m.lab",
     "check m.tra m.lab F m.cert",
@@ -94,7 +94,7 @@ const NO_CHECK: [&str; 32] = [
 ];
 
 // Words that are no `audit`.
-const NO_AUDIT: [&str; 17] = [
+const NO_AUDIT: &[&str] = &[
     "audit",
     "audit m.tra m.lab F",
     "audit m.tra m.lab F ",
@@ -115,7 +115,7 @@ const NO_AUDIT: [&str; 17] = [
 ];
 
 // Words that are no `solve`.
-const NO_SOLVE: [&str; 12] = [
+const NO_SOLVE: &[&str] = &[
     "solve",
     "solve m.tra m.lab",
     "solve m.tra m.lab F m.val",
@@ -131,7 +131,7 @@ const NO_SOLVE: [&str; 12] = [
 ];
 
 // Words that are no `make`.
-const NO_MAKE: [&str; 45] = [
+const NO_MAKE: &[&str] = &[
     "make",
     "make 1",
     "make 1 ",
@@ -208,18 +208,18 @@ fn are_taken(alloc: Global, lines: &[&str], wanted: bool) -> Result<(), Fail> {
 
 #[test]
 fn words_denote_a_command(rt: HostRuntime) -> Result<(), Fail> {
-    are_taken(rt.alloc(), TAKEN.as_slice(), true)
+    are_taken(rt.alloc(), TAKEN, true)
 }
 
 #[test]
 fn words_denote_no_command(rt: HostRuntime) -> Result<(), Fail> {
     let alloc = rt.alloc();
     same("no words", is_command(alloc, &[])?, false)?;
-    are_taken(alloc, UNNAMED.as_slice(), false)?;
-    are_taken(alloc, NO_CHECK.as_slice(), false)?;
-    are_taken(alloc, NO_AUDIT.as_slice(), false)?;
-    are_taken(alloc, NO_SOLVE.as_slice(), false)?;
-    are_taken(alloc, NO_MAKE.as_slice(), false)
+    are_taken(alloc, UNNAMED, false)?;
+    are_taken(alloc, NO_CHECK, false)?;
+    are_taken(alloc, NO_AUDIT, false)?;
+    are_taken(alloc, NO_SOLVE, false)?;
+    are_taken(alloc, NO_MAKE, false)
 }
 
 // The check that words ask for.

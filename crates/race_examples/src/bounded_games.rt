@@ -32,12 +32,7 @@ fn are_around(lower: u64, upper: u64, numerator: u128, one: u128, steps: u32) ->
     let high = u128::from(upper).checked_mul(one)?;
     let exact = u128::from(UNIT).checked_mul(numerator)?;
     let margin = u128::from(steps).checked_mul(one)?;
-    Some(
-        low <= exact
-            && exact <= high
-            && exact.checked_sub(low)? <= margin
-            && high.checked_sub(exact)? <= margin,
-    )
+    Some(low <= exact && exact <= high && exact - low <= margin && high - exact <= margin)
 }
 
 // The numerator of 1 among those of all states: that of a goal.

@@ -37,18 +37,18 @@ fn sweeps<P: Posing>(table: &ValueTable<'_, P>, mut pass: Pass<P>, count: u32) -
     pass
 }
 
-// Two threads with a pass each. It gives the final words, and the values that the met pass has read.
+// Two threads with a pass each. It gives the final words, and writes the values that the met pass has read.
 fn two_threads<P: Posing + Send + Sync, R: Threads + Sync>(
     rt: &R,
     alloc: Global,
     question: &Question<'_>,
-) -> Option<(Words, Vec<u64>)>
-    requires { question.now ≡ P.posed }
+    seen: &mut [u64],
+) -> Option<Words>
+    requires posed { question.now ≡ P.posed }
+    requires seen { length seen.old ≡ states P.posed }
 {
     let (table, mut pass) = ValueTable::<P>::start(alloc, question).ok()?;
-    question.known();
     let count = question.game().states();
-    let mut seen = vec![in alloc; 0u64; count as usize].ok()?;
     let other = table.split(&mut pass);
     let (mut pass, other) = join(
         rt,
@@ -62,16 +62,20 @@ fn two_threads<P: Posing + Send + Sync, R: Threads + Sync>(
         { sweeps(&table, other, count) },
     );
     table.meet(&mut pass, other);
-    table.read_into(&mut pass, seen.as_mut_slice());
-    let words = table.close(alloc, pass).ok()?;
-    Some((words, seen))
+    table.read_into(&mut pass, seen);
+    table.close(alloc, pass).ok()
+}
+
+// The value that was read at a state is not above the final one.
+fn is_read(state: usize, word: u64, value: u64) -> Result<(), Fail> {
+    holds(format_args!("read at {state}"), value_of(word) >= value)
 }
 
 // No value that was read is above the final one.
 fn are_read(words: &[u64], seen: &[u64]) -> Result<(), Fail> {
     same("entries", (words.len(), seen.len()), (12, 12))?;
     for (state, (word, value)) in words.iter().zip(seen.iter()).enumerate() {
-        holds(format_args!("read at {state}"), value_of(*word) >= *value)?;
+        is_read(state, *word, *value)?;
     }
     Ok(())
 }
@@ -86,43 +90,71 @@ fn are_reached(seen: &[u64]) -> Result<(), Fail> {
     )
 }
 
+// Two threads reach the values of the question.
+fn race_reaches_the_values<R: Threads + Sync>(
+    rt: &R,
+    alloc: Global,
+    question: &Question<'_>,
+) -> Result<(), Fail> {
+    question.known();
+    let mut seen = vec![in alloc; 0u64; question.game().states() as usize]?;
+    let words = two_threads::<Brand, _>(rt, alloc, question, &mut seen).ok_or("memory")?;
+    are_read(words.as_slice(), &seen)?;
+    are_reached(&seen)
+}
+
 #[test]
 fn two_threads_race_over_the_agreement_protocol(rt: HostRuntime) -> Result<(), Fail> {
     let alloc = rt.alloc();
     let game = agreement_game(alloc).ok_or("the game")?;
     let question = agreement_question(alloc, &game).ok_or("the question")?;
-    let (words, seen) = two_threads::<Brand, _>(&rt, alloc, &question).ok_or("memory")?;
-    are_read(words.as_slice(), &seen)?;
-    are_reached(&seen)
+    race_reaches_the_values(&rt, alloc, &question)
 }
 
-// So many rounds of two workers over all states. It gives the final words.
-fn rounds<P: Posing + Send + Sync, R: Threads + Sync>(
+// So many rounds of two workers over all states, from the opening on. It gives the final words.
+fn rounds_over<P: Posing + Send + Sync, R: Threads + Sync>(
+    rt: &R,
+    alloc: Global,
+    question: &Question<'_>,
+    predecessors: &Predecessors,
+    marks: &[bool],
+    more: &mut [bool],
+    count: u32,
+    gate: &HoldGate,
+) -> Option<Words>
+    requires posed { question.now ≡ P.posed }
+    requires predecessors { length predecessors.now ≡ states P.posed }
+    requires marks { length marks.now ≡ states P.posed }
+    requires more { length more.old ≡ states P.posed }
+{
+    let (table, pass) = ValueTable::<P>::start(alloc, question).ok()?;
+    let pass = repeat(rt, &table, predecessors, pass, marks, more, count, gate);
+    table.close(alloc, pass).ok()
+}
+
+// The same, with all states marked.
+fn rounds<R: Threads + Sync>(
     rt: &R,
     alloc: Global,
     question: &Question<'_>,
     count: u32,
     gate: &HoldGate,
-) -> Option<Words>
-    requires { question.now ≡ P.posed }
-{
+) -> Option<Words> {
     question.known();
-    let states = question.game().states();
+    let states = question.game().states() as usize;
     let predecessors = Predecessors::of_game(alloc, question.game()).ok()?;
-    let marks = vec![in alloc; true; states as usize].ok()?;
-    let mut more = vec![in alloc; false; states as usize].ok()?;
-    let (table, pass) = ValueTable::<P>::start(alloc, question).ok()?;
-    let pass = repeat(
+    let marks = vec![in alloc; true; states].ok()?;
+    let mut more = vec![in alloc; false; states].ok()?;
+    rounds_over::<Brand, _>(
         rt,
-        &table,
+        alloc,
+        question,
         &predecessors,
-        pass,
         &marks,
         &mut more,
         count,
         gate,
-    );
-    table.close(alloc, pass).ok()
+    )
 }
 
 fn repeat<P: Posing + Send + Sync, R: Threads + Sync>(
@@ -147,19 +179,33 @@ fn repeat<P: Posing + Send + Sync, R: Threads + Sync>(
     pass
 }
 
-// The values of the first states of twelve.
+// The values of the first states of the agreement protocol.
+const VALUES: &[u64] = &[
+    839_999_999_999_999,
+    699_999_999_999_999,
+    899_999_999_999_999,
+    919_999_999_999_999,
+];
+
+// The words of twelve states have these values.
 fn have_the_values(words: &[u64]) -> Result<(), Fail> {
     same("words", words.len(), 12)?;
-    let wanted = [
-        839_999_999_999_999,
-        699_999_999_999_999,
-        899_999_999_999_999,
-        919_999_999_999_999,
-    ];
-    for (state, (word, value)) in words.iter().zip(wanted.iter()).enumerate() {
+    for (state, (word, value)) in words.iter().zip(VALUES.iter()).enumerate() {
         same(state, value_of(*word), *value)?;
     }
     Ok(())
+}
+
+// Two workers of a question work at once, and reach its values.
+fn rounds_reach_the_values<R: Threads + Sync>(
+    rt: &R,
+    alloc: Global,
+    question: &Question<'_>,
+) -> Result<(), Fail> {
+    let gate = HoldGate::new();
+    let words = rounds(rt, alloc, question, 100, &gate).ok_or("memory")?;
+    holds("both work at once", !gate.gave_up())?;
+    have_the_values(words.as_slice())
 }
 
 #[test]
@@ -167,10 +213,7 @@ fn two_workers_work_at_once_and_reach_the_values(rt: HostRuntime) -> Result<(), 
     let alloc = rt.alloc();
     let game = agreement_game(alloc).ok_or("the game")?;
     let question = agreement_question(alloc, &game).ok_or("the question")?;
-    let gate = HoldGate::new();
-    let words = rounds::<Brand, _>(&rt, alloc, &question, 100, &gate).ok_or("memory")?;
-    holds("both work at once", !gate.gave_up())?;
-    have_the_values(words.as_slice())
+    rounds_reach_the_values(&rt, alloc, &question)
 }
 
 // How two workers share a game by edges.

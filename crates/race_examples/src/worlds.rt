@@ -3,8 +3,9 @@
 ghost use Rattle.std.specs.Prelude.{◌≡◌, length};
 
 use expectations::same;
-use game_model::UNIT;
+use game_model::{Question, UNIT};
 use sample_games::{coin_game, coin_question};
+use std::alloc::Global;
 use std::test::Fail;
 use step_core::{Event, Refused, World, pack};
 
@@ -59,12 +60,17 @@ fn takes_a_race(world: &mut World<'_>) -> Result<(), Fail> {
     )
 }
 
+// A world of a question takes both.
+fn takes_events(alloc: Global, question: &Question<'_>) -> Result<(), Fail> {
+    let mut world = World::start(alloc, question)?;
+    takes_an_exchange(&mut world)?;
+    takes_a_race(&mut world)
+}
+
 #[test]
 fn a_world_takes_lawful_events_and_refuses_others(rt: HostRuntime) -> Result<(), Fail> {
     let alloc = rt.alloc();
     let game = coin_game(alloc).ok_or("the game")?;
     let question = coin_question(alloc, &game).ok_or("the question")?;
-    let mut world = World::start(alloc, &question)?;
-    takes_an_exchange(&mut world)?;
-    takes_a_race(&mut world)
+    takes_events(alloc, &question)
 }
