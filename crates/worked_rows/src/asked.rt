@@ -8,8 +8,8 @@ use std::test::Fail;
 /// The name of the certificate's file.
 pub(crate) const CERTIFICATE: &str = "c";
 
-// The name of the file of values to begin with.
-const VALUES: &str = "v";
+/// The name of the file of values to begin with.
+pub(crate) const VALUES: &str = "v";
 
 // Adds the words that name the file of owners, where the row has one.
 fn add_owners(alloc: Global, owned: &mut Vec<String>, row: Row<'_>) -> Result<(), Fail> {
@@ -48,17 +48,6 @@ pub(crate) fn audit_words(alloc: Global, row: Row<'_>) -> Result<Vec<String>, Fa
     Ok(owned)
 }
 
-/// The files of a row, and that of a certificate.
-pub(crate) fn audit_files(
-    alloc: Global,
-    row: Row<'_>,
-    certificate: &str,
-) -> Result<Vec<HeldFile>, Fail> {
-    let mut held = files(alloc, row)?;
-    held.push(file(alloc, CERTIFICATE, certificate)?)?;
-    Ok(held)
-}
-
 /// The words that solve a row, from a file of values where there is one.
 pub(crate) fn solve_words(
     alloc: Global,
@@ -73,15 +62,16 @@ pub(crate) fn solve_words(
     Ok(owned)
 }
 
-/// The files of a row, and that of values where there is one.
-pub(crate) fn solve_files(
+/// The files of a row, and one of this name where there is a text for it.
+pub(crate) fn files_with(
     alloc: Global,
     row: Row<'_>,
-    values: Option<&str>,
+    name: &str,
+    text: Option<&str>,
 ) -> Result<Vec<HeldFile>, Fail> {
     let mut held = files(alloc, row)?;
-    if let Some(text) = values {
-        held.push(file(alloc, VALUES, text)?)?;
+    if let Some(text) = text {
+        held.push(file(alloc, name, text)?)?;
     }
     Ok(held)
 }

@@ -2,7 +2,9 @@
 
 ghost use Rattle.std.specs.Prelude.{◌<◌};
 
-use crate::asked::{audit_files, audit_words, check_words, solve_files, solve_words, sure_words};
+use crate::asked::{
+    CERTIFICATE, VALUES, audit_words, check_words, files_with, solve_words, sure_words,
+};
 use crate::checks::comes_to;
 use crate::rows::{Row, files, words};
 use game_outside::{HeldFile, MemShelf, MemSink, OpenGate};
@@ -63,8 +65,13 @@ impl<'a> Command<'a> {
     pub fn files(self, alloc: Global) -> Result<Vec<HeldFile>, Fail> {
         match self {
             Command::Check(row) | Command::Sure(row) => files(alloc, row),
-            Command::Audit(row, certificate) => audit_files(alloc, row, certificate),
-            Command::Solve(row, values) => solve_files(alloc, row, values),
+            Command::Audit(row, certificate) => files_with(
+                alloc,
+                row,
+                CERTIFICATE,
+                Some(certificate),
+            ),
+            Command::Solve(row, values) => files_with(alloc, row, VALUES, values),
             Command::Words(_) => Ok(Vec::new(alloc)),
         }
     }
