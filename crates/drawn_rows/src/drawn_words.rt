@@ -2,14 +2,14 @@
 
 use crate::plain_reading::{PlainWords, plain_words};
 use command_words::{AskedWords, AuditWords, CheckWords, CommandWords, SolveWords, read_words};
-use game_outside::{OpenGate, SteadyShelf, SteadySink};
+use game_outside::{OpenGate, SteadyShelf};
 use sample_games::Draw;
 use std::alloc::Global;
 use std::process::Abort;
 use std::test::Fail;
 use std::thread::Threads;
-use stogame_app::{Status, run};
-use worked_rows::coin_loop_files;
+use stogame_app::Status;
+use worked_rows::{coin_loop_files, ends};
 
 const REACH: &str = "Pmax=? [ F \"goal\" ]";
 
@@ -165,11 +165,8 @@ fn ends_with_usage<R: Threads + Sync + Abort>(
     words: &[String],
 ) -> Result<bool, Fail> {
     let mut shelf = SteadyShelf::new(coin_loop_files(alloc)?);
-    let mut out = SteadySink::new(alloc);
-    if out.reserve(1000).is_err() {
-        return Err(Fail::new("no memory"));
-    }
-    Ok(run(rt, alloc, words, &mut shelf, &mut out, &OpenGate {}) == Status::Usage)
+    let (ended, _) = ends(rt, alloc, words, &mut shelf, &OpenGate {})?;
+    Ok(ended == Status::Usage)
 }
 
 // Reads lists that are drawn around the words of a command in both ways. It gives how many of them denote a command.

@@ -4,12 +4,11 @@ ghost use Rattle.std.specs.Prelude.{None, false};
 
 use crate::commands::commands;
 use expectations::same;
-use game_outside::{Failed, OpenGate, Shelf, SteadyShelf, SteadySink};
+use game_outside::{Failed, OpenGate, Shelf, SteadyShelf};
 use std::alloc::Global;
 use std::test::Fail;
 use std::thread::Threads;
-use stogame_app::run;
-use worked_rows::Case;
+use worked_rows::{Case, ends};
 
 // A shelf that notes each name that it begins, with a space behind it.
 #[derive(Drop)]
@@ -70,8 +69,7 @@ fn begins<R: Threads + Sync>(
         taken: 0,
         faults: 0,
     };
-    let mut out = SteadySink::new(alloc);
-    let ended = run(rt, alloc, &words, &mut shelf, &mut out, &OpenGate {});
+    let (ended, _) = ends(rt, alloc, &words, &mut shelf, &OpenGate {})?;
     same(
         case.text,
         (ended, shelf.names.as_str()),
