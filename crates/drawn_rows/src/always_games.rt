@@ -5,6 +5,7 @@ use crate::drawn_models::{DrawnModel, MOST_STATES, draw_model};
 use game_model::{Game, Question, Side, UNIT};
 use game_outside::OpenGate;
 use reference_values::{Staying, bounds_of_staying};
+use rows_for_tests::{PrintedLine, Row, read_lines, runs};
 use sample_games::{Draw, none_of, question};
 use std::alloc::Global;
 use std::process::Abort;
@@ -13,7 +14,6 @@ use std::thread::Threads;
 use stogame_app::Status;
 use text_lines::MOST_BYTES;
 use tra_reader::read_tra;
-use worked_rows::{PrintedLine, Row, read_lines, runs};
 
 // At least as many rounds as steps are compared, and few enough that many bounds stay apart.
 const NUMBERS: &[&str] = &["--workers", "1", "--rounds", "6"];

@@ -3,13 +3,13 @@
 use crate::plain_reading::{PlainWords, plain_words};
 use command_words::{AskedWords, AuditWords, CheckWords, CommandWords, SolveWords, read_words};
 use game_outside::{OpenGate, SteadyShelf};
+use rows_for_tests::{coin_loop_files, ends};
 use sample_games::Draw;
 use std::alloc::Global;
 use std::process::Abort;
 use std::test::Fail;
 use std::thread::Threads;
 use stogame_app::Status;
-use worked_rows::{coin_loop_files, ends};
 
 const REACH: &str = "Pmax=? [ F \"goal\" ]";
 
@@ -179,7 +179,7 @@ fn read_drawn<R: Threads + Sync + Abort>(
     let mut commands = 0_u32;
     for _ in 0..2500 {
         let list = draw_list(alloc, draws, words)?;
-        let given = worked_rows::words(alloc, &list)?;
+        let given = rows_for_tests::words(alloc, &list)?;
         let plain = plain_words(alloc, &list)?;
         let read = read_words(alloc, &given)?;
         assert!(rt;

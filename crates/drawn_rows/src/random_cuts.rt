@@ -5,11 +5,11 @@ ghost use Rattle.std.specs.Prelude.{◌<◌};
 use crate::answers::{answer_in_pieces, answer_of_whole};
 use crate::drawn_texts::{ModelFile, damage, draw_text};
 use game_outside::MemShelf;
+use rows_for_tests::file_of_bytes;
 use sample_games::Draw;
 use std::alloc::Global;
 use std::process::Abort;
 use std::test::Fail;
-use worked_rows::file_of_bytes;
 
 const NAME: &str = "m";
 

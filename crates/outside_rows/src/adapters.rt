@@ -1,10 +1,10 @@
 //! The real files and the real writer, each once.
 
 use game_outside::{ReadEnd, read_all, write_all};
+use rows_for_tests::COIN_LOOP;
 use std::fs;
 use std::test::Fail;
 use system_files::{FileShelf, OutSink};
-use worked_rows::COIN_LOOP;
 
 #[test]
 fn a_file_is_read_whole(rt: HostRuntime) -> Result<(), Fail> {

@@ -2,12 +2,12 @@
 
 use expectations::{holds, same};
 use game_outside::{Gate, SteadyShelf};
+use rows_for_tests::{MOST_OF_AGREEMENT, Row, ends, runs, words};
 use std::alloc::Global;
 use std::sync::atomic::{AtomicU32, Ordering};
 use std::test::Fail;
 use std::thread::Threads;
 use stogame_app::Status;
-use worked_rows::{MOST_OF_AGREEMENT, Row, ends, runs, words};
 
 // Counts how often the last worker passes it, and how often workers behind that one do.
 #[derive(Drop)]

@@ -5,16 +5,16 @@ ghost use Rattle.std.specs.Prelude.{◌<◌, IfOk};
 use command_words::{CheckWords, CommandWords, SolveWords, read_words};
 use expectations::same;
 use formula_sets::is_flat;
-use rpatl_syntax::{Formula, PathKind, read_formula};
-use std::alloc::Global;
-use std::test::Fail;
-use stogame_app::Status;
-use worked_rows::{
+use rows_for_tests::{
     AUDIT_OF_LOOP_OR_COIN, AUDIT_OF_TWO_PLAYERS, CHECK_OF_AGREEMENT, CHECK_OF_COIN_LOOP,
     COIN_LOOP_OUT_OF_ORDER, COIN_LOOP_REPORT, Case, Command, DRAWN_GAME, FIRST_OF_TWO_PLAYERS,
     MOST_OF_AGREEMENT, MOST_OF_COIN_LOOP, MOST_OF_LOOP_OR_COIN, NO_COMMAND, OTHER_VERSION,
     PLAN_OF_LOOP_OR_COIN, PLAN_OF_TWO_PLAYERS, Row, STATE_OUT_OF_RANGE,
 };
+use rpatl_syntax::{Formula, PathKind, read_formula};
+use std::alloc::Global;
+use std::test::Fail;
+use stogame_app::Status;
 
 /// The cases of `COMMANDS`. To name so large a constant costs a proof as much as 140 s, so this function alone does.
 pub(crate) fn commands() -> &'static [(Case<'static>, &'static str)] {

@@ -2,14 +2,14 @@
 
 use crate::commands::commands;
 use expectations::same;
+use rows_for_tests::{
+    CHECK_OF_COIN_LOOP, COIN_LOOP_OUT_OF_ORDER, Case, DRAWN_GAME, Ended, NO_COMMAND, Outside, STEP,
+    ends_over,
+};
 use std::alloc::Global;
 use std::test::Fail;
 use std::thread::Threads;
 use stogame_app::Status;
-use worked_rows::{
-    CHECK_OF_COIN_LOOP, COIN_LOOP_OUT_OF_ORDER, Case, DRAWN_GAME, Ended, NO_COMMAND, Outside, STEP,
-    ends_over,
-};
 
 /// More calls than a command makes.
 const MOST_CALLS: u64 = 1000;

@@ -3,11 +3,11 @@
 use crate::workers::agrees;
 use expectations::{holds, same};
 use game_outside::LateGate;
+use rows_for_tests::{MOST_OF_AGREEMENT, Row, runs};
 use std::alloc::Global;
 use std::test::Fail;
 use std::thread::Threads;
 use stogame_app::Status;
-use worked_rows::{MOST_OF_AGREEMENT, Row, runs};
 
 // Of two workers the first has the states 0 to 3 of the agreement protocol, and the second the eight others.
 const OTHERS: u32 = 8;

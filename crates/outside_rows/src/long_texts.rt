@@ -6,15 +6,15 @@ use crate::pieces::gives_in_pieces;
 use expectations::{holds, same};
 use game_outside::{FileEnd, MemShelf};
 use label_reader::{read_labels_from, read_owners_from};
+use rows_for_tests::{
+    COIN_LOOP, COIN_LOOP_REPORT, Case, Command, FIRST_IS_TRUE, FIRST_OF_TWO_PLAYERS, GOAL_AT_1,
+    MOST_OF_COIN_LOOP, ONE_WORKER, Row, SECOND_OWNS_1, file, push_times,
+};
 use std::alloc::Global;
 use std::test::Fail;
 use std::thread::Threads;
 use stogame_app::Status;
 use tra_reader::read_tra_from;
-use worked_rows::{
-    COIN_LOOP, COIN_LOOP_REPORT, Case, Command, FIRST_IS_TRUE, FIRST_OF_TWO_PLAYERS, GOAL_AT_1,
-    MOST_OF_COIN_LOOP, ONE_WORKER, Row, SECOND_OWNS_1, file, push_times,
-};
 
 /// A line, and how often it stands.
 type Lines = &'static [(&'static str, u32)];

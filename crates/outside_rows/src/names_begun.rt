@@ -5,10 +5,10 @@ ghost use Rattle.std.specs.Prelude.{None, false};
 use crate::commands::commands;
 use expectations::same;
 use game_outside::{Failed, OpenGate, Shelf, SteadyShelf};
+use rows_for_tests::{Case, ends};
 use std::alloc::Global;
 use std::test::Fail;
 use std::thread::Threads;
-use worked_rows::{Case, ends};
 
 // A shelf that notes each name that it begins, with a space behind it.
 #[derive(Drop)]

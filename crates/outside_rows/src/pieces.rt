@@ -1,13 +1,13 @@
 //! Files in pieces of any size.
 
+use rows_for_tests::{
+    AUDIT_OF_TWO_PLAYERS, CHECK_OF_AGREEMENT, CHECK_OF_COIN_LOOP, Case, Command, MOST_OF_COIN_LOOP,
+    Outside, PLAN_OF_TWO_PLAYERS, Row, STATE_OUT_OF_RANGE, gives,
+};
 use std::alloc::Global;
 use std::test::Fail;
 use std::thread::Threads;
 use stogame_app::Status;
-use worked_rows::{
-    AUDIT_OF_TWO_PLAYERS, CHECK_OF_AGREEMENT, CHECK_OF_COIN_LOOP, Case, Command, MOST_OF_COIN_LOOP,
-    Outside, PLAN_OF_TWO_PLAYERS, Row, STATE_OUT_OF_RANGE, gives,
-};
 
 /// A chain in lines that end in CR and LF, with blank lines behind it.
 const CHAIN_IN_CRLF: Case<'static> = Case {

@@ -2,12 +2,12 @@
 
 use expectations::{holds, same};
 use game_outside::{Gate, HoldGate, OpenGate};
+use rows_for_tests::{COIN_LOOP_REPORT, MOST_OF_AGREEMENT, MOST_OF_COIN_LOOP, Row, runs, writes};
 use std::alloc::Global;
 use std::sync::atomic::{AtomicU32, Ordering};
 use std::test::Fail;
 use std::thread::Threads;
 use stogame_app::Status;
-use worked_rows::{COIN_LOOP_REPORT, MOST_OF_AGREEMENT, MOST_OF_COIN_LOOP, Row, runs, writes};
 
 /// What stands before the number of rounds in the agreement's line.
 const AGREED: &str = "state 0 lower 0.839999999999999 upper 0.840000000000000 rounds ";

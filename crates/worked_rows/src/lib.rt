@@ -1,21 +1,15 @@
 //! Worked examples of `stogame`, from the words and the files to the written text: each is a row of a test.
 //!
 //! A row names a model, a formula, the text that is written and the status. Expected values were worked out by hand or
-//! by a program apart from this one. The models of many rows, what runs a row and what reads the lines that it writes
-//! are public: the other tests of `run` take them from here.
+//! by a program apart from this one. What runs a row stands in `rows_for_tests`.
 #![tactic(auto)]
 
-mod asked;
 #[cfg(test)]
 mod audits;
-mod cases;
 #[cfg(test)]
 mod certificates;
-mod checks;
-mod coin_loop;
 #[cfg(test)]
 mod command_lines;
-mod commands;
 #[cfg(test)]
 mod formulas;
 #[cfg(test)]
@@ -26,7 +20,6 @@ mod labels;
 mod made;
 #[cfg(test)]
 mod many_choices;
-mod models;
 #[cfg(test)]
 mod nested;
 #[cfg(test)]
@@ -35,9 +28,6 @@ mod old_certificates;
 mod other_certificates;
 #[cfg(test)]
 mod paths;
-mod printed_lines;
-mod printed_plans;
-mod rows;
 #[cfg(test)]
 mod solve;
 #[cfg(test)]
@@ -50,16 +40,3 @@ mod thresholds;
 mod traps;
 #[cfg(test)]
 mod values;
-
-pub use cases::{
-    AUDIT_OF_LOOP_OR_COIN, AUDIT_OF_TWO_PLAYERS, CHECK_OF_AGREEMENT, CHECK_OF_COIN_LOOP,
-    COIN_LOOP_OUT_OF_ORDER, Case, DRAWN_GAME, MOST_OF_AGREEMENT, MOST_OF_COIN_LOOP, NO_COMMAND,
-    OTHER_VERSION, PLAN_OF_LOOP_OR_COIN, PLAN_OF_TWO_PLAYERS, STATE_OUT_OF_RANGE,
-};
-pub use checks::writes;
-pub use coin_loop::coin_loop_files;
-pub use commands::{Command, Ended, Outside, STEP, ends_over, gives};
-pub use models::{COIN_LOOP, COIN_LOOP_REPORT, FIRST_IS_TRUE, GOAL_AT_1, SECOND_OWNS_1};
-pub use printed_lines::{PrintedLine, read_lines};
-pub use printed_plans::{FIRST_OF_TWO_PLAYERS, MOST_OF_LOOP_OR_COIN};
-pub use rows::{ONE_WORKER, Row, ends, file, file_of_bytes, push_times, runs, words};

@@ -1,8 +1,7 @@
 //! Transition files that are refused.
 
-use crate::models::FORK;
 use crate::tables::{all_write, refuses};
-use crate::{Case, Command, MOST_OF_COIN_LOOP, Row};
+use rows_for_tests::{Case, Command, FORK, MOST_OF_COIN_LOOP, Row};
 use std::alloc::Global;
 use std::test::Fail;
 use std::thread::Threads;
