@@ -4,11 +4,11 @@ ghost use Rattle.std.specs.Prelude.{◌≡◌, IfOk, IfSome, OnErr, length, vec_
 ghost use Rattle.float_games.specs.Nodes.{nodes_of, nodes_in};
 ghost use Rattle.float_games.specs.Units.{AreInUnits};
 
+use crate::elimination::Factors;
+use crate::krylov::approach;
 use crate::limits::{ENOUGH, is_narrow, products_of};
-use band_elimination::Factors;
 use float_games::{Chain, FloatGame, bounded};
 use game_outside::OutOfMemory;
-use krylov_steps::approach;
 use std::alloc::Global;
 
 /// What a sweep may still change after an elimination.

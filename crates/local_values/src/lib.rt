@@ -1,6 +1,7 @@
 //! Values and a policy of a local game, found in floating point: sweeps while these come near fast, and then strategy
 //! iteration (Hoffman and Karp, On nonterminating stochastic games, 1966; Condon, The complexity of stochastic games,
-//! 1992) with sweeps between the evaluations of policies.
+//! 1992) with sweeps between the evaluations of policies. The chain of a policy is evaluated by elimination where its
+//! band is narrow (`elimination`), and else by steps in a Krylov space (`krylov`).
 //!
 //! [`solve`] finds both, from values and a policy to begin with. The policy of the maximiser is exchanged for gains
 //! alone. So where it leaves for sure at first, it goes on to do so: in a closed set gains are 0 on average. The
@@ -9,16 +10,20 @@
 //! [`refine`] makes values of a policy nearer once more, from what they miss, and [`expected_moves`] says how many
 //! moves a policy makes before it leaves.
 //!
-//! A policy is evaluated by elimination where its band is narrow, and else by steps in a Krylov space. Of values no
-//! more is promised than that they are from 0 to the unit where they are found: who hands them on tests what they are
-//! for. Each loop has its count.
+//! Of values no more is promised than that they are from 0 to the unit where they are found: who hands them on tests
+//! what they are for. Each loop has its count.
 #![tactic(auto)]
 
+mod elimination;
 mod evaluation;
 mod iteration;
+mod krylov;
 mod limits;
 mod pace;
 mod solving;
+mod vectors;
 
+pub use elimination::Factors;
 pub use evaluation::{expected_moves, refine};
+pub use krylov::approach;
 pub use solving::solve;

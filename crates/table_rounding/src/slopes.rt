@@ -181,9 +181,7 @@ fn try_cost(
     if !try_values(alloc, setting, &away, &other, planned, table, effort)? {
         return Ok(false);
     }
-    for (far, near) in away.iter_mut().zip(values) {
-        *far -= *near;
-    }
+    move_by(&mut away, values, -1.0);
     narrow(alloc, setting, values, &away, 1.0, &other, planned, table)?;
     Ok(true)
 }
@@ -193,10 +191,15 @@ fn between(alloc: Global, values: &[f64], away: &[f64], part: f64) -> Result<Vec
     ensures { IfOk result (λ list. vec_len list ≡ length values.now) }
 {
     let mut list = values.to_vec(alloc)?;
-    for (value, far) in list.iter_mut().zip(away) {
+    move_by(&mut list, away, part);
+    Ok(list)
+}
+
+/// Moves each value by a multiple of how far another one is.
+fn move_by(values: &mut [f64], away: &[f64], part: f64) {
+    for (value, far) in values.iter_mut().zip(away) {
         *value += part * *far;
     }
-    Ok(list)
 }
 
 /// Brings entries that hold, rounded from values that are moved all the way, nearer by halves.

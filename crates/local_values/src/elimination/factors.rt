@@ -4,7 +4,8 @@ ghost use Rattle.std.specs.Prelude.{◌≡◌, ◌+◌, ◌*◌, ◌^◌, ◌<�
 ghost use Rattle.std.specs.Float.{float_zero};
 ghost use Rattle.float_games.specs.Nodes.{nodes_in};
 
-use crate::elimination::{Shape, eliminate, row_of};
+use crate::elimination::band::{Shape, eliminate, row_of};
+use crate::vectors::product;
 use float_games::{Band, Chain};
 use game_outside::OutOfMemory;
 use std::alloc::Global;
@@ -20,7 +21,7 @@ pub struct Factors {
 }
 
 impl Factors {
-    ghost use Rattle.band_elimination.specs.Rows.{rows_of, LeavesNothing};
+    ghost use Rattle.local_values.specs.Rows.{rows_of, LeavesNothing};
 
     /// The factors of a chain whose edges stay in this band; others are left out. The only error is want of memory.
     pub fn of_chain(alloc: Global, chain: &Chain, band: Band) -> Result<Factors, OutOfMemory>
@@ -94,17 +95,12 @@ fn fill_row(back: usize, row: usize, chain: &Chain, target: &mut [f64])
     requires back { back < 2 ^ 32 }
     requires row { row < nodes_in chain.now }
 {
-    for (to, share) in chain.successors(row).iter().zip(chain.shares(row)) {
-        let shifted = *to as usize + back;
-        if row <= shifted {
-            if let Some(cell) = target.get_mut(shifted - row) {
-                *cell += *share;
-            }
+    let successors = chain.successors(row);
+    let shares = chain.shares(row);
+    for place in 0..successors.len() {
+        let shifted = successors[place] as usize + back;
+        if row <= shifted && shifted - row < target.len() {
+            target[shifted - row] += shares[place];
         }
     }
-}
-
-/// The sum of the products of two lists, entry by entry.
-fn product(factors: &[f64], values: &[f64]) -> f64 {
-    factors.iter().zip(values).map(|(a, b)| *a * *b).sum()
 }

@@ -1,59 +1,9 @@
-//! Lists of floats as vectors. Where lists differ in length, the rest of the longer one is left out.
+//! What a step does to the vectors.
 
 ghost use Rattle.std.specs.Float.{◌≤ᶠ◌, float_zero};
 ghost use Rattle.std.specs.Prelude.{◌≡◌, length};
 
-/// The sum of the products.
-pub(crate) fn product(a: &[f64], b: &[f64]) -> f64 {
-    a.iter().zip(b).map(|(x, y)| *x * *y).sum()
-}
-
-/// The sums of the squares of a vector, and of its products with another.
-pub(crate) fn square_and_product(a: &[f64], b: &[f64]) -> (f64, f64) {
-    a.iter()
-        .zip(b)
-        .fold((0.0, 0.0), |(square, product), (x, y)| {
-            (square + *x * *x, product + *x * *y)
-        })
-}
-
-/// The greatest size of an entry; infinite where one is no number.
-pub(crate) fn greatest(list: &[f64]) -> f64
-    ensures { float_zero ≤ᶠ result }
-{
-    let mut most = 0.0;
-    for x in list {
-        most = greater(most, *x);
-    }
-    most
-}
-
-/// The greater one of this and the size of an entry; infinite where that is no number.
-fn greater(most: f64, x: f64) -> f64
-    ensures { float_zero ≤ᶠ most → float_zero ≤ᶠ result }
-{
-    if x.abs() <= most {
-        most
-    } else if x.is_nan() {
-        f64::INFINITY
-    } else {
-        x.abs()
-    }
-}
-
-/// Adds a multiple of another vector.
-pub(crate) fn add_scaled(target: &mut [f64], factor: f64, other: &[f64]) {
-    for (x, y) in target.iter_mut().zip(other) {
-        *x += factor * *y;
-    }
-}
-
-/// Becomes another vector.
-pub(crate) fn copy(target: &mut [f64], other: &[f64]) {
-    for (x, y) in target.iter_mut().zip(other) {
-        *x = *y;
-    }
-}
+use crate::vectors::greater;
 
 /// What a step leaves: the greatest size of an entry, and the product with the shadow.
 #[derive(Clone, Copy)]

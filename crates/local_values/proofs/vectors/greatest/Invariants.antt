@@ -1,5 +1,5 @@
 use Rattle.std.specs.Float.{◌≤ᶠ◌, float_zero}
-use Rattle.krylov_steps.proofs.vectors.greatest.Given as goal
+use Rattle.local_values.proofs.vectors.greatest.Given as goal
 
 abbrev pub invariant-loop-x : goal.invariant-loop-x
 invariant-loop-x l = float_zero ≤ᶠ l.most

@@ -10,9 +10,8 @@
 //! number of nodes times how far edges lead back times how far they lead forth, and the room the number of nodes times
 //! both together. None of this is part of the contract; nothing is promised of values, but that one is 0 where the
 //! elimination left nothing that leaves its row.
-#![tactic(auto)]
 
-mod elimination;
+mod band;
 mod factors;
 
 pub use factors::Factors;

@@ -4,7 +4,8 @@ ghost use Rattle.std.specs.Float.{◌≤ᶠ◌, float_zero};
 ghost use Rattle.std.specs.Prelude.{◌≡◌, IfOk, length, vec_len};
 ghost use Rattle.float_games.specs.Nodes.{nodes_in};
 
-use crate::vectors::{add_scaled, advance, greatest, product, redirect, square_and_product};
+use crate::krylov::updates::{advance, redirect};
+use crate::vectors::{add_scaled, greatest, product, square_and_product};
 use float_games::Chain;
 use game_outside::OutOfMemory;
 use std::alloc::Global;
@@ -76,10 +77,31 @@ impl Work {
             return false;
         }
         let alpha = self.rho / along;
+        let omega = self.turn(chain, alpha);
+        let rho = self.advance(alpha, omega);
+        if !(self.left < most) || omega == 0.0 {
+            return false;
+        }
+        self.redirect(alpha, omega, rho);
+        true
+    }
+
+    /// The residual loses alpha times what a pass takes from the direction. Gives omega: by how much what a pass takes
+    /// from it goes its way.
+    fn turn(&mut self, chain: &Chain, alpha: f64) -> f64
+        requires { self.old.nodes ≡ nodes_in chain.now }
+        ensures { self.new.nodes ≡ self.old.nodes }
+    {
         add_scaled(&mut self.residual, -alpha, &self.moved);
         chain.taken_by_pass(&self.residual, &mut self.turned);
         let (size, same) = square_and_product(&self.turned, &self.residual);
-        let omega = if size > 0.0 { same / size } else { 0.0 };
+        if size > 0.0 { same / size } else { 0.0 }
+    }
+
+    /// Moves the values found, and gives the product of what is left with the shadow: the next rho.
+    fn advance(&mut self, alpha: f64, omega: f64) -> f64
+        ensures { self.new.nodes ≡ self.old.nodes }
+    {
         let left = advance(
             &mut self.found,
             &mut self.residual,
@@ -90,11 +112,15 @@ impl Work {
             omega,
         );
         self.left = left.greatest;
-        if !(self.left < most) || omega == 0.0 {
-            return false;
-        }
-        let beta = left.product / self.rho * (alpha / omega);
-        self.rho = left.product;
+        left.product
+    }
+
+    /// Finds the next direction.
+    fn redirect(&mut self, alpha: f64, omega: f64, rho: f64)
+        ensures { self.new.nodes ≡ self.old.nodes }
+    {
+        let beta = rho / self.rho * (alpha / omega);
+        self.rho = rho;
         redirect(
             &mut self.direction,
             &self.moved,
@@ -102,6 +128,5 @@ impl Work {
             omega,
             beta,
         );
-        true
     }
 }

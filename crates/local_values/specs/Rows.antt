@@ -1,7 +1,7 @@
 -- What contracts see of factors: how many rows there are, and which of them nothing leaves.
 use Rattle.std.specs.Prelude.{ℕ, slice_index_or}
 use Rattle.std.specs.Float.{◌<ᶠ◌, float_zero}
-use Rattle.band_elimination.specs.declared.factors.Factors.{Factors}
+use Rattle.local_values.specs.declared.elimination.factors.Factors.{Factors}
 
 -- the rows of factors, one for each node of their chain
 abbrev pub rows_of : Factors → ℕ

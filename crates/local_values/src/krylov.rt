@@ -7,10 +7,9 @@
 //!
 //! How near values come is promised by nothing. Where memory is wanting they stay as they were; where the steps go
 //! astray they stay so, too, or become the best that were seen.
-#![tactic(auto)]
 
 mod steps;
-mod vectors;
+mod updates;
 mod work;
 
 pub use steps::approach;

@@ -4,8 +4,8 @@ ghost use Rattle.std.specs.Float.{◌≤ᶠ◌, float_zero};
 ghost use Rattle.std.specs.Prelude.{◌≡◌, IfOk, OnErr, length};
 ghost use Rattle.float_games.specs.Nodes.{nodes_in};
 
-use crate::vectors::{add_scaled, copy};
-use crate::work::Work;
+use crate::krylov::work::Work;
+use crate::vectors::add_scaled;
 use float_games::Chain;
 use game_outside::OutOfMemory;
 use std::alloc::Global;
@@ -42,7 +42,7 @@ pub fn approach(
         }
         if count % LOOK == 0 && work.left < least {
             least = work.left;
-            copy(&mut best, &work.found);
+            best.copy_from_slice(&work.found);
         }
     }
     if work.left <= first {

@@ -1,5 +1,5 @@
 -- An infinite number is above 0.
-use Rattle.krylov_steps.proofs.vectors.greater.Goals as goal
+use Rattle.local_values.proofs.vectors.greater.Goals as goal
 
 pub returns-then-is_nan : goal.returns-then-is_nan
 unfolding lib.Ieee.of_bits lib.Ieee.le lib.Ieee.lt

@@ -2,6 +2,8 @@
 
 ghost use Rattle.std.specs.Prelude.{◌≡◌, ◌+◌, ◌*◌, ◌^◌, ◌<◌, ◌≤◌, length};
 
+use crate::vectors::add_scaled;
+
 /// The shape of a band: row `i` has the columns from `i - back` on, each at `column + back - i` in its row of `width`
 /// cells.
 #[derive(Clone, Copy)]
@@ -65,15 +67,6 @@ pub(crate) fn row_of(cells: &mut [f64], width: usize, row: usize, rows: usize) -
     &mut cells[begin..begin + width]
 }
 
-/// Adds a multiple of one row to another.
-fn add_scaled(target: &mut [f64], source: &[f64], factor: f64)
-    requires { length target.old ≡ length source.now }
-{
-    for (cell, other) in target.iter_mut().zip(source) {
-        *cell += factor * *other;
-    }
-}
-
 /// Takes all rows out, from the last to the first. What leaves each row, for rows before it or for good, is put in a
 /// list; behind the diagonal stands then by what factor a row was added to another.
 pub(crate) fn eliminate(shape: Shape, cells: &mut [f64], leaks: &mut [f64], outs: &mut [f64])
@@ -117,8 +110,8 @@ fn take_out(shape: Shape, cells: &mut [f64], leaks: &mut [f64], row: usize) -> f
         leaks[before] += factor * leaks[row];
         add_scaled(
             &mut target[start + distance..back + distance],
-            source,
             factor,
+            source,
         );
         target[back + distance] = factor;
     }
