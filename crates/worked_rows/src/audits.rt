@@ -1,14 +1,14 @@
 //! Certificates that are audited.
 
+use crate::printed_plans::MOST_OF_COIN_LOOP_WITH_PLAN;
 use crate::tables::{
     Answer, Audited, all_write, answers_write, audit_refuses, printed_are_audited,
 };
+use crate::{
+    Case, Command, FIRST_OF_TWO_PLAYERS, MOST_OF_COIN_LOOP, MOST_OF_LOOP_OR_COIN, Row, runs,
+};
 use expectations::same;
 use game_outside::OpenGate;
-use rows_for_tests::{
-    Case, Command, FIRST_OF_TWO_PLAYERS, MOST_OF_COIN_LOOP, MOST_OF_COIN_LOOP_WITH_PLAN,
-    MOST_OF_LOOP_OR_COIN, Row, runs,
-};
 use std::alloc::Global;
 use std::test::Fail;
 use std::thread::Threads;

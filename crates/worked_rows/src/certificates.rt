@@ -1,12 +1,10 @@
 //! Certificates, as they are printed.
 
+use crate::printed_plans::{LOOP_OR_COIN_PLAN, MOST_OF_COIN_LOOP_WITH_PLAN};
 use crate::tables::all_write;
+use crate::{Case, Command, PLAN_OF_LOOP_OR_COIN, PLAN_OF_TWO_PLAYERS};
 use expectations::same;
 use plan_text::{Plan, read_plan};
-use rows_for_tests::{
-    Case, Command, LOOP_OR_COIN_PLAN, MOST_OF_COIN_LOOP_WITH_PLAN, PLAN_OF_LOOP_OR_COIN,
-    PLAN_OF_TWO_PLAYERS,
-};
 use std::alloc::Global;
 use std::test::Fail;
 use stogame_app::Status;

@@ -1,7 +1,9 @@
 //! Words of the command line.
 
+use crate::checks::comes_to;
+use crate::models::USAGE;
+use crate::{COIN_LOOP_REPORT, coin_loop_files, ends, words};
 use game_outside::{OpenGate, SteadyShelf};
-use rows_for_tests::{COIN_LOOP_REPORT, USAGE, coin_loop_files, comes_to, ends, words};
 use std::alloc::Global;
 use std::test::Fail;
 use std::thread::Threads;

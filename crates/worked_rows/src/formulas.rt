@@ -1,7 +1,7 @@
 //! Formulas that are refused.
 
 use crate::tables::{Answer, answers_write, refuses};
-use rows_for_tests::{Command, MOST_OF_COIN_LOOP, push_times};
+use crate::{Command, MOST_OF_COIN_LOOP, push_times};
 use std::alloc::Global;
 use std::test::Fail;
 use std::thread::Threads;

@@ -1,7 +1,8 @@
 //! Label files, owner files and questions that are refused.
 
+use crate::models::{GOAL_AT_2, TWO_PLAYERS};
 use crate::tables::all_write;
-use rows_for_tests::{Case, Command, GOAL_AT_2, MOST_OF_COIN_LOOP, Row, TWO_PLAYERS};
+use crate::{Case, Command, MOST_OF_COIN_LOOP, Row};
 use std::test::Fail;
 use stogame_app::Status;
 

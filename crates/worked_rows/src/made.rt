@@ -1,9 +1,10 @@
 //! Games that a seed draws.
 
+use crate::models::{OF_THREE_STATES, USAGE};
 use crate::tables::all_write;
+use crate::{Case, Command, ends, words};
 use expectations::{holds, same};
 use game_outside::{Gate, HoldGate, OpenGate, SteadyShelf};
-use rows_for_tests::{Case, Command, OF_THREE_STATES, USAGE, ends, words};
 use std::alloc::Global;
 use std::sync::atomic::{AtomicU32, Ordering};
 use std::test::Fail;

@@ -1,6 +1,6 @@
 //! As many choices of a state as there may be, and one more.
 
-use rows_for_tests::{MOST_OF_COIN_LOOP, Row, push_times, writes};
+use crate::{MOST_OF_COIN_LOOP, Row, push_times, writes};
 use std::alloc::Global;
 use std::test::Fail;
 use std::thread::Threads;

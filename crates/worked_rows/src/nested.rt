@@ -1,9 +1,10 @@
 //! Formulas with others inside.
 
+use crate::checks::comes_to;
 use crate::tables::{Answer, all_write, answers_write};
+use crate::{Case, Command, MOST_OF_COIN_LOOP, Row, runs};
 use expectations::same;
 use game_outside::{Gate, HoldGate, OpenGate};
-use rows_for_tests::{Case, Command, MOST_OF_COIN_LOOP, Row, comes_to, runs};
 use std::alloc::Global;
 use std::test::Fail;
 use std::thread::Threads;

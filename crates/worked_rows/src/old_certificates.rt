@@ -1,9 +1,7 @@
 //! Certificates that the program wrote when its values had 12 decimals, as it wrote them: they mean what they meant.
 
 use crate::tables::all_write;
-use rows_for_tests::{
-    Case, Command, FIRST_OF_TWO_PLAYERS, MOST_OF_COIN_LOOP, MOST_OF_LOOP_OR_COIN,
-};
+use crate::{Case, Command, FIRST_OF_TWO_PLAYERS, MOST_OF_COIN_LOOP, MOST_OF_LOOP_OR_COIN};
 use std::test::Fail;
 use stogame_app::Status;
 

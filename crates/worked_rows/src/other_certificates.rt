@@ -1,10 +1,9 @@
 //! Certificates that were written for another formula or another model: each is refused, or is right there too.
 
+use crate::models::FORK;
+use crate::printed_plans::MOST_OF_COIN_LOOP_WITH_PLAN;
 use crate::tables::{Audited, all_write, printed_are_audited};
-use rows_for_tests::{
-    Case, Command, FIRST_OF_TWO_PLAYERS, FORK, MOST_OF_COIN_LOOP_WITH_PLAN, MOST_OF_LOOP_OR_COIN,
-    Row,
-};
+use crate::{Case, Command, FIRST_OF_TWO_PLAYERS, MOST_OF_LOOP_OR_COIN, Row};
 use std::test::Fail;
 use stogame_app::Status;
 

@@ -1,12 +1,13 @@
 //! Paths with a bound on the steps, the next step, and what always holds.
 
+use crate::checks::comes_to;
 use crate::tables::{Answer, Audited, all_write, answers_write, printed_are_audited};
 use crate::traps::{
     GOAL_AT_2, GOAL_AT_3, NO_ROUNDS, SECOND_OWNS_1, STAY_OR_COIN, TO_AND_FRO, TRAPS,
 };
+use crate::{Case, Command, MOST_OF_COIN_LOOP, Row, runs};
 use expectations::holds;
 use game_outside::{HoldGate, OpenGate};
-use rows_for_tests::{Case, Command, MOST_OF_COIN_LOOP, Row, comes_to, runs};
 use std::alloc::Global;
 use std::test::Fail;
 use std::thread::Threads;

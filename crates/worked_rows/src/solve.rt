@@ -1,10 +1,9 @@
 //! Bounds that a solver finds and the checks of an audit accept.
 
+use crate::models::{GOAL_AT_2, TWO_PLAYERS};
 use crate::tables::{Answer, Audited, all_write, answers_write, printed_are_audited};
 use crate::traps::{GOAL_AT_3, TO_AND_FRO};
-use rows_for_tests::{
-    COIN_LOOP, Case, Command, GOAL_AT_1, GOAL_AT_2, Row, SECOND_OWNS_1, TWO_PLAYERS,
-};
+use crate::{COIN_LOOP, Case, Command, GOAL_AT_1, Row, SECOND_OWNS_1};
 use std::test::Fail;
 use stogame_app::Status;
 

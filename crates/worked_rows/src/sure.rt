@@ -1,7 +1,8 @@
 //! The states from which the goal is reached almost surely.
 
+use crate::models::FORK;
 use crate::tables::all_write;
-use rows_for_tests::{Case, Command, FORK, MOST_OF_AGREEMENT, MOST_OF_COIN_LOOP, Row};
+use crate::{Case, Command, MOST_OF_AGREEMENT, MOST_OF_COIN_LOOP, Row};
 use std::test::Fail;
 use stogame_app::Status;
 

@@ -1,7 +1,8 @@
 //! Commands over a shelf and a sink that never fail, and tables of them: each writes what stands beside it.
 
+use crate::checks::comes_to;
+use crate::{Case, Command, Row, ends, writes};
 use game_outside::{OpenGate, SteadyShelf};
-use rows_for_tests::{Case, Command, Row, comes_to, ends, writes};
 use std::alloc::Global;
 use std::str::from_utf8;
 use std::test::Fail;

@@ -1,12 +1,13 @@
 //! Thresholds, and what the bounds say of them.
 
+use crate::models::{GOAL_AT_2, TWO_PLAYERS};
 use crate::tables::{Answer, all_write, answers_write};
+use crate::{
+    COIN_LOOP, Case, Command, MOST_OF_AGREEMENT, MOST_OF_COIN_LOOP, ONE_WORKER, Row, SECOND_OWNS_1,
+    runs,
+};
 use expectations::{holds, same};
 use game_outside::OpenGate;
-use rows_for_tests::{
-    COIN_LOOP, Case, Command, GOAL_AT_2, MOST_OF_AGREEMENT, MOST_OF_COIN_LOOP, ONE_WORKER, Row,
-    SECOND_OWNS_1, TWO_PLAYERS, runs,
-};
 use std::alloc::Global;
 use std::test::Fail;
 use std::thread::Threads;

@@ -1,7 +1,7 @@
 //! Upper tables that are lowered to the best exits of traps.
 
 use crate::tables::{Audited, all_write, printed_are_audited};
-use rows_for_tests::{COIN_LOOP, Case, Command, GOAL_AT_1, Row};
+use crate::{COIN_LOOP, Case, Command, GOAL_AT_1, Row};
 use std::test::Fail;
 use stogame_app::Status;
 

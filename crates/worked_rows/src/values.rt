@@ -1,9 +1,10 @@
 //! Values of models.
 
+use crate::models::{FORK, GOAL_AT_2, TWO_PLAYERS};
 use crate::tables::all_write;
-use rows_for_tests::{
-    COIN_LOOP_REPORT, Case, Command, FORK, GOAL_AT_2, MOST_OF_AGREEMENT, MOST_OF_COIN_LOOP,
-    ONE_WORKER, Row, SECOND_OWNS_1, TWO_PLAYERS,
+use crate::{
+    COIN_LOOP_REPORT, Case, Command, MOST_OF_AGREEMENT, MOST_OF_COIN_LOOP, ONE_WORKER, Row,
+    SECOND_OWNS_1,
 };
 use std::test::Fail;
 use stogame_app::Status;

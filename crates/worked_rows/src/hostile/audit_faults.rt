@@ -1,11 +1,11 @@
 //! Certificates that are refused: the faults of their texts, and of what they say.
 
+use crate::asked::audit_words;
+use crate::checks::comes_to;
+use crate::rows::files;
 use crate::tables::{audit_refuses, prints};
+use crate::{Command, FIRST_OF_TWO_PLAYERS, MOST_OF_COIN_LOOP, MOST_OF_LOOP_OR_COIN, Row, ends};
 use game_outside::{MemShelf, OpenGate};
-use rows_for_tests::{
-    Command, FIRST_OF_TWO_PLAYERS, MOST_OF_COIN_LOOP, MOST_OF_LOOP_OR_COIN, Row, audit_words,
-    comes_to, ends, files,
-};
 use std::alloc::Global;
 use std::test::Fail;
 use std::thread::Threads;

@@ -2,15 +2,17 @@
 
 ghost use Rattle.std.specs.Prelude.{◌<◌};
 
+use crate::asked::CERTIFICATE;
+use crate::checks::comes_to;
 use crate::hostile::with_file;
+use crate::models::{AGREEMENT, AGREEMENT_LABELS, AGREEMENT_OWNERS, GOAL_AT_2, TWO_PLAYERS};
+use crate::printed_plans::TWO_PLAYERS_PLAN;
+use crate::{
+    AUDIT_OF_TWO_PLAYERS, COIN_LOOP, COIN_LOOP_REPORT, Command, FIRST_OF_TWO_PLAYERS, GOAL_AT_1,
+    MOST_OF_AGREEMENT, MOST_OF_COIN_LOOP, Row, SECOND_OWNS_1, ends, file_of_bytes,
+};
 use expectations::{holds, same};
 use game_outside::{MemShelf, OpenGate};
-use rows_for_tests::{
-    AGREEMENT, AGREEMENT_LABELS, AGREEMENT_OWNERS, AUDIT_OF_TWO_PLAYERS, CERTIFICATE, COIN_LOOP,
-    COIN_LOOP_REPORT, Command, FIRST_OF_TWO_PLAYERS, GOAL_AT_1, GOAL_AT_2, MOST_OF_AGREEMENT,
-    MOST_OF_COIN_LOOP, Row, SECOND_OWNS_1, TWO_PLAYERS, TWO_PLAYERS_PLAN, comes_to, ends,
-    file_of_bytes,
-};
 use std::alloc::Global;
 use std::test::Fail;
 use std::thread::Threads;

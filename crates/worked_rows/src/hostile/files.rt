@@ -1,12 +1,15 @@
 //! Files that no tool writes: each is refused with its line.
 
+use crate::asked::check_words;
+use crate::checks::comes_to;
 use crate::hostile::with_file;
+use crate::rows::files;
 use crate::tables::{audit_refuses, refuses};
-use game_outside::{OpenGate, SteadyShelf};
-use rows_for_tests::{
+use crate::{
     COIN_LOOP_REPORT, FIRST_IS_TRUE, FIRST_OF_TWO_PLAYERS, MOST_OF_COIN_LOOP, MOST_OF_LOOP_OR_COIN,
-    ONE_WORKER, Row, check_words, comes_to, ends, file_of_bytes, files, push_times, writes,
+    ONE_WORKER, Row, ends, file_of_bytes, push_times, writes,
 };
+use game_outside::{OpenGate, SteadyShelf};
 use std::alloc::Global;
 use std::test::Fail;
 use std::thread::Threads;

@@ -1,7 +1,8 @@
 //! Transition files that are refused.
 
+use crate::models::FORK;
 use crate::tables::{all_write, refuses};
-use rows_for_tests::{Case, Command, FORK, MOST_OF_COIN_LOOP, Row};
+use crate::{Case, Command, MOST_OF_COIN_LOOP, Row};
 use std::alloc::Global;
 use std::test::Fail;
 use std::thread::Threads;

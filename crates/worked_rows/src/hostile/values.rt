@@ -1,7 +1,7 @@
 //! Files of values that no solver writes: each is refused with its line, or changes no answer.
 
 use crate::tables::prints;
-use rows_for_tests::{Command, MOST_OF_COIN_LOOP, Row};
+use crate::{Command, MOST_OF_COIN_LOOP, Row};
 use std::alloc::Global;
 use std::test::Fail;
 use std::thread::Threads;

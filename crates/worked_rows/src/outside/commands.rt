@@ -2,15 +2,15 @@
 
 ghost use Rattle.std.specs.Prelude.{◌<◌, IfOk};
 
-use command_words::{CheckWords, CommandWords, SolveWords, read_words};
-use expectations::same;
-use formula_sets::is_flat;
-use rows_for_tests::{
+use crate::{
     AUDIT_OF_LOOP_OR_COIN, AUDIT_OF_TWO_PLAYERS, CHECK_OF_AGREEMENT, CHECK_OF_COIN_LOOP,
     COIN_LOOP_OUT_OF_ORDER, COIN_LOOP_REPORT, Case, Command, DRAWN_GAME, FIRST_OF_TWO_PLAYERS,
     MOST_OF_AGREEMENT, MOST_OF_COIN_LOOP, MOST_OF_LOOP_OR_COIN, NO_COMMAND, OTHER_VERSION,
     PLAN_OF_LOOP_OR_COIN, PLAN_OF_TWO_PLAYERS, Row, STATE_OUT_OF_RANGE,
 };
+use command_words::{CheckWords, CommandWords, SolveWords, read_words};
+use expectations::same;
+use formula_sets::is_flat;
 use rpatl_syntax::{Formula, PathKind, read_formula};
 use std::alloc::Global;
 use std::test::Fail;

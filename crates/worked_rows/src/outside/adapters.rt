@@ -1,7 +1,7 @@
 //! The real files and the real writer, each once.
 
+use crate::COIN_LOOP;
 use game_outside::{ReadEnd, read_all, write_all};
-use rows_for_tests::COIN_LOOP;
 use std::fs;
 use std::test::Fail;
 use system_files::{FileShelf, OutSink};

@@ -2,14 +2,14 @@
 
 ghost use Rattle.std.specs.Prelude.{◌<◌};
 
-use crate::pieces::gives_in_pieces;
-use expectations::{holds, same};
-use game_outside::{FileEnd, MemShelf};
-use label_reader::{read_labels_from, read_owners_from};
-use rows_for_tests::{
+use crate::outside::pieces::gives_in_pieces;
+use crate::{
     COIN_LOOP, COIN_LOOP_REPORT, Case, Command, FIRST_IS_TRUE, FIRST_OF_TWO_PLAYERS, GOAL_AT_1,
     MOST_OF_COIN_LOOP, ONE_WORKER, Row, SECOND_OWNS_1, file, push_times,
 };
+use expectations::{holds, same};
+use game_outside::{FileEnd, MemShelf};
+use label_reader::{read_labels_from, read_owners_from};
 use std::alloc::Global;
 use std::test::Fail;
 use std::thread::Threads;

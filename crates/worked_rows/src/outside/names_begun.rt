@@ -2,10 +2,10 @@
 
 ghost use Rattle.std.specs.Prelude.{None, false};
 
-use crate::commands::commands;
+use crate::outside::commands::commands;
+use crate::{Case, ends};
 use expectations::same;
 use game_outside::{Failed, OpenGate, Shelf, SteadyShelf};
-use rows_for_tests::{Case, ends};
 use std::alloc::Global;
 use std::test::Fail;
 use std::thread::Threads;

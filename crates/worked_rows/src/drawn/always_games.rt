@@ -1,14 +1,15 @@
 //! What always holds, over random games of two players: the printed bounds of `G` are 1 less those of its dual,
 //! exchanged, and lie around 1 less the dual's k-step values.
 
-use crate::drawn_models::{DrawnModel, MOST_STATES, draw_model};
+use crate::drawn::models::{DrawnModel, MOST_STATES, draw_model};
+use crate::drawn::texts::one_of;
+use crate::{PrintedLine, Row, read_lines, runs};
+use expectations::{holds, same};
 use game_model::{Game, Question, Side, UNIT};
 use game_outside::OpenGate;
 use reference_values::{Staying, bounds_of_staying};
-use rows_for_tests::{PrintedLine, Row, read_lines, runs};
 use sample_games::{Draw, none_of, question};
 use std::alloc::Global;
-use std::process::Abort;
 use std::test::Fail;
 use std::thread::Threads;
 use stogame_app::Status;
@@ -18,98 +19,39 @@ use tra_reader::read_tra;
 // At least as many rounds as steps are compared, and few enough that many bounds stay apart.
 const NUMBERS: &[&str] = &["--workers", "1", "--rounds", "6"];
 
-// A bound of `G`, and the same bound as one of the dual, whose value is that of leaving the states with the label.
-#[derive(Clone, Copy)]
-struct Asked {
-    always: &'static str,
-    dual: &'static str,
-    // The side of a coalition in the dual.
-    coalition: Side,
-    // The side of all states in the dual where no coalition is named.
-    alone: Side,
-}
+// A bound of `G`, the same bound as one of the dual, whose value is that of leaving the states with the label, the side
+// of a coalition in the dual, and the side of all states in the dual where no coalition is named.
+type Asked = (&'static str, &'static str, Side, Side);
 
-const ASKED: [Asked; 6] = [
-    Asked {
-        always: "Pmax=?",
-        dual: "Pmin=?",
-        coalition: Side::Min,
-        alone: Side::Min,
-    },
-    Asked {
-        always: "Pmin=?",
-        dual: "Pmax=?",
-        coalition: Side::Max,
-        alone: Side::Max,
-    },
-    Asked {
-        always: "P>=1/2",
-        dual: "P<=1/2",
-        coalition: Side::Min,
-        alone: Side::Max,
-    },
-    Asked {
-        always: "P>1/3",
-        dual: "P<2/3",
-        coalition: Side::Min,
-        alone: Side::Max,
-    },
-    Asked {
-        always: "P<=0.9",
-        dual: "P>=0.1",
-        coalition: Side::Max,
-        alone: Side::Min,
-    },
-    Asked {
-        always: "P<3/4",
-        dual: "P>1/4",
-        coalition: Side::Max,
-        alone: Side::Min,
-    },
+const ASKED: &[Asked] = &[
+    ("Pmax=?", "Pmin=?", Side::Min, Side::Min),
+    ("Pmin=?", "Pmax=?", Side::Max, Side::Max),
+    ("P>=1/2", "P<=1/2", Side::Min, Side::Max),
+    ("P>1/3", "P<2/3", Side::Min, Side::Max),
+    ("P<=0.9", "P>=0.1", Side::Max, Side::Min),
+    ("P<3/4", "P>1/4", Side::Max, Side::Min),
 ];
 
 // A coalition as it is spelled, and whether the first player and the second one are in it; no coalition where neither
 // is said.
-#[derive(Clone, Copy)]
-struct Coalition {
-    text: &'static str,
-    members: Option<(bool, bool)>,
-}
+type Coalition = (&'static str, Option<(bool, bool)>);
 
-const COALITIONS: [Coalition; 5] = [
-    Coalition {
-        text: "",
-        members: None,
-    },
-    Coalition {
-        text: "<<p1>> ",
-        members: Some((true, false)),
-    },
-    Coalition {
-        text: "<<p2>> ",
-        members: Some((false, true)),
-    },
-    Coalition {
-        text: "<<p1,p2>> ",
-        members: Some((true, true)),
-    },
-    Coalition {
-        text: "<<>> ",
-        members: Some((false, false)),
-    },
+const COALITIONS: &[Coalition] = &[
+    ("", None),
+    ("<<p1>> ", Some((true, false))),
+    ("<<p2>> ", Some((false, true))),
+    ("<<p1,p2>> ", Some((true, true))),
+    ("<<>> ", Some((false, false))),
 ];
 
 // Who chooses in the dual at a state of this owner.
 fn side_of(asked: Asked, coalition: Coalition, is_second: bool) -> Side {
-    match coalition.members {
-        None => asked.alone,
+    let (_, _, side, alone) = asked;
+    match coalition.1 {
+        None => alone,
         Some((first, second)) => {
             let is_member = if is_second { second } else { first };
-            if is_member {
-                asked.coalition
-            } else {
-                asked.coalition.other()
-            }
+            if is_member { side } else { side.other() }
         }
     }
 }
@@ -134,7 +76,7 @@ fn dual_question<'g>(
 }
 
 // What `check` writes of a model, and how it ends.
-fn check_writes<R: Threads + Sync + Abort>(
+fn check_writes<R: Threads + Sync>(
     rt: &R,
     alloc: Global,
     model: &DrawnModel,
@@ -193,43 +135,63 @@ fn all_lie_around(
     Some(all)
 }
 
-// Compares what is written of `G` and of its dual. It gives how many lines have bounds that differ.
-fn compare<R: Threads + Sync + Abort>(
-    rt: &R,
+// Compares lines that are written of a formula with what steps say of the plain question.
+fn compare_steps(
     alloc: Global,
-    model: &DrawnModel,
-    game: &Game,
-    asked: Asked,
-    coalition: Coalition,
-) -> Result<usize, Fail> {
-    let always = format!(in alloc; "{}{} [ G \"a\" ]", coalition.text, asked.always)?;
-    let dual = format!(in alloc; "{}{} [ F !\"a\" ]", coalition.text, asked.dual)?;
-    let (ended, text) = check_writes(rt, alloc, model, always.as_str())?;
-    let (dual_ended, dual_text) = check_writes(rt, alloc, model, dual.as_str())?;
-    let lines = read_lines(alloc, &text)?;
-    let dual_lines = read_lines(alloc, &dual_text)?;
-    assert!(rt; ended == dual_ended, "{always} gives {ended:?}");
-    assert!(rt; are_mirrored(&lines, &dual_lines), "{always}");
-    let plain = dual_question(alloc, model, game, asked, coalition).ok_or("no plain question")?;
-    let is_value = asked.always.ends_with("=?");
+    always: &str,
+    lines: &[PrintedLine<'_>],
+    plain: &Question,
+) -> Result<(), Fail> {
+    let is_value = always.contains("=?");
     for steps in 0..=MOST_STATES {
-        let staying = bounds_of_staying(alloc, &plain, steps).ok_or("no values")?;
-        let lie = all_lie_around(&lines, &staying, steps, is_value).ok_or("no products")?;
-        assert!(rt; lie, "{always} after {steps} steps");
+        let staying = bounds_of_staying(alloc, plain, steps).ok_or("no values")?;
+        let lie = all_lie_around(lines, &staying, steps, is_value).ok_or("no products")?;
+        holds(format_args!("{always} lies around {steps} steps"), lie)?;
     }
+    Ok(())
+}
+
+// Compares the texts that are written of a formula and of its dual. It gives how many lines have bounds that differ.
+fn compare_texts(
+    alloc: Global,
+    always: &str,
+    text: &[u8],
+    dual_text: &[u8],
+    plain: &Question,
+) -> Result<usize, Fail> {
+    let lines = read_lines(alloc, text)?;
+    let dual_lines = read_lines(alloc, dual_text)?;
+    holds(
+        format_args!("{always} is mirrored"),
+        are_mirrored(&lines, &dual_lines),
+    )?;
+    compare_steps(alloc, always, &lines, plain)?;
     Ok(lines.iter().filter(|line| line.lower < line.upper).count())
 }
 
-// Compares what is written of a model, a coalition and a bound that are drawn. It gives how many lines have bounds that
-// differ.
-fn compare_drawn<R: Threads + Sync + Abort>(
+// Compares what is written of `G` and of its dual. It gives how many lines have bounds that differ.
+fn compare<R: Threads + Sync>(
     rt: &R,
     alloc: Global,
-    draws: &mut Draw,
+    model: &DrawnModel,
+    always: &str,
+    dual: &str,
+    plain: &Question,
 ) -> Result<usize, Fail> {
-    let model = draw_model(alloc, draws)?;
-    let coalition = COALITIONS[draws.below(COALITIONS.len())];
-    let asked = ASKED[draws.below(ASKED.len())];
+    let (ended, text) = check_writes(rt, alloc, model, always)?;
+    let (dual_ended, dual_text) = check_writes(rt, alloc, model, dual)?;
+    same(always, ended, dual_ended)?;
+    compare_texts(alloc, always, &text, &dual_text, plain)
+}
+
+// Asks the same bound of a model in both ways.
+fn ask<R: Threads + Sync>(
+    rt: &R,
+    alloc: Global,
+    model: &DrawnModel,
+    asked: Asked,
+    coalition: Coalition,
+) -> Result<usize, Fail> {
     let text = model.tra.as_bytes();
     if text.len() > MOST_BYTES {
         return Err(Fail::new("the text is too long"));
@@ -237,17 +199,34 @@ fn compare_drawn<R: Threads + Sync + Abort>(
     let Ok(game) = read_tra(alloc, text) else {
         return Err(Fail::new("the transitions are refused"));
     };
-    compare(rt, alloc, &model, &game, asked, coalition)
+    let plain = dual_question(alloc, model, &game, asked, coalition).ok_or("no plain question")?;
+    let always = format!(in alloc; "{}{} [ G \"a\" ]", coalition.0, asked.0)?;
+    let dual = format!(in alloc; "{}{} [ F !\"a\" ]", coalition.0, asked.1)?;
+    compare(rt, alloc, model, &always, &dual, &plain)
+}
+
+// Compares what is written of a model, a coalition and a bound that are drawn. It gives how many lines have bounds that
+// differ.
+fn compare_drawn<R: Threads + Sync>(
+    rt: &R,
+    alloc: Global,
+    draws: &mut Draw,
+) -> Result<usize, Fail> {
+    let model = draw_model(alloc, draws)?;
+    let coalition = one_of(draws, COALITIONS);
+    let asked = one_of(draws, ASKED);
+    ask(rt, alloc, &model, asked, coalition)
 }
 
 #[test]
 fn what_always_holds_in_random_games_is_1_less_the_dual(rt: HostRuntime) -> Result<(), Fail> {
-    let alloc = rt.alloc();
     let mut draws = Draw::new(41);
     let mut apart = 0_usize;
     for _model in 0..250 {
-        apart = apart.saturating_add(compare_drawn(&rt, alloc, &mut draws)?);
+        apart = apart.saturating_add(compare_drawn(&rt, rt.alloc(), &mut draws)?);
     }
-    assert!(rt; apart > 50, "{apart} lines have bounds that differ");
-    Ok(())
+    holds(
+        format_args!("more than 50 lines have bounds that differ: {apart}"),
+        apart > 50,
+    )
 }

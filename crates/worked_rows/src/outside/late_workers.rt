@@ -1,9 +1,9 @@
 //! A worker that comes late reads what another has just raised.
 
-use crate::workers::agrees;
+use crate::outside::workers::agrees;
+use crate::{MOST_OF_AGREEMENT, Row, runs};
 use expectations::{holds, same};
 use game_outside::LateGate;
-use rows_for_tests::{MOST_OF_AGREEMENT, Row, runs};
 use std::alloc::Global;
 use std::test::Fail;
 use std::thread::Threads;

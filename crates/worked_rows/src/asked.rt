@@ -6,7 +6,7 @@ use std::alloc::Global;
 use std::test::Fail;
 
 /// The name of the certificate's file.
-pub const CERTIFICATE: &str = "c";
+pub(crate) const CERTIFICATE: &str = "c";
 
 /// The name of the file of values to begin with.
 pub(crate) const VALUES: &str = "v";
@@ -27,7 +27,7 @@ fn question_words(alloc: Global, command: &str, row: Row<'_>) -> Result<Vec<Stri
 }
 
 /// The words that check a row.
-pub fn check_words(alloc: Global, row: Row<'_>) -> Result<Vec<String>, Fail> {
+pub(crate) fn check_words(alloc: Global, row: Row<'_>) -> Result<Vec<String>, Fail> {
     let mut owned = question_words(alloc, "check", row)?;
     add_words(alloc, &mut owned, row.numbers)?;
     Ok(owned)
@@ -39,7 +39,7 @@ pub(crate) fn sure_words(alloc: Global, row: Row<'_>) -> Result<Vec<String>, Fai
 }
 
 /// The words that audit a certificate for the model and the formula of a row.
-pub fn audit_words(alloc: Global, row: Row<'_>) -> Result<Vec<String>, Fail> {
+pub(crate) fn audit_words(alloc: Global, row: Row<'_>) -> Result<Vec<String>, Fail> {
     let mut owned = words(
         alloc,
         &["audit", "m.tra", "m.lab", row.formula, CERTIFICATE],

@@ -1,6 +1,6 @@
 //! Files in pieces of any size.
 
-use rows_for_tests::{
+use crate::{
     AUDIT_OF_TWO_PLAYERS, CHECK_OF_AGREEMENT, CHECK_OF_COIN_LOOP, Case, Command, MOST_OF_COIN_LOOP,
     Outside, PLAN_OF_TWO_PLAYERS, Row, STATE_OUT_OF_RANGE, gives,
 };

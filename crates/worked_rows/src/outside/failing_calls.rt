@@ -1,11 +1,11 @@
 //! Every call of the shelf and of the sink fails in turn.
 
-use crate::commands::commands;
-use expectations::same;
-use rows_for_tests::{
+use crate::outside::commands::commands;
+use crate::{
     CHECK_OF_COIN_LOOP, COIN_LOOP_OUT_OF_ORDER, Case, DRAWN_GAME, Ended, NO_COMMAND, Outside, STEP,
     ends_over,
 };
+use expectations::same;
 use std::alloc::Global;
 use std::test::Fail;
 use std::thread::Threads;
