@@ -11,7 +11,7 @@
 //! moves a policy makes before it leaves.
 //!
 //! Of values no more is promised than that they are from 0 to the unit where they are found: who hands them on tests
-//! what they are for. Each loop has its count.
+//! what they are for. Each loop has its count. [`Factors`] and [`approach`] are public for their tests.
 #![tactic(auto)]
 
 mod elimination;

@@ -1,6 +1,7 @@
-//! Lists of floats as vectors. Where lists differ in length, the rest of the longer one is left out.
+//! Lists of floats as vectors. Where lists of a product differ in length, the rest of the longer one is left out.
 
 ghost use Rattle.std.specs.Float.{◌≤ᶠ◌, float_zero};
+ghost use Rattle.std.specs.Prelude.{◌≡◌, length};
 
 /// The sum of the products.
 pub(crate) fn product(a: &[f64], b: &[f64]) -> f64 {
@@ -47,7 +48,9 @@ pub(crate) fn greater(most: f64, x: f64) -> f64
 }
 
 /// Adds a multiple of another vector.
-pub(crate) fn add_scaled(target: &mut [f64], factor: f64, other: &[f64]) {
+pub(crate) fn add_scaled(target: &mut [f64], factor: f64, other: &[f64])
+    requires { length target.old ≡ length other.now }
+{
     for (x, y) in target.iter_mut().zip(other) {
         *x += factor * *y;
     }

@@ -181,7 +181,7 @@ fn try_cost(
     if !try_values(alloc, setting, &away, &other, planned, table, effort)? {
         return Ok(false);
     }
-    move_by(&mut away, values, -1.0);
+    add_multiple(&mut away, -1.0, values);
     narrow(alloc, setting, values, &away, 1.0, &other, planned, table)?;
     Ok(true)
 }
@@ -191,14 +191,14 @@ fn between(alloc: Global, values: &[f64], away: &[f64], part: f64) -> Result<Vec
     ensures { IfOk result (λ list. vec_len list ≡ length values.now) }
 {
     let mut list = values.to_vec(alloc)?;
-    move_by(&mut list, away, part);
+    add_multiple(&mut list, part, away);
     Ok(list)
 }
 
-/// Moves each value by a multiple of how far another one is.
-fn move_by(values: &mut [f64], away: &[f64], part: f64) {
-    for (value, far) in values.iter_mut().zip(away) {
-        *value += part * *far;
+/// Adds to each value a multiple of another one.
+fn add_multiple(values: &mut [f64], factor: f64, others: &[f64]) {
+    for (value, other) in values.iter_mut().zip(others) {
+        *value += factor * *other;
     }
 }
 

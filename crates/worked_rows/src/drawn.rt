@@ -1,6 +1,8 @@
 //! Words, texts and models that are drawn by lot, the same in each run, read and run, and compared with plain readings
 //! and plain values.
 
+ghost use Rattle.std.specs.Prelude.{◌<◌, length};
+
 mod always_games;
 mod answers;
 mod models;
@@ -8,3 +10,12 @@ mod plain_reading;
 mod random_cuts;
 mod texts;
 mod words;
+
+use sample_games::Draw;
+
+/// One of a list.
+fn one_of<T: Copy>(draws: &mut Draw, list: &[T]) -> T
+    requires { 0 < length list.now }
+{
+    list[draws.below(list.len())]
+}

@@ -1,11 +1,12 @@
 //! Tests of `run`, from the words and the files to the written text.
 //!
-//! A row names a model, a formula, the text that is written and the status. Expected values were worked out by hand or
-//! by a program apart from this one. `hostile` has the texts that are refused or damaged, `outside` an outside that
-//! fails, is late or comes in pieces, `drawn` what is drawn by lot; the other files have worked examples, a topic each,
-//! and the models, commands and checks that all of them share.
+//! A row names a model, a formula, the text that is written and the status. `hostile` has the texts that are refused or
+//! damaged, `outside` an outside that fails, is late or comes in pieces, and `drawn` what is drawn by lot; the other
+//! files have worked examples, a topic each, and the models, commands and checks that all of them share. Expected values
+//! were worked out by hand or by a program apart from this one; what is drawn is compared with plain readings and plain
+//! values.
 //!
-//! They are one crate, since a program of tests over `run` links all of it before the first of them is proved.
+//! All of this is one crate, since each program of tests over `run` links all of it before the first test is proved.
 #![tactic(auto)]
 
 #[cfg(test)]

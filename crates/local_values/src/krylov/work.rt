@@ -78,11 +78,11 @@ impl Work {
         }
         let alpha = self.rho / along;
         let omega = self.turn(chain, alpha);
-        let rho = self.advance(alpha, omega);
+        let rho = self.move_found(alpha, omega);
         if !(self.left < most) || omega == 0.0 {
             return false;
         }
-        self.redirect(alpha, omega, rho);
+        self.find_direction(alpha, omega, rho);
         true
     }
 
@@ -99,7 +99,7 @@ impl Work {
     }
 
     /// Moves the values found, and gives the product of what is left with the shadow: the next rho.
-    fn advance(&mut self, alpha: f64, omega: f64) -> f64
+    fn move_found(&mut self, alpha: f64, omega: f64) -> f64
         ensures { self.new.nodes ≡ self.old.nodes }
     {
         let left = advance(
@@ -116,7 +116,7 @@ impl Work {
     }
 
     /// Finds the next direction.
-    fn redirect(&mut self, alpha: f64, omega: f64, rho: f64)
+    fn find_direction(&mut self, alpha: f64, omega: f64, rho: f64)
         ensures { self.new.nodes ≡ self.old.nodes }
     {
         let beta = rho / self.rho * (alpha / omega);

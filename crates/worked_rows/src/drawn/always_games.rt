@@ -2,7 +2,7 @@
 //! exchanged, and lie around 1 less the dual's k-step values.
 
 use crate::drawn::models::{DrawnModel, MOST_STATES, draw_model};
-use crate::drawn::texts::one_of;
+use crate::drawn::one_of;
 use crate::{PrintedLine, Row, read_lines, runs};
 use expectations::{holds, same};
 use game_model::{Game, Question, Side, UNIT};
@@ -46,12 +46,17 @@ const COALITIONS: &[Coalition] = &[
 
 // Who chooses in the dual at a state of this owner.
 fn side_of(asked: Asked, coalition: Coalition, is_second: bool) -> Side {
-    let (_, _, side, alone) = asked;
-    match coalition.1 {
-        None => alone,
+    let (_, _, of_members, of_all) = asked;
+    let (_, members) = coalition;
+    match members {
+        None => of_all,
         Some((first, second)) => {
             let is_member = if is_second { second } else { first };
-            if is_member { side } else { side.other() }
+            if is_member {
+                of_members
+            } else {
+                of_members.other()
+            }
         }
     }
 }
@@ -200,8 +205,9 @@ fn ask<R: Threads + Sync>(
         return Err(Fail::new("the transitions are refused"));
     };
     let plain = dual_question(alloc, model, &game, asked, coalition).ok_or("no plain question")?;
-    let always = format!(in alloc; "{}{} [ G \"a\" ]", coalition.0, asked.0)?;
-    let dual = format!(in alloc; "{}{} [ F !\"a\" ]", coalition.0, asked.1)?;
+    let ((bound, dual_bound, _, _), (players, _)) = (asked, coalition);
+    let always = format!(in alloc; "{players}{bound} [ G \"a\" ]")?;
+    let dual = format!(in alloc; "{players}{dual_bound} [ F !\"a\" ]")?;
     compare(rt, alloc, model, &always, &dual, &plain)
 }
 

@@ -1,6 +1,6 @@
 //! Small models of two players that are drawn: their files, and what these say of each state.
 
-use crate::drawn::texts::one_of;
+use crate::drawn::one_of;
 use sample_games::Draw;
 use std::alloc::Global;
 use std::test::Fail;

@@ -3,7 +3,7 @@
 use crate::drawn::answers::{answer_in_pieces, answer_of_whole};
 use crate::drawn::texts::{ModelFile, damage, draw_text};
 use crate::file_of_bytes;
-use expectations::holds;
+use expectations::{holds, same};
 use game_outside::MemShelf;
 use sample_games::Draw;
 use std::alloc::Global;
@@ -44,9 +44,10 @@ fn read_both_ways(
     let whole = answer_of_whole(alloc, text, file, states)?;
     let is_accepted = whole.is_accepted;
     let in_pieces = answer_in_pieces(alloc, &mut shelf, NAME, file, states)?;
-    holds(
-        format_args!("in pieces {file:?} are read alike: {}", text.escape_ascii()),
-        whole == in_pieces,
+    same(
+        format_args!("{file:?} in pieces: {}", text.escape_ascii()),
+        in_pieces,
+        whole,
     )?;
     Ok(is_accepted)
 }

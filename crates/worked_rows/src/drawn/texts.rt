@@ -1,7 +1,6 @@
 //! Small texts that are drawn, one for each file of a model, and changes that damage them.
 
-ghost use Rattle.std.specs.Prelude.{◌<◌, length};
-
+use crate::drawn::one_of;
 use sample_games::Draw;
 use std::alloc::Global;
 use std::test::Fail;
@@ -52,7 +51,7 @@ const SPLITS: &[&[&str]] = &[
 
 const ACTIONS: &[&str] = &["", "", " a", " go"];
 
-// The numbers of the choices of a state, in front of the rest of a line.
+// The numbers of the choices of a state, in front of the rest of a line; the lines of a DTMC have none.
 const NO_NUMBER: &[&str] = &[""];
 
 const NUMBERS: &[&str] = &[" 0", " 1"];
@@ -63,13 +62,6 @@ const ENDINGS: &[[&str; 2]] = &[["\n", "\n"], ["\r\n", "\r\n"], ["\n", "\r\n"]];
 const BLANKS: &[&str] = &["", " ", "\t \t"];
 
 const DAMAGE: &[u8] = b"0123456789 \t\r\n.:\"=/eap\0";
-
-/// One of a list.
-pub(crate) fn one_of<T: Copy>(draws: &mut Draw, list: &[T]) -> T
-    requires { 0 < length list.now }
-{
-    list[draws.below(list.len())]
-}
 
 /// A text of a file of a model with so many states, which denotes what the file is for.
 pub(crate) fn draw_text(

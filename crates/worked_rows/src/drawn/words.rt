@@ -1,7 +1,7 @@
 //! Words that are drawn: the program reads them as a plain reading does.
 
+use crate::drawn::one_of;
 use crate::drawn::plain_reading::plain_words;
-use crate::drawn::texts::one_of;
 use crate::{coin_loop_files, ends};
 use command_words::read_words;
 use expectations::{holds, same};
@@ -98,7 +98,7 @@ fn read_list<R: Threads + Sync>(rt: &R, alloc: Global, list: &[&str]) -> Result<
     let plain = plain_words(alloc, list)?;
     let read = read_words(alloc, &given)?;
     same(
-        format_args!("{list:?} is read otherwise"),
+        format_args!("{list:?}"),
         format!(in alloc; "{read:?}")?,
         format!(in alloc; "{plain:?}")?,
     )?;
